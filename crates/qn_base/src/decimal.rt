@@ -1,0 +1,50 @@
+ghost use Rattle.std.specs.Prelude.{◌≡◌, ◌≤◌, ◌<◌, ◌^◌, ℕ, Some, length, decimal, IfSome};
+ghost use Rattle.std.specs.Str.{all_ascii_digits};
+ghost use Rattle.std.specs.Str.Parse.{digits_value};
+ghost use Rattle.qn_base.specs.Decimal.{number_of};
+
+use arrayvec::ArrayVec;
+use itoa::Buffer;
+
+/// The most digits of a number of 64 bits.
+const MAX_DIGITS: usize = 20;
+
+/// The number that a text of 1 to 20 decimal digits spells, where it fits 64 bits. Leading zeros are
+/// accepted; signs, blanks and the empty text are not.
+pub fn read_decimal(text: &[u8]) -> Option<u64>
+    ensures { result ≡ number_of text.now }
+{
+    if text.is_empty() || text.len() > MAX_DIGITS || !are_digits(text) {
+        return None;
+    }
+    u64::try_from(value_of_digits(text)).ok()
+}
+
+/// Empties `into` and writes the decimal digits of `n`, without leading zeros.
+pub fn write_decimal(n: u64, into: &mut ArrayVec<u8, 20>)
+    ensures digits { into.new.items ≡ decimal n }
+    ensures reads_back { number_of into.new.items ≡ Some n }
+{
+    into.clear();
+    let mut buffer = Buffer::new();
+    let _ = into.try_extend_from_slice(buffer.format(n).as_bytes());
+}
+
+fn are_digits(text: &[u8]) -> bool
+    ensures { result ≡ all_ascii_digits text.now }
+{
+    text.iter().all(|byte| byte.is_ascii_digit())
+}
+
+/// The value of at most 20 digits, which 128 bits hold.
+fn value_of_digits(digits: &[u8]) -> u128
+    requires short { length digits.now ≤ 20 }
+    requires digits { all_ascii_digits digits.now ≡ true }
+    ensures { result ≡ digits_value 10 digits.now }
+{
+    let mut value = 0u128;
+    for digit in digits {
+        value = value * 10 + u128::from(*digit - b'0');
+    }
+    value
+}

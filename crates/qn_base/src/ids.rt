@@ -1,0 +1,31 @@
+/// The id of a node in the settings text: 1 or more (corosync.conf(5), `nodeid`).
+#[derive(Clone, Copy, PartialEq, Eq, PartialOrd, Ord, Default, Debug)]
+pub struct NodeId(pub u32);
+
+/// The place of a node among the configured nodes in ascending id, from 0: below 32.
+#[derive(Clone, Copy, PartialEq, Eq, PartialOrd, Ord, Default, Debug)]
+pub struct Rank(pub u8);
+
+/// A set of ranks: bit `r` stands for rank `r`.
+#[derive(Clone, Copy, PartialEq, Eq, Default, Debug)]
+pub struct Mask(pub u32);
+
+/// What a node is told of the cluster: the nodes that it sees, under a number.
+#[derive(Clone, Copy, PartialEq, Eq, Default, Debug)]
+pub struct View {
+    pub id: u64,
+    pub members: Mask,
+}
+
+impl Mask {
+    ghost use Rattle.std.specs.Prelude.{◌≡◌, ◌<◌};
+    ghost use Rattle.qn_base.specs.Members.{is_member};
+
+    /// Whether the rank is one of the members.
+    pub fn contains(self, rank: Rank) -> bool
+        requires { rank.0 < 32 }
+        ensures { result ≡ is_member self rank.0 }
+    {
+        self.0 >> rank.0 & 1 == 1
+    }
+}
