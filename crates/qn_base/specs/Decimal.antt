@@ -9,4 +9,4 @@ is_decimal text = nat_le 1 (length text) && nat_le (length text) 20 && all_ascii
 -- the number of 64 bits that a text of 1 to 20 decimal digits spells
 abbrev pub number_of : List ℕ → Option ℕ
 number_of text =
-  if is_decimal text && nat_lt (digits_value 10 text) (2 ^ 64) then Some (digits_value 10 text) else None
+    if is_decimal text && nat_lt (digits_value 10 text) (2 ^ 64) then Some (digits_value 10 text) else None

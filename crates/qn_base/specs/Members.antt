@@ -10,7 +10,7 @@ is_member members rank = bit_at members.0 rank == 1
 abbrev pub votes_from : ℕ → List ℕ → Mask → ℕ
 votes_from rank [] members = 0
 votes_from rank (count ∷ counts) members =
-  (if is_member members rank then count else 0) + votes_from (rank + 1) counts members
+    (if is_member members rank then count else 0) + votes_from (rank + 1) counts members
 
 -- votequorum(5), "OVERVIEW": the plain sum of the votes of the members
 abbrev pub votes_of : List ℕ → Mask → ℕ

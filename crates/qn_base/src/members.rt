@@ -11,7 +11,7 @@ pub fn votes(votes: &[u32; 32], members: Mask) -> u64
 {
     let mut total = 0u64;
     for (rank, count) in votes.iter().enumerate() {
-        if members.0 >> rank & 1 == 1 {
+        if members.contains(Rank(rank as u8)) {
             total += u64::from(*count);
         }
     }
