@@ -1,0 +1,37 @@
+use Rattle.std.specs.Prelude.{◌≡◌, ◌≤◌, ℕ, List, length, map, sum_by, All, IsTrue, IfSome, IsNone}
+use Rattle.std.specs.List.Sorted.{IsStrictlyIncreasing}
+use Rattle.qn_model.specs.declared.nodelist.NodeEntry.{NodeEntry}
+use Rattle.qn_model.specs.declared.configuration.Settings.{Settings}
+
+-- the ids of the nodes, by rank
+abbrev pub ids : List NodeEntry → List ℕ
+ids nodes = map (λ n. n.id.0) nodes
+
+-- the votes of the nodes, by rank
+abbrev pub node_votes : List NodeEntry → List ℕ
+node_votes nodes = map (λ n. n.votes) nodes
+
+-- a time in milliseconds that a settings text may give: up to one hour
+abbrev pub IsPeriod : ℕ → Type 0
+IsPeriod time = (1 ≤ time) × (time ≤ 3600000)
+
+-- every node has exactly one vote
+abbrev pub HasOneVoteEach : List NodeEntry → Type 0
+HasOneVoteEach nodes = All (λ n. n.votes ≡ 1) nodes
+
+-- Valid settings: corosync.conf(5), `nodelist` and `quorum`; votequorum(5), `two_node` and
+-- `last_man_standing`; the bounds and the limit of 32 nodes are this project's profile.
+pub record IsValid (s : Settings) : Type 0 where
+  pub some_node : 1 ≤ length s.nodes
+  pub few_nodes : length s.nodes ≤ 32
+  pub ids_from_one : All (λ n. 1 ≤ n.id.0) s.nodes
+  pub ids_ascend : IsStrictlyIncreasing (ids s.nodes)
+  pub votes_fit : All (λ n. n.votes ≤ 65535) s.nodes
+  pub some_vote : 1 ≤ sum_by (λ n. n.votes) s.nodes
+  pub some_expected : 1 ≤ s.expected
+  pub window : IsPeriod s.window
+  pub timeout : IfSome s.device (λ d. IsPeriod d.timeout)
+  pub two_nodes : IsTrue s.two_node → length s.nodes ≡ 2
+  pub two_votes : IsTrue s.two_node → HasOneVoteEach s.nodes
+  pub two_alone : IsTrue s.two_node → IsNone s.device
+  pub last_man_votes : IsTrue s.last_man_standing → HasOneVoteEach s.nodes

@@ -1,0 +1,42 @@
+ghost use Rattle.std.specs.Prelude.{◌≡◌};
+
+use crate::nodelist::Nodes;
+
+/// The quorum device: its votes, and for how many milliseconds a yes of it counts
+/// (corosync.conf(5), `quorum`, `device`).
+#[derive(Clone, Copy, PartialEq, Eq, Debug)]
+pub struct Device {
+    pub votes: u32,
+    pub timeout: u64,
+}
+
+/// The settings of a cluster, as corosync.conf gives them: the nodes in ascending id, the flags of
+/// votequorum(5), the window of last man standing in milliseconds, the device, and the expected votes
+/// at the start. `specs/Settings` says when they are valid.
+#[derive(Drop)]
+pub struct Settings {
+    pub nodes: Nodes,
+    pub two_node: bool,
+    pub wait_for_all: bool,
+    pub last_man_standing: bool,
+    pub window: u64,
+    pub device: Option<Device>,
+    pub expected: u64,
+}
+
+impl Settings {
+    /// Equal settings.
+    pub fn copy(&self) -> Self
+        ensures { result ≡ self.now }
+    {
+        Settings {
+            nodes: self.nodes.copy(),
+            two_node: self.two_node,
+            wait_for_all: self.wait_for_all,
+            last_man_standing: self.last_man_standing,
+            window: self.window,
+            device: self.device,
+            expected: self.expected,
+        }
+    }
+}

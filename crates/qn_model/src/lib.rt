@@ -1,0 +1,16 @@
+// What a cluster member's settings, times and votes are, with the definitions that every contract above
+// cites and the laws that hold of them. Nothing here says how anything is computed from a history.
+//
+// Promises: `timing_safe` is exactly the definition of safe timing; the laws are contracts of functions
+// without parameters: two vote lists with disjoint present views are never both quorate
+// (`law_disjoint_views`), and with wait_for_all on nothing is quorate before a release
+// (`law_released_first`).
+#![tactic(auto)]
+
+mod configuration;
+mod nodelist;
+mod times;
+
+pub use configuration::{Device, Settings};
+pub use nodelist::{NodeEntry, Nodes};
+pub use times::{Timing, timing_safe};

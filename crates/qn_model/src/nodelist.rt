@@ -1,0 +1,104 @@
+ghost use Rattle.std.specs.Prelude.{◌≡◌, ◌<◌, ◌≤◌, ◌==◌, [], ◌∷◌, ◌++◌, Some, length, slice_get};
+
+use arrayvec::ArrayVec;
+use qn_base::NodeId;
+use std::marker::Model;
+
+/// A configured node with its votes (corosync.conf(5), `nodelist`, `node`, `nodeid` and `quorum_votes`).
+#[derive(Clone, Copy, PartialEq, Eq, Default, Debug)]
+pub struct NodeEntry {
+    pub id: NodeId,
+    pub votes: u32,
+}
+
+/// The configured nodes, at most 32. The rank of a node is its place in the list.
+#[derive(Drop)]
+pub struct Nodes {
+    entries: ArrayVec<NodeEntry, 32>,
+}
+
+impl Model for Nodes {
+    ghost use Rattle.std.specs.Prelude.{List, ◌≤◌};
+    ghost use Rattle.arrayvec.specs.ArrayVec.{array_vec_len};
+    ghost use Rattle.qn_model.specs.declared.nodelist.NodeEntry.{NodeEntry};
+
+    ghost Value = { List NodeEntry };
+
+    ghost view = { λ n. n.entries.items };
+
+    ghost invariant = { λ n. array_vec_len n.entries ≤ 32 };
+}
+
+impl Nodes {
+    /// No nodes.
+    pub fn new() -> Self
+        ensures { result ≡ [] }
+    {
+        Nodes {
+            entries: ArrayVec::new(),
+        }
+    }
+
+    /// How many nodes there are.
+    pub fn len(&self) -> usize
+        ensures value { result ≡ length self.now }
+        ensures fits { result ≤ 32 }
+    {
+        self.entries.len()
+    }
+
+    /// Whether there is no node.
+    pub fn is_empty(&self) -> bool
+        ensures { result ≡ (length self.now == 0) }
+    {
+        self.entries.is_empty()
+    }
+
+    /// Whether 32 nodes are there, so that no further one fits.
+    pub fn is_full(&self) -> bool
+        ensures value { result ≡ (length self.now == 32) }
+        ensures fits { length self.now ≤ 32 }
+    {
+        self.entries.is_full()
+    }
+
+    /// The node of that rank.
+    pub fn get(&self, place: usize) -> NodeEntry
+        requires { place < length self.now }
+        ensures { slice_get self.now place ≡ Some result }
+    {
+        self.entries[place]
+    }
+
+    /// Adds a node behind the others.
+    pub fn push(&mut self, item: NodeEntry)
+        requires { length self.old < 32 }
+        ensures { self.new ≡ self.old ++ item ∷ [] }
+    {
+        self.entries.push(item);
+    }
+
+    /// Takes all nodes away.
+    pub fn clear(&mut self)
+        ensures { self.new ≡ [] }
+    {
+        self.entries.clear();
+    }
+
+    /// An equal list.
+    pub fn copy(&self) -> Self
+        ensures { result ≡ self.now }
+    {
+        let mut entries = ArrayVec::new();
+        let _ = entries.try_extend_from_slice(self.entries.as_slice());
+        Nodes { entries }
+    }
+
+    /// The nodes in order.
+    pub fn as_slice(&self) -> &[NodeEntry]
+        ensures value { result.now ≡ self.now }
+        ensures fits { length result.now ≤ 32 }
+    {
+        self.entries.as_slice()
+    }
+}
