@@ -1,2 +1,5 @@
+pub mod Calls
 pub mod Decimal
+pub mod Faults
 pub mod Members
+pub mod Plans

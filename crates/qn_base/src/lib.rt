@@ -6,11 +6,13 @@
 // members, and `chosen` is the member of least rank.
 #![tactic(auto)]
 
+mod calls;
 mod decimal;
 mod faults;
 mod ids;
 mod members;
 
+pub use calls::{Bytes, Call, Received};
 pub use decimal::{read_decimal, write_decimal};
 pub use faults::{Failed, NoMemory};
 pub use ids::{Mask, NodeId, Rank, View};
