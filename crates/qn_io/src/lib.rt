@@ -6,6 +6,10 @@
 // `MemSource` and `MemSink` do exactly what their scripts say.
 #![tactic(auto)]
 
+mod buffered;
 mod outside;
+mod whole;
 
+pub use buffered::{Next, Pieces};
 pub use outside::{Sink, Source};
+pub use whole::put_all;
