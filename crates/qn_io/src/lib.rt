@@ -1,0 +1,15 @@
+// The outside of the program: where bytes come from, where they go, and the faults that were counted.
+// Nothing here knows what the bytes mean.
+//
+// Promises: whatever a source or a sink does, its count of faults never falls, and a call answers
+// `Failed` only where that count rose; where the bytes are told, they come and go whole and in order.
+// `MemSource` and `MemSink` do exactly what their scripts say.
+#![tactic(auto)]
+
+mod buffered;
+mod outside;
+mod whole;
+
+pub use buffered::{Next, Pieces};
+pub use outside::{Sink, Source};
+pub use whole::put_all;
