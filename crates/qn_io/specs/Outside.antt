@@ -1,5 +1,5 @@
 -- What calls of the outside do to a count of faults and to bytes that are told.
-use Rattle.std.specs.Prelude.{◌≡◌, ℕ, ◌<◌, ◌≤◌, ◌^◌, List, [], ◌∷◌, ◌++◌, Option, None, Some}
+use Rattle.std.specs.Prelude.{◌≡◌, ℕ, ◌<◌, List, [], ◌++◌, Option, None, Some}
 use Rattle.std.specs.Io.KnownBytes.{prepend_known, append_known}
 use Rattle.std.proofs.Common.{refl, sym, ap, append_assoc, append-nil}
 

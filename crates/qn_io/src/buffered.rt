@@ -1,12 +1,19 @@
-ghost use Rattle.std.specs.Prelude.{◌≡◌, ℕ, ◌<◌, ◌≤◌, ◌↔◌, List, [], ◌∷◌, Option, IsTrue, length, take, drop};
+ghost use Rattle.std.specs.Prelude.{◌≡◌, ℕ, ◌+◌, ◌++◌, ◌<◌, ◌≤◌, ◌↔◌, List, [], ◌∷◌, Option, IsTrue, length, take, drop, slice_index};
+ghost use Rattle.arrayvec.specs.ArrayVec.{array_vec_len};
 ghost use Rattle.std.specs.Io.KnownBytes.{prepend_known};
 ghost use Rattle.qn_io.specs.Outside.{HasRisen};
+ghost use Rattle.qn_io.specs.Lines.{HasNoLineFeed};
 
 use crate::outside::Source;
+use arrayvec::ArrayVec;
+use memchr::memchr;
 use std::marker::Model;
 
 /// The most bytes that one read of a source is asked for.
 pub const PIECE: usize = 4096;
+
+/// The most bytes of a line, its `\n` left out.
+pub const LINE: usize = 4096;
 
 /// Bytes that were read from a source and not yet handed out, of one piece.
 pub struct Pieces {
@@ -34,14 +41,25 @@ pub enum Next {
     Failed,
 }
 
+/// What was moved to the end of a line.
+pub(crate) enum Moved {
+    /// The bytes up to the `\n`, which was taken too.
+    Line,
+    /// As many as the line has room for, and a further byte that is not `\n` was taken too.
+    TooLong,
+    /// All, and there was no `\n`.
+    All,
+}
+
 /// How a read of the next piece ended.
-enum Refill {
+pub(crate) enum Refill {
     Bytes,
     End,
     Failed,
 }
 
 impl Pieces {
+    ghost use Rattle.qn_io.specs.Lines.{HasNoLineFeed, Moves};
     ghost use Rattle.qn_io.specs.Reads.{Gives, IsDrained, OnFailed, OnFailedRefill, Refills};
 
     /// Pieces of an input of which nothing was read yet.
@@ -72,14 +90,14 @@ impl Pieces {
         Next::Byte(self.take_first())
     }
 
-    fn is_empty(&self) -> bool
+    pub(crate) fn is_empty(&self) -> bool
         ensures { IsTrue result ↔ (length self.now ≡ 0) }
     {
         self.from == self.to
     }
 
     /// Reads the next piece, where no byte is left of the last one.
-    fn refill<I: Source>(&mut self, source: &mut I) -> Refill
+    pub(crate) fn refill<I: Source>(&mut self, source: &mut I) -> Refill
         requires { length self.old ≡ 0 }
         ensures reads { Refills result self.new (I.left source.old) (I.left source.new) }
         ensures never_falls { I.faults source.old ≤ I.faults source.new }
@@ -106,4 +124,55 @@ impl Pieces {
         self.from += 1;
         byte
     }
+
+    /// Moves the bytes that wait up to the end of the line to the end of `line`.
+    pub(crate) fn move_line(&mut self, line: &mut ArrayVec<u8, LINE>) -> Moved
+        requires { 0 < length self.old }
+        ensures moves { Moves result line.old.items self.old line.new.items self.new }
+        ensures unended { HasNoLineFeed line.old.items → HasNoLineFeed line.new.items }
+        ensures fits { array_vec_len line.new ≤ 4096 }
+    {
+        let waiting = self.waiting();
+        let count = length_before_end(waiting);
+        let has_end = count < waiting.len();
+        let room = line.remaining_capacity();
+        if room < count {
+            self.move_front(room, line);
+            self.take_first();
+            return Moved::TooLong;
+        }
+        self.move_front(count, line);
+        if has_end {
+            self.take_first();
+            return Moved::Line;
+        }
+        Moved::All
+    }
+
+    /// The bytes that were read and not yet handed out.
+    fn waiting(&self) -> &[u8]
+        ensures { result.now ≡ self.now }
+    {
+        self.buffer.split_at(self.to).0.split_at(self.from).1
+    }
+
+    /// Moves that many of the bytes that wait to the end of `line`.
+    fn move_front(&mut self, count: usize, line: &mut ArrayVec<u8, LINE>)
+        requires waiting { count ≤ length self.old }
+        requires room { array_vec_len line.old + count ≤ 4096 }
+        ensures line { line.new.items ≡ line.old.items ++ take count self.old }
+        ensures left { self.new ≡ drop count self.old }
+    {
+        let _ = line.try_extend_from_slice(self.waiting().split_at(count).0);
+        self.from += count;
+    }
+}
+
+/// The number of bytes before the first `\n`, or of all where there is none.
+fn length_before_end(bytes: &[u8]) -> usize
+    ensures within { result ≤ length bytes.now }
+    ensures before { HasNoLineFeed (take result bytes.now) }
+    ensures end { result < length bytes.now → slice_index bytes.now result ≡ 10 }
+{
+    memchr(b'\n', bytes).unwrap_or(bytes.len())
 }

@@ -7,9 +7,11 @@
 #![tactic(auto)]
 
 mod buffered;
+mod lines;
 mod outside;
 mod whole;
 
-pub use buffered::{Next, Pieces};
+pub use buffered::{LINE, Next, PIECE, Pieces};
+pub use lines::{LineRead, read_line};
 pub use outside::{Sink, Source};
 pub use whole::put_all;

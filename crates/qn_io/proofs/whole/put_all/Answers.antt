@@ -1,4 +1,4 @@
-use Rattle.std.proofs.Common.{◌≡◌, ℕ, ◌≤◌, List, ◌++◌, take, drop, refl, sym, ap, ◌∙◌, append_assoc, take-append-drop, arith}
+use Rattle.std.proofs.Common.{◌≡◌, ℕ, List, ◌++◌, take, drop, sym, ap, ◌∙◌, append_assoc, take-append-drop, arith}
 use Rattle.std.specs.Io.KnownBytes.{append_known}
 use Rattle.qn_io.specs.Outside.{append_known-append}
 use Rattle.qn_io.proofs.whole.put_all.Goals as goal
