@@ -1,2 +1,4 @@
+pub mod Laws
 pub mod Settings
 pub mod Timing
+pub mod Votes

@@ -11,6 +11,10 @@ ids nodes = map (λ n. n.id.0) nodes
 abbrev pub node_votes : List NodeEntry → List ℕ
 node_votes nodes = map (λ n. n.votes) nodes
 
+-- the votes of all nodes together
+abbrev pub all_votes : List NodeEntry → ℕ
+all_votes nodes = sum_by (λ n. n.votes) nodes
+
 -- a time in milliseconds that a settings text may give: up to one hour
 abbrev pub IsPeriod : ℕ → Type 0
 IsPeriod time = (1 ≤ time) × (time ≤ 3600000)
@@ -27,7 +31,7 @@ pub record IsValid (s : Settings) : Type 0 where
   pub ids_from_one : All (λ n. 1 ≤ n.id.0) s.nodes
   pub ids_ascend : IsStrictlyIncreasing (ids s.nodes)
   pub votes_fit : All (λ n. n.votes ≤ 65535) s.nodes
-  pub some_vote : 1 ≤ sum_by (λ n. n.votes) s.nodes
+  pub some_vote : 1 ≤ all_votes s.nodes
   pub some_expected : 1 ≤ s.expected
   pub window : IsPeriod s.window
   pub timeout : IfSome s.device (λ d. IsPeriod d.timeout)

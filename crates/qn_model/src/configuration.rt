@@ -1,5 +1,3 @@
-ghost use Rattle.std.specs.Prelude.{◌≡◌};
-
 use crate::nodelist::Nodes;
 
 /// The quorum device: its votes, and for how many milliseconds a yes of it counts
@@ -25,6 +23,9 @@ pub struct Settings {
 }
 
 impl Settings {
+    ghost use Rattle.std.specs.Prelude.{◌≡◌};
+    ghost use Rattle.qn_model.specs.Votes.{quorum_of};
+
     /// Equal settings.
     pub fn copy(&self) -> Self
         ensures { result ≡ self.now }
@@ -38,5 +39,13 @@ impl Settings {
             device: self.device,
             expected: self.expected,
         }
+    }
+
+    /// The votes that are needed where `expected` votes are expected: 1 with two_node, else more than half
+    /// (votequorum(5), "OVERVIEW" and "two_node").
+    pub fn quorum(&self, expected: u64) -> u64
+        ensures { result ≡ quorum_of self.now expected }
+    {
+        if self.two_node { 1 } else { expected / 2 + 1 }
     }
 }

@@ -8,9 +8,13 @@
 #![tactic(auto)]
 
 mod configuration;
+mod laws;
 mod nodelist;
 mod times;
+mod votes;
 
 pub use configuration::{Device, Settings};
+pub use laws::{law_disjoint_views, law_released_first};
 pub use nodelist::{NodeEntry, Nodes};
 pub use times::{Timing, timing_safe};
+pub use votes::{Answer, VoteEntry, VoteWhat};

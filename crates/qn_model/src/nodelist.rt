@@ -1,7 +1,5 @@
-ghost use Rattle.std.specs.Prelude.{◌≡◌, ◌<◌, ◌≤◌, ◌==◌, [], ◌∷◌, ◌++◌, Some, length, slice_get};
-
 use arrayvec::ArrayVec;
-use qn_base::NodeId;
+use qn_base::{Mask, NodeId, Rank};
 use std::marker::Model;
 
 /// A configured node with its votes (corosync.conf(5), `nodelist`, `node`, `nodeid` and `quorum_votes`).
@@ -30,6 +28,9 @@ impl Model for Nodes {
 }
 
 impl Nodes {
+    ghost use Rattle.std.specs.Prelude.{◌≡◌, ◌<◌, ◌≤◌, ◌==◌, ◌*◌, [], ◌∷◌, ◌++◌, Some, length, slice_get};
+    ghost use Rattle.qn_model.specs.Votes.{are_all_in, votes_among};
+
     /// No nodes.
     pub fn new() -> Self
         ensures { result ≡ [] }
@@ -100,5 +101,31 @@ impl Nodes {
         ensures fits { length result.now ≤ 32 }
     {
         self.entries.as_slice()
+    }
+
+    /// The plain sum of the votes of these members (votequorum(5), "OVERVIEW").
+    pub fn votes_among(&self, members: Mask) -> u64
+        ensures sum { result ≡ votes_among self.now members }
+        ensures fits { result ≤ 32 * 4294967295 }
+    {
+        let mut total = 0u64;
+        for (rank, node) in self.as_slice().iter().enumerate() {
+            if members.contains(Rank(rank as u8)) {
+                total += u64::from(node.votes);
+            }
+        }
+        total
+    }
+
+    /// Whether every node is one of these members.
+    pub fn are_all_in(&self, members: Mask) -> bool
+        ensures { result ≡ are_all_in self.now members }
+    {
+        for rank in 0..self.len() {
+            if !members.contains(Rank(rank as u8)) {
+                return false;
+            }
+        }
+        true
     }
 }

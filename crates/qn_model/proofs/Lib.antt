@@ -1,0 +1,4 @@
+pub mod ByRank
+pub mod Majority
+pub mod Release
+pub mod WorkedCounts
