@@ -32,13 +32,17 @@ pub record Conf (text : List ℕ) (tree : List Item) : Type 0 where
   pub nested : IsNested tree
   pub ended : ends tree ≡ begins tree
 
--- the fault of line `number` that has this meaning, where so many sections stand open before it
+-- the fault of an item in line `number`, where so many sections stand open before it
+abbrev pub fault_of : ℕ → ℕ → Item → Option ConfFault
+fault_of number depth (Enter name) = if depth == 4 then Some (TooDeep number) else None
+fault_of number depth Exit = if depth == 0 then Some (ExtraClose number) else None
+fault_of number depth (Pair key value) = None
+
+-- the fault of line `number` that has this meaning
 abbrev pub fault_in : ℕ → ℕ → Meaning → Option ConfFault
 fault_in number depth PassedOver = None
+fault_in number depth (Says item) = fault_of number depth item
 fault_in number depth Bad = Some (BadLine number)
-fault_in number depth (Says (Enter name)) = if depth == 4 then Some (TooDeep number) else None
-fault_in number depth (Says Exit) = if depth == 0 then Some (ExtraClose number) else None
-fault_in number depth (Says (Pair key value)) = None
 
 -- how many sections stand open after these lines
 abbrev pub open_after : List (List ℕ) → ℕ
@@ -93,7 +97,7 @@ conf_of text =
     else option_map_or Err (first_fault [] (lines text)) (tree_of (lines text))
 
 -- what is said of an answer that is not want of memory
-abbrev pub UnlessNoMemory : Result (List Item) ConfFault → Type 0 → Type 0
+abbrev pub UnlessNoMemory : {T : Type 0} → Result T ConfFault → Type 0 → Type 0
 UnlessNoMemory (Ok tree) P = P
 UnlessNoMemory (Err NoMemory) P = Unit {0}
 UnlessNoMemory (Err fault) P = P

@@ -25,3 +25,14 @@ ends items = count_by is_end items
 abbrev pub IsNested : List Item → Type 0
 IsNested items =
     (n : ℕ) → (ends (take n items) ≤ begins (take n items)) × (begins (take n items) ≤ ends (take n items) + 4)
+
+-- how many sections stand open after an item, where so many did before it
+abbrev pub depth_after : ℕ → Item → ℕ
+depth_after depth (Enter name) = depth + 1
+depth_after depth Exit = depth - 1
+depth_after depth (Pair key value) = depth
+
+-- the same after a list of items
+abbrev pub depth_after_all : ℕ → List Item → ℕ
+depth_after_all depth [] = depth
+depth_after_all depth (item ∷ items) = depth_after_all (depth_after depth item) items

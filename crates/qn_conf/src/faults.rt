@@ -1,3 +1,7 @@
+ghost use Rattle.std.specs.Prelude.{◌≡◌};
+ghost use Rattle.qn_conf.specs.declared.faults.ConfFault.TheVariants.{NoMemory};
+
+use std::alloc::AllocFailed;
 use thiserror::Error;
 
 /// Why a text is no settings text. Lines are numbered from 1.
@@ -24,4 +28,12 @@ pub enum ConfFault {
     /// Memory was wanted and not there.
     #[error("out of memory")]
     NoMemory,
+}
+
+impl<T: Drop> From<AllocFailed<T>> for ConfFault {
+    ghost from_gives = { λ _ fault. fault ≡ NoMemory };
+
+    fn from(_wanted: AllocFailed<T>) -> ConfFault {
+        ConfFault::NoMemory
+    }
 }

@@ -7,7 +7,9 @@
 
 mod faults;
 mod line;
+mod reader;
 mod tree;
 
 pub use faults::ConfFault;
+pub use reader::read_tree;
 pub use tree::{Item, Tree, Word};

@@ -56,6 +56,12 @@ impl<'text> Model for Tree<'text> {
 }
 
 impl<'text> Tree<'text> {
+    pub(crate) fn new(items: Vec<Item<'text>>) -> Self
+        ensures { result ≡ items.entry.items }
+    {
+        Tree { items }
+    }
+
     /// The items, in text order.
     pub fn items(&self) -> &[Item<'text>]
         ensures { result.now ≡ self.now }
