@@ -1,4 +1,5 @@
 pub mod Laws
+pub mod Sectors
 pub mod Settings
 pub mod Timing
 pub mod Votes

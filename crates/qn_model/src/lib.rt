@@ -8,12 +8,14 @@
 #![tactic(auto)]
 
 mod configuration;
+mod disk;
 mod laws;
 mod nodelist;
 mod times;
 mod votes;
 
 pub use configuration::{Device, Settings};
+pub use disk::{Message, Slot};
 pub use laws::{law_disjoint_views, law_released_first};
 pub use nodelist::{NodeEntry, Nodes};
 pub use times::{Timing, timing_safe};
