@@ -2,4 +2,5 @@ pub mod Lines
 pub mod Memory
 pub mod Outside
 pub mod Reads
+pub mod Receives
 pub mod Writes

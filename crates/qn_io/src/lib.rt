@@ -7,6 +7,7 @@
 #![tactic(auto)]
 
 mod buffered;
+mod calls;
 mod failing;
 mod lines;
 mod memory;
@@ -15,6 +16,7 @@ mod standard;
 mod whole;
 
 pub use buffered::{LINE, Next, PIECE, Pieces};
+pub use calls::{Env, Got, Opening, PACKET, SECTOR, SECTORS, SENT_PACKET};
 pub use lines::{LineRead, read_line};
 pub use memory::{MemSink, MemSource};
 pub use outside::{Sink, Source};
