@@ -1,5 +1,5 @@
 -- What the objects in memory are seen as, and what is counted of their calls (this project's profile).
-use Rattle.std.specs.Prelude.{◌≡◌, ℕ, ◌+◌, ◌<◌, Bool, List, length, min, if◌then◌else◌}
+use Rattle.std.specs.Prelude.{◌≡◌, ℕ, ◌+◌, ◌<◌, Bool, List, length, min, replicate, if◌then◌else◌}
 
 -- one more, up to the greatest u64
 abbrev pub one_more : ℕ → ℕ
@@ -11,11 +11,12 @@ pub record Counts : Type 0 where
   pub made : ℕ
   pub faults : ℕ
 
--- one call more was made, and a fault more is counted where it failed
-pub record CountsCall (old new : Counts) (ok : Bool) : Type 0 where
-  pub fails : new.fails ≡ old.fails
-  pub made : new.made ≡ one_more old.made
-  pub faults : new.faults ≡ (if ok then old.faults else one_more old.faults)
+-- the counts after a call, which went well or failed
+abbrev pub counts_after : Counts → Bool → Counts
+counts_after old ok = record old {
+  made = one_more old.made;
+  faults = if ok then old.faults else one_more old.faults;
+}
 
 -- an input in memory: the bytes that are left, and the most that a read gives
 pub record Input : Type 0 where
@@ -32,3 +33,12 @@ pub record Output : Type 0 where
 -- there are bytes to write, and no room for any
 abbrev pub IsFull : Output → List ℕ → Type 0
 IsFull output bytes = (0 < length bytes) × (length output.written ≡ output.room)
+
+-- the sectors of an image in memory that nothing was written to
+unfoldable pub zero_sectors : List (List ℕ)
+zero_sectors = replicate 3072 (replicate 512 0)
+
+-- an outside that never fails: the bytes of each sector, and how often the time was asked for
+pub record Quiet : Type 0 where
+  pub sectors : List (List ℕ)
+  pub asked : ℕ

@@ -1,5 +1,5 @@
-ghost use Rattle.std.specs.Prelude.{◌≡◌, ℕ, ◌≤◌, ◌↔◌, IsTrue, Contains};
-ghost use Rattle.qn_io.specs.Memory.{Counts, one_more};
+ghost use Rattle.std.specs.Prelude.{◌≡◌, ℕ, ◌≤◌, ◌↔◌, IsTrue, IsErr, OnErr, Contains, is_ok};
+ghost use Rattle.qn_io.specs.Memory.{Counts, counts_after, one_more};
 ghost use Rattle.qn_io.specs.Outside.{HasRisen};
 
 use qn_base::Failed;
@@ -48,5 +48,18 @@ impl Failures {
     {
         self.faults = self.faults.saturating_add(1);
         Failed
+    }
+
+    /// Counts a call that fails exactly by its number.
+    pub(crate) fn done(&mut self) -> Result<(), Failed>
+        ensures by_number { IsErr result ↔ Contains self.old.fails self.new.made }
+        ensures counted { self.new ≡ counts_after self.old (is_ok result) }
+        ensures never_falls { self.old.faults ≤ self.new.faults }
+        ensures cause { OnErr result (HasRisen self.old.faults self.new.faults) }
+    {
+        if self.call() {
+            return Err(self.fault());
+        }
+        Ok(())
     }
 }

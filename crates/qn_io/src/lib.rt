@@ -7,17 +7,27 @@
 #![tactic(auto)]
 
 mod buffered;
+mod calls;
+mod env_memory;
 mod failing;
 mod lines;
 mod memory;
 mod outside;
+mod quiet;
+mod scripted;
+mod sectors;
 mod standard;
+mod told;
 mod whole;
 
 pub use buffered::{LINE, Next, PIECE, Pieces};
+pub use calls::{Env, Got, Opening, PACKET, SECTOR, SECTORS, SENT_PACKET};
+pub use env_memory::MemEnv;
 pub use lines::{LineRead, read_line};
 pub use memory::{MemSink, MemSource};
 pub use outside::{Sink, Source};
+pub use quiet::QuietEnv;
+pub use scripted::Script;
 pub use standard::{StdSink, StdSource};
 pub use whole::put_all;
 

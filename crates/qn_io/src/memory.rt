@@ -1,6 +1,6 @@
 ghost use Rattle.std.specs.Prelude.{◌≡◌, ℕ, ◌<◌, ◌≤◌, ◌+◌, ◌-◌, ◌↔◌, [], List, Option, Some, IsErr, IsOk, IfOk, OnErr, Contains, is_ok, ◌⊎◌, min, length, take, drop, vec_len, vec_capacity};
 ghost use Rattle.std.specs.Io.KnownBytes.{prepend_known, append_known, IsAtEnd};
-ghost use Rattle.qn_io.specs.Memory.{CountsCall, Input, IsFull, Output};
+ghost use Rattle.qn_io.specs.Memory.{counts_after, Input, IsFull, Output};
 ghost use Rattle.qn_io.specs.Outside.{HasRisen};
 
 use crate::failing::Failures;
@@ -58,7 +58,7 @@ impl Source for MemSource {
         ensures cause { OnErr result (HasRisen self.old.counts.faults self.new.counts.faults) }
 
         ensures by_number { IsErr result ↔ Contains self.old.counts.fails self.new.counts.made }
-        ensures counted { CountsCall self.old.counts self.new.counts (is_ok result) }
+        ensures counted { self.new.counts ≡ counts_after self.old.counts (is_ok result) }
         ensures length { IfOk result (λ n. n ≡ min self.old.piece (min (length into.old) (length self.old.left))) }
         ensures piece { self.new.piece ≡ self.old.piece }
     {
@@ -129,7 +129,7 @@ impl Sink for MemSink {
         ensures cause { OnErr result (HasRisen self.old.counts.faults self.new.counts.faults) }
 
         ensures by_number_or_full { IsErr result ↔ (Contains self.old.counts.fails self.new.counts.made ⊎ IsFull self.old from.now) }
-        ensures counted { CountsCall self.old.counts self.new.counts (is_ok result) }
+        ensures counted { self.new.counts ≡ counts_after self.old.counts (is_ok result) }
         ensures length { IfOk result (λ n. n ≡ min (length from.now) (self.old.room - length self.old.written)) }
         ensures room { self.new.room ≡ self.old.room }
     {
