@@ -8,13 +8,25 @@
 #![tactic(auto)]
 
 mod configuration;
+mod disk;
+mod entries;
 mod laws;
+mod life;
 mod nodelist;
+mod outputs;
+mod packets;
+mod seen;
 mod times;
 mod votes;
 
 pub use configuration::{Device, Settings};
+pub use disk::{Message, Slot};
+pub use entries::{Entry, What};
 pub use laws::{law_disjoint_views, law_released_first};
+pub use life::{Phase, Why};
 pub use nodelist::{NodeEntry, Nodes};
+pub use outputs::{BootCause, DiskOp, HaltKind, Out, Outs};
+pub use packets::{Ask, Packet, Tell};
+pub use seen::{HeaderSeen, MailSeen, SlotSeen};
 pub use times::{Timing, timing_safe};
 pub use votes::{Answer, VoteEntry, VoteWhat};
