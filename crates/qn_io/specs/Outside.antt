@@ -1,11 +1,8 @@
 -- What calls of the outside do to a count of faults and to bytes that are told.
-use Rattle.std.specs.Prelude.{◌≡◌, ℕ, ◌<◌, List, [], ◌++◌, Option, None, Some}
+pub use Rattle.qn_base.specs.Faults.{HasRisen}
+use Rattle.std.specs.Prelude.{◌≡◌, ℕ, List, [], ◌++◌, Option, None, Some}
 use Rattle.std.specs.Io.KnownBytes.{prepend_known, append_known}
 use Rattle.std.proofs.Common.{refl, sym, ap, append_assoc, append-nil}
-
--- The count rose in between. A count at its last value is taken as one that rose (this project's profile).
-abbrev pub HasRisen : ℕ → ℕ → Type 0
-HasRisen old new = old < 18446744073709551615 → old < new
 
 -- no bytes before the known ones leave them as they are
 pub prepend_known-nil : (known : Option (List ℕ)) → prepend_known [] known ≡ known

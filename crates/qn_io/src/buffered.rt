@@ -16,6 +16,7 @@ pub const PIECE: usize = 4096;
 pub const LINE: usize = 4096;
 
 /// Bytes that were read from a source and not yet handed out, of one piece.
+#[derive(Drop)]
 pub struct Pieces {
     buffer: [u8; PIECE],
     from: usize,

@@ -7,11 +7,19 @@
 #![tactic(auto)]
 
 mod buffered;
+mod failing;
 mod lines;
+mod memory;
 mod outside;
+mod standard;
 mod whole;
 
 pub use buffered::{LINE, Next, PIECE, Pieces};
 pub use lines::{LineRead, read_line};
+pub use memory::{MemSink, MemSource};
 pub use outside::{Sink, Source};
+pub use standard::{StdSink, StdSource};
 pub use whole::put_all;
+
+#[cfg(test)]
+mod tests;

@@ -14,18 +14,17 @@ later s entry past found = (found.0 + 1, found.1, omega (arith, found.2), rw add
 here : (s : Settings) (entry : VoteEntry) (past : List VoteEntry) → IsTrue (releases s entry.what) → HasRelease s (entry ∷ past)
 here s entry past it = (0, entry, omega arith, refl, it)
 
-by_either : (s : Settings) (entry : VoteEntry) (past : List VoteEntry) (before now : Bool) → is_released s past ≡ before → releases s entry.what ≡ now
-    → (IsTrue (is_released s past) → HasRelease s past) → IsTrue (before || now) → HasRelease s (entry ∷ past)
-by_either s entry past true now was is found either = later s entry past (found was)
-by_either s entry past false true was is found either = here s entry past is
-by_either s entry past false false was is found either = absurd (false≢true either)
+by_either : (s : Settings) (entry : VoteEntry) (past : List VoteEntry) (now : Bool) → releases s entry.what ≡ now
+    → (IsTrue (is_released s past) → HasRelease s past) → IsTrue (now || is_released s past) → HasRelease s (entry ∷ past)
+by_either s entry past true is found either = here s entry past is
+by_either s entry past false is found either = later s entry past (found either)
 
 -- with wait_for_all on, what is released was released by an entry
 released_by : (s : Settings) (votes : List VoteEntry) → IsTrue s.wait_for_all → IsTrue (is_released s votes) → HasRelease s votes
 unfolding is_released
 released_by s [] waits released = absurd (false≢true (sym (ap not waits) ∙ released))
 released_by s (entry ∷ past) waits released =
-    by_either s entry past (is_released s past) (releases s entry.what) refl refl (λ was. released_by s past waits was) released
+    by_either s entry past (releases s entry.what) refl (λ was. released_by s past waits was) released
 
 middle_of : (a b c : Bool) → IsTrue (a && b && c) → IsTrue b
 middle_of true true c all = refl

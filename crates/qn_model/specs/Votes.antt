@@ -62,7 +62,7 @@ releases s what.Tick = false
 -- votequorum(5), "wait_for_all": released once, until the next boot (this project's profile)
 unfoldable pub is_released : Settings → List VoteEntry → Bool
 is_released s [] = not s.wait_for_all
-is_released s (entry ∷ past) = is_released s past || releases s entry.what
+is_released s (entry ∷ past) = releases s entry.what || is_released s past
 
 -- votequorum(5), "expected_votes": a view with more votes raises them at once
 abbrev pub raised : Settings → VoteWhat → ℕ → ℕ

@@ -1,0 +1,4 @@
+pub mod NestingLemmas
+pub mod LineFaults
+pub mod ConfLaws
+pub mod Reading

@@ -1,0 +1,15 @@
+// The settings text as a tree: sections and pairs in text order (corosync.conf(5)), with no knowledge of
+// which names mean something.
+//
+// Promises: `read_tree` answers the tree exactly where the text is a configuration, and else the first fault
+// in a fixed order, with the line where it stands. Only want of memory is free.
+#![tactic(auto)]
+
+mod faults;
+mod line;
+mod reader;
+mod tree;
+
+pub use faults::ConfFault;
+pub use reader::read_tree;
+pub use tree::{Item, Tree, Word};

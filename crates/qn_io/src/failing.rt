@@ -1,0 +1,52 @@
+ghost use Rattle.std.specs.Prelude.{◌≡◌, ℕ, ◌≤◌, ◌↔◌, IsTrue, Contains};
+ghost use Rattle.qn_io.specs.Memory.{Counts, one_more};
+ghost use Rattle.qn_io.specs.Outside.{HasRisen};
+
+use qn_base::Failed;
+use std::marker::Model;
+
+/// Which calls of an object in memory fail, by their numbers from 1, and how many calls and faults
+/// there were.
+#[derive(Drop)]
+pub(crate) struct Failures {
+    fails: Vec<u64>,
+    made: u64,
+    faults: u64,
+}
+
+impl Model for Failures {
+    ghost Value = { Counts };
+
+    ghost view = { λ f. record { fails = f.fails.items; made = f.made; faults = f.faults } };
+}
+
+impl Failures {
+    pub(crate) fn new(fails: Vec<u64>) -> Failures
+        ensures { result ≡ record { fails = fails.items; made = 0; faults = 0 } }
+    {
+        Failures {
+            fails,
+            made: 0,
+            faults: 0,
+        }
+    }
+
+    /// Counts a call, and says whether it fails by its number.
+    pub(crate) fn call(&mut self) -> bool
+        ensures counted { self.new ≡ record self.old { made = one_more self.old.made } }
+        ensures by_number { IsTrue result ↔ Contains self.old.fails self.new.made }
+    {
+        self.made = self.made.saturating_add(1);
+        self.fails.contains(&self.made)
+    }
+
+    /// Counts a fault.
+    pub(crate) fn fault(&mut self) -> Failed
+        ensures counted { self.new ≡ record self.old { faults = one_more self.old.faults } }
+        ensures never_falls { self.old.faults ≤ self.new.faults }
+        ensures cause { HasRisen self.old.faults self.new.faults }
+    {
+        self.faults = self.faults.saturating_add(1);
+        Failed
+    }
+}

@@ -1,0 +1,149 @@
+ghost use Rattle.std.specs.Prelude.{◌≡◌, ◌≤◌, ◌+◌, nat_le};
+ghost use Rattle.qn_model.specs.Votes.{votes_of_device};
+
+use qn_base::View;
+use qn_model::{Answer, Device, Settings, VoteEntry, VoteWhat};
+
+/// What a vote list comes to: the present view and its tick, whether the node is released, the expected
+/// votes, and the tick of the device's standing yes.
+#[derive(Clone, Copy)]
+pub struct Tally {
+    pub view: Option<View>,
+    pub view_tick: u64,
+    pub released: bool,
+    pub expected: u64,
+    pub device_yes: Option<u64>,
+}
+
+impl Tally {
+    ghost use Rattle.std.specs.Prelude.{◌≡◌, ◌≤◌, ◌+◌, ◌*◌, [], ◌∷◌, List};
+    ghost use Rattle.qn_model.specs.declared.votes.VoteEntry.{VoteEntry};
+    ghost use Rattle.qn_plain.specs.Tally.{tally_answer, tally_counted, tally_device, tally_lowers, tally_of, tally_votes, with_entry, with_lowered};
+
+    /// The tally of no entries.
+    #[tactic(auto, unfolding(qn_model::specs::Votes::present_view, qn_model::specs::Votes::view_tick, qn_model::specs::Votes::is_released, qn_model::specs::Votes::expected_votes, qn_model::specs::Votes::device_yes))]
+    pub fn new(settings: &Settings) -> Self
+        ensures { result ≡ tally_of settings.now [] }
+    {
+        Tally {
+            view: None,
+            view_tick: 0,
+            released: !settings.wait_for_all,
+            expected: settings.expected,
+            device_yes: None,
+        }
+    }
+
+    /// Takes in the next entry of the list.
+    pub fn take(&mut self, settings: &Settings, entry: &VoteEntry)
+        ensures { (past : List VoteEntry)
+            → self.old ≡ tally_of settings.now past
+            → self.new ≡ tally_of settings.now (entry.now ∷ past) }
+    {
+        self.add(settings, entry);
+        self.lower(settings, entry.tick);
+    }
+
+    /// The count at a tick.
+    pub fn answer(&self, settings: &Settings, now: u64) -> Answer
+        ensures { result ≡ tally_answer settings.now self.now now }
+    {
+        let votes = self.counted_votes(settings, now);
+        let quorum = settings.quorum(self.expected);
+        Answer {
+            quorate: self.view.is_some() && self.released && votes >= quorum,
+            votes,
+            quorum,
+            expected: self.expected,
+            released: self.released,
+        }
+    }
+
+    fn add(&mut self, settings: &Settings, entry: &VoteEntry)
+        ensures { self.new ≡ with_entry settings.now entry.now self.old }
+    {
+        match entry.what {
+            VoteWhat::View(view) => {
+                self.view = Some(view);
+                self.view_tick = entry.tick;
+                self.released = settings.nodes.are_all_in(view.members) || self.released;
+                self.expected = self.expected.max(settings.nodes.votes_among(view.members));
+                self.device_yes = None;
+            }
+            VoteWhat::Device(agrees) => self.device_yes = agrees.then_some(entry.tick),
+            VoteWhat::Released => self.released = true,
+            VoteWhat::Tick => {}
+        }
+    }
+
+    fn lower(&mut self, settings: &Settings, now: u64)
+        ensures { self.new ≡ with_lowered settings.now now self.old }
+    {
+        if self.lowers(settings, now) {
+            self.expected = self.view_votes(settings);
+        }
+    }
+
+    /// Whether last man standing makes the present view's votes the expected ones.
+    fn lowers(&self, settings: &Settings, now: u64) -> bool
+        ensures { result ≡ tally_lowers settings.now self.now now }
+    {
+        let votes = self.view_votes(settings);
+        settings.last_man_standing
+            && self.view.is_some()
+            && has_passed(self.view_tick, settings.window, now)
+            && self.released
+            && votes >= settings.quorum(self.expected)
+            && votes < self.expected
+    }
+
+    fn view_votes(&self, settings: &Settings) -> u64
+        ensures sum { result ≡ tally_votes settings.now self.now }
+        ensures fits { result ≤ 32 * 4294967295 }
+    {
+        match self.view {
+            Some(view) => settings.nodes.votes_among(view.members),
+            None => 0,
+        }
+    }
+
+    fn counted_votes(&self, settings: &Settings, now: u64) -> u64
+        ensures { result ≡ tally_counted settings.now self.now now }
+    {
+        if self.view.is_some() {
+            self.view_votes(settings) + self.device_votes(settings, now)
+        } else {
+            0
+        }
+    }
+
+    fn device_votes(&self, settings: &Settings, now: u64) -> u64
+        ensures sum { result ≡ tally_device settings.now self.now now }
+        ensures fits { result ≤ 4294967295 }
+    {
+        match settings.device {
+            Some(device) if !settings.last_man_standing => {
+                votes_of_device(device, self.device_yes, now)
+            }
+            _ => 0,
+        }
+    }
+}
+
+/// The device's votes, by the tick of its standing yes: all of them below its timeout, else none.
+fn votes_of_device(device: Device, agreed: Option<u64>, now: u64) -> u64
+    ensures sum { result ≡ votes_of_device device agreed now }
+    ensures fits { result ≤ 4294967295 }
+{
+    match agreed {
+        Some(since) if !has_passed(since, device.timeout, now) => u64::from(device.votes),
+        _ => 0,
+    }
+}
+
+/// Whether at least this span of milliseconds lies between the two ticks.
+fn has_passed(since: u64, span: u64, now: u64) -> bool
+    ensures { result ≡ nat_le (since + span) now }
+{
+    since <= now && now - since >= span
+}

@@ -1,0 +1,4 @@
+pub mod Choices
+pub mod HeaderSpelling
+pub mod MailSpelling
+pub mod SlotSpelling

@@ -1,0 +1,93 @@
+ghost use Rattle.std.specs.Prelude.{◌≡◌, ◌≤◌, ℕ, IsTrue, IfSome, IfNone};
+ghost use Rattle.qn_model.specs.Sectors.{header_bytes};
+ghost use Rattle.qn_model.specs.Timing.{has_periods, is_period};
+ghost use Rattle.qn_model.specs.declared.times.Timing.{Timing};
+ghost use Rattle.qn_sector.specs.Reading.{header_of, is_header, timing_at, SpellsHeader};
+
+use crate::fields::{self, Sector};
+use byteorder::{BigEndian, ByteOrder};
+use qn_model::Timing;
+
+/// Writes the header of an image for that many nodes, 1 to 32, with times of 1 to 3600000 milliseconds,
+/// over all 512 bytes.
+#[tactic(auto, unfolding(qn_model::specs::Sectors::header_bytes))]
+pub fn put_header(nodes: u32, timing: &Timing, into: &mut [u8; 512])
+    requires some_nodes { 1 ≤ nodes }
+    requires few_nodes { nodes ≤ 32 }
+    requires times { IsTrue (has_periods timing.now) }
+    ensures { into.new ≡ header_bytes nodes timing.now }
+{
+    let mut sector = Sector::new();
+    fields::add(&mut sector, b"QNSBD001");
+    fields::add_u16(&mut sector, 1);
+    fields::add_u16(&mut sector, nodes as u16);
+    fields::add_zeros(&mut sector, 4);
+    fields::add_u64(&mut sector, timing.watchdog);
+    fields::add_u64(&mut sector, timing.msgwait);
+    fields::add_u64(&mut sector, timing.loop_ms);
+    fields::add_u64(&mut sector, timing.read_limit);
+    fields::add_u64(&mut sector, timing.feed_delay);
+    fields::add_zeros(&mut sector, 456);
+    into.copy_from_slice(&sector);
+}
+
+/// The number of nodes and the times of the header that the 512 bytes spell. Whether the times are safe
+/// is not tested.
+pub fn get_header(from: &[u8; 512]) -> Option<(u32, Timing)>
+    ensures some { IfSome result (λ h. SpellsHeader from.now h.0 h.1) }
+    ensures none { IfNone result ((nodes : ℕ) (timing : Timing) → SpellsHeader from.now nodes timing → ⊥) }
+    ensures gives { result ≡ header_of from.now }
+{
+    read_header(from)
+}
+
+#[tactic(auto, unfolding(crate::specs::Reading::header_of))]
+fn read_header(from: &[u8; 512]) -> Option<(u32, Timing)>
+    ensures { result ≡ header_of from.now }
+{
+    let nodes = u32::from(BigEndian::read_u16(from.split_at(10).1));
+    let timing = read_times(from);
+    if !is_header(nodes, &timing) {
+        return None;
+    }
+    let mut spelled = [0; 512];
+    put_header(nodes, &timing, &mut spelled);
+    if spelled.as_slice() == from.as_slice() {
+        Some((nodes, timing))
+    } else {
+        None
+    }
+}
+
+fn read_times(from: &[u8; 512]) -> Timing
+    ensures { result ≡ timing_at from.now }
+{
+    Timing {
+        watchdog: BigEndian::read_u64(from.split_at(16).1),
+        msgwait: BigEndian::read_u64(from.split_at(24).1),
+        loop_ms: BigEndian::read_u64(from.split_at(32).1),
+        read_limit: BigEndian::read_u64(from.split_at(40).1),
+        feed_delay: BigEndian::read_u64(from.split_at(48).1),
+    }
+}
+
+fn is_header(nodes: u32, timing: &Timing) -> bool
+    ensures exact { result ≡ is_header nodes timing.now }
+    ensures some_nodes { IsTrue result → 1 ≤ nodes }
+    ensures few_nodes { IsTrue result → nodes ≤ 32 }
+    ensures times { IsTrue result → IsTrue (has_periods timing.now) }
+{
+    nodes >= 1
+        && nodes <= 32
+        && is_period(timing.watchdog)
+        && is_period(timing.msgwait)
+        && is_period(timing.loop_ms)
+        && is_period(timing.read_limit)
+        && is_period(timing.feed_delay)
+}
+
+fn is_period(time: u64) -> bool
+    ensures { result ≡ is_period time }
+{
+    time >= 1 && time <= 3_600_000
+}

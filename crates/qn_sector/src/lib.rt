@@ -1,0 +1,22 @@
+// The bytes of an image's sectors: one spelling of 512 bytes for each header, slot and mailbox, and the
+// sectors where they stand. Fields are big-endian and written through `byteorder`.
+//
+// Promises: each `put_` writes the spelling of its value. Each `get_` answers Some exactly where all 512
+// bytes are the spelling of that value, and None exactly where they are the spelling of nothing; so what
+// was put is read back. No call takes memory.
+#![tactic(auto)]
+
+mod fields;
+mod header;
+mod laws;
+mod mailbox;
+mod places;
+mod slot;
+#[cfg(test)]
+mod tests;
+
+pub use header::{get_header, put_header};
+pub use laws::law_read_back;
+pub use mailbox::{get_mail, put_mail};
+pub use places::{mail_sector, slot_sector};
+pub use slot::{get_slot, put_slot};
