@@ -14,6 +14,7 @@ use Rattle.qn_model.specs.declared.entries.What.TheVariants as what
 use Rattle.qn_model.specs.declared.outputs.BootCause.{BootCause}
 use Rattle.qn_model.specs.declared.outputs.HaltKind.TheVariants as halt
 use Rattle.qn_model.specs.declared.outputs.DiskOp.{DiskOp}
+use Rattle.qn_model.specs.declared.outputs.DiskOp.TheVariants as disk
 use Rattle.qn_model.specs.declared.outputs.Out.{Out}
 use Rattle.qn_model.specs.declared.outputs.Out.TheVariants as out
 use Rattle.qn_model.specs.declared.life.Why.{Why}
@@ -37,6 +38,10 @@ when false output = []
 abbrev pub disk_outs : Option DiskOp → List Out
 disk_outs None = []
 disk_outs (Some op) = out.Disk op ∷ []
+
+-- the output that writes a reset to a rank
+abbrev pub resets : Rank → Out
+resets rank = out.Disk (disk.WriteReset rank)
 
 -- whether an entry is a step of the boot
 abbrev pub is_boot_step : What → Bool
@@ -83,8 +88,14 @@ abbrev pub reply : Settings → ℕ → Bool → List Line → Ask → List Out
 reply s me held log ask =
     when (is_present log ask.view && is_member ask.view.members ask.from.0)
     (out.Send ask.from (packet.Tell (record {
-      from = rank_of me; to = ask.from; incarnation = ask.incarnation; install = ask.install; view = ask.view;
-      holds = held; released = released s log })))
+      from = rank_of me;
+      to = ask.from;
+      incarnation = ask.incarnation;
+      install = ask.install;
+      view = ask.view;
+      holds = held;
+      released = released s log;
+    })))
 
 abbrev pub replies : Settings → ℕ → Bool → List Line → What → List Out
 replies s me held log (what.Ask ask) = reply s me held log ask
@@ -117,7 +128,12 @@ is_asked s me log rank =
 abbrev pub ask_to : ℕ → List Line → View → ℕ → Out
 ask_to me log present rank =
     out.Send (rank_of rank) (packet.Ask (record {
-      from = rank_of me; to = rank_of rank; incarnation = unwrap_or (incarnation log) 0; install = install log; view = present }))
+      from = rank_of me;
+      to = rank_of rank;
+      incarnation = unwrap_or (incarnation log) 0;
+      install = install log;
+      view = present;
+    }))
 
 -- the Asks in ascending rank
 abbrev pub asks_under : Settings → ℕ → List Line → View → List Out
@@ -154,8 +170,12 @@ taken_in past tick entry = record { tick = tick; what = entry; asked = (if is_an
 -- the log with an entry as it was read, and its outputs
 abbrev pub with_read : Settings → ℕ → List Line → ℕ → What → List Line
 with_read s me past tick entry =
-    record { tick = tick; what = entry; asked = (if is_answer entry then ask_place past else 0);
-      outs = outs_at s me past tick entry (taken_in past tick entry) } ∷ past
+    record {
+      tick = tick;
+      what = entry;
+      asked = (if is_answer entry then ask_place past else 0);
+      outs = outs_at s me past tick entry (taken_in past tick entry);
+    } ∷ past
 
 -- the log with one more entry of the history
 unfoldable pub with_entry : Settings → ℕ → List Line → Entry → List Line

@@ -1,5 +1,5 @@
-use crate::seen::{HeaderSeen, MailSeen, SlotSeen};
 use crate::packets::{Ask, Tell};
+use crate::seen::{HeaderSeen, MailSeen, SlotSeen};
 use qn_base::{Rank, View};
 
 /// One entry of a node's history: what the node was handed, and at which tick of its own clock, in

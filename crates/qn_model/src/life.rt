@@ -26,16 +26,29 @@ pub enum Why {
     NoView,
     /// The node is not released from wait_for_all.
     WaitForAll,
-    NotQuorate { votes: u64, quorum: u64 },
+    NotQuorate {
+        votes: u64,
+        quorum: u64,
+    },
     /// Another node of the view is the one that may start: its id.
-    NotChosen { id: NodeId },
+    NotChosen {
+        id: NodeId,
+    },
     /// The least member that says that it holds the resource.
-    HeldBy { id: NodeId },
+    HeldBy {
+        id: NodeId,
+    },
     /// The least member that did not answer.
-    Unheard { id: NodeId },
+    Unheard {
+        id: NodeId,
+    },
     /// The least node outside the view that is neither cleanly stopped nor fenced; whether a reset was
     /// written to it, and then the ticks that still lack to msgwait, else 0.
-    Unfenced { id: NodeId, written: bool, left: u64 },
+    Unfenced {
+        id: NodeId,
+        written: bool,
+        left: u64,
+    },
     /// No condition lacks.
     Clear,
 }
