@@ -1,15 +1,13 @@
 -- A reset is written only to a node that is outside the view and was not read as clean.
-use Rattle.std.proofs.Common.{◌≡◌, ℕ, suc, zero, ◌+◌, Bool, true, false, List, [], ◌∷◌, ◌++◌, Some, None, refl, ap, ◌∙◌, sym, subst, cond, ◌&&◌, ◌||◌, not, map, filter, if◌then◌else◌}
-use Rattle.std.specs.Prelude.{Option, All, is_some, unwrap_or}
+use Rattle.std.proofs.Common.{◌≡◌, ℕ, suc, zero, ◌+◌, Bool, true, false, List, [], ◌∷◌, ◌++◌, Some, None, refl, cond, ◌&&◌, ◌||◌, not, if◌then◌else◌}
+use Rattle.std.specs.Prelude.{Option, All, is_some}
 use Rattle.std.specs.Option.{option_or, option_map, option_map_or}
-use Rattle.std.specs.List.{Contains, range_with_len}
+use Rattle.std.specs.List.{Contains}
 use Rattle.std.proofs.lemmas.List.Elements.{All-nil, All-cons, All-append, All-contains, All-map}
 use Rattle.qn_base.specs.declared.ids.Rank.{Rank}
 use Rattle.qn_base.specs.declared.ids.View.{View}
 use Rattle.qn_model.specs.declared.configuration.Settings.{Settings}
 use Rattle.qn_model.specs.declared.disk.Message.{Message}
-use Rattle.qn_model.specs.declared.packets.Ask.{Ask}
-use Rattle.qn_model.specs.declared.packets.Packet.{Packet}
 use Rattle.qn_model.specs.declared.seen.SlotSeen.{SlotSeen}
 use Rattle.qn_model.specs.declared.seen.SlotSeen.TheVariants as slot
 use Rattle.qn_model.specs.declared.entries.Entry.{Entry}
@@ -21,15 +19,15 @@ use Rattle.qn_model.specs.declared.outputs.DiskOp.TheVariants as disk
 use Rattle.qn_model.specs.declared.outputs.Out.{Out}
 use Rattle.qn_model.specs.declared.outputs.Out.TheVariants as out
 use Rattle.qn_model.specs.declared.outputs.HaltKind.TheVariants as halt
-use Rattle.qn_model.specs.Log.{Line, op_out, incarnation, now}
+use Rattle.qn_model.specs.Log.{Line, op_out, incarnation}
 use Rattle.qn_model.specs.Phases.{phase, boot_halt, message_of, deadly_of, is_booting, is_live, is_leaving}
 use Rattle.qn_model.specs.Holding.{holds}
-use Rattle.qn_model.specs.NodeVotes.{view, is_in_view, is_present, released}
+use Rattle.qn_model.specs.NodeVotes.{view, is_in_view}
 use Rattle.qn_model.specs.Licences.{out_time, slot_read_since, is_clean, is_written}
 use Rattle.qn_model.specs.Unmet.{least_from}
 use Rattle.qn_model.specs.Wanted.{wanted, fencing_op, to_read, to_reset, boot_op, claim_after, close_op, rank_of, is_mail_due, may_fence}
 use Rattle.qn_model.specs.Fitting.{read_as}
-use Rattle.qn_model.specs.NodeOutputs.{acts, outs_at, live_outs, boot_outs, boot_step_outs, is_boot_step, is_begin, disk_outs, when, replies, reply, asks, asks_under, ask_to, is_asked, is_asking, gives_stop, gives_start, mail_feeds, taken_in, with_read, with_entry, log_from, log_of, newest_outs, outs_of}
+use Rattle.qn_model.specs.NodeOutputs.{acts, outs_at, live_outs, boot_outs, boot_step_outs, is_boot_step, is_begin, disk_outs, when, replies, asks_under, ask_to, is_asking, gives_stop, gives_start, mail_feeds, taken_in, with_read, with_entry, log_from, log_of, newest_outs, outs_of}
 
 -- an output that is a reset names a node that is outside the view and was not read as clean
 abbrev pub IsOutsider : List Line → Out → Type 0

@@ -1,5 +1,5 @@
 -- The vote list of a log has the log's own view.
-use Rattle.std.proofs.Common.{◌≡◌, ℕ, Bool, true, false, List, [], ◌∷◌, Some, None, IsTrue, refl, ap, ◌∙◌, sym, subst, cond, ◌&&◌}
+use Rattle.std.proofs.Common.{◌≡◌, ℕ, Bool, true, false, List, [], ◌∷◌, Some, IsTrue, refl, ap, ◌∙◌, cond, ◌&&◌}
 use Rattle.std.specs.Prelude.{Option}
 use Rattle.std.specs.Option.{option_or}
 use Rattle.qn_base.specs.declared.ids.View.{View}
@@ -7,7 +7,6 @@ use Rattle.qn_model.specs.declared.configuration.Settings.{Settings}
 use Rattle.qn_model.specs.declared.entries.Entry.{Entry}
 use Rattle.qn_model.specs.declared.entries.What.{What}
 use Rattle.qn_model.specs.declared.entries.What.TheVariants as what
-use Rattle.qn_model.specs.declared.votes.VoteWhat.{VoteWhat}
 use Rattle.qn_model.specs.declared.votes.VoteWhat.TheVariants as vote
 use Rattle.qn_model.specs.Laws.{AreDisjoint, IsPlainMajority}
 use Rattle.qn_model.specs.Votes.{present_view, newer_view}
