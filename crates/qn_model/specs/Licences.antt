@@ -1,7 +1,7 @@
 -- What a node knows of the slots and the resets of the nodes outside its view: this project's profile,
 -- after sbd(8).
 use Rattle.std.specs.Prelude.{ℕ, suc, Bool, true, false, List, [], ◌∷◌, length, Option, None, Some, ◌||◌, ◌&&◌, ◌==◌, ◌+◌, ◌-◌, nat_le, nat_lt, is_some, if◌then◌else◌}
-use Rattle.std.specs.Option.{option_or, option_map_or}
+use Rattle.std.specs.Option.{option_map_or}
 use Rattle.qn_base.specs.Members.{is_member}
 use Rattle.qn_model.specs.declared.seen.SlotSeen.{SlotSeen}
 use Rattle.qn_model.specs.declared.seen.SlotSeen.TheVariants as slot
@@ -49,11 +49,11 @@ slot_read_since place test rank [] = false
 slot_read_since place test rank (line ∷ past) =
     (nat_lt place line.asked && reads_slot test rank line.what) || slot_read_since place test rank past
 
--- the tick of the first reset that was written to that rank's mailbox, and asked for behind a place
+-- the tick of the last reset that was written to that rank's mailbox, and asked for behind a place
 unfoldable pub reset_since : ℕ → ℕ → List Line → Option ℕ
 reset_since place rank [] = None
 reset_since place rank (line ∷ past) =
-    option_or (reset_since place rank past) (if nat_lt place line.asked && writes_reset rank line.what then Some line.tick else None)
+    if nat_lt place line.asked && writes_reset rank line.what then Some line.tick else reset_since place rank past
 
 -- the slot of a rank was read as clean in its out-time
 abbrev pub is_clean : List Line → ℕ → Bool
