@@ -1,5 +1,7 @@
 pub mod ByRank
 pub mod Majority
 pub mod Release
+pub mod Resets
 mod SectorRows
+pub mod VoteLists
 pub mod WorkedCounts

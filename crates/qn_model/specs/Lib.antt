@@ -1,5 +1,15 @@
+pub mod Fitting
+pub mod Hearing
+pub mod Holding
 pub mod Laws
+pub mod Licences
+pub mod Log
+pub mod NodeOutputs
+pub mod NodeVotes
+pub mod Phases
 pub mod Sectors
 pub mod Settings
 pub mod Timing
+pub mod Unmet
 pub mod Votes
+pub mod Wanted

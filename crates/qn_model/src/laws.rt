@@ -1,20 +1,32 @@
-ghost use Rattle.std.specs.Prelude.{◌≡◌, ℕ, List, Some, IsTrue, Any};
+ghost use Rattle.std.specs.Prelude.{◌≡◌, ℕ, List, Some, IsTrue, Any, Contains, false};
 ghost use Rattle.qn_base.specs.declared.ids.View.{View};
 ghost use Rattle.qn_model.specs.declared.configuration.Settings.{Settings};
 ghost use Rattle.qn_model.specs.declared.votes.VoteEntry.{VoteEntry};
 ghost use Rattle.qn_model.specs.Laws.{AreDisjoint, IsPlainMajority};
 ghost use Rattle.qn_model.specs.Votes.{is_quorate, present_view, releases};
+ghost use Rattle.qn_base.specs.declared.ids.Rank.{Rank};
+ghost use Rattle.qn_model.specs.declared.entries.Entry.{Entry};
+ghost use Rattle.qn_model.specs.NodeVotes.{is_in_view, quorate, view};
+ghost use Rattle.qn_model.specs.Licences.{is_clean};
+ghost use Rattle.qn_model.specs.NodeOutputs.{log_of, outs_of, resets};
 
 /// Under plain majority, two vote lists whose present views have no node in common are never both
-/// quorate, at whatever ticks.
+/// quorate, at whatever ticks; and so two nodes, each by its whole history.
 pub fn law_disjoint_views()
-    ensures { (s : Settings) (first second : List VoteEntry) (tick later : ℕ) (left right : View)
+    ensures lists { (s : Settings) (first second : List VoteEntry) (tick later : ℕ) (left right : View)
         → IsPlainMajority s
         → present_view first ≡ Some left
         → present_view second ≡ Some right
         → AreDisjoint left right
         → IsTrue (is_quorate s first tick)
         → ¬ IsTrue (is_quorate s second later) }
+    ensures histories { (s : Settings) (me other : ℕ) (first second : List Entry) (tick later : ℕ) (left right : View)
+        → IsPlainMajority s
+        → view (log_of s me first) ≡ Some left
+        → view (log_of s other second) ≡ Some right
+        → AreDisjoint left right
+        → IsTrue (quorate s (log_of s me first) tick)
+        → ¬ IsTrue (quorate s (log_of s other second) later) }
 {}
 
 /// With wait_for_all on, a vote list is quorate only where one of its entries released: a view of all
@@ -24,4 +36,12 @@ pub fn law_released_first()
         → IsTrue s.wait_for_all
         → IsTrue (is_quorate s votes tick)
         → Any (λ entry. IsTrue (releases s entry.what)) votes }
+{}
+
+/// A node writes a reset only to a node that is outside its present view and whose slot it did not read
+/// as clean in the other's out-time.
+pub fn law_reset_outside()
+    ensures { (s : Settings) (me : ℕ) (history : List Entry) (rank : Rank)
+        → Contains (outs_of s me history) (resets rank)
+        → (is_in_view (log_of s me history) rank.0 ≡ false) × (is_clean (log_of s me history) rank.0 ≡ false) }
 {}

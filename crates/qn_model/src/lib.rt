@@ -2,21 +2,31 @@
 // cites and the laws that hold of them. Nothing here says how anything is computed from a history.
 //
 // Promises: `timing_safe` is exactly the definition of safe timing; the laws are contracts of functions
-// without parameters: two vote lists with disjoint present views are never both quorate
-// (`law_disjoint_views`), and with wait_for_all on nothing is quorate before a release
-// (`law_released_first`).
+// without parameters: two nodes with disjoint present views are never both quorate
+// (`law_disjoint_views`), with wait_for_all on nothing is quorate before a release
+// (`law_released_first`), and a reset goes only to a node outside the view (`law_reset_outside`).
 #![tactic(auto)]
 
 mod configuration;
 mod disk;
+mod entries;
 mod laws;
+mod life;
 mod nodelist;
+mod outputs;
+mod packets;
+mod seen;
 mod times;
 mod votes;
 
 pub use configuration::{Device, Settings};
 pub use disk::{Message, Slot};
-pub use laws::{law_disjoint_views, law_released_first};
+pub use entries::{Entry, What};
+pub use laws::{law_disjoint_views, law_released_first, law_reset_outside};
+pub use life::{Phase, Why};
 pub use nodelist::{NodeEntry, Nodes};
+pub use outputs::{BootCause, DiskOp, HaltKind, Out, Outs};
+pub use packets::{Ask, Packet, Tell};
+pub use seen::{HeaderSeen, MailSeen, SlotSeen};
 pub use times::{Timing, timing_safe};
 pub use votes::{Answer, VoteEntry, VoteWhat};

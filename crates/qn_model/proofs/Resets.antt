@@ -1,0 +1,215 @@
+-- A reset is written only to a node that is outside the view and was not read as clean.
+use Rattle.std.proofs.Common.{◌≡◌, ℕ, suc, zero, ◌+◌, Bool, true, false, List, [], ◌∷◌, ◌++◌, Some, None, refl, cond, ◌&&◌, ◌||◌, not, if◌then◌else◌}
+use Rattle.std.specs.Prelude.{Option, All, is_some}
+use Rattle.std.specs.Option.{option_or, option_map, option_map_or}
+use Rattle.std.specs.List.{Contains}
+use Rattle.std.proofs.lemmas.List.Elements.{All-nil, All-cons, All-append, All-contains, All-map}
+use Rattle.qn_base.specs.declared.ids.Rank.{Rank}
+use Rattle.qn_base.specs.declared.ids.View.{View}
+use Rattle.qn_model.specs.declared.configuration.Settings.{Settings}
+use Rattle.qn_model.specs.declared.disk.Message.{Message}
+use Rattle.qn_model.specs.declared.seen.SlotSeen.{SlotSeen}
+use Rattle.qn_model.specs.declared.seen.SlotSeen.TheVariants as slot
+use Rattle.qn_model.specs.declared.entries.Entry.{Entry}
+use Rattle.qn_model.specs.declared.entries.What.{What}
+use Rattle.qn_model.specs.declared.entries.What.TheVariants as what
+use Rattle.qn_model.specs.declared.outputs.BootCause.{BootCause}
+use Rattle.qn_model.specs.declared.outputs.DiskOp.{DiskOp}
+use Rattle.qn_model.specs.declared.outputs.DiskOp.TheVariants as disk
+use Rattle.qn_model.specs.declared.outputs.Out.{Out}
+use Rattle.qn_model.specs.declared.outputs.Out.TheVariants as out
+use Rattle.qn_model.specs.declared.outputs.HaltKind.TheVariants as halt
+use Rattle.qn_model.specs.Log.{Line, op_out, incarnation}
+use Rattle.qn_model.specs.Phases.{phase, boot_halt, message_of, deadly_of, is_booting, is_live, is_leaving}
+use Rattle.qn_model.specs.Holding.{holds}
+use Rattle.qn_model.specs.NodeVotes.{view, is_in_view}
+use Rattle.qn_model.specs.Licences.{out_time, slot_read_since, is_clean, is_written}
+use Rattle.qn_model.specs.Unmet.{least_from}
+use Rattle.qn_model.specs.Wanted.{wanted, fencing_op, to_read, to_reset, boot_op, claim_after, close_op, rank_of, is_mail_due, may_fence}
+use Rattle.qn_model.specs.Fitting.{read_as}
+use Rattle.qn_model.specs.NodeOutputs.{acts, outs_at, live_outs, boot_outs, boot_step_outs, is_boot_step, is_begin, disk_outs, when, replies, asks_under, ask_to, is_asking, gives_stop, gives_start, mail_feeds, taken_in, with_read, with_entry, log_from, log_of, newest_outs, outs_of}
+
+-- an output that is a reset names a node that is outside the view and was not read as clean
+abbrev pub IsOutsider : List Line → Out → Type 0
+IsOutsider log (out.Disk (disk.WriteReset rank)) = (is_in_view log rank.0 ≡ false) × (is_clean log rank.0 ≡ false)
+IsOutsider log output = Unit {0}
+
+-- the first of two numbers, where it passes, or else the later one
+passes_here : (test : ℕ → Bool) (from found : ℕ) (later : Option ℕ) (b : Bool) → test from ≡ b
+    → (later ≡ Some found → test found ≡ true) → cond b (Some from) later ≡ Some found → test found ≡ true
+passes_here test from found later true here rest is = let same : from ≡ found = cc in rw (← same) here
+passes_here test from found later false here rest is = rest is
+
+-- the least number that passes a test passes it
+least_passes : (count from : ℕ) (test : ℕ → Bool) (found : ℕ) → least_from count from test ≡ Some found → test found ≡ true
+unfolding least_from
+least_passes zero from test found e = cc
+least_passes (suc count) from test found e =
+    passes_here test from found (least_from count (from + 1) test) (test from) refl (least_passes count (from + 1) test found) e
+
+-- the three parts of a test that holds
+first_fails : (a b c : Bool) → (not a && not b && not c) ≡ true → (a ≡ false) × (b ≡ false)
+first_fails false false c e = (refl, refl)
+first_fails false true c e = cc
+first_fails true b c e = cc
+
+module _ (s : Settings) (log : List Line) where
+  abbrev AllOutside : List Out → Type 0
+  AllOutside outs = All (IsOutsider log) outs
+
+  none_outside : AllOutside []
+  none_outside = All-nil (IsOutsider log)
+
+  one_outside : (o : Out) → IsOutsider log o → AllOutside (o ∷ [])
+  one_outside o p = All-cons (IsOutsider log) o [] p none_outside
+
+  when_outside : (b : Bool) (o : Out) → IsOutsider log o → AllOutside (when b o)
+  when_outside true o p = one_outside o p
+  when_outside false o p = none_outside
+
+  both_outside : (front back : List Out) → AllOutside front → AllOutside back → AllOutside (front ++ back)
+  both_outside front back p q = All-append (IsOutsider log) front back p q
+
+  if_outside : (b : Bool) (first second : Option DiskOp) → AllOutside (disk_outs first) → AllOutside (disk_outs second)
+      → AllOutside (disk_outs (if b then first else second))
+  if_outside true first second p q = p
+  if_outside false first second p q = q
+
+  close_outside : (number : Option ℕ) → AllOutside (disk_outs (option_map (λ n. disk.WriteClose n) number))
+  close_outside None = none_outside
+  close_outside (Some n) = one_outside (out.Disk (disk.WriteClose n)) tt
+
+  fencing_outside : (read reset : Option ℕ) → ((rank : ℕ) → reset ≡ Some rank → (is_in_view log rank ≡ false) × (is_clean log rank ≡ false))
+      → AllOutside (disk_outs (option_or (option_map (λ rank. disk.ReadSlot (rank_of rank)) read) (option_map (λ rank. disk.WriteReset (rank_of rank)) reset)))
+  fencing_outside (Some rank) reset p = one_outside (out.Disk (disk.ReadSlot (rank_of rank))) tt
+  fencing_outside None (Some rank) p = one_outside (out.Disk (disk.WriteReset (rank_of rank))) (p rank refl)
+  fencing_outside None None p = none_outside
+
+  to_reset_outside : (rank : ℕ) → to_reset s log ≡ Some rank → (is_in_view log rank ≡ false) × (is_clean log rank ≡ false)
+  to_reset_outside rank e =
+      first_fails (is_in_view log rank) (is_clean log rank) (is_written log rank) (least_passes _ 0 _ rank e)
+
+  wanted_outside : (me : ℕ) → AllOutside (disk_outs (wanted s me log))
+  unfolding wanted
+  wanted_outside me =
+      if_outside (is_some (op_out log)) None _ none_outside
+      (if_outside (is_mail_due log) (Some disk.ReadMail) _ (one_outside (out.Disk disk.ReadMail) tt)
+      (if_outside (is_leaving (phase s log) && not (holds log)) (close_op log) _ (close_outside (incarnation log))
+      (if_outside (may_fence s me log) (fencing_op s log) None (fencing_outside (to_read s log) (to_reset s log) to_reset_outside) none_outside)))
+
+  replies_outside : (me : ℕ) (held : Bool) (entry : What) → AllOutside (replies s me held log entry)
+  replies_outside me held (what.Ask ask) = when_outside _ _ tt
+  replies_outside me held what.Begin = none_outside
+  replies_outside me held (what.Header seen) = none_outside
+  replies_outside me held (what.SlotRead rank seen) = none_outside
+  replies_outside me held (what.Claimed ok) = none_outside
+  replies_outside me held (what.Cleared ok) = none_outside
+  replies_outside me held (what.MailRead seen) = none_outside
+  replies_outside me held (what.MailWritten rank ok) = none_outside
+  replies_outside me held (what.View installed) = none_outside
+  replies_outside me held (what.Tell tell) = none_outside
+  replies_outside me held (what.Device agrees) = none_outside
+  replies_outside me held what.Tick = none_outside
+  replies_outside me held (what.Stopped ok) = none_outside
+  replies_outside me held what.Leave = none_outside
+  replies_outside me held (what.Closed ok) = none_outside
+
+  under_outside : (me : ℕ) (present : Option View) → AllOutside (option_map_or (asks_under s me log) present [])
+  under_outside me None = none_outside
+  under_outside me (Some present) = All-map (IsOutsider log) (ask_to me log present) _ (λ k d h. tt)
+
+  asks_outside : (me : ℕ) (b : Bool) → AllOutside (if b then option_map_or (asks_under s me log) (view log) [] else [])
+  asks_outside me true = under_outside me (view log)
+  asks_outside me false = none_outside
+
+  acts_outside : (me : ℕ) (entry : What) (fed : Bool) → AllOutside (acts s me log entry fed)
+  unfolding acts
+  acts_outside me entry fed =
+      both_outside _ _
+      (both_outside _ _
+      (both_outside _ _
+      (both_outside _ _
+      (both_outside _ _ (when_outside (gives_stop s log) out.Stop tt) (when_outside (gives_start s me log) out.Start tt))
+      (when_outside fed out.Feed tt))
+      (replies_outside me (gives_start s me log || holds log) entry))
+      (asks_outside me (is_asking s log)))
+      (wanted_outside me)
+
+  live_outside : (me : ℕ) (entry : What) (fed : Bool) (message : Option Message) → AllOutside (live_outs s me log entry fed message)
+  live_outside me entry fed (Some message) = one_outside (out.Halt (halt.Deadly message)) tt
+  live_outside me (what.Closed ok) fed None = one_outside out.Disarm tt
+  live_outside me what.Begin fed None = acts_outside me what.Begin fed
+  live_outside me (what.Header seen) fed None = acts_outside me (what.Header seen) fed
+  live_outside me (what.SlotRead rank seen) fed None = acts_outside me (what.SlotRead rank seen) fed
+  live_outside me (what.Claimed ok) fed None = acts_outside me (what.Claimed ok) fed
+  live_outside me (what.Cleared ok) fed None = acts_outside me (what.Cleared ok) fed
+  live_outside me (what.MailRead seen) fed None = acts_outside me (what.MailRead seen) fed
+  live_outside me (what.MailWritten rank ok) fed None = acts_outside me (what.MailWritten rank ok) fed
+  live_outside me (what.View installed) fed None = acts_outside me (what.View installed) fed
+  live_outside me (what.Ask ask) fed None = acts_outside me (what.Ask ask) fed
+  live_outside me (what.Tell tell) fed None = acts_outside me (what.Tell tell) fed
+  live_outside me (what.Device agrees) fed None = acts_outside me (what.Device agrees) fed
+  live_outside me what.Tick fed None = acts_outside me what.Tick fed
+  live_outside me (what.Stopped ok) fed None = acts_outside me (what.Stopped ok) fed
+  live_outside me what.Leave fed None = acts_outside me what.Leave fed
+
+  claim_outside : (seen : SlotSeen) → AllOutside (disk_outs (claim_after seen))
+  claim_outside (slot.Read own) = one_outside _ tt
+  claim_outside slot.Damaged = none_outside
+  claim_outside slot.Failed = none_outside
+
+  boot_op_outside : (me : ℕ) (entry : What) → AllOutside (disk_outs (boot_op me entry))
+  boot_op_outside me what.Begin = one_outside _ tt
+  boot_op_outside me (what.Header seen) = one_outside _ tt
+  boot_op_outside me (what.SlotRead rank seen) = claim_outside seen
+  boot_op_outside me (what.Claimed ok) = one_outside _ tt
+  boot_op_outside me (what.Cleared ok) = one_outside _ tt
+  boot_op_outside me (what.MailRead seen) = none_outside
+  boot_op_outside me (what.MailWritten rank ok) = none_outside
+  boot_op_outside me (what.View installed) = none_outside
+  boot_op_outside me (what.Ask ask) = none_outside
+  boot_op_outside me (what.Tell tell) = none_outside
+  boot_op_outside me (what.Device agrees) = none_outside
+  boot_op_outside me what.Tick = none_outside
+  boot_op_outside me (what.Stopped ok) = none_outside
+  boot_op_outside me what.Leave = none_outside
+  boot_op_outside me (what.Closed ok) = none_outside
+
+  boot_step_outside : (me : ℕ) (entry : What) (cause : Option BootCause) → AllOutside (boot_step_outs me entry cause)
+  boot_step_outside me entry None = both_outside _ _ (when_outside (not (is_begin entry)) out.Feed tt) (boot_op_outside me entry)
+  boot_step_outside me entry (Some cause) = one_outside _ tt
+
+  boot_outside : (me : ℕ) (entry : What) (b : Bool) → AllOutside (if b then boot_step_outs me entry (boot_halt s entry) else [])
+  boot_outside me entry true = boot_step_outside me entry (boot_halt s entry)
+  boot_outside me entry false = none_outside
+
+  phase_outside : (me tick : ℕ) (entry : What) (past : List Line) (booting live : Bool)
+      → AllOutside (if booting then boot_outs s me entry else (if live then live_outs s me log entry (mail_feeds tick past entry) (deadly_of (message_of entry)) else []))
+  phase_outside me tick entry past true live = boot_outside me entry (is_boot_step entry)
+  phase_outside me tick entry past false true = live_outside me entry (mail_feeds tick past entry) (deadly_of (message_of entry))
+  phase_outside me tick entry past false false = none_outside
+
+  outs_outside : (me : ℕ) (past : List Line) (tick : ℕ) (entry : What) → AllOutside (outs_at s me past tick entry log)
+  unfolding outs_at
+  outs_outside me past tick entry = phase_outside me tick entry past (is_booting (phase s past)) (is_live (phase s past))
+
+-- the newest entry of a log resets outsiders alone
+abbrev NewestIsOutside : List Line → Type 0
+NewestIsOutside log = All (IsOutsider log) (newest_outs log)
+
+with_read_outside : (s : Settings) (me : ℕ) (past : List Line) (tick : ℕ) (entry : What) → NewestIsOutside (with_read s me past tick entry)
+unfolding view out_time slot_read_since
+with_read_outside s me past tick entry = outs_outside s (taken_in past tick entry) me past tick entry
+
+log_from_outside : (s : Settings) (me : ℕ) (past : List Line) (history : List Entry) → NewestIsOutside past → NewestIsOutside (log_from s me past history)
+unfolding log_from with_entry
+log_from_outside s me past [] p = p
+log_from_outside s me past (entry ∷ history) p =
+    log_from_outside s me (with_entry s me past entry) history (with_read_outside s me past entry.tick (read_as s me past entry.what))
+
+-- what comes out of a history resets only nodes that are outside its view and were not read as clean
+pub reset_outside : (s : Settings) (me : ℕ) (history : List Entry) (rank : Rank) → Contains (outs_of s me history) (out.Disk (disk.WriteReset rank))
+    → (is_in_view (log_of s me history) rank.0 ≡ false) × (is_clean (log_of s me history) rank.0 ≡ false)
+reset_outside s me history rank there =
+    All-contains (IsOutsider (log_of s me history)) (outs_of s me history) (out.Disk (disk.WriteReset rank))
+    (log_from_outside s me [] history (All-nil (IsOutsider []))) there

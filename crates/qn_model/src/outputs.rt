@@ -1,0 +1,147 @@
+ghost use Rattle.std.specs.Prelude.{◌≡◌, ◌<◌, ◌≤◌, ◌==◌, [], ◌∷◌, ◌++◌, Some, length, slice_get};
+
+use crate::disk::Message;
+use crate::packets::Packet;
+use arrayvec::ArrayVec;
+use qn_base::Rank;
+use std::marker::Model;
+
+/// What a node asks of the image.
+#[derive(Clone, Copy, PartialEq, Eq, Debug)]
+pub enum DiskOp {
+    ReadHeader,
+    /// Read the slot of that node.
+    ReadSlot(Rank),
+    /// Write the own slot with this incarnation, dirty.
+    WriteClaim(u64),
+    /// Write Empty to the own mailbox.
+    WriteClear,
+    /// Read the own mailbox.
+    ReadMail,
+    /// Write Reset to the mailbox of that node.
+    WriteReset(Rank),
+    /// Write the own slot with this incarnation, clean.
+    WriteClose(u64),
+}
+
+/// Why a boot halts.
+#[derive(Clone, Copy, PartialEq, Eq, Debug)]
+pub enum BootCause {
+    ReadFailed = 1,
+    NotImage = 2,
+    UnsafeTiming = 3,
+    ClaimFailed = 4,
+    ClearFailed = 5,
+    IncarnationSpent = 6,
+}
+
+/// Why a node halts: a deadly message was in its mailbox, or a step of its boot failed.
+#[derive(Clone, Copy, PartialEq, Eq, Debug)]
+pub enum HaltKind {
+    Deadly(Message),
+    Boot(BootCause),
+}
+
+/// What a node does at an entry.
+#[derive(Clone, Copy, PartialEq, Eq, Default, Debug)]
+pub enum Out {
+    /// Stop the resource.
+    #[default]
+    Stop,
+    /// Start the resource.
+    Start,
+    /// Feed the watchdog.
+    Feed,
+    /// Send a packet to that node.
+    Send(Rank, Packet),
+    /// Ask this of the image.
+    Disk(DiskOp),
+    /// Disarm the watchdog.
+    Disarm,
+    /// End.
+    Halt(HaltKind),
+}
+
+/// The outputs of one entry, in order: at most 40.
+#[derive(Drop)]
+pub struct Outs {
+    outs: ArrayVec<Out, 40>,
+}
+
+impl Model for Outs {
+    ghost use Rattle.std.specs.Prelude.{List, ◌≤◌};
+    ghost use Rattle.arrayvec.specs.ArrayVec.{array_vec_len};
+    ghost use Rattle.qn_model.specs.declared.outputs.Out.{Out};
+
+    ghost Value = { List Out };
+
+    ghost view = { λ o. o.outs.items };
+
+    ghost invariant = { λ o. array_vec_len o.outs ≤ 40 };
+}
+
+impl Outs {
+    /// No outputs.
+    pub fn new() -> Self
+        ensures { result ≡ [] }
+    {
+        Outs {
+            outs: ArrayVec::new(),
+        }
+    }
+
+    /// How many outputs there are.
+    pub fn len(&self) -> usize
+        ensures value { result ≡ length self.now }
+        ensures fits { result ≤ 40 }
+    {
+        self.outs.len()
+    }
+
+    /// Whether there is no output.
+    pub fn is_empty(&self) -> bool
+        ensures { result ≡ (length self.now == 0) }
+    {
+        self.outs.is_empty()
+    }
+
+    /// The output of that place, from 0.
+    pub fn get(&self, place: usize) -> Out
+        requires { place < length self.now }
+        ensures { slice_get self.now place ≡ Some result }
+    {
+        self.outs[place]
+    }
+
+    /// Adds an output behind the others.
+    pub fn push(&mut self, item: Out)
+        requires { length self.old < 40 }
+        ensures { self.new ≡ self.old ++ item ∷ [] }
+    {
+        self.outs.push(item);
+    }
+
+    /// Takes all outputs away.
+    pub fn clear(&mut self)
+        ensures { self.new ≡ [] }
+    {
+        self.outs.clear();
+    }
+
+    /// An equal list.
+    pub fn copy(&self) -> Self
+        ensures { result ≡ self.now }
+    {
+        let mut outs = ArrayVec::new();
+        let _ = outs.try_extend_from_slice(self.outs.as_slice());
+        Outs { outs }
+    }
+
+    /// The outputs in order.
+    pub fn as_slice(&self) -> &[Out]
+        ensures value { result.now ≡ self.now }
+        ensures fits { length result.now ≤ 40 }
+    {
+        self.outs.as_slice()
+    }
+}
