@@ -6,7 +6,7 @@ use std::io::{ErrorKind, Read, Write};
 use std::marker::Model;
 
 /// How often a real call is made that is interrupted each time; then it has failed.
-const TRIES: u32 = 1000;
+pub(crate) const TRIES: u32 = 1000;
 
 /// A source over a real reader. It tells nothing of its bytes, and is seen as its count of faults.
 #[derive(Drop)]
