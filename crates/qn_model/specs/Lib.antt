@@ -8,6 +8,9 @@ pub mod NodeOutputs
 pub mod NodeVotes
 pub mod Phases
 pub mod Sectors
+pub mod CountText
+pub mod Laws
+pub mod Lines
 pub mod Settings
 pub mod Timing
 pub mod Unmet
