@@ -1,8 +1,8 @@
 -- Texts by lines, words and members, the numbers in them, and how a command ends: this project's profile,
 -- shared by every command that reads lines.
-use Rattle.std.specs.Prelude.{ℕ, ◌+◌, ◌^◌, Bool, true, false, ◌&&◌, ◌||◌, ◌==◌, nat_le, nat_lt, if◌then◌else◌, List, [], ◌∷◌, ◌++◌, ◌-◌, filter, fold, Result, Ok, Err, codes, decimal, bit_or}
+use Rattle.std.specs.Prelude.{ℕ, ◌+◌, ◌^◌, Bool, true, false, ◌&&◌, ◌||◌, ◌==◌, nat_lt, if◌then◌else◌, List, [], ◌∷◌, ◌++◌, ◌-◌, map, filter, fold, position, slice_index, Result, Ok, Err, codes, decimal, bit_or}
 use Rattle.std.specs.Option.{ok_or}
-use Rattle.std.specs.List.{slice_split, list_all, list_any, position_or_len}
+use Rattle.std.specs.List.{slice_split, list_all}
 use Rattle.qn_base.specs.Decimal.{number_of}
 use Rattle.qn_base.specs.declared.ids.Mask.{Mask}
 use Rattle.qn_model.specs.declared.line_fault.LineFault.{LineFault}
@@ -63,30 +63,31 @@ is_ascending [] = true
 is_ascending (n ∷ []) = true
 is_ascending (n ∷ m ∷ ms) = nat_lt n m && is_ascending (m ∷ ms)
 
--- the id of one of the nodes
-unfoldable pub known_id : List ℕ → List ℕ → Result ℕ LineFault
-known_id known word = do
+-- the rank of the node that a word names by its id, among the ids of all nodes
+unfoldable pub known_rank : List ℕ → List ℕ → Result ℕ LineFault
+known_rank ids word = do
   id ← number_between 0 (2 ^ 64 - 1) word
-  if list_any (λ k. k == id) known then Ok id else Err UnknownNode
+  ok_or (position (λ k. k == id) ids) UnknownNode
 
--- the ids that the words spell, judged from left to right
-unfoldable pub known_ids : List ℕ → List (List ℕ) → Result (List ℕ) LineFault
-known_ids known [] = Ok []
-known_ids known (word ∷ words) = do
-  id ← known_id known word
-  ids ← known_ids known words
-  Ok (id ∷ ids)
+-- the ranks of the nodes that the words name, judged from left to right
+unfoldable pub known_ranks : List ℕ → List (List ℕ) → Result (List ℕ) LineFault
+known_ranks ids [] = Ok []
+known_ranks ids (word ∷ words) = do
+  rank ← known_rank ids word
+  ranks ← known_ranks ids words
+  Ok (rank ∷ ranks)
 
--- the nodes of these ids, as a set of ranks
-abbrev pub mask_of : List ℕ → List ℕ → Mask
-mask_of known ids = record { 0 = fold (λ mask id. bit_or mask (2 ^ position_or_len (λ k. k == id) known)) 0 ids }
+-- the set of these ranks
+abbrev pub mask_of : List ℕ → Mask
+mask_of ranks = record { 0 = fold (λ mask rank. bit_or mask (2 ^ rank)) 0 ranks }
 
--- a list of members: ids joined by commas, strictly ascending, at least one. An empty part is judged
--- after the ids.
+-- a list of members: at least one id, joined by commas, strictly ascending. An empty part is judged after
+-- the ids, and the order last.
 unfoldable pub members_of : List ℕ → List ℕ → Result Mask LineFault
-members_of known word = do
-  ids ← known_ids known (filter is_filled (parts 44 word))
-  if list_all is_filled (parts 44 word) && is_ascending ids then Ok (mask_of known ids) else Err BadView
+members_of ids word = do
+  ranks ← known_ranks ids (filter is_filled (parts 44 word))
+  if list_all is_filled (parts 44 word) && is_ascending (map (slice_index ids) ranks)
+      then Ok (mask_of ranks) else Err BadView
 
 -- the name of a fault
 abbrev pub name_of : LineFault → List ℕ
