@@ -1,17 +1,17 @@
 -- The text that `count` writes for its whole input: this project's profile, over the votes and the plain
 -- majority of votequorum(5).
-use Rattle.std.specs.Prelude.{ℕ, ◌+◌, ◌-◌, ◌/◌, ◌^◌, Bool, true, false, ◌==◌, ◌≢◌, nat_le, nat_lt, if◌then◌else◌, List, [], ◌∷◌, ◌++◌, length, map, sum_by, Result, Ok, Err, codes, decimal}
+use Rattle.std.specs.Prelude.{ℕ, ◌+◌, ◌-◌, ◌/◌, ◌^◌, Bool, true, false, ◌==◌, nat_le, nat_lt, if◌then◌else◌, List, [], ◌∷◌, ◌++◌, length, map, sum_by, Result, Ok, Err, codes, decimal}
 use Rattle.std.specs.List.{list_any}
 use Rattle.std.specs.Str.{bytes_eq}
-use Rattle.qn_base.specs.Members.{votes_of}
 use Rattle.qn_base.specs.declared.ids.Mask.{Mask}
 use Rattle.qn_model.specs.declared.nodelist.NodeEntry.{NodeEntry}
 use Rattle.qn_model.specs.declared.line_fault.LineFault.{LineFault}
-use Rattle.qn_model.specs.declared.line_fault.LineFault.TheVariants.{UnknownWord, BadCount, TooLong, Unended, TooMany, RepeatedNode}
+use Rattle.qn_model.specs.declared.line_fault.LineFault.TheVariants.{UnknownWord, TooLong, Unended, TooMany, RepeatedNode}
 use Rattle.qn_model.specs.declared.count_line.CountLine.{CountLine}
 use Rattle.qn_model.specs.declared.count_line.CountLine.TheVariants.{Node, View}
-use Rattle.qn_model.specs.Lines.{Ending, Ended, ReadFailed, Outcome, after, lines_of, words_of, ◌>>=◌, number_between, members_of, bad_line, read_fault}
-use Rattle.qn_model.specs.Settings.{ids, node_votes}
+use Rattle.qn_model.specs.Lines.{Ending, Ended, ReadFailed, Outcome, after, lines_of, words_of, ◌>>=◌, two_words, number_between, members_of, bad_line, read_fault}
+use Rattle.qn_model.specs.Settings.{ids}
+use Rattle.qn_model.specs.Votes.{votes_among}
 
 -- what the good lines so far say: the nodes in the order of their lines, and the numbers of lines and of views
 pub record Counted : Type 0 where
@@ -24,20 +24,21 @@ nothing_counted = record { nodes = []; lines = 0; views = 0 }
 
 -- `node ID VOTES`: an id that no earlier line has, of at most 32 nodes
 unfoldable pub node_line : List NodeEntry → List (List ℕ) → Result CountLine LineFault
-node_line nodes (first ∷ second ∷ []) = do
-  id ← number_between 1 4294967295 first
-  votes ← number_between 0 65535 second
-  if list_any (λ k. k == id) (ids nodes) then Err RepeatedNode
+node_line nodes words = do
+  pair ← two_words words
+  id ← number_between 1 4294967295 pair.0
+  votes ← number_between 0 65535 pair.1
+  if list_any (λ node. node.id.0 == id) nodes
+      then Err RepeatedNode
       else (if length nodes == 32 then Err TooMany else Ok (Node (record { id = record { 0 = id }; votes = votes })))
-node_line nodes words = Err BadCount
 
--- `view ID MEMBERS`, with members among the nodes so far
+-- `view VID MEMBERS`, with members among the nodes so far
 unfoldable pub view_line : List NodeEntry → List (List ℕ) → Result CountLine LineFault
-view_line nodes (first ∷ second ∷ []) = do
-  id ← number_between 0 (2 ^ 64 - 1) first
-  members ← members_of (ids nodes) second
+view_line nodes words = do
+  pair ← two_words words
+  id ← number_between 0 (2 ^ 64 - 1) pair.0
+  members ← members_of (ids nodes) pair.1
   Ok (View (record { id = id; members = members }))
-view_line nodes words = Err BadCount
 
 -- a line by its first word
 unfoldable pub line_of_words : List NodeEntry → List (List ℕ) → Result CountLine LineFault
@@ -67,7 +68,7 @@ yes_no false = codes "no"
 -- what a view line writes: its votes, and whether they are a majority
 unfoldable pub view_text : List NodeEntry → ℕ → Mask → List ℕ
 view_text nodes id members =
-    let votes = votes_of (node_votes nodes) members in
+    let votes = votes_among nodes members in
     let quorum = majority_of (expected_of nodes) in
     codes "view " ++ decimal id ++ codes " votes " ++ decimal votes ++ codes " quorum " ++ decimal quorum
     ++ codes " quorate " ++ yes_no (nat_le quorum votes) ++ codes "\n"
@@ -111,13 +112,3 @@ count_lines so_far ending (line ∷ next ∷ lines) =
 -- what `count` writes and how it ends, for the bytes that were read and the way in which the input ended
 abbrev pub count_of : Ending → List ℕ → Outcome
 count_of ending bytes = count_lines nothing_counted ending (lines_of bytes)
-
--- a status that fits the way in which the input ended: 0 only where it was read to its end, 6 only where
--- a read failed
-abbrev pub StatusFits : Ending → ℕ → Type 0
-StatusFits Ended status = status ≢ 6
-StatusFits ReadFailed status = status ≢ 0
-
--- where a read failed `count` never ends with status 0, and where the input ended never with status 6
-abbrev pub EndingDecides : Type 0
-EndingDecides = (ending : Ending) (bytes : List ℕ) → StatusFits ending (count_of ending bytes).status

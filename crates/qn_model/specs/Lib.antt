@@ -8,6 +8,7 @@ pub mod NodeOutputs
 pub mod NodeVotes
 pub mod Phases
 pub mod Sectors
+pub mod CountEnding
 pub mod CountText
 pub mod Laws
 pub mod Lines

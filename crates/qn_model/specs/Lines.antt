@@ -40,6 +40,13 @@ abbrev pub ◌>>=◌ : {A B : Type 0} → Result A LineFault → (A → Result B
 Ok value >>= next = next value
 Err fault >>= next = Err fault
 
+-- exactly two words
+abbrev pub two_words : List (List ℕ) → Result (List ℕ × List ℕ) LineFault
+two_words [] = Err BadCount
+two_words (first ∷ []) = Err BadCount
+two_words (first ∷ second ∷ []) = Ok (first, second)
+two_words (first ∷ second ∷ third ∷ words) = Err BadCount
+
 -- a zero before further digits
 abbrev pub has_leading_zero : List ℕ → Bool
 has_leading_zero [] = false

@@ -1,6 +1,7 @@
 ghost use Rattle.std.specs.Prelude.{◌≡◌, ◌++◌, codes};
 ghost use Rattle.qn_model.specs.Lines.{Ended, ReadFailed};
-ghost use Rattle.qn_model.specs.CountText.{EndingDecides, count_of};
+ghost use Rattle.qn_model.specs.CountEnding.{CountFits};
+ghost use Rattle.qn_model.specs.CountText.{count_of};
 
 /// The text of `count` for four nodes of one vote each, and views of two and of three of them: half of
 /// the votes are no majority. Where the read behind the last line fails, the lines before it stand.
@@ -24,7 +25,8 @@ pub fn law_empty_count()
     ensures { count_of Ended (codes "") ≡ record { text = codes "end 0\n"; status = 0 } }
 {}
 
-/// Status 0 comes only for an input that was read to its end, and status 6 only for one that was not.
+/// An input that was read to its end gives status 0 or 4, never 6. One of which a read failed gives status
+/// 6 or 4, never 0.
 pub fn law_count_ending()
-    ensures { EndingDecides }
+    ensures { CountFits }
 {}

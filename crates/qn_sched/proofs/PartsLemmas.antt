@@ -2,10 +2,12 @@
 use Rattle.std.proofs.Common.{◌≡◌, ◌+◌, ◌<◌, ◌≤◌, ◌==◌, ◌≢◌, ℕ, false, List, [], ◌∷◌, ◌++◌, length, take, drop, get_or, refl, sym, ap, ◌∙◌, subst, arith, eqb}
 use Rattle.std.specs.Prelude.{All}
 use Rattle.std.proofs.lemmas.List.{take-append-drop, drop_more, take_all, drop-drop, take_more}
-use Rattle.std.proofs.lemmas.List.Splits.{slice_split_at, slice_split_none}
+use Rattle.std.proofs.lemmas.List.Splits.{slice_split_at, slice_split_none, length-slice_split}
 use Rattle.std.proofs.lemmas.List.Elements.{All-push}
 use Rattle.std.proofs.Common.{eq-eqb, ne_eqb}
-use Rattle.qn_model.specs.Lines.{parts}
+use Rattle.std.specs.Prelude.{Err}
+use Rattle.qn_model.specs.declared.line_fault.LineFault.TheVariants.{BadCount}
+use Rattle.qn_model.specs.Lines.{parts, two_words}
 
 -- cut at place i, where the byte stands and not before
 pub parts-at : (byte : ℕ) (text : List ℕ) (i : ℕ) → i < length text → All (λ b. (b == byte) ≡ false) (take i text) → get_or text i 0 ≡ byte
@@ -26,3 +28,12 @@ pub passed_more : (byte : ℕ) (text : List ℕ) (i : ℕ) → i < length text �
 passed_more byte text i inside before other =
     let P : List ℕ → Type 0 = All (λ b. (b == byte) ≡ false) in
     subst P (sym (take_more text i 0 inside)) (All-push (λ b. (b == byte) ≡ false) (take i text) (get_or text i 0) before (ne_eqb (get_or text i 0) byte other))
+
+-- there is always a part
+pub parts-some : (byte : ℕ) (text : List ℕ) → 0 < length (parts byte text)
+parts-some byte text = omega (arith, length-slice_split (λ b. b == byte) text)
+
+-- more than two words
+pub two_words-more : (first second : List ℕ) (words : List (List ℕ)) → 0 < length words → two_words (first ∷ second ∷ words) ≡ Err BadCount
+two_words-more first second [] some = absurd (omega arith)
+two_words-more first second (third ∷ words) some = refl

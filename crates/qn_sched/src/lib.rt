@@ -12,4 +12,4 @@ mod words;
 pub use members::{known_rank, read_members};
 pub use numbers::number_between;
 pub use qn_model::LineFault;
-pub use words::{first_part, next_word, no_more_words};
+pub use words::{first_part, next_word, no_more_words, two_words};

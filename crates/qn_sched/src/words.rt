@@ -1,6 +1,6 @@
-ghost use Rattle.std.specs.Prelude.{◌≡◌, ◌↔◌, ◌∷◌, ◌≤◌, ◌<◌, length, None, IsOk, IsNone, OnErr, IfOk, IfErr, IfSome};
+ghost use Rattle.std.specs.Prelude.{◌≡◌, [], ◌∷◌, ◌≤◌, ◌<◌, length, None, Ok, Err, OnOk, OnErr, IfOk, IfErr, IfSome};
 ghost use Rattle.std.specs.Option.{option_copied};
-ghost use Rattle.qn_model.specs.Lines.{parts};
+ghost use Rattle.qn_model.specs.Lines.{parts, two_words};
 ghost use Rattle.qn_sched.specs.Words.{parts_left};
 
 use qn_model::LineFault;
@@ -35,11 +35,24 @@ pub fn next_word(rest: Option<&[u8]>) -> Result<(&[u8], Option<&[u8]>), LineFaul
 
 /// That no further word is left of a line. BadCount where there is one.
 pub fn no_more_words(rest: Option<&[u8]>) -> Result<(), LineFault>
-    ensures none { IsOk result ↔ IsNone rest.entry }
+    ensures none { OnOk result (parts_left 32 (option_copied rest.entry) ≡ []) }
+    ensures some { OnErr result (0 < length (parts_left 32 (option_copied rest.entry))) }
     ensures fault { IfErr result (λ fault. fault ≡ LineFault.BadCount) }
 {
     match rest {
         None => Ok(()),
         Some(_) => Err(LineFault::BadCount),
     }
+}
+
+/// The two words that are left of a line. BadCount where there are fewer or more.
+pub fn two_words(rest: Option<&[u8]>) -> Result<(&[u8], &[u8]), LineFault>
+    ensures words { IfOk result
+        (λ pair. two_words (parts_left 32 (option_copied rest.entry)) ≡ Ok (pair.0.now, pair.1.now)) }
+    ensures fault { IfErr result (λ fault. two_words (parts_left 32 (option_copied rest.entry)) ≡ Err fault) }
+{
+    let (first, rest) = next_word(rest)?;
+    let (second, rest) = next_word(rest)?;
+    no_more_words(rest)?;
+    Ok((first, second))
 }
