@@ -3,7 +3,6 @@ use Rattle.std.proofs.Common.{◌≡◌, ◌≤◌, ◌<◌, arith, ℕ, List, [
 use Rattle.std.specs.Io.KnownBytes.{append_known}
 use Rattle.qn_io.specs.Outside.{HasRisen, append_known-append}
 use Rattle.qn_io.specs.Writes.{AppendsFront}
-use Rattle.qn_top.specs.Runs.{Answers, Whole, Cut}
 use Rattle.qn_top.specs.Writing.{GivesOut}
 
 -- all of it was written
@@ -85,11 +84,6 @@ front_same a b before given text same first = record {
   parts = ap (λ x. before ++ x) (sym same) ∙ first.parts;
   adds = first.adds;
 }
-
-pub answers_same : (waiting given text : List ℕ) (wanted : ℕ) (a b : Option (List ℕ)) (failed : Type 0) (status : ℕ) → given ≡ text
-    → Answers waiting given wanted a b failed status → Answers waiting text wanted a b failed status
-answers_same waiting given text wanted a b failed status same (Whole is whole) = Whole is (whole ∙ ap (λ x. append_known a (waiting ++ x)) same)
-answers_same waiting given text wanted a b failed status same (Cut is fails front) = Cut is fails (front_same a b waiting given text same front)
 
 -- a count that rose in between rose over all
 pub risen_within : (a b c d : ℕ) → a ≤ b → b ≤ c → c ≤ d → HasRisen b c → HasRisen a d

@@ -10,8 +10,10 @@ mod command;
 mod count;
 mod counter;
 mod output;
+mod program;
 mod status;
 mod text_line;
 
 pub use command::{Command, command_of};
+pub use program::top;
 pub use status::Status;

@@ -2,12 +2,12 @@ use Rattle.std.proofs.Common.{refl, sym, ◌∙◌}
 use Rattle.qn_model.specs.Lines.{bad_line}
 use Rattle.qn_model.specs.CountText.{text_of_line}
 use Rattle.qn_top.specs.CountTurns.{Bad, Unwritten}
-use Rattle.qn_top.proofs.GivenOut.{answers_same, front_same, gives_same}
+use Rattle.qn_top.proofs.GivenOut.{front_same, gives_same}
 use Rattle.qn_top.proofs.count.take_line.Goals as goal
 
 pub returns-in-Err-clause-judges : goal.returns-in-Err-clause-judges
 returns-in-Err-clause-judges g c =
-    Bad c.in-Err.fault (sym c.in-Err.ensures.line) (answers_same _ _ _ _ _ _ _ _ c.fault_text-text.ensures c.finish.ensures.answers)
+    Bad c.in-Err.fault (sym c.in-Err.ensures.line) c.end_at_fault.ensures.answers
 
 pub returns-in_default-clause-judges : goal.returns-in_default-clause-judges
 returns-in_default-clause-judges g c =
