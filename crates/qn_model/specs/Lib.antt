@@ -1,8 +1,11 @@
+pub mod CountEnding
+pub mod CountText
 pub mod Fitting
 pub mod Hearing
 pub mod Holding
 pub mod Laws
 pub mod Licences
+pub mod Lines
 pub mod Log
 pub mod NodeOutputs
 pub mod NodeVotes

@@ -8,10 +8,13 @@
 #![tactic(auto)]
 
 mod configuration;
+mod count_line;
+mod count_rows;
 mod disk;
 mod entries;
 mod laws;
 mod life;
+mod line_fault;
 mod nodelist;
 mod outputs;
 mod packets;
@@ -20,10 +23,13 @@ mod times;
 mod votes;
 
 pub use configuration::{Device, Settings};
+pub use count_line::CountLine;
+pub use count_rows::{law_count_ending, law_empty_count, law_half_and_majority};
 pub use disk::{Message, Slot};
 pub use entries::{Entry, What};
 pub use laws::{law_disjoint_views, law_released_first, law_reset_outside};
 pub use life::{Phase, Why};
+pub use line_fault::LineFault;
 pub use nodelist::{NodeEntry, Nodes};
 pub use outputs::{BootCause, DiskOp, HaltKind, Out, Outs};
 pub use packets::{Ask, Packet, Tell};

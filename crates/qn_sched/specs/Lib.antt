@@ -1,0 +1,2 @@
+pub mod MemberList
+pub mod Words

@@ -1,0 +1,5 @@
+mod Counted
+mod CountLines
+mod GivenOut
+mod RunEnds
+mod Turned

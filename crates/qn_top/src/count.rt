@@ -1,0 +1,171 @@
+ghost use Rattle.std.specs.Prelude.{◌≡◌, ◌≢◌, ◌≤◌, ◌+◌, IfSome};
+ghost use Rattle.qn_io.specs.Outside.{HasRisen};
+ghost use Rattle.qn_model.specs.CountText.{count_of, end_of_input};
+ghost use Rattle.qn_model.specs.Lines.{Ended, bad_line, read_fault};
+ghost use Rattle.qn_top.specs.CountTurns.{JudgesLine};
+ghost use Rattle.qn_top.specs.Runs.{Answers, AnswersWhole, Completes, Runs};
+ghost use Rattle.qn_top.specs.Statuses.{code_of};
+
+use crate::counter::Counter;
+use crate::output::Output;
+use crate::status::Status;
+use crate::text_line::TextLine;
+use arrayvec::ArrayVec;
+use qn_io::{LINE, LineRead, Pieces, Sink, Source, read_line};
+use qn_model::LineFault;
+
+/// The end of a run: writes what waits and then this text, and answers the status, or WriteFault where the
+/// sink failed.
+pub fn finish<O: Sink>(output: &mut Output, out: &mut O, text: &TextLine, status: Status) -> Status
+    ensures answers { Answers output.old text.now (code_of status) (O.written out.old) (O.written out.new)
+        (HasRisen (O.faults out.old) (O.faults out.new)) (code_of result) }
+    ensures never_falls { O.faults out.old ≤ O.faults out.new }
+{
+    let Ok(()) = output.put(out, text.as_slice()) else {
+        return Status::WriteFault;
+    };
+    let Ok(()) = output.flush(out) else {
+        return Status::WriteFault;
+    };
+    status
+}
+
+/// The end of an input behind whose last end of a line these bytes are.
+#[tactic(auto, unfolding(qn_model::specs::CountText::end_of_input))]
+fn end<O: Sink>(counter: &Counter, rest: &[u8], output: &mut Output, out: &mut O) -> Status
+    ensures answers { Answers output.old (end_of_input counter.now Ended rest.now).text (end_of_input counter.now Ended rest.now).status
+        (O.written out.old) (O.written out.new) (HasRisen (O.faults out.old) (O.faults out.new)) (code_of result) }
+    ensures never_falls { O.faults out.old ≤ O.faults out.new }
+{
+    if !rest.is_empty() {
+        return end_at_fault(counter, LineFault::Unended, output, out);
+    }
+    let text = counter.end_text();
+    finish(output, out, &text, Status::Done)
+}
+
+/// The end at a fault of the line behind the good ones.
+fn end_at_fault<O: Sink>(
+    counter: &Counter,
+    fault: LineFault,
+    output: &mut Output,
+    out: &mut O,
+) -> Status
+    ensures answers { Answers output.old (bad_line (counter.now.lines + 1) fault).text 4
+        (O.written out.old) (O.written out.new) (HasRisen (O.faults out.old) (O.faults out.new)) (code_of result) }
+    ensures never_falls { O.faults out.old ≤ O.faults out.new }
+{
+    let text = counter.fault_text(fault);
+    finish(output, out, &text, Status::BadSchedule)
+}
+
+/// The end of an input of which a read failed.
+fn end_unread<O: Sink>(output: &mut Output, out: &mut O) -> Status
+    ensures answers { Answers output.old read_fault.text 6
+        (O.written out.old) (O.written out.new) (HasRisen (O.faults out.old) (O.faults out.new)) (code_of result) }
+    ensures never_falls { O.faults out.old ≤ O.faults out.new }
+{
+    let mut text = TextLine::new();
+    text.add(b"fault ReadFault\n");
+    finish(output, out, &text, Status::ReadFault)
+}
+
+/// Judges a whole line: takes it in and gives out its text, or ends the run at its fault.
+fn take_line<O: Sink>(
+    counter: &mut Counter,
+    line: &[u8],
+    output: &mut Output,
+    out: &mut O,
+) -> Option<Status>
+    ensures judges { JudgesLine result counter.old counter.new line.now output.old output.new (O.written out.old) (O.written out.new)
+        (HasRisen (O.faults out.old) (O.faults out.new)) }
+    ensures never_falls { O.faults out.old ≤ O.faults out.new }
+{
+    let good = match counter.judge(line) {
+        Ok(good) => good,
+        Err(fault) => return Some(end_at_fault(counter, fault, output, out)),
+    };
+    let text = counter.text_of(&good);
+    let Ok(()) = output.put(out, text.as_slice()) else {
+        return Some(Status::WriteFault);
+    };
+    counter.add(good);
+    None
+}
+
+/// A run of `count`: what it counted so far, the bytes that were read and not yet handed out, the line that
+/// was read last, and the text that waits to be written.
+#[derive(Drop)]
+struct Run {
+    counter: Counter,
+    pieces: Pieces,
+    line: ArrayVec<u8, LINE>,
+    output: Output,
+}
+
+impl Run {
+    ghost use Rattle.std.specs.Prelude.{[]};
+    ghost use Rattle.std.specs.Io.KnownBytes.{IsAtEnd, prepend_known};
+    ghost use Rattle.qn_model.specs.CountText.{nothing_counted};
+    ghost use Rattle.qn_top.specs.CountTurns.{Turns};
+
+    fn new() -> Self
+        ensures counter { result.counter ≡ nothing_counted }
+        ensures pieces { result.pieces ≡ [] }
+        ensures output { result.output ≡ [] }
+    {
+        Run {
+            counter: Counter::new(),
+            pieces: Pieces::new(),
+            line: ArrayVec::new(),
+            output: Output::new(),
+        }
+    }
+
+    /// Reads and judges the next line: the run goes on, or it ends with a status.
+    fn turn<I: Source, O: Sink>(&mut self, input: &mut I, out: &mut O) -> Option<Status>
+        ensures turns { Turns result self.old.counter self.new.counter
+            (prepend_known self.old.pieces (I.left input.old)) (prepend_known self.new.pieces (I.left input.new))
+            self.old.output self.new.output
+            ((self.new.pieces ≡ []) × IsAtEnd (I.left input.new))
+            ((self.new.pieces ≡ []) × HasRisen (I.faults input.old) (I.faults input.new))
+            (O.written out.old) (O.written out.new) (HasRisen (O.faults out.old) (O.faults out.new)) }
+        ensures source_faults { I.faults input.old ≤ I.faults input.new }
+        ensures sink_faults { O.faults out.old ≤ O.faults out.new }
+    {
+        let read = read_line(&mut self.pieces, input, &mut self.line);
+        let line = self.line.as_slice();
+        match read {
+            LineRead::Line => take_line(&mut self.counter, line, &mut self.output, out),
+            LineRead::Rest => Some(end(&self.counter, line, &mut self.output, out)),
+            LineRead::TooLong => Some(end_at_fault(
+                &self.counter,
+                LineFault::TooLong,
+                &mut self.output,
+                out,
+            )),
+            LineRead::Failed => Some(end_unread(&mut self.output, out)),
+        }
+    }
+}
+
+/// The command `count`, from the bytes of the input to the bytes of the output.
+pub fn count<I: Source, O: Sink>(input: &mut I, out: &mut O) -> Status
+    ensures runs { Runs count_of (I.left input.old) (I.left input.new) (HasRisen (I.faults input.old) (I.faults input.new))
+        (O.written out.old) (O.written out.new) (HasRisen (O.faults out.old) (O.faults out.new)) (code_of result) }
+    ensures complete { ¬ HasRisen (I.faults input.old) (I.faults input.new) → ¬ HasRisen (O.faults out.old) (O.faults out.new)
+        → IfSome (I.left input.old) (λ bytes. AnswersWhole (count_of Ended bytes) (O.written out.old) (O.written out.new) (code_of result)) }
+    ensures done { result ≡ Status.Done → Completes count_of (I.left input.old) (I.left input.new) (O.written out.old) (O.written out.new) }
+    ensures no_usage { result ≢ Status.Usage }
+    ensures read_fault { result ≡ Status.ReadFault → HasRisen (I.faults input.old) (I.faults input.new) }
+    ensures write_fault { result ≡ Status.WriteFault → HasRisen (O.faults out.old) (O.faults out.new) }
+    ensures source_faults { I.faults input.old ≤ I.faults input.new }
+    ensures sink_faults { O.faults out.old ≤ O.faults out.new }
+{
+    let mut run = Run::new();
+    'turns: loop {
+        if let Some(status) = run.turn(input, out) {
+            return status;
+        }
+    }
+}

@@ -1,0 +1,32 @@
+ghost use Rattle.std.specs.Prelude.{◌≡◌};
+ghost use Rattle.qn_top.specs.Statuses.{code_of};
+
+/// How the program ends.
+#[derive(Clone, Copy, PartialEq, Eq, Debug)]
+pub enum Status {
+    /// The command did its whole work.
+    Done,
+    /// The words are no command.
+    Usage,
+    /// A line of the input is at fault.
+    BadSchedule,
+    /// The input could not be read.
+    ReadFault,
+    /// The output could not be written.
+    WriteFault,
+}
+
+impl Status {
+    /// The exit status.
+    pub fn code(self) -> u8
+        ensures { result ≡ code_of self }
+    {
+        match self {
+            Status::Done => 0,
+            Status::Usage => 2,
+            Status::BadSchedule => 4,
+            Status::ReadFault => 6,
+            Status::WriteFault => 7,
+        }
+    }
+}
