@@ -34,4 +34,6 @@ pub use standard::{StdSink, StdSource};
 pub use whole::put_all;
 
 #[cfg(test)]
+mod env_tests;
+#[cfg(test)]
 mod tests;
