@@ -43,3 +43,35 @@ fn outlasts_feeds(timing: &Timing) -> bool
     let silence = timing.read_limit + 1 + timing.watchdog + timing.feed_delay;
     99 * timing.msgwait.saturating_sub(1) >= 101 * silence
 }
+
+#[cfg(test)]
+mod tests {
+    use super::*;
+
+    fn with_msgwait(msgwait: u64) -> Timing {
+        Timing {
+            watchdog: 5000,
+            msgwait,
+            loop_ms: 1000,
+            read_limit: 2000,
+            feed_delay: 1000,
+        }
+    }
+
+    #[test]
+    fn msgwait_from_8164_on_is_safe(rt: HostRuntime) {
+        for (msgwait, safe) in [
+            (0, false),
+            (8163, false),
+            (8164, true),
+            (3600000, true),
+            (3600001, false),
+        ] {
+            assert_eq!(rt;
+                timing_safe(&with_msgwait(msgwait)),
+                safe,
+                "msgwait {msgwait}"
+            );
+        }
+    }
+}

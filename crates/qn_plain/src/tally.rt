@@ -35,12 +35,12 @@ impl Tally {
     }
 
     /// Takes in the next entry of the list.
-    pub fn take(&mut self, settings: &Settings, entry: &VoteEntry)
+    pub fn push(&mut self, settings: &Settings, entry: &VoteEntry)
         ensures { (past : List VoteEntry)
             → self.old ≡ tally_of settings.now past
             → self.new ≡ tally_of settings.now (entry.now ∷ past) }
     {
-        self.add(settings, entry);
+        self.take_in(settings, entry);
         self.lower(settings, entry.tick);
     }
 
@@ -59,7 +59,7 @@ impl Tally {
         }
     }
 
-    fn add(&mut self, settings: &Settings, entry: &VoteEntry)
+    fn take_in(&mut self, settings: &Settings, entry: &VoteEntry)
         ensures { self.new ≡ with_entry settings.now entry.now self.old }
     {
         match entry.what {

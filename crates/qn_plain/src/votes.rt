@@ -12,7 +12,12 @@ pub fn vote_answer(settings: &Settings, votes: &[VoteEntry], tick: u64) -> Answe
 {
     let mut tally = Tally::new(settings);
     for entry in votes {
-        tally.take(settings, entry);
+        tally.push(settings, entry);
     }
     tally.answer(settings, tick)
 }
+
+#[cfg(test)]
+mod rows;
+#[cfg(test)]
+mod tests;

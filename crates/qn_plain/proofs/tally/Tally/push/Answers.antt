@@ -1,10 +1,10 @@
 use Rattle.std.proofs.Common.{ap, ◌∙◌}
 use Rattle.qn_plain.specs.Tally.{with_entry, with_lowered}
 use Rattle.qn_plain.proofs.EntryByEntry.{tally_of-cons}
-use Rattle.qn_plain.proofs.tally.Tally.take.Goals as goal
+use Rattle.qn_plain.proofs.tally.Tally.push.Goals as goal
 
 pub returns : goal.returns
 returns c = λ past was.
     let s = c.args.settings.now in
     let entry = c.args.entry.now in
-    c.lower.ensures ∙ (ap (with_lowered s entry.tick) (c.add.ensures ∙ ap (with_entry s entry) was) ∙ tally_of-cons s entry past)
+    c.lower.ensures ∙ (ap (with_lowered s entry.tick) (c.take_in.ensures ∙ ap (with_entry s entry) was) ∙ tally_of-cons s entry past)
