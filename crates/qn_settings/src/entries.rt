@@ -57,18 +57,42 @@ impl<'tree> Model for Entries<'tree> {
 }
 
 impl<'tree> Entries<'tree> {
-    ghost use Rattle.std.specs.Prelude.{◌≡◌};
+    ghost use Rattle.std.specs.Prelude.{◌≡◌, ◌<◌, ◌^◌, [], ◌∷◌, length, if◌then◌else◌};
     ghost use Rattle.qn_settings.specs.Entries.{entries_of};
+    ghost use Rattle.qn_settings.specs.Nodes.{own_entries, sections};
 
     /// The entries of the whole tree.
     #[tactic(auto, unfolding(crate::specs::Entries::entries_of))]
     pub(crate) fn of(tree: &'tree Tree<'tree>) -> Self
-        ensures { result ≡ entries_of tree.now }
+        ensures entries { result ≡ entries_of tree.now }
+        ensures bounded { length (sections result) < 2 ^ 64 }
     {
         Entries {
             items: tree.items(),
             sections: OpenSections::new(),
         }
+    }
+
+    /// An equal iterator.
+    pub(crate) fn copy(&self) -> Self
+        ensures { result ≡ self.now }
+    {
+        Entries {
+            items: self.items,
+            sections: self.sections.copy(),
+        }
+    }
+
+    /// Goes behind the beginning of the next node section, or to the end where there is none.
+    pub(crate) fn skip_to_node(&mut self) -> bool
+        ensures { sections self.old ≡ (if result then own_entries self.new ∷ sections self.new else []) }
+    {
+        while let Some(entry) = self.next() {
+            if let Entry::NodeBegins = entry {
+                return true;
+            }
+        }
+        false
     }
 }
 

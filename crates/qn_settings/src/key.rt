@@ -1,5 +1,5 @@
-ghost use Rattle.std.specs.Prelude.{◌≡◌, ◌≤◌, IfSome, option_map};
-ghost use Rattle.qn_settings.specs.Keys.{is_key, key_name, number_in, range_of};
+ghost use Rattle.std.specs.Prelude.{◌≡◌, ◌≤◌, IfSome, is_some};
+ghost use Rattle.qn_settings.specs.Keys.{key_name, number_in, range_of};
 
 use qn_base::read_decimal;
 use std::fmt;
@@ -73,10 +73,11 @@ impl Key {
         Some(number)
     }
 
-    pub(crate) fn is(self, other: Key) -> bool
-        ensures { result ≡ is_key self other }
+    /// Whether the key has a number in a range.
+    pub(crate) fn has_range(self) -> bool
+        ensures { result ≡ is_some (range_of self) }
     {
-        self == other
+        self.range().is_some()
     }
 }
 

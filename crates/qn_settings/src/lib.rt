@@ -7,7 +7,11 @@
 mod entries;
 mod faults;
 mod key;
+mod nodes;
+mod reading;
 mod section;
+mod values;
 
 pub use faults::SettingsFault;
 pub use key::Key;
+pub use reading::settings;

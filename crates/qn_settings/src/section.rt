@@ -101,6 +101,16 @@ impl OpenSections {
         }
     }
 
+    /// Equal open sections.
+    pub(crate) fn copy(&self) -> Self
+        ensures { result ≡ self.now }
+    {
+        OpenSections {
+            known: self.known,
+            others: self.others,
+        }
+    }
+
     pub(crate) fn innermost(&self) -> Section
         ensures { result ≡ innermost self.now }
     {
