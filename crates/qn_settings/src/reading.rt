@@ -1,7 +1,7 @@
-ghost use Rattle.std.specs.Prelude.{◌≡◌, ◌↔◌, ◌≤◌, None, Some, Err, All, IfOk, IsOk, length, find, not, option_map, [], ◌∷◌};
+ghost use Rattle.std.specs.Prelude.{◌≡◌, ◌↔◌, ◌≤◌, None, Some, Err, All, IfOk, IsOk, length, find, not, option_map};
 ghost use Rattle.std.specs.List.{list_all};
 ghost use Rattle.qn_model.specs.Settings.{IsValid};
-ghost use Rattle.qn_settings.specs.Answer.{answer_of, device_of, expected_zero, fault_of, filled, has_one_vote, last_man_votes, settings_of, two_node_count, two_node_device, two_node_votes, value_faults, vote_faults, wait_for_all_of};
+ghost use Rattle.qn_settings.specs.Answer.{answer_of, device_of, device_votes, expected_zero, fault_of, filled, has_one_vote, last_man_votes, settings_of, two_node_count, two_node_device, two_node_votes, value_faults, vote_faults, wait_for_all_of};
 ghost use Rattle.qn_settings.specs.Entries.{entries_of};
 ghost use Rattle.qn_settings.specs.Values.{first_some};
 ghost use Rattle.qn_settings.specs.declared.faults.SettingsFault.{SettingsFault};
@@ -43,10 +43,26 @@ pub fn settings(tree: &Tree) -> Result<Settings, SettingsFault>
 fn value_fault(tree: &Tree) -> Option<SettingsFault>
     ensures { result ≡ first_some (value_faults (entries_of tree.now)) }
 {
-    wrong_provider(tree)
-        .or_else(|| unsupported(tree, Key::AutoTieBreaker))
-        .or_else(|| unsupported(tree, Key::AllowDownscale))
-        .or_else(|| bad_number(tree))
+    first_some(&[
+        wrong_provider(tree),
+        unsupported(tree, Key::AutoTieBreaker),
+        unsupported(tree, Key::AllowDownscale),
+        bad_number(tree),
+    ])
+}
+
+/// The first fault that is there.
+fn first_some(faults: &[Option<SettingsFault>]) -> Option<SettingsFault>
+    ensures { result ≡ first_some faults.now }
+{
+    let mut rest = faults;
+    while let [fault, others @ ..] = rest {
+        if fault.is_some() {
+            return *fault;
+        }
+        rest = others;
+    }
+    None
 }
 
 /// The settings with these nodes.
@@ -58,10 +74,7 @@ fn fill(tree: &Tree, nodes: Nodes) -> Settings
     let node_votes = all_votes(nodes.as_slice());
     let last_man_standing = flag(tree, Key::LastManStanding);
     let device = device(tree, node_votes);
-    let device_votes = match device {
-        Some(device) if !last_man_standing => u64::from(device.votes),
-        _ => 0,
-    };
+    let device_votes = device_votes(last_man_standing, device);
     Settings {
         nodes,
         two_node: flag(tree, Key::TwoNode),
@@ -97,13 +110,28 @@ fn device(tree: &Tree, node_votes: u64) -> Option<Device>
     })
 }
 
+/// The votes of the device that count at the start: none with last man standing (this project's profile).
+fn device_votes(last_man_standing: bool, device: Option<Device>) -> u64
+    ensures value { result ≡ device_votes last_man_standing device }
+    ensures fits { result ≤ 4294967295 }
+{
+    match device {
+        Some(device) if !last_man_standing => u64::from(device.votes),
+        _ => 0,
+    }
+}
+
 /// The first fault of settings as a whole.
 fn vote_fault(tree: &Tree, settings: &Settings) -> Option<SettingsFault>
     ensures { result ≡ first_some (vote_faults settings.now (entries_of tree.now)) }
 {
-    expected_zero(tree)
-        .or_else(|| two_node_fault(settings))
-        .or_else(|| last_man_votes(settings))
+    first_some(&[
+        expected_zero(tree),
+        two_node_count(settings),
+        two_node_votes(settings),
+        two_node_device(settings),
+        last_man_votes(settings),
+    ])
 }
 
 fn expected_zero(tree: &Tree) -> Option<SettingsFault>
@@ -116,23 +144,27 @@ fn expected_zero(tree: &Tree) -> Option<SettingsFault>
     Some(SettingsFault::ExpectedZero)
 }
 
-/// two_node stands only with exactly two nodes of one vote each and no device (votequorum(5), `two_node`).
-fn two_node_fault(settings: &Settings) -> Option<SettingsFault>
-    ensures { result ≡ first_some (two_node_count settings.now ∷ two_node_votes settings.now ∷ two_node_device settings.now ∷ []) }
+/// two_node stands only with exactly two nodes (votequorum(5), `two_node`).
+fn two_node_count(settings: &Settings) -> Option<SettingsFault>
+    ensures { result ≡ two_node_count settings.now }
 {
-    if !settings.two_node {
-        return None;
-    }
-    if settings.nodes.len() != 2 {
-        return Some(SettingsFault::TwoNodeCount);
-    }
-    if !all_have_one_vote(settings.nodes.as_slice()) {
-        return Some(SettingsFault::TwoNodeVotes);
-    }
-    if settings.device.is_some() {
-        return Some(SettingsFault::TwoNodeDevice);
-    }
-    None
+    (settings.two_node && settings.nodes.len() != 2).then_some(SettingsFault::TwoNodeCount)
+}
+
+/// two_node stands only with one vote a node (votequorum(5), `two_node`).
+fn two_node_votes(settings: &Settings) -> Option<SettingsFault>
+    ensures { result ≡ two_node_votes settings.now }
+{
+    (settings.two_node && !all_have_one_vote(settings.nodes.as_slice())).then_some(
+        SettingsFault::TwoNodeVotes,
+    )
+}
+
+/// two_node stands only without a device (this project's profile).
+fn two_node_device(settings: &Settings) -> Option<SettingsFault>
+    ensures { result ≡ two_node_device settings.now }
+{
+    (settings.two_node && settings.device.is_some()).then_some(SettingsFault::TwoNodeDevice)
 }
 
 /// last_man_standing stands only with one vote a node (votequorum(5), `last_man_standing`).
