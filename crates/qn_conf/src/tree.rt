@@ -21,6 +21,13 @@ impl<'text> Word<'text> {
         Word { bytes }
     }
 
+    /// An equal word, of the same text.
+    pub fn copy(&self) -> Self
+        ensures { result ≡ self.now }
+    {
+        Word { bytes: self.bytes }
+    }
+
     /// The bytes of the word.
     pub fn bytes(&self) -> &'text [u8]
         ensures { result.now ≡ self.now }

@@ -1,0 +1,6 @@
+pub mod Keys
+pub mod Sections
+pub mod Entries
+pub mod Values
+pub mod Nodes
+pub mod Answer

@@ -1,0 +1,17 @@
+// The settings that a tree of corosync.conf gives (corosync.conf(5), votequorum(5)).
+//
+// Promises: `settings` answers the settings of the tree exactly where no fault of the list applies, and they are
+// valid; else it answers the first fault in a fixed order. It takes no memory.
+#![tactic(auto)]
+
+mod entries;
+mod faults;
+mod key;
+mod nodes;
+mod reading;
+mod section;
+mod values;
+
+pub use faults::SettingsFault;
+pub use key::Key;
+pub use reading::settings;
