@@ -1,3 +1,5 @@
 mod Listed
 mod PartsLemmas
 mod Places
+mod TimingSpelling
+mod WrittenNumbers

@@ -1,2 +1,3 @@
 pub mod MemberList
+pub mod TimingLine
 pub mod Words
