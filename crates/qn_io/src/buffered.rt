@@ -91,7 +91,8 @@ impl Pieces {
         Next::Byte(self.take_first())
     }
 
-    pub(crate) fn is_empty(&self) -> bool
+    /// Whether no byte waits that was read and not yet handed out, so that a read comes next.
+    pub fn is_empty(&self) -> bool
         ensures { IsTrue result ↔ (length self.now ≡ 0) }
     {
         self.from == self.to

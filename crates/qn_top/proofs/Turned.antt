@@ -15,6 +15,9 @@ use Rattle.qn_top.specs.declared.status.Status.{Status}
 use Rattle.qn_top.specs.Statuses.{code_of}
 use Rattle.qn_top.specs.Runs.{Answers, Whole, Cut, BeginsWith, EndsAs, WroteAll, WroteFront, Tells, Anyway, AtEnd, AtFailure, count_rest}
 use Rattle.qn_top.specs.CountTurns.{Bad, Ends, EndsAtLine, GoesOn, JudgesLine, TakesLine, Turns, Unwritten}
+use Rattle.qn_io.specs.Outside.{append_known-append}
+use Rattle.qn_top.specs.Writing.{GivesOut}
+use Rattle.qn_top.proofs.GivenOut.{front_of_more, front_then, gives_then}
 use Rattle.qn_top.proofs.CountLines.{count_rest-last, count_rest-line, count_rest-long}
 
 -- what follows from what the bytes tell, they tell too
@@ -135,3 +138,61 @@ turn_too_long status so_far line waiting to_come_old to_come_new at_end failed o
       (omega (arith, length-append line (long.byte ∷ []), long.full))))
       answers;
 }
+
+-- the same end, where what waited was written in part before
+ends_before : {text_of : Ending → List ℕ → Outcome} {taken : List ℕ} {at_end failed write_failed write_failed_before : Type 0} {status : ℕ}
+    (old before new : Option (List ℕ)) (waiting waiting_before : List ℕ) → (write_failed_before → write_failed) → GivesOut old before waiting waiting_before
+    → EndsAs text_of taken waiting at_end failed before new write_failed_before status
+    → EndsAs text_of taken waiting_before at_end failed old new write_failed status
+ends_before old before new waiting waiting_before widen first (WroteAll outcome tells is whole) =
+    WroteAll outcome tells is
+    (whole ∙ ap (λ known. append_known known (waiting ++ outcome.text)) first.adds ∙ sym (append_known-append old first.front (waiting ++ outcome.text))
+    ∙ ap (append_known old) (sym (append_assoc first.front waiting outcome.text) ∙ ap (λ x. x ++ outcome.text) (sym first.parts)))
+ends_before old before new waiting waiting_before widen first (WroteFront text tells is fails front) =
+    WroteFront text tells is (widen fails) (front_then old before new waiting waiting_before text first front)
+
+-- what waited was written in part, and then came a turn
+pub turn_behind : (result : Option Status) (so_far more : Counted) (to_come_old to_come_new : Option (List ℕ)) (waiting_old waiting waiting_new : List ℕ)
+    (at_end failed : Type 0) (old before new : Option (List ℕ)) (write_failed write_failed_before : Type 0) → (write_failed_before → write_failed)
+    → GivesOut old before waiting waiting_old
+    → Turns result so_far more to_come_old to_come_new waiting waiting_new at_end failed before new write_failed_before
+    → Turns result so_far more to_come_old to_come_new waiting_old waiting_new at_end failed old new write_failed
+turn_behind None so_far more to_come_old to_come_new waiting_old waiting waiting_new at_end failed old before new write_failed write_failed_before widen first turn = record {
+  taken = turn.taken;
+  text = turn.text;
+  takes = turn.takes;
+  rest = turn.rest;
+  gives = gives_then old before new waiting waiting_new waiting_old turn.text first turn.gives;
+  room = turn.room;
+  counted = turn.counted;
+}
+turn_behind (Some status) so_far more to_come_old to_come_new waiting_old waiting waiting_new at_end failed old before new write_failed write_failed_before widen first turn = record {
+  taken = turn.taken;
+  takes = turn.takes;
+  ends = ends_before old before new waiting waiting_old widen first turn.ends;
+}
+
+-- what waited could not be written
+pub turn_unwritten : (so_far : Counted) (to_come : Option (List ℕ)) (waiting : List ℕ) (at_end failed : Type 0) (old new : Option (List ℕ)) (write_failed : Type 0)
+    → write_failed → AppendsFront old new waiting → Ends so_far to_come to_come waiting at_end failed old new write_failed 7
+turn_unwritten so_far to_come waiting at_end failed old new write_failed fails front = record {
+  taken = [];
+  takes = sym (prepend_known-nil to_come);
+  ends = WroteFront [] (Anyway (λ ending further. ((count_rest so_far ending further).text, refl))) refl fails (front_of_more old new waiting [] front);
+}
+
+-- the same turn, of a state under another name
+pub turn_same : (result : Option Status) (before so_far more : Counted) (to_come_before to_come_old to_come_new : Option (List ℕ)) (waiting_old waiting_new : List ℕ)
+    (at_end failed : Type 0) (old new : Option (List ℕ)) (write_failed : Type 0) → before ≡ so_far → to_come_before ≡ to_come_old
+    → Turns result before more to_come_before to_come_new waiting_old waiting_new at_end failed old new write_failed
+    → Turns result so_far more to_come_old to_come_new waiting_old waiting_new at_end failed old new write_failed
+turn_same result before so_far more to_come_before to_come_old to_come_new waiting_old waiting_new at_end failed old new write_failed same same_left turn =
+    subst (λ s. Turns result s more to_come_old to_come_new waiting_old waiting_new at_end failed old new write_failed) same
+    (subst (λ t. Turns result before more t to_come_new waiting_old waiting_new at_end failed old new write_failed) same_left turn)
+
+-- the same failure, of a state under another name
+pub ends_same : (so_far : Counted) (to_come_old to_come_new : Option (List ℕ)) (waiting : List ℕ) (at_end failed : Type 0) (old new : Option (List ℕ)) (write_failed : Type 0) (status : ℕ)
+    → to_come_old ≡ to_come_new → Ends so_far to_come_old to_come_old waiting at_end failed old new write_failed status
+    → Ends so_far to_come_old to_come_new waiting at_end failed old new write_failed status
+ends_same so_far to_come_old to_come_new waiting at_end failed old new write_failed status same =
+    subst (λ t. Ends so_far to_come_old t waiting at_end failed old new write_failed status) same

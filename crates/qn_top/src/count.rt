@@ -11,6 +11,7 @@ use crate::output::Output;
 use crate::status::Status;
 use crate::text_line::TextLine;
 use arrayvec::ArrayVec;
+use qn_base::Failed;
 use qn_io::{LINE, LineRead, Pieces, Sink, Source, read_line};
 use qn_model::LineFault;
 
@@ -104,10 +105,12 @@ struct Run {
 }
 
 impl Run {
-    ghost use Rattle.std.specs.Prelude.{[]};
+    ghost use Rattle.std.specs.Prelude.{[], OnErr, OnOk};
+    ghost use Rattle.qn_io.specs.Writes.{AppendsFront};
     ghost use Rattle.std.specs.Io.KnownBytes.{IsAtEnd, prepend_known};
     ghost use Rattle.qn_model.specs.CountText.{nothing_counted};
     ghost use Rattle.qn_top.specs.CountTurns.{Turns};
+    ghost use Rattle.qn_top.specs.Writing.{GivesOut};
 
     fn new() -> Self
         ensures counter { result.counter ≡ nothing_counted }
@@ -122,8 +125,40 @@ impl Run {
         }
     }
 
-    /// Reads and judges the next line: the run goes on, or it ends with a status.
+    /// Reads and judges the next line: the run goes on, or it ends with a status. What waits to be written
+    /// is written before a read that may have to wait for input.
     fn turn<I: Source, O: Sink>(&mut self, input: &mut I, out: &mut O) -> Option<Status>
+        ensures turns { Turns result self.old.counter self.new.counter
+            (prepend_known self.old.pieces (I.left input.old)) (prepend_known self.new.pieces (I.left input.new))
+            self.old.output self.new.output
+            ((self.new.pieces ≡ []) × IsAtEnd (I.left input.new))
+            ((self.new.pieces ≡ []) × HasRisen (I.faults input.old) (I.faults input.new))
+            (O.written out.old) (O.written out.new) (HasRisen (O.faults out.old) (O.faults out.new)) }
+        ensures source_faults { I.faults input.old ≤ I.faults input.new }
+        ensures sink_faults { O.faults out.old ≤ O.faults out.new }
+    {
+        let Ok(()) = self.flush_before_read(out) else {
+            return Some(Status::WriteFault);
+        };
+        self.next_line(input, out)
+    }
+
+    /// Writes what waits, where the next byte of the input has to be read first.
+    fn flush_before_read<O: Sink>(&mut self, out: &mut O) -> Result<(), Failed>
+        ensures given { OnOk result (GivesOut (O.written out.old) (O.written out.new) self.new.output self.old.output) }
+        ensures front { OnErr result (AppendsFront (O.written out.old) (O.written out.new) self.old.output) }
+        ensures counter { self.new.counter ≡ self.old.counter }
+        ensures pieces { self.new.pieces ≡ self.old.pieces }
+        ensures never_falls { O.faults out.old ≤ O.faults out.new }
+        ensures cause { OnErr result (HasRisen (O.faults out.old) (O.faults out.new)) }
+    {
+        if self.pieces.is_empty() {
+            self.output.flush(out)?;
+        }
+        Ok(())
+    }
+
+    fn next_line<I: Source, O: Sink>(&mut self, input: &mut I, out: &mut O) -> Option<Status>
         ensures turns { Turns result self.old.counter self.new.counter
             (prepend_known self.old.pieces (I.left input.old)) (prepend_known self.new.pieces (I.left input.new))
             self.old.output self.new.output

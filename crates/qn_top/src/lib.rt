@@ -12,6 +12,8 @@ mod counter;
 mod output;
 mod program;
 mod status;
+#[cfg(test)]
+mod tests;
 mod text_line;
 
 pub use command::{Command, command_of};
