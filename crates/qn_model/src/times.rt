@@ -48,30 +48,30 @@ fn outlasts_feeds(timing: &Timing) -> bool
 mod tests {
     use super::*;
 
-    fn with_msgwait(msgwait: u64) -> Timing {
-        Timing {
-            watchdog: 5000,
-            msgwait,
-            loop_ms: 1000,
-            read_limit: 2000,
-            feed_delay: 1000,
-        }
-    }
-
     #[test]
-    fn msgwait_from_8164_on_is_safe(rt: HostRuntime) {
-        for (msgwait, safe) in [
-            (0, false),
-            (8163, false),
-            (8164, true),
-            (3600000, true),
-            (3600001, false),
+    fn safe_and_unsafe_times(rt: HostRuntime) {
+        for ([watchdog, msgwait, loop_ms, read_limit, feed_delay], safe) in [
+            ([5000, 10000, 1000, 2000, 1000], true),
+            ([5000, 8164, 1000, 2000, 1000], true),
+            ([5000, 8163, 1000, 2000, 1000], false),
+            ([1, 6, 1, 1, 1], true),
+            ([1, 5, 1, 1, 1], false),
+            ([1, 1, 3600000, 1, 1], false),
+            ([1764351, 3600000, 1, 1764358, 1], true),
+            ([1764351, 3600000, 1, 1764359, 1], false),
+            ([1000000, 3600000, 3600000, 1000000, 1000000], true),
+            ([3600000, 3600000, 3600000, 3600000, 3600000], false),
+            ([5000, 10000, 0, 2000, 1000], false),
+            ([5000, 3600001, 1000, 2000, 1000], false),
         ] {
-            assert_eq!(rt;
-                timing_safe(&with_msgwait(msgwait)),
-                safe,
-                "msgwait {msgwait}"
-            );
+            let timing = Timing {
+                watchdog,
+                msgwait,
+                loop_ms,
+                read_limit,
+                feed_delay,
+            };
+            assert_eq!(rt; timing_safe(&timing), safe, "{timing:?}");
         }
     }
 }
