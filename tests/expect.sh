@@ -1,0 +1,31 @@
+# For the scripts of this folder.
+
+# how the program is started: as it is
+RUN_AS=()
+
+# expect STATUS 'OUTPUT' WORD..: runs the program with these words, and stops the script where its status or its
+# output is another one. OUTPUT is as for printf: `\n` ends a line. Standard input is that of the call.
+expect() {
+    local wanted=$1 text=$2 status=0
+    shift 2
+    printf "$text" > .wanted
+    "${RUN_AS[@]}" "$QUORUMD" "$@" > .got || status=$?
+    if [ "$status" != "$wanted" ] || ! cmp -s .wanted .got; then
+        printf 'quorumd %s\nwanted status %s and:\n%s\ngot status %s and:\n%s\n' \
+            "$*" "$wanted" "$(cat .wanted)" "$status" "$(cat .got)"
+        exit 1
+    fi
+}
+
+# bytes FILE OFFSET COUNT: these bytes of a file, in hexadecimal
+bytes() {
+    od -An -v -tx1 -j "$2" -N "$3" "$1" | tr -d ' \n'
+}
+
+# same GOT WANTED: stops the script where the two differ
+same() {
+    if [ "$1" != "$2" ]; then
+        printf 'wanted %s\ngot    %s\n' "$2" "$1"
+        exit 1
+    fi
+}
