@@ -4,7 +4,7 @@ use Rattle.qn_base.specs.declared.ids.Mask.{Mask}
 use Rattle.qn_base.specs.declared.ids.Rank.{Rank}
 use Rattle.qn_model.specs.declared.line_fault.LineFault.{LineFault}
 use Rattle.qn_model.specs.declared.line_fault.LineFault.TheVariants.{BadView}
-use Rattle.qn_model.specs.Lines.{◌>>=◌, known_rank, is_filled}
+use Rattle.qn_model.specs.Lines.{◌>>=◌, known_rank}
 use Rattle.qn_sched.specs.declared.members.MemberList.{MemberList}
 
 -- the number of a rank

@@ -1,15 +1,11 @@
 -- The text of `count` for an input whose first line, or what there is of it, is known.
-use Rattle.std.proofs.Common.{◌≡◌, ◌+◌, ◌<◌, ◌≤◌, ◌==◌, ℕ, Bool, true, false, cond, List, [], ◌∷◌, ◌++◌, length, refl, sym, ap, ◌∙◌, subst, arith, Result, Ok, Err, nat_lt, append_assoc, append-nil, lt-ltb}
-use Rattle.std.specs.Prelude.{All}
+use Rattle.std.proofs.Common.{◌≡◌, ◌+◌, ◌<◌, ◌≤◌, ◌==◌, ℕ, false, List, [], ◌∷◌, ◌++◌, length, refl, ap, ◌∙◌, arith, Err, lt-ltb}
 use Rattle.std.specs.List.{onto_first}
-use Rattle.std.proofs.lemmas.List.{length-append}
 use Rattle.std.proofs.lemmas.List.Elements.{All-head, All-tail}
 use Rattle.std.proofs.lemmas.List.Splits.{slice_split_at, slice_split_none, slice_split-cons_no, length-slice_split}
 use Rattle.qn_io.specs.Lines.{HasNoLineFeed}
-use Rattle.qn_model.specs.declared.count_line.CountLine.{CountLine}
-use Rattle.qn_model.specs.declared.line_fault.LineFault.{LineFault}
 use Rattle.qn_model.specs.declared.line_fault.LineFault.TheVariants.{TooLong}
-use Rattle.qn_model.specs.Lines.{Ending, Outcome, after, bad_line, lines_of, parts}
+use Rattle.qn_model.specs.Lines.{Ending, bad_line, lines_of, parts}
 use Rattle.qn_model.specs.CountText.{Counted, count_lines, go_on, last_line, line_of, with_line}
 use Rattle.qn_top.specs.Runs.{count_rest}
 

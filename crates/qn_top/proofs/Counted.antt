@@ -1,11 +1,9 @@
 -- A run of `count`, turn after turn, from its beginning to its end.
-use Rattle.std.proofs.Common.{◌≡◌, ℕ, List, [], ◌∷◌, ◌++◌, Option, refl, sym, ap, ◌∙◌, subst, append_assoc, append-nil}
+use Rattle.std.proofs.Common.{◌≡◌, ℕ, List, [], ◌++◌, Option, sym, ap, ◌∙◌, subst, append_assoc, append-nil}
 use Rattle.std.specs.Io.KnownBytes.{IsAtEnd, prepend_known, append_known}
 use Rattle.qn_io.specs.Outside.{append_known-append, append_known-nil, prepend_known-append, prepend_known-nil}
-use Rattle.qn_io.specs.Writes.{AppendsFront}
-use Rattle.qn_model.specs.Lines.{Ending, Ended, ReadFailed, Outcome, after}
+use Rattle.qn_model.specs.Lines.{Ended, ReadFailed, Outcome, after}
 use Rattle.qn_model.specs.CountText.{Counted, count_of, nothing_counted}
-use Rattle.qn_top.specs.Writing.{GivesOut}
 use Rattle.qn_top.specs.Runs.{BeginsWith, EndsAs, WroteAll, WroteFront, Tells, Anyway, AtEnd, AtFailure, Runs, count_rest}
 use Rattle.qn_top.specs.CountTurns.{Ends, GoesOn, HasCounted}
 use Rattle.qn_top.proofs.GivenOut.{front_then, gives_later, gives_then}

@@ -1,6 +1,6 @@
 -- What the end of a run of `count` says of its status.
-use Rattle.std.proofs.Common.{◌≡◌, ◌⊎◌, ℕ, List, [], ◌++◌, Option, None, Some, IfSome, refl, sym, ap, ◌∙◌, subst, append-nil, inl, inr, arith}
-use Rattle.std.specs.Io.KnownBytes.{IsAtEnd, prepend_known, append_known}
+use Rattle.std.proofs.Common.{◌≡◌, ◌⊎◌, ℕ, List, [], ◌++◌, Option, None, Some, IfSome, sym, ap, ◌∙◌, subst, append-nil, inl, inr, arith}
+use Rattle.std.specs.Io.KnownBytes.{append_known}
 use Rattle.qn_model.specs.Lines.{Ending, Ended, ReadFailed, Outcome}
 use Rattle.qn_model.specs.CountText.{count_of}
 use Rattle.qn_model.specs.CountEnding.{StatusFits, count_fits}

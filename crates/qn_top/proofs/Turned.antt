@@ -1,6 +1,6 @@
 -- One turn of `count`: what was read of a line, and what was done with it.
-use Rattle.std.proofs.Common.{◌≡◌, ◌+◌, ◌<◌, ◌≤◌, ◌==◌, ℕ, Bool, true, false, cond, List, [], ◌∷◌, ◌++◌, Option, None, Some, length, refl, sym, ap, ◌∙◌, subst, arith, Result, Ok, Err, nat_lt, append_assoc, append-nil, le-ltb}
-use Rattle.std.specs.Io.KnownBytes.{IsAtEnd, prepend_known, append_known}
+use Rattle.std.proofs.Common.{◌≡◌, ◌+◌, ◌≤◌, ◌==◌, ℕ, false, List, [], ◌∷◌, ◌++◌, Option, None, Some, length, refl, sym, ap, ◌∙◌, subst, arith, Ok, append_assoc, append-nil, le-ltb}
+use Rattle.std.specs.Io.KnownBytes.{prepend_known, append_known}
 use Rattle.std.proofs.lemmas.List.{length-append}
 use Rattle.std.proofs.lemmas.List.Elements.{All-push}
 use Rattle.qn_io.specs.Lines.{HasNoLineFeed, IsTooLong}
@@ -14,7 +14,7 @@ use Rattle.qn_model.specs.CountText.{Counted, end_of_input, go_on, last_line, li
 use Rattle.qn_top.specs.declared.status.Status.{Status}
 use Rattle.qn_top.specs.Statuses.{code_of}
 use Rattle.qn_top.specs.Runs.{Answers, Whole, Cut, BeginsWith, EndsAs, WroteAll, WroteFront, Tells, Anyway, AtEnd, AtFailure, count_rest}
-use Rattle.qn_top.specs.CountTurns.{Bad, Ends, EndsAtLine, GoesOn, JudgesLine, TakesLine, Turns, Unwritten}
+use Rattle.qn_top.specs.CountTurns.{Bad, Ends, JudgesLine, Turns, Unwritten}
 use Rattle.qn_io.specs.Outside.{append_known-append}
 use Rattle.qn_top.specs.Writing.{GivesOut}
 use Rattle.qn_top.proofs.GivenOut.{front_of_more, front_then, gives_then}

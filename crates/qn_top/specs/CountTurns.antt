@@ -1,5 +1,5 @@
 -- One line of `count` after the other.
-use Rattle.std.specs.Prelude.{◌≡◌, ℕ, ◌+◌, ◌<◌, List, [], ◌++◌, Option, None, Some, Ok, Err}
+use Rattle.std.specs.Prelude.{◌≡◌, ℕ, ◌+◌, ◌<◌, List, ◌++◌, Option, None, Some, Ok, Err}
 use Rattle.std.specs.Io.KnownBytes.{prepend_known}
 use Rattle.qn_io.specs.Writes.{AppendsFront}
 use Rattle.qn_model.specs.declared.count_line.CountLine.{CountLine}

@@ -1,12 +1,9 @@
 -- How a command that reads lines runs: what it took from the input, and what it gave out for it.
-use Rattle.std.specs.Prelude.{◌≡◌, ℕ, ◌+◌, ◌<◌, List, [], ◌++◌, Option, None, Some, IsNone}
+use Rattle.std.specs.Prelude.{◌≡◌, ℕ, List, [], ◌++◌, Option}
 use Rattle.std.specs.Io.KnownBytes.{IsAtEnd, prepend_known, append_known}
 use Rattle.qn_io.specs.Writes.{AppendsFront}
-use Rattle.qn_model.specs.Lines.{Ending, Ended, ReadFailed, Outcome, after, lines_of}
-use Rattle.qn_model.specs.CountText.{Counted, count_lines, count_of}
-use Rattle.qn_top.specs.declared.status.Status.{Status}
-use Rattle.qn_top.specs.Statuses.{code_of}
-use Rattle.qn_top.specs.Writing.{GivesOut}
+use Rattle.qn_model.specs.Lines.{Ending, Ended, ReadFailed, Outcome, lines_of}
+use Rattle.qn_model.specs.CountText.{Counted, count_lines}
 
 -- a text begins with another
 abbrev pub BeginsWith : List ℕ → List ℕ → Type 0

@@ -1,5 +1,3 @@
-use Rattle.std.proofs.Common.{◌≡◌, ◌∷◌, sym, ap, ◌∙◌, subst, drop}
-use Rattle.qn_model.specs.Lines.{parts}
 use Rattle.qn_sched.proofs.PartsLemmas.{parts-at, parts-none, passed_more}
 use Rattle.qn_sched.proofs.words.first_part.Goals as goal
 

@@ -1,5 +1,3 @@
-use Rattle.std.proofs.Common.{◌<◌, ℕ, Option, List, option_copied, length, subst, sym, ap}
-use Rattle.qn_sched.specs.Words.{parts_left}
 use Rattle.qn_sched.proofs.PartsLemmas.{parts-some}
 use Rattle.qn_sched.proofs.words.no_more_words.Goals as goal
 

@@ -1,4 +1,4 @@
-use Rattle.std.proofs.Common.{◌≤◌, ap, arith}
+use Rattle.std.proofs.Common.{ap, arith}
 use Rattle.qn_io.specs.Outside.{HasRisen}
 use Rattle.qn_model.specs.CountText.{count_of}
 use Rattle.qn_top.specs.Runs.{Runs}

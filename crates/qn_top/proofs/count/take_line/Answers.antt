@@ -1,6 +1,4 @@
 use Rattle.std.proofs.Common.{refl, sym, ◌∙◌}
-use Rattle.qn_model.specs.Lines.{bad_line}
-use Rattle.qn_model.specs.CountText.{text_of_line}
 use Rattle.qn_top.specs.CountTurns.{Bad, Unwritten}
 use Rattle.qn_top.proofs.GivenOut.{front_same, gives_same}
 use Rattle.qn_top.proofs.count.take_line.Goals as goal

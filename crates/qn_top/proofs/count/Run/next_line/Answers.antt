@@ -1,6 +1,6 @@
-use Rattle.std.proofs.Common.{◌≡◌, ◌≤◌, ℕ, List, [], ◌∷◌, ◌++◌, Option, None, Some, length, sym, ap, ◌∙◌, subst, arith}
+use Rattle.std.proofs.Common.{◌≡◌, ℕ, List, [], ◌∷◌, ◌++◌, Option, sym, ap, ◌∙◌, subst}
 use Rattle.std.specs.Io.KnownBytes.{IsAtEnd, prepend_known}
-use Rattle.qn_io.specs.Lines.{HasNoLineFeed, IsTooLong}
+use Rattle.qn_io.specs.Lines.{HasNoLineFeed}
 use Rattle.qn_io.specs.Outside.{prepend_known-nil}
 use Rattle.qn_top.proofs.Turned.{turn_failed, turn_line, turn_rest, turn_too_long}
 use Rattle.qn_top.proofs.count.Run.next_line.Goals as goal
