@@ -1,3 +1,6 @@
+pub mod Created
 pub mod Joining
+pub mod Outcomes
 pub mod Searching
+pub mod Tried
 pub mod Writing

@@ -1,4 +1,4 @@
-use Rattle.std.specs.Prelude.{ℕ, zero, suc, ◌+◌, ◌==◌, true, false, List, [], ◌∷◌, ◌++◌, length, Result, Ok, Err, if◌then◌else◌}
+use Rattle.std.specs.Prelude.{◌≡◌, ◌≤◌, ℕ, zero, suc, ◌+◌, ◌==◌, true, false, List, [], ◌∷◌, ◌++◌, length, Result, Ok, Err, if◌then◌else◌}
 use Rattle.qn_base.specs.declared.calls.Call.{Call}
 use Rattle.qn_base.specs.declared.calls.Call.TheVariants.{Write}
 use Rattle.qn_base.specs.Plans.{Plan, Ends, ◌>>=◌}
@@ -9,7 +9,7 @@ use Rattle.qn_model.specs.declared.times.Timing.{Timing}
 use Rattle.qn_model.specs.Sectors.{slot_place, mail_place, header_bytes, slot_bytes, mail_bytes, zeros}
 use Rattle.qn_model.specs.Timing.{is_safe}
 use Rattle.qn_image.specs.declared.fault.ImageFault.{ImageFault}
-use Rattle.qn_image.specs.declared.fault.ImageFault.TheVariants.{UnsafeTiming}
+use Rattle.qn_image.specs.declared.fault.ImageFault.TheVariants.{Disk, UnsafeTiming}
 use Rattle.qn_image.specs.Plans.{or_fault, put_plan}
 
 -- a write of a sector
@@ -65,3 +65,10 @@ abbrev pub tried : ℕ → List SectorWrite → List Call
 tried done [] = []
 tried zero (write ∷ writes) = Write write.sector write.bytes false ∷ []
 tried (suc done) (write ∷ writes) = Write write.sector write.bytes true ∷ tried done writes
+
+-- so many of the writes were done; where one is left, it is the next call, and it failed
+pub record IsTried (writes : List SectorWrite) (calls : List Call) (result : Result (Unit {0}) ImageFault) : Type 0 where
+  pub done : ℕ
+  pub few : done ≤ length writes
+  pub made : calls ≡ tried done writes
+  pub answer : result ≡ (if done == length writes then Ok tt else Err Disk)

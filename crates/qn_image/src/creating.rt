@@ -1,8 +1,10 @@
-ghost use Rattle.std.specs.Prelude.{◌≡◌, ◌<◌, ◌≤◌, length, All, IsTrue};
+ghost use Rattle.std.specs.Prelude.{◌≡◌, ◌<◌, ◌≤◌, ◌↔◌, false, length, All, IsTrue, IfErr, IsErrOf};
+ghost use Rattle.qn_base.specs.Faults.{HasRisen};
 ghost use Rattle.qn_base.specs.Plans.{Did};
 ghost use Rattle.qn_model.specs.Settings.{IsValid};
 ghost use Rattle.qn_model.specs.Sectors.{slot_place, mail_place, header_bytes, slot_bytes, mail_bytes};
-ghost use Rattle.qn_model.specs.Timing.{has_periods};
+ghost use Rattle.qn_model.specs.Timing.{has_periods, is_safe};
+ghost use Rattle.qn_image.specs.Causes.{IsCreateFault};
 ghost use Rattle.qn_image.specs.Plans.{put_plan};
 ghost use Rattle.qn_image.specs.Writes.{writes_plan, fresh_slot, node_pair, node_writes, create_writes, create_plan};
 
@@ -17,7 +19,10 @@ use qn_sector::{mail_sector, put_header, put_mail, put_slot, slot_sector};
 #[tactic(auto, unfolding(crate::specs::Writes::create_plan))]
 pub fn create<E: Env>(env: &mut E, settings: &Settings, timing: Timing) -> Result<(), ImageFault>
     requires { IsValid settings.now }
-    ensures { Did (E.faults env.old) (E.faults env.new) (E.calls env.old) (E.calls env.new) (create_plan settings.now.nodes timing) result }
+    ensures did { Did (E.faults env.old) (E.faults env.new) (E.calls env.old) (E.calls env.new) (create_plan settings.now.nodes timing) result }
+    ensures disk { IsErrOf result ImageFault.Disk → HasRisen (E.faults env.old) (E.faults env.new) }
+    ensures unsafe_timing { IsErrOf result ImageFault.UnsafeTiming ↔ (is_safe timing ≡ false) }
+    ensures faults { IfErr result IsCreateFault }
 {
     if !timing_safe(&timing) {
         return Err(ImageFault::UnsafeTiming);

@@ -9,11 +9,12 @@
 
 mod creating;
 mod fault;
-// mod laws;
+mod laws;
 mod messaging;
 mod reading;
 
 pub use creating::create;
 pub use fault::ImageFault;
+pub use laws::{law_created_image, law_creation_writes, law_stopped_creation};
 pub use messaging::message;
 pub use reading::{header, line_of};

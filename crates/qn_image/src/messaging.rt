@@ -1,6 +1,8 @@
-ghost use Rattle.std.specs.Prelude.{◌≡◌, ◌≤◌, IsTrue};
+ghost use Rattle.std.specs.Prelude.{◌≡◌, ◌≤◌, IsTrue, IfErr, IsErrOf};
+ghost use Rattle.qn_base.specs.Faults.{HasRisen};
 ghost use Rattle.qn_base.specs.Plans.{Did};
 ghost use Rattle.qn_model.specs.Sectors.{is_deadly};
+ghost use Rattle.qn_image.specs.Causes.{IsMessageFault};
 ghost use Rattle.qn_image.specs.Plans.{message_plan, search_plan};
 
 use crate::creating::write_message;
@@ -14,7 +16,9 @@ use qn_model::Message;
 /// slots in order until one has the id.
 pub fn message<E: Env>(env: &mut E, id: NodeId, message: Message) -> Result<(), ImageFault>
     requires { IsTrue (is_deadly message) }
-    ensures { Did (E.faults env.old) (E.faults env.new) (E.calls env.old) (E.calls env.new) (message_plan id message) result }
+    ensures did { Did (E.faults env.old) (E.faults env.new) (E.calls env.old) (E.calls env.new) (message_plan id message) result }
+    ensures disk { IsErrOf result ImageFault.Disk → HasRisen (E.faults env.old) (E.faults env.new) }
+    ensures faults { IfErr result IsMessageFault }
 {
     match header(env) {
         Ok((nodes, _)) => send(env, nodes, id, message),

@@ -1,5 +1,7 @@
-ghost use Rattle.std.specs.Prelude.{◌≡◌, ◌≤◌, ◌<◌, IfOk};
+ghost use Rattle.std.specs.Prelude.{◌≡◌, ◌≤◌, ◌<◌, IfOk, IfErr, IsErrOf};
+ghost use Rattle.qn_base.specs.Faults.{HasRisen};
 ghost use Rattle.qn_base.specs.Plans.{Did};
+ghost use Rattle.qn_image.specs.Causes.{IsHeaderFault, IsLineFault};
 ghost use Rattle.qn_image.specs.Plans.{header_plan, slot_plan, mail_plan, line_plan};
 
 use crate::fault::ImageFault;
@@ -12,6 +14,8 @@ use qn_sector::{get_header, get_mail, get_slot, mail_sector, slot_sector};
 #[tactic(auto, unfolding(crate::specs::Plans::header_plan))]
 pub fn header<E: Env>(env: &mut E) -> Result<(u32, Timing), ImageFault>
     ensures did { Did (E.faults env.old) (E.faults env.new) (E.calls env.old) (E.calls env.new) header_plan result }
+    ensures disk { IsErrOf result ImageFault.Disk → HasRisen (E.faults env.old) (E.faults env.new) }
+    ensures faults { IfErr result IsHeaderFault }
     ensures few_nodes { IfOk result (λ h. h.0 ≤ 32) }
 {
     let mut sector = [0; 512];
@@ -53,7 +57,9 @@ fn mail<E: Env>(env: &mut E, rank: Rank) -> Result<Message, ImageFault>
 #[tactic(auto, unfolding(crate::specs::Plans::line_plan))]
 pub fn line_of<E: Env>(env: &mut E, rank: Rank) -> Result<(NodeId, Slot, Message), ImageFault>
     requires { rank.0 < 32 }
-    ensures { Did (E.faults env.old) (E.faults env.new) (E.calls env.old) (E.calls env.new) (line_plan rank.0) result }
+    ensures did { Did (E.faults env.old) (E.faults env.new) (E.calls env.old) (E.calls env.new) (line_plan rank.0) result }
+    ensures disk { IsErrOf result ImageFault.Disk → HasRisen (E.faults env.old) (E.faults env.new) }
+    ensures faults { IfErr result (IsLineFault rank.0) }
 {
     match slot(env, rank) {
         Ok((id, slot)) => match mail(env, rank) {
