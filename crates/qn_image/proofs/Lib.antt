@@ -1,3 +1,4 @@
+pub mod Blamed
 pub mod Created
 pub mod Joining
 pub mod Outcomes

@@ -17,6 +17,6 @@ mod tests;
 
 pub use creating::create;
 pub use fault::ImageFault;
-pub use laws::{law_created_image, law_creation_writes, law_stopped_creation};
+pub use laws::{law_created_image, law_creation_writes, law_image_faults, law_stopped_creation};
 pub use messaging::message;
 pub use reading::{header, line_of};
