@@ -1,0 +1,7 @@
+pub mod Blamed
+pub mod Created
+pub mod Joining
+pub mod Outcomes
+pub mod Searching
+pub mod Tried
+pub mod Writing

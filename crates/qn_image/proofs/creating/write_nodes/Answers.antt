@@ -1,0 +1,16 @@
+use Rattle.qn_base.proofs.Steps.{did_none}
+use Rattle.qn_image.specs.Writes.{writes_plan, node_writes}
+use Rattle.qn_image.proofs.Writing.{node_written, node_failed}
+use Rattle.qn_image.proofs.creating.write_nodes.Goals as goal
+
+pub loop-rank-init : goal.loop-rank-init
+unfolding writes_plan node_writes
+loop-rank-init g c = did_none _ _ _
+
+pub loop-rank-preserved : goal.loop-rank-preserved
+loop-rank-preserved g c =
+    node_written c.args.nodes.now c.loop-rank.rank _ c.loop-rank-test.true c.loop-rank.invariant c.in-Ok.ensures
+
+pub returns-in-Err : goal.returns-in-Err
+returns-in-Err g c =
+    node_failed c.args.nodes.now c.loop-rank.rank _ c.loop-rank-test.true _ c.loop-rank.invariant c.in-Err.ensures

@@ -1,0 +1,14 @@
+/// Why a call on an image did not do its work.
+#[derive(Clone, Copy, PartialEq, Eq, Debug)]
+pub enum ImageFault {
+    /// A read or a write of the disk failed; only where the outside's count of faults rose.
+    Disk,
+    /// Sector 0 is no header.
+    NotImage,
+    /// The times are not safe; nothing was written.
+    UnsafeTiming,
+    /// A slot or mailbox that was read is no spelling.
+    DamagedSector { sector: u32 },
+    /// Every slot was read, and none has the id.
+    UnknownNode,
+}

@@ -1,0 +1,22 @@
+// The calls of an operator on a disk image: make one, read its header and its lines, and write a message
+// to a mailbox (sbd(8), `create`, `dump`, `list`, `message`), over any outside.
+//
+// Promises: each call makes exactly the reads and writes of its plan, in order, up to the first that
+// fails, and answers as the plan says. `Disk` comes only where the outside's count of faults rose. An
+// image whose creation was stopped is no image; a created one spells every header, slot and mailbox.
+// No call takes memory.
+#![tactic(auto)]
+
+mod creating;
+mod fault;
+mod laws;
+mod messaging;
+mod reading;
+#[cfg(test)]
+mod tests;
+
+pub use creating::create;
+pub use fault::ImageFault;
+pub use laws::{law_created_image, law_creation_writes, law_image_faults, law_stopped_creation};
+pub use messaging::message;
+pub use reading::{header, line_of};
