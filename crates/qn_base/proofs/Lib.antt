@@ -1,4 +1,5 @@
 pub mod Digits
+pub mod MaskBits
 pub mod MemberVotes
 mod PlanRows
 pub mod Rising

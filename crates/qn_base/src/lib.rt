@@ -10,6 +10,7 @@ mod calls;
 mod decimal;
 mod faults;
 mod ids;
+mod masks;
 mod members;
 
 pub use calls::{Bytes, Call, Received};

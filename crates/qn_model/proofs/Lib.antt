@@ -1,4 +1,5 @@
 pub mod ByRank
+pub mod LeastMembers
 pub mod Majority
 pub mod Release
 pub mod Resets

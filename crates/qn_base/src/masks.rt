@@ -1,0 +1,87 @@
+ghost use Rattle.std.specs.Prelude.{◌≡◌, ◌<◌, ◌==◌, ◌&&◌, ◌||◌, ℕ, not, true, false, IfSome, IfNone};
+ghost use Rattle.qn_base.specs.Members.{is_member};
+
+use crate::ids::{Mask, Rank};
+
+impl Mask {
+    /// The members, and this rank too. A rank that is no rank of a mask, 32 or more, changes nothing.
+    pub fn with(self, rank: Rank) -> Mask
+        ensures { (j : ℕ) → j < 32 → is_member result j ≡ (rank.0 == j || is_member self j) }
+    {
+        if rank.0 < 32 {
+            Mask(self.0 | 1 << rank.0)
+        } else {
+            self
+        }
+    }
+
+    /// The members of both masks.
+    pub fn both(self, other: Mask) -> Mask
+        ensures { (j : ℕ) → is_member result j ≡ (is_member self j && is_member other j) }
+    {
+        Mask(self.0 & other.0)
+    }
+
+    /// The members that the other mask has not.
+    pub fn without(self, other: Mask) -> Mask
+        ensures { (j : ℕ) → is_member result j ≡ (is_member self j && not (is_member other j)) }
+    {
+        Mask(self.0 ^ (self.0 & other.0))
+    }
+
+    /// The ranks that are no members.
+    pub fn outside(self) -> Mask
+        ensures { (j : ℕ) → j < 32 → is_member result j ≡ not (is_member self j) }
+    {
+        Mask(!self.0)
+    }
+
+    /// The least member among the first `count` ranks.
+    pub fn first(self, count: u8) -> Option<Rank>
+        ensures within { IfSome result (λ rank. rank.0 < count) }
+        ensures below { IfSome result (λ rank. rank.0 < 32) }
+        ensures member { IfSome result (λ rank. is_member self rank.0 ≡ true) }
+        ensures least { IfSome result (λ rank. (j : ℕ) → j < rank.0 → is_member self j ≡ false) }
+        ensures none { IfNone result ((j : ℕ) → j < count → is_member self j ≡ false) }
+    {
+        let least = self.0.trailing_zeros() as u8;
+        if self.0 > 0 && least < count {
+            Some(Rank(least))
+        } else {
+            None
+        }
+    }
+}
+
+#[cfg(test)]
+mod tests {
+    use super::*;
+
+    #[test]
+    fn joins_and_parts_masks(rt: HostRuntime) {
+        let some = Mask(0b1010);
+        assert_eq!(rt; some.with(Rank(0)), Mask(0b1011));
+        assert_eq!(rt; some.with(Rank(31)), Mask(0x8000_000a));
+        assert_eq!(rt; some.with(Rank(32)), some);
+        assert_eq!(rt; some.both(Mask(0b0110)), Mask(0b0010));
+        assert_eq!(rt; some.without(Mask(0b0110)), Mask(0b1000));
+        assert_eq!(rt; some.outside(), Mask(0xffff_fff5));
+    }
+
+    #[test]
+    fn finds_the_first_member(rt: HostRuntime) {
+        let rows = [
+            (0b1010u32, 32u8, Some(Rank(1))),
+            (0b1010, 2, Some(Rank(1))),
+            (0b1010, 1, None),
+            (0, 32, None),
+            (1 << 31, 32, Some(Rank(31))),
+            (1 << 31, 31, None),
+            (1, 1, Some(Rank(0))),
+            (1, 0, None),
+        ];
+        for (members, count, want) in rows {
+            assert_eq!(rt; Mask(members).first(count), want);
+        }
+    }
+}
