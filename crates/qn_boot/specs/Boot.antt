@@ -1,0 +1,59 @@
+-- What the states of a boot stand for: this project's profile.
+use Rattle.std.specs.Prelude.{◌≡◌, ℕ, List, length, Option, None, Some, Result, Ok, Err}
+use Rattle.qn_model.specs.declared.configuration.Settings.{Settings}
+use Rattle.qn_model.specs.declared.life.Phase.TheVariants.{Booting, Up}
+use Rattle.qn_model.specs.declared.outputs.BootCause.{BootCause}
+use Rattle.qn_model.specs.declared.outputs.DiskOp.{DiskOp}
+use Rattle.qn_model.specs.declared.outputs.DiskOp.TheVariants as disk
+use Rattle.qn_model.specs.Log.{Line, claimed, now, op_out, timing}
+use Rattle.qn_model.specs.Phases.{phase}
+use Rattle.qn_model.specs.Wanted.{mail_tick, rank_of}
+use Rattle.qn_boot.specs.declared.steps.WantHeader.{WantHeader}
+use Rattle.qn_boot.specs.declared.steps.WantSlot.{WantSlot}
+use Rattle.qn_boot.specs.declared.steps.WantClaim.{WantClaim}
+use Rattle.qn_boot.specs.declared.steps.WantClear.{WantClear}
+use Rattle.qn_boot.specs.declared.steps.Ready.{Ready}
+use Rattle.qn_boot.specs.declared.steps.Halt.{Halt}
+
+-- why a step halted, None where it went on
+abbrev pub halted_by : {A : Type 0} → Result A Halt → Option BootCause
+halted_by (Ok next) = None
+halted_by (Err halt) = Some halt.cause
+
+-- a boot that waits for the answer of an operation stands for a log: the node boots, that operation is out,
+-- and the own mailbox was not asked for yet
+pub record BootFor (s : Settings) (op : DiskOp) (log : List Line) : Type 0 where
+  pub is_booting : phase s log ≡ Booting
+  pub is_out : op_out log ≡ Some op
+  pub is_unread : mail_tick log ≡ 0
+
+-- the boot waits for the header
+pub record WantHeaderFor (s : Settings) (want : WantHeader) (log : List Line) : Type 0 where
+  pub waits : BootFor s disk.ReadHeader log
+  pub count : want.nodes ≡ length s.nodes
+
+-- the boot waits for the slot of this node
+pub record WantSlotFor (s : Settings) (me : ℕ) (want : WantSlot) (log : List Line) : Type 0 where
+  pub waits : BootFor s (disk.ReadSlot (rank_of me)) log
+  pub has_times : want.times ≡ timing log
+
+-- the boot waits for its claim
+pub record WantClaimFor (s : Settings) (want : WantClaim) (log : List Line) : Type 0 where
+  pub waits : BootFor s (disk.WriteClaim want.claims) log
+  pub has_times : want.times ≡ timing log
+  pub has_claimed : claimed log ≡ Some want.claims
+
+-- the boot waits for its mailbox to be cleared
+pub record WantClearFor (s : Settings) (want : WantClear) (log : List Line) : Type 0 where
+  pub waits : BootFor s disk.WriteClear log
+  pub has_times : want.times ≡ timing log
+  pub has_claimed : claimed log ≡ Some want.claims
+
+-- the boot has ended well with the newest entry: the node is up, and its mailbox is being read
+pub record ReadyFor (s : Settings) (ready : Ready) (log : List Line) : Type 0 where
+  pub is_up : phase s log ≡ Up
+  pub is_out : op_out log ≡ Some disk.ReadMail
+  pub is_asked : mail_tick log ≡ ready.tick
+  pub has_times : ready.timing ≡ timing log
+  pub has_claimed : claimed log ≡ Some ready.incarnation
+  pub has_tick : ready.tick ≡ now log

@@ -1,0 +1,227 @@
+ghost use Rattle.std.specs.Prelude.{◌≡◌};
+
+use qn_model::{BootCause, HeaderSeen, SlotSeen, Timing, timing_safe};
+use std::marker::Model;
+
+/// A boot that waits for the answer that its state names. Only this crate makes one.
+#[derive(Drop)]
+pub struct Boot<State> {
+    state: State,
+}
+
+impl<State> Model for Boot<State> {
+    ghost Value = { State };
+
+    ghost view = { λ boot. boot.state };
+}
+
+/// The header of the image is being read; it has to be one for that many nodes.
+#[derive(Clone, Copy, PartialEq, Eq, Debug)]
+pub struct WantHeader {
+    pub nodes: u32,
+}
+
+/// The node's own slot is being read. The times are those of the header.
+#[derive(Clone, Copy, PartialEq, Eq, Debug)]
+pub struct WantSlot {
+    pub times: Timing,
+}
+
+/// The claim of that incarnation is being written into the node's own slot.
+#[derive(Clone, Copy, PartialEq, Eq, Debug)]
+pub struct WantClaim {
+    pub times: Timing,
+    pub claims: u64,
+}
+
+/// Empty is being written into the node's own mailbox.
+#[derive(Clone, Copy, PartialEq, Eq, Debug)]
+pub struct WantClear {
+    pub times: Timing,
+    pub claims: u64,
+}
+
+/// A boot that has ended well, so that the node is up: its incarnation, the times of the header, and the
+/// tick at which the mailbox was cleared. Only [`Boot::cleared`] makes one.
+#[derive(Drop)]
+#[non_exhaustive]
+pub struct Ready {
+    pub incarnation: u64,
+    pub timing: Timing,
+    pub tick: u64,
+}
+
+/// A boot that has failed, and why. Nothing of the boot is handed back with it.
+#[derive(Clone, Copy, PartialEq, Eq, Debug)]
+pub struct Halt {
+    pub cause: BootCause,
+}
+
+impl Boot<WantHeader> {
+    ghost use Rattle.std.specs.Prelude.{◌≡◌, ℕ, [], List, length, IfOk};
+    ghost use Rattle.qn_model.specs.declared.configuration.Settings.{Settings};
+    ghost use Rattle.qn_model.specs.declared.entries.What.{What};
+    ghost use Rattle.qn_model.specs.declared.seen.HeaderSeen.{HeaderSeen};
+    ghost use Rattle.qn_model.specs.Log.{Line};
+    ghost use Rattle.qn_model.specs.NodeOutputs.{with_read};
+    ghost use Rattle.qn_model.specs.Phases.{boot_halt};
+    ghost use Rattle.qn_boot.specs.Boot.{WantHeaderFor, WantSlotFor, halted_by};
+
+    /// The boot of a node in a cluster of that many nodes: the header is to be read.
+    pub fn begin(nodes: u32) -> Self
+        ensures nodes { result.nodes ≡ nodes }
+        ensures stands { (s : Settings) (me tick : ℕ)
+            → nodes ≡ length s.nodes
+            → WantHeaderFor s result (with_read s me [] tick What.Begin) }
+    {
+        Boot {
+            state: WantHeader { nodes },
+        }
+    }
+
+    /// The header was read. Goes on where it is one for the cluster's number of nodes with safe times;
+    /// else halts with ReadFailed, NotImage (also for another number of nodes) or UnsafeTiming.
+    pub fn header(self, seen: HeaderSeen) -> Result<Boot<WantSlot>, Halt>
+        ensures exact { (s : Settings)
+            → self.nodes ≡ length s.nodes
+            → halted_by result ≡ boot_halt s (What.Header seen) }
+        ensures times { IfOk result (λ next. seen ≡ HeaderSeen.Read self.nodes next.times) }
+        ensures stands { (s : Settings) (me : ℕ) (log : List Line) (tick : ℕ)
+            → WantHeaderFor s self log
+            → IfOk result (λ next. WantSlotFor s me next (with_read s me log tick (What.Header seen))) }
+    {
+        let (nodes, times) = match seen {
+            HeaderSeen::Read { nodes, timing } => (nodes, timing),
+            HeaderSeen::NotImage => return halted(BootCause::NotImage),
+            HeaderSeen::Failed => return halted(BootCause::ReadFailed),
+        };
+        if nodes != self.state.nodes {
+            return halted(BootCause::NotImage);
+        }
+        if !timing_safe(&times) {
+            return halted(BootCause::UnsafeTiming);
+        }
+        Ok(Boot {
+            state: WantSlot { times },
+        })
+    }
+}
+
+impl Boot<WantSlot> {
+    ghost use Rattle.std.specs.Prelude.{◌≡◌, ℕ, List, Some, IfOk};
+    ghost use Rattle.qn_base.specs.declared.ids.Rank.{Rank};
+    ghost use Rattle.qn_model.specs.declared.configuration.Settings.{Settings};
+    ghost use Rattle.qn_model.specs.declared.entries.What.{What};
+    ghost use Rattle.qn_model.specs.declared.outputs.DiskOp.{DiskOp};
+    ghost use Rattle.qn_model.specs.Log.{Line};
+    ghost use Rattle.qn_model.specs.NodeOutputs.{with_read};
+    ghost use Rattle.qn_model.specs.Phases.{boot_halt};
+    ghost use Rattle.qn_model.specs.Wanted.{claim_after, rank_of};
+    ghost use Rattle.qn_boot.specs.Boot.{WantSlotFor, WantClaimFor, halted_by};
+
+    /// The own slot was read. Goes on where it is one with an incarnation that has a next one; else halts
+    /// with ReadFailed, NotImage (for damaged bytes) or IncarnationSpent.
+    pub fn slot(self, seen: SlotSeen) -> Result<Boot<WantClaim>, Halt>
+        ensures exact { (s : Settings) (own : Rank) → halted_by result ≡ boot_halt s (What.SlotRead own seen) }
+        ensures next { IfOk result (λ next.
+            (next.times ≡ self.times) × (claim_after seen ≡ Some (DiskOp.WriteClaim next.claims))) }
+        ensures stands { (s : Settings) (me : ℕ) (log : List Line) (tick : ℕ)
+            → WantSlotFor s me self log
+            → IfOk result (λ next.
+            WantClaimFor s next (with_read s me log tick (What.SlotRead (rank_of me) seen))) }
+    {
+        let own = match seen {
+            SlotSeen::Read(own) => own,
+            SlotSeen::Damaged => return halted(BootCause::NotImage),
+            SlotSeen::Failed => return halted(BootCause::ReadFailed),
+        };
+        match own.incarnation.checked_add(1) {
+            Some(claims) => Ok(Boot {
+                state: WantClaim {
+                    times: self.state.times,
+                    claims,
+                },
+            }),
+            None => halted(BootCause::IncarnationSpent),
+        }
+    }
+}
+
+impl Boot<WantClaim> {
+    ghost use Rattle.std.specs.Prelude.{◌≡◌, ℕ, List, Some, IfOk};
+    ghost use Rattle.qn_model.specs.declared.configuration.Settings.{Settings};
+    ghost use Rattle.qn_model.specs.declared.entries.What.{What};
+    ghost use Rattle.qn_model.specs.declared.outputs.DiskOp.{DiskOp};
+    ghost use Rattle.qn_model.specs.Log.{Line, claimed, op_out};
+    ghost use Rattle.qn_model.specs.NodeOutputs.{with_read};
+    ghost use Rattle.qn_model.specs.Phases.{boot_halt};
+    ghost use Rattle.qn_boot.specs.Boot.{WantClaimFor, WantClearFor, halted_by};
+
+    /// The incarnation to write: one more than the own slot said.
+    pub fn claims(&self) -> u64
+        ensures value { result ≡ self.now.claims }
+        ensures stands { (s : Settings) (log : List Line)
+            → WantClaimFor s self.now log
+            → (op_out log ≡ Some (DiskOp.WriteClaim result)) × (claimed log ≡ Some result) }
+    {
+        self.state.claims
+    }
+
+    /// The claim was written, or not. Goes on where it was; else halts with ClaimFailed.
+    pub fn claimed(self, ok: bool) -> Result<Boot<WantClear>, Halt>
+        ensures exact { (s : Settings) → halted_by result ≡ boot_halt s (What.Claimed ok) }
+        ensures next { IfOk result (λ next. (next.times ≡ self.times) × (next.claims ≡ self.claims)) }
+        ensures stands { (s : Settings) (me : ℕ) (log : List Line) (tick : ℕ)
+            → WantClaimFor s self log
+            → IfOk result (λ next. WantClearFor s next (with_read s me log tick (What.Claimed ok))) }
+    {
+        if !ok {
+            return halted(BootCause::ClaimFailed);
+        }
+        Ok(Boot {
+            state: WantClear {
+                times: self.state.times,
+                claims: self.state.claims,
+            },
+        })
+    }
+}
+
+impl Boot<WantClear> {
+    ghost use Rattle.std.specs.Prelude.{◌≡◌, ℕ, List, IfOk};
+    ghost use Rattle.qn_model.specs.declared.configuration.Settings.{Settings};
+    ghost use Rattle.qn_model.specs.declared.entries.What.{What};
+    ghost use Rattle.qn_model.specs.Log.{Line};
+    ghost use Rattle.qn_model.specs.NodeOutputs.{with_read};
+    ghost use Rattle.qn_model.specs.Phases.{boot_halt};
+    ghost use Rattle.qn_boot.specs.Boot.{ReadyFor, WantClearFor, halted_by};
+
+    /// The own mailbox was cleared at that tick, or not. The boot ends well where it was; else it halts
+    /// with ClearFailed. It is not tried again.
+    pub fn cleared(self, tick: u64, ok: bool) -> Result<Ready, Halt>
+        ensures exact { (s : Settings) → halted_by result ≡ boot_halt s (What.Cleared ok) }
+        ensures ready { IfOk result (λ ready.
+            ready ≡ record { incarnation = self.claims; timing = self.times; tick = tick }) }
+        ensures stands { (s : Settings) (me : ℕ) (log : List Line)
+            → WantClearFor s self log
+            → IfOk result (λ ready. ReadyFor s ready (with_read s me log tick (What.Cleared ok))) }
+    {
+        if !ok {
+            return halted(BootCause::ClearFailed);
+        }
+        Ok(Ready {
+            incarnation: self.state.claims,
+            timing: self.state.times,
+            tick,
+        })
+    }
+}
+
+fn halted<T>(cause: BootCause) -> Result<T, Halt>
+    ensures { result ≡ Err (record { cause = cause }) }
+{
+    Err(Halt { cause })
+}
+
+#[cfg(test)]
+mod tests;

@@ -1,0 +1,2 @@
+mod EntryByEntry
+mod Spans

@@ -1,0 +1,4 @@
+pub mod Agreed
+pub mod Counting
+pub mod Deadline
+pub mod Quorum
