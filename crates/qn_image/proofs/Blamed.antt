@@ -1,5 +1,5 @@
 -- What was read where a call on an image ended with a fault of the image.
-use Rattle.std.proofs.Common.{◌≡◌, ◌≢◌, ◌↔◌, ◌==◌, ◌+◌, ℕ, zero, suc, Bool, true, false, Option, None, Some, ok_or, Result, Ok, Err, List, [], ◌∷◌, length, All, if◌then◌else◌, refl, sym, ap, ◌∙◌, arith}
+use Rattle.std.proofs.Common.{◌≡◌, ◌↔◌, ◌==◌, ◌+◌, ℕ, zero, suc, Bool, true, false, Option, None, Some, ok_or, Result, Ok, Err, List, [], ◌∷◌, length, All, if◌then◌else◌, refl, sym, ap, ◌∙◌}
 use Rattle.std.proofs.lemmas.Bool.{ne_eqb, eqb-false}
 use Rattle.std.proofs.lemmas.List.Elements.{All-nil, All-cons, All-head, All-tail}
 use Rattle.qn_base.specs.declared.calls.Call.{Call}

@@ -1,5 +1,5 @@
 -- Which faults a plan can end with: Disk exactly where a call failed, and none but those allowed.
-use Rattle.std.proofs.Common.{◌≡◌, ℕ, zero, suc, ◌+◌, ◌==◌, Bool, true, false, ◌||◌, cond, Option, None, Some, ok_or, Result, Ok, Err, IfErr, List, [], ◌∷◌, if◌then◌else◌, refl, sym, inl, inr}
+use Rattle.std.proofs.Common.{◌≡◌, ℕ, zero, suc, ◌+◌, ◌==◌, Bool, true, false, ◌||◌, Option, None, Some, ok_or, Result, Ok, Err, IfErr, List, [], ◌∷◌, if◌then◌else◌, refl, sym, inl, inr}
 use Rattle.std.proofs.Math.Bool.{or_assoc}
 use Rattle.qn_base.specs.declared.calls.Call.{Call}
 use Rattle.qn_base.specs.declared.ids.NodeId.{NodeId}

@@ -1,5 +1,5 @@
 -- How the search for a node's slot goes on, rank by rank.
-use Rattle.std.proofs.Common.{◌≡◌, ◌<◌, ◌≤◌, ◌+◌, ◌-◌, ◌==◌, ℕ, suc, true, false, Result, Ok, Err, Option, List, if◌then◌else◌, refl, sym, ap, ◌∙◌, arith}
+use Rattle.std.proofs.Common.{◌≡◌, ◌<◌, ◌≤◌, ◌+◌, ◌-◌, ◌==◌, ℕ, suc, true, false, Result, Ok, Err, Option, List, if◌then◌else◌, ap, arith}
 use Rattle.qn_base.specs.declared.calls.Call.{Call}
 use Rattle.qn_base.specs.declared.ids.NodeId.{NodeId}
 use Rattle.qn_base.specs.Plans.{Plan, Ends, ◌>>=◌, Did, At}

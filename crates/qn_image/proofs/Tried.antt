@@ -1,5 +1,5 @@
 -- The calls that follow a list of writes.
-use Rattle.std.proofs.Common.{◌≡◌, ◌≤◌, ◌==◌, ℕ, zero, suc, Bool, true, false, not, List, [], ◌∷◌, length, Result, Ok, Err, if◌then◌else◌, refl, sym, ap, ◌∙◌, arith}
+use Rattle.std.proofs.Common.{◌≡◌, ℕ, suc, Bool, true, false, not, List, [], ◌∷◌, length, Result, Ok, Err, if◌then◌else◌, refl, arith}
 use Rattle.std.proofs.Math.Dec.{eqb-suc-suc, eqb-zero-suc}
 use Rattle.qn_base.specs.declared.calls.Call.{Call}
 use Rattle.qn_base.specs.declared.calls.Call.TheVariants.{OpenImage, OpenNode, Now, Receive, Read, Write, Feed, Start, Stop, Send, Disarm, Halt}
@@ -11,7 +11,7 @@ use Rattle.qn_model.specs.Timing.{is_safe}
 use Rattle.qn_image.specs.declared.fault.ImageFault.{ImageFault}
 use Rattle.qn_image.specs.declared.fault.ImageFault.TheVariants.{Disk, UnsafeTiming}
 use Rattle.qn_image.specs.Plans.{or_fault}
-use Rattle.qn_image.specs.Writes.{SectorWrite, writes_plan, create_writes, create_plan, tried, IsTried}
+use Rattle.qn_image.specs.Writes.{SectorWrite, writes_plan, create_writes, create_plan, IsTried}
 
 -- a call that asks for a write is that write
 asked_write : (call : Call) (sector : ℕ) (bytes : List ℕ) → blank call ≡ Write sector bytes true → call ≡ Write sector bytes (not (is_failed call))

@@ -3,7 +3,7 @@ use Rattle.std.proofs.Common.{◌≡◌, ◌<◌, ◌+◌, ℕ, Bool, true, fals
 use Rattle.std.proofs.lemmas.List.{take_more, take-append-drop, length-take-le}
 use Rattle.qn_base.specs.declared.calls.Call.{Call}
 use Rattle.qn_base.specs.Calls.{is_failed}
-use Rattle.qn_base.specs.Plans.{Plan, Ends, ◌>>=◌, Follows, Did}
+use Rattle.qn_base.specs.Plans.{Follows, Did}
 use Rattle.qn_base.proofs.Steps.{made_then}
 use Rattle.qn_model.specs.declared.nodelist.NodeEntry.{NodeEntry}
 use Rattle.qn_image.specs.declared.fault.ImageFault.{ImageFault}
@@ -12,7 +12,7 @@ use Rattle.qn_image.specs.Plans.{or_fault, put_plan}
 use Rattle.qn_model.specs.declared.times.Timing.{Timing}
 use Rattle.qn_model.specs.Sectors.{header_bytes, zeros}
 use Rattle.qn_image.specs.Writes.{SectorWrite, writes_plan, node_pair, node_writes, create_writes, erasing_write, header_write}
-use Rattle.qn_image.proofs.Joining.{went_on, faulted, ended}
+use Rattle.qn_image.proofs.Joining.{faulted, ended}
 
 -- what a write answered
 abbrev answer_of : Bool → Result (Unit {0}) ImageFault

@@ -19,7 +19,8 @@ use qn_sector::{mail_sector, put_header, put_mail, put_slot, slot_sector};
 #[tactic(auto, unfolding(crate::specs::Writes::create_plan))]
 pub fn create<E: Env>(env: &mut E, settings: &Settings, timing: Timing) -> Result<(), ImageFault>
     requires { IsValid settings.now }
-    ensures did { Did (E.faults env.old) (E.faults env.new) (E.calls env.old) (E.calls env.new) (create_plan settings.now.nodes timing) result }
+    ensures did { Did (E.faults env.old) (E.faults env.new) (E.calls env.old) (E.calls env.new)
+        (create_plan settings.now.nodes timing) result }
     ensures disk { IsErrOf result ImageFault.Disk → HasRisen (E.faults env.old) (E.faults env.new) }
     ensures unsafe_timing { IsErrOf result ImageFault.UnsafeTiming ↔ (is_safe timing ≡ false) }
     ensures faults { IfErr result IsCreateFault }
@@ -35,7 +36,8 @@ fn write_image<E: Env>(env: &mut E, nodes: &[NodeEntry], timing: &Timing) -> Res
     requires few_nodes { length nodes.now ≤ 32 }
     requires ids { All (λ n. 1 ≤ n.id.0) nodes.now }
     requires times { IsTrue (has_periods timing.now) }
-    ensures { Did (E.faults env.old) (E.faults env.new) (E.calls env.old) (E.calls env.new) (writes_plan (create_writes nodes.now timing.now)) result }
+    ensures { Did (E.faults env.old) (E.faults env.new) (E.calls env.old) (E.calls env.new)
+        (writes_plan (create_writes nodes.now timing.now)) result }
 {
     match write(env, 0, &[0; 512]) {
         Ok(()) => match write_nodes(env, nodes) {
@@ -49,7 +51,8 @@ fn write_image<E: Env>(env: &mut E, nodes: &[NodeEntry], timing: &Timing) -> Res
 fn write_nodes<E: Env>(env: &mut E, nodes: &[NodeEntry]) -> Result<(), ImageFault>
     requires few { length nodes.now ≤ 32 }
     requires ids { All (λ n. 1 ≤ n.id.0) nodes.now }
-    ensures { Did (E.faults env.old) (E.faults env.new) (E.calls env.old) (E.calls env.new) (writes_plan (node_writes 0 nodes.now)) result }
+    ensures { Did (E.faults env.old) (E.faults env.new) (E.calls env.old) (E.calls env.new)
+        (writes_plan (node_writes 0 nodes.now)) result }
 {
     for (rank, node) in nodes.iter().enumerate() {
         match write_node(env, Rank(rank as u8), node.id) {
@@ -65,7 +68,8 @@ fn write_nodes<E: Env>(env: &mut E, nodes: &[NodeEntry]) -> Result<(), ImageFaul
 fn write_node<E: Env>(env: &mut E, rank: Rank, id: NodeId) -> Result<(), ImageFault>
     requires rank { rank.0 < 32 }
     requires id { 1 ≤ id.0 }
-    ensures { Did (E.faults env.old) (E.faults env.new) (E.calls env.old) (E.calls env.new) (writes_plan (node_pair rank.0 id.0)) result }
+    ensures { Did (E.faults env.old) (E.faults env.new) (E.calls env.old) (E.calls env.new)
+        (writes_plan (node_pair rank.0 id.0)) result }
 {
     match write_fresh_slot(env, rank, id) {
         Ok(()) => write_message(env, rank, Message::Empty),
@@ -76,7 +80,8 @@ fn write_node<E: Env>(env: &mut E, rank: Rank, id: NodeId) -> Result<(), ImageFa
 fn write_fresh_slot<E: Env>(env: &mut E, rank: Rank, id: NodeId) -> Result<(), ImageFault>
     requires rank { rank.0 < 32 }
     requires id { 1 ≤ id.0 }
-    ensures { Did (E.faults env.old) (E.faults env.new) (E.calls env.old) (E.calls env.new) (put_plan (slot_place rank.0) (slot_bytes id.0 fresh_slot)) result }
+    ensures { Did (E.faults env.old) (E.faults env.new) (E.calls env.old) (E.calls env.new)
+        (put_plan (slot_place rank.0) (slot_bytes id.0 fresh_slot)) result }
 {
     let slot = Slot {
         incarnation: 0,
@@ -90,7 +95,8 @@ fn write_fresh_slot<E: Env>(env: &mut E, rank: Rank, id: NodeId) -> Result<(), I
 /// Writes the message into the mailbox of the rank.
 pub fn write_message<E: Env>(env: &mut E, rank: Rank, message: Message) -> Result<(), ImageFault>
     requires { rank.0 < 32 }
-    ensures { Did (E.faults env.old) (E.faults env.new) (E.calls env.old) (E.calls env.new) (put_plan (mail_place rank.0) (mail_bytes message)) result }
+    ensures { Did (E.faults env.old) (E.faults env.new) (E.calls env.old) (E.calls env.new)
+        (put_plan (mail_place rank.0) (mail_bytes message)) result }
 {
     let mut sector = [0; 512];
     put_mail(message, &mut sector);
@@ -101,7 +107,8 @@ fn write_header<E: Env>(env: &mut E, nodes: &[NodeEntry], timing: &Timing) -> Re
     requires some_node { 1 ≤ length nodes.now }
     requires few_nodes { length nodes.now ≤ 32 }
     requires times { IsTrue (has_periods timing.now) }
-    ensures { Did (E.faults env.old) (E.faults env.new) (E.calls env.old) (E.calls env.new) (put_plan 0 (header_bytes (length nodes.now) timing.now)) result }
+    ensures { Did (E.faults env.old) (E.faults env.new) (E.calls env.old) (E.calls env.new)
+        (put_plan 0 (header_bytes (length nodes.now) timing.now)) result }
 {
     let mut sector = [0; 512];
     put_header(nodes.len() as u32, timing, &mut sector);
@@ -110,7 +117,8 @@ fn write_header<E: Env>(env: &mut E, nodes: &[NodeEntry], timing: &Timing) -> Re
 
 fn write<E: Env>(env: &mut E, sector: u32, from: &[u8; 512]) -> Result<(), ImageFault>
     requires { sector < 3072 }
-    ensures { Did (E.faults env.old) (E.faults env.new) (E.calls env.old) (E.calls env.new) (put_plan sector from.now) result }
+    ensures { Did (E.faults env.old) (E.faults env.new) (E.calls env.old) (E.calls env.new)
+        (put_plan sector from.now) result }
 {
     match env.write(sector, from) {
         Ok(()) => Ok(()),

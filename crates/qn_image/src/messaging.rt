@@ -16,7 +16,8 @@ use qn_model::Message;
 /// slots in order until one has the id.
 pub fn message<E: Env>(env: &mut E, id: NodeId, message: Message) -> Result<(), ImageFault>
     requires { IsTrue (is_deadly message) }
-    ensures did { Did (E.faults env.old) (E.faults env.new) (E.calls env.old) (E.calls env.new) (message_plan id message) result }
+    ensures did { Did (E.faults env.old) (E.faults env.new) (E.calls env.old) (E.calls env.new)
+        (message_plan id message) result }
     ensures disk { IsErrOf result ImageFault.Disk → HasRisen (E.faults env.old) (E.faults env.new) }
     ensures faults { IfErr result IsMessageFault }
 {
@@ -28,7 +29,8 @@ pub fn message<E: Env>(env: &mut E, id: NodeId, message: Message) -> Result<(), 
 
 fn send<E: Env>(env: &mut E, nodes: u32, id: NodeId, message: Message) -> Result<(), ImageFault>
     requires { nodes ≤ 32 }
-    ensures { Did (E.faults env.old) (E.faults env.new) (E.calls env.old) (E.calls env.new) (search_plan id message 0 nodes) result }
+    ensures { Did (E.faults env.old) (E.faults env.new) (E.calls env.old) (E.calls env.new)
+        (search_plan id message 0 nodes) result }
 {
     'ranks: for rank in 0..nodes as u8 {
         match slot(env, Rank(rank)) {

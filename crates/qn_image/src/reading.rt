@@ -13,7 +13,8 @@ use qn_sector::{get_header, get_mail, get_slot, mail_sector, slot_sector};
 /// The number of nodes and the times of the image, read from sector 0.
 #[tactic(auto, unfolding(crate::specs::Plans::header_plan))]
 pub fn header<E: Env>(env: &mut E) -> Result<(u32, Timing), ImageFault>
-    ensures did { Did (E.faults env.old) (E.faults env.new) (E.calls env.old) (E.calls env.new) header_plan result }
+    ensures did { Did (E.faults env.old) (E.faults env.new) (E.calls env.old) (E.calls env.new)
+        header_plan result }
     ensures disk { IsErrOf result ImageFault.Disk → HasRisen (E.faults env.old) (E.faults env.new) }
     ensures faults { IfErr result IsHeaderFault }
     ensures few_nodes { IfOk result (λ h. h.0 ≤ 32) }
@@ -29,7 +30,8 @@ pub fn header<E: Env>(env: &mut E) -> Result<(u32, Timing), ImageFault>
 #[tactic(auto, unfolding(crate::specs::Plans::slot_plan))]
 pub fn slot<E: Env>(env: &mut E, rank: Rank) -> Result<(NodeId, Slot), ImageFault>
     requires { rank.0 < 32 }
-    ensures { Did (E.faults env.old) (E.faults env.new) (E.calls env.old) (E.calls env.new) (slot_plan rank.0) result }
+    ensures { Did (E.faults env.old) (E.faults env.new) (E.calls env.old) (E.calls env.new)
+        (slot_plan rank.0) result }
 {
     let place = slot_sector(rank);
     let mut sector = [0; 512];
@@ -43,7 +45,8 @@ pub fn slot<E: Env>(env: &mut E, rank: Rank) -> Result<(NodeId, Slot), ImageFaul
 #[tactic(auto, unfolding(crate::specs::Plans::mail_plan))]
 fn mail<E: Env>(env: &mut E, rank: Rank) -> Result<Message, ImageFault>
     requires { rank.0 < 32 }
-    ensures { Did (E.faults env.old) (E.faults env.new) (E.calls env.old) (E.calls env.new) (mail_plan rank.0) result }
+    ensures { Did (E.faults env.old) (E.faults env.new) (E.calls env.old) (E.calls env.new)
+        (mail_plan rank.0) result }
 {
     let place = mail_sector(rank);
     let mut sector = [0; 512];
@@ -57,7 +60,8 @@ fn mail<E: Env>(env: &mut E, rank: Rank) -> Result<Message, ImageFault>
 #[tactic(auto, unfolding(crate::specs::Plans::line_plan))]
 pub fn line_of<E: Env>(env: &mut E, rank: Rank) -> Result<(NodeId, Slot, Message), ImageFault>
     requires { rank.0 < 32 }
-    ensures did { Did (E.faults env.old) (E.faults env.new) (E.calls env.old) (E.calls env.new) (line_plan rank.0) result }
+    ensures did { Did (E.faults env.old) (E.faults env.new) (E.calls env.old) (E.calls env.new)
+        (line_plan rank.0) result }
     ensures disk { IsErrOf result ImageFault.Disk → HasRisen (E.faults env.old) (E.faults env.new) }
     ensures faults { IfErr result (IsLineFault rank.0) }
 {

@@ -1,5 +1,5 @@
 -- What a value that is there only where tests hold says of the tests.
-use Rattle.std.proofs.Common.{◌≡◌, Bool, true, false, ◌&&◌, Option, Some, None, if◌then◌else◌, refl}
+use Rattle.std.proofs.Common.{◌≡◌, Bool, true, false, ◌&&◌, Some, None, if◌then◌else◌, refl}
 
 -- the value is there where the tests hold
 pub when_true : {A : Type 0} (test : Bool) (value : A) → test ≡ true → (if test then Some value else None) ≡ Some value

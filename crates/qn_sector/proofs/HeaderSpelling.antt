@@ -1,5 +1,5 @@
 -- A sector is read as a header exactly where it is the spelling of that header.
-use Rattle.std.proofs.Common.{◌≡◌, ◌≤◌, ◌<◌, ◌^◌, ℕ, Bool, true, ◌&&◌, List, ◌++◌, Option, None, Some, IfSome, IfNone, IsTrue, nat_le, if◌then◌else◌, refl, sym, ap, ◌∙◌, arith}
+use Rattle.std.proofs.Common.{◌≡◌, ◌≤◌, ◌<◌, ◌^◌, ℕ, true, ◌&&◌, List, ◌++◌, Option, None, Some, IfSome, IfNone, nat_le, if◌then◌else◌, refl, sym, ap, ◌∙◌, arith}
 use Rattle.std.specs.Str.{bytes_eq}
 use Rattle.std.specs.Int.{bytes_high_first}
 use Rattle.std.proofs.lemmas.Bool.Decides.{nat_tests}

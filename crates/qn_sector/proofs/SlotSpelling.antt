@@ -1,6 +1,5 @@
 -- A sector is read as a slot exactly where it is the spelling of that slot.
-use Rattle.std.proofs.Common.{◌≡◌, ◌≢◌, ◌≤◌, ◌<◌, ◌^◌, ℕ, Bool, true, false, not, ◌&&◌, ◌==◌, cond, List, [], ◌∷◌, ◌++◌, drop, slice_index, Option, None, Some, IfSome, IfNone, refl, sym, ap, ◌∙◌, arith, eqb}
-use Rattle.std.specs.Str.{bytes_eq}
+use Rattle.std.proofs.Common.{◌≡◌, ◌≤◌, ◌<◌, ◌^◌, ℕ, Bool, true, false, not, ◌==◌, cond, List, ◌∷◌, ◌++◌, Option, None, Some, IfSome, IfNone, refl, sym, ap, arith}
 use Rattle.std.specs.Int.{bytes_high_first}
 use Rattle.std.proofs.lemmas.Slice.Eq.{bytes_eq-Decides}
 use Rattle.byteorder.specs.Numbers.{big_number-reads_back}

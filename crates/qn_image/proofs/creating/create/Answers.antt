@@ -1,4 +1,4 @@
-use Rattle.std.proofs.Common.{◌≡◌, true, sym, ◌∙◌, rules}
+use Rattle.std.proofs.Common.{◌≡◌, true, rules}
 use Rattle.qn_model.specs.Timing.{is_safe}
 use Rattle.qn_image.proofs.Outcomes.{writes_causes, create_faults, safe_creation}
 use Rattle.qn_image.proofs.creating.create.Goals as goal

@@ -1,4 +1,4 @@
-use Rattle.std.proofs.Common.{Ok, refl, [], ◌∷◌}
+use Rattle.std.proofs.Common.{[], ◌∷◌}
 use Rattle.qn_image.proofs.Writing.{one_write, did_writes}
 use Rattle.qn_image.proofs.creating.write_node.Goals as goal
 

@@ -1,4 +1,4 @@
-use Rattle.std.proofs.Common.{sym, ◌∙◌, arith}
+use Rattle.std.proofs.Common.{sym, ◌∙◌}
 use Rattle.qn_image.proofs.Searching.{another, reached, unread, searched}
 use Rattle.qn_image.proofs.messaging.send.Goals as goal
 
