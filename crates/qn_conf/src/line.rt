@@ -6,7 +6,7 @@ use crate::tree::{Item, Word};
 
 /// What a line of a settings text says.
 #[derive(Debug, Drop)]
-pub enum Meaning<'text> {
+pub(crate) enum Meaning<'text> {
     /// Nothing: the line is empty or a comment.
     PassedOver,
     /// An item of the tree.
@@ -30,6 +30,7 @@ pub(crate) fn read_line(line: &[u8]) -> Meaning<'_>
     }
 }
 
+/// The section that begins where the last byte is `{`.
 #[tactic(auto, unfolding(crate::specs::Line::section_of))]
 fn section(text: &[u8]) -> Option<Item<'_>>
     ensures { result ≡ section_of text.now }
@@ -42,6 +43,7 @@ fn section(text: &[u8]) -> Option<Item<'_>>
     Some(Item::Enter(Word::new(name)))
 }
 
+/// The key before the first `:`, and the value after it.
 #[tactic(auto, unfolding(crate::specs::Line::pair_of))]
 fn pair(text: &[u8]) -> Option<Item<'_>>
     ensures { result ≡ pair_of text.now }
@@ -67,6 +69,7 @@ fn has_blank(word: &[u8]) -> bool
     word.iter().any(|byte| is_blank(*byte))
 }
 
+/// Whether a section or a key may have this name: it is not empty and has no blank.
 #[tactic(auto, unfolding(crate::specs::Line::is_name))]
 fn is_name(word: &[u8]) -> bool
     ensures { result ≡ is_name word.now }
@@ -74,6 +77,7 @@ fn is_name(word: &[u8]) -> bool
     !word.is_empty() && !has_blank(word)
 }
 
+/// The text without the blanks at both ends.
 #[tactic(auto, unfolding(crate::specs::Line::trim))]
 fn trim(text: &[u8]) -> &[u8]
     ensures { result.now ≡ trim text.now }
@@ -105,6 +109,7 @@ fn trim_end(text: &[u8]) -> &[u8]
     rest
 }
 
+/// Blanks are space, tab and carriage return.
 fn is_blank(byte: u8) -> bool
     ensures { result ≡ is_blank byte }
 {

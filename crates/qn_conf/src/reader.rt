@@ -1,7 +1,6 @@
-ghost use Rattle.std.specs.Prelude.{◌≡◌, ℕ, ◌+◌, ◌<◌, ◌≤◌, ◌^◌, ◌++◌, ◌∷◌, ◌↔◌, Ok, Err, None, Some, List, OnOk, IfErr, IfOk, length};
+ghost use Rattle.std.specs.Prelude.{◌≡◌, ℕ, ◌+◌, ◌<◌, ◌≤◌, ◌==◌, ◌^◌, [], ◌++◌, ◌∷◌, ◌↔◌, if◌then◌else◌, Ok, Err, None, Some, List, OnOk, IfErr, IfOk, length};
 ghost use Rattle.std.specs.Option.{option_map_or};
 ghost use Rattle.qn_conf.specs.Line.{meaning_of, item_in};
-ghost use Rattle.std.specs.Prelude.{[], ◌==◌, if◌then◌else◌};
 ghost use Rattle.qn_conf.specs.Conf.{Conf, IsFirstFault, UnlessNoMemory, conf_of, fault_in, fault_of, first_fault, lines, tree_of};
 ghost use Rattle.qn_conf.specs.Nesting.{depth_after, depth_after_all};
 ghost use Rattle.qn_conf.specs.declared.faults.ConfFault.TheVariants.{Unclosed};
