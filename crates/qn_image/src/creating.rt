@@ -9,7 +9,7 @@ ghost use Rattle.qn_image.specs.Plans.{put_plan};
 ghost use Rattle.qn_image.specs.Writes.{writes_plan, fresh_slot, node_pair, node_writes, create_writes, create_plan};
 
 use crate::fault::ImageFault;
-use qn_base::{Failed, NodeId, Rank};
+use qn_base::{NodeId, Rank};
 use qn_io::Env;
 use qn_model::{Message, NodeEntry, Settings, Slot, Timing, timing_safe};
 use qn_sector::{mail_sector, put_header, put_mail, put_slot, slot_sector};
@@ -39,13 +39,9 @@ fn write_image<E: Env>(env: &mut E, nodes: &[NodeEntry], timing: &Timing) -> Res
     ensures { Did (E.faults env.old) (E.faults env.new) (E.calls env.old) (E.calls env.new)
         (writes_plan (create_writes nodes.now timing.now)) result }
 {
-    match write(env, 0, &[0; 512]) {
-        Ok(()) => match write_nodes(env, nodes) {
-            Ok(()) => write_header(env, nodes, timing),
-            Err(fault) => Err(fault),
-        },
-        Err(fault) => Err(fault),
-    }
+    write(env, 0, &[0; 512])?;
+    write_nodes(env, nodes)?;
+    write_header(env, nodes, timing)
 }
 
 fn write_nodes<E: Env>(env: &mut E, nodes: &[NodeEntry]) -> Result<(), ImageFault>
@@ -55,10 +51,7 @@ fn write_nodes<E: Env>(env: &mut E, nodes: &[NodeEntry]) -> Result<(), ImageFaul
         (writes_plan (node_writes 0 nodes.now)) result }
 {
     for (rank, node) in nodes.iter().enumerate() {
-        match write_node(env, Rank(rank as u8), node.id) {
-            Ok(()) => {}
-            Err(fault) => return Err(fault),
-        }
+        write_node(env, Rank(rank as u8), node.id)?;
     }
     Ok(())
 }
@@ -71,10 +64,8 @@ fn write_node<E: Env>(env: &mut E, rank: Rank, id: NodeId) -> Result<(), ImageFa
     ensures { Did (E.faults env.old) (E.faults env.new) (E.calls env.old) (E.calls env.new)
         (writes_plan (node_pair rank.0 id.0)) result }
 {
-    match write_fresh_slot(env, rank, id) {
-        Ok(()) => write_message(env, rank, Message::Empty),
-        Err(fault) => Err(fault),
-    }
+    write_fresh_slot(env, rank, id)?;
+    write_message(env, rank, Message::Empty)
 }
 
 fn write_fresh_slot<E: Env>(env: &mut E, rank: Rank, id: NodeId) -> Result<(), ImageFault>
@@ -120,8 +111,6 @@ fn write<E: Env>(env: &mut E, sector: u32, from: &[u8; 512]) -> Result<(), Image
     ensures { Did (E.faults env.old) (E.faults env.new) (E.calls env.old) (E.calls env.new)
         (put_plan sector from.now) result }
 {
-    match env.write(sector, from) {
-        Ok(()) => Ok(()),
-        Err(Failed) => Err(ImageFault::Disk),
-    }
+    env.write(sector, from)?;
+    Ok(())
 }

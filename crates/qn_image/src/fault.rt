@@ -1,3 +1,5 @@
+use qn_base::Failed;
+
 /// Why a call on an image did not do its work.
 #[derive(Clone, Copy, PartialEq, Eq, Debug)]
 pub enum ImageFault {
@@ -11,4 +13,15 @@ pub enum ImageFault {
     DamagedSector { sector: u32 },
     /// Every slot was read, and none has the id.
     UnknownNode,
+}
+
+impl From<Failed> for ImageFault {
+    ghost use Rattle.std.specs.Prelude.{◌≡◌};
+    ghost use Rattle.qn_image.specs.declared.fault.ImageFault.TheVariants.{Disk};
+
+    ghost from_gives = { λ _ fault. fault ≡ Disk };
+
+    fn from(_failed: Failed) -> Self {
+        ImageFault::Disk
+    }
 }

@@ -21,10 +21,8 @@ pub fn message<E: Env>(env: &mut E, id: NodeId, message: Message) -> Result<(), 
     ensures disk { IsErrOf result ImageFault.Disk → HasRisen (E.faults env.old) (E.faults env.new) }
     ensures faults { IfErr result IsMessageFault }
 {
-    match header(env) {
-        Ok((nodes, _)) => send(env, nodes, id, message),
-        Err(fault) => Err(fault),
-    }
+    let (nodes, _) = header(env)?;
+    send(env, nodes, id, message)
 }
 
 fn send<E: Env>(env: &mut E, nodes: u32, id: NodeId, message: Message) -> Result<(), ImageFault>
@@ -33,13 +31,9 @@ fn send<E: Env>(env: &mut E, nodes: u32, id: NodeId, message: Message) -> Result
         (search_plan id message 0 nodes) result }
 {
     'ranks: for rank in 0..nodes as u8 {
-        match slot(env, Rank(rank)) {
-            Ok((found, _)) => {
-                if found == id {
-                    return write_message(env, Rank(rank), message);
-                }
-            }
-            Err(fault) => return Err(fault),
+        let (found, _) = slot(env, Rank(rank))?;
+        if found == id {
+            return write_message(env, Rank(rank), message);
         }
     }
     Err(ImageFault::UnknownNode)

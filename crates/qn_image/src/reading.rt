@@ -5,7 +5,7 @@ ghost use Rattle.qn_image.specs.Causes.{IsHeaderFault, IsLineFault};
 ghost use Rattle.qn_image.specs.Plans.{header_plan, slot_plan, mail_plan, line_plan};
 
 use crate::fault::ImageFault;
-use qn_base::{Failed, NodeId, Rank};
+use qn_base::{NodeId, Rank};
 use qn_io::Env;
 use qn_model::{Message, Slot, Timing};
 use qn_sector::{get_header, get_mail, get_slot, mail_sector, slot_sector};
@@ -20,10 +20,8 @@ pub fn header<E: Env>(env: &mut E) -> Result<(u32, Timing), ImageFault>
     ensures few_nodes { IfOk result (λ h. h.0 ≤ 32) }
 {
     let mut sector = [0; 512];
-    match env.read(0, &mut sector) {
-        Ok(()) => get_header(&sector).ok_or(ImageFault::NotImage),
-        Err(Failed) => Err(ImageFault::Disk),
-    }
+    env.read(0, &mut sector)?;
+    get_header(&sector).ok_or(ImageFault::NotImage)
 }
 
 /// The id and the slot of a rank.
@@ -35,10 +33,8 @@ pub fn slot<E: Env>(env: &mut E, rank: Rank) -> Result<(NodeId, Slot), ImageFaul
 {
     let place = slot_sector(rank);
     let mut sector = [0; 512];
-    match env.read(place, &mut sector) {
-        Ok(()) => get_slot(&sector).ok_or(ImageFault::DamagedSector { sector: place }),
-        Err(Failed) => Err(ImageFault::Disk),
-    }
+    env.read(place, &mut sector)?;
+    get_slot(&sector).ok_or(ImageFault::DamagedSector { sector: place })
 }
 
 /// The message in the mailbox of a rank.
@@ -50,10 +46,8 @@ fn mail<E: Env>(env: &mut E, rank: Rank) -> Result<Message, ImageFault>
 {
     let place = mail_sector(rank);
     let mut sector = [0; 512];
-    match env.read(place, &mut sector) {
-        Ok(()) => get_mail(&sector).ok_or(ImageFault::DamagedSector { sector: place }),
-        Err(Failed) => Err(ImageFault::Disk),
-    }
+    env.read(place, &mut sector)?;
+    get_mail(&sector).ok_or(ImageFault::DamagedSector { sector: place })
 }
 
 /// What the image says of a rank: its slot, which is read first, and its mailbox.
@@ -65,11 +59,7 @@ pub fn line_of<E: Env>(env: &mut E, rank: Rank) -> Result<(NodeId, Slot, Message
     ensures disk { IsErrOf result ImageFault.Disk → HasRisen (E.faults env.old) (E.faults env.new) }
     ensures faults { IfErr result (IsLineFault rank.0) }
 {
-    match slot(env, rank) {
-        Ok((id, slot)) => match mail(env, rank) {
-            Ok(message) => Ok((id, slot, message)),
-            Err(fault) => Err(fault),
-        },
-        Err(fault) => Err(fault),
-    }
+    let (id, slot) = slot(env, rank)?;
+    let message = mail(env, rank)?;
+    Ok((id, slot, message))
 }
