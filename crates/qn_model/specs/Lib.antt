@@ -3,8 +3,10 @@ pub mod CountText
 pub mod Fitting
 pub mod Hearing
 pub mod Holding
+pub mod Inputs
 pub mod Laws
 pub mod Licences
+pub mod LineLaws
 pub mod Lines
 pub mod Log
 pub mod NodeOutputs

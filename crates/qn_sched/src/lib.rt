@@ -7,11 +7,13 @@
 
 mod members;
 mod numbers;
+mod replay_end;
 mod timing_line;
 mod words;
 
 pub use members::{known_rank, read_members};
 pub use numbers::number_between;
 pub use qn_model::LineFault;
+pub use replay_end::ReplayEnd;
 pub use timing_line::read_timing;
 pub use words::{first_part, next_word, no_more_words, two_words};

@@ -1,0 +1,10 @@
+mod EventLines
+mod EventSteps
+mod RunEnds
+mod SettingsSteps
+mod Steps
+mod Taken
+mod TextLines
+mod TextSteps
+mod TimingLines
+mod TimingSteps

@@ -1,0 +1,145 @@
+-- Taking the input step by step, up to the end.
+use Rattle.std.proofs.Common.{◌≡◌, ◌≤◌, ◌⊎◌, arith, ℕ, List, [], ◌∷◌, ◌++◌, Option, Result, Ok, Err, refl, sym, ap, ◌∙◌, subst, append_assoc, append-nil, inl, inr}
+use Rattle.std.specs.Io.KnownBytes.{IsAtEnd, prepend_known}
+use Rattle.qn_io.specs.Outside.{HasRisen, prepend_known-append, prepend_known-nil}
+use Rattle.qn_model.specs.declared.configuration.Settings.{Settings}
+use Rattle.qn_model.specs.Inputs.{Tells, Anyway, AtEnd, AtFailure}
+use Rattle.qn_model.specs.Lines.{Ending, Ended, ReadFailed}
+use Rattle.qn_sched.specs.declared.replay_end.ReplayEnd.{ReplayEnd}
+use Rattle.qn_sched.specs.declared.replay_end.ReplayEnd.TheVariants.{NoMemory, ReadFault}
+use Rattle.qn_replay.specs.Reading.{EndsWith, GoesOn, IsNeeded, IsOpen, LastDecides, StillOpen, Stops, Told, Wanted}
+use Rattle.qn_replay.specs.Replay.{Replayed, ends, go_on, replay_of}
+use Rattle.qn_replay.specs.Runs.{Takes}
+
+abbrev pub Rest : Type 0
+Rest = Ending → List ℕ → Replayed
+
+-- nothing was taken yet
+pub goes_nowhere : (answer_of : Rest) (to_come : Option (List ℕ)) → IsOpen answer_of [] → GoesOn answer_of answer_of to_come to_come
+goes_nowhere answer_of to_come may = record {
+  taken = [];
+  takes = sym (prepend_known-nil to_come);
+  needed = StillOpen may;
+  rest = λ ending more. refl;
+}
+
+module _ {before between : Rest} {a b : Option (List ℕ)} (first : GoesOn before between a b) where
+  -- what is open in the rest is open in the whole
+  open_behind : (front : List ℕ) → IsOpen between front → IsOpen before (first.taken ++ front)
+  open_behind front may = ap (λ answer. answer.end) (first.rest ReadFailed front) ∙ may
+
+  needed_behind : {taken : List ℕ} → IsNeeded between taken → IsNeeded before (first.taken ++ taken)
+  needed_behind {taken} (StillOpen may) = StillOpen (open_behind taken may)
+  needed_behind {taken} (LastDecides front byte parts may) =
+      LastDecides (first.taken ++ front) byte
+      (ap (λ t. first.taken ++ t) parts ∙ sym (append_assoc first.taken front (byte ∷ [])))
+      (open_behind front may)
+
+  takes_behind : (taken : List ℕ) (c : Option (List ℕ)) → b ≡ prepend_known taken c → a ≡ prepend_known (first.taken ++ taken) c
+  takes_behind taken c takes = first.takes ∙ ap (prepend_known first.taken) takes ∙ sym (prepend_known-append first.taken taken c)
+
+  -- one step, and then another
+  pub goes_then : {after : Rest} {c : Option (List ℕ)} → GoesOn between after b c → GoesOn before after a c
+  goes_then {c} second = record {
+    taken = first.taken ++ second.taken;
+    takes = takes_behind second.taken c second.takes;
+    needed = needed_behind second.needed;
+    rest = λ ending more.
+        ap (before ending) (append_assoc first.taken second.taken more) ∙ first.rest ending (second.taken ++ more) ∙ second.rest ending more;
+  }
+
+  tells_behind : {taken : List ℕ} {at_end failed : Type 0} (P : Replayed → Type 0) → Tells between taken at_end failed P → Tells before (first.taken ++ taken) at_end failed P
+  tells_behind {taken} P (Anyway always) =
+      Anyway (λ ending more. subst P (sym (ap (before ending) (append_assoc first.taken taken more) ∙ first.rest ending (taken ++ more))) (always ending more))
+  tells_behind {taken} P (AtEnd ended holds) = AtEnd ended (subst P (sym (first.rest Ended taken)) holds)
+  tells_behind {taken} P (AtFailure fails holds) = AtFailure fails (subst P (sym (first.rest ReadFailed taken)) holds)
+
+  ends_behind : {taken : List ℕ} {at_end failed : Type 0} {end : ReplayEnd} → EndsWith between taken at_end failed end
+      → EndsWith before (first.taken ++ taken) at_end failed end
+  ends_behind {end} (Told tells needed) = Told (tells_behind (λ answer. answer ≡ ends end) tells) (needed_behind needed)
+  ends_behind (Wanted memory) = Wanted memory
+
+  -- a step, and then the end
+  pub stops_then : {c : Option (List ℕ)} {at_end failed : Type 0} {end : ReplayEnd} → Stops between b c at_end failed end → Stops before a c at_end failed end
+  stops_then {c} second = record {
+    taken = first.taken ++ second.taken;
+    takes = takes_behind second.taken c second.takes;
+    stops = ends_behind second.stops;
+  }
+
+-- what was judged is good
+pub goes_judged : {A : Type 0} {before : Rest} {a b : Option (List ℕ)} (judged : Result A ReplayEnd) (value : A) (next : A → Rest)
+    → GoesOn before (λ ending more. go_on judged (λ v. next v ending more)) a b → judged ≡ Ok value → GoesOn before (next value) a b
+goes_judged judged value next first is = record {
+  taken = first.taken;
+  takes = first.takes;
+  needed = first.needed;
+  rest = λ ending more. first.rest ending more ∙ ap (λ j. go_on j (λ v. next v ending more)) is;
+}
+
+-- what was judged is at fault
+pub stops_judged : {A : Type 0} {before : Rest} {a b : Option (List ℕ)} {at_end failed : Type 0} (judged : Result A ReplayEnd) (end : ReplayEnd) (next : A → Rest)
+    → GoesOn before (λ ending more. go_on judged (λ v. next v ending more)) a b → judged ≡ Err end → Stops before a b at_end failed end
+stops_judged judged end next first is = record {
+  taken = first.taken;
+  takes = first.takes;
+  stops = Told (Anyway (λ ending more. first.rest ending more ∙ ap (λ j. go_on j (λ v. next v ending more)) is)) first.needed;
+}
+
+-- memory was wanted
+pub stops_wanted : {before after : Rest} {a b : Option (List ℕ)} {at_end failed : Type 0} (end : ReplayEnd) → GoesOn before after a b → end ≡ NoMemory
+    → Stops before a b at_end failed end
+stops_wanted end first is = record { taken = first.taken; takes = first.takes; stops = Wanted is }
+
+ends_wider : {answer_of : Rest} {taken : List ℕ} {at_end failed failed_before : Type 0} {end : ReplayEnd} → (failed_before → failed)
+    → EndsWith answer_of taken at_end failed_before end → EndsWith answer_of taken at_end failed end
+ends_wider wider (Told (Anyway always) needed) = Told (Anyway always) needed
+ends_wider wider (Told (AtEnd ended holds) needed) = Told (AtEnd ended holds) needed
+ends_wider wider (Told (AtFailure fails holds) needed) = Told (AtFailure (wider fails) holds) needed
+ends_wider wider (Wanted memory) = Wanted memory
+
+-- the count rose in a part of the call
+pub stops_wider : {answer_of : Rest} {a b : Option (List ℕ)} {at_end failed failed_before : Type 0} {end : ReplayEnd} → (failed_before → failed)
+    → Stops answer_of a b at_end failed_before end → Stops answer_of a b at_end failed end
+stops_wider wider stop = record { taken = stop.taken; takes = stop.takes; stops = ends_wider wider stop.stops }
+
+-- the bytes end what is open without the last of them
+pub stops_at : {answer_of : Rest} {a b : Option (List ℕ)} {at_end failed : Type 0} (front : List ℕ) (byte : ℕ) (end : ReplayEnd)
+    → a ≡ prepend_known (front ++ byte ∷ []) b → IsOpen answer_of front
+    → ((ending : Ending) (more : List ℕ) → answer_of ending ((front ++ byte ∷ []) ++ more) ≡ ends end) → Stops answer_of a b at_end failed end
+stops_at front byte end takes may always = record {
+  taken = front ++ byte ∷ [];
+  takes = takes;
+  stops = Told (Anyway always) (LastDecides front byte refl may);
+}
+
+-- the input ended behind these bytes
+pub stops_ended : {answer_of : Rest} {a b : Option (List ℕ)} {at_end failed : Type 0} (taken : List ℕ) (end : ReplayEnd)
+    → a ≡ prepend_known taken b → at_end → IsOpen answer_of taken → answer_of Ended taken ≡ ends end → Stops answer_of a b at_end failed end
+stops_ended taken end takes ended may is = record { taken = taken; takes = takes; stops = Told (AtEnd ended is) (StillOpen may) }
+
+-- a read failed behind these bytes
+pub stops_failed : {answer_of : Rest} {a b : Option (List ℕ)} {at_end failed : Type 0} (taken : List ℕ) (end : ReplayEnd)
+    → a ≡ prepend_known taken b → failed → IsOpen answer_of taken → answer_of ReadFailed taken ≡ ends end → Stops answer_of a b at_end failed end
+stops_failed taken end takes fails may is = record { taken = taken; takes = takes; stops = Told (AtFailure fails is) (StillOpen may) }
+
+-- nothing is left behind the pieces that were handed out
+pub left_at_end : (waiting : List ℕ) (left : Option (List ℕ)) → waiting ≡ [] → IsAtEnd (prepend_known waiting left) → IsAtEnd left
+left_at_end waiting left none at_end = subst IsAtEnd (ap (λ w. prepend_known w left) none ∙ prepend_known-nil left) at_end
+
+-- a count that rose in between rose over all
+pub risen_within : (a b c d : ℕ) → a ≤ b → b ≤ c → c ≤ d → HasRisen b c → HasRisen a d
+risen_within a b c d before between behind rose = grind (arith, rose)
+
+-- all that was taken, in what was read of the source
+pub takes_of_stop : {failed : Type 0} (left left_new : Option (List ℕ)) (pieces waiting : List ℕ) (end : ReplayEnd) → pieces ≡ []
+    → Stops replay_of (prepend_known pieces left) (prepend_known waiting left_new) ((waiting ≡ []) × IsAtEnd left_new) ((waiting ≡ []) × failed) end
+    → Takes left left_new failed end
+takes_of_stop left left_new pieces waiting end none stop = record {
+  taken = stop.taken;
+  waiting = waiting;
+  takes =
+      sym (prepend_known-nil left) ∙ ap (λ p. prepend_known p left) (sym none) ∙ stop.takes
+      ∙ sym (prepend_known-append stop.taken waiting left_new);
+  ends = stop.stops;
+}

@@ -1,0 +1,121 @@
+-- How the end of a replay and the way in which its input ended belong together.
+use Rattle.std.specs.Prelude.{◌≡◌, ℕ, ◌+◌, Bool, true, false, cond, List, [], ◌∷◌, ◌++◌, length, nat_lt, Result, Ok, Err, IfErr}
+use Rattle.std.specs.Str.{bytes_eq}
+use Rattle.std.proofs.lemmas.Bool.{cond_both}
+use Rattle.qn_conf.specs.declared.faults.ConfFault.{ConfFault}
+use Rattle.qn_conf.specs.declared.faults.ConfFault.TheVariants as conf
+use Rattle.qn_conf.specs.declared.tree.Item.{Item}
+use Rattle.qn_conf.specs.Conf.{conf_of}
+use Rattle.qn_model.specs.declared.configuration.Settings.{Settings}
+use Rattle.qn_model.specs.declared.line_fault.LineFault.{LineFault}
+use Rattle.qn_model.specs.declared.times.Timing.{Timing}
+use Rattle.qn_model.specs.Lines.{Ending, Ended, ReadFailed, lines_of}
+use Rattle.qn_model.specs.Timing.{is_safe}
+use Rattle.qn_settings.specs.declared.faults.SettingsFault.{SettingsFault}
+use Rattle.qn_settings.specs.Answer.{answer_of}
+use Rattle.qn_sched.specs.declared.replay_end.ReplayEnd.{ReplayEnd}
+use Rattle.qn_sched.specs.declared.replay_end.ReplayEnd.TheVariants.{Done, BadConf, BadSettings, BadSchedule, NotAllowed, ReadFault, WriteFault, UnsafeTiming, NoMemory}
+use Rattle.qn_sched.specs.Head.{dashes, or_bad_settings, safe_or_not, safe_timing_in, settings_in, settings_of_tree}
+use Rattle.qn_sched.specs.TimingLine.{timing_of}
+use Rattle.qn_replay.specs.declared.schedule.Schedule.{Schedule}
+use Rattle.qn_replay.specs.Replay.{Replayed, counted_bytes, cut_in, end_of_events, ends, event_fault, event_lines, go_on, last_event, last_of_text, last_timing, replay_of, text_lines, timing_lines}
+
+-- a replay of which the input was read to its end is not done at a read, one of which a read failed is never done, and
+-- no input tells of a write or of memory
+abbrev pub EndFits : ReplayEnd → Ending → Type 0
+EndFits (Done events) Ended = Unit {0}
+EndFits (Done events) ReadFailed = ⊥
+EndFits ReadFault Ended = ⊥
+EndFits ReadFault ReadFailed = Unit {0}
+EndFits WriteFault ending = ⊥
+EndFits NoMemory ending = ⊥
+EndFits (BadConf fault) ending = Unit {0}
+EndFits (BadSettings fault) ending = Unit {0}
+EndFits (BadSchedule line fault) ending = Unit {0}
+EndFits (NotAllowed line rule) ending = Unit {0}
+EndFits (UnsafeTiming timing) ending = Unit {0}
+
+-- the same of an answer
+abbrev Fits : Ending → Replayed → Type 0
+Fits ending answer = EndFits answer.end ending
+
+cut_fits : (number : ℕ) (ending : Ending) → Fits ending (cut_in number ending)
+cut_fits number Ended = tt
+cut_fits number ReadFailed = tt
+
+-- one of two answers that fit
+either_fits : (ending : Ending) (test : Bool) (first second : Replayed) → Fits ending first → Fits ending second → Fits ending (cond test first second)
+either_fits ending true first second fits others = fits
+either_fits ending false first second fits others = others
+
+judged_fits : {A : Type 0} (ending : Ending) (judged : Result A ReplayEnd) (next : A → Replayed) → IfErr judged (λ end. EndFits end ending)
+    → ((value : A) → Fits ending (next value)) → Fits ending (go_on judged next)
+judged_fits ending (Ok value) next at_fault fits = fits value
+judged_fits ending (Err end) next at_fault fits = at_fault
+
+tree_fits : (ending : Ending) (answer : Result Settings SettingsFault) → IfErr (or_bad_settings answer) (λ end. EndFits end ending)
+tree_fits ending (Ok settings) = tt
+tree_fits ending (Err fault) = tt
+
+conf_fits : (ending : Ending) (conf : Result (List Item) ConfFault) → IfErr (settings_of_tree conf) (λ end. EndFits end ending)
+conf_fits ending (Ok tree) = tree_fits ending (answer_of tree)
+conf_fits ending (Err fault) = tt
+
+settings_fit : (ending : Ending) (text : List ℕ) → IfErr (settings_in text) (λ end. EndFits end ending)
+unfolding settings_in
+settings_fit ending text = conf_fits ending (conf_of text)
+
+times_fit : (ending : Ending) (number : ℕ) (times : Result Timing LineFault) → IfErr (safe_or_not number times) (λ end. EndFits end ending)
+times_fit ending number (Ok timing) =
+    elim (is_safe timing) as (λ safe. IfErr (cond safe (Ok timing) (Err (UnsafeTiming timing))) (λ end. EndFits end ending)) [ true ↦ tt | false ↦ tt ]
+times_fit ending number (Err fault) = tt
+
+timing_fits : (ending : Ending) (number : ℕ) (line : List ℕ) → IfErr (safe_timing_in number line) (λ end. EndFits end ending)
+unfolding safe_timing_in
+timing_fits ending number line = times_fit ending number (timing_of line)
+
+end_of_events_fits : (schedule : Schedule) (ending : Ending) (rest : List ℕ) → Fits ending (end_of_events schedule ending rest)
+end_of_events_fits schedule Ended [] = tt
+end_of_events_fits schedule Ended (byte ∷ rest) = tt
+end_of_events_fits schedule ReadFailed rest = tt
+
+last_event_fits : (schedule : Schedule) (ending : Ending) (rest : List ℕ) → Fits ending (last_event schedule ending rest)
+unfolding last_event
+last_event_fits schedule ending rest = either_fits ending (nat_lt 4096 (length rest)) _ _ tt (end_of_events_fits schedule ending rest)
+
+events_fit : (schedule : Schedule) (ending : Ending) (lines : List (List ℕ)) → Fits ending (event_lines schedule ending lines)
+events_fit schedule ending [] = last_event_fits schedule ending []
+events_fit schedule ending (rest ∷ []) = last_event_fits schedule ending rest
+events_fit schedule ending (line ∷ next ∷ lines) = tt
+
+last_timing_fits : (before : ℕ) (ending : Ending) (rest : List ℕ) → Fits ending (last_timing before ending rest)
+unfolding last_timing
+last_timing_fits before ending rest = either_fits ending (nat_lt 4096 (length rest)) _ _ tt (cut_fits (before + 1) ending)
+
+timing_lines_fit : (settings : Settings) (before : ℕ) (ending : Ending) (lines : List (List ℕ)) → Fits ending (timing_lines settings before ending lines)
+timing_lines_fit settings before ending [] = last_timing_fits before ending []
+timing_lines_fit settings before ending (rest ∷ []) = last_timing_fits before ending rest
+timing_lines_fit settings before ending (line ∷ next ∷ lines) =
+    judged_fits ending (safe_timing_in (before + 1) line) _ (timing_fits ending (before + 1) line)
+    (λ timing. events_fit (record { settings = settings; timing = timing; lines = before + 1; events = 0 }) ending (next ∷ lines))
+
+last_of_text_fits : (text : List ℕ) (before : ℕ) (ending : Ending) (rest : List ℕ) → Fits ending (last_of_text text before ending rest)
+unfolding last_of_text
+last_of_text_fits text before ending rest = either_fits ending (nat_lt 1048576 (counted_bytes text rest)) _ _ tt (cut_fits (before + 1) ending)
+
+text_lines_fit : (text : List ℕ) (before : ℕ) (ending : Ending) (lines : List (List ℕ)) → Fits ending (text_lines text before ending lines)
+text_lines_fit text before ending [] = last_of_text_fits text before ending []
+text_lines_fit text before ending (rest ∷ []) = last_of_text_fits text before ending rest
+text_lines_fit text before ending (line ∷ next ∷ lines) =
+    either_fits ending (bytes_eq line dashes) _ _
+    (judged_fits ending (settings_in text) _ (settings_fit ending text) (λ settings. timing_lines_fit settings (before + 1) ending (next ∷ lines)))
+    (either_fits ending (nat_lt 1048576 (length (text ++ line ++ 10 ∷ []))) _ _ tt
+    (text_lines_fit (text ++ line ++ 10 ∷ []) (before + 1) ending (next ∷ lines)))
+
+-- the end of a replay fits the way in which its input ended
+pub replay_fits : (ending : Ending) (bytes : List ℕ) → EndFits (replay_of ending bytes).end ending
+replay_fits ending bytes = text_lines_fit [] 0 ending (lines_of bytes)
+
+-- the law, for a clause
+abbrev pub ReplayFits : Type 0
+ReplayFits = (ending : Ending) (bytes : List ℕ) → EndFits (replay_of ending bytes).end ending

@@ -1,0 +1,5 @@
+pub mod Endings
+pub mod Reading
+pub mod Replay
+pub mod Runs
+pub mod Taking

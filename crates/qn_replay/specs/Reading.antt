@@ -1,0 +1,78 @@
+-- How a replay takes its input, up to the byte that decides its end.
+use Rattle.std.specs.Prelude.{◌≡◌, ◌≤◌, ℕ, ◌+◌, List, [], ◌∷◌, ◌++◌, length, Option, Result}
+use Rattle.std.specs.Io.KnownBytes.{prepend_known}
+use Rattle.qn_model.specs.declared.configuration.Settings.{Settings}
+use Rattle.qn_model.specs.Inputs.{Tells}
+use Rattle.qn_model.specs.LineLaws.{IsPartOfLine}
+use Rattle.qn_model.specs.Lines.{Ending, ReadFailed, lines_of}
+use Rattle.qn_sched.specs.declared.replay_end.ReplayEnd.{ReplayEnd}
+use Rattle.qn_sched.specs.declared.replay_end.ReplayEnd.TheVariants.{NoMemory, ReadFault}
+use Rattle.qn_sched.specs.Head.{settings_in}
+use Rattle.qn_replay.specs.declared.schedule.Schedule.{Schedule}
+use Rattle.qn_replay.specs.Replay.{Replayed, counted_bytes, ends, event_lines, go_on, text_lines, timing_lines}
+
+-- a settings text so far: its whole lines with their ends, how many they are, and what there is of the next line
+pub record TextSoFar : Type 0 where
+  pub whole : List ℕ
+  pub lines : ℕ
+  pub rest : List ℕ
+
+abbrev pub no_text : TextSoFar
+no_text = record { whole = []; lines = 0; rest = [] }
+
+-- one more byte of the next line
+abbrev pub with_byte : TextSoFar → ℕ → TextSoFar
+with_byte text byte = record { whole = text.whole; lines = text.lines; rest = text.rest ++ byte ∷ [] }
+
+-- the next line is ended, and whole
+abbrev pub with_end : TextSoFar → TextSoFar
+with_end text = record { whole = text.whole ++ text.rest ++ 10 ∷ []; lines = text.lines + 1; rest = [] }
+
+-- nothing of the text is at fault before it is whole
+pub record MayGoOn (text : TextSoFar) : Type 0 where
+  pub inside : IsPartOfLine text.rest
+  pub fits : counted_bytes text.whole text.rest ≤ 1048576
+  pub numbered : text.lines ≤ length text.whole
+
+-- what is answered from here on: inside the settings text
+abbrev pub text_rest : TextSoFar → Ending → List ℕ → Replayed
+text_rest text ending more = text_lines text.whole text.lines ending (lines_of (text.rest ++ more))
+
+-- behind the line of this number, with these settings
+abbrev pub timing_rest : ℕ → Settings → Ending → List ℕ → Replayed
+timing_rest before settings ending more = timing_lines settings before ending (lines_of more)
+
+-- behind a settings text of so many lines, and `----`
+abbrev pub settings_rest : List ℕ → ℕ → Ending → List ℕ → Replayed
+settings_rest whole lines ending more = go_on (settings_in whole) (λ settings. timing_rest (lines + 1) settings ending more)
+
+-- behind the head
+abbrev pub event_rest : Schedule → Ending → List ℕ → Replayed
+event_rest schedule ending more = event_lines schedule ending (lines_of more)
+
+-- the bytes leave the end open: a failing read would end it
+abbrev pub IsOpen : (Ending → List ℕ → Replayed) → List ℕ → Type 0
+IsOpen answer_of taken = (answer_of ReadFailed taken).end ≡ ReadFault
+
+-- no byte was taken that the end does not need: without the last one it is open
+pub data IsNeeded (answer_of : Ending → List ℕ → Replayed) (taken : List ℕ) : Type 0 where
+  StillOpen : IsOpen answer_of taken → IsNeeded answer_of taken
+  LastDecides : (front : List ℕ) (byte : ℕ) → taken ≡ front ++ byte ∷ [] → IsOpen answer_of front → IsNeeded answer_of taken
+
+-- bytes were taken, and what the whole input gives is what the rest gives from here on
+pub record GoesOn (before after : Ending → List ℕ → Replayed) (to_come_old to_come_new : Option (List ℕ)) : Type 0 where
+  pub taken : List ℕ
+  pub takes : to_come_old ≡ prepend_known taken to_come_new
+  pub needed : IsNeeded before taken
+  pub rest : (ending : Ending) (more : List ℕ) → before ending (taken ++ more) ≡ after ending more
+
+-- the end is the one that the taken bytes tell of, with nothing written; or memory was wanted
+pub data EndsWith (answer_of : Ending → List ℕ → Replayed) (taken : List ℕ) (at_end failed : Type 0) (end : ReplayEnd) : Type 0 where
+  Told : Tells answer_of taken at_end failed (λ answer. answer ≡ ends end) → IsNeeded answer_of taken → EndsWith answer_of taken at_end failed end
+  Wanted : end ≡ NoMemory → EndsWith answer_of taken at_end failed end
+
+-- bytes were taken, and they decided the end
+pub record Stops (answer_of : Ending → List ℕ → Replayed) (to_come_old to_come_new : Option (List ℕ)) (at_end failed : Type 0) (end : ReplayEnd) : Type 0 where
+  pub taken : List ℕ
+  pub takes : to_come_old ≡ prepend_known taken to_come_new
+  pub stops : EndsWith answer_of taken at_end failed end

@@ -1,0 +1,45 @@
+ghost use Rattle.std.specs.Prelude.{◌≡◌, ◌≢◌, ◌≤◌, IfSome};
+ghost use Rattle.qn_io.specs.Outside.{HasRisen};
+ghost use Rattle.qn_model.specs.Lines.{Ended};
+ghost use Rattle.qn_replay.specs.Replay.{replay_of};
+ghost use Rattle.qn_replay.specs.Runs.{AnswersWhole, Completes, IfDone, Replays, Takes};
+
+use crate::reader::Reader;
+use qn_io::{Sink, Source};
+use qn_sched::ReplayEnd;
+use std::alloc::Global;
+
+/// Replays a schedule: reads its input in pieces of at most 4096 bytes, up to the byte that decides the end,
+/// and keeps no more of it than the settings text, one line and one piece. It writes the trace alone, and
+/// nothing of the end. `NoMemory` comes only where memory was wanted.
+pub fn replay<I: Source, O: Sink>(alloc: Global, input: &mut I, out: &mut O) -> ReplayEnd
+    // The end is the defined one of the bytes that were taken, and what was written is their trace, or a front
+    // of it at WriteFault and NoMemory.
+    ensures replays { Replays (I.left input.old) (I.left input.new) (HasRisen (I.faults input.old) (I.faults input.new))
+        (O.written out.old) (O.written out.new) (HasRisen (O.faults out.old) (O.faults out.new)) result }
+
+    ensures complete { ¬ HasRisen (I.faults input.old) (I.faults input.new) → ¬ HasRisen (O.faults out.old) (O.faults out.new)
+        → result ≢ ReplayEnd.NoMemory
+        → IfSome (I.left input.old) (λ bytes. AnswersWhole (replay_of Ended bytes) (O.written out.old) (O.written out.new) result) }
+    ensures done { IfDone result (Completes (I.left input.old) (I.left input.new) (O.written out.old) (O.written out.new) result) }
+
+    // The faults of the outside.
+    ensures read_fault { result ≡ ReplayEnd.ReadFault → HasRisen (I.faults input.old) (I.faults input.new) }
+    ensures write_fault { result ≡ ReplayEnd.WriteFault → HasRisen (O.faults out.old) (O.faults out.new) }
+    ensures source_faults { I.faults input.old ≤ I.faults input.new }
+    ensures sink_faults { O.faults out.old ≤ O.faults out.new }
+{
+    run(alloc, input)
+}
+
+/// The end of a replay that has no event.
+fn run<I: Source>(alloc: Global, input: &mut I) -> ReplayEnd
+    ensures takes { Takes (I.left input.old) (I.left input.new) (HasRisen (I.faults input.old) (I.faults input.new)) result }
+    ensures never_falls { I.faults input.old ≤ I.faults input.new }
+{
+    let mut reader = Reader::new();
+    match reader.read_head(alloc, input) {
+        Ok(schedule) => reader.read_event(input, &schedule),
+        Err(end) => end,
+    }
+}

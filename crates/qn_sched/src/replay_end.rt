@@ -1,0 +1,51 @@
+use qn_conf::ConfFault;
+use qn_model::{LineFault, Rule, Timing};
+use qn_settings::SettingsFault;
+
+/// How a replay ended. Lines are those of the whole input, from 1.
+#[derive(Clone, Copy, PartialEq, Eq, Debug)]
+pub enum ReplayEnd {
+    /// The input was read to its end, and every line was good: so many were events.
+    Done { events: u64 },
+    /// The settings text is no configuration. Want of memory is `NoMemory`, and never stands here.
+    BadConf(ConfFault),
+    /// The settings text is a configuration, and gives no settings.
+    BadSettings(SettingsFault),
+    /// The line is at fault.
+    BadSchedule { line: u64, fault: LineFault },
+    /// The event of the line is refused by a rule of the world.
+    NotAllowed { line: u64, rule: Rule },
+    /// A read failed, and no line before it is at fault.
+    ReadFault,
+    /// A write failed.
+    WriteFault,
+    /// The times of the timing line are in range, and not safe.
+    UnsafeTiming(Timing),
+    /// Memory was wanted and not there.
+    NoMemory,
+}
+
+impl From<ConfFault> for ReplayEnd {
+    ghost use Rattle.std.specs.Prelude.{◌≡◌};
+    ghost use Rattle.qn_sched.specs.Ends.{end_of_conf};
+
+    ghost from_gives = { λ fault end. end ≡ end_of_conf fault };
+
+    fn from(fault: ConfFault) -> ReplayEnd {
+        match fault {
+            ConfFault::NoMemory => ReplayEnd::NoMemory,
+            fault => ReplayEnd::BadConf(fault),
+        }
+    }
+}
+
+impl From<SettingsFault> for ReplayEnd {
+    ghost use Rattle.std.specs.Prelude.{◌≡◌};
+    ghost use Rattle.qn_sched.specs.declared.replay_end.ReplayEnd.TheVariants.{BadSettings};
+
+    ghost from_gives = { λ fault end. end ≡ BadSettings fault };
+
+    fn from(fault: SettingsFault) -> ReplayEnd {
+        ReplayEnd::BadSettings(fault)
+    }
+}
