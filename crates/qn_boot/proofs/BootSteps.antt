@@ -1,6 +1,7 @@
 -- One entry more in the log of a node that boots.
 use Rattle.std.proofs.Common.{◌≡◌, ℕ, Bool, true, false, List, [], ◌++◌, Option, None, Some, length, refl, ap, ◌∙◌, eq-eqb}
 use Rattle.std.specs.Prelude.{not}
+use Rattle.std.specs.Option.{option_or}
 use Rattle.qn_model.specs.declared.configuration.Settings.{Settings}
 use Rattle.qn_model.specs.declared.seen.HeaderSeen.{HeaderSeen}
 use Rattle.qn_model.specs.declared.seen.HeaderSeen.TheVariants as header
@@ -13,8 +14,10 @@ use Rattle.qn_model.specs.declared.outputs.DiskOp.TheVariants as disk
 use Rattle.qn_model.specs.declared.outputs.Out.TheVariants as out
 use Rattle.qn_model.specs.declared.times.Timing.{Timing}
 use Rattle.qn_model.specs.Timing.{is_safe}
-use Rattle.qn_model.specs.Log.{Line, claimed, disk_of, op_out, timing}
+use Rattle.qn_model.specs.Log.{Line, claim_of, claimed, disk_of, has_start, has_stop, op_out, timing, view_of}
 use Rattle.qn_model.specs.Phases.{boot_halt, in_time, next_phase, phase}
+use Rattle.qn_model.specs.Holding.{holds, stop_due}
+use Rattle.qn_model.specs.NodeVotes.{view}
 use Rattle.qn_model.specs.NodeOutputs.{boot_outs, disk_outs, is_begin, is_boot_step, outs_at, taken_in, when, with_read}
 use Rattle.qn_model.specs.Wanted.{asks_mail, boot_op, claim_after, mail_tick, rank_of}
 use Rattle.qn_boot.specs.declared.steps.WantHeader.{WantHeader}
@@ -30,45 +33,101 @@ disk_of-step true None = refl
 disk_of-step false (Some op) = refl
 disk_of-step false None = refl
 
+starts-step : (feed : Bool) (op : Option DiskOp) → has_start (when feed out.Feed ++ disk_outs op) ≡ false
+starts-step true (Some op) = refl
+starts-step true None = refl
+starts-step false (Some op) = refl
+starts-step false None = refl
+
+stops-step : (feed : Bool) (op : Option DiskOp) → has_stop (when feed out.Feed ++ disk_outs op) ≡ false
+stops-step true (Some op) = refl
+stops-step true None = refl
+stops-step false (Some op) = refl
+stops-step false None = refl
+
 -- what comes out of an entry while the node boots
 outs_of_boot : (s : Settings) (me : ℕ) (log : List Line) (tick : ℕ) (entry : What) → phase s log ≡ Booting
     → outs_at s me log tick entry (taken_in log tick entry) ≡ boot_outs s me entry
 unfolding outs_at
 outs_of_boot s me log tick entry booting = rw booting
 
--- the operation that a step of the boot asks for where it goes on
-op_of_boot : (s : Settings) (me : ℕ) (entry : What) → is_boot_step entry ≡ true → boot_halt s entry ≡ None
-    → disk_of (boot_outs s me entry) ≡ boot_op me entry
-op_of_boot s me entry step on = rw (step, on) (disk_of-step (not (is_begin entry)) (boot_op me entry))
+-- an entry is a step of the boot that goes on and asks for an operation
+record GoesOn (s : Settings) (me : ℕ) (entry : What) (after : DiskOp) : Type 0 where
+  is_step : is_boot_step entry ≡ true
+  goes_on : boot_halt s entry ≡ None
+  asks : boot_op me entry ≡ Some after
+  is_no_view : view_of entry ≡ None
 
-asked_by_boot : (s : Settings) (me : ℕ) (log : List Line) (tick : ℕ) (entry : What) (after : DiskOp)
-    → phase s log ≡ Booting → is_boot_step entry ≡ true → boot_halt s entry ≡ None → boot_op me entry ≡ Some after
+-- what comes out of such a step
+outs_of_step : (s : Settings) (me : ℕ) (log : List Line) (tick : ℕ) (entry : What) (after : DiskOp)
+    → phase s log ≡ Booting → GoesOn s me entry after
+    → outs_at s me log tick entry (taken_in log tick entry) ≡ when (not (is_begin entry)) out.Feed ++ disk_outs (Some after)
+outs_of_step s me log tick entry after booting step =
+    outs_of_boot s me log tick entry booting ∙ rw (step.is_step, step.goes_on, step.asks)
+
+-- nothing but the boot has happened in a log, apart from where it stands and what it claimed
+record IsQuiet (log : List Line) : Type 0 where
+  has_no_view : view log ≡ None
+  holds_nothing : holds log ≡ false
+  stops_nothing : stop_due log ≡ false
+
+quiet_step : (s : Settings) (me : ℕ) (log : List Line) (tick : ℕ) (entry : What) (after : DiskOp)
+    → phase s log ≡ Booting → GoesOn s me entry after → IsQuiet log → IsQuiet (with_read s me log tick entry)
+unfolding view holds stop_due
+quiet_step s me log tick entry after booting step quiet =
+    let outs = outs_of_step s me log tick entry after booting step in
+    let feed = not (is_begin entry) in
+    record {
+      has_no_view = rw (step.is_no_view, quiet.has_no_view);
+      holds_nothing = rw (outs, starts-step feed (Some after), quiet.holds_nothing);
+      stops_nothing = rw (outs, stops-step feed (Some after), quiet.stops_nothing);
+    }
+
+quiet_of : {s : Settings} {op : DiskOp} {number : Option ℕ} {log : List Line} → BootFor s op number log → IsQuiet log
+quiet_of waits = record {
+  has_no_view = waits.has_no_view;
+  holds_nothing = waits.holds_nothing;
+  stops_nothing = waits.stops_nothing;
+}
+
+asked_by_step : (s : Settings) (me : ℕ) (log : List Line) (tick : ℕ) (entry : What) (after : DiskOp)
+    → phase s log ≡ Booting → GoesOn s me entry after
     → disk_of (outs_at s me log tick entry (taken_in log tick entry)) ≡ Some after
-asked_by_boot s me log tick entry after booting step on asks =
-    ap disk_of (outs_of_boot s me log tick entry booting) ∙ (op_of_boot s me entry step on ∙ asks)
+asked_by_step s me log tick entry after booting step =
+    ap disk_of (outs_of_step s me log tick entry after booting step) ∙ disk_of-step (not (is_begin entry)) (Some after)
 
--- a step that goes on asks for the next operation
-boot_step : (s : Settings) (me : ℕ) (log : List Line) (tick : ℕ) (entry : What) (after : DiskOp)
-    → phase s log ≡ Booting → mail_tick log ≡ 0
-    → is_boot_step entry ≡ true → boot_halt s entry ≡ None → boot_op me entry ≡ Some after
+-- a step that goes on and leaves the node booting
+boot_step : (s : Settings) (me : ℕ) (log : List Line) (tick : ℕ) (entry : What) (after : DiskOp) (before number : Option ℕ)
+    → phase s log ≡ Booting → mail_tick log ≡ 0 → claimed log ≡ before → IsQuiet log
+    → GoesOn s me entry after
     → asks_mail (Some after) ≡ false
+    → option_or (claim_of (Some after)) before ≡ number
     → ((timely : Bool) → next_phase s entry timely Booting ≡ Booting)
-    → BootFor s after (with_read s me log tick entry)
-unfolding phase op_out mail_tick
-boot_step s me log tick entry after booting unread step on asks other stays =
-    let asked = asked_by_boot s me log tick entry after booting step on asks in
+    → BootFor s after number (with_read s me log tick entry)
+unfolding phase op_out mail_tick claimed
+boot_step s me log tick entry after before number booting unread has quiet step other claims stays =
+    let asked = asked_by_step s me log tick entry after booting step in
+    let still = quiet_step s me log tick entry after booting step quiet in
     record {
       is_booting = rw booting (stays (in_time tick log));
       is_out = rw asked;
+      has_claimed = rw (asked, has) claims;
       is_unread = rw (asked, other) unread;
+      has_no_view = still.has_no_view;
+      holds_nothing = still.holds_nothing;
+      stops_nothing = still.stops_nothing;
     }
 
 pub begin_stands : (s : Settings) (me tick nodes : ℕ) → nodes ≡ length s.nodes
     → WantHeaderFor s (record { nodes = nodes }) (with_read s me [] tick what.Begin)
-unfolding phase mail_tick
+unfolding phase mail_tick claimed view holds stop_due
 begin_stands s me tick nodes count = record {
-  waits = boot_step s me [] tick what.Begin disk.ReadHeader refl refl refl refl refl refl (λ timely. refl);
-  count = count;
+  waits =
+      boot_step s me [] tick what.Begin disk.ReadHeader None None refl refl refl
+      (record { has_no_view = refl; holds_nothing = refl; stops_nothing = refl })
+      (record { is_step = refl; goes_on = refl; asks = refl; is_no_view = refl })
+      refl refl (λ timely. refl);
+  has_count = count;
 }
 
 -- a header for as many nodes with safe times goes on
@@ -86,8 +145,11 @@ pub header_stands : (s : Settings) (me tick nodes : ℕ) (seen : HeaderSeen) (ti
 unfolding timing
 header_stands s me tick nodes seen times want log is on stands =
     let waits = stands.waits in
+    let step : GoesOn s me (what.Header seen) (disk.ReadSlot (rank_of me)) =
+    record { is_step = refl; goes_on = on; asks = refl; is_no_view = refl } in
     record {
-      waits = boot_step s me log tick (what.Header seen) (disk.ReadSlot (rank_of me)) waits.is_booting waits.is_unread refl on refl refl (λ timely. rw on);
+      waits =
+          boot_step s me log tick (what.Header seen) (disk.ReadSlot (rank_of me)) None None waits.is_booting waits.is_unread waits.has_claimed (quiet_of waits) step refl refl (λ timely. rw on);
       has_times = rw is;
     }
 
@@ -97,15 +159,16 @@ pub slot_stands : (s : Settings) (me tick : ℕ) (seen : SlotSeen) (before : Wan
     → after.times ≡ before.times
     → WantSlotFor s me before log
     → WantClaimFor s after (with_read s me log tick (what.SlotRead (rank_of me) seen))
-unfolding timing claimed
+unfolding timing
 slot_stands s me tick seen before after log on claims times stands =
     let waits = stands.waits in
     let entry = what.SlotRead (rank_of me) seen in
-    let asked = asked_by_boot s me log tick entry (disk.WriteClaim after.claims) waits.is_booting refl on claims in
+    let op = disk.WriteClaim after.claims in
+    let step : GoesOn s me entry op = record { is_step = refl; goes_on = on; asks = claims; is_no_view = refl } in
     record {
-      waits = boot_step s me log tick entry (disk.WriteClaim after.claims) waits.is_booting waits.is_unread refl on claims refl (λ timely. rw on);
+      waits =
+          boot_step s me log tick entry op None (Some after.claims) waits.is_booting waits.is_unread waits.has_claimed (quiet_of waits) step refl refl (λ timely. rw on);
       has_times = times ∙ stands.has_times;
-      has_claimed = rw asked;
     }
 
 pub claim_stands : (s : Settings) (me tick : ℕ) (ok : Bool) (before : WantClaim) (after : WantClear) (log : List Line)
@@ -114,16 +177,15 @@ pub claim_stands : (s : Settings) (me tick : ℕ) (ok : Bool) (before : WantClai
     → after.claims ≡ before.claims
     → WantClaimFor s before log
     → WantClearFor s after (with_read s me log tick (what.Claimed ok))
-unfolding timing claimed
+unfolding timing
 claim_stands s me tick ok before after log good times claims stands =
     let waits = stands.waits in
     let entry = what.Claimed ok in
-    let on : boot_halt s entry ≡ None = rw good in
-    let asked = asked_by_boot s me log tick entry disk.WriteClear waits.is_booting refl on refl in
+    let step : GoesOn s me entry disk.WriteClear = record { is_step = refl; goes_on = rw good; asks = refl; is_no_view = refl } in
     record {
-      waits = boot_step s me log tick entry disk.WriteClear waits.is_booting waits.is_unread refl on refl refl (λ timely. rw good);
+      waits =
+          boot_step s me log tick entry disk.WriteClear (Some before.claims) (Some after.claims) waits.is_booting waits.is_unread waits.has_claimed (quiet_of waits) step refl (rw claims) (λ timely. rw good);
       has_times = times ∙ stands.has_times;
-      has_claimed = rw (asked, claims) stands.has_claimed;
     }
 
 pub clear_stands : (s : Settings) (me : ℕ) (ok : Bool) (before : WantClear) (ready : Ready) (log : List Line)
@@ -136,62 +198,64 @@ unfolding phase op_out mail_tick timing claimed
 clear_stands s me ok before ready log good times number stands =
     let waits = stands.waits in
     let entry = what.Cleared ok in
-    let on : boot_halt s entry ≡ None = rw good in
-    let asked = asked_by_boot s me log ready.tick entry disk.ReadMail waits.is_booting refl on refl in
+    let step : GoesOn s me entry disk.ReadMail = record { is_step = refl; goes_on = rw good; asks = refl; is_no_view = refl } in
+    let asked = asked_by_step s me log ready.tick entry disk.ReadMail waits.is_booting step in
+    let still = quiet_step s me log ready.tick entry disk.ReadMail waits.is_booting step (quiet_of waits) in
     record {
       is_up = rw good;
       is_out = rw asked;
+      has_tick = refl;
       is_asked = rw asked;
       has_times = times ∙ stands.has_times;
-      has_claimed = rw (asked, number) stands.has_claimed;
-      has_tick = refl;
+      has_claimed = rw (asked, number) waits.has_claimed;
+      has_no_view = still.has_no_view;
+      holds_nothing = still.holds_nothing;
+      stops_nothing = still.stops_nothing;
     }
 
 -- an entry that is read as a Tick
-boot_waits : (s : Settings) (me tick : ℕ) (op : DiskOp) (log : List Line) → BootFor s op log
-    → BootFor s op (with_read s me log tick what.Tick)
-unfolding phase op_out mail_tick
-boot_waits s me tick op log waits =
+boot_waits : (s : Settings) (me tick : ℕ) (op : DiskOp) (number : Option ℕ) (log : List Line) → BootFor s op number log
+    → BootFor s op number (with_read s me log tick what.Tick)
+unfolding phase op_out mail_tick claimed view holds stop_due
+boot_waits s me tick op number log waits =
     let nothing = outs_of_boot s me log tick what.Tick waits.is_booting in
     record {
       is_booting = waits.is_booting;
       is_out = rw nothing waits.is_out;
+      has_claimed = rw nothing waits.has_claimed;
       is_unread = rw nothing waits.is_unread;
+      has_no_view = waits.has_no_view;
+      holds_nothing = rw (nothing, waits.holds_nothing);
+      stops_nothing = rw (nothing, waits.stops_nothing);
     }
-
-claim_waits : (s : Settings) (me tick : ℕ) (log : List Line) → phase s log ≡ Booting
-    → claimed (with_read s me log tick what.Tick) ≡ claimed log
-unfolding claimed
-claim_waits s me tick log booting = rw (outs_of_boot s me log tick what.Tick booting)
 
 pub header_waits : (s : Settings) (me tick : ℕ) (want : WantHeader) (log : List Line) → WantHeaderFor s want log
     → WantHeaderFor s want (with_read s me log tick what.Tick)
-header_waits s me tick want log stands = record { waits = boot_waits s me tick disk.ReadHeader log stands.waits; count = stands.count }
+header_waits s me tick want log stands = record {
+  waits = boot_waits s me tick disk.ReadHeader None log stands.waits;
+  has_count = stands.has_count;
+}
 
 pub slot_waits : (s : Settings) (me tick : ℕ) (want : WantSlot) (log : List Line) → WantSlotFor s me want log
     → WantSlotFor s me want (with_read s me log tick what.Tick)
 unfolding timing
-slot_waits s me tick want log stands =
-    record { waits = boot_waits s me tick (disk.ReadSlot (rank_of me)) log stands.waits; has_times = stands.has_times }
+slot_waits s me tick want log stands = record {
+  waits = boot_waits s me tick (disk.ReadSlot (rank_of me)) None log stands.waits;
+  has_times = stands.has_times;
+}
 
-pub claimed_waits : (s : Settings) (me tick : ℕ) (want : WantClaim) (log : List Line) → WantClaimFor s want log
+pub claim_waits : (s : Settings) (me tick : ℕ) (want : WantClaim) (log : List Line) → WantClaimFor s want log
     → WantClaimFor s want (with_read s me log tick what.Tick)
 unfolding timing
-claimed_waits s me tick want log stands =
-    let waits = stands.waits in
-    record {
-      waits = boot_waits s me tick (disk.WriteClaim want.claims) log waits;
-      has_times = stands.has_times;
-      has_claimed = claim_waits s me tick log waits.is_booting ∙ stands.has_claimed;
-    }
+claim_waits s me tick want log stands = record {
+  waits = boot_waits s me tick (disk.WriteClaim want.claims) (Some want.claims) log stands.waits;
+  has_times = stands.has_times;
+}
 
 pub clear_waits : (s : Settings) (me tick : ℕ) (want : WantClear) (log : List Line) → WantClearFor s want log
     → WantClearFor s want (with_read s me log tick what.Tick)
 unfolding timing
-clear_waits s me tick want log stands =
-    let waits = stands.waits in
-    record {
-      waits = boot_waits s me tick disk.WriteClear log waits;
-      has_times = stands.has_times;
-      has_claimed = claim_waits s me tick log waits.is_booting ∙ stands.has_claimed;
-    }
+clear_waits s me tick want log stands = record {
+  waits = boot_waits s me tick disk.WriteClear (Some want.claims) log stands.waits;
+  has_times = stands.has_times;
+}

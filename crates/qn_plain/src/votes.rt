@@ -16,8 +16,3 @@ pub fn vote_answer(settings: &Settings, votes: &[VoteEntry], tick: u64) -> Answe
     }
     tally.answer(settings, tick)
 }
-
-#[cfg(test)]
-mod rows;
-#[cfg(test)]
-mod tests;

@@ -1,4 +1,4 @@
-use Rattle.qn_boot.proofs.BootSteps.{claimed_waits, clear_waits, header_waits, slot_waits}
+use Rattle.qn_boot.proofs.BootSteps.{claim_waits, clear_waits, header_waits, slot_waits}
 use Rattle.qn_boot.proofs.laws.law_boot_waits.Goals as goal
 
 pub returns-clause-header : goal.returns-clause-header
@@ -8,7 +8,7 @@ pub returns-clause-slot : goal.returns-clause-slot
 returns-clause-slot c = slot_waits
 
 pub returns-clause-claim : goal.returns-clause-claim
-returns-clause-claim c = claimed_waits
+returns-clause-claim c = claim_waits
 
 pub returns-clause-clear : goal.returns-clause-clear
 returns-clause-clear c = clear_waits

@@ -1,43 +1,19 @@
-use super::{rows, *};
 use qn_base::{Mask, NodeId, View};
-use qn_model::{Device, NodeEntry, Nodes, VoteWhat};
+use qn_model::{Answer, Device, NodeEntry, Nodes, Settings, VoteEntry, VoteWhat};
 use std::alloc::Global;
-use std::process::Abort;
 use std::test::Fail;
 
 /// A row of the table: a vote list and its count at a tick.
 #[derive(Drop)]
-struct Row {
-    settings: Settings,
-    votes: Vec<VoteEntry>,
-    tick: u64,
-    answer: Answer,
+pub struct Row {
+    pub settings: Settings,
+    pub votes: Vec<VoteEntry>,
+    pub tick: u64,
+    pub answer: Answer,
 }
 
-#[test]
-fn counts_from_outside(rt: HostRuntime) -> Result<(), Fail> {
-    let alloc = rt.alloc();
-    check_rows(&rt, alloc, rows::worked())?;
-    check_rows(&rt, alloc, rows::last_man_alone())?;
-    check_rows(&rt, alloc, rows::last_man_waits())?;
-    check_rows(&rt, alloc, rows::last_man_with_device())?;
-    check_rows(&rt, alloc, rows::two_nodes())?;
-    check_rows(&rt, alloc, rows::device_alone())?;
-    check_rows(&rt, alloc, rows::device_waits_few())?;
-    check_rows(&rt, alloc, rows::device_waits_many())?;
-    check_rows(&rt, alloc, rows::plain())
-}
-
-fn check_rows(rt: &impl Abort, alloc: Global, rows: &[&str]) -> Result<(), Fail> {
-    for text in rows {
-        let row = row_of(alloc, text)?;
-        let answer = vote_answer(&row.settings, row.votes.as_slice(), row.tick);
-        assert_eq!(rt; answer, row.answer, "{text}");
-    }
-    Ok(())
-}
-
-fn row_of(alloc: Global, text: &str) -> Result<Row, Fail> {
+/// Reads a row of the table.
+pub fn row_of(alloc: Global, text: &str) -> Result<Row, Fail> {
     let mut parts = text.split(" | ");
     let _name = parts.next().ok_or("name")?;
     Ok(Row {
