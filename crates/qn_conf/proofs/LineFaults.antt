@@ -1,5 +1,5 @@
 -- The first line at fault, and the items of the lines without one.
-use Rattle.std.proofs.Common.{◌≡◌, ◌≢◌, ℕ, suc, zero, ◌+◌, ◌-◌, ◌<◌, ◌≤◌, List, [], ◌∷◌, ◌++◌, length, take, drop, get_or, Option, Some, None, refl, sym, ap, subst, ◌∙◌, ⊎_elim, arith, append_assoc, length-append, ◌⊎◌, inl, inr, add-one}
+use Rattle.std.proofs.Common.{◌≡◌, ℕ, suc, zero, ◌+◌, ◌<◌, ◌≤◌, List, [], ◌∷◌, ◌++◌, length, take, drop, get_or, Option, Some, None, refl, sym, ap, subst, ◌∙◌, ⊎_elim, arith, append_assoc, length-append, ◌⊎◌, inl, inr, add-one}
 use Rattle.std.specs.Prelude.{All}
 use Rattle.std.specs.Option.{option_map_or}
 use Rattle.std.proofs.lemmas.Bool.{cases_lt, cases_order}
@@ -7,11 +7,9 @@ use Rattle.std.proofs.lemmas.List.{take_more, take_all, take-append-drop, append
 use Rattle.std.proofs.lemmas.List.Elements.{All-from_get_or, All-get_or}
 use Rattle.std.proofs.Math.Seq.{take-append_seam, get_or-append_seam}
 use Rattle.qn_conf.specs.declared.faults.ConfFault.{ConfFault}
-use Rattle.qn_conf.specs.declared.faults.ConfFault.TheVariants.{BadLine, ExtraClose, TooDeep}
 use Rattle.qn_conf.specs.declared.tree.Item.{Item}
-use Rattle.qn_conf.specs.declared.tree.Item.TheVariants.{Enter, Exit, Pair}
 use Rattle.qn_conf.specs.Line.{item_in, meaning_of, IsKnown}
-use Rattle.qn_conf.specs.Nesting.{IsNested, begins, ends}
+use Rattle.qn_conf.specs.Nesting.{IsNested}
 use Rattle.qn_conf.specs.Conf.{items_of, fault_at, fault_after, first_fault, IsFirstOfLines}
 use Rattle.qn_conf.proofs.NestingLemmas.{step, step_back, IsNested-front}
 

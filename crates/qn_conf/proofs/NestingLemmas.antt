@@ -1,5 +1,5 @@
 -- Nesting, one item at a time.
-use Rattle.std.proofs.Common.{◌≡◌, ℕ, ◌+◌, ◌-◌, ◌<◌, ◌≤◌, ◌==◌, Bool, true, false, cond, List, [], ◌∷◌, ◌++◌, length, take, count_by, Option, Some, None, sym, ap, ◌∙◌, refl, ⊎_elim, arith, ◌≢◌, length-append}
+use Rattle.std.proofs.Common.{◌≡◌, ℕ, ◌+◌, ◌-◌, ◌<◌, ◌≤◌, ◌==◌, Bool, true, false, cond, List, [], ◌∷◌, ◌++◌, length, take, count_by, Some, None, sym, refl, ⊎_elim, arith, ◌≢◌, length-append}
 use Rattle.std.proofs.lemmas.List.{take-append-le, take_all, append-nil}
 use Rattle.std.proofs.lemmas.List.Sums.{sum_by_push}
 use Rattle.std.proofs.lemmas.Bool.{cases_lt, false≢true}
@@ -7,14 +7,14 @@ use borrow.Author.Tests.{eqb-false}
 use Rattle.std.proofs.Math.Seq.{take-append_seam}
 use Rattle.std.proofs.lemmas.Bool.Decides.{eqb_tells}
 use Rattle.qn_conf.specs.declared.faults.ConfFault.{ConfFault}
-use Rattle.qn_conf.specs.declared.faults.ConfFault.TheVariants.{BadLine, ExtraClose, TooDeep}
+use Rattle.qn_conf.specs.declared.faults.ConfFault.TheVariants.{ExtraClose, TooDeep}
 use Rattle.qn_conf.specs.declared.tree.Item.{Item}
 use Rattle.qn_conf.specs.declared.tree.Item.TheVariants.{Enter, Exit, Pair}
 use Rattle.qn_conf.specs.declared.line.Meaning.{Meaning}
 use Rattle.qn_conf.specs.declared.line.Meaning.TheVariants.{PassedOver, Says, Bad}
 use Rattle.qn_conf.specs.Line.{item_in, IsKnown}
 use Rattle.qn_conf.specs.Nesting.{begins, ends, is_begin, is_end, IsNested}
-use Rattle.qn_conf.specs.Conf.{fault_in, fault_of}
+use Rattle.qn_conf.specs.Conf.{fault_in}
 
 -- what is counted in a list and in one item after it
 pub count_by-push :

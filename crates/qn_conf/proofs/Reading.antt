@@ -1,5 +1,5 @@
 -- What the reader keeps of the lines that it has read.
-use Rattle.std.proofs.Common.{◌≡◌, ℕ, ◌+◌, ◌-◌, ◌<◌, ◌≤◌, List, [], ◌∷◌, ◌++◌, length, take, drop, get_or, if◌then◌else◌, ◌==◌, Option, Some, None, Result, Ok, Err, refl, sym, ap, subst, ◌∙◌, arith, length-append}
+use Rattle.std.proofs.Common.{◌≡◌, ℕ, ◌+◌, ◌-◌, ◌<◌, List, [], ◌∷◌, ◌++◌, length, take, drop, get_or, if◌then◌else◌, ◌==◌, Option, Some, None, Result, Ok, Err, refl, sym, ap, ◌∙◌, arith, length-append}
 use Rattle.std.proofs.lemmas.List.{append-nil, take_more, drop_more, take_all, drop_all}
 use Rattle.std.specs.Option.{option_map_or}
 use Rattle.qn_conf.specs.declared.faults.ConfFault.{ConfFault}
@@ -9,7 +9,7 @@ use Rattle.qn_conf.specs.declared.tree.Item.TheVariants.{Enter, Exit, Pair}
 use Rattle.qn_conf.specs.declared.line.Meaning.{Meaning}
 use Rattle.qn_conf.specs.declared.line.Meaning.TheVariants.{PassedOver, Says, Bad}
 use Rattle.qn_conf.specs.Line.{item_in, meaning_of}
-use Rattle.qn_conf.specs.Nesting.{begins, ends, is_begin, is_end, depth_after, depth_after_all}
+use Rattle.qn_conf.specs.Nesting.{begins, ends, is_begin, is_end, depth_after_all}
 use Rattle.qn_conf.specs.Conf.{items_of, fault_in, fault_after, open_after, first_fault, tree_of, UnlessNoMemory}
 use Rattle.qn_conf.proofs.NestingLemmas.{count_by-push, no_fault}
 use Rattle.qn_conf.proofs.LineFaults.{items_of-push}

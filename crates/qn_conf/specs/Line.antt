@@ -1,5 +1,5 @@
 -- What one line of a settings text says: corosync.conf(5).
-use Rattle.std.specs.Prelude.{ℕ, ◌+◌, ◌-◌, ◌≡◌, ◌==◌, ◌||◌, ◌&&◌, not, Bool, if◌then◌else◌, List, [], ◌∷◌, Option, Some, None, length, take, drop, position, slice_index, unwrap_or, option_and_then}
+use Rattle.std.specs.Prelude.{ℕ, ◌+◌, ◌-◌, ◌==◌, ◌||◌, ◌&&◌, not, Bool, if◌then◌else◌, List, [], ◌∷◌, Option, Some, None, length, take, drop, position, slice_index, option_and_then}
 use Rattle.std.specs.List.{prefix_len, suffix_len, list_any}
 use Rattle.std.specs.Option.{option_map_or}
 use Rattle.qn_conf.specs.declared.tree.Item.{Item}

@@ -1,5 +1,5 @@
 -- Sections inside one another: corosync.conf(5); at most four is this project's profile.
-use Rattle.std.specs.Prelude.{ℕ, ◌+◌, ◌-◌, ◌≡◌, ◌≤◌, Bool, true, false, List, [], ◌∷◌, take, count_by}
+use Rattle.std.specs.Prelude.{ℕ, ◌+◌, ◌-◌, ◌≤◌, Bool, true, false, List, [], ◌∷◌, take, count_by}
 use Rattle.qn_conf.specs.declared.tree.Item.{Item}
 use Rattle.qn_conf.specs.declared.tree.Item.TheVariants.{Enter, Exit, Pair}
 

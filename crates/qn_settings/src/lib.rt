@@ -10,6 +10,8 @@ mod key;
 mod nodes;
 mod reading;
 mod section;
+#[cfg(test)]
+mod tests;
 mod values;
 
 pub use faults::SettingsFault;

@@ -1,8 +1,8 @@
-use Rattle.std.proofs.Common.{◌≡◌, ℕ, ◌+◌, ◌<◌, ◌==◌, List, [], ◌∷◌, length, get_or, take, drop, rules, tests, arith, refl, sym, ap, ◌∙◌, eqb}
+use Rattle.std.proofs.Common.{rules, tests, ◌∙◌, eqb}
 use Rattle.std.proofs.lemmas.Iterator.Consumers.{YieldsList-turn, YieldsList-end}
 use Rattle.std.proofs.lemmas.Iterator.Splits.{YieldsList-from_slice_split}
 use Rattle.std.proofs.lemmas.List.{length_push}
-use Rattle.qn_conf.specs.Conf.{lines, first_fault}
+use Rattle.qn_conf.specs.Conf.{lines}
 use Rattle.qn_conf.proofs.Reading.{HasReached-more, reached_fault, reached_all, failed, always}
 use Rattle.std.proofs.lemmas.Result.{err_from_is_err_and}
 use Rattle.qn_conf.proofs.reader.read_lines.Goals as goal

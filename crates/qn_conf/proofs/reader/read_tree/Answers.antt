@@ -1,7 +1,7 @@
-use Rattle.std.proofs.Common.{◌≡◌, List, ℕ, Result, Ok, Err, true, false}
+use Rattle.std.proofs.Common.{◌≡◌, Result, Ok, Err, true, false}
 use Rattle.std.specs.Result.{MatchResult, is_err}
 use Rattle.qn_conf.proofs.ConfLaws.{fault_exactly, lines_answer, long_answer, not_text_answer, tree_exactly}
-use Rattle.qn_conf.proofs.Reading.{always, weaker}
+use Rattle.qn_conf.proofs.Reading.{weaker}
 use Rattle.qn_conf.proofs.reader.read_tree.Goals as goal
 
 refused :
