@@ -9,6 +9,7 @@ use Rattle.qn_io.specs.Writes.{AppendsFront}
 use Rattle.qn_model.specs.declared.count_line.CountLine.{CountLine}
 use Rattle.qn_model.specs.declared.count_line.CountLine.TheVariants.{Node, View}
 use Rattle.qn_model.specs.declared.line_fault.LineFault.TheVariants.{TooLong}
+use Rattle.qn_model.specs.Inputs.{tells_more}
 use Rattle.qn_model.specs.Lines.{Ending, Ended, ReadFailed, Outcome, after, bad_line, read_fault}
 use Rattle.qn_model.specs.CountText.{Counted, end_of_input, go_on, last_line, line_of, text_of_line, with_line}
 use Rattle.qn_top.specs.declared.status.Status.{Status}
@@ -19,13 +20,6 @@ use Rattle.qn_io.specs.Outside.{append_known-append}
 use Rattle.qn_top.specs.Writing.{GivesOut}
 use Rattle.qn_top.proofs.GivenOut.{front_of_more, front_then, gives_then}
 use Rattle.qn_top.proofs.CountLines.{count_rest-last, count_rest-line, count_rest-long}
-
--- what follows from what the bytes tell, they tell too
-pub tells_more : {text_of : Ending → List ℕ → Outcome} {taken : List ℕ} {at_end failed : Type 0} (P Q : Outcome → Type 0)
-    → ((o : Outcome) → P o → Q o) → Tells text_of taken at_end failed P → Tells text_of taken at_end failed Q
-tells_more P Q weaker (Anyway always) = Anyway (λ ending more. weaker _ (always ending more))
-tells_more P Q weaker (AtEnd ended holds) = AtEnd ended (weaker _ holds)
-tells_more P Q weaker (AtFailure failed holds) = AtFailure failed (weaker _ holds)
 
 begins_with_all : (outcome o : Outcome) → o ≡ outcome → BeginsWith o.text outcome.text
 begins_with_all outcome o same = ([], ap (λ x. x.text) same ∙ sym (append-nil outcome.text))

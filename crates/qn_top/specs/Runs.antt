@@ -2,19 +2,9 @@
 use Rattle.std.specs.Prelude.{◌≡◌, ℕ, List, [], ◌++◌, Option}
 use Rattle.std.specs.Io.KnownBytes.{IsAtEnd, prepend_known, append_known}
 use Rattle.qn_io.specs.Writes.{AppendsFront}
-use Rattle.qn_model.specs.Lines.{Ending, Ended, ReadFailed, Outcome, lines_of}
+pub use Rattle.qn_model.specs.Inputs.{BeginsWith, Tells, Anyway, AtEnd, AtFailure}
+use Rattle.qn_model.specs.Lines.{Ending, Ended, Outcome, lines_of}
 use Rattle.qn_model.specs.CountText.{Counted, count_lines}
-
--- a text begins with another
-abbrev pub BeginsWith : List ℕ → List ℕ → Type 0
-BeginsWith text front = (rest : List ℕ) × (text ≡ front ++ rest)
-
--- What the bytes that were taken tell of the outcome: anyway, whatever follows them and however the input
--- ends; or as the whole input; or as all that came before a read failed.
-pub data Tells (text_of : Ending → List ℕ → Outcome) (taken : List ℕ) (at_end failed : Type 0) (Holds : Outcome → Type 0) : Type 0 where
-  Anyway : ((ending : Ending) (more : List ℕ) → Holds (text_of ending (taken ++ more))) → Tells text_of taken at_end failed Holds
-  AtEnd : at_end → Holds (text_of Ended taken) → Tells text_of taken at_end failed Holds
-  AtFailure : failed → Holds (text_of ReadFailed taken) → Tells text_of taken at_end failed Holds
 
 -- a text was written behind what waits, and the status is the wanted one; or the sink failed, a front of
 -- both was written, and the status is 7
