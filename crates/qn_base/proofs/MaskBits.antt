@@ -1,9 +1,9 @@
 -- One bit of a mask after an operation on masks.
 use Rattle.std.proofs.Common.{◌≡◌, ◌≢◌, ℕ, ◌+◌, ◌-◌, ◌*◌, ◌%◌, ◌^◌, ◌<◌, ◌≤◌, Bool, true, false, not, ◌&&◌, ◌||◌, ◌⊎◌, inl, inr, min, refl, sym, ◌∙◌, ap, arith, subst, eq-eqb}
 use Rattle.std.proofs.lemmas.Bool.{false≢true}
-use Rattle.std.specs.Prelude.{◌==◌, bit_and, bit_or, bit_xor}
+use Rattle.std.specs.Prelude.{◌==◌, nat_lt, bit_and, bit_or, bit_xor}
 use Rattle.std.specs.Int.{bit_at, w32, bit_not, trailing_zeros}
-use Rattle.std.proofs.lemmas.Nat.Bits.{bit_at-lt, bit_at_and, bit_at_xor, bit_at_not, bit_at_set_same, bit_at_set_other, bit_at-zero, bit_at-trailing_zeros}
+use Rattle.std.proofs.lemmas.Nat.Bits.{bit_at-lt, bit_at_and, bit_at_xor, bit_at_not, bit_at_set_same, bit_at_set_other, bit_at-zero, bit_at-trailing_zeros, bit_at_above}
 use Rattle.std.proofs.lemmas.Bool.Decides.{nat_tests, Decides-eqb}
 
 -- a bit is 0 or 1
@@ -61,3 +61,9 @@ none_below a some fits i below = ap (λ bit. bit == 1) ((bit_at-trailing_zeros w
 -- 0 has no member
 pub no_bit : (a i : ℕ) → a ≤ 0 → (bit_at a i == 1) ≡ false
 no_bit a i none = let zero_mask : a ≡ 0 = omega arith in ap (λ mask. bit_at mask i == 1) zero_mask ∙ ap (λ bit. bit == 1) (bit_at-zero i)
+
+-- a rank past the mask's bits is no member
+pub beyond_bits : (a i : ℕ) → a < 2 ^ 32 → 32 ≤ i → nat_lt i 32 ≡ (bit_at a i == 1)
+beyond_bits a i fits beyond =
+    let past : nat_lt i 32 ≡ false = grind (arith, nat_tests) in
+    past ∙ sym (ap (λ bit. bit == 1) (bit_at_above a 32 i fits beyond))

@@ -4,6 +4,13 @@ ghost use Rattle.qn_base.specs.Members.{is_member};
 use crate::ids::{Mask, Rank};
 
 impl Mask {
+    /// Whether the rank is one of the members. A rank of 32 or more is none.
+    pub fn has(self, rank: Rank) -> bool
+        ensures { result ≡ is_member self rank.0 }
+    {
+        rank.0 < 32 && self.contains(rank)
+    }
+
     /// The members, and this rank too. A rank that is no rank of a mask, 32 or more, changes nothing.
     pub fn with(self, rank: Rank) -> Mask
         ensures { (j : ℕ) → j < 32 → is_member result j ≡ (rank.0 == j || is_member self j) }
@@ -60,6 +67,9 @@ mod tests {
     #[test]
     fn joins_and_parts_masks(rt: HostRuntime) {
         let some = Mask(0b1010);
+        assert_eq!(rt; some.has(Rank(3)), true);
+        assert_eq!(rt; some.has(Rank(2)), false);
+        assert_eq!(rt; some.has(Rank(32)), false);
         assert_eq!(rt; some.with(Rank(0)), Mask(0b1011));
         assert_eq!(rt; some.with(Rank(31)), Mask(0x8000_000a));
         assert_eq!(rt; some.with(Rank(32)), some);

@@ -1,10 +1,8 @@
 -- The members that a listener names.
-use Rattle.std.proofs.Common.{◌≡◌, ℕ, ◌^◌, ◌<◌, ◌≤◌, Bool, true, false, List, ◌∷◌, length, Some, None, refl, ◌&&◌, not, sym, ◌∙◌, ap, arith}
-use Rattle.std.specs.Prelude.{suc, zero, ◌+◌, [], filter, map, if◌then◌else◌, Option, unwrap_or, ◌==◌, nat_lt, IfSome, IfNone}
+use Rattle.std.proofs.Common.{◌≡◌, ℕ, ◌<◌, ◌≤◌, Bool, true, false, List, ◌∷◌, length, Some, None, refl, ◌&&◌, not, sym, ◌∙◌, ap, arith}
+use Rattle.std.specs.Prelude.{suc, zero, ◌+◌, [], filter, map, if◌then◌else◌, Option, unwrap_or, ◌==◌, IfSome, IfNone}
 use Rattle.std.specs.Option.{option_map, option_map_or, option_or}
 use Rattle.std.specs.List.{range_with_len}
-use Rattle.std.proofs.lemmas.Nat.Bits.{bit_at_above}
-use Rattle.std.proofs.lemmas.Bool.Decides.{nat_tests}
 use Rattle.qn_base.specs.declared.ids.Mask.{Mask}
 use Rattle.qn_base.specs.declared.ids.Rank.{Rank}
 use Rattle.qn_base.specs.declared.ids.View.{View}
@@ -21,12 +19,6 @@ use Rattle.qn_model.specs.Unmet.{holder, least_from, least_rank, unheard}
 use Rattle.qn_model.proofs.LeastMembers.{first-least}
 use Rattle.qn_heard.specs.declared.listener.Heard.{Heard}
 use Rattle.qn_heard.specs.Heard.{Hears, is_told}
-
--- a rank past the mask's bits is no member
-pub beyond_members : (members : Mask) (rank : ℕ) → members.0 < 2 ^ 32 → 32 ≤ rank → nat_lt rank 32 ≡ is_member members rank
-beyond_members members rank fits beyond =
-    let past : nat_lt rank 32 ≡ false = grind (arith, nat_tests) in
-    past ∙ sym (ap (λ bit. bit == 1) (bit_at_above members.0 32 rank fits beyond))
 
 held_parts : (other told free : Bool) → (other && told && not free) ≡ (other && (told && not free))
 held_parts true told free = refl

@@ -1,6 +1,3 @@
-ghost use Rattle.std.specs.Prelude.{◌≡◌};
-ghost use Rattle.qn_base.specs.Members.{is_member};
-
 use qn_base::{Mask, Rank, View};
 use qn_model::{Ask, Tell};
 
@@ -205,7 +202,7 @@ impl Heard {
             → released ≡ is_released s log
             → tells_sent ask.now.from result ≡ reply s me holds log ask.now }
     {
-        if !self.is_present(ask.view) || !is_rank_of(ask.view.members, ask.from) {
+        if !self.is_present(ask.view) || !ask.view.members.has(ask.from) {
             return None;
         }
         Some(Tell {
@@ -296,11 +293,4 @@ impl Heard {
             self.others()
         }
     }
-}
-
-/// Whether a rank is one of the members.
-fn is_rank_of(members: Mask, rank: Rank) -> bool
-    ensures { result ≡ is_member members rank.0 }
-{
-    rank.0 < 32 && members.contains(rank)
 }
