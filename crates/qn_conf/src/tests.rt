@@ -314,9 +314,15 @@ fn takes_1048576_bytes(rt: HostRuntime) -> Result<(), Fail> {
 #[test]
 fn says_what_to_mend(rt: HostRuntime) -> Result<(), Fail> {
     let close = format!(in rt.alloc(); "{}", ConfFault::ExtraClose { line: 7 })?;
-    assert_eq!(rt; close.as_str(), "line 7: `}` ends a section, and none is open");
+    assert_eq!(rt;
+        close.as_str(),
+        "line 7: `}` ends a section, and none is open"
+    );
     let unclosed = format!(in rt.alloc(); "{}", ConfFault::Unclosed)?;
-    assert_eq!(rt; unclosed.as_str(), "the text ends inside a section: a `}` is missing");
+    assert_eq!(rt;
+        unclosed.as_str(),
+        "the text ends inside a section: a `}` is missing"
+    );
     Ok(())
 }
 

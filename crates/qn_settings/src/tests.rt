@@ -472,9 +472,15 @@ fn gives_the_settings(rt: HostRuntime) -> Result<(), Fail> {
 #[test]
 fn says_what_to_mend(rt: HostRuntime) -> Result<(), Fail> {
     let number = format!(in rt.alloc(); "{}", SettingsFault::BadNumber { key: Key::TwoNode })?;
-    assert_eq!(rt; number.as_str(), "two_node: a value is no number in the range of the key");
+    assert_eq!(rt;
+        number.as_str(),
+        "two_node: a value is no number in the range of the key"
+    );
     let repeated = format!(in rt.alloc(); "{}", SettingsFault::RepeatedId { id: NodeId(2) })?;
-    assert_eq!(rt; repeated.as_str(), "nodelist: nodeid 2 stands in two node sections");
+    assert_eq!(rt;
+        repeated.as_str(),
+        "nodelist: nodeid 2 stands in two node sections"
+    );
     Ok(())
 }
 
