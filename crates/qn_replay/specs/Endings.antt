@@ -20,8 +20,8 @@ use Rattle.qn_sched.specs.TimingLine.{timing_of}
 use Rattle.qn_replay.specs.declared.schedule.Schedule.{Schedule}
 use Rattle.qn_replay.specs.Replay.{Replayed, counted_bytes, cut_in, end_of_events, ends, event_fault, event_lines, go_on, last_event, last_of_text, last_timing, replay_of, text_lines, timing_lines}
 
--- a replay of which the input was read to its end is not done at a read, one of which a read failed is never done, and
--- no input tells of a write or of memory
+-- an input that was read to its end gives no ReadFault, one of which a read failed is never Done, and no input tells of a
+-- write or of memory
 abbrev pub EndFits : ReplayEnd → Ending → Type 0
 EndFits (Done events) Ended = Unit {0}
 EndFits (Done events) ReadFailed = ⊥

@@ -12,7 +12,7 @@ mod rows;
 mod run;
 mod schedule;
 
-pub use rows::law_heads;
+pub use rows::{law_ending, law_heads, law_texts};
 pub use run::replay;
 
 #[cfg(test)]

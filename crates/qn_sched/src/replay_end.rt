@@ -7,7 +7,7 @@ use qn_settings::SettingsFault;
 pub enum ReplayEnd {
     /// The input was read to its end, and every line was good: so many were events.
     Done { events: u64 },
-    /// The settings text is no configuration. Want of memory is `NoMemory`, and never stands here.
+    /// The settings text is no configuration. Want of memory is `NoMemory` below.
     BadConf(ConfFault),
     /// The settings text is a configuration, and gives no settings.
     BadSettings(SettingsFault),

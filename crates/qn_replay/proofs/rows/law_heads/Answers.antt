@@ -13,10 +13,6 @@ use Rattle.qn_sched.specs.TimingLine.{time_of, times_of, times_of_words, timing_
 use Rattle.qn_replay.specs.Replay.{last_event, last_of_text, last_timing}
 use Rattle.qn_replay.proofs.rows.law_heads.Goals as goal
 
-pub returns-clause-empty : goal.returns-clause-empty
-unfolding last_of_text
-returns-clause-empty c = refl
-
 pub returns-clause-good : goal.returns-clause-good
 unfolding lib.Utf8.encode chars is_utf8 settings_in conf_of meaning_of trim is_name section_of pair_of fault_of settings_of entries_of key_in number_in last_of_text last_timing last_event safe_timing_in timing_of timing_of_words times_of_words times_of time_of number_between
 returns-clause-good c = refl
@@ -32,3 +28,7 @@ returns-clause-no_timing c = refl
 pub returns-clause-failed : goal.returns-clause-failed
 unfolding lib.Utf8.encode chars is_utf8 settings_in conf_of meaning_of trim is_name section_of pair_of fault_of settings_of entries_of key_in number_in last_of_text last_timing last_event safe_timing_in timing_of timing_of_words times_of_words times_of time_of number_between
 returns-clause-failed c = refl
+
+pub returns-clause-unsafe_times : goal.returns-clause-unsafe_times
+unfolding lib.Utf8.encode chars is_utf8 settings_in conf_of meaning_of trim is_name section_of pair_of fault_of settings_of entries_of key_in number_in last_of_text last_timing last_event safe_timing_in timing_of timing_of_words times_of_words times_of time_of number_between
+returns-clause-unsafe_times c = refl
