@@ -1,9 +1,8 @@
 -- What the end of a replay says of its input and of what was written.
-use Rattle.std.proofs.Common.{◌≡◌, ℕ, List, [], ◌∷◌, ◌++◌, Option, None, Some, IfSome, refl, sym, ap, ◌∙◌, subst, append_assoc, append-nil}
-use Rattle.std.specs.Io.KnownBytes.{IsAtEnd, prepend_known, append_known}
+use Rattle.std.proofs.Common.{◌≡◌, ℕ, List, [], ◌++◌, Option, None, Some, IfSome, refl, sym, ap, ◌∙◌, subst, append_assoc, append-nil}
+use Rattle.std.specs.Io.KnownBytes.{prepend_known, append_known}
 use Rattle.qn_io.specs.Outside.{append_known-nil}
-use Rattle.qn_io.specs.Writes.{AppendsFront}
-use Rattle.qn_model.specs.Inputs.{BeginsWith, Tells, Anyway, AtEnd, AtFailure}
+use Rattle.qn_model.specs.Inputs.{Tells, Anyway, AtEnd, AtFailure}
 use Rattle.qn_model.specs.Lines.{Ending, Ended, ReadFailed}
 use Rattle.qn_sched.specs.declared.replay_end.ReplayEnd.{ReplayEnd}
 use Rattle.qn_sched.specs.declared.replay_end.ReplayEnd.TheVariants.{Done, NoMemory, ReadFault, WriteFault}

@@ -1,5 +1,5 @@
 -- The settings of a whole text: they are good, or the text ends the replay.
-use Rattle.std.proofs.Common.{◌≡◌, ◌⊎◌, ◌+◌, ℕ, List, [], ◌∷◌, Option, Result, Ok, Err, refl, sym, ap, ◌∙◌, subst, inl, inr}
+use Rattle.std.proofs.Common.{◌≡◌, ◌⊎◌, ◌+◌, ℕ, List, Option, Result, Ok, Err, refl, sym, ap, ◌∙◌, subst, inl, inr}
 use Rattle.qn_conf.specs.declared.faults.ConfFault.{ConfFault}
 use Rattle.qn_conf.specs.declared.faults.ConfFault.TheVariants as conf
 use Rattle.qn_conf.specs.declared.tree.Item.{Item}

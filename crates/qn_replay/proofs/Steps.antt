@@ -1,12 +1,11 @@
 -- Taking the input step by step, up to the end.
-use Rattle.std.proofs.Common.{◌≡◌, ◌≤◌, ◌⊎◌, arith, ℕ, List, [], ◌∷◌, ◌++◌, Option, Result, Ok, Err, refl, sym, ap, ◌∙◌, subst, append_assoc, append-nil, inl, inr}
+use Rattle.std.proofs.Common.{◌≡◌, ◌≤◌, arith, ℕ, List, [], ◌∷◌, ◌++◌, Option, Result, Ok, Err, refl, sym, ap, ◌∙◌, subst, append_assoc}
 use Rattle.std.specs.Io.KnownBytes.{IsAtEnd, prepend_known}
 use Rattle.qn_io.specs.Outside.{HasRisen, prepend_known-append, prepend_known-nil}
-use Rattle.qn_model.specs.declared.configuration.Settings.{Settings}
 use Rattle.qn_model.specs.Inputs.{Tells, Anyway, AtEnd, AtFailure}
 use Rattle.qn_model.specs.Lines.{Ending, Ended, ReadFailed}
 use Rattle.qn_sched.specs.declared.replay_end.ReplayEnd.{ReplayEnd}
-use Rattle.qn_sched.specs.declared.replay_end.ReplayEnd.TheVariants.{NoMemory, ReadFault}
+use Rattle.qn_sched.specs.declared.replay_end.ReplayEnd.TheVariants.{NoMemory}
 use Rattle.qn_replay.specs.Reading.{EndsWith, GoesOn, IsNeeded, IsOpen, LastDecides, StillOpen, Stops, Told, Wanted}
 use Rattle.qn_replay.specs.Replay.{Replayed, ends, go_on, replay_of}
 use Rattle.qn_replay.specs.Runs.{Takes}

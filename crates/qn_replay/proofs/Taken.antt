@@ -1,16 +1,15 @@
 -- One more byte of a settings text.
-use Rattle.std.proofs.Common.{◌≡◌, ◌+◌, ◌<◌, ◌≤◌, ◌==◌, ℕ, Bool, true, false, List, [], ◌∷◌, ◌++◌, length, refl, sym, ap, ◌∙◌, subst, arith, append_assoc}
+use Rattle.std.proofs.Common.{◌≡◌, ◌+◌, ◌==◌, ℕ, false, List, [], ◌∷◌, ◌++◌, length, sym, ap, ◌∙◌, subst, arith, append_assoc}
 use Rattle.std.specs.Str.{bytes_eq}
 use Rattle.std.proofs.lemmas.List.{length-append}
 use Rattle.std.proofs.lemmas.List.Elements.{All-nil, All-push}
-use Rattle.qn_model.specs.LineLaws.{IsPartOfLine}
 use Rattle.qn_model.specs.Lines.{Ending, lines_of}
 use Rattle.qn_sched.specs.Head.{dashes}
 use Rattle.qn_replay.specs.declared.part_text.Taken.{Taken}
 use Rattle.qn_replay.specs.declared.part_text.Taken.TheVariants.{More, Whole, TooLong, NoMemory}
 use Rattle.qn_replay.specs.Reading.{MayGoOn, TextSoFar, text_rest, with_byte, with_end}
-use Rattle.qn_replay.specs.Replay.{counted_bytes, text_lines}
-use Rattle.qn_replay.specs.Taking.{Progresses, Takes, TakesMore}
+use Rattle.qn_replay.specs.Replay.{text_lines}
+use Rattle.qn_replay.specs.Taking.{Progresses, Takes}
 use Rattle.qn_replay.proofs.TextLines.{counted-whole, text_rest-full, text_rest-line, text_rest-long}
 
 -- the text with the byte has the same input to come

@@ -1,9 +1,7 @@
 -- How the end of a replay and the way in which its input ended belong together.
-use Rattle.std.specs.Prelude.{◌≡◌, ℕ, ◌+◌, Bool, true, false, cond, List, [], ◌∷◌, ◌++◌, length, nat_lt, Result, Ok, Err, IfErr}
+use Rattle.std.specs.Prelude.{ℕ, ◌+◌, Bool, true, false, cond, List, [], ◌∷◌, ◌++◌, length, nat_lt, Result, Ok, Err, IfErr}
 use Rattle.std.specs.Str.{bytes_eq}
-use Rattle.std.proofs.lemmas.Bool.{cond_both}
 use Rattle.qn_conf.specs.declared.faults.ConfFault.{ConfFault}
-use Rattle.qn_conf.specs.declared.faults.ConfFault.TheVariants as conf
 use Rattle.qn_conf.specs.declared.tree.Item.{Item}
 use Rattle.qn_conf.specs.Conf.{conf_of}
 use Rattle.qn_model.specs.declared.configuration.Settings.{Settings}
@@ -18,7 +16,7 @@ use Rattle.qn_sched.specs.declared.replay_end.ReplayEnd.TheVariants.{Done, BadCo
 use Rattle.qn_sched.specs.Head.{dashes, or_bad_settings, safe_or_not, safe_timing_in, settings_in, settings_of_tree}
 use Rattle.qn_sched.specs.TimingLine.{timing_of}
 use Rattle.qn_replay.specs.declared.schedule.Schedule.{Schedule}
-use Rattle.qn_replay.specs.Replay.{Replayed, counted_bytes, cut_in, end_of_events, ends, event_fault, event_lines, go_on, last_event, last_of_text, last_timing, replay_of, text_lines, timing_lines}
+use Rattle.qn_replay.specs.Replay.{Replayed, counted_bytes, cut_in, end_of_events, event_lines, go_on, last_event, last_of_text, last_timing, replay_of, text_lines, timing_lines}
 
 -- an input that was read to its end gives no ReadFault, one of which a read failed is never Done, and no input tells of a
 -- write or of memory

@@ -1,4 +1,4 @@
-use Rattle.std.proofs.Common.{◌≤◌, arith}
+use Rattle.std.proofs.Common.{arith}
 use Rattle.qn_replay.proofs.Steps.{risen_within, stops_then, stops_wider, takes_of_stop}
 use Rattle.qn_replay.proofs.run.run.Goals as goal
 

@@ -1,4 +1,4 @@
-use Rattle.std.proofs.Common.{◌≤◌, ap, ◌∙◌, arith, refl}
+use Rattle.std.proofs.Common.{arith}
 use Rattle.std.proofs.lemmas.Result.{err_from_is_err_and}
 use Rattle.qn_replay.proofs.SettingsSteps.{goes_to_timing, stops_at_settings}
 use Rattle.qn_replay.proofs.Steps.{goes_then, risen_within, stops_then, stops_wider}
