@@ -1,5 +1,9 @@
-mod Counted
 mod CountLines
+mod Counted
 mod GivenOut
+mod Listing
+mod OptionWords
+mod ReadTexts
 mod RunEnds
 mod Turned
+mod Working

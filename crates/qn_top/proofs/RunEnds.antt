@@ -107,3 +107,18 @@ run_complete (Some bytes) (Some rest) old new failed write_failed status run no_
     let takes = run.takes in
     let parts : bytes ≡ run.read ++ rest = cc in
     ends_complete parts no_failure no_write_failure run.ends
+
+no_eight : {status other : ℕ} → IsStatus other → status ≡ other → status ≡ 8 → ⊥
+no_eight (inl zero) same eight = omega arith
+no_eight (inr (inl four)) same eight = omega arith
+no_eight (inr (inr six)) same eight = omega arith
+
+ends_uncalled : {read : List ℕ} {at_end failed write_failed : Type 0} {old new : Option (List ℕ)} {status : ℕ}
+    → EndsAs count_of read [] at_end failed old new write_failed status → status ≡ 8 → ⊥
+ends_uncalled (WroteAll outcome tells is whole) eight = no_eight (tells_status outcome tells) is eight
+ends_uncalled (WroteFront text tells is fails front) eight = omega arith
+
+-- no run of `count` ends with status 8
+pub run_uncalled : (left_old left_new old new : Option (List ℕ)) (failed write_failed : Type 0) (status : ℕ)
+    → Runs count_of left_old left_new failed old new write_failed status → status ≡ 8 → ⊥
+run_uncalled left_old left_new old new failed write_failed status run eight = ends_uncalled run.ends eight

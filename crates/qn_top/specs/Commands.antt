@@ -1,11 +1,122 @@
 -- The words of the command line: this project's profile.
-use Rattle.std.specs.Prelude.{ℕ, List, [], ◌∷◌, Option, Some, None, codes, if◌then◌else◌}
+use Rattle.std.specs.Prelude.{◌≤◌, ◌==◌, ℕ, ◌||◌, List, [], ◌∷◌, Option, Some, None, codes, IsTrue, length, nat_lt, not, option_map, if◌then◌else◌}
+use Rattle.std.specs.Option.{option_map_or}
 use Rattle.std.specs.Str.{bytes_eq}
+use Rattle.qn_base.specs.Decimal.{number_of}
+use Rattle.qn_base.specs.declared.ids.NodeId.{NodeId}
+use Rattle.qn_model.specs.declared.disk.Message.{Message}
+use Rattle.qn_model.specs.declared.disk.Message.TheVariants.{Reset, Off, Crashdump}
+use Rattle.qn_model.specs.declared.times.Timing.{Timing}
+use Rattle.qn_model.specs.Lines.{parts}
+use Rattle.qn_model.specs.Sectors.{is_deadly}
+use Rattle.qn_model.specs.Timing.{has_periods}
 use Rattle.qn_top.specs.declared.command.Command.{Command}
-use Rattle.qn_top.specs.declared.command.Command.TheVariants.{Count}
+use Rattle.qn_top.specs.declared.command.Command.TheVariants as command
+use Rattle.qn_top.specs.declared.options.OptionName.TheVariants as option
+use Rattle.qn_top.specs.Options.{are_options, option_text, value_of}
+
+-- go on with the value, where there is one
+infixl 10 ◌>>=◌
+abbrev pub ◌>>=◌ : {A B : Type 0} → Option A → (A → Option B) → Option B
+None >>= next = None
+(Some value) >>= next = next value
+
+-- a number in a range; leading zeros are good
+unfoldable pub number_in : ℕ → ℕ → List ℕ → Option ℕ
+number_in least greatest word = do
+  number ← number_of word
+  if nat_lt number least || nat_lt greatest number then None else Some number
+
+-- the first of some parts as a time in milliseconds, and the parts behind it
+abbrev pub next_time : List (List ℕ) → Option (ℕ × List (List ℕ))
+next_time [] = None
+next_time (part ∷ parts) = do
+  time ← number_in 1 3600000 part
+  Some (time, parts)
+
+-- five times, parted by commas
+unfoldable pub timing_in : List ℕ → Option Timing
+timing_in text = do
+  first ← next_time (parts 44 text)
+  second ← next_time first.1
+  third ← next_time second.1
+  fourth ← next_time third.1
+  fifth ← next_time fourth.1
+  if not (length fifth.1 == 0) then None
+      else Some (record { watchdog = first.0; msgwait = second.0; loop_ms = third.0; read_limit = fourth.0; feed_delay = fifth.0 })
+
+-- sbd(8): the times where none are written; the last two are this project's profile
+abbrev pub default_timing : Timing
+default_timing = record { watchdog = 5000; msgwait = 10000; loop_ms = 1000; read_limit = 2000; feed_delay = 1000 }
+
+-- the times among the options
+unfoldable pub timing_of : List (List ℕ) → Option Timing
+timing_of options = option_map_or timing_in (value_of (option_text option.Timing) options) (Some default_timing)
+
+-- the id among the options
+unfoldable pub id_of : List (List ℕ) → Option NodeId
+id_of options = do
+  word ← value_of (option_text option.Id) options
+  id ← number_in 1 4294967295 word
+  Some (record { 0 = id })
+
+-- sbd(8), `message`: the messages that an operator may send
+abbrev pub kind_named : List ℕ → Option Message
+kind_named word =
+    if bytes_eq word (codes "reset") then Some Reset
+    else if bytes_eq word (codes "off") then Some Off
+    else if bytes_eq word (codes "crashdump") then Some Crashdump
+    else None
+
+-- the message among the options
+unfoldable pub kind_of : List (List ℕ) → Option Message
+kind_of options = do
+  word ← value_of (option_text option.Kind) options
+  kind_named word
+
+-- the path of an image, which is the only option
+unfoldable pub image_alone : List (List ℕ) → Option (List ℕ)
+image_alone options =
+    if not (are_options (option.Image ∷ []) options) then None else value_of (option_text option.Image) options
+
+-- `create`
+unfoldable pub create_of : List (List ℕ) → Option Command
+create_of options =
+    if not (are_options (option.Image ∷ option.Timing ∷ []) options) then None
+    else do
+      image ← value_of (option_text option.Image) options
+      timing ← timing_of options
+      Some (command.Create image timing)
+
+-- `message`
+unfoldable pub message_of : List (List ℕ) → Option Command
+message_of options =
+    if not (are_options (option.Image ∷ option.Id ∷ option.Kind ∷ []) options) then None
+    else do
+      image ← value_of (option_text option.Image) options
+      id ← id_of options
+      kind ← kind_of options
+      Some (command.Message image id kind)
+
+-- the command of this name, with these options
+abbrev pub command_named : List ℕ → List (List ℕ) → Option Command
+command_named name options =
+    if bytes_eq name (codes "count") then (if are_options [] options then Some command.Count else None)
+    else if bytes_eq name (codes "create") then create_of options
+    else if bytes_eq name (codes "dump") then option_map command.Dump (image_alone options)
+    else if bytes_eq name (codes "list") then option_map command.List (image_alone options)
+    else if bytes_eq name (codes "message") then message_of options
+    else None
 
 -- the command that the words are, where they are one
 abbrev pub command_of : List (List ℕ) → Option Command
 command_of [] = None
-command_of (word ∷ []) = if bytes_eq word (codes "count") then Some Count else None
-command_of (word ∷ next ∷ words) = None
+command_of (name ∷ options) = command_named name options
+
+-- a message of the words is deadly
+abbrev pub IsProper : Command → Type 0
+IsProper command.Count = Unit {0}
+IsProper (command.Create image timing) = Unit {0}
+IsProper (command.Dump image) = Unit {0}
+IsProper (command.List image) = Unit {0}
+IsProper (command.Message image id kind) = IsTrue (is_deadly kind)

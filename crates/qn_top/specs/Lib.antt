@@ -1,6 +1,11 @@
 pub mod Commands
 pub mod CountTurns
 pub mod Counting
+pub mod Faults
+pub mod ImageTexts
+pub mod ImageWorks
+pub mod Options
 pub mod Runs
 pub mod Statuses
+pub mod Works
 pub mod Writing

@@ -1,11 +1,17 @@
 -- The exit statuses: this project's profile.
 use Rattle.std.specs.Prelude.{ℕ}
 use Rattle.qn_top.specs.declared.status.Status.{Status}
-use Rattle.qn_top.specs.declared.status.Status.TheVariants.{Done, Usage, BadSchedule, ReadFault, WriteFault}
+use Rattle.qn_top.specs.declared.status.Status.TheVariants.{Done, Usage, BadConf, BadSchedule, ReadFault, WriteFault, EnvFault, BadImage, UnsafeTiming, NoMemory, UnknownNode}
 
 abbrev pub code_of : Status → ℕ
 code_of Done = 0
 code_of Usage = 2
+code_of BadConf = 3
 code_of BadSchedule = 4
 code_of ReadFault = 6
 code_of WriteFault = 7
+code_of EnvFault = 8
+code_of BadImage = 9
+code_of UnsafeTiming = 10
+code_of NoMemory = 11
+code_of UnknownNode = 16

@@ -1,19 +1,213 @@
-ghost use Rattle.std.specs.Prelude.{◌≡◌, map, string_bytes};
-ghost use Rattle.qn_top.specs.Commands.{command_of};
+ghost use Rattle.std.specs.Prelude.{◌≡◌, ◌≤◌, ◌==◌, map, string_bytes, length, IsTrue, IfSome, IfNone, None, Some};
+ghost use Rattle.std.specs.Option.{option_copied};
+ghost use Rattle.qn_model.specs.Sectors.{is_deadly};
+ghost use Rattle.qn_sched.specs.Words.{parts_left};
+ghost use Rattle.qn_top.specs.Commands.{IsProper, command_named, command_of, create_of, default_timing, id_of, image_alone, kind_of, message_of, next_time, number_in, timing_in, timing_of};
+ghost use Rattle.qn_top.specs.Options.{value_of};
+
+use crate::options::{OptionName, Path, are_options, value_of};
+use qn_base::{NodeId, read_decimal};
+use qn_model::{Message, Timing};
+use qn_sched::first_part;
 
 /// A command of the program, with its options.
-#[derive(Clone, Copy, PartialEq, Eq, Debug)]
-pub enum Command {
+#[derive(Drop)]
+pub enum Command<'words> {
     /// `count`: the votes of views, by plain majority.
     Count,
+    /// `create --image P [--timing W,M,L,R,S]`: makes an image for the settings of the input.
+    Create {
+        image: Path<'words>,
+        timing: Timing,
+    },
+    /// `dump --image P`: the header of the image.
+    Dump {
+        image: Path<'words>,
+    },
+    /// `list --image P`: a line for each node of the image.
+    List {
+        image: Path<'words>,
+    },
+    /// `message --image P --id N --kind KIND`: writes a deadly message to a node.
+    Message {
+        image: Path<'words>,
+        id: NodeId,
+        kind: Message,
+    },
 }
 
+/// The times of an image where none are written, in milliseconds (sbd(8), and this project's profile).
+const DEFAULT_TIMING: Timing = Timing {
+    watchdog: 5000,
+    msgwait: 10000,
+    loop_ms: 1000,
+    read_limit: 2000,
+    feed_delay: 1000,
+};
+
 /// The command that the words are, where they are one. The words are those behind the program's name.
-pub fn command_of(words: &[String]) -> Option<Command>
-    ensures { result ≡ command_of (map string_bytes words.now) }
+pub fn command_of(words: &[String]) -> Option<Command<'_>>
+    ensures command { result ≡ command_of (map string_bytes words.now) }
+    ensures proper { IfSome result IsProper }
 {
     match words {
-        [word] if word.as_str() == "count" => Some(Command::Count),
+        [name, options @ ..] => command_named(name.as_str(), options),
+        [] => None,
+    }
+}
+
+/// The command of this name with these options.
+fn command_named<'words>(name: &str, options: &'words [String]) -> Option<Command<'words>>
+    ensures command { result ≡ command_named name.now (map string_bytes options.now) }
+    ensures proper { IfSome result IsProper }
+{
+    if name == "count" {
+        are_options(&[], options).then_some(Command::Count)
+    } else if name == "create" {
+        create_of(options)
+    } else if name == "dump" {
+        let image = image_alone(options)?;
+        Some(Command::Dump { image })
+    } else if name == "list" {
+        let image = image_alone(options)?;
+        Some(Command::List { image })
+    } else if name == "message" {
+        message_of(options)
+    } else {
+        None
+    }
+}
+
+/// `create` with these options.
+#[tactic(auto, unfolding(crate::specs::Commands::create_of))]
+fn create_of(options: &[String]) -> Option<Command<'_>>
+    ensures command { result ≡ create_of (map string_bytes options.now) }
+    ensures proper { IfSome result IsProper }
+{
+    if !are_options(&[OptionName::Image, OptionName::Timing], options) {
+        return None;
+    }
+    let image = value_of(options, OptionName::Image)?;
+    let timing = timing_of(options)?;
+    Some(Command::Create { image, timing })
+}
+
+/// `message` with these options.
+#[tactic(auto, unfolding(crate::specs::Commands::message_of))]
+fn message_of(options: &[String]) -> Option<Command<'_>>
+    ensures command { result ≡ message_of (map string_bytes options.now) }
+    ensures proper { IfSome result IsProper }
+{
+    if !are_options(
+        &[OptionName::Image, OptionName::Id, OptionName::Kind],
+        options,
+    ) {
+        return None;
+    }
+    let image = value_of(options, OptionName::Image)?;
+    let id = id_of(options)?;
+    let kind = kind_of(options)?;
+    Some(Command::Message { image, id, kind })
+}
+
+/// The path of an image, which is the only option.
+#[tactic(auto, unfolding(crate::specs::Commands::image_alone))]
+fn image_alone(options: &[String]) -> Option<Path<'_>>
+    ensures { result ≡ image_alone (map string_bytes options.now) }
+{
+    if !are_options(&[OptionName::Image], options) {
+        return None;
+    }
+    value_of(options, OptionName::Image)
+}
+
+/// The times among the options, or those that stand where none are written.
+#[tactic(auto, unfolding(crate::specs::Commands::timing_of))]
+fn timing_of(options: &[String]) -> Option<Timing>
+    ensures { result ≡ timing_of (map string_bytes options.now) }
+{
+    match value_of(options, OptionName::Timing) {
+        None => Some(DEFAULT_TIMING),
+        Some(times) => timing_in(times.as_str().as_bytes()),
+    }
+}
+
+/// The id among the options.
+#[tactic(auto, unfolding(crate::specs::Commands::id_of))]
+fn id_of(options: &[String]) -> Option<NodeId>
+    ensures { result ≡ id_of (map string_bytes options.now) }
+{
+    let word = value_of(options, OptionName::Id)?;
+    let id = number_in(1, 4_294_967_295, word.as_str().as_bytes())?;
+    Some(NodeId(id as u32))
+}
+
+/// The message among the options.
+#[tactic(auto, unfolding(crate::specs::Commands::kind_of))]
+fn kind_of(options: &[String]) -> Option<Message>
+    ensures value { result ≡ kind_of (map string_bytes options.now) }
+    ensures deadly { IfSome result (λ kind. IsTrue (is_deadly kind)) }
+{
+    let word = value_of(options, OptionName::Kind)?;
+    match word.as_str() {
+        kind if kind == "reset" => Some(Message::Reset),
+        kind if kind == "off" => Some(Message::Off),
+        kind if kind == "crashdump" => Some(Message::Crashdump),
         _ => None,
     }
+}
+
+/// Five times, parted by commas.
+#[tactic(auto, unfolding(crate::specs::Commands::timing_in))]
+fn timing_in(text: &[u8]) -> Option<Timing>
+    ensures { result ≡ timing_in text.now }
+{
+    let (watchdog, rest) = next_time(Some(text))?;
+    let (msgwait, rest) = next_time(rest)?;
+    let (loop_ms, rest) = next_time(rest)?;
+    let (read_limit, rest) = next_time(rest)?;
+    let (feed_delay, rest) = next_time(rest)?;
+    if !is_over(rest) {
+        return None;
+    }
+    Some(Timing {
+        watchdog,
+        msgwait,
+        loop_ms,
+        read_limit,
+        feed_delay,
+    })
+}
+
+/// The next of the times that are left, from 1 to 3600000 milliseconds, and what is left behind it.
+fn next_time(rest: Option<&[u8]>) -> Option<(u64, Option<&[u8]>)>
+    ensures some { IfSome result (λ next. next_time (parts_left 44 (option_copied rest.entry)) ≡ Some (next.0, parts_left 44 (option_copied next.1))) }
+    ensures none { IfNone result (next_time (parts_left 44 (option_copied rest.entry)) ≡ None) }
+{
+    let (part, rest) = first_part(rest?, b',');
+    let time = number_in(1, 3_600_000, part)?;
+    Some((time, rest))
+}
+
+/// Whether no part is left.
+fn is_over(rest: Option<&[u8]>) -> bool
+    ensures { result ≡ (length (parts_left 44 (option_copied rest.entry)) == 0) }
+{
+    match rest {
+        None => true,
+        Some(_) => false,
+    }
+}
+
+/// A decimal number in a range; leading zeros are good.
+#[tactic(auto, unfolding(crate::specs::Commands::number_in))]
+fn number_in(least: u64, greatest: u64, word: &[u8]) -> Option<u64>
+    ensures value { result ≡ number_in least greatest word.now }
+    ensures within { IfSome result (λ number. (least ≤ number) × (number ≤ greatest)) }
+{
+    let number = read_decimal(word)?;
+    if number < least || number > greatest {
+        return None;
+    }
+    Some(number)
 }

@@ -192,6 +192,7 @@ pub fn count<I: Source, O: Sink>(input: &mut I, out: &mut O) -> Status
         → IfSome (I.left input.old) (λ bytes. AnswersWhole (count_of Ended bytes) (O.written out.old) (O.written out.new) (code_of result)) }
     ensures done { result ≡ Status.Done → Completes count_of (I.left input.old) (I.left input.new) (O.written out.old) (O.written out.new) }
     ensures no_usage { result ≢ Status.Usage }
+    ensures no_env_fault { code_of result ≢ 8 }
     ensures read_fault { result ≡ Status.ReadFault → HasRisen (I.faults input.old) (I.faults input.new) }
     ensures write_fault { result ≡ Status.WriteFault → HasRisen (O.faults out.old) (O.faults out.new) }
     ensures source_faults { I.faults input.old ≤ I.faults input.new }

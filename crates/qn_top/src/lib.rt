@@ -1,21 +1,32 @@
 // The commands of the program, from the bytes in to the bytes out: `top` is all that the program does.
 //
-// Promises, on `top`: `count` writes exactly the text that the definition gives for the bytes read and ends
-// with its status; status 2 comes exactly for words that are no command; status 6 only where the count of
-// faults of the source rose; status 7 only where that of the sink rose, with a front of the text written.
-// No memory is taken, and input is read in pieces of at most 4096 bytes.
+// Promises, on `top`: what is written, the calls on the outside and the status are exactly those that the
+// definition gives for the words, the bytes read and the answers of the calls. Status 2 comes exactly for words
+// that are no command; 6, 7 and 8 only where the count of faults of the source, the sink or the outside rose,
+// and at 7 a front of the text was written. Only `create` takes memory, for its settings text. Input is read in
+// pieces of at most 4096 bytes.
 #![tactic(auto)]
 
 mod command;
 mod count;
 mod counter;
+mod creation;
+mod fault;
+#[cfg(test)]
+mod image_tests;
+mod image_texts;
+mod images;
+mod options;
 mod output;
 mod program;
+mod settings_text;
 mod status;
 #[cfg(test)]
 mod tests;
 mod text_line;
 
 pub use command::{Command, command_of};
+pub use fault::Fault;
+pub use options::Path;
 pub use program::top;
 pub use status::Status;

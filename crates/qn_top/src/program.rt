@@ -1,57 +1,99 @@
-ghost use Rattle.std.specs.Prelude.{◌≡◌, ◌≤◌, [], None, Some, codes, map, string_bytes, IfSome};
+ghost use Rattle.std.specs.Prelude.{◌≡◌, ◌≤◌, ℕ, List, [], None, Some, codes, map, string_bytes, false, true, IfSome, IsTrue};
+ghost use Rattle.qn_base.specs.declared.ids.NodeId.{NodeId};
 ghost use Rattle.qn_io.specs.Outside.{HasRisen};
+ghost use Rattle.qn_model.specs.declared.disk.Message.{Message};
+ghost use Rattle.qn_model.specs.declared.times.Timing.{Timing};
 ghost use Rattle.qn_model.specs.CountText.{count_of};
 ghost use Rattle.qn_model.specs.Lines.{Ended};
+ghost use Rattle.qn_model.specs.Timing.{is_safe};
 ghost use Rattle.qn_top.specs.Commands.{command_of};
+ghost use Rattle.qn_top.specs.ImageWorks.{Creates, dump_work, list_work, message_work, refusal};
 ghost use Rattle.qn_top.specs.Runs.{Answers, AnswersWhole, Completes, Runs};
 ghost use Rattle.qn_top.specs.Statuses.{code_of};
+ghost use Rattle.qn_top.specs.Works.{Works};
+ghost use Rattle.qn_top.specs.declared.fault.Fault.TheVariants.{UnsafeTiming};
 
 use crate::command::{Command, command_of};
-use crate::count::{count, finish};
-use crate::output::Output;
-use crate::status::Status;
-use crate::text_line::TextLine;
-use qn_io::{Sink, Source};
+use crate::count::count;
+use crate::creation::create;
+use crate::fault::Fault;
+use crate::images::{dump, list, refuse, send};
+use qn_io::{Env, Sink, Source};
+use std::alloc::Global;
 
-/// All that the program does: reads the words as a command, runs it on the input, writes to the output, and
-/// gives the exit status.
-pub fn top<I: Source, O: Sink>(words: &[String], input: &mut I, out: &mut O) -> u8
-    // Words that are no command: status 2, and nothing else gives it. Nothing is read.
+/// All that the program does: reads the words as a command, runs it on the input and on the outside of a node,
+/// writes to the output, and gives the exit status. Memory is taken for the settings text of `create` alone.
+pub fn top<I: Source, O: Sink, E: Env>(
+    alloc: Global,
+    words: &[String],
+    input: &mut I,
+    out: &mut O,
+    env: &mut E,
+) -> u8
+    // Words that are no command: status 2, and nothing else gives it.
     ensures usage { command_of (map string_bytes words.now) ≡ None
         → Answers [] (codes "fault Usage\n") 2 (O.written out.old) (O.written out.new) (HasRisen (O.faults out.old) (O.faults out.new)) result }
-    ensures unread { command_of (map string_bytes words.now) ≡ None → input.new ≡ input.old }
     ensures usage_only { result ≡ 2 → command_of (map string_bytes words.now) ≡ None }
+
+    // What is not used is left as it is.
+    ensures unread { command_of (map string_bytes words.now) ≡ None → input.new ≡ input.old }
+    ensures uncalled { command_of (map string_bytes words.now) ≡ None → env.new ≡ env.old }
+    ensures count_uncalled { command_of (map string_bytes words.now) ≡ Some Command.Count → env.new ≡ env.old }
+    ensures dump_unread { (image : List ℕ) → command_of (map string_bytes words.now) ≡ Some (Command.Dump image) → input.new ≡ input.old }
+    ensures list_unread { (image : List ℕ) → command_of (map string_bytes words.now) ≡ Some (Command.List image) → input.new ≡ input.old }
+    ensures message_unread { (image : List ℕ) (id : NodeId) (kind : Message) → command_of (map string_bytes words.now) ≡ Some (Command.Message image id kind) → input.new ≡ input.old }
 
     // `count`: what was written is the defined text of the bytes that were read, or a front of it where the
     // sink failed.
     ensures ran { command_of (map string_bytes words.now) ≡ Some Command.Count
         → Runs count_of (I.left input.old) (I.left input.new) (HasRisen (I.faults input.old) (I.faults input.new))
         (O.written out.old) (O.written out.new) (HasRisen (O.faults out.old) (O.faults out.new)) result }
-
     ensures complete { command_of (map string_bytes words.now) ≡ Some Command.Count
         → ¬ HasRisen (I.faults input.old) (I.faults input.new) → ¬ HasRisen (O.faults out.old) (O.faults out.new)
         → IfSome (I.left input.old) (λ bytes. AnswersWhole (count_of Ended bytes) (O.written out.old) (O.written out.new) result) }
     ensures done { command_of (map string_bytes words.now) ≡ Some Command.Count → result ≡ 0
         → Completes count_of (I.left input.old) (I.left input.new) (O.written out.old) (O.written out.new) }
 
+    // `create`: times that are not safe are refused before anything is read.
+    ensures unsafe_unread { (image : List ℕ) (timing : Timing) → command_of (map string_bytes words.now) ≡ Some (Command.Create image timing) → is_safe timing ≡ false
+        → input.new ≡ input.old }
+    ensures unsafe_uncalled { (image : List ℕ) (timing : Timing) → command_of (map string_bytes words.now) ≡ Some (Command.Create image timing) → is_safe timing ≡ false
+        → env.new ≡ env.old }
+    ensures unsafe_timing { (image : List ℕ) (timing : Timing) → command_of (map string_bytes words.now) ≡ Some (Command.Create image timing) → is_safe timing ≡ false
+        → Works (E.faults env.old) (E.faults env.new) (E.calls env.old) (E.calls env.new)
+        (O.written out.old) (O.written out.new) (O.faults out.old) (O.faults out.new) (refusal (UnsafeTiming timing)) result }
+    ensures created { (image : List ℕ) (timing : Timing) → command_of (map string_bytes words.now) ≡ Some (Command.Create image timing) → is_safe timing ≡ true
+        → Creates image timing (I.left input.old) (I.left input.new) (HasRisen (I.faults input.old) (I.faults input.new))
+        (E.faults env.old) (E.faults env.new) (E.calls env.old) (E.calls env.new)
+        (O.written out.old) (O.written out.new) (O.faults out.old) (O.faults out.new) result }
+
+    // `dump`, `list` and `message`: exactly the calls, the texts and the status of their work.
+    ensures dumped { (image : List ℕ) → command_of (map string_bytes words.now) ≡ Some (Command.Dump image) → Works (E.faults env.old) (E.faults env.new) (E.calls env.old) (E.calls env.new)
+        (O.written out.old) (O.written out.new) (O.faults out.old) (O.faults out.new) (dump_work image) result }
+    ensures listed { (image : List ℕ) → command_of (map string_bytes words.now) ≡ Some (Command.List image) → Works (E.faults env.old) (E.faults env.new) (E.calls env.old) (E.calls env.new)
+        (O.written out.old) (O.written out.new) (O.faults out.old) (O.faults out.new) (list_work image) result }
+    ensures sent { (image : List ℕ) (id : NodeId) (kind : Message) → command_of (map string_bytes words.now) ≡ Some (Command.Message image id kind)
+        → Works (E.faults env.old) (E.faults env.new) (E.calls env.old) (E.calls env.new)
+        (O.written out.old) (O.written out.new) (O.faults out.old) (O.faults out.new) (message_work image id kind) result }
+
     // The faults of the outside.
     ensures read_fault { result ≡ 6 → HasRisen (I.faults input.old) (I.faults input.new) }
     ensures write_fault { result ≡ 7 → HasRisen (O.faults out.old) (O.faults out.new) }
+    ensures env_fault { result ≡ 8 → HasRisen (E.faults env.old) (E.faults env.new) }
     ensures source_faults { I.faults input.old ≤ I.faults input.new }
     ensures sink_faults { O.faults out.old ≤ O.faults out.new }
+    ensures env_faults { E.faults env.old ≤ E.faults env.new }
 {
     match command_of(words) {
-        None => usage(out).code(),
+        None => refuse(out, Fault::Usage).code(),
         Some(Command::Count) => count(input, out).code(),
+        Some(Command::Create { image, timing }) => {
+            create(alloc, image.as_str(), timing, input, out, env).code()
+        }
+        Some(Command::Dump { image }) => dump(image.as_str(), out, env).code(),
+        Some(Command::List { image }) => list(image.as_str(), out, env).code(),
+        Some(Command::Message { image, id, kind }) => {
+            send(image.as_str(), id, kind, out, env).code()
+        }
     }
-}
-
-/// The end of a run whose words are no command.
-fn usage<O: Sink>(out: &mut O) -> Status
-    ensures answers { Answers [] (codes "fault Usage\n") 2 (O.written out.old) (O.written out.new) (HasRisen (O.faults out.old) (O.faults out.new)) (code_of result) }
-    ensures never_falls { O.faults out.old ≤ O.faults out.new }
-{
-    let mut text = TextLine::new();
-    text.add(b"fault Usage\n");
-    finish(&mut Output::new(), out, &text, Status::Usage)
 }

@@ -8,12 +8,24 @@ pub enum Status {
     Done,
     /// The words are no command.
     Usage,
+    /// The settings text has a fault.
+    BadConf,
     /// A line of the input is at fault.
     BadSchedule,
     /// The input could not be read.
     ReadFault,
     /// The output could not be written.
     WriteFault,
+    /// The image could not be opened, read or written.
+    EnvFault,
+    /// A sector of the image is no spelling.
+    BadImage,
+    /// The times are not safe.
+    UnsafeTiming,
+    /// Memory was wanted and not there.
+    NoMemory,
+    /// No node has the id.
+    UnknownNode,
 }
 
 impl Status {
@@ -24,9 +36,15 @@ impl Status {
         match self {
             Status::Done => 0,
             Status::Usage => 2,
+            Status::BadConf => 3,
             Status::BadSchedule => 4,
             Status::ReadFault => 6,
             Status::WriteFault => 7,
+            Status::EnvFault => 8,
+            Status::BadImage => 9,
+            Status::UnsafeTiming => 10,
+            Status::NoMemory => 11,
+            Status::UnknownNode => 16,
         }
     }
 }

@@ -1,7 +1,28 @@
 use super::top;
-use qn_io::{MemSink, MemSource};
+use qn_io::{Env, MemSink, MemSource, QuietEnv};
 use std::alloc::AllocError;
 use std::test::Fail;
+
+/// Words that are no command.
+const WRONG_WORDS: [&str; 17] = [
+    "",
+    "count x",
+    "counts",
+    "COUNT",
+    "create",
+    "create --image",
+    "create --image d --image d",
+    "create --image d --timing 0,10000,1000,2000,1000",
+    "create --image d --timing 5000,10000,1000,2000",
+    "create --image d --timing 5000,10000,1000,2000,1000,1",
+    "dump d",
+    "dump --image d --id 1",
+    "list --images d",
+    "message --image d --id 1",
+    "message --image d --id 0 --kind off",
+    "message --image d --id 4294967296 --kind off",
+    "message --image d --id 1 --kind test",
+];
 
 /// The worked input of half and majority counts.
 const LINES: &[u8] = b"node 1 1\nnode 2 1\nnode 3 1\nnode 4 1\nview 1 1,2\nview 2 1,2,3\n";
@@ -14,8 +35,8 @@ const TEXT: &[u8] =
 const UNREAD: &[u8] =
     b"view 1 votes 2 quorum 3 quorate no\nview 2 votes 3 quorum 3 quorate yes\nfault ReadFault\n";
 
-/// The status and the text of a run of these words, over an input that comes in pieces and of which some reads fail, and
-/// an output with room for some bytes.
+/// The status and the text of a run of these words, over an input that comes in pieces and of which some reads fail,
+/// and an output with room for some bytes.
 fn run(
     rt: &impl AllocGlobal,
     words: &str,
@@ -24,17 +45,31 @@ fn run(
     failing_reads: &[u64],
     room: usize,
 ) -> Result<(u8, Vec<u8>), AllocError> {
+    let bytes = Vec::from_slice(rt.alloc(), lines)?;
+    let fails = Vec::from_slice(rt.alloc(), failing_reads)?;
+    let mut input = MemSource::new(bytes, piece.max(1), fails);
+    let Ok(mut env) = QuietEnv::new(rt.alloc()) else {
+        return Err(AllocError);
+    };
+    run_over(rt, words, &mut input, room, &mut env)
+}
+
+/// The status and the text of a run of these words over an input and an outside.
+pub(crate) fn run_over<E: Env>(
+    rt: &impl AllocGlobal,
+    words: &str,
+    input: &mut MemSource,
+    room: usize,
+    env: &mut E,
+) -> Result<(u8, Vec<u8>), AllocError> {
     let mut owned = Vec::new(rt.alloc());
     for word in words.split_whitespace() {
         owned.push(String::from_str(rt.alloc(), word)?)?;
     }
-    let bytes = Vec::from_slice(rt.alloc(), lines)?;
-    let fails = Vec::from_slice(rt.alloc(), failing_reads)?;
-    let mut input = MemSource::new(bytes, piece.max(1), fails);
     let Ok(mut out) = MemSink::new(rt.alloc(), room, Vec::new(rt.alloc())) else {
         return Err(AllocError);
     };
-    let status = top(owned.as_slice(), &mut input, &mut out);
+    let status = top(rt.alloc(), owned.as_slice(), input, &mut out, env);
     let written = Vec::from_slice(rt.alloc(), out.written())?;
     Ok((status, written))
 }
@@ -57,7 +92,7 @@ fn half_and_majority_counts(rt: HostRuntime) -> Result<(), Fail> {
 
 #[test]
 fn words_that_are_no_command(rt: HostRuntime) -> Result<(), Fail> {
-    for words in ["", "count x", "counts", "COUNT"] {
+    for words in WRONG_WORDS {
         let (status, text) = run(&rt, words, LINES, 4096, &[], 1000)?;
         assert_eq!(rt; status, 2, "for {words}");
         assert_eq!(rt; text.as_slice(), b"fault Usage\n".as_slice(), "for {words}");

@@ -7,7 +7,7 @@ use std::marker::Model;
 /// A short text while it is put together.
 #[derive(Drop)]
 pub struct TextLine {
-    bytes: ArrayVec<u8, 128>,
+    bytes: ArrayVec<u8, 256>,
 }
 
 impl Model for TextLine {
@@ -30,7 +30,7 @@ impl TextLine {
 
     /// Adds a text at the end.
     pub fn add(&mut self, text: &[u8])
-        requires { length self.old + length text.now ≤ 128 }
+        requires { length self.old + length text.now ≤ 256 }
         ensures text { self.new ≡ self.old ++ text.now }
         ensures len { length self.new ≡ length self.old + length text.now }
     {
@@ -39,7 +39,7 @@ impl TextLine {
 
     /// Adds a number at the end, in decimal digits.
     pub fn add_number(&mut self, number: u64)
-        requires { length self.old + 20 ≤ 128 }
+        requires { length self.old + 20 ≤ 256 }
         ensures text { self.new ≡ self.old ++ decimal number }
         ensures len { length self.new ≤ length self.old + 20 }
     {

@@ -1,11 +1,11 @@
-// The program `quorumd`: it makes the words, standard input and standard output, calls `top` on them and ends
-// with its status. Everything that it promises stands on `top`.
+// The program `quorumd`: it makes the words, standard input, standard output and the outside of a node, calls
+// `top` on them and ends with its status. Everything that it promises stands on `top`.
 //
 // Before `top` it ends with status 2 for a word that is no UTF-8, and with status 11 where memory is wanted
 // for the words and not there; it then writes nothing.
 #![tactic(auto)]
 
-use qn_io::{StdSink, StdSource};
+use qn_io::{RealEnv, StdSink, StdSource};
 use qn_top::top;
 use std::env;
 use std::io::{self, ErrorKind};
@@ -23,9 +23,20 @@ fn main(rt: HostRuntime) -> ExitCode {
         Ok(words) => words,
         Err(status) => return status,
     };
+    let Ok(outside) = rt.clone() else {
+        return ExitCode::from(NO_MEMORY);
+    };
     let mut input = StdSource::new(rt.reader());
     let mut out = StdSink::new(io::writer(&rt));
-    ExitCode::from(top(words.as_slice(), &mut input, &mut out))
+    let mut env = RealEnv::new(outside);
+    let status = top(
+        rt.alloc(),
+        words.as_slice(),
+        &mut input,
+        &mut out,
+        &mut env,
+    );
+    ExitCode::from(status)
 }
 
 /// The words behind the program's name, or the status to end with.

@@ -5,7 +5,7 @@ use Rattle.qn_top.specs.Runs.{Runs}
 use Rattle.qn_top.specs.Statuses.{code_of}
 use Rattle.qn_top.proofs.Counted.{counted_more, run_ends}
 use Rattle.qn_top.proofs.GivenOut.{risen_within}
-use Rattle.qn_top.proofs.RunEnds.{run_complete, run_done, run_unread, run_unwritten, run_usage}
+use Rattle.qn_top.proofs.RunEnds.{run_complete, run_done, run_uncalled, run_unread, run_unwritten, run_usage}
 use Rattle.qn_top.proofs.count.count.Given.{Over}
 use Rattle.qn_top.proofs.count.count.Goals as goal
 
@@ -31,6 +31,9 @@ returns-in-Some-clause-done g c = λ is. run_done _ _ _ _ _ _ _ (run_of g c) (ap
 
 pub returns-in-Some-clause-no_usage : goal.returns-in-Some-clause-no_usage
 returns-in-Some-clause-no_usage g c = λ is. run_usage _ _ _ _ _ _ _ (run_of g c) (ap code_of is)
+
+pub returns-in-Some-clause-no_env_fault : goal.returns-in-Some-clause-no_env_fault
+returns-in-Some-clause-no_env_fault g c = λ is. run_uncalled _ _ _ _ _ _ _ (run_of g c) is
 
 pub returns-in-Some-clause-read_fault : goal.returns-in-Some-clause-read_fault
 returns-in-Some-clause-read_fault g c = λ is. run_unread _ _ _ _ _ _ _ (run_of g c) (ap code_of is)

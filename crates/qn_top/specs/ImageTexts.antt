@@ -1,0 +1,45 @@
+-- What the commands of an image write: sbd(8), and this project's profile for the words.
+use Rattle.std.specs.Prelude.{ℕ, Bool, true, false, List, ◌++◌, codes, decimal, if◌then◌else◌}
+use Rattle.qn_base.specs.declared.ids.NodeId.{NodeId}
+use Rattle.qn_model.specs.declared.disk.Message.{Message}
+use Rattle.qn_model.specs.declared.disk.Message.TheVariants.{Empty, Test, Reset, Off, Exit, Crashdump}
+use Rattle.qn_model.specs.declared.disk.Slot.{Slot}
+use Rattle.qn_model.specs.declared.times.Timing.{Timing}
+use Rattle.qn_model.specs.Timing.{is_safe}
+
+-- the name of a message
+abbrev pub message_name : Message → List ℕ
+message_name Empty = codes "empty"
+message_name Test = codes "test"
+message_name Reset = codes "reset"
+message_name Off = codes "off"
+message_name Exit = codes "exit"
+message_name Crashdump = codes "crashdump"
+
+-- `create`
+abbrev pub created_text : ℕ → List ℕ
+created_text nodes = codes "created nodes " ++ decimal nodes ++ codes "\n"
+
+-- `dump`: the number of nodes and the times of the header
+unfoldable pub times_text : ℕ → Timing → List ℕ
+times_text nodes t =
+    codes "version 1\nnodes " ++ decimal nodes ++ codes "\nwatchdog " ++ decimal t.watchdog ++ codes "\nmsgwait " ++ decimal t.msgwait
+    ++ codes "\nloop " ++ decimal t.loop_ms ++ codes "\nread_limit " ++ decimal t.read_limit ++ codes "\nfeed_delay " ++ decimal t.feed_delay
+
+abbrev pub yes_no : Bool → List ℕ
+yes_no true = codes "yes"
+yes_no false = codes "no"
+
+-- `dump`: all of it
+unfoldable pub dump_text : ℕ → Timing → List ℕ
+dump_text nodes t = times_text nodes t ++ codes "\nsafe " ++ yes_no (is_safe t) ++ codes "\n"
+
+-- `list`: the line of a node
+unfoldable pub list_line : NodeId × Slot × Message → List ℕ
+list_line line =
+    codes "node " ++ decimal line.0.0 ++ codes " incarnation " ++ decimal line.1.incarnation
+    ++ (if line.1.clean then codes " clean mail " else codes " dirty mail ") ++ message_name line.2 ++ codes "\n"
+
+-- `message`
+abbrev pub sent_text : Message → NodeId → List ℕ
+sent_text kind id = codes "sent " ++ message_name kind ++ codes " to " ++ decimal id.0 ++ codes "\n"
