@@ -19,9 +19,9 @@ expect 0 'node 1 incarnation 0 clean mail empty\nnode 2 incarnation 0 clean mail
 # a message changes one byte: the code in that node's mailbox
 cp disk before
 expect 0 'sent reset to 2\n' message --image disk --id 2 --kind reset
-same "$(cmp -l before disk | tr -s ' ')" ' 2053 0 2'
+same "$(cmp -l before disk | xargs)" '2053 0 2'
 expect 0 'sent crashdump to 2\n' message --image disk --kind crashdump --id 2
-same "$(cmp -l before disk | tr -s ' ')" ' 2053 0 5'
+same "$(cmp -l before disk | xargs)" '2053 0 5'
 expect 0 'node 1 incarnation 0 clean mail empty\nnode 2 incarnation 0 clean mail crashdump\n' list --image disk
 expect 16 'fault UnknownNode 3\n' message --image disk --id 3 --kind off
 

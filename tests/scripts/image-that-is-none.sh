@@ -15,7 +15,7 @@ cmp noise before
 
 # a file that is cut short, inside a slot and inside a mailbox: what is not there reads as zeros
 expect 0 'created nodes 2\n' create --image disk < "$TOP/examples/two-node.conf"
-head -c 520 disk > in-slot
+head -c 516 disk > in-slot
 cp in-slot before
 expect 0 'version 1\nnodes 2\nwatchdog 5000\nmsgwait 10000\nloop 1000\nread_limit 2000\nfeed_delay 1000\nsafe yes\n' \
     dump --image in-slot
