@@ -29,13 +29,7 @@ fn main(rt: HostRuntime) -> ExitCode {
     let mut input = StdSource::new(rt.reader());
     let mut out = StdSink::new(io::writer(&rt));
     let mut env = RealEnv::new(outside);
-    let status = top(
-        rt.alloc(),
-        words.as_slice(),
-        &mut input,
-        &mut out,
-        &mut env,
-    );
+    let status = top(rt.alloc(), words.as_slice(), &mut input, &mut out, &mut env);
     ExitCode::from(status)
 }
 
