@@ -4,6 +4,7 @@ mod GivenOut
 mod Listing
 mod OptionWords
 mod ReadTexts
+mod Replayed
 mod RunEnds
 mod Turned
 mod Working

@@ -102,6 +102,7 @@ message_of options =
 abbrev pub command_named : List ℕ → List (List ℕ) → Option Command
 command_named name options =
     if bytes_eq name (codes "count") then (if are_options [] options then Some command.Count else None)
+    else if bytes_eq name (codes "replay") then (if are_options [] options then Some command.Replay else None)
     else if bytes_eq name (codes "create") then create_of options
     else if bytes_eq name (codes "dump") then option_map command.Dump (image_alone options)
     else if bytes_eq name (codes "list") then option_map command.List (image_alone options)
@@ -116,6 +117,7 @@ command_of (name ∷ options) = command_named name options
 -- a message of the words is deadly
 abbrev pub IsProper : Command → Type 0
 IsProper command.Count = Unit {0}
+IsProper command.Replay = Unit {0}
 IsProper (command.Create image timing) = Unit {0}
 IsProper (command.Dump image) = Unit {0}
 IsProper (command.List image) = Unit {0}

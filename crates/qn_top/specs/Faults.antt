@@ -4,12 +4,15 @@ use Rattle.qn_conf.specs.declared.faults.ConfFault.{ConfFault}
 use Rattle.qn_conf.specs.declared.faults.ConfFault.TheVariants as conf
 use Rattle.qn_image.specs.declared.fault.ImageFault.{ImageFault}
 use Rattle.qn_image.specs.declared.fault.ImageFault.TheVariants as image
+use Rattle.qn_model.specs.declared.line_fault.LineFault.{LineFault}
+use Rattle.qn_model.specs.declared.rules.Rule.{Rule}
 use Rattle.qn_model.specs.declared.times.Timing.{Timing}
+use Rattle.qn_model.specs.Lines.{name_of}
 use Rattle.qn_settings.specs.declared.faults.SettingsFault.{SettingsFault}
 use Rattle.qn_settings.specs.declared.faults.SettingsFault.TheVariants as settings
 use Rattle.qn_settings.specs.Keys.{key_name}
 use Rattle.qn_top.specs.declared.fault.Fault.{Fault}
-use Rattle.qn_top.specs.declared.fault.Fault.TheVariants.{Usage, BadConf, BadSettings, ReadFault, EnvFault, BadImage, UnsafeTiming, NoMemory, UnknownNode}
+use Rattle.qn_top.specs.declared.fault.Fault.TheVariants.{Usage, BadConf, BadSettings, BadSchedule, NotAllowed, ReadFault, EnvFault, BadImage, UnsafeTiming, NoMemory, UnknownNode}
 
 -- a settings text that is no configuration
 abbrev pub conf_line : ConfFault → List ℕ
@@ -43,11 +46,21 @@ timing_line t =
     codes "fault UnsafeTiming " ++ decimal t.watchdog ++ codes " " ++ decimal t.msgwait ++ codes " " ++ decimal t.loop_ms ++ codes " "
     ++ decimal t.read_limit ++ codes " " ++ decimal t.feed_delay ++ codes "\n"
 
+-- a line of a schedule that is at fault
+abbrev pub schedule_line : ℕ → LineFault → List ℕ
+schedule_line line fault = codes "fault BadSchedule line " ++ decimal line ++ codes " " ++ name_of fault ++ codes "\n"
+
+-- an event that a rule refuses
+abbrev pub refused_line : ℕ → Rule → List ℕ
+refused_line line rule = codes "fault NotAllowed line " ++ decimal line ++ codes " rule " ++ decimal rule.0 ++ codes "\n"
+
 -- the last line
 abbrev pub fault_line : Fault → List ℕ
 fault_line Usage = codes "fault Usage\n"
 fault_line (BadConf fault) = conf_line fault
 fault_line (BadSettings fault) = settings_line fault
+fault_line (BadSchedule line fault) = schedule_line line fault
+fault_line (NotAllowed line rule) = refused_line line rule
 fault_line ReadFault = codes "fault ReadFault\n"
 fault_line EnvFault = codes "fault EnvFault\n"
 fault_line (BadImage sector) = codes "fault BadImage sector " ++ decimal sector ++ codes "\n"
@@ -69,6 +82,8 @@ abbrev pub status_of : Fault → ℕ
 status_of Usage = 2
 status_of (BadConf fault) = conf_status fault
 status_of (BadSettings fault) = 3
+status_of (BadSchedule line fault) = 4
+status_of (NotAllowed line rule) = 5
 status_of ReadFault = 6
 status_of EnvFault = 8
 status_of (BadImage sector) = 9

@@ -5,6 +5,7 @@ pub mod Faults
 pub mod ImageTexts
 pub mod ImageWorks
 pub mod Options
+pub mod Replaying
 pub mod Runs
 pub mod Statuses
 pub mod Works

@@ -1,13 +1,14 @@
 -- The exit statuses: this project's profile.
 use Rattle.std.specs.Prelude.{ℕ}
 use Rattle.qn_top.specs.declared.status.Status.{Status}
-use Rattle.qn_top.specs.declared.status.Status.TheVariants.{Done, Usage, BadConf, BadSchedule, ReadFault, WriteFault, EnvFault, BadImage, UnsafeTiming, NoMemory, UnknownNode}
+use Rattle.qn_top.specs.declared.status.Status.TheVariants.{Done, Usage, BadConf, BadSchedule, NotAllowed, ReadFault, WriteFault, EnvFault, BadImage, UnsafeTiming, NoMemory, UnknownNode}
 
 abbrev pub code_of : Status → ℕ
 code_of Done = 0
 code_of Usage = 2
 code_of BadConf = 3
 code_of BadSchedule = 4
+code_of NotAllowed = 5
 code_of ReadFault = 6
 code_of WriteFault = 7
 code_of EnvFault = 8

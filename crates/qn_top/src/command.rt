@@ -15,6 +15,8 @@ use qn_sched::first_part;
 pub enum Command<'words> {
     /// `count`: the votes of views, by plain majority.
     Count,
+    /// `replay`: the trace of a schedule.
+    Replay,
     /// `create --image P [--timing W,M,L,R,S]`: makes an image for the settings of the input.
     Create {
         image: Path<'words>,
@@ -63,6 +65,8 @@ fn command_named<'words>(name: &str, options: &'words [String]) -> Option<Comman
 {
     if name == "count" {
         are_options(&[], options).then_some(Command::Count)
+    } else if name == "replay" {
+        are_options(&[], options).then_some(Command::Replay)
     } else if name == "create" {
         create_of(options)
     } else if name == "dump" {

@@ -1,6 +1,6 @@
 ghost use Rattle.std.specs.Prelude.{◌≡◌, ◌≤◌, ◌++◌, length, codes, decimal};
 ghost use Rattle.qn_settings.specs.Keys.{key_name};
-ghost use Rattle.qn_top.specs.Faults.{conf_line, disk_fault, fault_line, settings_line, status_of, timing_line};
+ghost use Rattle.qn_top.specs.Faults.{conf_line, disk_fault, fault_line, refused_line, schedule_line, settings_line, status_of, timing_line};
 ghost use Rattle.qn_top.specs.Statuses.{code_of};
 
 use crate::status::Status;
@@ -8,7 +8,7 @@ use crate::text_line::TextLine;
 use qn_base::NodeId;
 use qn_conf::ConfFault;
 use qn_image::ImageFault;
-use qn_model::Timing;
+use qn_model::{LineFault, Rule, Timing};
 use qn_settings::{Key, SettingsFault};
 
 /// Why a command did not do its work, with what its last line says.
@@ -20,6 +20,10 @@ pub enum Fault {
     BadConf(ConfFault),
     /// The settings text is a configuration, and gives no settings.
     BadSettings(SettingsFault),
+    /// The line is at fault.
+    BadSchedule { line: u64, fault: LineFault },
+    /// The event of the line is refused by a rule of the world.
+    NotAllowed { line: u64, rule: Rule },
     /// The input could not be read.
     ReadFault,
     /// The image could not be opened, read or written.
@@ -43,6 +47,8 @@ impl Fault {
             Fault::Usage => Status::Usage,
             Fault::BadConf(ConfFault::NoMemory) | Fault::NoMemory => Status::NoMemory,
             Fault::BadConf(_) | Fault::BadSettings(_) => Status::BadConf,
+            Fault::BadSchedule { .. } => Status::BadSchedule,
+            Fault::NotAllowed { .. } => Status::NotAllowed,
             Fault::ReadFault => Status::ReadFault,
             Fault::EnvFault => Status::EnvFault,
             Fault::BadImage { .. } => Status::BadImage,
@@ -59,6 +65,8 @@ impl Fault {
             Fault::Usage => whole(b"fault Usage\n"),
             Fault::BadConf(fault) => conf_line(fault),
             Fault::BadSettings(fault) => settings_line(fault),
+            Fault::BadSchedule { line, fault } => schedule_line(line, fault),
+            Fault::NotAllowed { line, rule } => refused_line(line, rule),
             Fault::ReadFault => whole(b"fault ReadFault\n"),
             Fault::EnvFault => whole(b"fault EnvFault\n"),
             Fault::BadImage { sector } => numbered(b"fault BadImage sector ", u64::from(sector)),
@@ -116,6 +124,32 @@ fn settings_line(fault: SettingsFault) -> TextLine
         SettingsFault::TwoNodeDevice => whole(b"fault BadConf TwoNodeDevice\n"),
         SettingsFault::LmsVotes { id } => numbered(b"fault BadConf LmsVotes id ", u64::from(id.0)),
     }
+}
+
+/// The line of a line of a schedule that is at fault.
+fn schedule_line(line: u64, fault: LineFault) -> TextLine
+    ensures { result ≡ schedule_line line fault }
+{
+    let mut text = TextLine::new();
+    text.add(b"fault BadSchedule line ");
+    text.add_number(line);
+    text.add(b" ");
+    text.add(fault.name().as_bytes());
+    text.add(b"\n");
+    text
+}
+
+/// The line of an event that a rule refuses.
+fn refused_line(line: u64, rule: Rule) -> TextLine
+    ensures { result ≡ refused_line line rule }
+{
+    let mut text = TextLine::new();
+    text.add(b"fault NotAllowed line ");
+    text.add_number(line);
+    text.add(b" rule ");
+    text.add_number(u64::from(rule.0));
+    text.add(b"\n");
+    text
 }
 
 /// The line of times that are not safe.

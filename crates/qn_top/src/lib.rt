@@ -19,6 +19,7 @@ mod images;
 mod options;
 mod output;
 mod program;
+mod replaying;
 mod settings_text;
 mod status;
 #[cfg(test)]

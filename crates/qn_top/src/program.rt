@@ -8,6 +8,7 @@ ghost use Rattle.qn_model.specs.Lines.{Ended};
 ghost use Rattle.qn_model.specs.Timing.{is_safe};
 ghost use Rattle.qn_top.specs.Commands.{command_of};
 ghost use Rattle.qn_top.specs.ImageWorks.{Creates, dump_work, list_work, message_work, refusal};
+ghost use Rattle.qn_top.specs.Replaying.{RunsReplay};
 ghost use Rattle.qn_top.specs.Runs.{Answers, AnswersWhole, Completes, Runs};
 ghost use Rattle.qn_top.specs.Statuses.{code_of};
 ghost use Rattle.qn_top.specs.Works.{Works};
@@ -18,11 +19,13 @@ use crate::count::count;
 use crate::creation::create;
 use crate::fault::Fault;
 use crate::images::{dump, list, refuse, send};
+use crate::replaying::run_replay;
 use qn_io::{Env, Sink, Source};
 use std::alloc::Global;
 
 /// All that the program does: reads the words as a command, runs it on the input and on the outside of a node,
-/// writes to the output, and gives the exit status. Memory is taken for the settings text of `create` alone.
+/// writes to the output, and gives the exit status. Memory is taken by `replay`, and for the
+/// settings text of `create`.
 pub fn top<I: Source, O: Sink, E: Env>(
     alloc: Global,
     words: &[String],
@@ -39,6 +42,7 @@ pub fn top<I: Source, O: Sink, E: Env>(
     ensures unread { command_of (map string_bytes words.now) ≡ None → input.new ≡ input.old }
     ensures uncalled { command_of (map string_bytes words.now) ≡ None → env.new ≡ env.old }
     ensures count_uncalled { command_of (map string_bytes words.now) ≡ Some Command.Count → env.new ≡ env.old }
+    ensures replay_uncalled { command_of (map string_bytes words.now) ≡ Some Command.Replay → env.new ≡ env.old }
     ensures dump_unread { (image : List ℕ) → command_of (map string_bytes words.now) ≡ Some (Command.Dump image) → input.new ≡ input.old }
     ensures list_unread { (image : List ℕ) → command_of (map string_bytes words.now) ≡ Some (Command.List image) → input.new ≡ input.old }
     ensures message_unread { (image : List ℕ) (id : NodeId) (kind : Message) → command_of (map string_bytes words.now) ≡ Some (Command.Message image id kind) → input.new ≡ input.old }
@@ -53,6 +57,11 @@ pub fn top<I: Source, O: Sink, E: Env>(
         → IfSome (I.left input.old) (λ bytes. AnswersWhole (count_of Ended bytes) (O.written out.old) (O.written out.new) result) }
     ensures done { command_of (map string_bytes words.now) ≡ Some Command.Count → result ≡ 0
         → Completes count_of (I.left input.old) (I.left input.new) (O.written out.old) (O.written out.new) }
+
+    // `replay`: the same of its trace and its last line; or memory was wanted.
+    ensures replayed { command_of (map string_bytes words.now) ≡ Some Command.Replay
+        → RunsReplay (I.left input.old) (I.left input.new) (HasRisen (I.faults input.old) (I.faults input.new))
+        (O.written out.old) (O.written out.new) (HasRisen (O.faults out.old) (O.faults out.new)) result }
 
     // `create`: times that are not safe are refused before anything is read.
     ensures unsafe_unread { (image : List ℕ) (timing : Timing) → command_of (map string_bytes words.now) ≡ Some (Command.Create image timing) → is_safe timing ≡ false
@@ -87,6 +96,7 @@ pub fn top<I: Source, O: Sink, E: Env>(
     match command_of(words) {
         None => refuse(out, Fault::Usage).code(),
         Some(Command::Count) => count(input, out).code(),
+        Some(Command::Replay) => run_replay(alloc, input, out).code(),
         Some(Command::Create { image, timing }) => {
             create(alloc, image.as_str(), timing, input, out, env).code()
         }

@@ -12,6 +12,8 @@ pub enum Status {
     BadConf,
     /// A line of the input is at fault.
     BadSchedule,
+    /// An event is refused by a rule of the world.
+    NotAllowed,
     /// The input could not be read.
     ReadFault,
     /// The output could not be written.
@@ -38,6 +40,7 @@ impl Status {
             Status::Usage => 2,
             Status::BadConf => 3,
             Status::BadSchedule => 4,
+            Status::NotAllowed => 5,
             Status::ReadFault => 6,
             Status::WriteFault => 7,
             Status::EnvFault => 8,

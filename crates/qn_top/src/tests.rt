@@ -4,12 +4,13 @@ use std::alloc::AllocError;
 use std::test::Fail;
 
 /// Words that are no command.
-const WRONG_WORDS: [&str; 17] = [
+const WRONG_WORDS: [&str; 18] = [
     "",
     "count x",
     "counts",
     "COUNT",
     "create",
+    "replay --image d",
     "create --image",
     "create --image d --image d",
     "create --image d --timing 0,10000,1000,2000,1000",
@@ -117,5 +118,36 @@ fn an_output_with_little_room(rt: HostRuntime) -> Result<(), Fail> {
             "with room for {room}"
         );
     }
+    Ok(())
+}
+
+/// The settings of a single node, and the line behind them.
+const HEAD: &str = "nodelist {\nnode {\nnodeid: 1\n}\n}\n----\n";
+
+#[test]
+fn heads_of_a_replay(rt: HostRuntime) -> Result<(), Fail> {
+    for (lines, status, text) in [
+        ("timing 5000 10000 1000 2000 1000\n", 0, "end 0\n"),
+        (
+            "timing 5000 10000 1000 2000 1000\ntick 1\n",
+            4,
+            "fault BadSchedule line 8 UnknownWord\n",
+        ),
+        (
+            "timing 5000 8163 1000 2000 1000\n",
+            10,
+            "fault UnsafeTiming 5000 8163 1000 2000 1000\n",
+        ),
+        ("", 4, "fault BadSchedule line 7 Unended\n"),
+    ] {
+        let mut input = String::from_str(rt.alloc(), HEAD)?;
+        input.push_str(lines)?;
+        let (ended, written) = run(&rt, "replay", input.as_bytes(), 7, &[], 1000)?;
+        assert_eq!(rt; written.as_slice(), text.as_bytes(), "behind {lines}");
+        assert_eq!(rt; ended, status, "behind {lines}");
+    }
+    let (ended, written) = run(&rt, "replay", HEAD.as_bytes(), 7, &[3], 1000)?;
+    assert_eq!(rt; written.as_slice(), b"fault ReadFault\n".as_slice());
+    assert_eq!(rt; ended, 6);
     Ok(())
 }
