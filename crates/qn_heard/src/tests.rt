@@ -1,3 +1,6 @@
+ghost use Rattle.std.specs.Prelude.{◌≡◌};
+ghost use Rattle.qn_heard.specs.Heard.{installs_of};
+
 use super::{Heard, Heardness};
 use qn_base::{Mask, Rank, View};
 use qn_model::{Ask, Tell};
@@ -31,11 +34,15 @@ const QUESTION: Ask = Ask {
     view: PAIR,
 };
 
-fn node_0() -> Heard {
+fn node_0() -> Heard
+    ensures { installs_of result ≡ 0 }
+{
     Heard::new(Rank(0), 2, 1000)
 }
 
-fn node_0_in(view: View) -> Heard {
+fn node_0_in(view: View) -> Heard
+    ensures { installs_of result ≡ 1 }
+{
     let mut heard = node_0();
     heard.on_view(0, view);
     heard
