@@ -7,33 +7,39 @@
 // (`law_released_first`), and a reset goes only to a node outside the view (`law_reset_outside`).
 #![tactic(auto)]
 
+mod clocks;
 mod configuration;
 mod count_line;
 mod count_rows;
 mod disk;
 mod entries;
+mod events;
 mod laws;
 mod life;
 mod line_fault;
 mod nodelist;
 mod outputs;
 mod packets;
+mod reports;
 mod rules;
 mod seen;
 mod times;
 mod votes;
 
+pub use clocks::Clocks;
 pub use configuration::{Device, Settings};
 pub use count_line::CountLine;
 pub use count_rows::{law_count_ending, law_empty_count, law_half_and_majority};
 pub use disk::{Message, Slot};
 pub use entries::{Entry, What};
+pub use events::Event;
 pub use laws::{law_disjoint_views, law_released_first, law_reset_outside};
 pub use life::{Phase, Why};
 pub use line_fault::LineFault;
 pub use nodelist::{NodeEntry, Nodes};
 pub use outputs::{BootCause, DiskOp, HaltKind, Out, Outs};
 pub use packets::{Ask, Packet, Tell};
+pub use reports::{Refused, Report};
 pub use rules::Rule;
 pub use seen::{HeaderSeen, MailSeen, SlotSeen};
 pub use times::{Timing, timing_safe};
