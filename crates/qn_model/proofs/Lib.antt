@@ -5,4 +5,5 @@ pub mod Release
 pub mod Resets
 mod SectorRows
 pub mod VoteLists
+mod WorldRows
 pub mod WorkedCounts

@@ -9,12 +9,16 @@ pub mod Licences
 pub mod LineLaws
 pub mod Lines
 pub mod Log
+pub mod Moments
 pub mod NodeOutputs
 pub mod NodeVotes
 pub mod Phases
+pub mod Rules
 pub mod Sectors
 pub mod Settings
+pub mod Steps
 pub mod Timing
 pub mod Unmet
 pub mod Votes
 pub mod Wanted
+pub mod World

@@ -38,7 +38,7 @@ pub use life::{Phase, Why};
 pub use line_fault::LineFault;
 pub use nodelist::{NodeEntry, Nodes};
 pub use outputs::{BootCause, DiskOp, HaltKind, Out, Outs};
-pub use packets::{Ask, Packet, Tell};
+pub use packets::{Ask, Packet, Sent, Tell};
 pub use reports::{Refused, Report};
 pub use rules::Rule;
 pub use seen::{HeaderSeen, MailSeen, SlotSeen};

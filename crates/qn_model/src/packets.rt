@@ -33,3 +33,10 @@ pub enum Packet {
     Announce { from: Rank, view: View },
     Vote { yes: bool },
 }
+
+/// A packet that was sent, with its receiver.
+#[derive(Clone, Copy, PartialEq, Eq, Debug)]
+pub struct Sent {
+    pub to: Rank,
+    pub packet: Packet,
+}

@@ -1,0 +1,214 @@
+-- Schedules that were worked by hand, as theorems of the definitions.
+use Rattle.std.proofs.Common.{◌≡◌, ℕ, Bool, true, false, List, [], ◌∷◌, ◌++◌, Some, None, refl, ◌&&◌}
+use Rattle.std.specs.Prelude.{is_none}
+use Rattle.qn_base.specs.declared.ids.Rank.{Rank}
+use Rattle.qn_base.specs.declared.ids.View.{View}
+use Rattle.qn_model.specs.declared.configuration.Settings.{Settings}
+use Rattle.qn_model.specs.declared.times.Timing.{Timing}
+use Rattle.qn_model.specs.declared.disk.Message.TheVariants as message
+use Rattle.qn_model.specs.declared.outputs.DiskOp.TheVariants as disk
+use Rattle.qn_model.specs.declared.outputs.Out.{Out}
+use Rattle.qn_model.specs.declared.outputs.Out.TheVariants as out
+use Rattle.qn_model.specs.declared.outputs.HaltKind.TheVariants as halt
+use Rattle.qn_model.specs.declared.life.Why.{Why}
+use Rattle.qn_model.specs.declared.life.Why.TheVariants as why
+use Rattle.qn_model.specs.declared.events.Event.{Event}
+use Rattle.qn_model.specs.declared.events.Event.TheVariants as event
+use Rattle.qn_model.specs.declared.reports.Report.{Report}
+use Rattle.qn_model.specs.Log.{op_out, ask_place, ask_tick, claimed, timing}
+use Rattle.qn_model.specs.NodeVotes.{view, install, votes}
+use Rattle.qn_model.specs.Votes.{answer_at, present_view, view_tick, is_released, expected_votes, device_yes}
+use Rattle.qn_model.specs.Phases.{phase}
+use Rattle.qn_model.specs.Holding.{holds, stop_due, may_stop}
+use Rattle.qn_model.specs.Hearing.{told}
+use Rattle.qn_model.specs.Licences.{out_time, slot_read_since, reset_since}
+use Rattle.qn_model.specs.Unmet.{least_from, unmet}
+use Rattle.qn_model.specs.Wanted.{mail_tick, wanted}
+use Rattle.qn_model.specs.NodeOutputs.{moment, acts, outs_at, with_entry}
+use Rattle.qn_model.specs.Moments.{logged, handed, booted, time, node, given_out, packets}
+use Rattle.qn_model.specs.World.{World, first_world, taken, failed}
+use Rattle.qn_model.specs.Rules.{is_well_formed, refusal}
+use Rattle.qn_model.specs.Steps.{step, run_from, report}
+
+-- watchdog 5000, msgwait 10000, loop 1000, read limit 2000, feed delay 1000
+abbrev usual : Timing
+usual = record { watchdog = 5000; msgwait = 10000; loop_ms = 1000; read_limit = 2000; feed_delay = 1000 }
+
+-- one node of one vote, with id 1
+abbrev one_node : Settings
+one_node =
+    record {
+      nodes = record { id = record { 0 = 1 }; votes = 1 } ∷ [];
+      two_node = false;
+      wait_for_all = false;
+      last_man_standing = false;
+      window = 10000;
+      device = None;
+      expected = 1;
+    }
+
+-- two nodes of one vote each with two_node and without wait_for_all, with ids 1 and 2
+abbrev two_nodes : Settings
+two_nodes =
+    record {
+      nodes = record { id = record { 0 = 1 }; votes = 1 } ∷ record { id = record { 0 = 2 }; votes = 1 } ∷ [];
+      two_node = true;
+      wait_for_all = false;
+      last_man_standing = false;
+      window = 10000;
+      device = None;
+      expected = 2;
+    }
+
+abbrev first : Rank
+first = record { 0 = 0 }
+
+abbrev second : Rank
+second = record { 0 = 1 }
+
+abbrev sees : ℕ → ℕ → View
+sees id members = record { id = id; members = record { 0 = members } }
+
+-- the operation that is out lands, and is answered
+abbrev done_at_once : Rank → List Event
+done_at_once rank = event.Land rank ∷ event.Done rank ∷ []
+
+abbrev boot_of : Rank → List Event
+boot_of rank =
+    event.Boot rank 0 ∷ [] ++ done_at_once rank ++ done_at_once rank ++ done_at_once rank ++ done_at_once rank
+
+-- the events are well formed, and allowed in their turns
+abbrev all_allowed : Settings → World → List Event → Bool
+all_allowed s w [] = true
+all_allowed s w (event ∷ later) =
+    is_well_formed s event && is_none (refusal s usual event w) && all_allowed s (step s usual event w) later
+
+abbrev world_after : Settings → List Event → World
+world_after s events = run_from s usual first_world events
+
+-- what a last event reports, behind others
+abbrev reported : Settings → List Event → Event → Report
+reported s events last = report s last (world_after s (events ++ last ∷ []))
+
+-- of two nodes, the one alone in its view is quorate
+abbrev alone : ℕ → Rank → List Out → ℕ → Why → Report
+alone time rank outs holders condition =
+    record {
+      time = time;
+      touched = Some rank;
+      outs = outs;
+      holders = record { 0 = holders };
+      answer = record { quorate = true; votes = 1; quorum = 1; expected = 2; released = true };
+      why = condition;
+    }
+
+abbrev waits_for : ℕ → Bool → ℕ → Why
+waits_for id written left = why.Unfenced (record { 0 = id }) written left
+
+-- both nodes are up, each alone in its view, and reset each other
+abbrev both_reset : List Event
+both_reset =
+    boot_of first ++ boot_of second ++ event.View first (sees 1 1) ∷ event.View second (sees 2 2) ∷ []
+    ++ done_at_once first ++ done_at_once second ++ done_at_once first ++ done_at_once second
+    ++ event.Land first ∷ event.Land second ∷ event.Done first ∷ []
+
+both_fence_is_allowed : all_allowed two_nodes first_world (both_reset ++ event.Done second ∷ event.Crash first ∷ event.Crash second ∷ []) ≡ true
+unfolding op_out ask_place ask_tick claimed timing view install votes answer_at present_view view_tick is_released expected_votes device_yes phase holds stop_due may_stop told out_time slot_read_since reset_since least_from unmet mail_tick wanted moment acts outs_at with_entry logged handed booted time node given_out packets taken failed is_well_formed refusal step run_from report
+both_fence_is_allowed = refl
+
+both_fence : reported two_nodes both_reset (event.Done second) ≡ alone 0 second [] 0 (waits_for 1 true 10000)
+unfolding op_out ask_place ask_tick claimed timing view install votes answer_at present_view view_tick is_released expected_votes device_yes phase holds stop_due may_stop told out_time slot_read_since reset_since least_from unmet mail_tick wanted moment acts outs_at with_entry logged handed booted time node given_out packets taken failed is_well_formed refusal step run_from report
+both_fence = refl
+
+both_fence_halts : reported two_nodes (both_reset ++ event.Done second ∷ event.Pass 1000 [] ∷ event.Tick first ∷ event.Land first ∷ []) (event.Done first)
+    ≡ alone 1000 first (out.Halt (halt.Deadly message.Reset) ∷ []) 0 why.Down
+unfolding op_out ask_place ask_tick claimed timing view install votes answer_at present_view view_tick is_released expected_votes device_yes phase holds stop_due may_stop told out_time slot_read_since reset_since least_from unmet mail_tick wanted moment acts outs_at with_entry logged handed booted time node given_out packets taken failed is_well_formed refusal step run_from report
+both_fence_halts = refl
+
+-- node 1 resets node 2 while that one boots: the clear of the boot lands behind the reset and erases it
+abbrev reset_inside_a_boot : List Event
+reset_inside_a_boot =
+    boot_of first ++ boot_of second ++ event.View first (sees 1 1) ∷ [] ++ done_at_once first ++ done_at_once first
+    ++ event.Crash second ∷ event.Boot second 0 ∷ [] ++ done_at_once second ++ done_at_once second ++ done_at_once second
+    ++ event.Land first ∷ event.Land second ∷ event.Done second ∷ event.Done first ∷ event.View second (sees 5 2) ∷ event.Land second ∷ []
+
+reset_inside_a_boot_is_allowed : all_allowed two_nodes first_world reset_inside_a_boot ≡ true
+unfolding op_out ask_place ask_tick claimed timing view install votes answer_at present_view view_tick is_released expected_votes device_yes phase holds stop_due may_stop told out_time slot_read_since reset_since least_from unmet mail_tick wanted moment acts outs_at with_entry logged handed booted time node given_out packets taken failed is_well_formed refusal step run_from report
+reset_inside_a_boot_is_allowed = refl
+
+reset_is_erased : reported two_nodes reset_inside_a_boot (event.Done second)
+    ≡ alone 0 second (out.Feed ∷ out.Disk (disk.ReadSlot first) ∷ []) 0 (waits_for 1 false 0)
+unfolding op_out ask_place ask_tick claimed timing view install votes answer_at present_view view_tick is_released expected_votes device_yes phase holds stop_due may_stop told out_time slot_read_since reset_since least_from unmet mail_tick wanted moment acts outs_at with_entry logged handed booted time node given_out packets taken failed is_well_formed refusal step run_from report
+reset_is_erased = refl
+
+-- the watchdog of a node that was fed at 0 ends it behind 5050 milliseconds
+abbrev booting : World
+booting = world_after one_node (event.Boot first 0 ∷ [])
+
+watchdog_holds : refusal one_node usual (event.Pass 5050 []) booting ≡ None
+unfolding phase outs_at with_entry logged handed booted time node refusal step run_from
+watchdog_holds = refl
+
+watchdog_ends : refusal one_node usual (event.Pass 5051 []) booting ≡ Some 1
+unfolding phase outs_at with_entry logged handed booted time node refusal step run_from
+watchdog_ends = refl
+
+-- a clock may be one per cent off
+abbrev clock_advances : ℕ → Event
+clock_advances advance = event.Pass 1 ((first, advance) ∷ [])
+
+clock_too_slow : refusal one_node usual (clock_advances 98) booting ≡ Some 1
+unfolding phase outs_at with_entry logged handed booted time node refusal step run_from
+clock_too_slow = refl
+
+clock_slow : refusal one_node usual (clock_advances 99) booting ≡ None
+unfolding phase outs_at with_entry logged handed booted time node refusal step run_from
+clock_slow = refl
+
+clock_fast : refusal one_node usual (clock_advances 101) booting ≡ None
+unfolding phase outs_at with_entry logged handed booted time node refusal step run_from
+clock_fast = refl
+
+clock_too_fast : refusal one_node usual (clock_advances 102) booting ≡ Some 1
+unfolding phase outs_at with_entry logged handed booted time node refusal step run_from
+clock_too_fast = refl
+
+-- a clock is named only of a node that is running
+clock_of_none : refusal one_node usual (clock_advances 100) first_world ≡ Some 1
+unfolding time node refusal
+clock_of_none = refl
+
+-- a node that never booted does not crash
+no_crash : refusal one_node usual (event.Crash first) first_world ≡ Some 3
+unfolding node refusal
+no_crash = refl
+
+-- a node leaves, and the write that marks its slot as clean fails before it landed: it is left over, and the slot is dirty
+abbrev leaving : List Event
+leaving =
+    boot_of first ++ event.View first (sees 1 1) ∷ event.Leave first ∷ event.Stopped first ∷ [] ++ done_at_once first ++ event.Fail first ∷ []
+
+leaving_is_allowed : all_allowed one_node first_world (leaving ++ event.Late first 1 ∷ event.Boot first 0 ∷ []) ≡ true
+unfolding op_out ask_place ask_tick claimed timing view install votes answer_at present_view view_tick is_released expected_votes device_yes phase holds stop_due may_stop told out_time slot_read_since reset_since least_from unmet mail_tick wanted moment acts outs_at with_entry logged handed booted time node given_out packets taken failed is_well_formed refusal step run_from report
+leaving_is_allowed = refl
+
+close_is_left_over : ((world_after one_node leaving).left 0 ≡ disk.WriteClose 1 ∷ []) × ((world_after one_node leaving).slots 0 ≡ record { incarnation = 1; clean = false })
+unfolding op_out ask_place ask_tick claimed timing view install votes answer_at present_view view_tick is_released expected_votes device_yes phase holds stop_due may_stop told out_time slot_read_since reset_since least_from unmet mail_tick wanted moment acts outs_at with_entry logged handed booted time node given_out packets taken failed is_well_formed refusal step run_from report
+close_is_left_over = (refl, refl)
+
+close_lands_late : (world_after one_node (leaving ++ event.Late first 1 ∷ [])).slots 0 ≡ record { incarnation = 1; clean = true }
+unfolding op_out ask_place ask_tick claimed timing view install votes answer_at present_view view_tick is_released expected_votes device_yes phase holds stop_due may_stop told out_time slot_read_since reset_since least_from unmet mail_tick wanted moment acts outs_at with_entry logged handed booted time node given_out packets taken failed is_well_formed refusal step run_from report
+close_lands_late = refl
+
+-- with `done` in place of `fail` the slot is clean, and the node is off and answers as such
+leaving_well : reported one_node (boot_of first ++ event.View first (sees 1 1) ∷ event.Leave first ∷ event.Stopped first ∷ [] ++ done_at_once first ++ event.Land first ∷ []) (event.Done first)
+    ≡ record {
+      time = 0;
+      touched = Some first;
+      outs = out.Disarm ∷ [];
+      holders = record { 0 = 0 };
+      answer = record { quorate = false; votes = 0; quorum = 1; expected = 1; released = true };
+      why = why.Down;
+    }
+unfolding op_out ask_place ask_tick claimed timing view install votes answer_at present_view view_tick is_released expected_votes device_yes phase holds stop_due may_stop told out_time slot_read_since reset_since least_from unmet mail_tick wanted moment acts outs_at with_entry logged handed booted time node given_out packets taken failed is_well_formed refusal step run_from report
+leaving_well = refl
