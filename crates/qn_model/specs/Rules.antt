@@ -35,8 +35,9 @@ is_well_formed s (event.Land rank) = is_configured s rank.0
 is_well_formed s (event.Done rank) = is_configured s rank.0
 is_well_formed s (event.Fail rank) = is_configured s rank.0
 is_well_formed s (event.Late rank number) = is_configured s rank.0 && is_between 1 200000 number
-is_well_formed s (event.View rank view) = is_configured s rank.0 && is_between 1 (2 ^ length s.nodes - 1) view.members.0
-is_well_formed s (event.Deliver rank number) = is_configured s rank.0
+is_well_formed s (event.View rank view) =
+    is_configured s rank.0 && nat_lt view.id (2 ^ 64) && is_between 1 (2 ^ length s.nodes - 1) view.members.0
+is_well_formed s (event.Deliver rank number) = is_configured s rank.0 && nat_lt number (2 ^ 64)
 is_well_formed s (event.Device rank agrees) = is_configured s rank.0
 is_well_formed s (event.Tick rank) = is_configured s rank.0
 is_well_formed s (event.Stopped rank) = is_configured s rank.0

@@ -29,6 +29,7 @@ pub record IsValid (s : Settings) : Type 0 where
   pub some_node : 1 ≤ length s.nodes
   pub few_nodes : length s.nodes ≤ 32
   pub ids_from_one : All (λ n. 1 ≤ n.id.0) s.nodes
+  pub ids_fit : All (λ n. n.id.0 ≤ 4294967295) s.nodes
   pub ids_ascend : IsStrictlyIncreasing (ids s.nodes)
   pub votes_fit : All (λ n. n.votes ≤ 65535) s.nodes
   pub some_vote : 1 ≤ all_votes s.nodes

@@ -20,7 +20,7 @@ use Rattle.qn_settings.specs.Answer.{device_of, fault_in, filled, has_one_vote, 
 use Rattle.qn_settings.specs.Nodes.{lacks_id, node_faults, node_of, nodes_of, put_by_id, repeated_in, sections}
 use Rattle.qn_settings.specs.Values.{bad_number_in, first_some, flag, has_device, number, or_else}
 use Rattle.qn_settings.proofs.NodeLemmas.{All-fold, Ascends-fold, length-fold, strictly}
-use Rattle.qn_settings.proofs.ValueLemmas.{default-range, good_entries, ids_from_one, votes_fit, or_none}
+use Rattle.qn_settings.proofs.ValueLemmas.{default-range, good_entries, ids_fit, ids_from_one, votes_fit, or_none}
 
 -- none of several is there
 abbrev AllNone : {X : Type 0} → List (Option X) → Type 0
@@ -99,6 +99,10 @@ pub votes_fit_all : (entries : List Entry) → All (λ n. n.votes ≤ 65535) (no
 votes_fit_all entries =
     All-fold (λ n. n.votes ≤ 65535) [] (map node_of (sections entries)) (λ k d within. absurd (omega arith)) (votes_fit (sections entries))
 
+ids_fit_all : (entries : List Entry) → All (λ n. n.id.0 ≤ 4294967295) (nodes_of entries)
+ids_fit_all entries =
+    All-fold (λ n. n.id.0 ≤ 4294967295) [] (map node_of (sections entries)) (λ k d within. absurd (omega arith)) (ids_fit (sections entries))
+
 ids_all :
     (entries : List Entry)
     → first_some (map (bad_number_in (has_device entries)) entries) ≡ None
@@ -125,6 +129,7 @@ IsValid-filled entries e =
       some_node = omega arith;
       few_nodes = omega arith;
       ids_from_one = ids_all entries bad.0 (map_none (λ place. NoId place) (position_from lacks_id 1 (sections entries)) bad.1.0);
+      ids_fit = ids_fit_all entries;
       ids_ascend = strictly nodes (Ascends-fold [] (map node_of (sections entries)) tt) once;
       votes_fit = votes_fit_all entries;
       some_vote = omega arith;

@@ -156,6 +156,17 @@ ids_from_one device place (NodeBegins ∷ entries) good all =
     (ids_from_one device (place + 1) entries good.1 parts.1)
 ids_from_one device place (Written key value ∷ entries) good all = ids_from_one device place entries good.1 all
 
+id_fits : (o : Option ℕ) → ((n : ℕ) → o ≡ Some n → (1 ≤ n) × (n ≤ 4294967295)) → unwrap_or o 0 ≤ 4294967295
+id_fits None within = omega arith
+id_fits (Some n) within = (within n refl).1
+
+-- each node's id is one of 32 bits
+pub ids_fit : (entries : List (List Entry)) → All (λ n. n.id.0 ≤ 4294967295) (map node_of entries)
+ids_fit [] = λ k d within. absurd (omega arith)
+ids_fit (section ∷ others) =
+    All-cons (λ n. n.id.0 ≤ 4294967295) (node_of section) (map node_of others)
+    (id_fits (number NodeId section) (λ n is. number-range NodeId (1, 4294967295) section n refl is)) (ids_fit others)
+
 -- each node has at most 65535 votes
 pub votes_fit : (entries : List (List Entry)) → All (λ n. n.votes ≤ 65535) (map node_of entries)
 votes_fit [] = λ k d within. absurd (omega arith)
