@@ -1,0 +1,4 @@
+pub mod Asked
+pub mod Choices
+pub mod Outside
+pub mod Steps
