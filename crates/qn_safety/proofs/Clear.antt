@@ -1,0 +1,105 @@
+-- What holds of a node where no condition of a start lacks.
+use Rattle.std.proofs.Common.{◌≡◌, ℕ, suc, zero, ◌+◌, ◌<◌, ◌≤◌, Bool, true, false, List, [], ◌∷◌, length, Some, None, Option, refl, sym, ap, ◌∙◌, subst, arith, cond, ◌&&◌, ◌||◌, ◌==◌, not, if◌then◌else◌, ◌⊎◌, inl, inr, is_some, is_none}
+use Rattle.std.specs.Option.{option_map_or}
+use Rattle.std.proofs.lemmas.Bool.{false≢true, true≢false, cases_lt, eqb-true, eqb-false, ne_eqb}
+use Rattle.qn_model.specs.declared.configuration.Settings.{Settings}
+use Rattle.qn_model.specs.declared.life.Why.{Why}
+use Rattle.qn_model.specs.declared.life.Why.TheVariants as why
+use Rattle.qn_model.specs.Log.{Line, now}
+use Rattle.qn_model.specs.Phases.{phase, is_up}
+use Rattle.qn_model.specs.Holding.{holds}
+use Rattle.qn_model.specs.NodeVotes.{view, is_in_view, answer, released, quorate}
+use Rattle.qn_model.specs.Hearing.{is_free, is_held}
+use Rattle.qn_model.specs.Licences.{is_licensed, is_written, left_to_wait}
+use Rattle.qn_model.specs.Unmet.{unmet, is_clear, id_of, chosen, is_chosen, holder, unheard, unfenced, or_else, lacks_of_others, other_chosen, least_from}
+use Rattle.qn_safety.proofs.Tools.{some_same, none_some, some_none, clash, not_true}
+use Rattle.qn_safety.proofs.Least.{least_passes, least_none, least_below}
+
+-- what a start rests on
+pub record IsClear (s : Settings) (me : ℕ) (log : List Line) (tick : ℕ) : Type 0 where
+  pub up : is_up (phase s log) ≡ true
+  pub idle : holds log ≡ false
+  pub released : released s log ≡ true
+  pub least : (j : ℕ) → j < length s.nodes → is_in_view log j ≡ true → me ≤ j
+  pub free : (j : ℕ) → j < length s.nodes → is_in_view log j ≡ true → ¬ (j ≡ me) → is_free log j ≡ true
+  pub licensed : (j : ℕ) → j < length s.nodes → is_in_view log j ≡ false → is_licensed log j tick ≡ true
+
+record NothingLacks (up held released : Bool) (other holds_it unheard_of unfenced_one : Option ℕ) : Type 0 where
+  is_up : up ≡ true
+  is_idle : held ≡ false
+  is_released : released ≡ true
+  no_other : other ≡ None
+  no_holder : holds_it ≡ None
+  none_unheard : unheard_of ≡ None
+  none_unfenced : unfenced_one ≡ None
+
+clear_cases : (s : Settings) (log : List Line) (tick votes quorum : ℕ) (up held blank free_to quorate : Bool) (other holds_it unheard_of unfenced_one : Option ℕ)
+    → is_clear (if not up then why.Down
+      else (if held then why.Holding
+      else (if blank then why.NoView
+      else (if not free_to then why.WaitForAll
+      else (if not quorate then why.NotQuorate votes quorum
+      else or_else other (λ rank. why.NotChosen (id_of s rank))
+        (or_else holds_it (λ rank. why.HeldBy (id_of s rank))
+        (or_else unheard_of (λ rank. why.Unheard (id_of s rank))
+        (or_else unfenced_one (λ rank. why.Unfenced (id_of s rank) (is_written log rank) (left_to_wait log rank tick))
+        why.Clear)))))))) ≡ true
+    → NothingLacks up held free_to other holds_it unheard_of unfenced_one
+clear_cases s log tick votes quorum true false false true true None None None None e =
+    record { is_up = refl; is_idle = refl; is_released = refl; no_other = refl; no_holder = refl; none_unheard = refl; none_unfenced = refl }
+clear_cases s log tick votes quorum true false false true true None None None (Some a) e = absurd (false≢true e)
+clear_cases s log tick votes quorum true false false true true None None (Some b) a e = absurd (false≢true e)
+clear_cases s log tick votes quorum true false false true true None (Some c) b a e = absurd (false≢true e)
+clear_cases s log tick votes quorum true false false true true (Some d) c b a e = absurd (false≢true e)
+clear_cases s log tick votes quorum true false false true false d c b a e = absurd (false≢true e)
+clear_cases s log tick votes quorum true false false false q d c b a e = absurd (false≢true e)
+clear_cases s log tick votes quorum true false true f q d c b a e = absurd (false≢true e)
+clear_cases s log tick votes quorum true true v f q d c b a e = absurd (false≢true e)
+clear_cases s log tick votes quorum false h v f q d c b a e = absurd (false≢true e)
+
+-- the chosen one is no greater than any member
+least_member : (s : Settings) (me : ℕ) (log : List Line) (found : Option ℕ) → chosen s log ≡ found
+    → (if option_map_or (λ rank. rank == me) found false then None else found) ≡ None
+    → (j : ℕ) → j < length s.nodes → is_in_view log j ≡ true → me ≤ j
+least_member s me log None is other j below member = clash (is_in_view log j) member (least_none (length s.nodes) 0 _ is j (omega arith) (omega arith))
+least_member s me log (Some rank) is other j below member = by_test (rank == me) refl other
+  where
+    not_less : (rank ≡ me) → (j < me) ⊎ (me ≤ j) → me ≤ j
+    not_less same (inr above) = above
+    not_less same (inl under) = clash (is_in_view log j) member (least_below (length s.nodes) 0 _ rank is j (omega arith) (omega arith))
+    by_test : (b : Bool) → (rank == me) ≡ b → (if b then None else Some rank) ≡ None → me ≤ j
+    by_test true same o = not_less (eqb-true rank me same) (cases_lt j me)
+    by_test false differs o = some_none rank o
+
+free_of : (inside other free held : Bool) → inside ≡ true → other ≡ true → (inside && other && held) ≡ false → (inside && other && not free && not held) ≡ false → free ≡ true
+free_of true true true held i o h u = refl
+free_of true true false true i o h u = absurd (true≢false h)
+free_of true true false false i o h u = absurd (true≢false u)
+free_of true false free held i o h u = absurd (false≢true o)
+free_of false other free held i o h u = absurd (false≢true i)
+
+licensed_of : (inside licensed : Bool) → inside ≡ false → (not inside && not licensed) ≡ false → licensed ≡ true
+licensed_of false true i e = refl
+licensed_of false false i e = absurd (true≢false e)
+licensed_of true licensed i e = absurd (true≢false i)
+
+another : (j me : ℕ) → ¬ (j ≡ me) → not (j == me) ≡ true
+another j me differs = ap not (ne_eqb j me differs)
+
+-- a start comes only where nothing lacks
+pub why_clear : (s : Settings) (me : ℕ) (log : List Line) (tick : ℕ) → is_clear (unmet s me log tick) ≡ true → IsClear s me log tick
+unfolding unmet
+why_clear s me log tick e =
+    let parts = clear_cases s log tick _ _ (is_up (phase s log)) (holds log) (is_none (view log)) (released s log) (quorate s log tick)
+          (other_chosen s me log) (holder s me log) (unheard s me log) (unfenced s log tick) e in
+    record {
+      up = parts.is_up;
+      idle = parts.is_idle;
+      released = parts.is_released;
+      least = least_member s me log (chosen s log) refl parts.no_other;
+      free = λ j below member differs. free_of (is_in_view log j) (not (j == me)) (is_free log j) (is_held log j) member (another j me differs)
+          (least_none (length s.nodes) 0 _ parts.no_holder j (omega arith) (omega arith))
+          (least_none (length s.nodes) 0 _ parts.none_unheard j (omega arith) (omega arith));
+      licensed = λ j below outside. licensed_of (is_in_view log j) (is_licensed log j tick) outside
+          (least_none (length s.nodes) 0 _ parts.none_unfenced j (omega arith) (omega arith));
+    }

@@ -1,0 +1,7 @@
+pub mod Tools
+pub mod Least
+pub mod Says
+pub mod Clear
+pub mod Logs
+pub mod Apt
+pub mod Stays

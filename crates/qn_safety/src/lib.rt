@@ -1,0 +1,5 @@
+// The safety theorem.
+#![tactic(auto)]
+
+/// Nothing yet.
+pub fn law_nothing() {}
