@@ -40,7 +40,7 @@ use Rattle.qn_model.specs.Unmet.{unmet, is_clear}
 use Rattle.qn_model.specs.Wanted.{wanted, boot_op, claim_after, rank_of}
 use Rattle.qn_model.specs.Fitting.{fits, read_as, answers_op, is_first, is_own_view, is_for}
 use Rattle.qn_model.specs.NodeOutputs.{outs_at, mail_feeds, feeds_on, taken_in, with_read, with_entry, newest_outs, gives_start}
-use Rattle.qn_safety.specs.Before.{Before, Itself, Later}
+use Rattle.qn_model.specs.Moments.{Before, Itself, Later}
 use Rattle.qn_safety.proofs.Tools.{some_same, none_some, some_none, clash, and_left_of, and_right_of, not_true, before_length, before_then, before_tail, before_total, before_same, before_shorter}
 use Rattle.qn_safety.proofs.Says.{Says, Reason, BootReason, LiveReason, LiveState, is_closed}
 use Rattle.qn_safety.proofs.Logs.{Made, NoLine, OneMore, IsLine, before_outs, disk_reason, answers_out}

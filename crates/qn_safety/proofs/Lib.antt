@@ -5,3 +5,4 @@ pub mod Clear
 pub mod Logs
 pub mod Apt
 pub mod Stays
+pub mod Rests
