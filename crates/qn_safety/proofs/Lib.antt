@@ -6,3 +6,5 @@ pub mod Logs
 pub mod Apt
 pub mod Stays
 pub mod Rests
+pub mod Times
+pub mod Runs
