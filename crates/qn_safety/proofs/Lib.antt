@@ -8,3 +8,4 @@ pub mod Stays
 pub mod Rests
 pub mod Times
 pub mod Runs
+pub mod Origins
