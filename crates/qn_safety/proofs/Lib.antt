@@ -9,3 +9,4 @@ pub mod Rests
 pub mod Times
 pub mod Runs
 pub mod Origins
+pub mod Fence

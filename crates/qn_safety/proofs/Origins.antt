@@ -101,14 +101,14 @@ origin_later s i line past moment earlier same (ByEntry before added boot) =
     ByEntry before (record { entry = added.entry; back = Later moment added.back; gave = added.gave }) (boot ∙ sym same)
 origin_later s i line past moment earlier same (ByBoot begins first) = ByBoot begins first
 
-same_boots : (s : Settings) (i now : ℕ) (entry : What) (n : Running) → (handed s i now entry n).boots ≡ n.boots
+pub same_boots : (s : Settings) (i now : ℕ) (entry : What) (n : Running) → (handed s i now entry n).boots ≡ n.boots
 unfolding handed logged
 same_boots s i now entry n = refl
 
-head_same : {x y : Line} {xs ys : List Line} → x ∷ xs ≡ y ∷ ys → x ≡ y
+pub head_same : {x y : Line} {xs ys : List Line} → x ∷ xs ≡ y ∷ ys → x ≡ y
 head_same e = cc
 
-tail_same : {x y : Line} {xs ys : List Line} → x ∷ xs ≡ y ∷ ys → xs ≡ ys
+pub tail_same : {x y : Line} {xs ys : List Line} → x ∷ xs ≡ y ∷ ys → xs ≡ ys
 tail_same e = cc
 
 origin_turn : (s : Settings) (i : ℕ) (line : Line) (past : List Line) (earlier : List Moment) (moment : Moment) → Turn s i earlier moment

@@ -100,14 +100,14 @@ blank_answer s me past what.Tick timely is fit out none = absurd (false≢true i
 blank_answer s me past (what.Stopped ok) timely is fit out none = absurd (false≢true is)
 blank_answer s me past what.Leave timely is fit out none = absurd (false≢true is)
 
-not_live_up : (p : Phase) → is_booting p ≡ true → is_live p ≡ true → ⊥
+pub not_live_up : (p : Phase) → is_booting p ≡ true → is_live p ≡ true → ⊥
 not_live_up p b l = false≢true (ap is_live (sym (booting_is p b)) ∙ l)
 
 not_up_booting : (p : Phase) → is_booting p ≡ true → is_up p ≡ true → ⊥
 not_up_booting p b l = false≢true (ap is_up (sym (booting_is p b)) ∙ l)
 
 -- while booting, what answers nothing leaves the phase
-boot_tick : (s : Settings) (me : ℕ) (past : List Line) (entry : What) (timely : Bool) → is_answer entry ≡ false → fits s me past entry ≡ true
+pub boot_tick : (s : Settings) (me : ℕ) (past : List Line) (entry : What) (timely : Bool) → is_answer entry ≡ false → fits s me past entry ≡ true
     → is_booting (phase s past) ≡ true → is_booting (next_phase s entry timely (phase s past)) ≡ true
 boot_tick s me past what.Begin timely is fit b = refl
 boot_tick s me past what.Tick timely is fit b = b
@@ -137,7 +137,7 @@ gone_answers : (out : Option DiskOp) (entry : What) → is_apt out Gone ≡ true
 gone_answers None entry e = refl
 gone_answers (Some op) entry e = absurd (false≢true e)
 
-gone_next : (s : Settings) (me : ℕ) (past : List Line) (entry : What) (timely : Bool) → fits s me past entry ≡ true → phase s past ≡ Gone
+pub gone_next : (s : Settings) (me : ℕ) (past : List Line) (entry : What) (timely : Bool) → fits s me past entry ≡ true → phase s past ≡ Gone
     → is_apt (op_out past) Gone ≡ true → next_phase s entry timely (phase s past) ≡ Gone
 unfolding phase
 gone_next s me [] entry timely fit gone a = absurd (false≢true (ap Rattle.qn_model.specs.Moments.is_gone gone))
