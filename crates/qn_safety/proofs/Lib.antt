@@ -10,3 +10,4 @@ pub mod Times
 pub mod Runs
 pub mod Origins
 pub mod Fence
+pub mod Numbers
