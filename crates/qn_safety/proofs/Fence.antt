@@ -114,7 +114,7 @@ pub record IsStarved (s : Settings) (t : Timing) (j : ℕ) (p now : List Moment)
   pub decided : (at : ℕ) → (node s j now).decided ≡ Some at → 99 * at ≤ 99 * time p + 100 * t.read_limit + 99
   pub fed : 99 * (node s j now).fed ≤ 99 * time p + 100 * t.read_limit + 99 + 99 * t.feed_delay
 
-up_later : {s : Settings} {t : Timing} (j : ℕ) {p now : List Moment} → AllRuled s t now → Before p now → IsUp s j p → IsSameBoot s j p now → (node s j now).on ≡ true → IsUp s j now
+pub up_later : {s : Settings} {t : Timing} (j : ℕ) {p now : List Moment} → AllRuled s t now → Before p now → IsUp s j p → IsSameBoot s j p now → (node s j now).on ≡ true → IsUp s j now
 up_later {s = s} j ruled back up same on =
     record { on = on; booted = boot_past_later ((sound ruled j).made) ((span j ruled back same on).grows) up.booted }
 

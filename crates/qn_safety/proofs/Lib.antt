@@ -11,3 +11,5 @@ pub mod Runs
 pub mod Origins
 pub mod Fence
 pub mod Numbers
+pub mod Licensed
+pub mod Tells

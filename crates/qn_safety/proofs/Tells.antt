@@ -1,0 +1,241 @@
+-- The Tell lemma: what a Tell that a node counts says of the node that sent it.
+use Rattle.std.proofs.Common.{◌≡◌, ℕ, suc, zero, ◌+◌, ◌-◌, ◌*◌, ◌/◌, ◌<◌, ◌≤◌, Bool, true, false, List, [], ◌∷◌, ◌++◌, length, Some, None, Option, refl, sym, ap, ◌∙◌, subst, arith, cond, ◌&&◌, ◌||◌, ◌==◌, not, if◌then◌else◌, ◌⊎◌, inl, inr, is_some, is_none, All, nat_le, nat_lt}
+use Rattle.std.specs.Option.{option_or, option_map, option_map_or}
+use Rattle.std.proofs.lemmas.Bool.{false≢true, true≢false, cases_lt, cases_order, cases_Bool, or_cases, eqb-true, eqb-false, eq-eqb, ne_eqb, ltb-true, ltb-false, leb-true, lt-ltb, le-leb}
+use Rattle.qn_base.specs.declared.ids.Rank.{Rank}
+use Rattle.qn_base.specs.declared.ids.View.{View}
+use Rattle.qn_base.specs.Members.{is_member}
+use Rattle.qn_model.specs.declared.configuration.Settings.{Settings}
+use Rattle.qn_model.specs.declared.times.Timing.{Timing}
+use Rattle.qn_model.specs.declared.disk.Message.{Message}
+use Rattle.qn_model.specs.declared.disk.Message.TheVariants as message
+use Rattle.qn_model.specs.declared.disk.Slot.{Slot}
+use Rattle.qn_model.specs.declared.seen.HeaderSeen.{HeaderSeen}
+use Rattle.qn_model.specs.declared.seen.HeaderSeen.TheVariants as header
+use Rattle.qn_model.specs.declared.seen.SlotSeen.{SlotSeen}
+use Rattle.qn_model.specs.declared.seen.SlotSeen.TheVariants as slot
+use Rattle.qn_model.specs.declared.seen.MailSeen.{MailSeen}
+use Rattle.qn_model.specs.declared.seen.MailSeen.TheVariants as mail
+use Rattle.qn_model.specs.declared.packets.Ask.{Ask}
+use Rattle.qn_model.specs.declared.packets.Tell.{Tell}
+use Rattle.qn_model.specs.declared.packets.Packet.{Packet}
+use Rattle.qn_model.specs.declared.packets.Packet.TheVariants as packet
+use Rattle.qn_model.specs.declared.entries.What.{What}
+use Rattle.qn_model.specs.declared.entries.What.TheVariants as what
+use Rattle.qn_model.specs.declared.life.Phase.{Phase}
+use Rattle.qn_model.specs.declared.life.Phase.TheVariants.{Booting, Up, Leaving, Dying, Gone}
+use Rattle.qn_model.specs.declared.outputs.BootCause.{BootCause}
+use Rattle.qn_model.specs.declared.outputs.DiskOp.{DiskOp}
+use Rattle.qn_model.specs.declared.outputs.DiskOp.TheVariants as disk
+use Rattle.qn_model.specs.declared.outputs.Out.{Out}
+use Rattle.qn_model.specs.declared.outputs.Out.TheVariants as out
+use Rattle.qn_model.specs.Log.{Line, op_out, ask_place, ask_tick, claimed, claim_of, incarnation, timing, times_of, no_times, disk_of, has_start, has_stop, is_answer, is_view, view_of}
+use Rattle.qn_model.specs.Phases.{phase, next_phase, boot_phase, mail_phase, header_halt, slot_halt, boot_halt, message_of, deadly_of, in_time, is_booting, is_live, is_up, is_leaving}
+use Rattle.qn_model.specs.Sectors.{is_deadly}
+use Rattle.qn_model.specs.Holding.{holds, stop_due, is_stopped}
+use Rattle.qn_model.specs.NodeVotes.{view, is_in_view, is_present, answers, install, released, quorate}
+use Rattle.qn_model.specs.Hearing.{is_free, told, tells, tell_of}
+use Rattle.qn_model.specs.Licences.{out_time, starts_out_time, slot_read_since, reset_since, reads_slot, writes_reset, is_clean_slot, is_clean, is_written, is_fenced, is_licensed, reset_tick}
+use Rattle.qn_model.specs.Unmet.{unmet, is_clear}
+use Rattle.qn_model.specs.Wanted.{wanted, boot_op, claim_after, rank_of}
+use Rattle.qn_model.specs.Fitting.{fits, read_as, answers_op, is_first, is_own_view, is_for}
+use Rattle.qn_model.specs.NodeOutputs.{outs_at, mail_feeds, feeds_on, taken_in, with_read, with_entry, newest_outs, gives_start}
+use Rattle.qn_model.specs.Moments.{Before, Itself, Later}
+use Rattle.qn_safety.proofs.Tools.{some_same, none_some, some_none, clash, and_left_of, and_right_of, not_true, before_length, before_then, before_tail, before_total, before_same, before_shorter}
+use Rattle.qn_model.specs.declared.packets.Sent.{Sent}
+use Rattle.qn_model.specs.Log as LogSpec
+use Rattle.qn_model.specs.Moments.{Moment, Passes, Boots, Adds, Feeds, Ends, Running, tick_of, is_gone, has_feed, advance_of, advanced, logged, handed, booted, time, node, given_out, packets, packets_of, is_holder}
+use Rattle.qn_model.specs.Rules.{passes, is_within_bounds, outlives, is_between}
+use Rattle.qn_safety.specs.Closing.{is_close, asked_close}
+use Rattle.qn_safety.specs.Timed.{IsUp, IsSameBoot, IsSentTo, WasSent, MayFeed, IsRuled, AllRuled, NoMoment, OneRuled, IsBetween, HasClosed, IsDoomed, IsAdded, NumbersRise, CleanMeansClosed, WrittenMeansDoomed, HeadersAgree, IsTimedRun}
+use Rattle.std.proofs.Common.{unwrap_or}
+use Rattle.qn_model.specs.NodeVotes.{is_same_view}
+use Rattle.qn_safety.proofs.Says.{Says, PacketReason, TellReason, AskReason}
+use Rattle.qn_safety.proofs.Logs.{Made, NoLine, OneMore, IsLine, before_outs, made_before, made_tail, made_line, line_at, start_reason}
+use Rattle.qn_safety.proofs.Rests.{TellFound, same_view_at}
+use Rattle.qn_safety.proofs.Runs.{IsSound, sound, ruled_before, newest_rule, earlier_ruled, Span, span, boots_le, same_mid, added_node}
+use Rattle.qn_safety.proofs.Origins.{Origin, ByEntry, ByBoot, origin, AddedLine, added_line, Sending, sent_at}
+use Rattle.qn_safety.proofs.Numbers.{HasNumber, up_number}
+use Rattle.qn_safety.proofs.Licensed.{added_boots}
+
+-- what node i knows at m by a Tell of node j that says not holding
+pub record Traced (s : Settings) (i j : ℕ) (m : List Moment) : Type 0 where
+  pub sent : List Moment
+  pub back : Before sent m
+  pub line : Line
+  pub past : List Line
+  pub gave : (node s j sent).log ≡ line ∷ past
+  pub idle : holds (line ∷ past) ≡ false
+  pub sees : is_in_view (line ∷ past) i ≡ true
+  pub asked : List Moment
+  pub asked_back : Before asked sent
+  pub up : IsUp s i asked
+  pub same : IsSameBoot s i asked m
+
+-- an entry that is read as a packet is that packet
+read_by_test : (b : Bool) (entry w : What) → (if b then entry else what.Tick) ≡ w → ((what.Tick ≡ w) → ⊥) → entry ≡ w
+read_by_test true entry w e no_tick = e
+read_by_test false entry w e no_tick = absurd (no_tick e)
+
+read_tell : (s : Settings) (me : ℕ) (past : List Line) (entry : What) (tell : Tell) → read_as s me past entry ≡ what.Tell tell → entry ≡ what.Tell tell
+read_tell s me past entry tell e = read_by_test (fits s me past entry) entry (what.Tell tell) e (λ q. cc)
+
+read_ask : (s : Settings) (me : ℕ) (past : List Line) (entry : What) (ask : Ask) → read_as s me past entry ≡ what.Ask ask → entry ≡ what.Ask ask
+read_ask s me past entry ask e = read_by_test (fits s me past entry) entry (what.Ask ask) e (λ q. cc)
+
+live_booted : (p : Phase) → is_live p ≡ true → is_booting p ≡ false
+live_booted Up e = refl
+live_booted Leaving e = refl
+live_booted Booting e = absurd (false≢true e)
+live_booted Dying e = absurd (false≢true e)
+live_booted Gone e = absurd (false≢true e)
+
+number_of_test : (found : Option ℕ) (number : ℕ) → option_map_or (λ n. n == number) found false ≡ true → found ≡ Some number
+number_of_test None number e = absurd (false≢true e)
+number_of_test (Some n) number e = ap Some (eqb-true n number e)
+
+-- a Tell that answers carries the claimed number
+answers_number : (past : List Line) (tell : Tell) → answers past tell ≡ true → claimed past ≡ Some tell.incarnation
+answers_number past tell e =
+    number_of_test (claimed past) tell.incarnation
+    (and_left_of (option_map_or (λ number. number == tell.incarnation) (claimed past) false) (install past == tell.install)
+    (and_left_of (option_map_or (λ number. number == tell.incarnation) (claimed past) false && install past == tell.install) (is_present past tell.view) e))
+
+-- a rank that is in a view that is the present one is in the present one
+member_of_present : (found : Option View) (asked : View) (rank : ℕ) → option_map_or (λ own. is_same_view own asked) found false ≡ true → is_member asked.members rank ≡ true
+    → option_map_or (λ view. is_member view.members rank) found false ≡ true
+member_of_present None asked rank e member = absurd (false≢true e)
+member_of_present (Some own) asked rank e member =
+    let same : own.members.0 ≡ asked.members.0 = eqb-true own.members.0 asked.members.0 (and_right_of (own.id == asked.id) (own.members.0 == asked.members.0) e) in
+    subst (λ mask. (Rattle.std.specs.Int.bit_at mask rank == 1) ≡ true) (sym same) member
+
+or_false_left : (a b : Bool) → (a || b) ≡ false → a ≡ false
+or_false_left false b e = refl
+or_false_left true b e = absurd (true≢false e)
+
+or_false_right : (a b : Bool) → (a || b) ≡ false → b ≡ false
+or_false_right false b e = e
+or_false_right true b e = absurd (true≢false e)
+
+idle_line : (start before : Bool) → start ≡ false → before ≡ false → (start || before) ≡ false
+idle_line false before s e = e
+idle_line true before s e = s
+
+-- a line whose Tell says not holding leaves the node not holding
+tell_idle : {s : Settings} {me : ℕ} {line : Line} {past : List Line} → IsLine s me line past → (gives_start s me (before_outs line past) || holds (before_outs line past)) ≡ false
+    → holds (line ∷ past) ≡ false
+unfolding holds
+tell_idle {s = s} {me = me} {line = line} {past = past} it none =
+    by_start (has_start line.outs) refl
+  where
+    by_start : (b : Bool) → has_start line.outs ≡ b → (has_start line.outs || (holds past && not (is_stopped line.what))) ≡ false
+    by_start true e = clash (gives_start s me (before_outs line past)) ((start_reason it e).clear) (or_false_left (gives_start s me (before_outs line past)) _ none)
+    by_start false e = idle_line (has_start line.outs) (holds past && not (is_stopped line.what)) e (or_false_right (gives_start s me (before_outs line past)) _ none)
+
+-- two moments at which a rank is up with one number are of one boot
+pub one_boot : {s : Settings} {t : Timing} {all : List Moment} (run : IsTimedRun s t all) (i number : ℕ) (p q : List Moment) → Before p all → Before q all → IsUp s i p → IsUp s i q
+    → incarnation (node s i p).log ≡ Some number → incarnation (node s i q).log ≡ Some number → IsSameBoot s i p q
+one_boot {s = s} run i number p q p_all q_all up_p up_q has_p has_q = by_order (cases_order (node s i p).boots (node s i q).boots)
+  where
+    by_order : ((node s i p).boots ≡ (node s i q).boots) ⊎ (((node s i p).boots < (node s i q).boots) ⊎ ((node s i q).boots < (node s i p).boots)) → (node s i p).boots ≡ (node s i q).boots
+    by_order (inl same) = same
+    by_order (inr (inl less)) = absurd (let rise = run.rise i number number p q p_all q_all up_p up_q less has_p has_q in omega arith)
+    by_order (inr (inr more)) = absurd (let rise = run.rise i number number q p q_all p_all up_q up_p more has_q has_p in omega arith)
+
+module _ {s : Settings} {t : Timing} {all : List Moment} (run : IsTimedRun s t all) (i : ℕ) (m : List Moment) (m_all : Before m all) where
+  -- from the Ask that was sent on: both packets, and the boot that asked
+  traced_from : (j : ℕ) (tell : Tell) (heard_at : List Moment) → Before heard_at m → IsUp s i heard_at → IsSameBoot s i heard_at m → claimed (node s i heard_at).log ≡ Some tell.incarnation
+      → not tell.holds ≡ true → (sent_tell : Sent) → sent_tell.to.0 ≡ i → sent_tell.packet ≡ packet.Tell tell → (sending : Sending s j sent_tell heard_at)
+      → TellReason s j sending.past (before_outs sending.line sending.past) sending.line.what sent_tell.to tell → Traced s i j m
+  traced_from j tell heard_at heard_m up_heard same_heard claims free sent_tell receiver content sending why =
+      by_ask (sent_at (ruled_before back_before_all run.ruled) asked_sent)
+    where
+      back_sent_all : Before (Adds j sending.added.entry ∷ sending.before) all
+      back_sent_all = before_then sending.added.back (before_then heard_m m_all)
+      back_before_all : Before sending.before all
+      back_before_all = before_tail back_sent_all
+      ruled_sent : AllRuled s t (Adds j sending.added.entry ∷ sending.before)
+      ruled_sent = ruled_before back_sent_all run.ruled
+      parts : AddedLine s j sending.added.entry sending.line sending.past sending.before
+      parts = added_line s j sending.added.entry sending.line sending.past sending.before sending.added.gave
+      asked_sent : IsSentTo s j (packet.Ask why.ask) sending.before
+      asked_sent =
+          let rule = (newest_rule ruled_sent).1 in
+          subst (λ w. WasSent s j w sending.before) (read_ask s j sending.past sending.added.entry why.ask (sym parts.reads ∙ why.asked)) rule
+      it : IsLine s j sending.line sending.past
+      it = made_line (subst (λ log. Made s j log) sending.added.gave ((sound ruled_sent j).made))
+      asker : why.ask.from.0 ≡ i
+      asker = ap (λ r. r.0) (sym why.to_asker) ∙ receiver
+      by_ask : (k : ℕ) × Sending s k asked_sent.sent sending.before → Traced s i j m
+      by_ask found =
+          let k = found.0 in
+          let asking = found.1 in
+          let reason : AskReason s k asking.past (before_outs asking.line asking.past) asked_sent.sent.to why.ask =
+                subst (λ c. PacketReason s k asking.past (before_outs asking.line asking.past) asking.line.what asked_sent.sent.to c) asked_sent.content asking.reason in
+          let own : k ≡ i = sym (ap (λ r. r.0) reason.from_me) ∙ asker in
+          record {
+            sent = Adds j sending.added.entry ∷ sending.before;
+            back = before_then sending.added.back heard_m;
+            line = sending.line;
+            past = sending.past;
+            gave = sending.added.gave;
+            idle = tell_idle it (sym why.held ∙ not_true tell.holds free);
+            sees = sym (same_view_at sending.line sending.past i)
+                ∙ member_of_present (view (before_outs sending.line sending.past)) why.ask.view i why.present (subst (λ r. is_member why.ask.view.members r ≡ true) asker why.member);
+            asked = asking.before;
+            asked_back = before_then (before_tail asking.added.back) (Later (Adds j sending.added.entry) Itself);
+            up = subst (λ r. IsUp s r asking.before) own asking.up;
+            same = same_asker k asking own reason ∙ same_heard;
+          }
+        where
+          same_asker : (k : ℕ) (asking : Sending s k asked_sent.sent sending.before) → k ≡ i → AskReason s k asking.past (before_outs asking.line asking.past) asked_sent.sent.to why.ask
+              → IsSameBoot s i asking.before heard_at
+          same_asker k asking own reason =
+              let up_asking : IsUp s i asking.before = subst (λ r. IsUp s r asking.before) own asking.up in
+              let asking_all : Before asking.before all = before_then (before_tail asking.added.back) back_before_all in
+              let heard_all : Before heard_at all = before_then heard_m m_all in
+              let ruled_asking = ruled_before asking_all run.ruled in
+              let state = sound ruled_asking i in
+              let has = up_number state.made up_asking.booted (state.living up_asking.on) in
+              let heard_state = sound (ruled_before heard_all run.ruled) i in
+              let heard_has = up_number heard_state.made up_heard.booted (heard_state.living up_heard.on) in
+              let own_log : asking.past ≡ (node s i asking.before).log = asking.behind ∙ ap (λ r. (node s r asking.before).log) own in
+              let number : why.ask.incarnation ≡ has.number = reason.number ∙ ap (λ log. unwrap_or (claimed log) 0) own_log ∙ ap (λ o. unwrap_or o 0) has.claims in
+              let heard_number : tell.incarnation ≡ heard_has.number = some_same _ _ (sym claims ∙ heard_has.claims) in
+              let numbers : heard_has.number ≡ has.number = sym heard_number ∙ why.incarnation ∙ number in
+              one_boot run i has.number asking.before heard_at asking_all heard_all up_asking up_heard has.has (heard_has.has ∙ ap Some numbers)
+
+  by_sending : (j : ℕ) (tell : Tell) (heard_at : List Moment) → Before heard_at m → IsUp s i heard_at → IsSameBoot s i heard_at m → claimed (node s i heard_at).log ≡ Some tell.incarnation
+      → not tell.holds ≡ true → tell.from.0 ≡ j → IsSentTo s i (packet.Tell tell) heard_at → Traced s i j m
+  by_sending j tell heard_at heard_m up_heard same_heard claims free from_j told_sent =
+      let found = sent_at (ruled_before (before_then heard_m m_all) run.ruled) told_sent in
+      let k = found.0 in
+      let sending = found.1 in
+      let why : TellReason s k sending.past (before_outs sending.line sending.past) sending.line.what told_sent.sent.to tell =
+            subst (λ c. PacketReason s k sending.past (before_outs sending.line sending.past) sending.line.what told_sent.sent.to c) told_sent.content sending.reason in
+      subst (λ x. Traced s i x m) (sym (ap (λ r. r.0) why.from_me) ∙ from_j)
+      (traced_from k tell heard_at heard_m up_heard same_heard claims free told_sent.sent told_sent.receiver told_sent.content sending why)
+
+  -- what a Tell that a node counts as not holding says
+  pub traced : (j : ℕ) → TellFound (λ tell. not tell.holds) j (node s i m).log → Traced s i j m
+  traced j found = by_origin (origin s i found.line found.past m found.back)
+    where
+      no_begin : found.line.what ≡ what.Begin → ⊥
+      no_begin begins = told_begin (sym begins ∙ found.reads)
+        where
+          told_begin : what.Begin ≡ what.Tell found.tell → ⊥
+          told_begin e = cc
+      by_origin : Origin s i found.line found.past m → Traced s i j m
+      by_origin (ByBoot begins first) = absurd (no_begin begins)
+      by_origin (ByEntry before added same) =
+          let ruled_add = ruled_before (before_then added.back m_all) run.ruled in
+          let rule = newest_rule ruled_add in
+          let parts = added_line s i added.entry found.line found.past before added.gave in
+          let it : IsLine s i found.line found.past = made_line (subst (λ log. Made s i log) added.gave ((sound ruled_add i).made)) in
+          let entry : added.entry ≡ what.Tell found.tell = read_tell s i found.past added.entry found.tell (sym parts.reads ∙ found.reads) in
+          let fit : fits s i found.past (what.Tell found.tell) ≡ true = subst (λ w. fits s i found.past w ≡ true) found.reads it.fitting in
+          let live : is_live (phase s found.past) ≡ true = and_left_of (is_live (phase s found.past)) (is_for s i found.tell.from found.tell.to) fit in
+          let booted : is_booting (phase s (node s i before).log) ≡ false = subst (λ log. is_booting (phase s log) ≡ false) parts.behind (live_booted (phase s found.past) live) in
+          let claims : claimed (node s i before).log ≡ Some found.tell.incarnation = subst (λ log. claimed log ≡ Some found.tell.incarnation) parts.behind (answers_number found.past found.tell found.answers) in
+          let told_sent : IsSentTo s i (packet.Tell found.tell) before = subst (λ w. WasSent s i w before) entry rule.1 in
+          by_sending j found.tell before (before_tail added.back) (record { on = rule.0; booted = booted }) (sym (added_boots s i added.entry before) ∙ same) claims found.passes found.sender told_sent
