@@ -1,19 +1,18 @@
 -- What holds of a node where no condition of a start lacks.
-use Rattle.std.proofs.Common.{◌≡◌, ℕ, suc, zero, ◌+◌, ◌<◌, ◌≤◌, Bool, true, false, List, [], ◌∷◌, length, Some, None, Option, refl, sym, ap, ◌∙◌, subst, arith, cond, ◌&&◌, ◌||◌, ◌==◌, not, if◌then◌else◌, ◌⊎◌, inl, inr, is_some, is_none}
+use Rattle.std.proofs.Common.{◌≡◌, ℕ, ◌<◌, ◌≤◌, Bool, true, false, List, length, Some, None, Option, refl, ap, arith, ◌&&◌, ◌==◌, not, if◌then◌else◌, ◌⊎◌, inl, inr, is_none}
 use Rattle.std.specs.Option.{option_map_or}
-use Rattle.std.proofs.lemmas.Bool.{false≢true, true≢false, cases_lt, eqb-true, eqb-false, ne_eqb}
+use Rattle.std.proofs.lemmas.Bool.{false≢true, true≢false, cases_lt, eqb-true, ne_eqb}
 use Rattle.qn_model.specs.declared.configuration.Settings.{Settings}
-use Rattle.qn_model.specs.declared.life.Why.{Why}
 use Rattle.qn_model.specs.declared.life.Why.TheVariants as why
-use Rattle.qn_model.specs.Log.{Line, now}
+use Rattle.qn_model.specs.Log.{Line}
 use Rattle.qn_model.specs.Phases.{phase, is_up}
 use Rattle.qn_model.specs.Holding.{holds}
-use Rattle.qn_model.specs.NodeVotes.{view, is_in_view, answer, released, quorate}
+use Rattle.qn_model.specs.NodeVotes.{view, is_in_view, released, quorate}
 use Rattle.qn_model.specs.Hearing.{is_free, is_held}
 use Rattle.qn_model.specs.Licences.{is_licensed, is_written, left_to_wait}
-use Rattle.qn_model.specs.Unmet.{unmet, is_clear, id_of, chosen, is_chosen, holder, unheard, unfenced, or_else, lacks_of_others, other_chosen, least_from}
-use Rattle.qn_safety.proofs.Tools.{some_same, none_some, some_none, clash, not_true}
-use Rattle.qn_safety.proofs.Least.{least_passes, least_none, least_below}
+use Rattle.qn_model.specs.Unmet.{unmet, is_clear, id_of, chosen, holder, unheard, unfenced, or_else, other_chosen}
+use Rattle.qn_safety.proofs.Tools.{some_none, clash}
+use Rattle.qn_safety.proofs.Least.{least_none, least_below}
 
 -- what a start rests on
 pub record IsClear (s : Settings) (me : ℕ) (log : List Line) (tick : ℕ) : Type 0 where
@@ -35,15 +34,15 @@ record NothingLacks (up held released : Bool) (other holds_it unheard_of unfence
 
 clear_cases : (s : Settings) (log : List Line) (tick votes quorum : ℕ) (up held blank free_to quorate : Bool) (other holds_it unheard_of unfenced_one : Option ℕ)
     → is_clear (if not up then why.Down
-      else (if held then why.Holding
-      else (if blank then why.NoView
-      else (if not free_to then why.WaitForAll
-      else (if not quorate then why.NotQuorate votes quorum
-      else or_else other (λ rank. why.NotChosen (id_of s rank))
-        (or_else holds_it (λ rank. why.HeldBy (id_of s rank))
-        (or_else unheard_of (λ rank. why.Unheard (id_of s rank))
-        (or_else unfenced_one (λ rank. why.Unfenced (id_of s rank) (is_written log rank) (left_to_wait log rank tick))
-        why.Clear)))))))) ≡ true
+    else (if held then why.Holding
+    else (if blank then why.NoView
+    else (if not free_to then why.WaitForAll
+    else (if not quorate then why.NotQuorate votes quorum
+    else or_else other (λ rank. why.NotChosen (id_of s rank))
+    (or_else holds_it (λ rank. why.HeldBy (id_of s rank))
+    (or_else unheard_of (λ rank. why.Unheard (id_of s rank))
+    (or_else unfenced_one (λ rank. why.Unfenced (id_of s rank) (is_written log rank) (left_to_wait log rank tick))
+    why.Clear)))))))) ≡ true
     → NothingLacks up held free_to other holds_it unheard_of unfenced_one
 clear_cases s log tick votes quorum true false false true true None None None None e =
     record { is_up = refl; is_idle = refl; is_released = refl; no_other = refl; no_holder = refl; none_unheard = refl; none_unfenced = refl }
@@ -67,6 +66,7 @@ least_member s me log (Some rank) is other j below member = by_test (rank == me)
     not_less : (rank ≡ me) → (j < me) ⊎ (me ≤ j) → me ≤ j
     not_less same (inr above) = above
     not_less same (inl under) = clash (is_in_view log j) member (least_below (length s.nodes) 0 _ rank is j (omega arith) (omega arith))
+
     by_test : (b : Bool) → (rank == me) ≡ b → (if b then None else Some rank) ≡ None → me ≤ j
     by_test true same o = not_less (eqb-true rank me same) (cases_lt j me)
     by_test false differs o = some_none rank o
@@ -91,7 +91,7 @@ pub why_clear : (s : Settings) (me : ℕ) (log : List Line) (tick : ℕ) → is_
 unfolding unmet
 why_clear s me log tick e =
     let parts = clear_cases s log tick _ _ (is_up (phase s log)) (holds log) (is_none (view log)) (released s log) (quorate s log tick)
-          (other_chosen s me log) (holder s me log) (unheard s me log) (unfenced s log tick) e in
+    (other_chosen s me log) (holder s me log) (unheard s me log) (unfenced s log tick) e in
     record {
       up = parts.is_up;
       idle = parts.is_idle;

@@ -1,61 +1,28 @@
 -- The fence lemma: a node whose reset was written is not running once msgwait has passed.
-use Rattle.std.proofs.Common.{◌≡◌, ℕ, suc, zero, ◌+◌, ◌-◌, ◌*◌, ◌/◌, ◌<◌, ◌≤◌, Bool, true, false, List, [], ◌∷◌, ◌++◌, length, Some, None, Option, refl, sym, ap, ◌∙◌, subst, arith, cond, ◌&&◌, ◌||◌, ◌==◌, not, if◌then◌else◌, ◌⊎◌, inl, inr, is_some, is_none, All, nat_le, nat_lt}
-use Rattle.std.specs.Option.{option_or, option_map, option_map_or}
-use Rattle.std.proofs.lemmas.Bool.{false≢true, true≢false, cases_lt, cases_order, cases_Bool, or_cases, eqb-true, eqb-false, eq-eqb, ne_eqb, ltb-true, ltb-false, leb-true, lt-ltb, le-leb}
-use Rattle.qn_base.specs.declared.ids.Rank.{Rank}
-use Rattle.qn_base.specs.declared.ids.View.{View}
-use Rattle.qn_base.specs.Members.{is_member}
+use Rattle.std.proofs.Common.{◌≡◌, ℕ, suc, ◌+◌, ◌-◌, ◌*◌, ◌<◌, ◌≤◌, Bool, true, false, List, [], ◌∷◌, length, Some, refl, sym, ap, ◌∙◌, subst, arith, if◌then◌else◌, ◌⊎◌, inl, inr, All}
+use Rattle.std.proofs.lemmas.Bool.{false≢true, cases_lt, leb-true}
 use Rattle.qn_model.specs.declared.configuration.Settings.{Settings}
 use Rattle.qn_model.specs.declared.times.Timing.{Timing}
-use Rattle.qn_model.specs.declared.disk.Message.{Message}
-use Rattle.qn_model.specs.declared.disk.Message.TheVariants as message
-use Rattle.qn_model.specs.declared.disk.Slot.{Slot}
-use Rattle.qn_model.specs.declared.seen.HeaderSeen.{HeaderSeen}
-use Rattle.qn_model.specs.declared.seen.HeaderSeen.TheVariants as header
-use Rattle.qn_model.specs.declared.seen.SlotSeen.{SlotSeen}
-use Rattle.qn_model.specs.declared.seen.SlotSeen.TheVariants as slot
-use Rattle.qn_model.specs.declared.seen.MailSeen.{MailSeen}
-use Rattle.qn_model.specs.declared.seen.MailSeen.TheVariants as mail
-use Rattle.qn_model.specs.declared.packets.Ask.{Ask}
-use Rattle.qn_model.specs.declared.packets.Tell.{Tell}
-use Rattle.qn_model.specs.declared.packets.Packet.{Packet}
-use Rattle.qn_model.specs.declared.packets.Packet.TheVariants as packet
 use Rattle.qn_model.specs.declared.entries.What.{What}
 use Rattle.qn_model.specs.declared.entries.What.TheVariants as what
-use Rattle.qn_model.specs.declared.life.Phase.{Phase}
-use Rattle.qn_model.specs.declared.life.Phase.TheVariants.{Booting, Up, Leaving, Dying, Gone}
-use Rattle.qn_model.specs.declared.outputs.BootCause.{BootCause}
-use Rattle.qn_model.specs.declared.outputs.DiskOp.{DiskOp}
-use Rattle.qn_model.specs.declared.outputs.DiskOp.TheVariants as disk
 use Rattle.qn_model.specs.declared.outputs.Out.{Out}
 use Rattle.qn_model.specs.declared.outputs.Out.TheVariants as out
 use Rattle.qn_model.specs.Log.{Line, op_out, ask_place, ask_tick, claimed, claim_of, incarnation, timing, times_of, no_times, disk_of, has_start, has_stop, is_answer, is_view, view_of}
-use Rattle.qn_model.specs.Phases.{phase, next_phase, boot_phase, mail_phase, header_halt, slot_halt, boot_halt, message_of, deadly_of, in_time, is_booting, is_live, is_up, is_leaving}
-use Rattle.qn_model.specs.Sectors.{is_deadly}
-use Rattle.qn_model.specs.Holding.{holds, stop_due, is_stopped}
-use Rattle.qn_model.specs.NodeVotes.{view, is_in_view, is_present, answers, install, released, quorate}
-use Rattle.qn_model.specs.Hearing.{is_free, told, tells, tell_of}
-use Rattle.qn_model.specs.Licences.{out_time, starts_out_time, slot_read_since, reset_since, reads_slot, writes_reset, is_clean_slot, is_clean, is_written, is_fenced, is_licensed, reset_tick}
-use Rattle.qn_model.specs.Unmet.{unmet, is_clear}
-use Rattle.qn_model.specs.Wanted.{wanted, boot_op, claim_after, rank_of}
-use Rattle.qn_model.specs.Fitting.{fits, read_as, answers_op, is_first, is_own_view, is_for}
-use Rattle.qn_model.specs.NodeOutputs.{outs_at, mail_feeds, feeds_on, taken_in, with_read, with_entry, newest_outs, gives_start}
+use Rattle.qn_model.specs.Phases.{phase, message_of, in_time, is_booting}
+use Rattle.qn_model.specs.NodeOutputs.{mail_feeds, feeds_on, newest_outs}
 use Rattle.qn_model.specs.Moments.{Before, Itself, Later}
-use Rattle.qn_safety.proofs.Tools.{some_same, none_some, some_none, clash, and_left_of, and_right_of, not_true, before_length, before_then, before_tail, before_total, before_same, before_shorter}
-use Rattle.qn_model.specs.declared.packets.Sent.{Sent}
+use Rattle.qn_safety.proofs.Tools.{some_same, none_some, clash, and_left_of, and_right_of, before_then, before_shorter}
 use Rattle.qn_model.specs.Log as LogSpec
-use Rattle.qn_model.specs.Moments.{Moment, Passes, Boots, Adds, Feeds, Ends, Running, tick_of, is_gone, has_feed, advance_of, advanced, logged, handed, booted, time, node, given_out, packets, packets_of, is_holder}
-use Rattle.qn_model.specs.Rules.{passes, is_within_bounds, outlives, is_between}
-use Rattle.qn_safety.specs.Closing.{is_close, asked_close}
-use Rattle.qn_safety.specs.Timed.{IsUp, IsSameBoot, IsSentTo, WasSent, MayFeed, IsRuled, AllRuled, NoMoment, OneRuled, IsBetween, HasClosed, IsDoomed, IsAdded, NumbersRise, CleanMeansClosed, WrittenMeansDoomed, HeadersAgree, IsTimedRun}
+use Rattle.qn_model.specs.Moments.{Moment, Adds, Running, tick_of, has_feed, logged, handed, booted, time, node}
+use Rattle.qn_safety.specs.Timed.{IsUp, IsSameBoot, IsRuled, AllRuled, GetsBadMail, IsAdded, IsTimedRun}
 use Rattle.std.proofs.lemmas.List.Elements.{All-head, All-tail}
-use Rattle.qn_model.specs.Timing.{is_safe, has_periods, outlasts_feeds, is_period}
-use Rattle.qn_safety.proofs.Says.{Says, PacketReason, TellReason, AskReason}
-use Rattle.qn_safety.proofs.Logs.{Made, NoLine, OneMore, IsLine, before_outs, made_before, made_tail, made_line, line_at, line_says, AnswerOf, answer_of, AskedBy}
+use Rattle.qn_model.specs.Timing.{is_safe, has_periods, outlasts_feeds}
+use Rattle.qn_safety.proofs.Says.{Says}
+use Rattle.qn_safety.proofs.Logs.{Made, OneMore, IsLine, before_outs, made_line, line_says, AnswerOf, answer_of}
 use Rattle.qn_safety.proofs.Stays.{boot_past_later}
-use Rattle.qn_safety.proofs.Times.{HeadersGive, headers_give, timing_known}
-use Rattle.qn_safety.proofs.Runs.{Turn, IsApart, IsPass, IsBoot, IsAdd, IsFeed, IsEnd, turn, added_node, booted_node, IsSound, sound, ruled_before, newest_rule, earlier_ruled, Span, span, boots_le, same_mid}
-use Rattle.qn_safety.proofs.Origins.{Origin, ByEntry, ByBoot, origin, AddedLine, added_line, handed_log, line_of, same_boots, head_same, tail_same}
+use Rattle.qn_safety.proofs.Times.{headers_give, timing_known}
+use Rattle.qn_safety.proofs.Runs.{Turn, IsApart, IsPass, IsBoot, IsAdd, IsFeed, IsEnd, turn, sound, ruled_before, newest_rule, earlier_ruled, Span, span, same_mid}
+use Rattle.qn_safety.proofs.Origins.{Origin, ByEntry, ByBoot, origin, AddedLine, added_line, handed_log, line_of}
 
 -- no tick of a log is above its newest
 pub ticks_sorted : {s : Settings} {me : ℕ} {line : Line} {past log : List Line} → Made s me log → Before (line ∷ past) log → line.tick ≤ LogSpec.now log
@@ -108,9 +75,9 @@ mail_is_answer what.Tick e = absurd (false≢true e)
 mail_is_answer (what.Stopped ok) e = absurd (false≢true e)
 mail_is_answer what.Leave e = absurd (false≢true e)
 
--- feeds of an incarnation after a moment at which it was doomed: none was decided later than the read limit allows,
+-- feeds of an incarnation after a moment from which it gets bad mail: none was decided later than the read limit allows,
 -- and none takes effect later than the feed delay after that
-pub record IsStarved (s : Settings) (t : Timing) (j : ℕ) (p now : List Moment) : Type 0 where
+pub record HasLastFeeds (s : Settings) (t : Timing) (j : ℕ) (p now : List Moment) : Type 0 where
   pub decided : (at : ℕ) → (node s j now).decided ≡ Some at → 99 * at ≤ 99 * time p + 100 * t.read_limit + 99
   pub fed : 99 * (node s j now).fed ≤ 99 * time p + 100 * t.read_limit + 99 + 99 * t.feed_delay
 
@@ -118,14 +85,14 @@ pub up_later : {s : Settings} {t : Timing} (j : ℕ) {p now : List Moment} → A
 up_later {s = s} j ruled back up same on =
     record { on = on; booted = boot_past_later ((sound ruled j).made) ((span j ruled back same on).grows) up.booted }
 
-module _ {s : Settings} {t : Timing} {all : List Moment} (run : IsTimedRun s t all) (j : ℕ) (p : List Moment) (up : IsUp s j p) (doomed : IsDoomed s j p all) where
-  -- a feed that a doomed incarnation decides comes of a read that it had asked for before
+module _ {s : Settings} {t : Timing} {all : List Moment} (run : IsTimedRun s t all) (j : ℕ) (p : List Moment) (up : IsUp s j p) (bad_mail : GetsBadMail s j p all) where
+  -- a feed that an incarnation that gets bad mail decides comes of a read that it had asked for before
   feed_asked_before : (entry : What) (new : List Moment) (line : Line) (past : List Line) → Before (Adds j entry ∷ new) all → Before p new → IsSameBoot s j p new
       → (node s j (Adds j entry ∷ new)).log ≡ line ∷ past → feeds_on (message_of line.what) ≡ true → line.asked ≤ length (node s j p).log
   feed_asked_before entry new line past back since same gave feeds = by_order (cases_lt (length (node s j p).log) line.asked)
     where
       by_order : (length (node s j p).log < line.asked) ⊎ (line.asked ≤ length (node s j p).log) → line.asked ≤ length (node s j p).log
-      by_order (inl after) = clash (feeds_on (message_of line.what)) feeds (doomed up entry new line past back since same gave after)
+      by_order (inl after) = clash (feeds_on (message_of line.what)) feeds (bad_mail up line past new (record { entry = entry; back = back; gave = gave }) since same after)
       by_order (inr before) = before
 
   feed_bound : (entry : What) (new : List Moment) (line : Line) (past : List Line) → Before (Adds j entry ∷ new) all → Before p new → IsSameBoot s j p new
@@ -135,20 +102,28 @@ module _ {s : Settings} {t : Timing} {all : List Moment} (run : IsTimedRun s t a
     where
       ruled_now : AllRuled s t (Adds j entry ∷ new)
       ruled_now = ruled_before back run.ruled
+
       ruled_new : AllRuled s t new
       ruled_new = earlier_ruled ruled_now
+
       on_new : (node s j new).on ≡ true
       on_new = (newest_rule ruled_now).0
+
       made_now : Made s j (line ∷ past)
       made_now = subst (λ log. Made s j log) gave ((sound ruled_now j).made)
+
       it : IsLine s j line past
       it = made_line made_now
+
       parts : AddedLine s j entry line past new
       parts = added_line s j entry line past new gave
+
       up_new : IsUp s j new
       up_new = up_later j ruled_new since up same on_new
+
       spans : Span s j p new
       spans = span j ruled_new since same on_new
+
       asking_tick : (answer : AnswerOf line past) → line.asked ≤ length (node s j p).log → answer.asked.line.tick ≤ tick_of (node s j p).clock
       asking_tick answer early =
           let inside = subst (λ log. Before (answer.asked.line ∷ answer.asked.past) log) parts.behind answer.asked.back in
@@ -158,6 +133,7 @@ module _ {s : Settings} {t : Timing} {all : List Moment} (run : IsTimedRun s t a
           let newest = ticks_sorted state.made old in
           let order = state.order in
           omega arith
+
       by_reason : (is_booting (phase s past) ≡ true) ⊎ (mail_feeds line.tick past line.what ≡ true) → 99 * time new ≤ 99 * time p + 100 * t.read_limit + 99
       by_reason (inl boots) = clash (is_booting (phase s (node s j new).log)) (subst (λ log. is_booting (phase s log) ≡ true) parts.behind boots) up_new.booted
       by_reason (inr mail) =
@@ -171,24 +147,24 @@ module _ {s : Settings} {t : Timing} {all : List Moment} (run : IsTimedRun s t a
           let slow = spans.slow in
           omega arith
 
-  starved_turn : (new : List Moment) (moment : Moment) → Turn s j new moment → IsRuled s t moment new → Before (moment ∷ new) all → Before p new → IsSameBoot s j p new
-      → (node s j (moment ∷ new)).boots ≡ (node s j new).boots → (node s j (moment ∷ new)).on ≡ true → IsStarved s t j p new → IsStarved s t j p (moment ∷ new)
-  starved_turn new moment (IsApart m e at) rule back since same boots on was =
+  last_feeds_turn : (new : List Moment) (moment : Moment) → Turn s j new moment → IsRuled s t moment new → Before (moment ∷ new) all → Before p new → IsSameBoot s j p new
+      → (node s j (moment ∷ new)).boots ≡ (node s j new).boots → (node s j (moment ∷ new)).on ≡ true → HasLastFeeds s t j p new → HasLastFeeds s t j p (moment ∷ new)
+  last_feeds_turn new moment (IsApart m e at) rule back since same boots on was =
       record { decided = λ d is. was.decided d (sym (ap (λ n. n.decided) e) ∙ is); fed = let q = ap (λ n. n.fed) e in let f = was.fed in omega arith }
-  starved_turn new moment (IsPass dt clocks e at) rule back since same boots on was =
+  last_feeds_turn new moment (IsPass dt clocks e at) rule back since same boots on was =
       record { decided = λ d is. was.decided d (sym (ap (λ n. n.decided) e) ∙ is); fed = let q = ap (λ n. n.fed) e in let f = was.fed in omega arith }
-  starved_turn new moment (IsBoot base e at) rule back since same boots on was =
+  last_feeds_turn new moment (IsBoot base e at) rule back since same boots on was =
       absurd (let q = ap (λ n. n.boots) e ∙ booted_once (node s j new) in omega arith)
     where
       booted_once : (n : Running) → (booted s j (time new) base n).boots ≡ suc n.boots
       booted_once n = unfold booted handed logged in refl
-  starved_turn new moment (IsFeed e at) rule back since same boots on was =
+  last_feeds_turn new moment (IsFeed e at) rule back since same boots on was =
       record {
         decided = λ d is. was.decided d (sym (ap (λ n. n.decided) e) ∙ is);
         fed = let q = ap (λ n. n.fed) e in let d = was.decided rule.at rule.decided in let soon = rule.in_time in omega arith;
       }
-  starved_turn new moment (IsEnd e at) rule back since same boots on was = absurd (false≢true (sym (ap (λ n. n.on) e) ∙ on))
-  starved_turn new moment (IsAdd entry e at) rule back since same boots on was =
+  last_feeds_turn new moment (IsEnd e at) rule back since same boots on was = absurd (false≢true (sym (ap (λ n. n.on) e) ∙ on))
+  last_feeds_turn new moment (IsAdd entry e at) rule back since same boots on was =
       record {
         decided = λ d is. by_feed (has_feed (newest_outs (node s j (Adds j entry ∷ new)).log)) refl d (sym (decided_now (node s j new)) ∙ sym (ap (λ n. n.decided) e) ∙ is);
         fed = let q = ap (λ n. n.fed) e ∙ fed_same (node s j new) in let f = was.fed in omega arith;
@@ -196,12 +172,16 @@ module _ {s : Settings} {t : Timing} {all : List Moment} (run : IsTimedRun s t a
     where
       log_now : (node s j (Adds j entry ∷ new)).log ≡ line_of s j (tick_of (node s j new).clock) entry (node s j new).log ∷ (node s j new).log
       log_now = ap (λ n. n.log) e ∙ handed_log s j (time new) entry (node s j new)
+
       fed_same : (n : Running) → (handed s j (time new) entry n).fed ≡ n.fed
       fed_same n = unfold handed logged in refl
+
       decided_of : (n : Running) → (handed s j (time new) entry n).decided ≡ (if has_feed (newest_outs (handed s j (time new) entry n).log) then Some (time new) else n.decided)
       decided_of n = unfold handed logged in refl
+
       decided_now : (n : Running) → (handed s j (time new) entry (node s j new)).decided ≡ (if has_feed (newest_outs (node s j (Adds j entry ∷ new)).log) then Some (time new) else (node s j new).decided)
       decided_now n = decided_of (node s j new) ∙ ap (λ m. if has_feed (newest_outs m.log) then Some (time new) else (node s j new).decided) (sym e)
+
       by_feed : (b : Bool) → has_feed (newest_outs (node s j (Adds j entry ∷ new)).log) ≡ b → (d : ℕ)
           → (if has_feed (newest_outs (node s j (Adds j entry ∷ new)).log) then Some (time new) else (node s j new).decided) ≡ Some d
           → 99 * d ≤ 99 * time p + 100 * t.read_limit + 99
@@ -211,27 +191,27 @@ module _ {s : Settings} {t : Timing} {all : List Moment} (run : IsTimedRun s t a
           omega arith
       by_feed false none d is = was.decided d (sym (ap (λ b. if b then Some (time new) else (node s j new).decided) none) ∙ is)
 
-  starved : (now : List Moment) → Before p now → Before now all → IsSameBoot s j p now → (node s j now).on ≡ true → IsStarved s t j p now
-  starved now Itself back same on =
+  last_feeds : (now : List Moment) → Before p now → Before now all → IsSameBoot s j p now → (node s j now).on ≡ true → HasLastFeeds s t j p now
+  last_feeds now Itself back same on =
       let state = sound (ruled_before back run.ruled) j in
       record {
         decided = λ d is. let q = state.decided_before d is in omega arith;
         fed = let q = state.fed_before in omega arith;
       }
-  starved now (Later newest {new = new} more) back same on =
+  last_feeds now (Later newest {new = new} more) back same on =
       let ruled_now = ruled_before back run.ruled in
       let mids = same_mid s j more (Later newest Itself) same in
       let step = span j ruled_now (Later newest {new = new} Itself) mids.1 on in
-      starved_turn new newest (turn s j new newest) (newest_rule ruled_now) back more mids.0 (sym mids.1) on
-      (starved new more (before_then (Later newest Itself) back) mids.0 step.on)
+      last_feeds_turn new newest (turn s j new newest) (newest_rule ruled_now) back more mids.0 (sym mids.1) on
+      (last_feeds new more (before_then (Later newest Itself) back) mids.0 step.on)
 
   -- the fence lemma: of a node that wrote the reset, and for which msgwait passed since a tick that was not before p
   pub fence : is_safe t ≡ true → (i : ℕ) (now : List Moment) → Before p now → Before now all → IsSameBoot s j p now → (node s j now).on ≡ true
       → IsSameBoot s i p now → (node s i now).on ≡ true → tick_of (node s i p).clock + t.msgwait ≤ tick_of (node s i now).clock → ⊥
   fence safe i now since back same on same_i on_i waited =
       let ruled_now = ruled_before back run.ruled in
-      let hungry = starved now since back same on in
-      let fed = hungry.fed in
+      let feeds = last_feeds now since back same on in
+      let fed = feeds.fed in
       let alive = (sound ruled_now j).alive on in
       let spans = span i ruled_now since same_i on_i in
       let fast = spans.fast in

@@ -1,8 +1,8 @@
 -- The least number that passes a test: it passes, none below it does, and where there is none nothing passes.
-use Rattle.std.proofs.Common.{◌≡◌, ℕ, suc, zero, ◌+◌, ◌<◌, ◌≤◌, Bool, true, false, Some, None, Option, refl, cond, arith, sym, ◌∙◌, subst, ◌⊎◌, inl, inr, add-one}
-use Rattle.std.proofs.lemmas.Bool.{cases_order, false≢true}
+use Rattle.std.proofs.Common.{◌≡◌, ℕ, suc, zero, ◌+◌, ◌<◌, ◌≤◌, Bool, true, false, Some, None, Option, refl, cond, arith, subst, ◌⊎◌, inl, inr}
+use Rattle.std.proofs.lemmas.Bool.{cases_order}
 use Rattle.qn_model.specs.Unmet.{least_from}
-use Rattle.qn_safety.proofs.Tools.{some_same, none_some, some_none, clash}
+use Rattle.qn_safety.proofs.Tools.{some_same, none_some, some_none}
 
 passes_here : (test : ℕ → Bool) (from found : ℕ) (later : Option ℕ) (b : Bool) → test from ≡ b
     → (later ≡ Some found → test found ≡ true) → cond b (Some from) later ≡ Some found → test found ≡ true

@@ -13,3 +13,4 @@ pub mod Fence
 pub mod Numbers
 pub mod Licensed
 pub mod Tells
+pub mod Pairs

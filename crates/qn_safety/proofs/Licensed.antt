@@ -1,60 +1,30 @@
 -- What a licence of a start means for the node that was licensed: the incarnation that was up at some moment holds no more.
-use Rattle.std.proofs.Common.{◌≡◌, ℕ, suc, zero, ◌+◌, ◌-◌, ◌*◌, ◌/◌, ◌<◌, ◌≤◌, Bool, true, false, List, [], ◌∷◌, ◌++◌, length, Some, None, Option, refl, sym, ap, ◌∙◌, subst, arith, cond, ◌&&◌, ◌||◌, ◌==◌, not, if◌then◌else◌, ◌⊎◌, inl, inr, is_some, is_none, All, nat_le, nat_lt}
-use Rattle.std.specs.Option.{option_or, option_map, option_map_or}
-use Rattle.std.proofs.lemmas.Bool.{false≢true, true≢false, cases_lt, cases_order, cases_Bool, or_cases, eqb-true, eqb-false, eq-eqb, ne_eqb, ltb-true, ltb-false, leb-true, lt-ltb, le-leb}
-use Rattle.qn_base.specs.declared.ids.Rank.{Rank}
-use Rattle.qn_base.specs.declared.ids.View.{View}
-use Rattle.qn_base.specs.Members.{is_member}
+use Rattle.std.proofs.Common.{◌≡◌, ℕ, ◌+◌, ◌<◌, ◌≤◌, Bool, true, false, List, ◌∷◌, length, refl, sym, ap, ◌∙◌, subst, arith, ◌&&◌}
+use Rattle.std.proofs.lemmas.Bool.{false≢true}
 use Rattle.qn_model.specs.declared.configuration.Settings.{Settings}
 use Rattle.qn_model.specs.declared.times.Timing.{Timing}
-use Rattle.qn_model.specs.declared.disk.Message.{Message}
-use Rattle.qn_model.specs.declared.disk.Message.TheVariants as message
-use Rattle.qn_model.specs.declared.disk.Slot.{Slot}
-use Rattle.qn_model.specs.declared.seen.HeaderSeen.{HeaderSeen}
-use Rattle.qn_model.specs.declared.seen.HeaderSeen.TheVariants as header
 use Rattle.qn_model.specs.declared.seen.SlotSeen.{SlotSeen}
-use Rattle.qn_model.specs.declared.seen.SlotSeen.TheVariants as slot
-use Rattle.qn_model.specs.declared.seen.MailSeen.{MailSeen}
-use Rattle.qn_model.specs.declared.seen.MailSeen.TheVariants as mail
-use Rattle.qn_model.specs.declared.packets.Ask.{Ask}
-use Rattle.qn_model.specs.declared.packets.Tell.{Tell}
-use Rattle.qn_model.specs.declared.packets.Packet.{Packet}
-use Rattle.qn_model.specs.declared.packets.Packet.TheVariants as packet
 use Rattle.qn_model.specs.declared.entries.What.{What}
 use Rattle.qn_model.specs.declared.entries.What.TheVariants as what
 use Rattle.qn_model.specs.declared.life.Phase.{Phase}
 use Rattle.qn_model.specs.declared.life.Phase.TheVariants.{Booting, Up, Leaving, Dying, Gone}
-use Rattle.qn_model.specs.declared.outputs.BootCause.{BootCause}
-use Rattle.qn_model.specs.declared.outputs.DiskOp.{DiskOp}
-use Rattle.qn_model.specs.declared.outputs.DiskOp.TheVariants as disk
-use Rattle.qn_model.specs.declared.outputs.Out.{Out}
-use Rattle.qn_model.specs.declared.outputs.Out.TheVariants as out
 use Rattle.qn_model.specs.Log.{Line, op_out, ask_place, ask_tick, claimed, claim_of, incarnation, timing, times_of, no_times, disk_of, has_start, has_stop, is_answer, is_view, view_of}
-use Rattle.qn_model.specs.Phases.{phase, next_phase, boot_phase, mail_phase, header_halt, slot_halt, boot_halt, message_of, deadly_of, in_time, is_booting, is_live, is_up, is_leaving}
-use Rattle.qn_model.specs.Sectors.{is_deadly}
-use Rattle.qn_model.specs.Holding.{holds, stop_due, is_stopped}
-use Rattle.qn_model.specs.NodeVotes.{view, is_in_view, is_present, answers, install, released, quorate}
-use Rattle.qn_model.specs.Hearing.{is_free, told, tells, tell_of}
-use Rattle.qn_model.specs.Licences.{out_time, starts_out_time, slot_read_since, reset_since, reads_slot, writes_reset, is_clean_slot, is_clean, is_written, is_fenced, is_licensed, reset_tick}
-use Rattle.qn_model.specs.Unmet.{unmet, is_clear}
-use Rattle.qn_model.specs.Wanted.{wanted, boot_op, claim_after, rank_of}
-use Rattle.qn_model.specs.Fitting.{fits, read_as, answers_op, is_first, is_own_view, is_for}
-use Rattle.qn_model.specs.NodeOutputs.{outs_at, mail_feeds, feeds_on, taken_in, with_read, with_entry, newest_outs, gives_start}
-use Rattle.qn_model.specs.Moments.{Before, Itself, Later}
-use Rattle.qn_safety.proofs.Tools.{some_same, none_some, some_none, clash, and_left_of, and_right_of, not_true, before_length, before_then, before_tail, before_total, before_same, before_shorter}
-use Rattle.qn_model.specs.declared.packets.Sent.{Sent}
+use Rattle.qn_model.specs.Phases.{phase, is_booting, is_up}
+use Rattle.qn_model.specs.Holding.{holds}
+use Rattle.qn_model.specs.NodeVotes.{is_in_view}
+use Rattle.qn_model.specs.Licences.{out_time, reads_slot, writes_reset, is_clean_slot}
+use Rattle.qn_model.specs.Moments.{Before}
+use Rattle.qn_safety.proofs.Tools.{clash, before_then, before_tail, before_shorter}
 use Rattle.qn_model.specs.Log as LogSpec
-use Rattle.qn_model.specs.Moments.{Moment, Passes, Boots, Adds, Feeds, Ends, Running, tick_of, is_gone, has_feed, advance_of, advanced, logged, handed, booted, time, node, given_out, packets, packets_of, is_holder}
-use Rattle.qn_model.specs.Rules.{passes, is_within_bounds, outlives, is_between}
-use Rattle.qn_safety.specs.Closing.{is_close, asked_close}
-use Rattle.qn_safety.specs.Timed.{IsUp, IsSameBoot, IsSentTo, WasSent, MayFeed, IsRuled, AllRuled, NoMoment, OneRuled, IsBetween, HasClosed, IsDoomed, IsAdded, NumbersRise, CleanMeansClosed, WrittenMeansDoomed, HeadersAgree, IsTimedRun}
+use Rattle.qn_model.specs.Moments.{Moment, Adds, tick_of, time, node, is_holder}
+use Rattle.qn_safety.specs.Timed.{IsUp, IsSameBoot, IsBetween, HasClosed, GetsBadMail, IsAdded, IsTimedRun}
 use Rattle.qn_model.specs.Timing.{is_safe}
-use Rattle.qn_safety.proofs.Logs.{Made, NoLine, OneMore, IsLine, before_outs, made_before, made_tail, made_line, line_at}
+use Rattle.qn_safety.proofs.Logs.{Made, made_before}
 use Rattle.qn_safety.proofs.Stays.{boot_past_later, closed_never, close_stays}
-use Rattle.qn_safety.proofs.Rests.{Licence, ByClean, ByReset, SlotRead, ResetDone, FencingAsk, slot_ask, written_ask}
-use Rattle.qn_safety.proofs.Runs.{IsSound, sound, ruled_before, newest_rule, earlier_ruled, Span, span, boots_le, same_mid, added_node}
-use Rattle.qn_safety.proofs.Origins.{Origin, ByEntry, ByBoot, origin, AddedLine, added_line, same_boots}
-use Rattle.qn_safety.proofs.Fence.{added_then, timing_up, fence, up_later, ticks_sorted}
+use Rattle.qn_safety.proofs.Rests.{Licence, ByClean, ByReset, FencingAsk, slot_ask, written_ask}
+use Rattle.qn_safety.proofs.Runs.{sound, ruled_before, newest_rule, earlier_ruled, span, added_node}
+use Rattle.qn_safety.proofs.Origins.{Origin, ByEntry, ByBoot, origin, added_line, same_boots}
+use Rattle.qn_safety.proofs.Fence.{added_then, timing_up, fence}
 
 -- the incarnation of j that was up at p, if one was, holds at no later moment at which i runs on
 abbrev pub HoldsNoMore : Settings → ℕ → ℕ → List Moment → List Moment → List Moment → Type 0
@@ -113,7 +83,7 @@ module _ {s : Settings} {t : Timing} {all : List Moment} (run : IsTimedRun s t a
       let place = ask.place in
       let since = between.since in
       let asked : Before (ask.asking ∷ ask.older) (node s i p).log =
-            before_shorter (subst (λ log. Before (ask.asking ∷ ask.older) log) parts.behind ask.back) spans.grows (omega arith) in
+      before_shorter (subst (λ log. Before (ask.asking ∷ ask.older) log) parts.behind ask.back) spans.grows (omega arith) in
       let ruled_p = ruled_before between.back ruled_b in
       record {
         p = p;
@@ -136,15 +106,15 @@ module _ {s : Settings} {t : Timing} {all : List Moment} (run : IsTimedRun s t a
       let idle = (closed_never ((sound ruled_now j).made) (close_stays spans.grows (closed up))).idle in
       clash (holds (node s j now).log) (holder_holds s now j holder) idle
 
-  -- an incarnation that was doomed does not run any more once msgwait has passed
-  doomed_no_more : (p : List Moment) → Before p m → IsSameBoot s i p m → IsDoomed s j p all → tick_of (node s i p).clock + t.msgwait ≤ tick_of (node s i m).clock
+  -- an incarnation that gets bad mail does not run any more once msgwait has passed
+  bad_mail_no_more : (p : List Moment) → Before p m → IsSameBoot s i p m → GetsBadMail s j p all → tick_of (node s i p).clock + t.msgwait ≤ tick_of (node s i m).clock
       → HoldsNoMore s i j p m all
-  doomed_no_more p p_m same_p doomed waited now since until same_i on_i up same_j holder =
+  bad_mail_no_more p p_m same_p bad_mail waited now since until same_i on_i up same_j holder =
       let ruled_now = ruled_before until run.ruled in
       let spans = span i ruled_now since same_i on_i in
       let slow = spans.slow in
       let forward = spans.forward in
-      fence run j p up doomed safe i now (before_then p_m since) until same_j (holder_on s now j holder) (same_p ∙ same_i) on_i (omega arith)
+      fence run j p up bad_mail safe i now (before_then p_m since) until same_j (holder_on s now j holder) (same_p ∙ same_i) on_i (omega arith)
 
   -- a licence of the newest line at m
   pub licensed : (line : Line) (past : List Line) → (node s i m).log ≡ line ∷ past → IsUp s i m → ¬ (j ≡ i) → Licence j line.tick (line ∷ past) → Licensed s i j m all
@@ -152,8 +122,10 @@ module _ {s : Settings} {t : Timing} {all : List Moment} (run : IsTimedRun s t a
     where
       here : Before (read.line ∷ read.past) (node s i m).log
       here = subst (λ log. Before (read.line ∷ read.past) log) (sym gave) read.back
+
       made_read : Made s i (read.line ∷ read.past)
       made_read = made_before here ((sound (ruled_before back run.ruled) i).made)
+
       by_origin : Origin s i read.line read.past m → Licensed s i j m all
       by_origin (ByBoot begins first) = absurd (no_begin_read is_clean_slot j read.line.what begins read.reads)
       by_origin (ByEntry before added same) =
@@ -165,8 +137,10 @@ module _ {s : Settings} {t : Timing} {all : List Moment} (run : IsTimedRun s t a
     where
       here : Before (reset.line ∷ reset.past) (node s i m).log
       here = subst (λ log. Before (reset.line ∷ reset.past) log) (sym gave) reset.back
+
       made_reset : Made s i (reset.line ∷ reset.past)
       made_reset = made_before here ((sound (ruled_before back run.ruled) i).made)
+
       long_ago : (before p : List Moment) (added : IsAdded s i reset.line reset.past before m) → IsBetween s i reset.line before p
           → tick_of (node s i p).clock + t.msgwait ≤ tick_of (node s i m).clock
       long_ago before p added between =
@@ -180,6 +154,7 @@ module _ {s : Settings} {t : Timing} {all : List Moment} (run : IsTimedRun s t a
           let order : line.tick ≤ tick_of (node s i m).clock = subst (λ log. LogSpec.now log ≤ tick_of (node s i m).clock) gave ((sound (ruled_before back run.ruled) i).order) in
           let wait : (timing (line ∷ past)).msgwait ≡ t.msgwait = ap (λ u. u.msgwait) (sym (ap timing gave) ∙ timing_up run i m back up_m) in
           omega arith
+
       by_origin : Origin s i reset.line reset.past m → Licensed s i j m all
       by_origin (ByBoot begins first) = absurd (no_begin_write j reset.line.what begins reset.writes)
       by_origin (ByEntry before added same) =
@@ -187,4 +162,4 @@ module _ {s : Settings} {t : Timing} {all : List Moment} (run : IsTimedRun s t a
           let p_m = before_then fact.1.back (before_tail added.back) in
           licensed_by reset.line reset.past before fact.0 added same fact.1 (written_ask made_reset j reset.writes)
           (subst (λ log. out_time j log < reset.line.asked) (sym gave) reset.behind)
-          (doomed_no_more fact.0 p_m (fact.1.same ∙ sym (added_boots s i added.entry before) ∙ same) fact.2 (long_ago before fact.0 added fact.1))
+          (bad_mail_no_more fact.0 p_m (fact.1.same ∙ sym (added_boots s i added.entry before) ∙ same) fact.2 (long_ago before fact.0 added fact.1))

@@ -1,25 +1,11 @@
 -- The number that a node claims in its boot, and has from then on.
-use Rattle.std.proofs.Common.{◌≡◌, ℕ, suc, zero, ◌+◌, ◌-◌, ◌*◌, ◌/◌, ◌<◌, ◌≤◌, Bool, true, false, List, [], ◌∷◌, ◌++◌, length, Some, None, Option, refl, sym, ap, ◌∙◌, subst, arith, cond, ◌&&◌, ◌||◌, ◌==◌, not, if◌then◌else◌, ◌⊎◌, inl, inr, is_some, is_none, All, nat_le, nat_lt}
-use Rattle.std.specs.Option.{option_or, option_map, option_map_or}
-use Rattle.std.proofs.lemmas.Bool.{false≢true, true≢false, cases_lt, cases_order, cases_Bool, or_cases, eqb-true, eqb-false, eq-eqb, ne_eqb, ltb-true, ltb-false, leb-true, lt-ltb, le-leb}
+use Rattle.std.proofs.Common.{◌≡◌, ℕ, ◌+◌, Bool, true, false, List, [], ◌∷◌, Some, None, Option, refl, sym, ap, ◌∙◌, subst, if◌then◌else◌, ◌⊎◌, inl, inr, is_some}
+use Rattle.std.specs.Option.{option_or}
+use Rattle.std.proofs.lemmas.Bool.{false≢true, true≢false}
 use Rattle.qn_base.specs.declared.ids.Rank.{Rank}
-use Rattle.qn_base.specs.declared.ids.View.{View}
-use Rattle.qn_base.specs.Members.{is_member}
 use Rattle.qn_model.specs.declared.configuration.Settings.{Settings}
-use Rattle.qn_model.specs.declared.times.Timing.{Timing}
-use Rattle.qn_model.specs.declared.disk.Message.{Message}
-use Rattle.qn_model.specs.declared.disk.Message.TheVariants as message
 use Rattle.qn_model.specs.declared.disk.Slot.{Slot}
-use Rattle.qn_model.specs.declared.seen.HeaderSeen.{HeaderSeen}
-use Rattle.qn_model.specs.declared.seen.HeaderSeen.TheVariants as header
-use Rattle.qn_model.specs.declared.seen.SlotSeen.{SlotSeen}
 use Rattle.qn_model.specs.declared.seen.SlotSeen.TheVariants as slot
-use Rattle.qn_model.specs.declared.seen.MailSeen.{MailSeen}
-use Rattle.qn_model.specs.declared.seen.MailSeen.TheVariants as mail
-use Rattle.qn_model.specs.declared.packets.Ask.{Ask}
-use Rattle.qn_model.specs.declared.packets.Tell.{Tell}
-use Rattle.qn_model.specs.declared.packets.Packet.{Packet}
-use Rattle.qn_model.specs.declared.packets.Packet.TheVariants as packet
 use Rattle.qn_model.specs.declared.entries.What.{What}
 use Rattle.qn_model.specs.declared.entries.What.TheVariants as what
 use Rattle.qn_model.specs.declared.life.Phase.{Phase}
@@ -27,26 +13,14 @@ use Rattle.qn_model.specs.declared.life.Phase.TheVariants.{Booting, Up, Leaving,
 use Rattle.qn_model.specs.declared.outputs.BootCause.{BootCause}
 use Rattle.qn_model.specs.declared.outputs.DiskOp.{DiskOp}
 use Rattle.qn_model.specs.declared.outputs.DiskOp.TheVariants as disk
-use Rattle.qn_model.specs.declared.outputs.Out.{Out}
-use Rattle.qn_model.specs.declared.outputs.Out.TheVariants as out
-use Rattle.qn_model.specs.Log.{Line, op_out, ask_place, ask_tick, claimed, claim_of, incarnation, timing, times_of, no_times, now, disk_of, has_start, has_stop, is_answer, is_view, view_of}
-use Rattle.qn_model.specs.Phases.{phase, next_phase, boot_phase, mail_phase, header_halt, slot_halt, boot_halt, message_of, deadly_of, in_time, is_booting, is_live, is_up, is_leaving}
-use Rattle.qn_model.specs.Sectors.{is_deadly}
-use Rattle.qn_model.specs.Holding.{holds, stop_due, is_stopped}
-use Rattle.qn_model.specs.NodeVotes.{view, is_in_view, is_present, answers, install, released, quorate}
-use Rattle.qn_model.specs.Hearing.{is_free, told, tells, tell_of}
-use Rattle.qn_model.specs.Licences.{out_time, starts_out_time, slot_read_since, reset_since, reads_slot, writes_reset, is_clean_slot, is_clean, is_written, is_fenced, is_licensed, reset_tick}
-use Rattle.qn_model.specs.Unmet.{unmet, is_clear}
-use Rattle.qn_model.specs.Wanted.{wanted, boot_op, claim_after, rank_of}
-use Rattle.qn_model.specs.Fitting.{fits, read_as, answers_op, is_first, is_own_view, is_for}
-use Rattle.qn_model.specs.NodeOutputs.{outs_at, mail_feeds, feeds_on, taken_in, with_read, with_entry, newest_outs, gives_start}
-use Rattle.qn_model.specs.Moments.{Before, Itself, Later}
-use Rattle.qn_safety.proofs.Tools.{some_same, none_some, some_none, clash, and_left_of, and_right_of, not_true, before_length, before_then, before_tail, before_total, before_same, before_shorter}
+use Rattle.qn_model.specs.Log.{Line, op_out, claimed, claim_of, incarnation, disk_of, is_answer}
+use Rattle.qn_model.specs.Phases.{phase, next_phase, boot_phase, header_halt, slot_halt, in_time, is_booting}
+use Rattle.qn_model.specs.Fitting.{fits}
+use Rattle.qn_safety.proofs.Tools.{clash}
 use Rattle.qn_model.specs.Moments.{is_gone}
-use Rattle.qn_safety.proofs.Says.{Reason, BootReason, LiveReason, is_closed}
-use Rattle.qn_safety.proofs.Logs.{Made, NoLine, OneMore, IsLine, before_outs, made_tail, made_line, disk_reason}
-use Rattle.qn_safety.proofs.Apt.{is_apt, apt, BootStep, BeginStep, HeaderStep, SlotStep, ClaimStep, ClearStep, boot_step_of, booting_is, header_answers, slot_answers, claimed_answers, cleared_answers, mail_answers, reset_answers, closed_answers}
-use Rattle.qn_safety.proofs.Stays.{boot_past, boot_past_later}
+use Rattle.qn_safety.proofs.Says.{Reason}
+use Rattle.qn_safety.proofs.Logs.{Made, NoLine, OneMore, IsLine, before_outs, disk_reason}
+use Rattle.qn_safety.proofs.Apt.{is_apt, apt, BootStep, BeginStep, HeaderStep, SlotStep, ClaimStep, ClearStep, boot_step_of, booting_is, claimed_answers, cleared_answers, mail_answers}
 use Rattle.qn_safety.proofs.Times.{boot_tick, gone_next, not_live_up}
 
 -- a line that gives a claim read the own slot, and the node boots after it
@@ -70,11 +44,13 @@ claim_given {s = s} {me = me} {line = line} {past = past} it number gave = by_re
         number_same q = cc
     step_claims entry op p ClaimStep e = absurd (cc)
     step_claims entry op p ClearStep e = absurd (cc)
+
     phase_now : is_booting (phase s past) ≡ true → phase s (line ∷ past) ≡ next_phase s line.what (in_time line.tick past) Booting
     phase_now b = phase_step line past ∙ ap (λ p. next_phase s line.what (in_time line.tick past) p) (booting_is (phase s past) b)
       where
         phase_step : (l : Line) (ls : List Line) → phase s (l ∷ ls) ≡ next_phase s l.what (in_time l.tick ls) (phase s ls)
         phase_step l ls = unfold phase in refl
+
     by_reason : Reason s me past line.what (before_outs line past) (disk.WriteClaim number) → ClaimGiven s line past number
     by_reason (inl boots) =
         let step = step_claims line.what (disk.WriteClaim number) _ (boot_step_of s me line.what (disk.WriteClaim number) (in_time line.tick past) boots.goes_on boots.next) refl in
@@ -158,6 +134,7 @@ numbered_step s me line past it made before needs = by_before (needs_number (op_
   where
     next : Phase
     next = next_phase s line.what (in_time line.tick past) (phase s past)
+
     at_boot : is_booting (phase s past) ≡ true → is_late (op_out past) ≡ false → (given : Option DiskOp) (answer : Bool) → disk_of line.outs ≡ given → is_answer line.what ≡ answer
         → needs_number (option_or given (if answer then None else op_out past)) next ≡ true → is_some (option_or (claim_of given) (claimed past)) ≡ true
     at_boot b early None true gave is n =
@@ -178,15 +155,18 @@ numbered_step s me line past it made before needs = by_before (needs_number (op_
             by_claim None e = absurd (false≢true e)
         either (inr none) = clash (needs_number (Some op) next) n
             (ap (λ p. needs_number (Some op) (next_phase s line.what (in_time line.tick past) p)) (booting_is (phase s past) b) ∙ none)
+
         by_reason : Reason s me past line.what (before_outs line past) op → is_some (option_or (claim_of (Some op)) (claimed past)) ≡ true
         by_reason (inl boots) = either (early_step me past s line.what op _ (boot_step_of s me line.what op (in_time line.tick past) boots.goes_on boots.next) it.fitting early)
         by_reason (inr lives) = absurd (not_live_up (phase s past) b lives.live)
+
     no_need : ((is_booting (phase s past) ≡ true) × (is_late (op_out past) ≡ false)) ⊎ (phase s past ≡ Gone) → is_some (option_or (claim_of (disk_of line.outs)) (claimed past)) ≡ true
     no_need (inl boots) = at_boot boots.0 boots.1 (disk_of line.outs) (is_answer line.what) refl refl needs
     no_need (inr gone) =
         clash (needs_number (option_or (disk_of line.outs) (if is_answer line.what then None else op_out past)) next) needs
         (ap (λ p. needs_number (option_or (disk_of line.outs) (if is_answer line.what then None else op_out past)) p)
         (gone_next s me past line.what (in_time line.tick past) it.fitting gone (subst (λ p. is_apt (op_out past) p ≡ true) gone (apt made))))
+
     by_before : (b : Bool) → needs_number (op_out past) (phase s past) ≡ b → is_some (option_or (claim_of (disk_of line.outs)) (claimed past)) ≡ true
     by_before true e = some_or (claim_of (disk_of line.outs)) (claimed past) (before e)
     by_before false e = no_need (needs_cases (op_out past) (phase s past) e)

@@ -1,58 +1,31 @@
 -- Where a line of a log was added, and where a packet was sent.
-use Rattle.std.proofs.Common.{◌≡◌, ℕ, suc, zero, ◌+◌, ◌-◌, ◌*◌, ◌/◌, ◌<◌, ◌≤◌, Bool, true, false, List, [], ◌∷◌, ◌++◌, length, Some, None, Option, refl, sym, ap, ◌∙◌, subst, arith, cond, ◌&&◌, ◌||◌, ◌==◌, not, if◌then◌else◌, ◌⊎◌, inl, inr, is_some, is_none, All, nat_le, nat_lt}
-use Rattle.std.specs.Option.{option_or, option_map, option_map_or}
-use Rattle.std.proofs.lemmas.Bool.{false≢true, true≢false, cases_lt, cases_order, cases_Bool, or_cases, eqb-true, eqb-false, eq-eqb, ne_eqb, ltb-true, ltb-false, leb-true, lt-ltb, le-leb}
+use Rattle.std.proofs.Common.{◌≡◌, ℕ, suc, zero, true, false, List, [], ◌∷◌, ◌++◌, Some, refl, sym, ap, ◌∙◌, subst, arith, if◌then◌else◌, ◌⊎◌, inl, inr, All}
+use Rattle.std.proofs.lemmas.Bool.{false≢true}
 use Rattle.qn_base.specs.declared.ids.Rank.{Rank}
-use Rattle.qn_base.specs.declared.ids.View.{View}
-use Rattle.qn_base.specs.Members.{is_member}
 use Rattle.qn_model.specs.declared.configuration.Settings.{Settings}
 use Rattle.qn_model.specs.declared.times.Timing.{Timing}
-use Rattle.qn_model.specs.declared.disk.Message.{Message}
-use Rattle.qn_model.specs.declared.disk.Message.TheVariants as message
-use Rattle.qn_model.specs.declared.disk.Slot.{Slot}
-use Rattle.qn_model.specs.declared.seen.HeaderSeen.{HeaderSeen}
-use Rattle.qn_model.specs.declared.seen.HeaderSeen.TheVariants as header
-use Rattle.qn_model.specs.declared.seen.SlotSeen.{SlotSeen}
-use Rattle.qn_model.specs.declared.seen.SlotSeen.TheVariants as slot
-use Rattle.qn_model.specs.declared.seen.MailSeen.{MailSeen}
-use Rattle.qn_model.specs.declared.seen.MailSeen.TheVariants as mail
-use Rattle.qn_model.specs.declared.packets.Ask.{Ask}
-use Rattle.qn_model.specs.declared.packets.Tell.{Tell}
 use Rattle.qn_model.specs.declared.packets.Packet.{Packet}
 use Rattle.qn_model.specs.declared.packets.Packet.TheVariants as packet
 use Rattle.qn_model.specs.declared.entries.What.{What}
 use Rattle.qn_model.specs.declared.entries.What.TheVariants as what
 use Rattle.qn_model.specs.declared.life.Phase.{Phase}
 use Rattle.qn_model.specs.declared.life.Phase.TheVariants.{Booting, Up, Leaving, Dying, Gone}
-use Rattle.qn_model.specs.declared.outputs.BootCause.{BootCause}
-use Rattle.qn_model.specs.declared.outputs.DiskOp.{DiskOp}
-use Rattle.qn_model.specs.declared.outputs.DiskOp.TheVariants as disk
 use Rattle.qn_model.specs.declared.outputs.Out.{Out}
 use Rattle.qn_model.specs.declared.outputs.Out.TheVariants as out
-use Rattle.qn_model.specs.Log.{Line, op_out, ask_place, ask_tick, claimed, claim_of, incarnation, timing, times_of, no_times, disk_of, has_start, has_stop, is_answer, is_view, view_of}
-use Rattle.qn_model.specs.Phases.{phase, next_phase, boot_phase, mail_phase, header_halt, slot_halt, boot_halt, message_of, deadly_of, in_time, is_booting, is_live, is_up, is_leaving}
-use Rattle.qn_model.specs.Sectors.{is_deadly}
-use Rattle.qn_model.specs.Holding.{holds, stop_due, is_stopped}
-use Rattle.qn_model.specs.NodeVotes.{view, is_in_view, is_present, answers, install, released, quorate}
-use Rattle.qn_model.specs.Hearing.{is_free, told, tells, tell_of}
-use Rattle.qn_model.specs.Licences.{out_time, starts_out_time, slot_read_since, reset_since, reads_slot, writes_reset, is_clean_slot, is_clean, is_written, is_fenced, is_licensed, reset_tick}
-use Rattle.qn_model.specs.Unmet.{unmet, is_clear}
-use Rattle.qn_model.specs.Wanted.{wanted, boot_op, claim_after, rank_of}
-use Rattle.qn_model.specs.Fitting.{fits, read_as, answers_op, is_first, is_own_view, is_for}
-use Rattle.qn_model.specs.NodeOutputs.{outs_at, mail_feeds, feeds_on, taken_in, with_read, with_entry, newest_outs, gives_start}
+use Rattle.qn_model.specs.Log.{Line, ask_place, is_answer}
+use Rattle.qn_model.specs.Phases.{phase, is_booting, is_live}
+use Rattle.qn_model.specs.Fitting.{read_as}
+use Rattle.qn_model.specs.NodeOutputs.{outs_at, taken_in, with_entry, newest_outs}
 use Rattle.qn_model.specs.Moments.{Before, Itself, Later}
-use Rattle.qn_safety.proofs.Tools.{some_same, none_some, some_none, clash, and_left_of, and_right_of, not_true, before_length, before_then, before_tail, before_total, before_same, before_shorter}
+use Rattle.qn_safety.proofs.Tools.{some_same, none_some, before_length}
 use Rattle.qn_model.specs.declared.packets.Sent.{Sent}
-use Rattle.qn_model.specs.Log as LogSpec
-use Rattle.qn_model.specs.Moments.{Moment, Passes, Boots, Adds, Feeds, Ends, Running, tick_of, is_gone, has_feed, advance_of, advanced, logged, handed, booted, time, node, given_out, packets, packets_of, is_holder}
-use Rattle.qn_model.specs.Rules.{passes, is_within_bounds, outlives, is_between}
-use Rattle.qn_safety.specs.Closing.{is_close, asked_close}
-use Rattle.qn_safety.specs.Timed.{IsUp, IsSameBoot, IsSentTo, WasSent, MayFeed, IsRuled, AllRuled, NoMoment, OneRuled, IsBetween, HasClosed, IsDoomed, IsAdded, NumbersRise, CleanMeansClosed, WrittenMeansDoomed, HeadersAgree, IsTimedRun}
+use Rattle.qn_model.specs.Moments.{Moment, Passes, Boots, Adds, Feeds, Ends, Running, tick_of, logged, handed, booted, time, node, given_out, packets, packets_of}
+use Rattle.qn_safety.specs.Timed.{IsUp, IsSameBoot, IsSentTo, AllRuled, IsAdded}
 use Rattle.std.specs.Prelude.{slice_get}
 use Rattle.std.proofs.lemmas.List.Elements.{All-head, All-tail}
-use Rattle.qn_safety.proofs.Says.{Says, PacketReason, TellReason, AskReason}
-use Rattle.qn_safety.proofs.Logs.{Made, NoLine, OneMore, IsLine, before_outs, made_tail, made_line, line_says}
-use Rattle.qn_safety.proofs.Runs.{Turn, IsApart, IsPass, IsBoot, IsAdd, IsFeed, IsEnd, turn, added_node, booted_node, IsSound, sound, ruled_before, newest_rule, earlier_ruled, Span, span, boots_le, same_mid}
+use Rattle.qn_safety.proofs.Says.{Says, PacketReason}
+use Rattle.qn_safety.proofs.Logs.{Made, before_outs, made_line, line_says}
+use Rattle.qn_safety.proofs.Runs.{Turn, IsApart, IsPass, IsBoot, IsAdd, IsFeed, IsEnd, turn, added_node, booted_node, sound, newest_rule, earlier_ruled}
 
 -- where a line of a log comes from: it was added at a moment of the same boot, or began the boot
 pub data Origin (s : Settings) (i : ℕ) (line : Line) (past : List Line) (moments : List Moment) : Type 0 where
@@ -133,6 +106,7 @@ origin_turn s i line past earlier moment (IsAdd entry e at) rest back =
   where
     log_now : (node s i (moment ∷ earlier)).log ≡ line_of s i (tick_of (node s i earlier).clock) entry (node s i earlier).log ∷ (node s i earlier).log
     log_now = ap (λ n. n.log) e ∙ handed_log s i (time earlier) entry (node s i earlier)
+
     at_entry : (line ∷ past ≡ line_of s i (tick_of (node s i earlier).clock) entry (node s i earlier).log ∷ (node s i earlier).log) ⊎ Before (line ∷ past) (node s i earlier).log → Origin s i line past (moment ∷ earlier)
     at_entry (inl same) = ByEntry earlier (record { entry = entry; back = Itself; gave = log_now ∙ sym same }) refl
     at_entry (inr more) = origin_later s i line past moment earlier (ap (λ n. n.boots) e ∙ same_boots s i (time earlier) entry (node s i earlier)) (rest more)
@@ -156,7 +130,7 @@ pub added_line : (s : Settings) (i : ℕ) (entry : What) (line : Line) (past : L
     → (node s i (Adds i entry ∷ before)).log ≡ line ∷ past → AddedLine s i entry line past before
 added_line s i entry line past before gave =
     let same : line ∷ past ≡ line_of s i (tick_of (node s i before).clock) entry (node s i before).log ∷ (node s i before).log =
-          sym gave ∙ ap (λ n. n.log) (added_node s i entry before) ∙ handed_log s i (time before) entry (node s i before) in
+    sym gave ∙ ap (λ n. n.log) (added_node s i entry before) ∙ handed_log s i (time before) entry (node s i before) in
     record {
       reads = ap (λ l. l.what) (head_same same) ∙ line_what s i (tick_of (node s i before).clock) entry (node s i before).log
           ∙ ap (λ p. read_as s i p entry) (sym (tail_same same));
@@ -198,6 +172,7 @@ sent_in sent (out.Send to content ∷ outs) there = newest (first_or there) (λ 
     first_or : {y : Sent} {ys : List Sent} → IsIn sent (y ∷ ys) → (sent ≡ y) ⊎ IsIn sent ys
     first_or First = inl refl
     first_or (Behind y more) = inr more
+
     newest : (sent ≡ record { to = to; packet = content }) ⊎ IsIn sent (packets_of outs) → (IsIn sent (packets_of outs) → IsIn (out.Send sent.to sent.packet) outs)
         → IsIn (out.Send sent.to sent.packet) (out.Send to content ∷ outs)
     newest (inl same) rest = subst (λ p. IsIn (out.Send p.to p.packet) (out.Send to content ∷ outs)) (sym same) First
@@ -256,10 +231,13 @@ sent_now : {s : Settings} {t : Timing} {moment : Moment} {earlier : List Moment}
     → (log : List Line) → (node s k (moment ∷ earlier)).log ≡ log → IsIn (out.Send sent.to sent.packet) (newest_outs log)
     → (line : Line) × (past : List Line) × (log ≡ line ∷ past) × PacketReason s k past (before_outs line past) line.what sent.to sent.packet
 sent_now k sent ruled [] e there = none_in there
-sent_now {s = s} k sent ruled (line ∷ past) e there =
-    (line, past, refl,
-    all_in (Says s k past line.tick line.what (before_outs line past)) (out.Send sent.to sent.packet) line.outs
-    (line_says (made_line (subst (λ l. Made s k l) e ((sound ruled k).made)))) there)
+sent_now {s = s} k sent ruled (line ∷ past) e there = (
+  line,
+  past,
+  refl,
+  all_in (Says s k past line.tick line.what (before_outs line past)) (out.Send sent.to sent.packet) line.outs
+      (line_says (made_line (subst (λ l. Made s k l) e ((sound ruled k).made)))) there,
+)
 
 sent_by_entry : {s : Settings} {t : Timing} {k : ℕ} {earlier : List Moment} (sent : Sent) (entry : What) → AllRuled s t (Adds k entry ∷ earlier)
     → (line : Line) (past : List Line) → (node s k (Adds k entry ∷ earlier)).log ≡ line ∷ past → PacketReason s k past (before_outs line past) line.what sent.to sent.packet
@@ -283,7 +261,7 @@ boot_sends_none : {P : Type 0} (s : Settings) (k base : ℕ) (sent : Sent) (earl
     → (node s k (Boots k base ∷ earlier)).log ≡ line ∷ past → PacketReason s k past (before_outs line past) line.what sent.to sent.packet → P
 boot_sends_none s k base sent earlier line past gave why =
     let same : line ∷ past ≡ line_of s k (tick_of base) what.Begin [] ∷ [] =
-          sym gave ∙ ap (λ n. n.log) (booted_node s k base earlier) ∙ booted_log s k (time earlier) base (node s k earlier) in
+    sym gave ∙ ap (λ n. n.log) (booted_node s k base earlier) ∙ booted_log s k (time earlier) base (node s k earlier) in
     absurd (not_live_first s past (tail_same same) (packet_live s k past (before_outs line past) line.what sent.to sent.packet why))
 
 sent_given : {s : Settings} {t : Timing} (sent : Sent) (moment : Moment) (earlier : List Moment) → AllRuled s t (moment ∷ earlier)

@@ -1,50 +1,31 @@
 -- What a licence and a free member rest on in the log of a node.
-use Rattle.std.proofs.Common.{◌≡◌, ℕ, suc, zero, ◌+◌, ◌-◌, ◌*◌, ◌/◌, ◌<◌, ◌≤◌, Bool, true, false, List, [], ◌∷◌, ◌++◌, length, Some, None, Option, refl, sym, ap, ◌∙◌, subst, arith, cond, ◌&&◌, ◌||◌, ◌==◌, not, if◌then◌else◌, ◌⊎◌, inl, inr, is_some, is_none, All, nat_le, nat_lt}
-use Rattle.std.specs.Option.{option_or, option_map, option_map_or}
-use Rattle.std.proofs.lemmas.Bool.{false≢true, true≢false, cases_lt, cases_order, cases_Bool, or_cases, eqb-true, eqb-false, eq-eqb, ne_eqb, ltb-true, ltb-false, leb-true, lt-ltb, le-leb}
+use Rattle.std.proofs.Common.{◌≡◌, ℕ, suc, ◌+◌, ◌<◌, ◌≤◌, Bool, true, false, List, [], ◌∷◌, length, Some, None, Option, refl, sym, ap, ◌∙◌, subst, arith, ◌&&◌, ◌||◌, ◌==◌, not, if◌then◌else◌, inl, inr, nat_le, nat_lt}
+use Rattle.std.specs.Option.{option_or, option_map_or}
+use Rattle.std.proofs.lemmas.Bool.{false≢true, eqb-true, ltb-true, leb-true}
 use Rattle.qn_base.specs.declared.ids.Rank.{Rank}
 use Rattle.qn_base.specs.declared.ids.View.{View}
 use Rattle.qn_base.specs.Members.{is_member}
 use Rattle.qn_model.specs.declared.configuration.Settings.{Settings}
-use Rattle.qn_model.specs.declared.times.Timing.{Timing}
-use Rattle.qn_model.specs.declared.disk.Message.{Message}
-use Rattle.qn_model.specs.declared.disk.Message.TheVariants as message
-use Rattle.qn_model.specs.declared.disk.Slot.{Slot}
-use Rattle.qn_model.specs.declared.seen.HeaderSeen.{HeaderSeen}
-use Rattle.qn_model.specs.declared.seen.HeaderSeen.TheVariants as header
 use Rattle.qn_model.specs.declared.seen.SlotSeen.{SlotSeen}
-use Rattle.qn_model.specs.declared.seen.SlotSeen.TheVariants as slot
-use Rattle.qn_model.specs.declared.seen.MailSeen.{MailSeen}
-use Rattle.qn_model.specs.declared.seen.MailSeen.TheVariants as mail
-use Rattle.qn_model.specs.declared.packets.Ask.{Ask}
 use Rattle.qn_model.specs.declared.packets.Tell.{Tell}
-use Rattle.qn_model.specs.declared.packets.Packet.{Packet}
-use Rattle.qn_model.specs.declared.packets.Packet.TheVariants as packet
 use Rattle.qn_model.specs.declared.entries.What.{What}
 use Rattle.qn_model.specs.declared.entries.What.TheVariants as what
 use Rattle.qn_model.specs.declared.life.Phase.{Phase}
-use Rattle.qn_model.specs.declared.life.Phase.TheVariants.{Booting, Up, Leaving, Dying, Gone}
-use Rattle.qn_model.specs.declared.outputs.BootCause.{BootCause}
 use Rattle.qn_model.specs.declared.outputs.DiskOp.{DiskOp}
 use Rattle.qn_model.specs.declared.outputs.DiskOp.TheVariants as disk
-use Rattle.qn_model.specs.declared.outputs.Out.{Out}
-use Rattle.qn_model.specs.declared.outputs.Out.TheVariants as out
-use Rattle.qn_model.specs.Log.{Line, op_out, ask_place, ask_tick, claimed, claim_of, incarnation, timing, times_of, no_times, now, disk_of, has_start, has_stop, is_answer, is_view, view_of}
-use Rattle.qn_model.specs.Phases.{phase, next_phase, boot_phase, mail_phase, header_halt, slot_halt, boot_halt, message_of, deadly_of, in_time, is_booting, is_live, is_up, is_leaving}
-use Rattle.qn_model.specs.Sectors.{is_deadly}
-use Rattle.qn_model.specs.Holding.{holds, stop_due, is_stopped}
-use Rattle.qn_model.specs.NodeVotes.{view, is_in_view, is_present, answers, install, released, quorate}
-use Rattle.qn_model.specs.Hearing.{is_free, told, tells, tell_of}
-use Rattle.qn_model.specs.Licences.{out_time, starts_out_time, slot_read_since, reset_since, reads_slot, writes_reset, is_clean_slot, is_clean, is_written, is_fenced, is_licensed, reset_tick}
-use Rattle.qn_model.specs.Unmet.{unmet, is_clear}
-use Rattle.qn_model.specs.Wanted.{wanted, boot_op, claim_after, rank_of}
-use Rattle.qn_model.specs.Fitting.{fits, read_as, answers_op, is_first, is_own_view, is_for}
-use Rattle.qn_model.specs.NodeOutputs.{outs_at, mail_feeds, feeds_on, taken_in, with_read, with_entry, newest_outs, gives_start}
+use Rattle.qn_model.specs.Log.{Line, timing, has_start, is_answer, is_view, view_of}
+use Rattle.qn_model.specs.Phases.{phase, is_up}
+use Rattle.qn_model.specs.Holding.{holds}
+use Rattle.qn_model.specs.NodeVotes.{view, is_in_view, answers, released}
+use Rattle.qn_model.specs.Hearing.{told, tells}
+use Rattle.qn_model.specs.Licences.{out_time, starts_out_time, slot_read_since, reset_since, reads_slot, writes_reset, is_clean_slot, is_clean, is_fenced, is_licensed, reset_tick}
+use Rattle.qn_model.specs.Wanted.{rank_of}
+use Rattle.qn_model.specs.Fitting.{answers_op}
 use Rattle.qn_model.specs.Moments.{Before, Itself, Later}
-use Rattle.qn_safety.proofs.Tools.{some_same, none_some, some_none, clash, and_left_of, and_right_of, not_true, before_length, before_then, before_tail, before_total, before_same, before_shorter}
-use Rattle.qn_safety.proofs.Says.{Says, Reason, BootReason, LiveReason, LiveState, is_closed}
-use Rattle.qn_safety.proofs.Clear.{IsClear, why_clear}
-use Rattle.qn_safety.proofs.Logs.{Made, NoLine, OneMore, IsLine, before_outs, made_before, made_line, made_tail, line_at, disk_reason, start_reason, AskedBy, AnswerOf, answer_of}
+use Rattle.qn_safety.proofs.Tools.{some_same, none_some, and_left_of, and_right_of, before_length}
+use Rattle.qn_safety.proofs.Says.{Reason}
+use Rattle.qn_safety.proofs.Clear.{why_clear}
+use Rattle.qn_safety.proofs.Logs.{Made, IsLine, before_outs, made_line, made_tail, line_at, disk_reason, start_reason, AnswerOf, answer_of}
 use Rattle.qn_safety.proofs.Apt.{slot_answers, reset_answers, BootStep, BeginStep, HeaderStep, SlotStep, ClaimStep, ClearStep, boot_step_of}
 
 -- the out-time of a rank begins inside the log
@@ -160,6 +141,7 @@ licence_of rank tick log e = by_clean (is_clean log rank) refl e
     by_reset : (found : Option ℕ) → reset_tick log rank ≡ found → option_map_or (λ written. nat_le (written + (timing log).msgwait) tick) found false ≡ true → Licence rank tick log
     by_reset None is e = absurd (false≢true e)
     by_reset (Some written) is e = ByReset written (reset_found (out_time rank log) rank written log is) (leb-true _ tick e)
+
     by_clean : (b : Bool) → is_clean log rank ≡ b → (b || is_fenced log rank tick) ≡ true → Licence rank tick log
     by_clean true is e = ByClean (read_found (out_time rank log) is_clean_slot rank log is)
     by_clean false is e = by_reset (reset_tick log rank) refl e
@@ -308,9 +290,13 @@ tell_is test rank past (what.MailWritten other ok) e = absurd (false≢true e)
 tell_is test rank past (what.View installed) e = absurd (false≢true e)
 tell_is test rank past (what.Ask ask) e = absurd (false≢true e)
 tell_is test rank past (what.Tell tell) e =
-    let both = and_left_of (tell.from.0 == rank && answers past tell) (test tell) e in
-    (tell, refl, eqb-true tell.from.0 rank (and_left_of (tell.from.0 == rank) (answers past tell) both), and_right_of (tell.from.0 == rank) (answers past tell) both,
-        and_right_of (tell.from.0 == rank && answers past tell) (test tell) e)
+    let both = and_left_of (tell.from.0 == rank && answers past tell) (test tell) e in (
+      tell,
+      refl,
+      eqb-true tell.from.0 rank (and_left_of (tell.from.0 == rank) (answers past tell) both),
+      and_right_of (tell.from.0 == rank) (answers past tell) both,
+      and_right_of (tell.from.0 == rank && answers past tell) (test tell) e,
+    )
 tell_is test rank past (what.Device agrees) e = absurd (false≢true e)
 tell_is test rank past what.Tick e = absurd (false≢true e)
 tell_is test rank past (what.Stopped ok) e = absurd (false≢true e)
@@ -369,9 +355,9 @@ same_licence : {s : Settings} {me : ℕ} {line : Line} {past : List Line} → Is
 same_licence {line = line} {past = past} it rank tick =
     let place = same_out_time rank line past in
     let clean : is_clean (before_outs line past) rank ≡ is_clean (line ∷ past) rank =
-          ap (λ p. slot_read_since p is_clean_slot rank (before_outs line past)) place ∙ same_read it (out_time rank (line ∷ past)) is_clean_slot rank in
+    ap (λ p. slot_read_since p is_clean_slot rank (before_outs line past)) place ∙ same_read it (out_time rank (line ∷ past)) is_clean_slot rank in
     let reset : reset_tick (before_outs line past) rank ≡ reset_tick (line ∷ past) rank =
-          ap (λ p. reset_since p rank (before_outs line past)) place ∙ same_reset it (out_time rank (line ∷ past)) rank in
+    ap (λ p. reset_since p rank (before_outs line past)) place ∙ same_reset it (out_time rank (line ∷ past)) rank in
     ap (λ c. c || is_fenced (before_outs line past) rank tick) clean
     ∙ ap (λ r. is_clean (line ∷ past) rank || option_map_or (λ written. nat_le (written + (timing (before_outs line past)).msgwait) tick) r false) reset
     ∙ ap (λ t. is_clean (line ∷ past) rank || option_map_or (λ written. nat_le (written + t.msgwait) tick) (reset_tick (line ∷ past) rank) false) (same_timing line past)

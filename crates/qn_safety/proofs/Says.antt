@@ -1,7 +1,6 @@
 -- What an output of a node tells of the entry that gave it.
 use Rattle.std.proofs.Common.{◌≡◌, ℕ, suc, zero, ◌+◌, ◌<◌, ◌≤◌, Bool, true, false, List, [], ◌∷◌, ◌++◌, length, Some, None, Option, refl, sym, ap, ◌∙◌, subst, arith, cond, ◌&&◌, ◌||◌, ◌==◌, not, if◌then◌else◌, ◌⊎◌, inl, inr, is_some, All, map, filter}
 use Rattle.std.specs.Option.{option_or, option_map, option_map_or}
-use Rattle.std.specs.List.{range_with_len}
 use Rattle.std.proofs.lemmas.List.Elements.{All-nil, All-cons, All-append, All-head, All-tail, All-map}
 use Rattle.std.proofs.lemmas.Bool.{false≢true}
 use Rattle.qn_base.specs.declared.ids.Rank.{Rank}
@@ -21,16 +20,15 @@ use Rattle.qn_model.specs.declared.outputs.DiskOp.TheVariants as disk
 use Rattle.qn_model.specs.declared.outputs.Out.{Out}
 use Rattle.qn_model.specs.declared.outputs.Out.TheVariants as out
 use Rattle.qn_model.specs.declared.outputs.HaltKind.TheVariants as halt
-use Rattle.qn_model.specs.Log.{Line, op_out, incarnation, timing, now, disk_of, has_start, is_answer}
+use Rattle.qn_model.specs.Log.{Line, op_out, incarnation, now, disk_of, has_start}
 use Rattle.qn_model.specs.Phases.{phase, boot_halt, message_of, deadly_of, is_booting, is_live, is_up, is_leaving}
 use Rattle.qn_model.specs.Holding.{holds}
 use Rattle.qn_model.specs.NodeVotes.{view, is_in_view, is_present, released, quorate}
-use Rattle.qn_model.specs.Licences.{is_clean, is_slot_seen, is_written}
-use Rattle.qn_model.specs.Unmet.{unmet, is_clear, least_from, is_chosen}
+use Rattle.qn_model.specs.Unmet.{unmet, is_clear, is_chosen}
 use Rattle.qn_model.specs.Wanted.{wanted, fencing_op, to_read, to_reset, boot_op, close_op, rank_of, is_mail_due, may_fence}
-use Rattle.qn_model.specs.NodeOutputs.{acts, outs_at, live_outs, boot_outs, boot_step_outs, is_boot_step, is_begin, disk_outs, when, replies, reply, asks, asks_under, ask_to, is_asking, gives_stop, gives_start, mail_feeds, taken_in}
+use Rattle.qn_model.specs.NodeOutputs.{acts, outs_at, live_outs, boot_outs, boot_step_outs, is_boot_step, is_begin, disk_outs, when, replies, reply, asks_under, ask_to, is_asking, gives_stop, gives_start, mail_feeds}
 use Rattle.qn_safety.proofs.Least.{least_passes}
-use Rattle.qn_safety.proofs.Tools.{some_same, none_some, and_left_of, and_right_of, not_true, clash}
+use Rattle.qn_safety.proofs.Tools.{some_same, none_some, and_left_of, and_right_of, not_true}
 
 -- an operation of the boot: the entry is a step of the boot that goes on
 pub record BootReason (s : Settings) (me : ℕ) (past : List Line) (entry : What) (op : DiskOp) : Type 0 where
@@ -150,8 +148,8 @@ wanted_by s me log op e =
     wanted_cases s log op (op_out log) (is_mail_due log) (is_leaving (phase s log)) (holds log) (may_fence s me log) (fencing_op s log) (close_op log)
     (λ leaving held closing. close_state s log (incarnation log) op refl leaving held closing)
     (λ fence fencing. fencing_state s log (to_read s log) (to_reset s log) op
-        (and_left_of (is_up (phase s log)) (quorate s log (now log)) (and_left_of _ (is_chosen s me log) fence))
-        (to_read_outside s log) (to_reset_outside s log) fencing)
+    (and_left_of (is_up (phase s log)) (quorate s log (now log)) (and_left_of _ (is_chosen s me log) fence))
+    (to_read_outside s log) (to_reset_outside s log) fencing)
     e
 
 module _ (s : Settings) (me : ℕ) (past : List Line) (tick : ℕ) (entry : What) (log : List Line) where
@@ -236,7 +234,7 @@ module _ (s : Settings) (me : ℕ) (past : List Line) (tick : ℕ) (entry : What
       (replies_say entry live refl))
       (asks_say (is_asking s log) live))
       (op_says (wanted s me log) (λ op e. let why = wanted_by s me log op e in
-          inr (record { live = live; lives_on = lives; not_closed = not_closed; silent = why.0; state = why.1 })))
+      inr (record { live = live; lives_on = lives; not_closed = not_closed; silent = why.0; state = why.1 })))
 
   live_say : (other : What) (message : Option Message) → is_live (phase s past) ≡ true → is_closed entry ≡ is_closed other → deadly_of (message_of entry) ≡ message
       → (deadly_of (message_of entry) ≡ None → is_closed entry ≡ false → AllSay (acts s me log other (mail_feeds tick past entry)))

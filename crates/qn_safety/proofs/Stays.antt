@@ -1,25 +1,9 @@
 -- What stays as it is along the log of one node.
-use Rattle.std.proofs.Common.{◌≡◌, ℕ, suc, zero, ◌+◌, ◌-◌, ◌*◌, ◌/◌, ◌<◌, ◌≤◌, Bool, true, false, List, [], ◌∷◌, ◌++◌, length, Some, None, Option, refl, sym, ap, ◌∙◌, subst, arith, cond, ◌&&◌, ◌||◌, ◌==◌, not, if◌then◌else◌, ◌⊎◌, inl, inr, is_some, is_none, All, nat_le, nat_lt}
-use Rattle.std.specs.Option.{option_or, option_map, option_map_or}
-use Rattle.std.proofs.lemmas.Bool.{false≢true, true≢false, cases_lt, cases_order, cases_Bool, or_cases, eqb-true, eqb-false, eq-eqb, ne_eqb, ltb-true, ltb-false, leb-true, lt-ltb, le-leb}
-use Rattle.qn_base.specs.declared.ids.Rank.{Rank}
-use Rattle.qn_base.specs.declared.ids.View.{View}
-use Rattle.qn_base.specs.Members.{is_member}
+use Rattle.std.proofs.Common.{◌≡◌, ℕ, suc, Bool, true, false, List, [], ◌∷◌, length, Some, None, Option, refl, sym, ap, ◌∙◌, subst, ◌&&◌, ◌||◌, not, if◌then◌else◌, ◌⊎◌, inl, inr, is_some}
+use Rattle.std.specs.Option.{option_or}
+use Rattle.std.proofs.lemmas.Bool.{false≢true, true≢false}
 use Rattle.qn_model.specs.declared.configuration.Settings.{Settings}
-use Rattle.qn_model.specs.declared.times.Timing.{Timing}
 use Rattle.qn_model.specs.declared.disk.Message.{Message}
-use Rattle.qn_model.specs.declared.disk.Message.TheVariants as message
-use Rattle.qn_model.specs.declared.disk.Slot.{Slot}
-use Rattle.qn_model.specs.declared.seen.HeaderSeen.{HeaderSeen}
-use Rattle.qn_model.specs.declared.seen.HeaderSeen.TheVariants as header
-use Rattle.qn_model.specs.declared.seen.SlotSeen.{SlotSeen}
-use Rattle.qn_model.specs.declared.seen.SlotSeen.TheVariants as slot
-use Rattle.qn_model.specs.declared.seen.MailSeen.{MailSeen}
-use Rattle.qn_model.specs.declared.seen.MailSeen.TheVariants as mail
-use Rattle.qn_model.specs.declared.packets.Ask.{Ask}
-use Rattle.qn_model.specs.declared.packets.Tell.{Tell}
-use Rattle.qn_model.specs.declared.packets.Packet.{Packet}
-use Rattle.qn_model.specs.declared.packets.Packet.TheVariants as packet
 use Rattle.qn_model.specs.declared.entries.What.{What}
 use Rattle.qn_model.specs.declared.entries.What.TheVariants as what
 use Rattle.qn_model.specs.declared.life.Phase.{Phase}
@@ -27,26 +11,17 @@ use Rattle.qn_model.specs.declared.life.Phase.TheVariants.{Booting, Up, Leaving,
 use Rattle.qn_model.specs.declared.outputs.BootCause.{BootCause}
 use Rattle.qn_model.specs.declared.outputs.DiskOp.{DiskOp}
 use Rattle.qn_model.specs.declared.outputs.DiskOp.TheVariants as disk
-use Rattle.qn_model.specs.declared.outputs.Out.{Out}
-use Rattle.qn_model.specs.declared.outputs.Out.TheVariants as out
-use Rattle.qn_model.specs.Log.{Line, op_out, ask_place, ask_tick, claimed, claim_of, incarnation, timing, times_of, no_times, now, disk_of, has_start, has_stop, is_answer, is_view, view_of}
+use Rattle.qn_model.specs.Log.{Line, op_out, ask_place, disk_of, has_start, is_answer}
 use Rattle.qn_model.specs.Phases.{phase, next_phase, boot_phase, mail_phase, header_halt, slot_halt, boot_halt, message_of, deadly_of, in_time, is_booting, is_live, is_up, is_leaving}
-use Rattle.qn_model.specs.Sectors.{is_deadly}
-use Rattle.qn_model.specs.Holding.{holds, stop_due, is_stopped}
-use Rattle.qn_model.specs.NodeVotes.{view, is_in_view, is_present, answers, install, released, quorate}
-use Rattle.qn_model.specs.Hearing.{is_free, told, tells, tell_of}
-use Rattle.qn_model.specs.Licences.{out_time, starts_out_time, slot_read_since, reset_since, reads_slot, writes_reset, is_clean_slot, is_clean, is_written, is_fenced, is_licensed, reset_tick}
-use Rattle.qn_model.specs.Unmet.{unmet, is_clear}
-use Rattle.qn_model.specs.Wanted.{wanted, boot_op, claim_after, rank_of}
-use Rattle.qn_model.specs.Fitting.{fits, read_as, answers_op, is_first, is_own_view, is_for}
-use Rattle.qn_model.specs.NodeOutputs.{outs_at, mail_feeds, feeds_on, taken_in, with_read, with_entry, newest_outs, gives_start}
+use Rattle.qn_model.specs.Holding.{holds, is_stopped}
+use Rattle.qn_model.specs.Fitting.{fits}
 use Rattle.qn_model.specs.Moments.{Before, Itself, Later}
-use Rattle.qn_safety.proofs.Tools.{some_same, none_some, some_none, clash, and_left_of, and_right_of, not_true, before_length, before_then, before_tail, before_total, before_same, before_shorter}
+use Rattle.qn_safety.proofs.Tools.{some_none, clash, and_left_of, before_length, before_same}
 use Rattle.qn_safety.specs.Closing.{is_close, asked_close}
-use Rattle.qn_safety.proofs.Says.{Says, Reason, BootReason, LiveReason, StartReason, LiveState, is_closed}
-use Rattle.qn_safety.proofs.Clear.{IsClear, why_clear}
-use Rattle.qn_safety.proofs.Logs.{Made, NoLine, OneMore, IsLine, before_outs, made_before, made_tail, made_line, line_at, disk_reason, start_reason, AskedBy, ask_line}
-use Rattle.qn_safety.proofs.Apt.{is_apt, apt, booting_is, up_is, leaving_is, BootStep, BeginStep, HeaderStep, SlotStep, ClaimStep, ClearStep, boot_step_of, cleared_answers}
+use Rattle.qn_safety.proofs.Says.{Reason}
+use Rattle.qn_safety.proofs.Clear.{why_clear}
+use Rattle.qn_safety.proofs.Logs.{Made, NoLine, OneMore, IsLine, before_outs, disk_reason, start_reason}
+use Rattle.qn_safety.proofs.Apt.{is_apt, apt, leaving_is, BootStep, BeginStep, HeaderStep, SlotStep, ClaimStep, ClearStep, boot_step_of, cleared_answers}
 
 -- an operation is given only where none is out any more
 step_silent : (s : Settings) (me : ℕ) (past : List Line) (entry : What) (op : DiskOp) (p : Phase) → BootStep me entry op p → fits s me past entry ≡ true
@@ -245,13 +220,16 @@ close_given s me line past (Some (disk.WriteClose n)) it gave is = by_reason (di
     no_step entry op p (SlotStep rank own) e = cc
     no_step entry op p ClaimStep e = cc
     no_step entry op p ClearStep e = cc
+
     leaving_over : (p : Phase) → is_leaving p ≡ true → is_over p ≡ true
     leaving_over p e = ap is_over (leaving_is p e)
+
     after_outs : is_leaving (phase s (before_outs line past)) ≡ true → is_over (phase s (line ∷ past)) ≡ true
     after_outs e = leaving_over (phase s (line ∷ past)) (subst (λ p. is_leaving p ≡ true) (phase_same line past) e)
       where
         phase_same : (l : Line) (ls : List Line) → phase s (before_outs l ls) ≡ phase s (l ∷ ls)
         phase_same l ls = unfold phase in refl
+
     by_reason : Reason s me past line.what (before_outs line past) (disk.WriteClose n) → (holds (before_outs line past) ≡ false) × (is_over (phase s (line ∷ past)) ≡ true)
     by_reason (inl boots) = absurd (no_step line.what (disk.WriteClose n) _ (boot_step_of s me line.what (disk.WriteClose n) false boots.goes_on boots.next) refl)
     by_reason (inr lives) = (lives.state.1, after_outs lives.state.0)
@@ -275,6 +253,7 @@ closed_never {s = s} {me = me} (OneMore {line = line} {past = past} it made) e =
       idle = idle_after (has_start line.outs) (holds past) (is_stopped line.what) (no_start_over it over) idle;
       over = over;
     }
+
     by_close : (b : Bool) → is_close (disk_of line.outs) ≡ b → (b || asked_close past) ≡ true → (asked_close past ≡ true → IsClosing s past) → IsClosing s (line ∷ past)
     by_close true is or rest = let given = close_given s me line past (disk_of line.outs) it refl is in after_idle given.0 given.1
     by_close false is or rest = let was = rest or in after_idle (idle_before (holds past) (is_stopped line.what) was.idle) (over_on it made was.over)
@@ -316,9 +295,11 @@ start_since (line ∷ past) e = by_start (has_start line.outs) refl e (λ was. s
         before_cases : {mid : List Line} → Before mid (line ∷ past) → (mid ≡ line ∷ past) ⊎ Before mid past
         before_cases Itself = inl refl
         before_cases (Later newest more) = inr more
+
         newest_or : (mid : List Line) → Before (was.line ∷ was.past) mid → Before mid (line ∷ past) → (mid ≡ line ∷ past) ⊎ Before mid past → holds mid ≡ true
         newest_or mid since until (inl same) = subst (λ x. holds x ≡ true) (sym same) now_held
         newest_or mid since until (inr more) = was.held mid since more
+
     by_start : (b : Bool) → has_start line.outs ≡ b → (b || (holds past && not (is_stopped line.what))) ≡ true → (holds past ≡ true → StartedAt past) → StartedAt (line ∷ past)
     by_start true is held rest = record {
       line = line;

@@ -1,61 +1,37 @@
 -- The Tell lemma: what a Tell that a node counts says of the node that sent it.
-use Rattle.std.proofs.Common.{◌≡◌, ℕ, suc, zero, ◌+◌, ◌-◌, ◌*◌, ◌/◌, ◌<◌, ◌≤◌, Bool, true, false, List, [], ◌∷◌, ◌++◌, length, Some, None, Option, refl, sym, ap, ◌∙◌, subst, arith, cond, ◌&&◌, ◌||◌, ◌==◌, not, if◌then◌else◌, ◌⊎◌, inl, inr, is_some, is_none, All, nat_le, nat_lt}
+use Rattle.std.proofs.Common.{◌≡◌, ℕ, ◌<◌, Bool, true, false, List, ◌∷◌, Some, None, Option, refl, sym, ap, ◌∙◌, subst, arith, ◌&&◌, ◌||◌, ◌==◌, not, if◌then◌else◌, ◌⊎◌, inl, inr}
 use Rattle.std.specs.Option.{option_or, option_map, option_map_or}
-use Rattle.std.proofs.lemmas.Bool.{false≢true, true≢false, cases_lt, cases_order, cases_Bool, or_cases, eqb-true, eqb-false, eq-eqb, ne_eqb, ltb-true, ltb-false, leb-true, lt-ltb, le-leb}
-use Rattle.qn_base.specs.declared.ids.Rank.{Rank}
+use Rattle.std.proofs.lemmas.Bool.{false≢true, true≢false, cases_order, eqb-true}
 use Rattle.qn_base.specs.declared.ids.View.{View}
 use Rattle.qn_base.specs.Members.{is_member}
 use Rattle.qn_model.specs.declared.configuration.Settings.{Settings}
 use Rattle.qn_model.specs.declared.times.Timing.{Timing}
-use Rattle.qn_model.specs.declared.disk.Message.{Message}
-use Rattle.qn_model.specs.declared.disk.Message.TheVariants as message
-use Rattle.qn_model.specs.declared.disk.Slot.{Slot}
-use Rattle.qn_model.specs.declared.seen.HeaderSeen.{HeaderSeen}
-use Rattle.qn_model.specs.declared.seen.HeaderSeen.TheVariants as header
-use Rattle.qn_model.specs.declared.seen.SlotSeen.{SlotSeen}
-use Rattle.qn_model.specs.declared.seen.SlotSeen.TheVariants as slot
-use Rattle.qn_model.specs.declared.seen.MailSeen.{MailSeen}
-use Rattle.qn_model.specs.declared.seen.MailSeen.TheVariants as mail
 use Rattle.qn_model.specs.declared.packets.Ask.{Ask}
 use Rattle.qn_model.specs.declared.packets.Tell.{Tell}
-use Rattle.qn_model.specs.declared.packets.Packet.{Packet}
 use Rattle.qn_model.specs.declared.packets.Packet.TheVariants as packet
 use Rattle.qn_model.specs.declared.entries.What.{What}
 use Rattle.qn_model.specs.declared.entries.What.TheVariants as what
 use Rattle.qn_model.specs.declared.life.Phase.{Phase}
 use Rattle.qn_model.specs.declared.life.Phase.TheVariants.{Booting, Up, Leaving, Dying, Gone}
-use Rattle.qn_model.specs.declared.outputs.BootCause.{BootCause}
-use Rattle.qn_model.specs.declared.outputs.DiskOp.{DiskOp}
-use Rattle.qn_model.specs.declared.outputs.DiskOp.TheVariants as disk
-use Rattle.qn_model.specs.declared.outputs.Out.{Out}
-use Rattle.qn_model.specs.declared.outputs.Out.TheVariants as out
-use Rattle.qn_model.specs.Log.{Line, op_out, ask_place, ask_tick, claimed, claim_of, incarnation, timing, times_of, no_times, disk_of, has_start, has_stop, is_answer, is_view, view_of}
-use Rattle.qn_model.specs.Phases.{phase, next_phase, boot_phase, mail_phase, header_halt, slot_halt, boot_halt, message_of, deadly_of, in_time, is_booting, is_live, is_up, is_leaving}
-use Rattle.qn_model.specs.Sectors.{is_deadly}
-use Rattle.qn_model.specs.Holding.{holds, stop_due, is_stopped}
-use Rattle.qn_model.specs.NodeVotes.{view, is_in_view, is_present, answers, install, released, quorate}
-use Rattle.qn_model.specs.Hearing.{is_free, told, tells, tell_of}
-use Rattle.qn_model.specs.Licences.{out_time, starts_out_time, slot_read_since, reset_since, reads_slot, writes_reset, is_clean_slot, is_clean, is_written, is_fenced, is_licensed, reset_tick}
-use Rattle.qn_model.specs.Unmet.{unmet, is_clear}
-use Rattle.qn_model.specs.Wanted.{wanted, boot_op, claim_after, rank_of}
-use Rattle.qn_model.specs.Fitting.{fits, read_as, answers_op, is_first, is_own_view, is_for}
-use Rattle.qn_model.specs.NodeOutputs.{outs_at, mail_feeds, feeds_on, taken_in, with_read, with_entry, newest_outs, gives_start}
+use Rattle.qn_model.specs.Log.{Line, claimed, incarnation, has_start}
+use Rattle.qn_model.specs.Phases.{phase, is_booting, is_live}
+use Rattle.qn_model.specs.Holding.{holds, is_stopped}
+use Rattle.qn_model.specs.NodeVotes.{view, is_in_view, is_present, answers, install}
+use Rattle.qn_model.specs.Fitting.{fits, read_as, is_for}
+use Rattle.qn_model.specs.NodeOutputs.{gives_start}
 use Rattle.qn_model.specs.Moments.{Before, Itself, Later}
-use Rattle.qn_safety.proofs.Tools.{some_same, none_some, some_none, clash, and_left_of, and_right_of, not_true, before_length, before_then, before_tail, before_total, before_same, before_shorter}
+use Rattle.qn_safety.proofs.Tools.{some_same, clash, and_left_of, and_right_of, not_true, before_then, before_tail}
 use Rattle.qn_model.specs.declared.packets.Sent.{Sent}
-use Rattle.qn_model.specs.Log as LogSpec
-use Rattle.qn_model.specs.Moments.{Moment, Passes, Boots, Adds, Feeds, Ends, Running, tick_of, is_gone, has_feed, advance_of, advanced, logged, handed, booted, time, node, given_out, packets, packets_of, is_holder}
-use Rattle.qn_model.specs.Rules.{passes, is_within_bounds, outlives, is_between}
-use Rattle.qn_safety.specs.Closing.{is_close, asked_close}
-use Rattle.qn_safety.specs.Timed.{IsUp, IsSameBoot, IsSentTo, WasSent, MayFeed, IsRuled, AllRuled, NoMoment, OneRuled, IsBetween, HasClosed, IsDoomed, IsAdded, NumbersRise, CleanMeansClosed, WrittenMeansDoomed, HeadersAgree, IsTimedRun}
+use Rattle.qn_model.specs.Moments.{Moment, Adds, node}
+use Rattle.qn_safety.specs.Timed.{IsUp, IsSameBoot, IsSentTo, WasSent, AllRuled, IsTimedRun}
 use Rattle.std.proofs.Common.{unwrap_or}
 use Rattle.qn_model.specs.NodeVotes.{is_same_view}
-use Rattle.qn_safety.proofs.Says.{Says, PacketReason, TellReason, AskReason}
-use Rattle.qn_safety.proofs.Logs.{Made, NoLine, OneMore, IsLine, before_outs, made_before, made_tail, made_line, line_at, start_reason}
+use Rattle.qn_safety.proofs.Says.{PacketReason, TellReason, AskReason}
+use Rattle.qn_safety.proofs.Logs.{Made, IsLine, before_outs, made_line, start_reason}
 use Rattle.qn_safety.proofs.Rests.{TellFound, same_view_at}
-use Rattle.qn_safety.proofs.Runs.{IsSound, sound, ruled_before, newest_rule, earlier_ruled, Span, span, boots_le, same_mid, added_node}
+use Rattle.qn_safety.proofs.Runs.{sound, ruled_before, newest_rule}
 use Rattle.qn_safety.proofs.Origins.{Origin, ByEntry, ByBoot, origin, AddedLine, added_line, Sending, sent_at}
-use Rattle.qn_safety.proofs.Numbers.{HasNumber, up_number}
+use Rattle.qn_safety.proofs.Numbers.{up_number}
 use Rattle.qn_safety.proofs.Licensed.{added_boots}
 
 -- what node i knows at m by a Tell of node j that says not holding
@@ -152,26 +128,33 @@ module _ {s : Settings} {t : Timing} {all : List Moment} (run : IsTimedRun s t a
     where
       back_sent_all : Before (Adds j sending.added.entry ∷ sending.before) all
       back_sent_all = before_then sending.added.back (before_then heard_m m_all)
+
       back_before_all : Before sending.before all
       back_before_all = before_tail back_sent_all
+
       ruled_sent : AllRuled s t (Adds j sending.added.entry ∷ sending.before)
       ruled_sent = ruled_before back_sent_all run.ruled
+
       parts : AddedLine s j sending.added.entry sending.line sending.past sending.before
       parts = added_line s j sending.added.entry sending.line sending.past sending.before sending.added.gave
+
       asked_sent : IsSentTo s j (packet.Ask why.ask) sending.before
       asked_sent =
           let rule = (newest_rule ruled_sent).1 in
           subst (λ w. WasSent s j w sending.before) (read_ask s j sending.past sending.added.entry why.ask (sym parts.reads ∙ why.asked)) rule
+
       it : IsLine s j sending.line sending.past
       it = made_line (subst (λ log. Made s j log) sending.added.gave ((sound ruled_sent j).made))
+
       asker : why.ask.from.0 ≡ i
       asker = ap (λ r. r.0) (sym why.to_asker) ∙ receiver
+
       by_ask : (k : ℕ) × Sending s k asked_sent.sent sending.before → Traced s i j m
       by_ask found =
           let k = found.0 in
           let asking = found.1 in
           let reason : AskReason s k asking.past (before_outs asking.line asking.past) asked_sent.sent.to why.ask =
-                subst (λ c. PacketReason s k asking.past (before_outs asking.line asking.past) asking.line.what asked_sent.sent.to c) asked_sent.content asking.reason in
+          subst (λ c. PacketReason s k asking.past (before_outs asking.line asking.past) asking.line.what asked_sent.sent.to c) asked_sent.content asking.reason in
           let own : k ≡ i = sym (ap (λ r. r.0) reason.from_me) ∙ asker in
           record {
             sent = Adds j sending.added.entry ∷ sending.before;
@@ -212,7 +195,7 @@ module _ {s : Settings} {t : Timing} {all : List Moment} (run : IsTimedRun s t a
       let k = found.0 in
       let sending = found.1 in
       let why : TellReason s k sending.past (before_outs sending.line sending.past) sending.line.what told_sent.sent.to tell =
-            subst (λ c. PacketReason s k sending.past (before_outs sending.line sending.past) sending.line.what told_sent.sent.to c) told_sent.content sending.reason in
+      subst (λ c. PacketReason s k sending.past (before_outs sending.line sending.past) sending.line.what told_sent.sent.to c) told_sent.content sending.reason in
       subst (λ x. Traced s i x m) (sym (ap (λ r. r.0) why.from_me) ∙ from_j)
       (traced_from k tell heard_at heard_m up_heard same_heard claims free told_sent.sent told_sent.receiver told_sent.content sending why)
 
@@ -225,6 +208,7 @@ module _ {s : Settings} {t : Timing} {all : List Moment} (run : IsTimedRun s t a
         where
           told_begin : what.Begin ≡ what.Tell found.tell → ⊥
           told_begin e = cc
+
       by_origin : Origin s i found.line found.past m → Traced s i j m
       by_origin (ByBoot begins first) = absurd (no_begin begins)
       by_origin (ByEntry before added same) =

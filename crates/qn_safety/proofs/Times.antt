@@ -1,50 +1,24 @@
 -- The times that a node works with are those of the header that it read.
 use Rattle.std.proofs.Common.{◌≡◌, ℕ, suc, zero, ◌+◌, ◌-◌, ◌*◌, ◌/◌, ◌<◌, ◌≤◌, Bool, true, false, List, [], ◌∷◌, ◌++◌, length, Some, None, Option, refl, sym, ap, ◌∙◌, subst, arith, cond, ◌&&◌, ◌||◌, ◌==◌, not, if◌then◌else◌, ◌⊎◌, inl, inr, is_some, is_none, All, nat_le, nat_lt}
-use Rattle.std.specs.Option.{option_or, option_map, option_map_or}
-use Rattle.std.proofs.lemmas.Bool.{false≢true, true≢false, cases_lt, cases_order, cases_Bool, or_cases, eqb-true, eqb-false, eq-eqb, ne_eqb, ltb-true, ltb-false, leb-true, lt-ltb, le-leb}
-use Rattle.qn_base.specs.declared.ids.Rank.{Rank}
-use Rattle.qn_base.specs.declared.ids.View.{View}
-use Rattle.qn_base.specs.Members.{is_member}
+use Rattle.std.specs.Option.{option_or}
+use Rattle.std.proofs.lemmas.Bool.{false≢true, true≢false}
 use Rattle.qn_model.specs.declared.configuration.Settings.{Settings}
 use Rattle.qn_model.specs.declared.times.Timing.{Timing}
-use Rattle.qn_model.specs.declared.disk.Message.{Message}
-use Rattle.qn_model.specs.declared.disk.Message.TheVariants as message
-use Rattle.qn_model.specs.declared.disk.Slot.{Slot}
-use Rattle.qn_model.specs.declared.seen.HeaderSeen.{HeaderSeen}
 use Rattle.qn_model.specs.declared.seen.HeaderSeen.TheVariants as header
-use Rattle.qn_model.specs.declared.seen.SlotSeen.{SlotSeen}
-use Rattle.qn_model.specs.declared.seen.SlotSeen.TheVariants as slot
-use Rattle.qn_model.specs.declared.seen.MailSeen.{MailSeen}
-use Rattle.qn_model.specs.declared.seen.MailSeen.TheVariants as mail
-use Rattle.qn_model.specs.declared.packets.Ask.{Ask}
-use Rattle.qn_model.specs.declared.packets.Tell.{Tell}
-use Rattle.qn_model.specs.declared.packets.Packet.{Packet}
-use Rattle.qn_model.specs.declared.packets.Packet.TheVariants as packet
 use Rattle.qn_model.specs.declared.entries.What.{What}
 use Rattle.qn_model.specs.declared.entries.What.TheVariants as what
 use Rattle.qn_model.specs.declared.life.Phase.{Phase}
 use Rattle.qn_model.specs.declared.life.Phase.TheVariants.{Booting, Up, Leaving, Dying, Gone}
-use Rattle.qn_model.specs.declared.outputs.BootCause.{BootCause}
 use Rattle.qn_model.specs.declared.outputs.DiskOp.{DiskOp}
 use Rattle.qn_model.specs.declared.outputs.DiskOp.TheVariants as disk
-use Rattle.qn_model.specs.declared.outputs.Out.{Out}
-use Rattle.qn_model.specs.declared.outputs.Out.TheVariants as out
-use Rattle.qn_model.specs.Log.{Line, op_out, ask_place, ask_tick, claimed, claim_of, incarnation, timing, times_of, no_times, now, disk_of, has_start, has_stop, is_answer, is_view, view_of}
-use Rattle.qn_model.specs.Phases.{phase, next_phase, boot_phase, mail_phase, header_halt, slot_halt, boot_halt, message_of, deadly_of, in_time, is_booting, is_live, is_up, is_leaving}
-use Rattle.qn_model.specs.Sectors.{is_deadly}
-use Rattle.qn_model.specs.Holding.{holds, stop_due, is_stopped}
-use Rattle.qn_model.specs.NodeVotes.{view, is_in_view, is_present, answers, install, released, quorate}
-use Rattle.qn_model.specs.Hearing.{is_free, told, tells, tell_of}
-use Rattle.qn_model.specs.Licences.{out_time, starts_out_time, slot_read_since, reset_since, reads_slot, writes_reset, is_clean_slot, is_clean, is_written, is_fenced, is_licensed, reset_tick}
-use Rattle.qn_model.specs.Unmet.{unmet, is_clear}
-use Rattle.qn_model.specs.Wanted.{wanted, boot_op, claim_after, rank_of}
-use Rattle.qn_model.specs.Fitting.{fits, read_as, answers_op, is_first, is_own_view, is_for}
-use Rattle.qn_model.specs.NodeOutputs.{outs_at, mail_feeds, feeds_on, taken_in, with_read, with_entry, newest_outs, gives_start}
+use Rattle.qn_model.specs.Log.{Line, op_out, timing, times_of, disk_of, is_answer}
+use Rattle.qn_model.specs.Phases.{phase, next_phase, in_time, is_booting, is_live, is_up}
+use Rattle.qn_model.specs.Fitting.{fits, answers_op, is_own_view, is_for}
 use Rattle.qn_model.specs.Moments.{Before, Itself, Later}
-use Rattle.qn_safety.proofs.Tools.{some_same, none_some, some_none, clash, and_left_of, and_right_of, not_true, before_length, before_then, before_tail, before_total, before_same, before_shorter}
-use Rattle.qn_safety.proofs.Says.{Reason, BootReason, LiveReason, is_closed}
+use Rattle.qn_safety.proofs.Tools.{some_same, none_some, some_none, clash, and_left_of}
+use Rattle.qn_safety.proofs.Says.{Reason}
 use Rattle.qn_safety.proofs.Logs.{Made, NoLine, OneMore, IsLine, before_outs, disk_reason}
-use Rattle.qn_safety.proofs.Apt.{is_apt, apt, BootStep, BeginStep, HeaderStep, SlotStep, ClaimStep, ClearStep, boot_step_of, booting_is, header_answers, slot_answers, claimed_answers, cleared_answers, mail_answers, reset_answers, closed_answers}
+use Rattle.qn_safety.proofs.Apt.{is_apt, apt, BootStep, BeginStep, HeaderStep, SlotStep, ClaimStep, ClearStep, boot_step_of, booting_is, slot_answers, claimed_answers, cleared_answers, mail_answers, reset_answers}
 
 -- every header in the log gives these times
 pub HeadersGive : Timing → List Line → Type 0
@@ -216,6 +190,7 @@ blank_on s me line past it made none blank = by_phase (blank_phase (op_out past)
   where
     next : Phase
     next = next_phase s line.what (in_time line.tick past) (phase s past)
+
     kept : is_booting (phase s past) ≡ true → (answer : Bool) → is_answer line.what ≡ answer → (op_out past ≡ None) ⊎ (op_out past ≡ Some disk.ReadHeader)
         → (given : Option DiskOp) → disk_of line.outs ≡ given → is_blank (option_or given (if answer then None else op_out past)) next ≡ true
     kept b true is out given gave = blank_gone _ next (blank_answer s me past line.what (in_time line.tick past) is it.fitting out none)
@@ -231,6 +206,7 @@ blank_on s me line past it made none blank = by_phase (blank_phase (op_out past)
             ap (λ o. is_blank (Some o) next) (begin_only me line.what op _ (boot_step_of s me line.what op false boots.goes_on boots.next) is)
             ∙ ap (λ q. is_blank (Some disk.ReadHeader) q) (booting_is next n)
         by_reason (inr lives) n = absurd (not_live_up (phase s past) b lives.live)
+
     by_phase : (is_booting (phase s past) ≡ true) ⊎ (phase s past ≡ Gone) → is_blank (option_or (disk_of line.outs) (if is_answer line.what then None else op_out past)) next ≡ true
     by_phase (inl b) = kept b (is_answer line.what) refl (blank_out (op_out past) (phase s past) b blank) (disk_of line.outs) refl
     by_phase (inr gone) = blank_gone _ next (gone_next s me past line.what (in_time line.tick past) it.fitting gone (subst (λ p. is_apt (op_out past) p ≡ true) gone (apt made)))
@@ -245,6 +221,7 @@ times_step s me t line past it made here before open' = by_times (times_of line.
     by_blank : times_of line.what ≡ None → (b : Bool) → is_blank (op_out past) (phase s past) ≡ b → timing past ≡ t
     by_blank none true e = clash (is_blank (op_out (line ∷ past)) (phase s (line ∷ past))) (blank_on s me line past it made none e) open'
     by_blank none false e = before e
+
     by_times : (found : Option Timing) → times_of line.what ≡ found → Rattle.std.proofs.Common.unwrap_or found (timing past) ≡ t
     by_times (Some times) e = here times e
     by_times None e = by_blank e (is_blank (op_out past) (phase s past)) refl
@@ -263,6 +240,7 @@ known_phase out p b g = by_test (is_blank out p) refl
     no_way : (is_booting p ≡ true) ⊎ (p ≡ Gone) → is_blank out p ≡ false
     no_way (inl boots) = clash (is_booting p) boots b
     no_way (inr gone) = clash (Rattle.qn_model.specs.Moments.is_gone p) (ap Rattle.qn_model.specs.Moments.is_gone gone) g
+
     by_test : (t : Bool) → is_blank out p ≡ t → is_blank out p ≡ false
     by_test false e = e
     by_test true e = no_way (blank_phase out p e)

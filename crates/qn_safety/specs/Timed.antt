@@ -1,6 +1,6 @@
 -- A timed run of the cluster: moments that obey the rules of time, of packets and of feeds, and four facts that the
 -- shared disk gives. Nothing else is said of the disk. This project's profile, after sbd(8).
-use Rattle.std.specs.Prelude.{◌≡◌, ◌<◌, ◌≤◌, ◌+◌, ℕ, true, false, List, [], ◌∷◌, length, Option, Some, None, slice_get}
+use Rattle.std.specs.Prelude.{◌≡◌, ◌<◌, ◌≤◌, ◌+◌, ℕ, true, false, List, [], ◌∷◌, length, Some, slice_get}
 use Rattle.qn_model.specs.declared.configuration.Settings.{Settings}
 use Rattle.qn_model.specs.declared.times.Timing.{Timing}
 use Rattle.qn_model.specs.declared.packets.Packet.{Packet}
@@ -61,6 +61,12 @@ pub data AllRuled (s : Settings) (t : Timing) : List Moment → Type 0 where
   NoMoment : AllRuled s t []
   OneRuled : {moment : Moment} {earlier : List Moment} → IsRuled s t moment earlier → AllRuled s t earlier → AllRuled s t (moment ∷ earlier)
 
+-- an entry was added to the log of a rank right after `before`, and gave this line
+pub record IsAdded (s : Settings) (rank : ℕ) (line : Line) (past : List Line) (before moments : List Moment) : Type 0 where
+  pub entry : What
+  pub back : Before (Adds rank entry ∷ before) moments
+  pub gave : (node s rank (Adds rank entry ∷ before)).log ≡ line ∷ past
+
 -- A moment between the entry that asked for an answer and the answer, of the incarnation that was answered: `line` is
 -- the answer, which was added right after `before`.
 pub record IsBetween (s : Settings) (rank : ℕ) (line : Line) (before between : List Moment) : Type 0 where
@@ -73,24 +79,17 @@ pub record IsBetween (s : Settings) (rank : ℕ) (line : Line) (before between :
 abbrev pub HasClosed : Settings → ℕ → List Moment → Type 0
 HasClosed s rank moments = IsUp s rank moments → asked_close (node s rank moments).log ≡ true
 
--- a read of the mailbox that the incarnation of a rank that is up at a moment, if one is, asks for after that moment
--- gives a deadly message, or fails, or finds the mailbox damaged
-abbrev pub IsDoomed : Settings → ℕ → List Moment → List Moment → Type 0
-IsDoomed s rank since moments =
+-- The incarnation of a rank that is up at a moment, if one is, gets bad mail: each read of its mailbox that it asks for
+-- after that moment gives a deadly message, or fails, or finds the mailbox damaged.
+abbrev pub GetsBadMail : Settings → ℕ → List Moment → List Moment → Type 0
+GetsBadMail s rank since moments =
     IsUp s rank since
-    → (entry : What) (before : List Moment) (line : Line) (past : List Line)
-    → Before (Adds rank entry ∷ before) moments
+    → (line : Line) (past : List Line) (before : List Moment)
+    → IsAdded s rank line past before moments
     → Before since before
     → IsSameBoot s rank since before
-    → (node s rank (Adds rank entry ∷ before)).log ≡ line ∷ past
     → length (node s rank since).log < line.asked
     → feeds_on (message_of line.what) ≡ false
-
--- an entry was added to the log of a rank, and gave this line
-pub record IsAdded (s : Settings) (rank : ℕ) (line : Line) (past : List Line) (before moments : List Moment) : Type 0 where
-  pub entry : What
-  pub back : Before (Adds rank entry ∷ before) moments
-  pub gave : (node s rank (Adds rank entry ∷ before)).log ≡ line ∷ past
 
 -- The four facts of the disk. The numbers of the incarnations of one rank that come up rise strictly.
 abbrev pub NumbersRise : Settings → List Moment → Type 0
@@ -114,13 +113,13 @@ CleanMeansClosed s moments =
     → reads_slot is_clean_slot other line.what ≡ true
     → (between : List Moment) × IsBetween s rank line before between × HasClosed s other between
 
--- where a reset is written, the incarnation that was up at some moment of the write is doomed
-abbrev pub WrittenMeansDoomed : Settings → List Moment → Type 0
-WrittenMeansDoomed s moments =
+-- where a reset is written, the incarnation that was up at some moment of the write gets bad mail from then on
+abbrev pub WrittenMeansBadMail : Settings → List Moment → Type 0
+WrittenMeansBadMail s moments =
     (rank other : ℕ) (line : Line) (past : List Line) (before : List Moment)
     → IsAdded s rank line past before moments
     → writes_reset other line.what ≡ true
-    → (between : List Moment) × IsBetween s rank line before between × IsDoomed s other between moments
+    → (between : List Moment) × IsBetween s rank line before between × GetsBadMail s other between moments
 
 -- every header that is read gives the one timing of the run
 abbrev pub HeadersAgree : Settings → Timing → List Moment → Type 0
@@ -135,5 +134,5 @@ pub record IsTimedRun (s : Settings) (t : Timing) (moments : List Moment) : Type
   pub ruled : AllRuled s t moments
   pub rise : NumbersRise s moments
   pub clean : CleanMeansClosed s moments
-  pub written : WrittenMeansDoomed s moments
+  pub written : WrittenMeansBadMail s moments
   pub headers : HeadersAgree s t moments
