@@ -1,3 +1,4 @@
+mod Complete
 mod CountLines
 mod Counted
 mod GivenOut

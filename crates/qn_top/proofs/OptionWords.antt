@@ -1,5 +1,5 @@
 -- The words that are left behind the options of a command.
-use Rattle.std.proofs.Common.{◌≡◌, ◌<◌, ◌==◌, true, false, ℕ, List, [], ◌∷◌, length, map, None, refl, arith}
+use Rattle.std.proofs.Common.{◌≡◌, ◌<◌, ◌==◌, false, ℕ, List, [], ◌∷◌, length, map, None, refl, arith}
 use Rattle.std.proofs.lemmas.List.Splits.{length-slice_split}
 use Rattle.qn_model.specs.Lines.{parts}
 use Rattle.qn_top.specs.declared.options.OptionName.{OptionName}

@@ -1,5 +1,5 @@
 -- Reading a settings text whole, piece by piece.
-use Rattle.std.proofs.Common.{◌≡◌, ◌≤◌, ◌<◌, ◌+◌, ◌⊎◌, inl, inr, arith, ℕ, false, true, List, [], ◌∷◌, ◌++◌, Option, Result, Ok, Err, length, take, nat_lt, refl, sym, ap, ◌∙◌, subst, append_assoc, lt-ltb, length-append}
+use Rattle.std.proofs.Common.{◌≡◌, ◌≤◌, ◌<◌, ◌⊎◌, inl, inr, arith, ℕ, false, List, [], ◌++◌, Option, Result, Ok, Err, length, nat_lt, refl, sym, ap, ◌∙◌, subst, lt-ltb, length-append}
 use Rattle.std.specs.Io.KnownBytes.{IsAtEnd, prepend_known}
 use Rattle.qn_io.specs.Outside.{prepend_known-append, prepend_known-nil}
 use Rattle.qn_conf.specs.declared.faults.ConfFault.TheVariants as conf

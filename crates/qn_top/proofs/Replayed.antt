@@ -1,18 +1,18 @@
 -- The end of a replay, and the last line behind its trace.
-use Rattle.std.proofs.Common.{◌≡◌, ◌≢◌, ◌≤◌, ℕ, List, [], ◌∷◌, ◌++◌, Option, refl, sym, ap, ◌∙◌, subst, append_assoc, append-nil, arith}
-use Rattle.std.specs.Io.KnownBytes.{IsAtEnd, prepend_known, append_known}
+use Rattle.std.proofs.Common.{◌≡◌, ◌≢◌, ◌≤◌, ℕ, List, [], ◌++◌, Option, refl, sym, ap, ◌∙◌, subst, append_assoc, append-nil, arith}
+use Rattle.std.specs.Io.KnownBytes.{append_known}
 use Rattle.qn_base.specs.Faults.{HasRisen}
 use Rattle.qn_io.specs.Outside.{append_known-append, append_known-nil}
 use Rattle.qn_io.specs.Writes.{AppendsFront}
 use Rattle.qn_model.specs.Inputs.{BeginsWith, Tells, Anyway, AtEnd, AtFailure}
-use Rattle.qn_model.specs.Lines.{Ending, Outcome, after}
+use Rattle.qn_model.specs.Lines.{Outcome, after}
 use Rattle.qn_replay.specs.Replay.{Replayed, replay_of}
 use Rattle.qn_replay.specs.Runs.{EndsAs, WroteAll, Unwritten, Wanted, Replays}
 use Rattle.qn_sched.specs.declared.replay_end.ReplayEnd.{ReplayEnd}
 use Rattle.qn_sched.specs.declared.replay_end.ReplayEnd.TheVariants as end
 use Rattle.qn_top.specs.Replaying.{ReplayEnds, Told, Wanted as WantedBehind, RunsReplay, end_outcome, replay_text}
 use Rattle.qn_top.specs.Runs.{Answers, Whole, Cut, WroteAll as WroteText, WroteFront}
-use Rattle.qn_top.proofs.GivenOut.{front_of_more, front_then, gives_all, risen_within}
+use Rattle.qn_top.proofs.GivenOut.{front_then, gives_all, risen_within}
 
 -- what an answer of the replay gives as a whole
 abbrev whole_of : Replayed → Outcome

@@ -1,9 +1,9 @@
 -- How a work goes on, step by step.
-use Rattle.std.proofs.Common.{◌≡◌, ◌≢◌, ◌≤◌, ◌<◌, ◌⊎◌, inl, inr, arith, ℕ, false, List, [], ◌∷◌, ◌++◌, Option, Result, Ok, Err, refl, sym, ap, ◌∙◌, subst, append_assoc}
+use Rattle.std.proofs.Common.{◌≡◌, ◌≤◌, inl, inr, arith, ℕ, false, List, [], ◌∷◌, ◌++◌, Option, refl, sym, subst}
 use Rattle.std.specs.Io.KnownBytes.{append_known}
 use Rattle.qn_base.specs.declared.calls.Call.{Call}
 use Rattle.qn_base.specs.Faults.{HasRisen}
-use Rattle.qn_base.specs.Plans.{Plan, Ends, Asks, Follows, Made, Did}
+use Rattle.qn_base.specs.Plans.{Plan, Ends, Asks, Follows, Did}
 use Rattle.qn_base.proofs.Steps.{made_none, made_then}
 use Rattle.qn_io.specs.Outside.{append_known-nil}
 use Rattle.qn_io.specs.Writes.{AppendsFront}

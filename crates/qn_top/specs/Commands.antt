@@ -1,5 +1,5 @@
 -- The words of the command line: this project's profile.
-use Rattle.std.specs.Prelude.{◌≤◌, ◌==◌, ℕ, ◌||◌, List, [], ◌∷◌, Option, Some, None, codes, IsTrue, length, nat_lt, not, option_map, if◌then◌else◌}
+use Rattle.std.specs.Prelude.{◌==◌, ℕ, ◌||◌, List, [], ◌∷◌, Option, Some, None, codes, IsTrue, length, nat_lt, not, option_map, if◌then◌else◌}
 use Rattle.std.specs.Option.{option_map_or}
 use Rattle.std.specs.Str.{bytes_eq}
 use Rattle.qn_base.specs.Decimal.{number_of}
@@ -9,7 +9,6 @@ use Rattle.qn_model.specs.declared.disk.Message.TheVariants.{Reset, Off, Crashdu
 use Rattle.qn_model.specs.declared.times.Timing.{Timing}
 use Rattle.qn_model.specs.Lines.{parts}
 use Rattle.qn_model.specs.Sectors.{is_deadly}
-use Rattle.qn_model.specs.Timing.{has_periods}
 use Rattle.qn_top.specs.declared.command.Command.{Command}
 use Rattle.qn_top.specs.declared.command.Command.TheVariants as command
 use Rattle.qn_top.specs.declared.options.OptionName.TheVariants as option

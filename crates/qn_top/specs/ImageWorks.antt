@@ -24,7 +24,7 @@ use Rattle.qn_model.specs.Lines.{Ending, Ended, ReadFailed}
 use Rattle.qn_settings.specs.declared.faults.SettingsFault.{SettingsFault}
 use Rattle.qn_settings.specs.Answer.{answer_of}
 use Rattle.qn_top.specs.declared.fault.Fault.{Fault}
-use Rattle.qn_top.specs.declared.fault.Fault.TheVariants.{BadConf, BadSettings, NoMemory, ReadFault, UnknownNode, UnsafeTiming}
+use Rattle.qn_top.specs.declared.fault.Fault.TheVariants.{BadConf, BadSettings, NoMemory, ReadFault, UnknownNode}
 use Rattle.qn_top.specs.Faults.{disk_fault, fault_line, status_of}
 use Rattle.qn_top.specs.ImageTexts.{created_text, dump_text, list_line, sent_text}
 use Rattle.qn_top.specs.Runs.{Tells}

@@ -1,5 +1,5 @@
 -- The exit statuses: this project's profile.
-use Rattle.std.specs.Prelude.{ℕ}
+use Rattle.std.specs.Prelude.{◌≡◌, ◌⊎◌, ℕ}
 use Rattle.qn_top.specs.declared.status.Status.{Status}
 use Rattle.qn_top.specs.declared.status.Status.TheVariants.{Done, Usage, BadConf, BadSchedule, NotAllowed, ReadFault, WriteFault, EnvFault, BadImage, UnsafeTiming, NoMemory, UnknownNode}
 
@@ -16,3 +16,7 @@ code_of BadImage = 9
 code_of UnsafeTiming = 10
 code_of NoMemory = 11
 code_of UnknownNode = 16
+
+-- how a command ends that reads an image: done, with a sink or an outside that failed, or at a sector that is no spelling
+abbrev pub IsReadingStatus : ℕ → Type 0
+IsReadingStatus status = (status ≡ 0) ⊎ ((status ≡ 7) ⊎ ((status ≡ 8) ⊎ (status ≡ 9)))

@@ -1,13 +1,12 @@
 -- What a command does with the outside: calls, and texts that are written.
 use Rattle.std.specs.Prelude.{◌≡◌, ◌⊎◌, ℕ, List, [], ◌∷◌, Option}
-use Rattle.std.specs.Io.KnownBytes.{IsAtEnd, prepend_known, append_known}
+use Rattle.std.specs.Io.KnownBytes.{append_known}
 use Rattle.qn_base.specs.declared.calls.Call.{Call}
 use Rattle.qn_base.specs.Calls.{blank}
 use Rattle.qn_base.specs.Faults.{HasRisen}
 use Rattle.qn_base.specs.Plans.{Plan, Ends, Asks, Made}
 use Rattle.qn_io.specs.Writes.{AppendsFront}
-use Rattle.qn_model.specs.Lines.{Ending}
-use Rattle.qn_top.specs.Runs.{Answers, Tells}
+use Rattle.qn_top.specs.Runs.{Answers}
 
 -- this project's profile: what a command does. It writes its last text and ends with a status; or it makes a
 -- call and goes on as that call, with its answer, says; or it writes a text and goes on.

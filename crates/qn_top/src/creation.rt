@@ -1,8 +1,9 @@
-ghost use Rattle.std.specs.Prelude.{◌≡◌, ◌≢◌, ◌≤◌, false, true};
+ghost use Rattle.std.specs.Prelude.{◌≡◌, ◌≢◌, ◌≤◌, false, true, IfOk, IfSome};
 ghost use Rattle.qn_io.specs.Outside.{HasRisen};
+ghost use Rattle.qn_model.specs.Lines.{Ended};
 ghost use Rattle.qn_model.specs.Timing.{is_safe};
 ghost use Rattle.qn_top.specs.declared.fault.Fault.TheVariants.{UnsafeTiming};
-ghost use Rattle.qn_top.specs.ImageWorks.{Creates, refusal};
+ghost use Rattle.qn_top.specs.ImageWorks.{Creates, input_settings, refusal};
 ghost use Rattle.qn_top.specs.Statuses.{code_of};
 ghost use Rattle.qn_top.specs.Works.{Works};
 
@@ -33,6 +34,9 @@ pub(crate) fn create<I: Source, O: Sink, E: Env>(
         → Creates image.now timing (I.left input.old) (I.left input.new) (HasRisen (I.faults input.old) (I.faults input.new))
         (E.faults env.old) (E.faults env.new) (E.calls env.old) (E.calls env.new)
         (O.written out.old) (O.written out.new) (O.faults out.old) (O.faults out.new) (code_of result) }
+    ensures complete { is_safe timing ≡ true → code_of result ≢ 11
+        → ¬ HasRisen (I.faults input.old) (I.faults input.new) → ¬ HasRisen (O.faults out.old) (O.faults out.new) → ¬ HasRisen (E.faults env.old) (E.faults env.new)
+        → IfSome (I.left input.old) (λ bytes. IfOk (input_settings Ended bytes) (λ settings. code_of result ≡ 0)) }
     ensures no_usage { code_of result ≢ 2 }
     ensures read_fault { code_of result ≡ 6 → HasRisen (I.faults input.old) (I.faults input.new) }
     ensures write_fault { code_of result ≡ 7 → HasRisen (O.faults out.old) (O.faults out.new) }

@@ -10,7 +10,7 @@ ghost use Rattle.qn_model.specs.Timing.{is_safe};
 ghost use Rattle.qn_top.specs.Faults.{disk_fault, fault_line, status_of};
 ghost use Rattle.qn_top.specs.ImageWorks.{ListsRank, StopsAtRank, dump_work, image_work, list_work, message_fault, message_work, open_plan, opened_plan, ranks_work};
 ghost use Rattle.qn_top.specs.Runs.{Answers};
-ghost use Rattle.qn_top.specs.Statuses.{code_of};
+ghost use Rattle.qn_top.specs.Statuses.{IsReadingStatus, code_of};
 ghost use Rattle.qn_top.specs.Works.{Works, Work};
 
 use crate::fault::Fault;
@@ -26,6 +26,7 @@ use qn_model::{Message, Settings, Timing};
 pub(crate) fn dump<O: Sink, E: Env>(image: &str, out: &mut O, env: &mut E) -> Status
     ensures works { Works (E.faults env.old) (E.faults env.new) (E.calls env.old) (E.calls env.new)
         (O.written out.old) (O.written out.new) (O.faults out.old) (O.faults out.new) (dump_work image.now) (code_of result) }
+    ensures outcomes { IsReadingStatus (code_of result) }
     ensures no_usage { code_of result ≢ 2 }
     ensures no_read_fault { code_of result ≢ 6 }
     ensures env_fault { code_of result ≡ 8 → HasRisen (E.faults env.old) (E.faults env.new) }
@@ -43,6 +44,7 @@ pub(crate) fn dump<O: Sink, E: Env>(image: &str, out: &mut O, env: &mut E) -> St
 pub(crate) fn list<O: Sink, E: Env>(image: &str, out: &mut O, env: &mut E) -> Status
     ensures works { Works (E.faults env.old) (E.faults env.new) (E.calls env.old) (E.calls env.new)
         (O.written out.old) (O.written out.new) (O.faults out.old) (O.faults out.new) (list_work image.now) (code_of result) }
+    ensures outcomes { IsReadingStatus (code_of result) }
     ensures no_usage { code_of result ≢ 2 }
     ensures no_read_fault { code_of result ≢ 6 }
     ensures env_fault { code_of result ≡ 8 → HasRisen (E.faults env.old) (E.faults env.new) }
@@ -61,6 +63,7 @@ fn list_ranks<O: Sink, E: Env>(nodes: u32, out: &mut O, env: &mut E) -> Status
     requires { nodes ≤ 32 }
     ensures works { Works (E.faults env.old) (E.faults env.new) (E.calls env.old) (E.calls env.new)
         (O.written out.old) (O.written out.new) (O.faults out.old) (O.faults out.new) (ranks_work 0 nodes) (code_of result) }
+    ensures outcomes { IsReadingStatus (code_of result) }
     ensures no_usage { code_of result ≢ 2 }
     ensures no_read_fault { code_of result ≢ 6 }
     ensures env_fault { code_of result ≡ 8 → HasRisen (E.faults env.old) (E.faults env.new) }
@@ -82,6 +85,7 @@ fn list_rank<O: Sink, E: Env>(rank: Rank, out: &mut O, env: &mut E) -> Option<St
     ensures listed { IfNone result (ListsRank (E.faults env.old) (E.faults env.new) (E.calls env.old) (E.calls env.new) (O.written out.old) (O.written out.new) rank.0) }
     ensures stopped { IfSome result (λ status. StopsAtRank (E.faults env.old) (E.faults env.new) (E.calls env.old) (E.calls env.new)
         (O.written out.old) (O.written out.new) (O.faults out.old) (O.faults out.new) rank.0 (code_of status)) }
+    ensures outcomes { IfSome result (λ status. IsReadingStatus (code_of status)) }
     ensures no_usage { IfSome result (λ status. code_of status ≢ 2) }
     ensures no_read_fault { IfSome result (λ status. code_of status ≢ 6) }
     ensures env_fault { IfSome result (λ status. code_of status ≡ 8 → HasRisen (E.faults env.old) (E.faults env.new)) }
@@ -112,6 +116,7 @@ pub(crate) fn send<O: Sink, E: Env>(
     requires { IsTrue (is_deadly kind) }
     ensures works { Works (E.faults env.old) (E.faults env.new) (E.calls env.old) (E.calls env.new)
         (O.written out.old) (O.written out.new) (O.faults out.old) (O.faults out.new) (message_work image.now id kind) (code_of result) }
+    ensures outcomes { (code_of result ≡ 16) ⊎ IsReadingStatus (code_of result) }
     ensures no_usage { code_of result ≢ 2 }
     ensures no_read_fault { code_of result ≢ 6 }
     ensures env_fault { code_of result ≡ 8 → HasRisen (E.faults env.old) (E.faults env.new) }
@@ -137,6 +142,7 @@ pub(crate) fn make_image<O: Sink, E: Env>(
     requires safe { IsTrue (is_safe timing) }
     ensures works { Works (E.faults env.old) (E.faults env.new) (E.calls env.old) (E.calls env.new)
         (O.written out.old) (O.written out.new) (O.faults out.old) (O.faults out.new) (image_work image.now timing settings.now.nodes) (code_of result) }
+    ensures outcomes { (code_of result ≡ 0) ⊎ ((code_of result ≡ 7) ⊎ (code_of result ≡ 8)) }
     ensures no_usage { code_of result ≢ 2 }
     ensures no_read_fault { code_of result ≢ 6 }
     ensures env_fault { code_of result ≡ 8 → HasRisen (E.faults env.old) (E.faults env.new) }

@@ -1,4 +1,4 @@
-ghost use Rattle.std.specs.Prelude.{◌≡◌, ◌≤◌, ℕ, List, [], None, Some, codes, map, string_bytes, false, true, IfSome, IsTrue};
+ghost use Rattle.std.specs.Prelude.{◌≡◌, ◌≢◌, ◌≤◌, ◌⊎◌, ℕ, List, [], None, Some, codes, map, string_bytes, false, true, IfOk, IfSome, IsTrue};
 ghost use Rattle.qn_base.specs.declared.ids.NodeId.{NodeId};
 ghost use Rattle.qn_io.specs.Outside.{HasRisen};
 ghost use Rattle.qn_model.specs.declared.disk.Message.{Message};
@@ -7,8 +7,8 @@ ghost use Rattle.qn_model.specs.CountText.{count_of};
 ghost use Rattle.qn_model.specs.Lines.{Ended};
 ghost use Rattle.qn_model.specs.Timing.{is_safe};
 ghost use Rattle.qn_top.specs.Commands.{command_of};
-ghost use Rattle.qn_top.specs.ImageWorks.{Creates, dump_work, list_work, message_work, refusal};
-ghost use Rattle.qn_top.specs.Replaying.{RunsReplay};
+ghost use Rattle.qn_top.specs.ImageWorks.{Creates, dump_work, input_settings, list_work, message_work, refusal};
+ghost use Rattle.qn_top.specs.Replaying.{RunsReplay, replay_text};
 ghost use Rattle.qn_top.specs.Runs.{Answers, AnswersWhole, Completes, Runs};
 ghost use Rattle.qn_top.specs.Statuses.{code_of};
 ghost use Rattle.qn_top.specs.Works.{Works};
@@ -63,6 +63,10 @@ pub fn top<I: Source, O: Sink, E: Env>(
         → RunsReplay (I.left input.old) (I.left input.new) (HasRisen (I.faults input.old) (I.faults input.new))
         (O.written out.old) (O.written out.new) (HasRisen (O.faults out.old) (O.faults out.new)) result }
 
+    ensures replay_complete { command_of (map string_bytes words.now) ≡ Some Command.Replay → result ≢ 11
+        → ¬ HasRisen (I.faults input.old) (I.faults input.new) → ¬ HasRisen (O.faults out.old) (O.faults out.new)
+        → IfSome (I.left input.old) (λ bytes. AnswersWhole (replay_text Ended bytes) (O.written out.old) (O.written out.new) result) }
+
     // `create`: times that are not safe are refused before anything is read.
     ensures unsafe_unread { (image : List ℕ) (timing : Timing) → command_of (map string_bytes words.now) ≡ Some (Command.Create image timing) → is_safe timing ≡ false
         → input.new ≡ input.old }
@@ -76,14 +80,26 @@ pub fn top<I: Source, O: Sink, E: Env>(
         (E.faults env.old) (E.faults env.new) (E.calls env.old) (E.calls env.new)
         (O.written out.old) (O.written out.new) (O.faults out.old) (O.faults out.new) result }
 
-    // `dump`, `list` and `message`: exactly the calls, the texts and the status of their work.
+    ensures create_complete { (image : List ℕ) (timing : Timing) → command_of (map string_bytes words.now) ≡ Some (Command.Create image timing)
+        → is_safe timing ≡ true → result ≢ 11
+        → ¬ HasRisen (I.faults input.old) (I.faults input.new) → ¬ HasRisen (O.faults out.old) (O.faults out.new) → ¬ HasRisen (E.faults env.old) (E.faults env.new)
+        → IfSome (I.left input.old) (λ bytes. IfOk (input_settings Ended bytes) (λ settings. result ≡ 0)) }
+
+    // `dump`, `list` and `message`: exactly the calls, the texts and the status of their work. Without a fault of the
+    // sink and of the outside they end well, or at a sector that is no spelling, or, `message` alone, without the id.
     ensures dumped { (image : List ℕ) → command_of (map string_bytes words.now) ≡ Some (Command.Dump image) → Works (E.faults env.old) (E.faults env.new) (E.calls env.old) (E.calls env.new)
         (O.written out.old) (O.written out.new) (O.faults out.old) (O.faults out.new) (dump_work image) result }
+    ensures dump_complete { (image : List ℕ) → command_of (map string_bytes words.now) ≡ Some (Command.Dump image)
+        → ¬ HasRisen (O.faults out.old) (O.faults out.new) → ¬ HasRisen (E.faults env.old) (E.faults env.new) → (result ≡ 0) ⊎ (result ≡ 9) }
     ensures listed { (image : List ℕ) → command_of (map string_bytes words.now) ≡ Some (Command.List image) → Works (E.faults env.old) (E.faults env.new) (E.calls env.old) (E.calls env.new)
         (O.written out.old) (O.written out.new) (O.faults out.old) (O.faults out.new) (list_work image) result }
+    ensures list_complete { (image : List ℕ) → command_of (map string_bytes words.now) ≡ Some (Command.List image)
+        → ¬ HasRisen (O.faults out.old) (O.faults out.new) → ¬ HasRisen (E.faults env.old) (E.faults env.new) → (result ≡ 0) ⊎ (result ≡ 9) }
     ensures sent { (image : List ℕ) (id : NodeId) (kind : Message) → command_of (map string_bytes words.now) ≡ Some (Command.Message image id kind)
         → Works (E.faults env.old) (E.faults env.new) (E.calls env.old) (E.calls env.new)
         (O.written out.old) (O.written out.new) (O.faults out.old) (O.faults out.new) (message_work image id kind) result }
+    ensures message_complete { (image : List ℕ) (id : NodeId) (kind : Message) → command_of (map string_bytes words.now) ≡ Some (Command.Message image id kind)
+        → ¬ HasRisen (O.faults out.old) (O.faults out.new) → ¬ HasRisen (E.faults env.old) (E.faults env.new) → (result ≡ 0) ⊎ ((result ≡ 9) ⊎ (result ≡ 16)) }
 
     // The faults of the outside.
     ensures read_fault { result ≡ 6 → HasRisen (I.faults input.old) (I.faults input.new) }

@@ -1,7 +1,8 @@
-ghost use Rattle.std.specs.Prelude.{◌≡◌, ◌≢◌, ◌≤◌, ◌⊎◌, []};
+ghost use Rattle.std.specs.Prelude.{◌≡◌, ◌≢◌, ◌≤◌, ◌⊎◌, [], IfSome};
 ghost use Rattle.qn_io.specs.Outside.{HasRisen};
-ghost use Rattle.qn_top.specs.Replaying.{RunsReplay, end_outcome};
-ghost use Rattle.qn_top.specs.Runs.{Answers};
+ghost use Rattle.qn_model.specs.Lines.{Ended};
+ghost use Rattle.qn_top.specs.Replaying.{RunsReplay, end_outcome, replay_text};
+ghost use Rattle.qn_top.specs.Runs.{Answers, AnswersWhole};
 ghost use Rattle.qn_top.specs.Statuses.{code_of};
 
 use crate::fault::Fault;
@@ -17,6 +18,8 @@ use std::alloc::Global;
 pub(crate) fn run_replay<I: Source, O: Sink>(alloc: Global, input: &mut I, out: &mut O) -> Status
     ensures replays { RunsReplay (I.left input.old) (I.left input.new) (HasRisen (I.faults input.old) (I.faults input.new))
         (O.written out.old) (O.written out.new) (HasRisen (O.faults out.old) (O.faults out.new)) (code_of result) }
+    ensures complete { code_of result ≢ 11 → ¬ HasRisen (I.faults input.old) (I.faults input.new) → ¬ HasRisen (O.faults out.old) (O.faults out.new)
+        → IfSome (I.left input.old) (λ bytes. AnswersWhole (replay_text Ended bytes) (O.written out.old) (O.written out.new) (code_of result)) }
     ensures no_usage { code_of result ≢ 2 }
     ensures no_env_fault { code_of result ≢ 8 }
     ensures read_fault { code_of result ≡ 6 → HasRisen (I.faults input.old) (I.faults input.new) }

@@ -1,9 +1,8 @@
-use Rattle.std.proofs.Common.{ap, sym, ◌∙◌, length}
+use Rattle.std.proofs.Common.{ap, sym}
 use Rattle.qn_top.specs.Faults.{fault_line, status_of}
-use Rattle.qn_top.specs.ImageTexts.{created_text}
 use Rattle.qn_top.specs.ImageWorks.{dump_end, dump_work, refusal}
 use Rattle.qn_top.specs.Works.{Last}
-use Rattle.qn_top.proofs.Working.{plan_then_last, plan_then_work}
+use Rattle.qn_top.proofs.Working.{plan_then_last}
 use Rattle.qn_top.proofs.images.dump.Goals as goal
 
 pub returns-in-Ok-clause-works : goal.returns-in-Ok-clause-works

@@ -1,8 +1,6 @@
-use Rattle.std.proofs.Common.{ap, sym, ◌∙◌, length}
+use Rattle.std.proofs.Common.{ap, sym}
 use Rattle.qn_top.specs.Faults.{fault_line, status_of}
-use Rattle.qn_top.specs.ImageTexts.{created_text}
 use Rattle.qn_top.specs.ImageWorks.{list_end, list_work, refusal}
-use Rattle.qn_top.specs.Works.{Last}
 use Rattle.qn_top.proofs.Working.{plan_then_last, plan_then_work}
 use Rattle.qn_top.proofs.images.list.Goals as goal
 

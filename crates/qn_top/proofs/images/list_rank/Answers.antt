@@ -3,7 +3,6 @@ use Rattle.std.specs.Io.KnownBytes.{append_known}
 use Rattle.qn_top.specs.Faults.{fault_line, status_of}
 use Rattle.qn_top.specs.ImageTexts.{list_line}
 use Rattle.qn_top.specs.ImageWorks.{after_line, refusal}
-use Rattle.qn_top.specs.Works.{Writes}
 use Rattle.qn_top.proofs.GivenOut.{front_same}
 use Rattle.qn_top.proofs.Working.{plan_then_cut, plan_then_last}
 use Rattle.qn_top.proofs.images.list_rank.Goals as goal

@@ -3,7 +3,7 @@ use Rattle.qn_top.specs.Faults.{fault_line, status_of}
 use Rattle.qn_top.specs.ImageTexts.{created_text}
 use Rattle.qn_top.specs.ImageWorks.{create_end, image_work, refusal}
 use Rattle.qn_top.specs.Works.{Last}
-use Rattle.qn_top.proofs.Working.{plan_then_last, plan_then_work}
+use Rattle.qn_top.proofs.Working.{plan_then_last}
 use Rattle.qn_top.proofs.images.make_image.Goals as goal
 
 pub returns-in-Ok-clause-works : goal.returns-in-Ok-clause-works

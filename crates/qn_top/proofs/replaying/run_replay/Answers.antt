@@ -1,4 +1,5 @@
 use Rattle.std.proofs.Common.{arith}
+use Rattle.qn_top.proofs.Complete.{replay_complete}
 use Rattle.qn_top.proofs.GivenOut.{risen_within}
 use Rattle.qn_top.proofs.Replayed.{replay_finished, replay_unwritten}
 use Rattle.qn_top.proofs.replaying.run_replay.Goals as goal
@@ -6,14 +7,20 @@ use Rattle.qn_top.proofs.replaying.run_replay.Goals as goal
 pub returns-in-WriteFault-clause-replays : goal.returns-in-WriteFault-clause-replays
 returns-in-WriteFault-clause-replays g c = replay_unwritten c.in-WriteFault.ensures.replays
 
+pub returns-in-WriteFault-clause-complete : goal.returns-in-WriteFault-clause-complete
+returns-in-WriteFault-clause-complete g c = replay_complete _ _ _ _ _ _ _ (replay_unwritten c.in-WriteFault.ensures.replays)
+
 pub returns-in_default : goal.returns-in_default
-returns-in_default g c = record {
-  replays = replay_finished c.replay.result c.in_default.not-WriteFault c.replay.ensures.sink_faults c.finish_replay.ensures.sink_faults
-      c.replay.ensures.replays c.finish_replay.ensures.answers;
-  no_usage = c.finish_replay.ensures.no_usage;
-  no_env_fault = c.finish_replay.ensures.no_env_fault;
-  read_fault = λ six. c.replay.ensures.read_fault (c.finish_replay.ensures.read_fault six);
-  write_fault = λ seven. risen_within _ _ _ _ c.replay.ensures.sink_faults c.finish_replay.ensures.sink_faults (omega arith) (c.finish_replay.ensures.write_fault seven);
-  source_faults = c.replay.ensures.source_faults;
-  sink_faults = omega arith;
-}
+returns-in_default g c =
+    let run = replay_finished c.replay.result c.in_default.not-WriteFault c.replay.ensures.sink_faults c.finish_replay.ensures.sink_faults
+    c.replay.ensures.replays c.finish_replay.ensures.answers in
+    record {
+      replays = run;
+      complete = replay_complete _ _ _ _ _ _ _ run;
+      no_usage = c.finish_replay.ensures.no_usage;
+      no_env_fault = c.finish_replay.ensures.no_env_fault;
+      read_fault = λ six. c.replay.ensures.read_fault (c.finish_replay.ensures.read_fault six);
+      write_fault = λ seven. risen_within _ _ _ _ c.replay.ensures.sink_faults c.finish_replay.ensures.sink_faults (omega arith) (c.finish_replay.ensures.write_fault seven);
+      source_faults = c.replay.ensures.source_faults;
+      sink_faults = omega arith;
+    }

@@ -1,4 +1,4 @@
-use Rattle.std.proofs.Common.{◌≡◌, ◌≤◌, ◌<◌, ◌++◌, [], ℕ, List, take, length, ap, sym, ◌∙◌, subst, arith}
+use Rattle.std.proofs.Common.{take, ap, sym, ◌∙◌, arith}
 use Rattle.std.specs.Io.KnownBytes.{prepend_known}
 use Rattle.qn_top.proofs.GivenOut.{risen_within}
 use Rattle.qn_top.proofs.ReadTexts.{text_ended, text_too_long, text_unread, text_wanted}
