@@ -14,3 +14,6 @@ pub mod Numbers
 pub mod Licensed
 pub mod Tells
 pub mod Pairs
+pub mod Seats
+pub mod Outs
+pub mod Kept

@@ -40,7 +40,7 @@ none_before : {A : Type 0} {x : A} {xs : List A} {P : Type 0} → Before (x ∷ 
 none_before back = absurd (let long = before_length back in omega arith)
 
 -- the line that an entry adds
-pub line_of : Settings → ℕ → ℕ → What → List Line → Line
+unfoldable pub line_of : Settings → ℕ → ℕ → What → List Line → Line
 line_of s i tick entry past = record {
   tick = tick;
   what = read_as s i past entry;

@@ -201,7 +201,7 @@ unfolding view
 same_view_at line past rank = refl
 
 -- a step of the boot reads the own slot alone
-own_read : (s : Settings) (me : ℕ) (entry : What) (op : DiskOp) (p : Phase) (rank : Rank) → BootStep me entry op p → op ≡ disk.ReadSlot rank → me ≡ rank.0
+pub own_read : (s : Settings) (me : ℕ) (entry : What) (op : DiskOp) (p : Phase) (rank : Rank) → BootStep me entry op p → op ≡ disk.ReadSlot rank → me ≡ rank.0
 own_read s me entry op p rank BeginStep e = absurd (cc)
 own_read s me entry op p rank (HeaderStep seen) e = ap (λ r. r.0) (read_same e)
   where

@@ -1,0 +1,291 @@
+-- What is always true of the slot of a node, of its operation that is out and of its leftovers.
+use Rattle.std.proofs.Common.{◌≡◌, ℕ, suc, zero, ◌+◌, ◌-◌, ◌*◌, ◌/◌, ◌<◌, ◌≤◌, Bool, true, false, List, [], ◌∷◌, ◌++◌, length, Some, None, Option, refl, sym, ap, ◌∙◌, subst, arith, cond, ◌&&◌, ◌||◌, ◌==◌, not, if◌then◌else◌, ◌⊎◌, inl, inr, is_some, is_none, All, nat_le, nat_lt}
+use Rattle.std.specs.Option.{option_or, option_map, option_map_or}
+use Rattle.std.proofs.lemmas.Bool.{false≢true, true≢false, cases_lt, cases_order, cases_Bool, or_cases, eqb-true, eqb-false, eq-eqb, ne_eqb, ltb-true, ltb-false, leb-true, lt-ltb, le-leb}
+use Rattle.qn_base.specs.declared.ids.Rank.{Rank}
+use Rattle.qn_base.specs.declared.ids.View.{View}
+use Rattle.qn_base.specs.Members.{is_member}
+use Rattle.qn_model.specs.declared.configuration.Settings.{Settings}
+use Rattle.qn_model.specs.declared.times.Timing.{Timing}
+use Rattle.qn_model.specs.declared.disk.Message.{Message}
+use Rattle.qn_model.specs.declared.disk.Message.TheVariants as message
+use Rattle.qn_model.specs.declared.disk.Slot.{Slot}
+use Rattle.qn_model.specs.declared.seen.HeaderSeen.{HeaderSeen}
+use Rattle.qn_model.specs.declared.seen.HeaderSeen.TheVariants as header
+use Rattle.qn_model.specs.declared.seen.SlotSeen.{SlotSeen}
+use Rattle.qn_model.specs.declared.seen.SlotSeen.TheVariants as slot
+use Rattle.qn_model.specs.declared.seen.MailSeen.{MailSeen}
+use Rattle.qn_model.specs.declared.seen.MailSeen.TheVariants as mail
+use Rattle.qn_model.specs.declared.packets.Ask.{Ask}
+use Rattle.qn_model.specs.declared.packets.Tell.{Tell}
+use Rattle.qn_model.specs.declared.packets.Packet.{Packet}
+use Rattle.qn_model.specs.declared.packets.Packet.TheVariants as packet
+use Rattle.qn_model.specs.declared.entries.What.{What}
+use Rattle.qn_model.specs.declared.entries.What.TheVariants as what
+use Rattle.qn_model.specs.declared.life.Phase.{Phase}
+use Rattle.qn_model.specs.declared.life.Phase.TheVariants.{Booting, Up, Leaving, Dying, Gone}
+use Rattle.qn_model.specs.declared.outputs.BootCause.{BootCause}
+use Rattle.qn_model.specs.declared.outputs.DiskOp.{DiskOp}
+use Rattle.qn_model.specs.declared.outputs.DiskOp.TheVariants as disk
+use Rattle.qn_model.specs.declared.outputs.Out.{Out}
+use Rattle.qn_model.specs.declared.outputs.Out.TheVariants as out
+use Rattle.qn_model.specs.Log.{Line, op_out, ask_place, ask_tick, claimed, claim_of, incarnation, timing, times_of, no_times, disk_of, has_start, has_stop, is_answer, is_view, view_of}
+use Rattle.qn_model.specs.Phases.{phase, next_phase, boot_phase, mail_phase, header_halt, slot_halt, boot_halt, message_of, deadly_of, in_time, is_booting, is_live, is_up, is_leaving}
+use Rattle.qn_model.specs.Sectors.{is_deadly}
+use Rattle.qn_model.specs.Holding.{holds, stop_due, is_stopped}
+use Rattle.qn_model.specs.NodeVotes.{view, is_in_view, is_present, answers, install, released, quorate}
+use Rattle.qn_model.specs.Hearing.{is_free, told, tells, tell_of}
+use Rattle.qn_model.specs.Licences.{out_time, starts_out_time, slot_read_since, reset_since, reads_slot, writes_reset, is_clean_slot, is_clean, is_written, is_fenced, is_licensed, reset_tick}
+use Rattle.qn_model.specs.Unmet.{unmet, is_clear}
+use Rattle.qn_model.specs.Wanted.{wanted, boot_op, claim_after, rank_of}
+use Rattle.qn_model.specs.Fitting.{fits, read_as, answers_op, is_first, is_own_view, is_for}
+use Rattle.qn_model.specs.NodeOutputs.{outs_at, mail_feeds, feeds_on, taken_in, with_read, with_entry, newest_outs, gives_start}
+use Rattle.qn_model.specs.Moments.{Before, Itself, Later}
+use Rattle.qn_safety.proofs.Tools.{some_same, none_some, some_none, clash, and_left_of, and_right_of, not_true, before_length, before_then, before_tail, before_total, before_same, before_shorter}
+use Rattle.qn_model.specs.declared.packets.Sent.{Sent}
+use Rattle.qn_model.specs.Log as LogSpec
+use Rattle.qn_model.specs.Moments.{Moment, Passes, Boots, Adds, Feeds, Ends, Running, tick_of, is_gone, has_feed, advance_of, advanced, logged, handed, booted, time, node, given_out, packets, packets_of, is_holder}
+use Rattle.qn_model.specs.Rules.{passes, is_within_bounds, outlives, is_between}
+use Rattle.qn_safety.specs.Closing.{is_close, asked_close}
+use Rattle.qn_safety.specs.Timed.{IsUp, IsSameBoot, IsSentTo, WasSent, MayFeed, IsRuled, AllRuled, NoMoment, OneRuled, IsBetween, HasClosed, GetsBadMail, IsAdded, NumbersRise, CleanMeansClosed, WrittenMeansBadMail, HeadersAgree, IsTimedRun}
+use Rattle.qn_model.specs.declared.events.Event.{Event}
+use Rattle.qn_model.specs.declared.events.Event.TheVariants as event
+use Rattle.qn_model.specs.World.{World, first_world, put, node_at, op_at, slots_with, mailboxes_with, taken, failed, is_write, given_up, leftover_at, numbered, without}
+use Rattle.qn_model.specs.Rules.{is_well_formed, refusal, unless, unless_running, is_on, may_pass, may_land, may_be_done, may_fail, may_be_stopped, may_be_late, may_deliver, may_feed, is_configured, is_clock}
+use Rattle.qn_model.specs.Steps as Steps
+use Rattle.qn_model.specs.Steps.{happens, written, landed, answered, gives_up, fails, lands_late, entry_of, step, run}
+use Rattle.std.specs.Prelude.{slice_get}
+use Rattle.std.proofs.Common.{append-nil}
+use Rattle.qn_safety.proofs.Logs.{Made, NoLine, OneMore, IsLine, before_outs, made_tail, made_line, answers_out}
+use Rattle.qn_safety.proofs.Apt.{is_apt, apt, booting_is}
+use Rattle.qn_safety.proofs.Stays.{boot_past, op_kept, gives_none}
+use Rattle.qn_safety.proofs.Times.{boot_tick}
+use Rattle.qn_safety.proofs.Numbers.{claim_given, ClaimGiven, claimed_same}
+use Rattle.qn_safety.proofs.Outs.{out_cases, claimed_cases, out_claims, out_closes, own_slot_out, clear_given, claimed_by_clear, answer_fits, read_plain, no_close_out, comes_up}
+use Rattle.qn_safety.proofs.Origins.{line_of, line_what}
+use Rattle.qn_safety.proofs.Seats.{Seat, seat_of, entered, fresh, slot_after, Effect, Rests, Enters, Answers, Fails, BootsUp, GoesOff, Lands, LandsLate}
+
+-- the slot of a node that runs
+pub record Kept (s : Settings) (log : List Line) (took : Option What) (mine : Slot) : Type 0 where
+  -- while it is up and its close has not landed, its slot is dirty
+  pub dirty : is_booting (phase s log) ≡ false → (is_close (op_out log) && is_some took) ≡ false → mine.clean ≡ false
+  -- while it is up, its slot has its number
+  pub numbered : is_booting (phase s log) ≡ false → claimed log ≡ Some mine.incarnation
+  -- the read of the own slot in the boot gave what the slot still has
+  pub reading : (rank : Rank) (own : Slot) → is_booting (phase s log) ≡ true → took ≡ Some (what.SlotRead rank (slot.Read own)) → own.incarnation ≡ mine.incarnation
+  -- a claim is one more than the slot has until it lands, and then it is what the slot has
+  pub claim_waits : (number : ℕ) → op_out log ≡ Some (disk.WriteClaim number) → took ≡ None → suc mine.incarnation ≡ number
+  pub claim_landed : (number : ℕ) (v : What) → op_out log ≡ Some (disk.WriteClaim number) → took ≡ Some v → (mine.clean ≡ false) × (mine.incarnation ≡ number)
+  -- while the clear is out, the slot has the claim
+  pub clearing : op_out log ≡ Some disk.WriteClear → (mine.clean ≡ false) × (claimed log ≡ Some mine.incarnation)
+
+first_kept : (s : Settings) (mine : Slot) → Kept s [] None mine
+unfolding phase op_out
+first_kept s mine = record {
+  dirty = λ booted open'. absurd (true≢false booted);
+  numbered = λ booted. absurd (true≢false booted);
+  reading = λ rank own booting e. none_some _ e;
+  claim_waits = λ number e none. none_some _ e;
+  claim_landed = λ number v e some. none_some _ e;
+  clearing = λ e. none_some _ e;
+}
+
+-- after an entry that answers nothing a node is up only where it was
+booted_back : {s : Settings} {me : ℕ} {line : Line} {past : List Line} → IsLine s me line past → is_answer line.what ≡ false → is_booting (phase s (line ∷ past)) ≡ false
+    → is_booting (phase s past) ≡ false
+unfolding phase
+booted_back {s = s} {me = me} {line = line} {past = past} it plain booted = by_phase (is_booting (phase s past)) refl
+  where
+    by_phase : (b : Bool) → is_booting (phase s past) ≡ b → is_booting (phase s past) ≡ false
+    by_phase false e = e
+    by_phase true e = clash (is_booting (phase s (line ∷ past))) (boot_tick s me past line.what (in_time line.tick past) plain it.fitting e) booted
+
+booting_back : {s : Settings} {me : ℕ} {line : Line} {past : List Line} → IsLine s me line past → is_booting (phase s (line ∷ past)) ≡ true → is_booting (phase s past) ≡ true
+booting_back {s = s} {line = line} {past = past} it booting = by_phase (is_booting (phase s past)) refl
+  where
+    by_phase : (b : Bool) → is_booting (phase s past) ≡ b → is_booting (phase s past) ≡ true
+    by_phase true e = e
+    by_phase false e = clash (is_booting (phase s (line ∷ past))) booting (boot_past it e)
+
+-- the operation out after an entry that answers nothing, where an answer waits
+some_op : (op : Option DiskOp) (v : What) → answers_op op v ≡ true → (o : DiskOp) × (op ≡ Some o)
+some_op (Some o) v e = (o, refl)
+some_op None v e = absurd (false≢true e)
+
+same_claim : (line : Line) (past : List Line) → disk_of line.outs ≡ None → claimed (line ∷ past) ≡ claimed past
+unfolding claimed
+same_claim line past none = ap (λ o. option_or (claim_of o) (claimed past)) none
+
+module _ {s : Settings} {me : ℕ} {line : Line} {past : List Line} (it : IsLine s me line past) (made : Made s me past) (took : Option What) (mine : Slot) (was : Kept s past took mine) where
+  -- an entry that answers nothing
+  kept_enter : is_answer line.what ≡ false → ((v : What) → took ≡ Some v → answers_op (op_out past) v ≡ true) → Kept s (line ∷ past) took mine
+  kept_enter plain waits = record {
+    dirty = λ booted open'. was.dirty (booted_back it plain booted) (open_before took refl open');
+    numbered = λ booted. claimed_same it booted ∙ was.numbered (booted_back it plain booted);
+    reading = λ rank own booting e. was.reading rank own (booting_back it booting) e;
+    claim_waits = λ number e none. was.claim_waits number (op_before (disk.WriteClaim number) e (no_claim number)) none;
+    claim_landed = λ number v e some. was.claim_landed number v (op_before (disk.WriteClaim number) e (no_claim number)) some;
+    clearing = λ e.
+        let out = op_before disk.WriteClear e no_clear in
+        let clear = was.clearing out in
+        (clear.0, same_claim line past (gives_none it disk.WriteClear out plain) ∙ clear.1);
+  }
+    where
+      no_claim : (number : ℕ) → disk_of line.outs ≡ Some (disk.WriteClaim number) → ⊥
+      no_claim number gave = true≢false (sym (ap is_answer ((claim_given it number gave).reads)) ∙ plain)
+      no_clear : disk_of line.outs ≡ Some disk.WriteClear → ⊥
+      no_clear gave = true≢false (sym (ap is_answer (clear_given it gave)) ∙ plain)
+      op_before : (op : DiskOp) → op_out (line ∷ past) ≡ Some op → (disk_of line.outs ≡ Some op → ⊥) → op_out past ≡ Some op
+      op_before op e new = by_cases (out_cases line past op e)
+        where
+          by_cases : (disk_of line.outs ≡ Some op) ⊎ ((disk_of line.outs ≡ None) × (is_answer line.what ≡ false) × (op_out past ≡ Some op)) → op_out past ≡ Some op
+          by_cases (inl gave) = absurd (new gave)
+          by_cases (inr kept) = kept.2
+      open_before : (k : Option What) → took ≡ k → (is_close (op_out (line ∷ past)) && is_some took) ≡ false → (is_close (op_out past) && is_some took) ≡ false
+      open_before None e open' = ap (λ k. is_close (op_out past) && is_some k) e ∙ and_false (is_close (op_out past))
+        where
+          and_false : (b : Bool) → (b && false) ≡ false
+          and_false true = refl
+          and_false false = refl
+      open_before (Some v) e open' =
+          let out = some_op (op_out past) v (waits v e) in
+          ap (λ o. is_close o && is_some took) (out.1 ∙ sym (op_kept it out.0 out.1 plain)) ∙ open'
+
+  -- an entry that answers the operation that is out, by what it took or by a failure
+  kept_reply : is_answer line.what ≡ true → is_gone (phase s (line ∷ past)) ≡ false
+      → ((rank : Rank) (own : Slot) → is_booting (phase s past) ≡ true → line.what ≡ what.SlotRead rank (slot.Read own) → own.incarnation ≡ mine.incarnation)
+      → ((number : ℕ) → op_out past ≡ Some (disk.WriteClaim number) → line.what ≡ what.Claimed true → (mine.clean ≡ false) × (mine.incarnation ≡ number))
+      → Kept s (line ∷ past) None mine
+  kept_reply is living told done = record {
+    dirty = λ booted open'. (up_now booted).0;
+    numbered = λ booted. claimed_same it booted ∙ (up_now booted).1;
+    reading = λ rank own booting e. none_some _ e;
+    claim_waits = λ number e none. next_claim number (given (disk.WriteClaim number) e);
+    claim_landed = λ number v e some. none_some v some;
+    clearing = λ e. after_claim (given disk.WriteClear e);
+  }
+    where
+      answers : answers_op (op_out past) line.what ≡ true
+      answers = answers_out s me past line.what is it.fitting
+      given : (op : DiskOp) → op_out (line ∷ past) ≡ Some op → disk_of line.outs ≡ Some op
+      given op e = by_cases (out_cases line past op e)
+        where
+          by_cases : (disk_of line.outs ≡ Some op) ⊎ ((disk_of line.outs ≡ None) × (is_answer line.what ≡ false) × (op_out past ≡ Some op)) → disk_of line.outs ≡ Some op
+          by_cases (inl gave) = gave
+          by_cases (inr kept) = clash (is_answer line.what) is kept.1
+      up_now : is_booting (phase s (line ∷ past)) ≡ false → (mine.clean ≡ false) × (claimed past ≡ Some mine.incarnation)
+      up_now booted = by_phase (is_booting (phase s past)) refl
+        where
+          by_phase : (b : Bool) → is_booting (phase s past) ≡ b → (mine.clean ≡ false) × (claimed past ≡ Some mine.incarnation)
+          by_phase true e = was.clearing (comes_up it made is e booted living)
+          by_phase false e = (was.dirty e (ap (λ b. b && is_some took) (no_close_out s line past answers living)), was.numbered e)
+      next_claim : (number : ℕ) → disk_of line.outs ≡ Some (disk.WriteClaim number) → suc mine.incarnation ≡ number
+      next_claim number gave =
+          let claim = claim_given it number gave in
+          let same = told claim.rank claim.own (booting_back it claim.booting) claim.reads in
+          let next = claim.next in
+          omega arith
+      after_claim : disk_of line.outs ≡ Some disk.WriteClear → (mine.clean ≡ false) × (claimed (line ∷ past) ≡ Some mine.incarnation)
+      after_claim gave =
+          let claimed_it = clear_given it gave in
+          let out = Rattle.qn_safety.proofs.Apt.claimed_answers (op_out past) true (subst (λ w. answers_op (op_out past) w ≡ true) claimed_it answers) in
+          let landed' = done out.0 out.1 claimed_it in
+          (landed'.0, claimed_by_clear line past gave ∙ out_claims made out.0 out.1 ∙ ap Some (sym landed'.1))
+
+-- the answer that an operation takes at its landing answers it
+pub taken_answers : (s : Settings) (t : Timing) (rank : ℕ) (op : DiskOp) (w : World) → answers_op (Some op) (taken s t rank op w) ≡ true
+unfolding taken
+taken_answers s t rank disk.ReadHeader w = refl
+taken_answers s t rank (disk.ReadSlot other) w = eq-eqb other.0 other.0 refl
+taken_answers s t rank (disk.WriteClaim number) w = refl
+taken_answers s t rank disk.WriteClear w = refl
+taken_answers s t rank disk.ReadMail w = refl
+taken_answers s t rank (disk.WriteReset other) w = eq-eqb other.0 other.0 refl
+taken_answers s t rank (disk.WriteClose number) w = refl
+
+pub failed_answers : (op : DiskOp) → answers_op (Some op) (failed op) ≡ true
+unfolding failed
+failed_answers disk.ReadHeader = refl
+failed_answers (disk.ReadSlot other) = eq-eqb other.0 other.0 refl
+failed_answers (disk.WriteClaim number) = refl
+failed_answers disk.WriteClear = refl
+failed_answers disk.ReadMail = refl
+failed_answers (disk.WriteReset other) = eq-eqb other.0 other.0 refl
+failed_answers (disk.WriteClose number) = refl
+
+-- a write of a boot is out only while the node boots
+booting_op : {s : Settings} {me : ℕ} {log : List Line} → Made s me log → (op : DiskOp) → op_out log ≡ Some op → is_apt (Some op) Up ≡ false → is_apt (Some op) Leaving ≡ false → is_booting (phase s log) ≡ true
+booting_op {s = s} {log = log} made op out not_up not_leaving = by_phase (phase s log) (subst (λ o. is_apt o (phase s log) ≡ true) out (apt made))
+  where
+    by_phase : (p : Phase) → is_apt (Some op) p ≡ true → is_booting p ≡ true
+    by_phase Booting e = refl
+    by_phase Up e = clash (is_apt (Some op) Up) e not_up
+    by_phase Leaving e = clash (is_apt (Some op) Leaving) e not_leaving
+    by_phase Dying e = absurd (false≢true e)
+    by_phase Gone e = absurd (false≢true e)
+
+booted_op : {s : Settings} {me : ℕ} {log : List Line} → Made s me log → (op : DiskOp) → op_out log ≡ Some op → is_apt (Some op) Booting ≡ false → is_booting (phase s log) ≡ false
+booted_op {s = s} {log = log} made op out not_booting = by_phase (phase s log) (subst (λ o. is_apt o (phase s log) ≡ true) out (apt made))
+  where
+    by_phase : (p : Phase) → is_apt (Some op) p ≡ true → is_booting p ≡ false
+    by_phase Booting e = clash (is_apt (Some op) Booting) e not_booting
+    by_phase Up e = refl
+    by_phase Leaving e = refl
+    by_phase Dying e = refl
+    by_phase Gone e = refl
+
+module _ {s : Settings} {me : ℕ} {log : List Line} (made : Made s me log) (mine : Slot) (was : Kept s log None mine) where
+  -- an operation lands that leaves the slot
+  land_plain : (op : DiskOp) (v : What) → op_out log ≡ Some op → is_close (Some op) ≡ false → ((number : ℕ) → op ≡ disk.WriteClaim number → ⊥)
+      → ((rank : Rank) (own : Slot) → is_booting (phase s log) ≡ true → v ≡ what.SlotRead rank (slot.Read own) → own.incarnation ≡ mine.incarnation)
+      → Kept s log (Some v) mine
+  land_plain op v out no_close no_claim told = record {
+    dirty = λ booted open'. was.dirty booted (ap (λ o. is_close o && false) out ∙ ap (λ b. b && false) no_close);
+    numbered = was.numbered;
+    reading = λ rank own booting e. told rank own booting (some_same _ _ e);
+    claim_waits = λ number e none. some_none v none;
+    claim_landed = λ number u e some. absurd (no_claim number (some_same _ _ (sym out ∙ e)));
+    clearing = was.clearing;
+  }
+
+  kept_land : (t : Timing) (op : DiskOp) (w : World) → op_out log ≡ Some op → w.slots me ≡ mine → Kept s log (Some (taken s t me op w)) (slot_after op mine)
+  unfolding taken
+  kept_land t disk.ReadHeader w out own_slot = land_plain disk.ReadHeader _ out refl (λ number e. cc) (λ rank own booting e. absurd (cc))
+  kept_land t (disk.ReadSlot other) w out own_slot = land_plain (disk.ReadSlot other) _ out refl (λ number e. cc) (λ rank own booting e. own_read_value rank own booting e)
+    where
+      own_read_value : (rank : Rank) (own : Slot) → is_booting (phase s log) ≡ true → what.SlotRead other (slot.Read (w.slots other.0)) ≡ what.SlotRead rank (slot.Read own)
+          → own.incarnation ≡ mine.incarnation
+      own_read_value rank own booting e =
+          let value : own ≡ w.slots other.0 = cc in
+          ap (λ x. x.incarnation) (value ∙ ap w.slots (sym (own_slot_out made other out booting)) ∙ own_slot)
+  kept_land t disk.ReadMail w out own_slot = land_plain disk.ReadMail _ out refl (λ number e. cc) (λ rank own booting e. absurd (cc))
+  kept_land t disk.WriteClear w out own_slot = land_plain disk.WriteClear _ out refl (λ number e. cc) (λ rank own booting e. absurd (cc))
+  kept_land t (disk.WriteReset other) w out own_slot = land_plain (disk.WriteReset other) _ out refl (λ number e. cc) (λ rank own booting e. absurd (cc))
+  kept_land t (disk.WriteClaim number) w out own_slot = record {
+    dirty = λ booted open'. clash (is_booting (phase s log)) (booting_op made (disk.WriteClaim number) out refl refl) booted;
+    numbered = λ booted. clash (is_booting (phase s log)) (booting_op made (disk.WriteClaim number) out refl refl) booted;
+    reading = λ rank own booting e. claimed_read rank own (some_same _ _ e);
+    claim_waits = λ n e none. some_none _ none;
+    claim_landed = λ n v e some. (refl, same_number n (some_same _ _ (sym out ∙ e)));
+    clearing = λ e. absurd (claim_clear (some_same _ _ (sym out ∙ e)));
+  }
+    where
+      claimed_read : (rank : Rank) (own : Slot) → what.Claimed true ≡ what.SlotRead rank (slot.Read own) → own.incarnation ≡ number
+      claimed_read rank own e = absurd (cc)
+      same_number : (n : ℕ) → disk.WriteClaim number ≡ disk.WriteClaim n → number ≡ n
+      same_number n e = cc
+      claim_clear : disk.WriteClaim number ≡ disk.WriteClear → ⊥
+      claim_clear e = cc
+  kept_land t (disk.WriteClose number) w out own_slot = record {
+    dirty = λ booted open'. absurd (true≢false (sym (ap (λ o. is_close o && true) out) ∙ open'));
+    numbered = λ booted. out_closes made number out;
+    reading = λ rank own booting e. clash (is_booting (phase s log)) booting (booted_op made (disk.WriteClose number) out refl);
+    claim_waits = λ n e none. absurd (close_claim n (some_same _ _ (sym out ∙ e)));
+    claim_landed = λ n v e some. absurd (close_claim n (some_same _ _ (sym out ∙ e)));
+    clearing = λ e. absurd (close_clear (some_same _ _ (sym out ∙ e)));
+  }
+    where
+      close_claim : (n : ℕ) → disk.WriteClose number ≡ disk.WriteClaim n → ⊥
+      close_claim n e = cc
+      close_clear : disk.WriteClose number ≡ disk.WriteClear → ⊥
+      close_clear e = cc

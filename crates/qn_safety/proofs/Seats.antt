@@ -1,0 +1,320 @@
+-- What an event of the world is to one node: its log, what its operation took at its landing, its leftovers and its slot.
+use Rattle.std.proofs.Common.{◌≡◌, ℕ, suc, zero, ◌+◌, ◌-◌, ◌*◌, ◌/◌, ◌<◌, ◌≤◌, Bool, true, false, List, [], ◌∷◌, ◌++◌, length, Some, None, Option, refl, sym, ap, ◌∙◌, subst, arith, cond, ◌&&◌, ◌||◌, ◌==◌, not, if◌then◌else◌, ◌⊎◌, inl, inr, is_some, is_none, All, nat_le, nat_lt}
+use Rattle.std.specs.Option.{option_or, option_map, option_map_or}
+use Rattle.std.proofs.lemmas.Bool.{false≢true, true≢false, cases_lt, cases_order, cases_Bool, or_cases, eqb-true, eqb-false, eq-eqb, ne_eqb, ltb-true, ltb-false, leb-true, lt-ltb, le-leb}
+use Rattle.qn_base.specs.declared.ids.Rank.{Rank}
+use Rattle.qn_base.specs.declared.ids.View.{View}
+use Rattle.qn_base.specs.Members.{is_member}
+use Rattle.qn_model.specs.declared.configuration.Settings.{Settings}
+use Rattle.qn_model.specs.declared.times.Timing.{Timing}
+use Rattle.qn_model.specs.declared.disk.Message.{Message}
+use Rattle.qn_model.specs.declared.disk.Message.TheVariants as message
+use Rattle.qn_model.specs.declared.disk.Slot.{Slot}
+use Rattle.qn_model.specs.declared.seen.HeaderSeen.{HeaderSeen}
+use Rattle.qn_model.specs.declared.seen.HeaderSeen.TheVariants as header
+use Rattle.qn_model.specs.declared.seen.SlotSeen.{SlotSeen}
+use Rattle.qn_model.specs.declared.seen.SlotSeen.TheVariants as slot
+use Rattle.qn_model.specs.declared.seen.MailSeen.{MailSeen}
+use Rattle.qn_model.specs.declared.seen.MailSeen.TheVariants as mail
+use Rattle.qn_model.specs.declared.packets.Ask.{Ask}
+use Rattle.qn_model.specs.declared.packets.Tell.{Tell}
+use Rattle.qn_model.specs.declared.packets.Packet.{Packet}
+use Rattle.qn_model.specs.declared.packets.Packet.TheVariants as packet
+use Rattle.qn_model.specs.declared.entries.What.{What}
+use Rattle.qn_model.specs.declared.entries.What.TheVariants as what
+use Rattle.qn_model.specs.declared.life.Phase.{Phase}
+use Rattle.qn_model.specs.declared.life.Phase.TheVariants.{Booting, Up, Leaving, Dying, Gone}
+use Rattle.qn_model.specs.declared.outputs.BootCause.{BootCause}
+use Rattle.qn_model.specs.declared.outputs.DiskOp.{DiskOp}
+use Rattle.qn_model.specs.declared.outputs.DiskOp.TheVariants as disk
+use Rattle.qn_model.specs.declared.outputs.Out.{Out}
+use Rattle.qn_model.specs.declared.outputs.Out.TheVariants as out
+use Rattle.qn_model.specs.Log.{Line, op_out, ask_place, ask_tick, claimed, claim_of, incarnation, timing, times_of, no_times, disk_of, has_start, has_stop, is_answer, is_view, view_of}
+use Rattle.qn_model.specs.Phases.{phase, next_phase, boot_phase, mail_phase, header_halt, slot_halt, boot_halt, message_of, deadly_of, in_time, is_booting, is_live, is_up, is_leaving}
+use Rattle.qn_model.specs.Sectors.{is_deadly}
+use Rattle.qn_model.specs.Holding.{holds, stop_due, is_stopped}
+use Rattle.qn_model.specs.NodeVotes.{view, is_in_view, is_present, answers, install, released, quorate}
+use Rattle.qn_model.specs.Hearing.{is_free, told, tells, tell_of}
+use Rattle.qn_model.specs.Licences.{out_time, starts_out_time, slot_read_since, reset_since, reads_slot, writes_reset, is_clean_slot, is_clean, is_written, is_fenced, is_licensed, reset_tick}
+use Rattle.qn_model.specs.Unmet.{unmet, is_clear}
+use Rattle.qn_model.specs.Wanted.{wanted, boot_op, claim_after, rank_of}
+use Rattle.qn_model.specs.Fitting.{fits, read_as, answers_op, is_first, is_own_view, is_for}
+use Rattle.qn_model.specs.NodeOutputs.{outs_at, mail_feeds, feeds_on, taken_in, with_read, with_entry, newest_outs, gives_start}
+use Rattle.qn_model.specs.Moments.{Before, Itself, Later}
+use Rattle.qn_safety.proofs.Tools.{some_same, none_some, some_none, clash, and_left_of, and_right_of, not_true, before_length, before_then, before_tail, before_total, before_same, before_shorter}
+use Rattle.qn_model.specs.declared.packets.Sent.{Sent}
+use Rattle.qn_model.specs.Log as LogSpec
+use Rattle.qn_model.specs.Moments.{Moment, Passes, Boots, Adds, Feeds, Ends, Running, tick_of, is_gone, has_feed, advance_of, advanced, logged, handed, booted, time, node, given_out, packets, packets_of, is_holder}
+use Rattle.qn_model.specs.Rules.{passes, is_within_bounds, outlives, is_between}
+use Rattle.qn_safety.specs.Closing.{is_close, asked_close}
+use Rattle.qn_safety.specs.Timed.{IsUp, IsSameBoot, IsSentTo, WasSent, MayFeed, IsRuled, AllRuled, NoMoment, OneRuled, IsBetween, HasClosed, GetsBadMail, IsAdded, NumbersRise, CleanMeansClosed, WrittenMeansBadMail, HeadersAgree, IsTimedRun}
+use Rattle.qn_model.specs.declared.events.Event.{Event}
+use Rattle.qn_model.specs.declared.events.Event.TheVariants as event
+use Rattle.qn_model.specs.World.{World, first_world, put, node_at, op_at, slots_with, mailboxes_with, taken, failed, is_write, given_up, leftover_at, numbered, without}
+use Rattle.qn_model.specs.Rules.{is_well_formed, refusal, unless, unless_running, is_on, may_pass, may_land, may_be_done, may_fail, may_be_stopped, may_be_late, may_deliver, may_feed, is_configured, is_clock}
+use Rattle.qn_model.specs.Steps as Steps
+use Rattle.qn_model.specs.Steps.{happens, written, landed, answered, gives_up, fails, lands_late, entry_of, step, run}
+use Rattle.std.specs.Prelude.{slice_get}
+use Rattle.qn_safety.proofs.Runs.{Turn, IsApart, IsPass, IsBoot, IsAdd, IsFeed, IsEnd, turn, added_node, booted_node}
+use Rattle.qn_safety.proofs.Origins.{line_of}
+
+-- the part of the world that is one node's
+pub record Seat : Type 0 where
+  pub on : Bool
+  pub boots : ℕ
+  pub log : List Line
+  pub took : Option What
+  pub left : List DiskOp
+  pub slot : Slot
+
+abbrev pub seat_from : Running → Option What → List DiskOp → Slot → Seat
+seat_from n took left slot = record { on = n.on; boots = n.boots; log = n.log; took = took; left = left; slot = slot }
+
+abbrev pub seat_of : Settings → ℕ → World → Seat
+seat_of s j w = seat_from (node s j w.moments) (w.took j) (w.left j) (w.slots j)
+
+-- a seat whose node was handed an entry at a tick
+abbrev pub entered : Settings → ℕ → ℕ → What → Seat → Seat
+entered s j tick entry x =
+    record x { on = not (is_gone (phase s (line_of s j tick entry x.log ∷ x.log))); log = line_of s j tick entry x.log ∷ x.log }
+
+-- a seat whose node begins a boot
+abbrev pub fresh : Seat → Seat
+fresh x = record { on = true; boots = suc x.boots; log = []; took = None; left = []; slot = x.slot }
+
+-- a slot after a write of its node landed
+abbrev pub slot_after : DiskOp → Slot → Slot
+slot_after (disk.WriteClaim number) before = record { incarnation = number; clean = false }
+slot_after (disk.WriteClose number) before = record { incarnation = number; clean = true }
+slot_after op before = before
+
+-- what an event is to the seat of a node
+pub data Effect (s : Settings) (t : Timing) (j : ℕ) (w w' : World) : Type 0 where
+  Rests : seat_of s j w' ≡ seat_of s j w → Effect s t j w w'
+  Enters : (tick : ℕ) (entry : What) → (node s j w.moments).on ≡ true → is_answer entry ≡ false → seat_of s j w' ≡ entered s j tick entry (seat_of s j w) → Effect s t j w w'
+  Answers : (tick : ℕ) (entry : What) → (node s j w.moments).on ≡ true → w.took j ≡ Some entry
+      → seat_of s j w' ≡ record (entered s j tick entry (seat_of s j w)) { took = None } → Effect s t j w w'
+  Fails : (tick : ℕ) (op : DiskOp) → (node s j w.moments).on ≡ true → op_out (node s j w.moments).log ≡ Some op
+      → seat_of s j w' ≡ record (entered s j tick (failed op) (seat_of s j w)) { took = None; left = w.left j ++ given_up (Some op) (w.took j) } → Effect s t j w w'
+  BootsUp : (tick : ℕ) → (node s j w.moments).on ≡ false → seat_of s j w' ≡ entered s j tick what.Begin (fresh (seat_of s j w)) → Effect s t j w w'
+  GoesOff : (node s j w.moments).on ≡ true
+      → seat_of s j w' ≡ record (seat_of s j w) { on = false; took = None; left = w.left j ++ given_up (op_out (node s j w.moments).log) (w.took j) } → Effect s t j w w'
+  Lands : (op : DiskOp) → (node s j w.moments).on ≡ true → op_out (node s j w.moments).log ≡ Some op → w.took j ≡ None → w' ≡ landed s t j op w
+      → seat_of s j w' ≡ record (seat_of s j w) { took = Some (taken s t j op w); slot = slot_after op (w.slots j) } → Effect s t j w w'
+  LandsLate : (number : ℕ) (op : DiskOp) → numbered (w.left j) number ≡ Some op
+      → seat_of s j w' ≡ record (seat_of s j w) { left = without (w.left j) number; slot = slot_after op (w.slots j) } → Effect s t j w w'
+
+own_test : (i : ℕ) → (i == i) ≡ true
+own_test i = eq-eqb i i refl
+
+pub put_same : {A : Type 0} (f : ℕ → A) (r : ℕ) (v : A) → put f r v r ≡ v
+put_same f r v = ap (λ b. if b then v else f r) (own_test r)
+
+pub put_other : {A : Type 0} (f : ℕ → A) (r j : ℕ) (v : A) → (r == j) ≡ false → put f r v j ≡ f j
+put_other f r j v e = ap (λ b. if b then v else f j) e
+
+slots_own : (j : ℕ) (op : DiskOp) (slots : ℕ → Slot) → slots_with j op slots j ≡ slot_after op (slots j)
+slots_own j (disk.WriteClaim number) slots = put_same slots j (record { incarnation = number; clean = false })
+slots_own j (disk.WriteClose number) slots = put_same slots j (record { incarnation = number; clean = true })
+slots_own j disk.ReadHeader slots = refl
+slots_own j (disk.ReadSlot rank) slots = refl
+slots_own j disk.WriteClear slots = refl
+slots_own j disk.ReadMail slots = refl
+slots_own j (disk.WriteReset rank) slots = refl
+
+slots_other : (r j : ℕ) (op : DiskOp) (slots : ℕ → Slot) → (r == j) ≡ false → slots_with r op slots j ≡ slots j
+slots_other r j (disk.WriteClaim number) slots e = put_other slots r j (record { incarnation = number; clean = false }) e
+slots_other r j (disk.WriteClose number) slots e = put_other slots r j (record { incarnation = number; clean = true }) e
+slots_other r j disk.ReadHeader slots e = refl
+slots_other r j (disk.ReadSlot rank) slots e = refl
+slots_other r j disk.WriteClear slots e = refl
+slots_other r j disk.ReadMail slots e = refl
+slots_other r j (disk.WriteReset rank) slots e = refl
+
+seat_same : (n m : Running) (took took' : Option What) (left left' : List DiskOp) (slot slot' : Slot) → n ≡ m → took ≡ took' → left ≡ left' → slot ≡ slot'
+    → seat_from n took left slot ≡ seat_from m took' left' slot'
+seat_same n m took took' left left' slot slot' a b c d = cc
+
+handed_seat : (s : Settings) (j now : ℕ) (entry : What) (n : Running) (took : Option What) (left : List DiskOp) (slot : Slot)
+    → seat_from (handed s j now entry n) took left slot ≡ entered s j (tick_of n.clock) entry (seat_from n took left slot)
+unfolding handed logged with_entry line_of
+handed_seat s j now entry n took left slot = refl
+
+booted_seat : (s : Settings) (j now base : ℕ) (n : Running) (took : Option What) (left : List DiskOp) (slot : Slot)
+    → seat_from (booted s j now base n) None [] slot ≡ entered s j (tick_of base) what.Begin (fresh (seat_from n took left slot))
+unfolding booted handed logged with_entry line_of
+booted_seat s j now base n took left slot = refl
+
+-- the node of another rank does not change
+node_apart_adds : (s : Settings) (r j : ℕ) (entry : What) (ms : List Moment) → (r == j) ≡ false → node s j (Adds r entry ∷ ms) ≡ node s j ms
+unfolding node
+node_apart_adds s r j entry ms e = ap (λ b. if b then handed s j (time ms) entry (node s j ms) else node s j ms) e
+
+node_apart_boots : (s : Settings) (r j base : ℕ) (ms : List Moment) → (r == j) ≡ false → node s j (Boots r base ∷ ms) ≡ node s j ms
+unfolding node
+node_apart_boots s r j base ms e = ap (λ b. if b then booted s j (time ms) base (node s j ms) else node s j ms) e
+
+node_apart_ends : (s : Settings) (r j : ℕ) (ms : List Moment) → (r == j) ≡ false → node s j (Ends r ∷ ms) ≡ node s j ms
+unfolding node
+node_apart_ends s r j ms e = ap (λ b. if b then record (node s j ms) { on = false } else node s j ms) e
+
+node_own_ends : (s : Settings) (j : ℕ) (ms : List Moment) → node s j (Ends j ∷ ms) ≡ record (node s j ms) { on = false }
+unfolding node
+node_own_ends s j ms = ap (λ b. if b then record (node s j ms) { on = false } else node s j ms) (own_test j)
+
+seat_passes : (s : Settings) (j dt : ℕ) (clocks : List (Rank × ℕ)) (w : World) → seat_of s j (happens (Passes dt clocks) w) ≡ seat_of s j w
+unfolding node
+seat_passes s j dt clocks w = refl
+
+seat_feeds : (s : Settings) (j r : ℕ) (w : World) → seat_of s j (happens (Feeds r) w) ≡ seat_of s j w
+unfolding node
+seat_feeds s j r w = by_owner (r == j)
+  where
+    by_owner : (b : Bool) → seat_from (if b then record (node s j w.moments) { fed = time w.moments } else node s j w.moments) (w.took j) (w.left j) (w.slots j) ≡ seat_of s j w
+    by_owner true = refl
+    by_owner false = refl
+
+module _ (s : Settings) (t : Timing) where
+  -- an entry that is no answer
+  pub effect_enters : (r j : ℕ) (entry : What) (w : World) → (node s r w.moments).on ≡ true → is_answer entry ≡ false → Effect s t j w (happens (Adds r entry) w)
+  effect_enters r j entry w on plain = by_owner (r == j) refl
+    where
+      own : Effect s t r w (happens (Adds r entry) w)
+      own = Enters (tick_of (node s r w.moments).clock) entry on plain
+          (seat_same _ _ _ _ _ _ _ _ (added_node s r entry w.moments) refl refl refl ∙ handed_seat s r (time w.moments) entry (node s r w.moments) (w.took r) (w.left r) (w.slots r))
+      by_owner : (b : Bool) → (r == j) ≡ b → Effect s t j w (happens (Adds r entry) w)
+      by_owner true e = subst (λ k. Effect s t k w (happens (Adds r entry) w)) (eqb-true r j e) own
+      by_owner false e = Rests (seat_same _ _ _ _ _ _ _ _ (node_apart_adds s r j entry w.moments e) refl refl refl)
+
+  pub effect_answers : (r j : ℕ) (entry : What) (w : World) → (node s r w.moments).on ≡ true → w.took r ≡ Some entry → Effect s t j w (answered r entry w)
+  effect_answers r j entry w on took = by_owner (r == j) refl
+    where
+      own : Effect s t r w (answered r entry w)
+      own = Answers (tick_of (node s r w.moments).clock) entry on took
+          (seat_same _ _ _ _ _ _ _ _ (added_node s r entry w.moments) (put_same w.took r None) refl refl ∙ handed_seat s r (time w.moments) entry (node s r w.moments) None (w.left r) (w.slots r))
+      by_owner : (b : Bool) → (r == j) ≡ b → Effect s t j w (answered r entry w)
+      by_owner true e = subst (λ k. Effect s t k w (answered r entry w)) (eqb-true r j e) own
+      by_owner false e = Rests (seat_same _ _ _ _ _ _ _ _ (node_apart_adds s r j entry w.moments e) (put_other w.took r j None e) refl refl)
+
+  pub effect_fails : (r j : ℕ) (op : DiskOp) (w : World) → (node s r w.moments).on ≡ true → op_out (node s r w.moments).log ≡ Some op → Effect s t j w (fails s r op w)
+  effect_fails r j op w on out = by_owner (r == j) refl
+    where
+      left_own : put w.left r (w.left r ++ leftover_at s r w) r ≡ w.left r ++ given_up (Some op) (w.took r)
+      left_own = put_same w.left r (w.left r ++ leftover_at s r w) ∙ ap (λ o. w.left r ++ given_up o (w.took r)) out
+      own : Effect s t r w (fails s r op w)
+      own = Fails (tick_of (node s r w.moments).clock) op on out
+          (seat_same _ _ _ _ _ _ _ _ (added_node s r (failed op) w.moments) (put_same w.took r None) left_own refl
+          ∙ handed_seat s r (time w.moments) (failed op) (node s r w.moments) None (w.left r ++ given_up (Some op) (w.took r)) (w.slots r))
+      by_owner : (b : Bool) → (r == j) ≡ b → Effect s t j w (fails s r op w)
+      by_owner true e = subst (λ k. Effect s t k w (fails s r op w)) (eqb-true r j e) own
+      by_owner false e = Rests (seat_same _ _ _ _ _ _ _ _ (node_apart_adds s r j (failed op) w.moments e) (put_other w.took r j None e) (put_other w.left r j (w.left r ++ leftover_at s r w) e) refl)
+
+  pub effect_boots : (r j base : ℕ) (w : World) → (node s r w.moments).on ≡ false → Effect s t j w (Steps.boots r base w)
+  effect_boots r j base w off = by_owner (r == j) refl
+    where
+      own : Effect s t r w (Steps.boots r base w)
+      own = BootsUp (tick_of base) off
+          (seat_same _ _ _ _ _ _ _ _ (booted_node s r base w.moments) (put_same w.took r None) (put_same w.left r []) refl
+          ∙ booted_seat s r (time w.moments) base (node s r w.moments) (w.took r) (w.left r) (w.slots r))
+      by_owner : (b : Bool) → (r == j) ≡ b → Effect s t j w (Steps.boots r base w)
+      by_owner true e = subst (λ k. Effect s t k w (Steps.boots r base w)) (eqb-true r j e) own
+      by_owner false e = Rests (seat_same _ _ _ _ _ _ _ _ (node_apart_boots s r j base w.moments e) (put_other w.took r j None e) (put_other w.left r j [] e) refl)
+
+  pub effect_ends : (r j : ℕ) (w : World) → (node s r w.moments).on ≡ true → Effect s t j w (happens (Ends r) (gives_up s r w))
+  effect_ends r j w on = by_owner (r == j) refl
+    where
+      own : Effect s t r w (happens (Ends r) (gives_up s r w))
+      own = GoesOff on
+          (seat_same _ _ _ _ _ _ _ _ (node_own_ends s r w.moments) (put_same w.took r None) (put_same w.left r (w.left r ++ leftover_at s r w)) refl)
+      by_owner : (b : Bool) → (r == j) ≡ b → Effect s t j w (happens (Ends r) (gives_up s r w))
+      by_owner true e = subst (λ k. Effect s t k w (happens (Ends r) (gives_up s r w))) (eqb-true r j e) own
+      by_owner false e = Rests (seat_same _ _ _ _ _ _ _ _ (node_apart_ends s r j w.moments e) (put_other w.took r j None e) (put_other w.left r j (w.left r ++ leftover_at s r w) e) refl)
+
+  pub effect_lands : (r j : ℕ) (op : DiskOp) (w : World) → (node s r w.moments).on ≡ true → op_out (node s r w.moments).log ≡ Some op → w.took r ≡ None → Effect s t j w (landed s t r op w)
+  effect_lands r j op w on out none = by_owner (r == j) refl
+    where
+      own : Effect s t r w (landed s t r op w)
+      own = Lands op on out none refl
+          (seat_same (node s r w.moments) (node s r w.moments) _ _ _ _ _ _ refl (put_same w.took r (Some (taken s t r op w))) refl (slots_own r op w.slots))
+      by_owner : (b : Bool) → (r == j) ≡ b → Effect s t j w (landed s t r op w)
+      by_owner true e = subst (λ k. Effect s t k w (landed s t r op w)) (eqb-true r j e) own
+      by_owner false e = Rests (seat_same (node s j w.moments) (node s j w.moments) _ _ _ _ _ _ refl (put_other w.took r j (Some (taken s t r op w)) e) refl (slots_other r j op w.slots e))
+
+  pub effect_late : (r j number : ℕ) (op : DiskOp) (w : World) → numbered (w.left r) number ≡ Some op → Effect s t j w (lands_late r number op w)
+  effect_late r j number op w there = by_owner (r == j) refl
+    where
+      own : Effect s t r w (lands_late r number op w)
+      own = LandsLate number op there
+          (seat_same (node s r w.moments) (node s r w.moments) (w.took r) (w.took r) _ _ _ _ refl refl (put_same w.left r (without (w.left r) number)) (slots_own r op w.slots))
+      by_owner : (b : Bool) → (r == j) ≡ b → Effect s t j w (lands_late r number op w)
+      by_owner true e = subst (λ k. Effect s t k w (lands_late r number op w)) (eqb-true r j e) own
+      by_owner false e = Rests (seat_same (node s j w.moments) (node s j w.moments) (w.took j) (w.took j) _ _ _ _ refl refl (put_other w.left r j (without (w.left r) number) e) (slots_other r j op w.slots e))
+
+-- a rule that does not refuse
+pub allows : (b : Bool) (rule : ℕ) → unless b rule ≡ None → b ≡ true
+allows true rule e = refl
+allows false rule e = some_none rule e
+
+pub both_allow : (a b : Bool) (first second : ℕ) → option_or (unless a first) (unless b second) ≡ None → (a ≡ true) × (b ≡ true)
+both_allow true b first second e = (refl, allows b second e)
+both_allow false b first second e = some_none first e
+
+pub running_allows : (a : Bool) (first : ℕ) → option_or (unless a first) None ≡ None → a ≡ true
+running_allows true first e = refl
+running_allows false first e = some_none first e
+
+-- the entries of packets are no answers
+packet_plain : (content : Packet) → is_answer (entry_of content) ≡ false
+packet_plain (packet.Ask ask) = refl
+packet_plain (packet.Tell tell) = refl
+packet_plain (packet.Hello from) = refl
+packet_plain (packet.Announce from seen) = refl
+packet_plain (packet.Vote agrees) = refl
+
+-- where an option is there
+pub is_there : {A : Type 0} (o : Option A) → is_some o ≡ true → (x : A) × (o ≡ Some x)
+is_there (Some x) e = (x, refl)
+is_there None e = absurd (false≢true e)
+
+not_there : {A : Type 0} (o : Option A) → not (is_some o) ≡ true → o ≡ None
+not_there None e = refl
+not_there (Some x) e = absurd (false≢true e)
+
+pub test_there : {A : Type 0} (test : A → Bool) (o : Option A) → option_map_or test o false ≡ true → (x : A) × (o ≡ Some x) × (test x ≡ true)
+test_there test (Some x) e = (x, refl, e)
+test_there test None e = absurd (false≢true e)
+
+-- what each event that is allowed is to the seat of each node
+pub effect : (s : Settings) (t : Timing) (j : ℕ) (e : Event) (w : World) → refusal s t e w ≡ None → Effect s t j w (step s t e w)
+unfolding refusal step
+effect s t j (event.Pass dt clocks) w ok = Rests (seat_passes s j dt clocks w)
+effect s t j (event.Boot rank base) w ok = effect_boots s t rank.0 j base w (not_true (is_on s rank.0 w) (allows (not (is_on s rank.0 w)) 2 ok))
+effect s t j (event.Crash rank) w ok = effect_ends s t rank.0 j w (running_allows (is_on s rank.0 w) 3 ok)
+effect s t j (event.Land rank) w ok =
+    let rules = both_allow (is_on s rank.0 w) (may_land s rank.0 w) 3 4 ok in
+    let out = is_there (op_at s rank.0 w) (and_left_of (is_some (op_at s rank.0 w)) (not (is_some (w.took rank.0))) rules.1) in
+    let none = not_there (w.took rank.0) (and_right_of (is_some (op_at s rank.0 w)) (not (is_some (w.took rank.0))) rules.1) in
+    subst (λ o. Effect s t j w (option_map_or (λ op. landed s t rank.0 op w) o w)) (sym out.1) (effect_lands s t rank.0 j out.0 w rules.0 out.1 none)
+effect s t j (event.Done rank) w ok =
+    let rules = both_allow (is_on s rank.0 w) (may_be_done s rank.0 w) 3 5 ok in
+    let took = is_there (w.took rank.0) (and_right_of (is_some (op_at s rank.0 w)) (is_some (w.took rank.0)) rules.1) in
+    subst (λ o. Effect s t j w (option_map_or (λ entry. answered rank.0 entry w) o w)) (sym took.1) (effect_answers s t rank.0 j took.0 w rules.0 took.1)
+effect s t j (event.Fail rank) w ok =
+    let rules = both_allow (is_on s rank.0 w) (may_fail s rank.0 w) 3 5 ok in
+    let out = is_there (op_at s rank.0 w) rules.1 in
+    subst (λ o. Effect s t j w (option_map_or (λ op. fails s rank.0 op w) o w)) (sym out.1) (effect_fails s t rank.0 j out.0 w rules.0 out.1)
+effect s t j (event.Late rank number) w ok =
+    let there = is_there (numbered (w.left rank.0) number) (allows (may_be_late rank.0 number w) 6 ok) in
+    subst (λ o. Effect s t j w (option_map_or (λ op. lands_late rank.0 number op w) o w)) (sym there.1) (effect_late s t rank.0 j number there.0 w there.1)
+effect s t j (event.View rank view) w ok = effect_enters s t rank.0 j (what.View view) w ((both_allow (is_on s rank.0 w) (is_member view.members rank.0) 3 7 ok).0) refl
+effect s t j (event.Deliver rank number) w ok =
+    let rules = both_allow (is_on s rank.0 w) (may_deliver s rank.0 number w) 3 8 ok in
+    let sent = test_there (λ (x : Sent). x.to.0 == rank.0) (slice_get (packets s w.moments) number) rules.1 in
+    subst (λ o. Effect s t j w (option_map_or (λ x. happens (Adds rank.0 (entry_of x.packet)) w) o w)) (sym sent.1)
+    (effect_enters s t rank.0 j (entry_of sent.0.packet) w rules.0 (packet_plain sent.0.packet))
+effect s t j (event.Device rank agrees) w ok = effect_enters s t rank.0 j (what.Device agrees) w (running_allows (is_on s rank.0 w) 3 ok) refl
+effect s t j (event.Tick rank) w ok = effect_enters s t rank.0 j what.Tick w (running_allows (is_on s rank.0 w) 3 ok) refl
+effect s t j (event.Stopped rank) w ok = effect_enters s t rank.0 j (what.Stopped true) w ((both_allow (is_on s rank.0 w) (may_be_stopped s rank.0 w) 3 5 ok).0) refl
+effect s t j (event.Unstopped rank) w ok = effect_enters s t rank.0 j (what.Stopped false) w ((both_allow (is_on s rank.0 w) (may_be_stopped s rank.0 w) 3 5 ok).0) refl
+effect s t j (event.Leave rank) w ok = effect_enters s t rank.0 j what.Leave w (running_allows (is_on s rank.0 w) 3 ok) refl
+effect s t j (event.Feed rank) w ok = Rests (seat_feeds s j rank.0 w)
