@@ -79,7 +79,7 @@ pub record Kept (s : Settings) (log : List Line) (took : Option What) (mine : Sl
   -- while the clear is out, the slot has the claim
   pub clearing : op_out log ≡ Some disk.WriteClear → (mine.clean ≡ false) × (claimed log ≡ Some mine.incarnation)
 
-first_kept : (s : Settings) (mine : Slot) → Kept s [] None mine
+pub first_kept : (s : Settings) (mine : Slot) → Kept s [] None mine
 unfolding phase op_out
 first_kept s mine = record {
   dirty = λ booted open'. absurd (true≢false booted);
@@ -108,7 +108,7 @@ booting_back {s = s} {line = line} {past = past} it booting = by_phase (is_booti
     by_phase false e = clash (is_booting (phase s (line ∷ past))) booting (boot_past it e)
 
 -- the operation out after an entry that answers nothing, where an answer waits
-some_op : (op : Option DiskOp) (v : What) → answers_op op v ≡ true → (o : DiskOp) × (op ≡ Some o)
+pub some_op : (op : Option DiskOp) (v : What) → answers_op op v ≡ true → (o : DiskOp) × (op ≡ Some o)
 some_op (Some o) v e = (o, refl)
 some_op None v e = absurd (false≢true e)
 
@@ -118,7 +118,7 @@ same_claim line past none = ap (λ o. option_or (claim_of o) (claimed past)) non
 
 module _ {s : Settings} {me : ℕ} {line : Line} {past : List Line} (it : IsLine s me line past) (made : Made s me past) (took : Option What) (mine : Slot) (was : Kept s past took mine) where
   -- an entry that answers nothing
-  kept_enter : is_answer line.what ≡ false → ((v : What) → took ≡ Some v → answers_op (op_out past) v ≡ true) → Kept s (line ∷ past) took mine
+  pub kept_enter : is_answer line.what ≡ false → ((v : What) → took ≡ Some v → answers_op (op_out past) v ≡ true) → Kept s (line ∷ past) took mine
   kept_enter plain waits = record {
     dirty = λ booted open'. was.dirty (booted_back it plain booted) (open_before took refl open');
     numbered = λ booted. claimed_same it booted ∙ was.numbered (booted_back it plain booted);
@@ -152,7 +152,7 @@ module _ {s : Settings} {me : ℕ} {line : Line} {past : List Line} (it : IsLine
           ap (λ o. is_close o && is_some took) (out.1 ∙ sym (op_kept it out.0 out.1 plain)) ∙ open'
 
   -- an entry that answers the operation that is out, by what it took or by a failure
-  kept_reply : is_answer line.what ≡ true → is_gone (phase s (line ∷ past)) ≡ false
+  pub kept_reply : is_answer line.what ≡ true → is_gone (phase s (line ∷ past)) ≡ false
       → ((rank : Rank) (own : Slot) → is_booting (phase s past) ≡ true → line.what ≡ what.SlotRead rank (slot.Read own) → own.incarnation ≡ mine.incarnation)
       → ((number : ℕ) → op_out past ≡ Some (disk.WriteClaim number) → line.what ≡ what.Claimed true → (mine.clean ≡ false) × (mine.incarnation ≡ number))
       → Kept s (line ∷ past) None mine
@@ -214,7 +214,7 @@ failed_answers (disk.WriteReset other) = eq-eqb other.0 other.0 refl
 failed_answers (disk.WriteClose number) = refl
 
 -- a write of a boot is out only while the node boots
-booting_op : {s : Settings} {me : ℕ} {log : List Line} → Made s me log → (op : DiskOp) → op_out log ≡ Some op → is_apt (Some op) Up ≡ false → is_apt (Some op) Leaving ≡ false → is_booting (phase s log) ≡ true
+pub booting_op : {s : Settings} {me : ℕ} {log : List Line} → Made s me log → (op : DiskOp) → op_out log ≡ Some op → is_apt (Some op) Up ≡ false → is_apt (Some op) Leaving ≡ false → is_booting (phase s log) ≡ true
 booting_op {s = s} {log = log} made op out not_up not_leaving = by_phase (phase s log) (subst (λ o. is_apt o (phase s log) ≡ true) out (apt made))
   where
     by_phase : (p : Phase) → is_apt (Some op) p ≡ true → is_booting p ≡ true
@@ -224,7 +224,7 @@ booting_op {s = s} {log = log} made op out not_up not_leaving = by_phase (phase 
     by_phase Dying e = absurd (false≢true e)
     by_phase Gone e = absurd (false≢true e)
 
-booted_op : {s : Settings} {me : ℕ} {log : List Line} → Made s me log → (op : DiskOp) → op_out log ≡ Some op → is_apt (Some op) Booting ≡ false → is_booting (phase s log) ≡ false
+pub booted_op : {s : Settings} {me : ℕ} {log : List Line} → Made s me log → (op : DiskOp) → op_out log ≡ Some op → is_apt (Some op) Booting ≡ false → is_booting (phase s log) ≡ false
 booted_op {s = s} {log = log} made op out not_booting = by_phase (phase s log) (subst (λ o. is_apt o (phase s log) ≡ true) out (apt made))
   where
     by_phase : (p : Phase) → is_apt (Some op) p ≡ true → is_booting p ≡ false
@@ -248,7 +248,7 @@ module _ {s : Settings} {me : ℕ} {log : List Line} (made : Made s me log) (min
     clearing = was.clearing;
   }
 
-  kept_land : (t : Timing) (op : DiskOp) (w : World) → op_out log ≡ Some op → w.slots me ≡ mine → Kept s log (Some (taken s t me op w)) (slot_after op mine)
+  pub kept_land : (t : Timing) (op : DiskOp) (w : World) → op_out log ≡ Some op → w.slots me ≡ mine → Kept s log (Some (taken s t me op w)) (slot_after op mine)
   unfolding taken
   kept_land t disk.ReadHeader w out own_slot = land_plain disk.ReadHeader _ out refl (λ number e. cc) (λ rank own booting e. absurd (cc))
   kept_land t (disk.ReadSlot other) w out own_slot = land_plain (disk.ReadSlot other) _ out refl (λ number e. cc) (λ rank own booting e. own_read_value rank own booting e)

@@ -17,3 +17,4 @@ pub mod Pairs
 pub mod Seats
 pub mod Outs
 pub mod Kept
+pub mod Held
