@@ -18,3 +18,4 @@ pub mod Seats
 pub mod Outs
 pub mod Kept
 pub mod Held
+pub mod Events
