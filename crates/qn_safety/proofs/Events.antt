@@ -273,14 +273,14 @@ pub record AtEvents (s : Settings) (t : Timing) (p : List Moment) (events : List
 at_later : {s : Settings} {t : Timing} {p : List Moment} {events : List Event} (e : Event) → AtEvents s t p events → AtEvents s t p (e ∷ events)
 at_later e it = record { at = it.at; back = Later e it.back; same = it.same }
 
-newest_state : {p ms : List Moment} {m : Moment} → Before p (m ∷ ms) → (p ≡ m ∷ ms) ⊎ Before p ms
+pub newest_state : {p ms : List Moment} {m : Moment} → Before p (m ∷ ms) → (p ≡ m ∷ ms) ⊎ Before p ms
 newest_state Itself = inl refl
 newest_state (Later newest more) = inr more
 
-only_nothing : {p : List Moment} → Before p [] → p ≡ []
+pub only_nothing : {p : List Moment} → Before p [] → p ≡ []
 only_nothing Itself = refl
 
-first_moments : (s : Settings) (t : Timing) → (run s t []).moments ≡ []
+pub first_moments : (s : Settings) (t : Timing) → (run s t []).moments ≡ []
 unfolding run
 first_moments s t = refl
 

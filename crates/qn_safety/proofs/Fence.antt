@@ -58,7 +58,7 @@ feed_is P (out.Send to content ∷ outs) p e = feed_is P outs (All-tail P (out.S
 feed_is P (out.Disarm ∷ outs) p e = feed_is P outs (All-tail P out.Disarm outs p) e
 feed_is P (out.Halt kind ∷ outs) p e = feed_is P outs (All-tail P (out.Halt kind) outs p) e
 
-mail_is_answer : (entry : What) → feeds_on (message_of entry) ≡ true → is_answer entry ≡ true
+pub mail_is_answer : (entry : What) → feeds_on (message_of entry) ≡ true → is_answer entry ≡ true
 mail_is_answer (what.MailRead seen) e = refl
 mail_is_answer (what.Header seen) e = refl
 mail_is_answer (what.SlotRead other seen) e = refl

@@ -120,7 +120,7 @@ left_cons : (mine : Slot) (op : DiskOp) (rest : List DiskOp) → is_reset op ≡
 left_cons mine op [] is rest = reset_keeps mine op is
 left_cons mine op (next ∷ ops) is rest = (is, rest)
 
-slot_keeps : (mine : Slot) (op : DiskOp) → KeepsNumber mine op → mine.incarnation ≤ (slot_after op mine).incarnation
+pub slot_keeps : (mine : Slot) (op : DiskOp) → KeepsNumber mine op → mine.incarnation ≤ (slot_after op mine).incarnation
 slot_keeps mine (disk.WriteClaim number) keeps = keeps
 slot_keeps mine (disk.WriteClose number) keeps = keeps
 slot_keeps mine disk.ReadHeader keeps = omega arith
@@ -151,7 +151,7 @@ resets_late (first ∷ ops) (suc zero) op all there = (ap is_reset (sym (some_sa
 resets_late (first ∷ ops) (suc (suc place)) op all there = let rest = resets_late ops (suc place) op all.1 there in (rest.0, (all.0, rest.1))
 
 -- an operation that is given up keeps the number
-keeps_out : {s : Settings} {me : ℕ} {log : List Line} → Made s me log → (mine : Slot) → Kept s log None mine → (op : DiskOp) → op_out log ≡ Some op → KeepsNumber mine op
+pub keeps_out : {s : Settings} {me : ℕ} {log : List Line} → Made s me log → (mine : Slot) → Kept s log None mine → (op : DiskOp) → op_out log ≡ Some op → KeepsNumber mine op
 keeps_out made mine was (disk.WriteClaim number) out = let waits = was.claim_waits number out refl in omega arith
 keeps_out {s = s} made mine was (disk.WriteClose number) out =
     let same = some_same _ _ (sym (was.numbered (booted_op made (disk.WriteClose number) out refl)) ∙ out_closes made number out) in omega arith

@@ -19,3 +19,5 @@ pub mod Outs
 pub mod Kept
 pub mod Held
 pub mod Events
+pub mod Landings
+pub mod Facts

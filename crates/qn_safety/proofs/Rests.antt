@@ -155,7 +155,7 @@ pub record FencingAsk (s : Settings) (rank : ℕ) (line : Line) (past : List Lin
   pub up : is_up (phase s (asking ∷ older)) ≡ true
   pub outside : is_in_view (asking ∷ older) rank ≡ false
 
-read_is : (test : SlotSeen → Bool) (rank : ℕ) (entry : What) → reads_slot test rank entry ≡ true
+pub read_is : (test : SlotSeen → Bool) (rank : ℕ) (entry : What) → reads_slot test rank entry ≡ true
     → (other : Rank) × (seen : SlotSeen) × (entry ≡ what.SlotRead other seen) × (other.0 ≡ rank) × (test seen ≡ true)
 read_is test rank what.Begin e = absurd (false≢true e)
 read_is test rank (what.Header seen) e = absurd (false≢true e)
@@ -173,7 +173,7 @@ read_is test rank (what.Stopped ok) e = absurd (false≢true e)
 read_is test rank what.Leave e = absurd (false≢true e)
 read_is test rank (what.Closed ok) e = absurd (false≢true e)
 
-write_is : (rank : ℕ) (entry : What) → writes_reset rank entry ≡ true → (other : Rank) × (entry ≡ what.MailWritten other true) × (other.0 ≡ rank)
+pub write_is : (rank : ℕ) (entry : What) → writes_reset rank entry ≡ true → (other : Rank) × (entry ≡ what.MailWritten other true) × (other.0 ≡ rank)
 write_is rank what.Begin e = absurd (false≢true e)
 write_is rank (what.Header seen) e = absurd (false≢true e)
 write_is rank (what.SlotRead other seen) e = absurd (false≢true e)
