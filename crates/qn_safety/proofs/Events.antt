@@ -1,70 +1,35 @@
 -- The events of the world and the moments of its run: the moments obey the rules, and each of them comes of an event.
-use Rattle.std.proofs.Common.{◌≡◌, ℕ, suc, zero, ◌+◌, ◌-◌, ◌*◌, ◌/◌, ◌<◌, ◌≤◌, Bool, true, false, List, [], ◌∷◌, ◌++◌, length, Some, None, Option, refl, sym, ap, ◌∙◌, subst, arith, cond, ◌&&◌, ◌||◌, ◌==◌, not, if◌then◌else◌, ◌⊎◌, inl, inr, is_some, is_none, All, nat_le, nat_lt}
-use Rattle.std.specs.Option.{option_or, option_map, option_map_or}
-use Rattle.std.proofs.lemmas.Bool.{false≢true, true≢false, cases_lt, cases_order, cases_Bool, or_cases, eqb-true, eqb-false, eq-eqb, ne_eqb, ltb-true, ltb-false, leb-true, lt-ltb, le-leb}
-use Rattle.qn_base.specs.declared.ids.Rank.{Rank}
-use Rattle.qn_base.specs.declared.ids.View.{View}
+use Rattle.std.proofs.Common.{◌≡◌, ℕ, suc, zero, ◌+◌, ◌<◌, ◌≤◌, Bool, true, List, [], ◌∷◌, length, Some, None, Option, refl, sym, ◌∙◌, subst, arith, ◌==◌, not, ◌⊎◌, inl, inr, nat_le}
+use Rattle.std.specs.Option.{option_map_or}
+use Rattle.std.proofs.lemmas.Bool.{cases_order, eqb-true, ltb-true, leb-true}
 use Rattle.qn_base.specs.Members.{is_member}
 use Rattle.qn_model.specs.declared.configuration.Settings.{Settings}
 use Rattle.qn_model.specs.declared.times.Timing.{Timing}
-use Rattle.qn_model.specs.declared.disk.Message.{Message}
-use Rattle.qn_model.specs.declared.disk.Message.TheVariants as message
-use Rattle.qn_model.specs.declared.disk.Slot.{Slot}
-use Rattle.qn_model.specs.declared.seen.HeaderSeen.{HeaderSeen}
-use Rattle.qn_model.specs.declared.seen.HeaderSeen.TheVariants as header
-use Rattle.qn_model.specs.declared.seen.SlotSeen.{SlotSeen}
-use Rattle.qn_model.specs.declared.seen.SlotSeen.TheVariants as slot
-use Rattle.qn_model.specs.declared.seen.MailSeen.{MailSeen}
-use Rattle.qn_model.specs.declared.seen.MailSeen.TheVariants as mail
-use Rattle.qn_model.specs.declared.packets.Ask.{Ask}
-use Rattle.qn_model.specs.declared.packets.Tell.{Tell}
 use Rattle.qn_model.specs.declared.packets.Packet.{Packet}
 use Rattle.qn_model.specs.declared.packets.Packet.TheVariants as packet
 use Rattle.qn_model.specs.declared.entries.What.{What}
 use Rattle.qn_model.specs.declared.entries.What.TheVariants as what
-use Rattle.qn_model.specs.declared.life.Phase.{Phase}
-use Rattle.qn_model.specs.declared.life.Phase.TheVariants.{Booting, Up, Leaving, Dying, Gone}
-use Rattle.qn_model.specs.declared.outputs.BootCause.{BootCause}
 use Rattle.qn_model.specs.declared.outputs.DiskOp.{DiskOp}
-use Rattle.qn_model.specs.declared.outputs.DiskOp.TheVariants as disk
-use Rattle.qn_model.specs.declared.outputs.Out.{Out}
-use Rattle.qn_model.specs.declared.outputs.Out.TheVariants as out
-use Rattle.qn_model.specs.Log.{Line, op_out, ask_place, ask_tick, claimed, claim_of, incarnation, timing, times_of, no_times, disk_of, has_start, has_stop, is_answer, is_view, view_of}
-use Rattle.qn_model.specs.Phases.{phase, next_phase, boot_phase, mail_phase, header_halt, slot_halt, boot_halt, message_of, deadly_of, in_time, is_booting, is_live, is_up, is_leaving}
-use Rattle.qn_model.specs.Sectors.{is_deadly}
-use Rattle.qn_model.specs.Holding.{holds, stop_due, is_stopped}
-use Rattle.qn_model.specs.NodeVotes.{view, is_in_view, is_present, answers, install, released, quorate}
-use Rattle.qn_model.specs.Hearing.{is_free, told, tells, tell_of}
-use Rattle.qn_model.specs.Licences.{out_time, starts_out_time, slot_read_since, reset_since, reads_slot, writes_reset, is_clean_slot, is_clean, is_written, is_fenced, is_licensed, reset_tick}
-use Rattle.qn_model.specs.Unmet.{unmet, is_clear}
-use Rattle.qn_model.specs.Wanted.{wanted, boot_op, claim_after, rank_of}
-use Rattle.qn_model.specs.Fitting.{fits, read_as, answers_op, is_first, is_own_view, is_for}
-use Rattle.qn_model.specs.NodeOutputs.{outs_at, mail_feeds, feeds_on, taken_in, with_read, with_entry, newest_outs, gives_start}
+use Rattle.qn_model.specs.NodeVotes.{view}
+use Rattle.qn_model.specs.Fitting.{answers_op}
 use Rattle.qn_model.specs.Moments.{Before, Itself, Later}
-use Rattle.qn_safety.proofs.Tools.{some_same, none_some, some_none, clash, and_left_of, and_right_of, not_true, before_length, before_then, before_tail, before_total, before_same, before_shorter}
+use Rattle.qn_safety.proofs.Tools.{clash, and_left_of, and_right_of, not_true}
 use Rattle.qn_model.specs.declared.packets.Sent.{Sent}
-use Rattle.qn_model.specs.Log as LogSpec
-use Rattle.qn_model.specs.Moments.{Moment, Passes, Boots, Adds, Feeds, Ends, Running, tick_of, is_gone, has_feed, advance_of, advanced, logged, handed, booted, time, node, given_out, packets, packets_of, is_holder}
-use Rattle.qn_model.specs.Rules.{passes, is_within_bounds, outlives, is_between}
-use Rattle.qn_safety.specs.Closing.{is_close, asked_close}
-use Rattle.qn_safety.specs.Timed.{IsUp, IsSameBoot, IsSentTo, WasSent, MayFeed, IsRuled, AllRuled, NoMoment, OneRuled, IsBetween, HasClosed, GetsBadMail, IsAdded, NumbersRise, CleanMeansClosed, WrittenMeansBadMail, HeadersAgree, IsTimedRun}
+use Rattle.qn_model.specs.Moments.{Moment, Adds, advance_of, time, node, packets}
+use Rattle.qn_model.specs.Rules.{passes}
+use Rattle.qn_safety.specs.Timed.{WasSent, AllRuled, NoMoment, OneRuled}
 use Rattle.qn_model.specs.declared.events.Event.{Event}
 use Rattle.qn_model.specs.declared.events.Event.TheVariants as event
-use Rattle.qn_model.specs.World.{World, first_world, put, node_at, op_at, slots_with, mailboxes_with, taken, failed, is_write, given_up, leftover_at, numbered, without}
-use Rattle.qn_model.specs.Rules.{is_well_formed, refusal, unless, unless_running, is_on, may_pass, may_land, may_be_done, may_fail, may_be_stopped, may_be_late, may_deliver, may_feed, is_configured, is_clock}
-use Rattle.qn_model.specs.Steps as Steps
-use Rattle.qn_model.specs.Steps.{happens, written, landed, answered, gives_up, fails, lands_late, entry_of, step, run}
+use Rattle.qn_model.specs.World.{World, op_at, failed, numbered}
+use Rattle.qn_model.specs.Rules.{is_well_formed, refusal, is_on, may_pass, may_be_done, may_fail, may_be_stopped, may_deliver, may_feed, is_configured}
+use Rattle.qn_model.specs.Steps.{happens, landed, answered, fails, lands_late, entry_of, step, run}
 use Rattle.std.specs.Prelude.{slice_get}
 use Rattle.std.specs.List.{list_all, range_with_len}
 use Rattle.qn_model.specs.Steps.{AllAllowed}
-use Rattle.qn_safety.proofs.Logs.{Made, NoLine, OneMore, IsLine, before_outs, made_tail, made_line}
-use Rattle.qn_safety.proofs.Stays.{op_kept, ask_place_kept}
-use Rattle.qn_safety.proofs.Outs.{plain_no_answer, answer_fits, read_plain}
-use Rattle.qn_safety.proofs.Runs.{IsSound, sound, ruled_before, newest_rule, earlier_ruled, Span, span, boots_le, same_mid}
-use Rattle.qn_safety.proofs.Origins.{line_of, line_what, AddedLine, added_line, head_same, tail_same}
-use Rattle.qn_safety.proofs.Licensed.{added_boots}
-use Rattle.qn_safety.proofs.Seats.{Seat, seat_of, entered, fresh, slot_after, Effect, Rests, Enters, Answers, Fails, BootsUp, GoesOff, Lands, LandsLate, effect, allows, both_allow, running_allows, test_there, is_there}
-use Rattle.qn_safety.proofs.Kept.{some_op, failed_answers}
+use Rattle.qn_safety.proofs.Outs.{plain_no_answer}
+use Rattle.qn_safety.proofs.Runs.{sound}
+use Rattle.qn_safety.proofs.Seats.{seat_of, Effect, effect, allows, both_allow, running_allows, test_there}
+use Rattle.qn_safety.proofs.Kept.{failed_answers}
 use Rattle.qn_safety.proofs.Held.{Held, held_effect, first_held}
 
 -- events that are each allowed in their turn, newest first
@@ -131,7 +96,7 @@ unfolding is_well_formed refusal step
 ruled_step s t (event.Pass dt clocks) w form ok held ruled =
     let may = allows (may_pass s t dt clocks w) 1 ok in
     OneRuled (λ rank below. in_range (λ r. passes t dt (advance_of dt clocks r) (time w.moments) (node s r w.moments)) (length s.nodes) 0 rank
-        (and_right_of (list_all (λ clock. is_on s clock.0.0 w) clocks) _ may) (omega arith) (omega arith)) ruled
+    (and_right_of (list_all (λ clock. is_on s clock.0.0 w) clocks) _ may) (omega arith) (omega arith)) ruled
 ruled_step s t (event.Boot rank base) w form ok held ruled =
     OneRuled (not_true (is_on s rank.0 w) (allows (not (is_on s rank.0 w)) 2 ok), ltb-true rank.0 (length s.nodes) (and_left_of (is_configured s rank.0) (nat_le base 1000000000000000) form)) ruled
 ruled_step s t (event.Crash rank) w form ok held ruled = OneRuled (running_allows (is_on s rank.0 w) 3 ok) ruled
@@ -144,6 +109,7 @@ ruled_step s t (event.Done rank) w form ok held ruled = by_took (w.took rank.0) 
   where
     on : is_on s rank.0 w ≡ true
     on = (both_allow (is_on s rank.0 w) (may_be_done s rank.0 w) 3 5 ok).0
+
     by_took : (o : Option What) → w.took rank.0 ≡ o → AllRuled s t (option_map_or (λ entry. answered rank.0 entry w) o w).moments
     by_took None e = ruled
     by_took (Some entry) e = OneRuled (on, answer_unsent s rank.0 (op_at s rank.0 w) entry w.moments ((held rank.0).answers on entry e)) ruled
@@ -292,6 +258,7 @@ at_events s t p (e ∷ earlier) back = by_growth (grows s t e earlier) (λ more.
         → (Before p (run s t earlier).moments → AtEvents s t p earlier) → AtEvents s t p (e ∷ earlier)
     by_newest m added (inl same) rest = record { at = e ∷ earlier; back = Itself; same = added ∙ sym same }
     by_newest m added (inr more) rest = at_later e (rest more)
+
     by_growth : ((run s t (e ∷ earlier)).moments ≡ (run s t earlier).moments) ⊎ ((m : Moment) × ((run s t (e ∷ earlier)).moments ≡ m ∷ (run s t earlier).moments))
         → (Before p (run s t earlier).moments → AtEvents s t p earlier) → AtEvents s t p (e ∷ earlier)
     by_growth (inl same) rest = at_later e (rest (subst (λ ms. Before p ms) same back))

@@ -1,63 +1,25 @@
 -- The leftover writes of a node, and what stays true of a node's seat at each event.
-use Rattle.std.proofs.Common.{◌≡◌, ℕ, suc, zero, ◌+◌, ◌-◌, ◌*◌, ◌/◌, ◌<◌, ◌≤◌, Bool, true, false, List, [], ◌∷◌, ◌++◌, length, Some, None, Option, refl, sym, ap, ◌∙◌, subst, arith, cond, ◌&&◌, ◌||◌, ◌==◌, not, if◌then◌else◌, ◌⊎◌, inl, inr, is_some, is_none, All, nat_le, nat_lt}
-use Rattle.std.specs.Option.{option_or, option_map, option_map_or}
-use Rattle.std.proofs.lemmas.Bool.{false≢true, true≢false, cases_lt, cases_order, cases_Bool, or_cases, eqb-true, eqb-false, eq-eqb, ne_eqb, ltb-true, ltb-false, leb-true, lt-ltb, le-leb}
+use Rattle.std.proofs.Common.{◌≡◌, ℕ, suc, zero, ◌≤◌, Bool, true, false, List, [], ◌∷◌, ◌++◌, Some, None, Option, refl, sym, ap, ◌∙◌, subst, arith, not, if◌then◌else◌}
+use Rattle.std.proofs.lemmas.Bool.{false≢true, true≢false}
 use Rattle.qn_base.specs.declared.ids.Rank.{Rank}
-use Rattle.qn_base.specs.declared.ids.View.{View}
-use Rattle.qn_base.specs.Members.{is_member}
 use Rattle.qn_model.specs.declared.configuration.Settings.{Settings}
 use Rattle.qn_model.specs.declared.times.Timing.{Timing}
-use Rattle.qn_model.specs.declared.disk.Message.{Message}
-use Rattle.qn_model.specs.declared.disk.Message.TheVariants as message
 use Rattle.qn_model.specs.declared.disk.Slot.{Slot}
-use Rattle.qn_model.specs.declared.seen.HeaderSeen.{HeaderSeen}
-use Rattle.qn_model.specs.declared.seen.HeaderSeen.TheVariants as header
-use Rattle.qn_model.specs.declared.seen.SlotSeen.{SlotSeen}
 use Rattle.qn_model.specs.declared.seen.SlotSeen.TheVariants as slot
-use Rattle.qn_model.specs.declared.seen.MailSeen.{MailSeen}
-use Rattle.qn_model.specs.declared.seen.MailSeen.TheVariants as mail
-use Rattle.qn_model.specs.declared.packets.Ask.{Ask}
-use Rattle.qn_model.specs.declared.packets.Tell.{Tell}
-use Rattle.qn_model.specs.declared.packets.Packet.{Packet}
-use Rattle.qn_model.specs.declared.packets.Packet.TheVariants as packet
 use Rattle.qn_model.specs.declared.entries.What.{What}
 use Rattle.qn_model.specs.declared.entries.What.TheVariants as what
 use Rattle.qn_model.specs.declared.life.Phase.{Phase}
-use Rattle.qn_model.specs.declared.life.Phase.TheVariants.{Booting, Up, Leaving, Dying, Gone}
-use Rattle.qn_model.specs.declared.outputs.BootCause.{BootCause}
 use Rattle.qn_model.specs.declared.outputs.DiskOp.{DiskOp}
 use Rattle.qn_model.specs.declared.outputs.DiskOp.TheVariants as disk
-use Rattle.qn_model.specs.declared.outputs.Out.{Out}
-use Rattle.qn_model.specs.declared.outputs.Out.TheVariants as out
-use Rattle.qn_model.specs.Log.{Line, op_out, ask_place, ask_tick, claimed, claim_of, incarnation, timing, times_of, no_times, disk_of, has_start, has_stop, is_answer, is_view, view_of}
-use Rattle.qn_model.specs.Phases.{phase, next_phase, boot_phase, mail_phase, header_halt, slot_halt, boot_halt, message_of, deadly_of, in_time, is_booting, is_live, is_up, is_leaving}
-use Rattle.qn_model.specs.Sectors.{is_deadly}
-use Rattle.qn_model.specs.Holding.{holds, stop_due, is_stopped}
-use Rattle.qn_model.specs.NodeVotes.{view, is_in_view, is_present, answers, install, released, quorate}
-use Rattle.qn_model.specs.Hearing.{is_free, told, tells, tell_of}
-use Rattle.qn_model.specs.Licences.{out_time, starts_out_time, slot_read_since, reset_since, reads_slot, writes_reset, is_clean_slot, is_clean, is_written, is_fenced, is_licensed, reset_tick}
-use Rattle.qn_model.specs.Unmet.{unmet, is_clear}
-use Rattle.qn_model.specs.Wanted.{wanted, boot_op, claim_after, rank_of}
-use Rattle.qn_model.specs.Fitting.{fits, read_as, answers_op, is_first, is_own_view, is_for}
-use Rattle.qn_model.specs.NodeOutputs.{outs_at, mail_feeds, feeds_on, taken_in, with_read, with_entry, newest_outs, gives_start}
-use Rattle.qn_model.specs.Moments.{Before, Itself, Later}
-use Rattle.qn_safety.proofs.Tools.{some_same, none_some, some_none, clash, and_left_of, and_right_of, not_true, before_length, before_then, before_tail, before_total, before_same, before_shorter}
-use Rattle.qn_model.specs.declared.packets.Sent.{Sent}
-use Rattle.qn_model.specs.Log as LogSpec
-use Rattle.qn_model.specs.Moments.{Moment, Passes, Boots, Adds, Feeds, Ends, Running, tick_of, is_gone, has_feed, advance_of, advanced, logged, handed, booted, time, node, given_out, packets, packets_of, is_holder}
-use Rattle.qn_model.specs.Rules.{passes, is_within_bounds, outlives, is_between}
-use Rattle.qn_safety.specs.Closing.{is_close, asked_close}
-use Rattle.qn_safety.specs.Timed.{IsUp, IsSameBoot, IsSentTo, WasSent, MayFeed, IsRuled, AllRuled, NoMoment, OneRuled, IsBetween, HasClosed, GetsBadMail, IsAdded, NumbersRise, CleanMeansClosed, WrittenMeansBadMail, HeadersAgree, IsTimedRun}
-use Rattle.qn_model.specs.declared.events.Event.{Event}
-use Rattle.qn_model.specs.declared.events.Event.TheVariants as event
-use Rattle.qn_model.specs.World.{World, first_world, put, node_at, op_at, slots_with, mailboxes_with, taken, failed, is_write, given_up, leftover_at, numbered, without}
-use Rattle.qn_model.specs.Rules.{is_well_formed, refusal, unless, unless_running, is_on, may_pass, may_land, may_be_done, may_fail, may_be_stopped, may_be_late, may_deliver, may_feed, is_configured, is_clock}
-use Rattle.qn_model.specs.Steps as Steps
-use Rattle.qn_model.specs.Steps.{happens, written, landed, answered, gives_up, fails, lands_late, entry_of, step, run}
-use Rattle.std.specs.Prelude.{slice_get}
+use Rattle.qn_model.specs.Log.{Line, op_out, is_answer}
+use Rattle.qn_model.specs.Phases.{phase, next_phase, in_time}
+use Rattle.qn_model.specs.NodeVotes.{answers}
+use Rattle.qn_model.specs.Fitting.{answers_op}
+use Rattle.qn_safety.proofs.Tools.{some_same, none_some, not_true}
+use Rattle.qn_model.specs.Moments.{is_gone, node}
+use Rattle.qn_model.specs.World.{World, first_world, taken, failed, is_write, given_up, numbered, without}
 use Rattle.std.proofs.Common.{append-nil}
-use Rattle.qn_safety.proofs.Logs.{Made, NoLine, OneMore, IsLine, before_outs, made_tail, made_line}
-use Rattle.qn_safety.proofs.Apt.{is_apt, apt, booting_is}
+use Rattle.qn_safety.proofs.Logs.{Made, NoLine, IsLine, made_line}
 use Rattle.qn_safety.proofs.Stays.{op_kept}
 use Rattle.qn_safety.proofs.Outs.{out_closes, answer_fits, read_plain}
 use Rattle.qn_safety.proofs.Origins.{line_of, line_what}
@@ -264,6 +226,7 @@ module _ (s : Settings) (t : Timing) (j : ℕ) (x : Seat) (made : Made s j x.log
       failed_read disk.ReadMail rank own e = absurd (unfold failed in cc)
       failed_read (disk.WriteReset other) rank own e = absurd (unfold failed in cc)
       failed_read (disk.WriteClose number) rank own e = absurd (unfold failed in cc)
+
       failed_claim : (op : DiskOp) → failed op ≡ what.Claimed true → ⊥
       failed_claim disk.ReadHeader e = absurd (unfold failed in cc)
       failed_claim (disk.ReadSlot other) e = absurd (unfold failed in cc)
@@ -272,6 +235,7 @@ module _ (s : Settings) (t : Timing) (j : ℕ) (x : Seat) (made : Made s j x.log
       failed_claim disk.ReadMail e = absurd (unfold failed in cc)
       failed_claim (disk.WriteReset other) e = absurd (unfold failed in cc)
       failed_claim (disk.WriteClose number) e = absurd (unfold failed in cc)
+
       living_next : (line_of s j tick (failed op) x.log).what ≡ failed op → not (is_gone (phase s (line_of s j tick (failed op) x.log ∷ x.log))) ≡ true
           → is_gone (next_phase s (failed op) (in_time tick x.log) (phase s x.log)) ≡ false
       living_next same on' =

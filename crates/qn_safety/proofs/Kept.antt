@@ -1,69 +1,33 @@
 -- What is always true of the slot of a node, of its operation that is out and of its leftovers.
-use Rattle.std.proofs.Common.{◌≡◌, ℕ, suc, zero, ◌+◌, ◌-◌, ◌*◌, ◌/◌, ◌<◌, ◌≤◌, Bool, true, false, List, [], ◌∷◌, ◌++◌, length, Some, None, Option, refl, sym, ap, ◌∙◌, subst, arith, cond, ◌&&◌, ◌||◌, ◌==◌, not, if◌then◌else◌, ◌⊎◌, inl, inr, is_some, is_none, All, nat_le, nat_lt}
-use Rattle.std.specs.Option.{option_or, option_map, option_map_or}
-use Rattle.std.proofs.lemmas.Bool.{false≢true, true≢false, cases_lt, cases_order, cases_Bool, or_cases, eqb-true, eqb-false, eq-eqb, ne_eqb, ltb-true, ltb-false, leb-true, lt-ltb, le-leb}
+use Rattle.std.proofs.Common.{◌≡◌, ℕ, suc, Bool, true, false, List, [], ◌∷◌, Some, None, Option, refl, sym, ap, ◌∙◌, subst, arith, ◌&&◌, ◌⊎◌, inl, inr, is_some}
+use Rattle.std.specs.Option.{option_or}
+use Rattle.std.proofs.lemmas.Bool.{false≢true, true≢false, eq-eqb}
 use Rattle.qn_base.specs.declared.ids.Rank.{Rank}
-use Rattle.qn_base.specs.declared.ids.View.{View}
-use Rattle.qn_base.specs.Members.{is_member}
 use Rattle.qn_model.specs.declared.configuration.Settings.{Settings}
 use Rattle.qn_model.specs.declared.times.Timing.{Timing}
-use Rattle.qn_model.specs.declared.disk.Message.{Message}
-use Rattle.qn_model.specs.declared.disk.Message.TheVariants as message
 use Rattle.qn_model.specs.declared.disk.Slot.{Slot}
-use Rattle.qn_model.specs.declared.seen.HeaderSeen.{HeaderSeen}
-use Rattle.qn_model.specs.declared.seen.HeaderSeen.TheVariants as header
-use Rattle.qn_model.specs.declared.seen.SlotSeen.{SlotSeen}
 use Rattle.qn_model.specs.declared.seen.SlotSeen.TheVariants as slot
-use Rattle.qn_model.specs.declared.seen.MailSeen.{MailSeen}
-use Rattle.qn_model.specs.declared.seen.MailSeen.TheVariants as mail
-use Rattle.qn_model.specs.declared.packets.Ask.{Ask}
-use Rattle.qn_model.specs.declared.packets.Tell.{Tell}
-use Rattle.qn_model.specs.declared.packets.Packet.{Packet}
-use Rattle.qn_model.specs.declared.packets.Packet.TheVariants as packet
 use Rattle.qn_model.specs.declared.entries.What.{What}
 use Rattle.qn_model.specs.declared.entries.What.TheVariants as what
 use Rattle.qn_model.specs.declared.life.Phase.{Phase}
 use Rattle.qn_model.specs.declared.life.Phase.TheVariants.{Booting, Up, Leaving, Dying, Gone}
-use Rattle.qn_model.specs.declared.outputs.BootCause.{BootCause}
 use Rattle.qn_model.specs.declared.outputs.DiskOp.{DiskOp}
 use Rattle.qn_model.specs.declared.outputs.DiskOp.TheVariants as disk
-use Rattle.qn_model.specs.declared.outputs.Out.{Out}
-use Rattle.qn_model.specs.declared.outputs.Out.TheVariants as out
-use Rattle.qn_model.specs.Log.{Line, op_out, ask_place, ask_tick, claimed, claim_of, incarnation, timing, times_of, no_times, disk_of, has_start, has_stop, is_answer, is_view, view_of}
-use Rattle.qn_model.specs.Phases.{phase, next_phase, boot_phase, mail_phase, header_halt, slot_halt, boot_halt, message_of, deadly_of, in_time, is_booting, is_live, is_up, is_leaving}
-use Rattle.qn_model.specs.Sectors.{is_deadly}
-use Rattle.qn_model.specs.Holding.{holds, stop_due, is_stopped}
-use Rattle.qn_model.specs.NodeVotes.{view, is_in_view, is_present, answers, install, released, quorate}
-use Rattle.qn_model.specs.Hearing.{is_free, told, tells, tell_of}
-use Rattle.qn_model.specs.Licences.{out_time, starts_out_time, slot_read_since, reset_since, reads_slot, writes_reset, is_clean_slot, is_clean, is_written, is_fenced, is_licensed, reset_tick}
-use Rattle.qn_model.specs.Unmet.{unmet, is_clear}
-use Rattle.qn_model.specs.Wanted.{wanted, boot_op, claim_after, rank_of}
-use Rattle.qn_model.specs.Fitting.{fits, read_as, answers_op, is_first, is_own_view, is_for}
-use Rattle.qn_model.specs.NodeOutputs.{outs_at, mail_feeds, feeds_on, taken_in, with_read, with_entry, newest_outs, gives_start}
-use Rattle.qn_model.specs.Moments.{Before, Itself, Later}
-use Rattle.qn_safety.proofs.Tools.{some_same, none_some, some_none, clash, and_left_of, and_right_of, not_true, before_length, before_then, before_tail, before_total, before_same, before_shorter}
-use Rattle.qn_model.specs.declared.packets.Sent.{Sent}
-use Rattle.qn_model.specs.Log as LogSpec
-use Rattle.qn_model.specs.Moments.{Moment, Passes, Boots, Adds, Feeds, Ends, Running, tick_of, is_gone, has_feed, advance_of, advanced, logged, handed, booted, time, node, given_out, packets, packets_of, is_holder}
-use Rattle.qn_model.specs.Rules.{passes, is_within_bounds, outlives, is_between}
-use Rattle.qn_safety.specs.Closing.{is_close, asked_close}
-use Rattle.qn_safety.specs.Timed.{IsUp, IsSameBoot, IsSentTo, WasSent, MayFeed, IsRuled, AllRuled, NoMoment, OneRuled, IsBetween, HasClosed, GetsBadMail, IsAdded, NumbersRise, CleanMeansClosed, WrittenMeansBadMail, HeadersAgree, IsTimedRun}
-use Rattle.qn_model.specs.declared.events.Event.{Event}
-use Rattle.qn_model.specs.declared.events.Event.TheVariants as event
-use Rattle.qn_model.specs.World.{World, first_world, put, node_at, op_at, slots_with, mailboxes_with, taken, failed, is_write, given_up, leftover_at, numbered, without}
-use Rattle.qn_model.specs.Rules.{is_well_formed, refusal, unless, unless_running, is_on, may_pass, may_land, may_be_done, may_fail, may_be_stopped, may_be_late, may_deliver, may_feed, is_configured, is_clock}
-use Rattle.qn_model.specs.Steps as Steps
-use Rattle.qn_model.specs.Steps.{happens, written, landed, answered, gives_up, fails, lands_late, entry_of, step, run}
-use Rattle.std.specs.Prelude.{slice_get}
-use Rattle.std.proofs.Common.{append-nil}
-use Rattle.qn_safety.proofs.Logs.{Made, NoLine, OneMore, IsLine, before_outs, made_tail, made_line, answers_out}
+use Rattle.qn_model.specs.Log.{Line, op_out, claimed, claim_of, disk_of, is_answer}
+use Rattle.qn_model.specs.Phases.{phase, in_time, is_booting}
+use Rattle.qn_model.specs.Hearing.{told}
+use Rattle.qn_model.specs.Fitting.{answers_op}
+use Rattle.qn_safety.proofs.Tools.{some_same, none_some, some_none, clash}
+use Rattle.qn_model.specs.Moments.{is_gone, booted}
+use Rattle.qn_safety.specs.Closing.{is_close}
+use Rattle.qn_model.specs.World.{World, taken, failed}
+use Rattle.qn_safety.proofs.Logs.{Made, IsLine, answers_out}
 use Rattle.qn_safety.proofs.Apt.{is_apt, apt, booting_is}
 use Rattle.qn_safety.proofs.Stays.{boot_past, op_kept, gives_none}
 use Rattle.qn_safety.proofs.Times.{boot_tick}
-use Rattle.qn_safety.proofs.Numbers.{claim_given, ClaimGiven, claimed_same}
-use Rattle.qn_safety.proofs.Outs.{out_cases, claimed_cases, out_claims, out_closes, own_slot_out, clear_given, claimed_by_clear, answer_fits, read_plain, no_close_out, comes_up}
-use Rattle.qn_safety.proofs.Origins.{line_of, line_what}
-use Rattle.qn_safety.proofs.Seats.{Seat, seat_of, entered, fresh, slot_after, Effect, Rests, Enters, Answers, Fails, BootsUp, GoesOff, Lands, LandsLate}
+use Rattle.qn_safety.proofs.Numbers.{claim_given, claimed_same}
+use Rattle.qn_safety.proofs.Outs.{out_cases, out_claims, out_closes, own_slot_out, clear_given, claimed_by_clear, no_close_out, comes_up}
+use Rattle.qn_safety.proofs.Seats.{slot_after}
 
 -- the slot of a node that runs
 pub record Kept (s : Settings) (log : List Line) (took : Option What) (mine : Slot) : Type 0 where
@@ -133,14 +97,17 @@ module _ {s : Settings} {me : ℕ} {line : Line} {past : List Line} (it : IsLine
     where
       no_claim : (number : ℕ) → disk_of line.outs ≡ Some (disk.WriteClaim number) → ⊥
       no_claim number gave = true≢false (sym (ap is_answer ((claim_given it number gave).reads)) ∙ plain)
+
       no_clear : disk_of line.outs ≡ Some disk.WriteClear → ⊥
       no_clear gave = true≢false (sym (ap is_answer (clear_given it gave)) ∙ plain)
+
       op_before : (op : DiskOp) → op_out (line ∷ past) ≡ Some op → (disk_of line.outs ≡ Some op → ⊥) → op_out past ≡ Some op
       op_before op e new = by_cases (out_cases line past op e)
         where
           by_cases : (disk_of line.outs ≡ Some op) ⊎ ((disk_of line.outs ≡ None) × (is_answer line.what ≡ false) × (op_out past ≡ Some op)) → op_out past ≡ Some op
           by_cases (inl gave) = absurd (new gave)
           by_cases (inr kept) = kept.2
+
       open_before : (k : Option What) → took ≡ k → (is_close (op_out (line ∷ past)) && is_some took) ≡ false → (is_close (op_out past) && is_some took) ≡ false
       open_before None e open' = ap (λ k. is_close (op_out past) && is_some k) e ∙ and_false (is_close (op_out past))
         where
@@ -167,24 +134,28 @@ module _ {s : Settings} {me : ℕ} {line : Line} {past : List Line} (it : IsLine
     where
       answers : answers_op (op_out past) line.what ≡ true
       answers = answers_out s me past line.what is it.fitting
+
       given : (op : DiskOp) → op_out (line ∷ past) ≡ Some op → disk_of line.outs ≡ Some op
       given op e = by_cases (out_cases line past op e)
         where
           by_cases : (disk_of line.outs ≡ Some op) ⊎ ((disk_of line.outs ≡ None) × (is_answer line.what ≡ false) × (op_out past ≡ Some op)) → disk_of line.outs ≡ Some op
           by_cases (inl gave) = gave
           by_cases (inr kept) = clash (is_answer line.what) is kept.1
+
       up_now : is_booting (phase s (line ∷ past)) ≡ false → (mine.clean ≡ false) × (claimed past ≡ Some mine.incarnation)
       up_now booted = by_phase (is_booting (phase s past)) refl
         where
           by_phase : (b : Bool) → is_booting (phase s past) ≡ b → (mine.clean ≡ false) × (claimed past ≡ Some mine.incarnation)
           by_phase true e = was.clearing (comes_up it made is e booted living)
           by_phase false e = (was.dirty e (ap (λ b. b && is_some took) (no_close_out s line past answers living)), was.numbered e)
+
       next_claim : (number : ℕ) → disk_of line.outs ≡ Some (disk.WriteClaim number) → suc mine.incarnation ≡ number
       next_claim number gave =
           let claim = claim_given it number gave in
           let same = told claim.rank claim.own (booting_back it claim.booting) claim.reads in
           let next = claim.next in
           omega arith
+
       after_claim : disk_of line.outs ≡ Some disk.WriteClear → (mine.clean ≡ false) × (claimed (line ∷ past) ≡ Some mine.incarnation)
       after_claim gave =
           let claimed_it = clear_given it gave in
@@ -272,8 +243,10 @@ module _ {s : Settings} {me : ℕ} {log : List Line} (made : Made s me log) (min
     where
       claimed_read : (rank : Rank) (own : Slot) → what.Claimed true ≡ what.SlotRead rank (slot.Read own) → own.incarnation ≡ number
       claimed_read rank own e = absurd (cc)
+
       same_number : (n : ℕ) → disk.WriteClaim number ≡ disk.WriteClaim n → number ≡ n
       same_number n e = cc
+
       claim_clear : disk.WriteClaim number ≡ disk.WriteClear → ⊥
       claim_clear e = cc
   kept_land t (disk.WriteClose number) w out own_slot = record {
@@ -287,5 +260,6 @@ module _ {s : Settings} {me : ℕ} {log : List Line} (made : Made s me log) (min
     where
       close_claim : (n : ℕ) → disk.WriteClose number ≡ disk.WriteClaim n → ⊥
       close_claim n e = cc
+
       close_clear : disk.WriteClose number ≡ disk.WriteClear → ⊥
       close_clear e = cc

@@ -1,69 +1,28 @@
 -- Where the answer of an operation landed, and how a line of a run came.
-use Rattle.std.proofs.Common.{◌≡◌, ℕ, suc, zero, ◌+◌, ◌-◌, ◌*◌, ◌/◌, ◌<◌, ◌≤◌, Bool, true, false, List, [], ◌∷◌, ◌++◌, length, Some, None, Option, refl, sym, ap, ◌∙◌, subst, arith, cond, ◌&&◌, ◌||◌, ◌==◌, not, if◌then◌else◌, ◌⊎◌, inl, inr, is_some, is_none, All, nat_le, nat_lt}
-use Rattle.std.specs.Option.{option_or, option_map, option_map_or}
-use Rattle.std.proofs.lemmas.Bool.{false≢true, true≢false, cases_lt, cases_order, cases_Bool, or_cases, eqb-true, eqb-false, eq-eqb, ne_eqb, ltb-true, ltb-false, leb-true, lt-ltb, le-leb}
-use Rattle.qn_base.specs.declared.ids.Rank.{Rank}
-use Rattle.qn_base.specs.declared.ids.View.{View}
-use Rattle.qn_base.specs.Members.{is_member}
+use Rattle.std.proofs.Common.{◌≡◌, ℕ, suc, ◌≤◌, Bool, true, false, List, [], ◌∷◌, length, Some, None, refl, sym, ap, ◌∙◌, subst, arith, if◌then◌else◌, ◌⊎◌, inl, inr, is_some}
 use Rattle.qn_model.specs.declared.configuration.Settings.{Settings}
 use Rattle.qn_model.specs.declared.times.Timing.{Timing}
-use Rattle.qn_model.specs.declared.disk.Message.{Message}
-use Rattle.qn_model.specs.declared.disk.Message.TheVariants as message
-use Rattle.qn_model.specs.declared.disk.Slot.{Slot}
-use Rattle.qn_model.specs.declared.seen.HeaderSeen.{HeaderSeen}
-use Rattle.qn_model.specs.declared.seen.HeaderSeen.TheVariants as header
-use Rattle.qn_model.specs.declared.seen.SlotSeen.{SlotSeen}
-use Rattle.qn_model.specs.declared.seen.SlotSeen.TheVariants as slot
-use Rattle.qn_model.specs.declared.seen.MailSeen.{MailSeen}
-use Rattle.qn_model.specs.declared.seen.MailSeen.TheVariants as mail
-use Rattle.qn_model.specs.declared.packets.Ask.{Ask}
-use Rattle.qn_model.specs.declared.packets.Tell.{Tell}
-use Rattle.qn_model.specs.declared.packets.Packet.{Packet}
-use Rattle.qn_model.specs.declared.packets.Packet.TheVariants as packet
 use Rattle.qn_model.specs.declared.entries.What.{What}
-use Rattle.qn_model.specs.declared.entries.What.TheVariants as what
-use Rattle.qn_model.specs.declared.life.Phase.{Phase}
-use Rattle.qn_model.specs.declared.life.Phase.TheVariants.{Booting, Up, Leaving, Dying, Gone}
-use Rattle.qn_model.specs.declared.outputs.BootCause.{BootCause}
 use Rattle.qn_model.specs.declared.outputs.DiskOp.{DiskOp}
-use Rattle.qn_model.specs.declared.outputs.DiskOp.TheVariants as disk
-use Rattle.qn_model.specs.declared.outputs.Out.{Out}
-use Rattle.qn_model.specs.declared.outputs.Out.TheVariants as out
-use Rattle.qn_model.specs.Log.{Line, op_out, ask_place, ask_tick, claimed, claim_of, incarnation, timing, times_of, no_times, disk_of, has_start, has_stop, is_answer, is_view, view_of}
-use Rattle.qn_model.specs.Phases.{phase, next_phase, boot_phase, mail_phase, header_halt, slot_halt, boot_halt, message_of, deadly_of, in_time, is_booting, is_live, is_up, is_leaving}
-use Rattle.qn_model.specs.Sectors.{is_deadly}
-use Rattle.qn_model.specs.Holding.{holds, stop_due, is_stopped}
-use Rattle.qn_model.specs.NodeVotes.{view, is_in_view, is_present, answers, install, released, quorate}
-use Rattle.qn_model.specs.Hearing.{is_free, told, tells, tell_of}
-use Rattle.qn_model.specs.Licences.{out_time, starts_out_time, slot_read_since, reset_since, reads_slot, writes_reset, is_clean_slot, is_clean, is_written, is_fenced, is_licensed, reset_tick}
-use Rattle.qn_model.specs.Unmet.{unmet, is_clear}
-use Rattle.qn_model.specs.Wanted.{wanted, boot_op, claim_after, rank_of}
-use Rattle.qn_model.specs.Fitting.{fits, read_as, answers_op, is_first, is_own_view, is_for}
-use Rattle.qn_model.specs.NodeOutputs.{outs_at, mail_feeds, feeds_on, taken_in, with_read, with_entry, newest_outs, gives_start}
+use Rattle.qn_model.specs.Log.{Line, op_out, ask_place, disk_of, is_answer}
+use Rattle.qn_model.specs.Fitting.{answers_op}
 use Rattle.qn_model.specs.Moments.{Before, Itself, Later}
-use Rattle.qn_safety.proofs.Tools.{some_same, none_some, some_none, clash, and_left_of, and_right_of, not_true, before_length, before_then, before_tail, before_total, before_same, before_shorter}
-use Rattle.qn_model.specs.declared.packets.Sent.{Sent}
-use Rattle.qn_model.specs.Log as LogSpec
-use Rattle.qn_model.specs.Moments.{Moment, Passes, Boots, Adds, Feeds, Ends, Running, tick_of, is_gone, has_feed, advance_of, advanced, logged, handed, booted, time, node, given_out, packets, packets_of, is_holder}
-use Rattle.qn_model.specs.Rules.{passes, is_within_bounds, outlives, is_between}
-use Rattle.qn_safety.specs.Closing.{is_close, asked_close}
-use Rattle.qn_safety.specs.Timed.{IsUp, IsSameBoot, IsSentTo, WasSent, MayFeed, IsRuled, AllRuled, NoMoment, OneRuled, IsBetween, HasClosed, GetsBadMail, IsAdded, NumbersRise, CleanMeansClosed, WrittenMeansBadMail, HeadersAgree, IsTimedRun}
+use Rattle.qn_safety.proofs.Tools.{some_same, none_some}
+use Rattle.qn_model.specs.Moments.{Moment, Adds, node}
+use Rattle.qn_safety.specs.Timed.{IsSameBoot, AllRuled, IsAdded}
 use Rattle.qn_model.specs.declared.events.Event.{Event}
-use Rattle.qn_model.specs.declared.events.Event.TheVariants as event
-use Rattle.qn_model.specs.World.{World, first_world, put, node_at, op_at, slots_with, mailboxes_with, taken, failed, is_write, given_up, leftover_at, numbered, without}
-use Rattle.qn_model.specs.Rules.{is_well_formed, refusal, unless, unless_running, is_on, may_pass, may_land, may_be_done, may_fail, may_be_stopped, may_be_late, may_deliver, may_feed, is_configured, is_clock}
-use Rattle.qn_model.specs.Steps as Steps
-use Rattle.qn_model.specs.Steps.{happens, written, landed, answered, gives_up, fails, lands_late, entry_of, step, run}
-use Rattle.qn_safety.proofs.Logs.{Made, NoLine, OneMore, IsLine, before_outs, made_tail, made_line, AskedBy, ask_line}
-use Rattle.qn_safety.proofs.Stays.{op_kept, ask_place_kept}
-use Rattle.qn_safety.proofs.Outs.{plain_no_answer, answer_fits, read_plain}
-use Rattle.qn_safety.proofs.Runs.{IsSound, sound, ruled_before, newest_rule, earlier_ruled, Span, span, boots_le, same_mid}
-use Rattle.qn_safety.proofs.Origins.{line_of, line_what, AddedLine, added_line, head_same, tail_same}
+use Rattle.qn_model.specs.World.{World, taken, failed}
+use Rattle.qn_model.specs.Steps.{landed, run}
+use Rattle.qn_safety.proofs.Logs.{Made, made_line}
+use Rattle.qn_safety.proofs.Stays.{ask_place_kept}
+use Rattle.qn_safety.proofs.Outs.{answer_fits, read_plain}
+use Rattle.qn_safety.proofs.Runs.{sound, newest_rule}
+use Rattle.qn_safety.proofs.Origins.{line_of, line_what, added_line, head_same}
 use Rattle.qn_safety.proofs.Licensed.{added_boots}
-use Rattle.qn_safety.proofs.Seats.{Seat, seat_of, entered, fresh, slot_after, Effect, Rests, Enters, Answers, Fails, BootsUp, GoesOff, Lands, LandsLate}
+use Rattle.qn_safety.proofs.Seats.{seat_of, Effect, Rests, Enters, Answers, Fails, BootsUp, GoesOff, Lands, LandsLate}
 use Rattle.qn_safety.proofs.Kept.{some_op, failed_answers}
 use Rattle.qn_safety.proofs.Held.{Held}
-use Rattle.qn_safety.proofs.Events.{IsAllowed, NoEvent, OneEvent, allowed_before, Stage, stage, effect_at, earlier_allowed, grows, moments_grow, newest_state, first_moments, only_nothing}
+use Rattle.qn_safety.proofs.Events.{IsAllowed, NoEvent, OneEvent, stage, effect_at, earlier_allowed, grows, newest_state, first_moments, only_nothing}
 
 -- the place of the last asking entry lies in the log
 pub ask_place_inside : (log : List Line) → ask_place log ≤ length log
@@ -116,7 +75,7 @@ landed_step s t j v e events allowed (Enters tick entry on_before plain same) re
     let waits = ((stage (earlier_allowed allowed)).held j).answers on_before v was_took in
     let out = some_op (op_out (node s j (run s t events).moments).log) v waits in
     let made' : Made s j (line_of s j tick entry (node s j (run s t events).moments).log ∷ (node s j (run s t events).moments).log) =
-          subst (λ l. Made s j l) (ap (λ x. x.log) same) ((sound ((stage allowed).ruled) j).made) in
+    subst (λ l. Made s j l) (ap (λ x. x.log) same) ((sound ((stage allowed).ruled) j).made) in
     landed_later e (ap (λ x. x.boots) same)
     (ap (λ x. ask_place x.log) same
     ∙ ask_place_kept (made_line made') out.0 out.1 (ap is_answer (line_what s j tick entry (node s j (run s t events).moments).log) ∙ read_plain s j (node s j (run s t events).moments).log entry plain))
@@ -229,6 +188,7 @@ added_by {s = s} {t = t} j line past before (OneEvent {e = e} {earlier = earlier
         → (Before (Adds j added.entry ∷ before) (run s t earlier).moments → AddedBy s t j line before earlier) → AddedBy s t j line before (e ∷ earlier)
     by_newest m adds (inl same) rest = added_here j added.entry line past before (OneEvent form ok allowed) added.gave (moments_tail same) (adds ∙ sym same)
     by_newest m adds (inr more) rest = added_later e (rest more)
+
     by_growth : ((run s t (e ∷ earlier)).moments ≡ (run s t earlier).moments) ⊎ ((m : Moment) × ((run s t (e ∷ earlier)).moments ≡ m ∷ (run s t earlier).moments))
         → (Before (Adds j added.entry ∷ before) (run s t earlier).moments → AddedBy s t j line before earlier) → AddedBy s t j line before (e ∷ earlier)
     by_growth (inl same) rest = added_later e (rest (subst (λ ms. Before (Adds j added.entry ∷ before) ms) same added.back))

@@ -21,3 +21,6 @@ pub mod Held
 pub mod Events
 pub mod Landings
 pub mod Facts
+pub mod Mail
+pub mod Rising
+pub mod Holders

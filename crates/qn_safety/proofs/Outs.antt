@@ -1,53 +1,27 @@
 -- What the operation that is out says of the log: who reads which slot, which number is written, and how a node comes up.
-use Rattle.std.proofs.Common.{◌≡◌, ℕ, suc, zero, ◌+◌, ◌-◌, ◌*◌, ◌/◌, ◌<◌, ◌≤◌, Bool, true, false, List, [], ◌∷◌, ◌++◌, length, Some, None, Option, refl, sym, ap, ◌∙◌, subst, arith, cond, ◌&&◌, ◌||◌, ◌==◌, not, if◌then◌else◌, ◌⊎◌, inl, inr, is_some, is_none, All, nat_le, nat_lt}
-use Rattle.std.specs.Option.{option_or, option_map, option_map_or}
-use Rattle.std.proofs.lemmas.Bool.{false≢true, true≢false, cases_lt, cases_order, cases_Bool, or_cases, eqb-true, eqb-false, eq-eqb, ne_eqb, ltb-true, ltb-false, leb-true, lt-ltb, le-leb}
+use Rattle.std.proofs.Common.{◌≡◌, ℕ, Bool, true, false, List, [], ◌∷◌, Some, None, Option, refl, sym, ap, ◌∙◌, subst, if◌then◌else◌, ◌⊎◌, inl, inr}
+use Rattle.std.specs.Option.{option_or}
+use Rattle.std.proofs.lemmas.Bool.{false≢true, true≢false}
 use Rattle.qn_base.specs.declared.ids.Rank.{Rank}
-use Rattle.qn_base.specs.declared.ids.View.{View}
-use Rattle.qn_base.specs.Members.{is_member}
 use Rattle.qn_model.specs.declared.configuration.Settings.{Settings}
-use Rattle.qn_model.specs.declared.times.Timing.{Timing}
-use Rattle.qn_model.specs.declared.disk.Message.{Message}
-use Rattle.qn_model.specs.declared.disk.Message.TheVariants as message
-use Rattle.qn_model.specs.declared.disk.Slot.{Slot}
-use Rattle.qn_model.specs.declared.seen.HeaderSeen.{HeaderSeen}
-use Rattle.qn_model.specs.declared.seen.HeaderSeen.TheVariants as header
-use Rattle.qn_model.specs.declared.seen.SlotSeen.{SlotSeen}
-use Rattle.qn_model.specs.declared.seen.SlotSeen.TheVariants as slot
-use Rattle.qn_model.specs.declared.seen.MailSeen.{MailSeen}
-use Rattle.qn_model.specs.declared.seen.MailSeen.TheVariants as mail
-use Rattle.qn_model.specs.declared.packets.Ask.{Ask}
-use Rattle.qn_model.specs.declared.packets.Tell.{Tell}
-use Rattle.qn_model.specs.declared.packets.Packet.{Packet}
-use Rattle.qn_model.specs.declared.packets.Packet.TheVariants as packet
 use Rattle.qn_model.specs.declared.entries.What.{What}
 use Rattle.qn_model.specs.declared.entries.What.TheVariants as what
 use Rattle.qn_model.specs.declared.life.Phase.{Phase}
-use Rattle.qn_model.specs.declared.life.Phase.TheVariants.{Booting, Up, Leaving, Dying, Gone}
+use Rattle.qn_model.specs.declared.life.Phase.TheVariants.{Booting}
 use Rattle.qn_model.specs.declared.outputs.BootCause.{BootCause}
 use Rattle.qn_model.specs.declared.outputs.DiskOp.{DiskOp}
 use Rattle.qn_model.specs.declared.outputs.DiskOp.TheVariants as disk
-use Rattle.qn_model.specs.declared.outputs.Out.{Out}
-use Rattle.qn_model.specs.declared.outputs.Out.TheVariants as out
-use Rattle.qn_model.specs.Log.{Line, op_out, ask_place, ask_tick, claimed, claim_of, incarnation, timing, times_of, no_times, now, disk_of, has_start, has_stop, is_answer, is_view, view_of}
-use Rattle.qn_model.specs.Phases.{phase, next_phase, boot_phase, mail_phase, header_halt, slot_halt, boot_halt, message_of, deadly_of, in_time, is_booting, is_live, is_up, is_leaving}
-use Rattle.qn_model.specs.Sectors.{is_deadly}
-use Rattle.qn_model.specs.Holding.{holds, stop_due, is_stopped}
-use Rattle.qn_model.specs.NodeVotes.{view, is_in_view, is_present, answers, install, released, quorate}
-use Rattle.qn_model.specs.Hearing.{is_free, told, tells, tell_of}
-use Rattle.qn_model.specs.Licences.{out_time, starts_out_time, slot_read_since, reset_since, reads_slot, writes_reset, is_clean_slot, is_clean, is_written, is_fenced, is_licensed, reset_tick}
-use Rattle.qn_model.specs.Unmet.{unmet, is_clear}
-use Rattle.qn_model.specs.Wanted.{wanted, boot_op, claim_after, rank_of}
-use Rattle.qn_model.specs.Fitting.{fits, read_as, answers_op, is_first, is_own_view, is_for}
-use Rattle.qn_model.specs.NodeOutputs.{outs_at, mail_feeds, feeds_on, taken_in, with_read, with_entry, newest_outs, gives_start}
-use Rattle.qn_model.specs.Moments.{Before, Itself, Later}
-use Rattle.qn_safety.proofs.Tools.{some_same, none_some, some_none, clash, and_left_of, and_right_of, not_true, before_length, before_then, before_tail, before_total, before_same, before_shorter}
+use Rattle.qn_model.specs.Log.{Line, op_out, claimed, claim_of, disk_of, is_answer}
+use Rattle.qn_model.specs.Phases.{phase, next_phase, boot_phase, header_halt, slot_halt, in_time, is_booting, is_up}
+use Rattle.qn_model.specs.NodeVotes.{answers}
+use Rattle.qn_model.specs.Fitting.{fits, read_as, answers_op}
+use Rattle.qn_safety.proofs.Tools.{none_some, clash}
 use Rattle.qn_model.specs.Moments.{is_gone}
 use Rattle.qn_safety.specs.Closing.{is_close}
-use Rattle.qn_safety.proofs.Says.{Reason, BootReason, LiveReason, is_closed}
-use Rattle.qn_safety.proofs.Logs.{Made, NoLine, OneMore, IsLine, before_outs, made_tail, made_line, line_at, disk_reason, AskedBy, ask_line}
-use Rattle.qn_safety.proofs.Apt.{is_apt, apt, BootStep, BeginStep, HeaderStep, SlotStep, ClaimStep, ClearStep, boot_step_of, booting_is, up_is, mail_answers, reset_answers, cleared_answers, claimed_answers}
-use Rattle.qn_safety.proofs.Stays.{boot_past, boot_past_later}
+use Rattle.qn_safety.proofs.Says.{Reason, is_closed}
+use Rattle.qn_safety.proofs.Logs.{Made, NoLine, OneMore, IsLine, before_outs, line_at, disk_reason, AskedBy, ask_line}
+use Rattle.qn_safety.proofs.Apt.{is_apt, apt, BootStep, BeginStep, HeaderStep, SlotStep, ClaimStep, ClearStep, boot_step_of, booting_is, up_is, mail_answers, cleared_answers}
+use Rattle.qn_safety.proofs.Stays.{boot_past_later}
 use Rattle.qn_safety.proofs.Rests.{own_read, same_phase}
 use Rattle.qn_safety.proofs.Numbers.{claim_given, ClaimGiven}
 
@@ -110,6 +84,7 @@ close_state {s = s} {me = me} {line = line} {past = past} it number gave = by_re
     no_step entry op p (SlotStep rank own) e = cc
     no_step entry op p ClaimStep e = cc
     no_step entry op p ClearStep e = cc
+
     by_reason : Reason s me past line.what (before_outs line past) (disk.WriteClose number) → claimed past ≡ Some number
     by_reason (inl boots) = absurd (no_step line.what (disk.WriteClose number) _ (boot_step_of s me line.what (disk.WriteClose number) false boots.goes_on boots.next) refl)
     by_reason (inr lives) = lives.state.2
@@ -132,8 +107,10 @@ own_slot_out {s = s} {me = me} {log = log} made rank out booting = by_reason (di
   where
     asked : AskedBy (disk.ReadSlot rank) log
     asked = ask_line (disk.ReadSlot rank) log out
+
     up_booted : (p : Phase) → is_up p ≡ true → is_booting p ≡ false
     up_booted p e = ap is_booting (up_is p e)
+
     by_reason : Reason s me asked.past asked.line.what (before_outs asked.line asked.past) (disk.ReadSlot rank) → me ≡ rank.0
     by_reason (inl boots) = own_read s me asked.line.what (disk.ReadSlot rank) _ rank (boot_step_of s me asked.line.what (disk.ReadSlot rank) false boots.goes_on boots.next) refl
     by_reason (inr lives) = clash (is_booting (phase s log)) booting

@@ -1,61 +1,33 @@
 -- What an event of the world is to one node: its log, what its operation took at its landing, its leftovers and its slot.
-use Rattle.std.proofs.Common.{◌≡◌, ℕ, suc, zero, ◌+◌, ◌-◌, ◌*◌, ◌/◌, ◌<◌, ◌≤◌, Bool, true, false, List, [], ◌∷◌, ◌++◌, length, Some, None, Option, refl, sym, ap, ◌∙◌, subst, arith, cond, ◌&&◌, ◌||◌, ◌==◌, not, if◌then◌else◌, ◌⊎◌, inl, inr, is_some, is_none, All, nat_le, nat_lt}
-use Rattle.std.specs.Option.{option_or, option_map, option_map_or}
-use Rattle.std.proofs.lemmas.Bool.{false≢true, true≢false, cases_lt, cases_order, cases_Bool, or_cases, eqb-true, eqb-false, eq-eqb, ne_eqb, ltb-true, ltb-false, leb-true, lt-ltb, le-leb}
+use Rattle.std.proofs.Common.{◌≡◌, ℕ, suc, Bool, true, false, List, [], ◌∷◌, ◌++◌, Some, None, Option, refl, sym, ap, ◌∙◌, subst, ◌==◌, not, if◌then◌else◌, is_some}
+use Rattle.std.specs.Option.{option_or, option_map_or}
+use Rattle.std.proofs.lemmas.Bool.{false≢true, eqb-true, eq-eqb}
 use Rattle.qn_base.specs.declared.ids.Rank.{Rank}
-use Rattle.qn_base.specs.declared.ids.View.{View}
 use Rattle.qn_base.specs.Members.{is_member}
 use Rattle.qn_model.specs.declared.configuration.Settings.{Settings}
 use Rattle.qn_model.specs.declared.times.Timing.{Timing}
-use Rattle.qn_model.specs.declared.disk.Message.{Message}
-use Rattle.qn_model.specs.declared.disk.Message.TheVariants as message
 use Rattle.qn_model.specs.declared.disk.Slot.{Slot}
-use Rattle.qn_model.specs.declared.seen.HeaderSeen.{HeaderSeen}
-use Rattle.qn_model.specs.declared.seen.HeaderSeen.TheVariants as header
-use Rattle.qn_model.specs.declared.seen.SlotSeen.{SlotSeen}
-use Rattle.qn_model.specs.declared.seen.SlotSeen.TheVariants as slot
-use Rattle.qn_model.specs.declared.seen.MailSeen.{MailSeen}
-use Rattle.qn_model.specs.declared.seen.MailSeen.TheVariants as mail
-use Rattle.qn_model.specs.declared.packets.Ask.{Ask}
-use Rattle.qn_model.specs.declared.packets.Tell.{Tell}
 use Rattle.qn_model.specs.declared.packets.Packet.{Packet}
 use Rattle.qn_model.specs.declared.packets.Packet.TheVariants as packet
 use Rattle.qn_model.specs.declared.entries.What.{What}
 use Rattle.qn_model.specs.declared.entries.What.TheVariants as what
-use Rattle.qn_model.specs.declared.life.Phase.{Phase}
-use Rattle.qn_model.specs.declared.life.Phase.TheVariants.{Booting, Up, Leaving, Dying, Gone}
-use Rattle.qn_model.specs.declared.outputs.BootCause.{BootCause}
 use Rattle.qn_model.specs.declared.outputs.DiskOp.{DiskOp}
 use Rattle.qn_model.specs.declared.outputs.DiskOp.TheVariants as disk
-use Rattle.qn_model.specs.declared.outputs.Out.{Out}
-use Rattle.qn_model.specs.declared.outputs.Out.TheVariants as out
-use Rattle.qn_model.specs.Log.{Line, op_out, ask_place, ask_tick, claimed, claim_of, incarnation, timing, times_of, no_times, disk_of, has_start, has_stop, is_answer, is_view, view_of}
-use Rattle.qn_model.specs.Phases.{phase, next_phase, boot_phase, mail_phase, header_halt, slot_halt, boot_halt, message_of, deadly_of, in_time, is_booting, is_live, is_up, is_leaving}
-use Rattle.qn_model.specs.Sectors.{is_deadly}
-use Rattle.qn_model.specs.Holding.{holds, stop_due, is_stopped}
-use Rattle.qn_model.specs.NodeVotes.{view, is_in_view, is_present, answers, install, released, quorate}
-use Rattle.qn_model.specs.Hearing.{is_free, told, tells, tell_of}
-use Rattle.qn_model.specs.Licences.{out_time, starts_out_time, slot_read_since, reset_since, reads_slot, writes_reset, is_clean_slot, is_clean, is_written, is_fenced, is_licensed, reset_tick}
-use Rattle.qn_model.specs.Unmet.{unmet, is_clear}
-use Rattle.qn_model.specs.Wanted.{wanted, boot_op, claim_after, rank_of}
-use Rattle.qn_model.specs.Fitting.{fits, read_as, answers_op, is_first, is_own_view, is_for}
-use Rattle.qn_model.specs.NodeOutputs.{outs_at, mail_feeds, feeds_on, taken_in, with_read, with_entry, newest_outs, gives_start}
-use Rattle.qn_model.specs.Moments.{Before, Itself, Later}
-use Rattle.qn_safety.proofs.Tools.{some_same, none_some, some_none, clash, and_left_of, and_right_of, not_true, before_length, before_then, before_tail, before_total, before_same, before_shorter}
+use Rattle.qn_model.specs.Log.{Line, op_out, is_answer}
+use Rattle.qn_model.specs.Phases.{phase}
+use Rattle.qn_model.specs.NodeVotes.{view}
+use Rattle.qn_model.specs.NodeOutputs.{with_entry}
+use Rattle.qn_safety.proofs.Tools.{some_none, and_left_of, and_right_of, not_true}
 use Rattle.qn_model.specs.declared.packets.Sent.{Sent}
-use Rattle.qn_model.specs.Log as LogSpec
-use Rattle.qn_model.specs.Moments.{Moment, Passes, Boots, Adds, Feeds, Ends, Running, tick_of, is_gone, has_feed, advance_of, advanced, logged, handed, booted, time, node, given_out, packets, packets_of, is_holder}
-use Rattle.qn_model.specs.Rules.{passes, is_within_bounds, outlives, is_between}
-use Rattle.qn_safety.specs.Closing.{is_close, asked_close}
-use Rattle.qn_safety.specs.Timed.{IsUp, IsSameBoot, IsSentTo, WasSent, MayFeed, IsRuled, AllRuled, NoMoment, OneRuled, IsBetween, HasClosed, GetsBadMail, IsAdded, NumbersRise, CleanMeansClosed, WrittenMeansBadMail, HeadersAgree, IsTimedRun}
+use Rattle.qn_model.specs.Moments.{Moment, Passes, Boots, Adds, Feeds, Ends, Running, tick_of, is_gone, logged, handed, booted, time, node, packets}
 use Rattle.qn_model.specs.declared.events.Event.{Event}
 use Rattle.qn_model.specs.declared.events.Event.TheVariants as event
-use Rattle.qn_model.specs.World.{World, first_world, put, node_at, op_at, slots_with, mailboxes_with, taken, failed, is_write, given_up, leftover_at, numbered, without}
-use Rattle.qn_model.specs.Rules.{is_well_formed, refusal, unless, unless_running, is_on, may_pass, may_land, may_be_done, may_fail, may_be_stopped, may_be_late, may_deliver, may_feed, is_configured, is_clock}
+use Rattle.qn_model.specs.World.{World, put, op_at, slots_with, taken, failed, given_up, leftover_at, numbered, without}
+use Rattle.qn_model.specs.Rules.{refusal, unless, is_on, may_land, may_be_done, may_fail, may_be_stopped, may_be_late, may_deliver}
 use Rattle.qn_model.specs.Steps as Steps
 use Rattle.qn_model.specs.Steps.{happens, written, landed, answered, gives_up, fails, lands_late, entry_of, step, run}
 use Rattle.std.specs.Prelude.{slice_get}
-use Rattle.qn_safety.proofs.Runs.{Turn, IsApart, IsPass, IsBoot, IsAdd, IsFeed, IsEnd, turn, added_node, booted_node}
+use Rattle.qn_safety.proofs.Runs.{added_node, booted_node}
 use Rattle.qn_safety.proofs.Origins.{line_of}
 
 -- the part of the world that is one node's
@@ -182,6 +154,7 @@ module _ (s : Settings) (t : Timing) where
       own : Effect s t r w (happens (Adds r entry) w)
       own = Enters (tick_of (node s r w.moments).clock) entry on plain
           (seat_same _ _ _ _ _ _ _ _ (added_node s r entry w.moments) refl refl refl ∙ handed_seat s r (time w.moments) entry (node s r w.moments) (w.took r) (w.left r) (w.slots r))
+
       by_owner : (b : Bool) → (r == j) ≡ b → Effect s t j w (happens (Adds r entry) w)
       by_owner true e = subst (λ k. Effect s t k w (happens (Adds r entry) w)) (eqb-true r j e) own
       by_owner false e = Rests (seat_same _ _ _ _ _ _ _ _ (node_apart_adds s r j entry w.moments e) refl refl refl)
@@ -192,6 +165,7 @@ module _ (s : Settings) (t : Timing) where
       own : Effect s t r w (answered r entry w)
       own = Answers (tick_of (node s r w.moments).clock) entry on took
           (seat_same _ _ _ _ _ _ _ _ (added_node s r entry w.moments) (put_same w.took r None) refl refl ∙ handed_seat s r (time w.moments) entry (node s r w.moments) None (w.left r) (w.slots r))
+
       by_owner : (b : Bool) → (r == j) ≡ b → Effect s t j w (answered r entry w)
       by_owner true e = subst (λ k. Effect s t k w (answered r entry w)) (eqb-true r j e) own
       by_owner false e = Rests (seat_same _ _ _ _ _ _ _ _ (node_apart_adds s r j entry w.moments e) (put_other w.took r j None e) refl refl)
@@ -201,10 +175,12 @@ module _ (s : Settings) (t : Timing) where
     where
       left_own : put w.left r (w.left r ++ leftover_at s r w) r ≡ w.left r ++ given_up (Some op) (w.took r)
       left_own = put_same w.left r (w.left r ++ leftover_at s r w) ∙ ap (λ o. w.left r ++ given_up o (w.took r)) out
+
       own : Effect s t r w (fails s r op w)
       own = Fails (tick_of (node s r w.moments).clock) op on out
           (seat_same _ _ _ _ _ _ _ _ (added_node s r (failed op) w.moments) (put_same w.took r None) left_own refl
           ∙ handed_seat s r (time w.moments) (failed op) (node s r w.moments) None (w.left r ++ given_up (Some op) (w.took r)) (w.slots r))
+
       by_owner : (b : Bool) → (r == j) ≡ b → Effect s t j w (fails s r op w)
       by_owner true e = subst (λ k. Effect s t k w (fails s r op w)) (eqb-true r j e) own
       by_owner false e = Rests (seat_same _ _ _ _ _ _ _ _ (node_apart_adds s r j (failed op) w.moments e) (put_other w.took r j None e) (put_other w.left r j (w.left r ++ leftover_at s r w) e) refl)
@@ -216,6 +192,7 @@ module _ (s : Settings) (t : Timing) where
       own = BootsUp (tick_of base) off
           (seat_same _ _ _ _ _ _ _ _ (booted_node s r base w.moments) (put_same w.took r None) (put_same w.left r []) refl
           ∙ booted_seat s r (time w.moments) base (node s r w.moments) (w.took r) (w.left r) (w.slots r))
+
       by_owner : (b : Bool) → (r == j) ≡ b → Effect s t j w (Steps.boots r base w)
       by_owner true e = subst (λ k. Effect s t k w (Steps.boots r base w)) (eqb-true r j e) own
       by_owner false e = Rests (seat_same _ _ _ _ _ _ _ _ (node_apart_boots s r j base w.moments e) (put_other w.took r j None e) (put_other w.left r j [] e) refl)
@@ -226,6 +203,7 @@ module _ (s : Settings) (t : Timing) where
       own : Effect s t r w (happens (Ends r) (gives_up s r w))
       own = GoesOff on
           (seat_same _ _ _ _ _ _ _ _ (node_own_ends s r w.moments) (put_same w.took r None) (put_same w.left r (w.left r ++ leftover_at s r w)) refl)
+
       by_owner : (b : Bool) → (r == j) ≡ b → Effect s t j w (happens (Ends r) (gives_up s r w))
       by_owner true e = subst (λ k. Effect s t k w (happens (Ends r) (gives_up s r w))) (eqb-true r j e) own
       by_owner false e = Rests (seat_same _ _ _ _ _ _ _ _ (node_apart_ends s r j w.moments e) (put_other w.took r j None e) (put_other w.left r j (w.left r ++ leftover_at s r w) e) refl)
@@ -236,6 +214,7 @@ module _ (s : Settings) (t : Timing) where
       own : Effect s t r w (landed s t r op w)
       own = Lands op on out none refl
           (seat_same (node s r w.moments) (node s r w.moments) _ _ _ _ _ _ refl (put_same w.took r (Some (taken s t r op w))) refl (slots_own r op w.slots))
+
       by_owner : (b : Bool) → (r == j) ≡ b → Effect s t j w (landed s t r op w)
       by_owner true e = subst (λ k. Effect s t k w (landed s t r op w)) (eqb-true r j e) own
       by_owner false e = Rests (seat_same (node s j w.moments) (node s j w.moments) _ _ _ _ _ _ refl (put_other w.took r j (Some (taken s t r op w)) e) refl (slots_other r j op w.slots e))
@@ -246,6 +225,7 @@ module _ (s : Settings) (t : Timing) where
       own : Effect s t r w (lands_late r number op w)
       own = LandsLate number op there
           (seat_same (node s r w.moments) (node s r w.moments) (w.took r) (w.took r) _ _ _ _ refl refl (put_same w.left r (without (w.left r) number)) (slots_own r op w.slots))
+
       by_owner : (b : Bool) → (r == j) ≡ b → Effect s t j w (lands_late r number op w)
       by_owner true e = subst (λ k. Effect s t k w (lands_late r number op w)) (eqb-true r j e) own
       by_owner false e = Rests (seat_same (node s j w.moments) (node s j w.moments) (w.took j) (w.took j) _ _ _ _ refl refl (put_other w.left r j (without (w.left r) number) e) (slots_other r j op w.slots e))

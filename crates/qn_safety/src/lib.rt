@@ -1,9 +1,11 @@
 // The safety theorem of the cluster, as laws over the definitions that the contracts of the code cite.
 //
-// Promises: in every timed run with safe timing at most one node holds the resource at each moment
-// (`law_timed_runs`). A timed run (`specs/Timed`) knows the shared disk by four facts alone.
+// Promises: in the world after any events that are allowed at most one node holds the resource
+// (`law_no_two_holders`). The same holds at each moment of every timed run (`law_timed_runs`), which knows
+// the shared disk by four facts alone (`specs/Timed`); every run of the world is one
+// (`law_runs_are_timed`).
 #![tactic(auto)]
 
 mod laws;
 
-pub use laws::law_timed_runs;
+pub use laws::{law_no_two_holders, law_runs_are_timed, law_timed_runs};
