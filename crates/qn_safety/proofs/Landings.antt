@@ -5,7 +5,7 @@ use Rattle.qn_model.specs.declared.times.Timing.{Timing}
 use Rattle.qn_model.specs.declared.entries.What.{What}
 use Rattle.qn_model.specs.declared.outputs.DiskOp.{DiskOp}
 use Rattle.qn_model.specs.Log.{Line, op_out, ask_place, disk_of, is_answer}
-use Rattle.qn_model.specs.Fitting.{answers_op}
+use Rattle.qn_model.specs.Fitting.{answers_op, read_as}
 use Rattle.qn_model.specs.Moments.{Before, Itself, Later}
 use Rattle.qn_safety.proofs.Tools.{some_same, none_some}
 use Rattle.qn_model.specs.Moments.{Moment, Adds, node}
@@ -123,6 +123,9 @@ pub record AddedBy (s : Settings) (t : Timing) (j : ℕ) (line : Line) (before :
   pub back : Before (e ∷ earlier) events
   pub same : (run s t earlier).moments ≡ before
   pub on : (node s j (run s t earlier).moments).on ≡ true
+  pub entry : What
+  pub adds : (run s t (e ∷ earlier)).moments ≡ Adds j entry ∷ before
+  pub reads : line.what ≡ read_as s j (node s j before).log entry
   pub kind : LineKind s t j line (run s t earlier)
 
 too_long : {A : Type 0} {P : Type 0} (x : A) (xs : List A) → x ∷ xs ≡ xs → P
@@ -152,7 +155,10 @@ module _ (s : Settings) (t : Timing) (j : ℕ) (entry : What) (line : Line) (pas
       Failed op (ap (λ l. l.what) is ∙ line_what s j tick (failed op) (node s j w.moments).log ∙ fit.1)
 
 added_later : {s : Settings} {t : Timing} {j : ℕ} {line : Line} {before : List Moment} {events : List Event} (e : Event) → AddedBy s t j line before events → AddedBy s t j line before (e ∷ events)
-added_later e it = record { e = it.e; earlier = it.earlier; back = Later e it.back; same = it.same; on = it.on; kind = it.kind }
+added_later e it = record { e = it.e; earlier = it.earlier; back = Later e it.back; same = it.same; on = it.on;
+  entry = it.entry;
+  adds = it.adds;
+  reads = it.reads; kind = it.kind }
 
 moments_tail : {x y : Moment} {xs ys : List Moment} → x ∷ xs ≡ y ∷ ys → xs ≡ ys
 moments_tail e = cc
@@ -169,6 +175,9 @@ added_here {s = s} {t = t} {e = e} {earlier = earlier} j entry line past before 
       back = Itself;
       same = sym is;
       on = subst (λ ms. (node s j ms).on ≡ true) is ((newest_rule (subst (λ ms. AllRuled s t ms) adds ((stage allowed).ruled))).0);
+      entry = entry;
+      adds = adds;
+      reads = parts.reads ∙ ap (λ l. read_as s j l entry) parts.behind;
       kind = kind_of s t j entry line past (run s t earlier) (run s t (e ∷ earlier)) (adds ∙ ap (λ ms. Adds j entry ∷ ms) is)
           (ap (λ ms. (node s j ms).log) adds ∙ gave) (parts.behind ∙ ap (λ ms. (node s j ms).log) is) ((sound was.ruled j).made) (was.held j) (effect_at j allowed);
     }

@@ -24,3 +24,4 @@ pub mod Facts
 pub mod Mail
 pub mod Rising
 pub mod Holders
+pub mod WaitForAll

@@ -53,7 +53,7 @@ read_by_test : (b : Bool) (entry w : What) → (if b then entry else what.Tick) 
 read_by_test true entry w e no_tick = e
 read_by_test false entry w e no_tick = absurd (no_tick e)
 
-read_tell : (s : Settings) (me : ℕ) (past : List Line) (entry : What) (tell : Tell) → read_as s me past entry ≡ what.Tell tell → entry ≡ what.Tell tell
+pub read_tell : (s : Settings) (me : ℕ) (past : List Line) (entry : What) (tell : Tell) → read_as s me past entry ≡ what.Tell tell → entry ≡ what.Tell tell
 read_tell s me past entry tell e = read_by_test (fits s me past entry) entry (what.Tell tell) e (λ q. cc)
 
 read_ask : (s : Settings) (me : ℕ) (past : List Line) (entry : What) (ask : Ask) → read_as s me past entry ≡ what.Ask ask → entry ≡ what.Ask ask
