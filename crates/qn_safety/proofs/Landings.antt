@@ -155,10 +155,17 @@ module _ (s : Settings) (t : Timing) (j : ℕ) (entry : What) (line : Line) (pas
       Failed op (ap (λ l. l.what) is ∙ line_what s j tick (failed op) (node s j w.moments).log ∙ fit.1)
 
 added_later : {s : Settings} {t : Timing} {j : ℕ} {line : Line} {before : List Moment} {events : List Event} (e : Event) → AddedBy s t j line before events → AddedBy s t j line before (e ∷ events)
-added_later e it = record { e = it.e; earlier = it.earlier; back = Later e it.back; same = it.same; on = it.on;
+added_later e it = record {
+  e = it.e;
+  earlier = it.earlier;
+  back = Later e it.back;
+  same = it.same;
+  on = it.on;
   entry = it.entry;
   adds = it.adds;
-  reads = it.reads; kind = it.kind }
+  reads = it.reads;
+  kind = it.kind;
+}
 
 moments_tail : {x y : Moment} {xs ys : List Moment} → x ∷ xs ≡ y ∷ ys → xs ≡ ys
 moments_tail e = cc

@@ -25,3 +25,4 @@ pub mod Mail
 pub mod Rising
 pub mod Holders
 pub mod WaitForAll
+pub mod Incarnations

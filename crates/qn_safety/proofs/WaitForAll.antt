@@ -1,78 +1,47 @@
 -- With wait_for_all on nothing is released before some node saw a view of all nodes.
-use Rattle.std.proofs.Common.{◌≡◌, ℕ, suc, zero, ◌+◌, ◌-◌, ◌*◌, ◌/◌, ◌<◌, ◌≤◌, Bool, true, false, List, [], ◌∷◌, ◌++◌, length, Some, None, Option, refl, sym, ap, ◌∙◌, subst, arith, cond, ◌&&◌, ◌||◌, ◌==◌, not, if◌then◌else◌, ◌⊎◌, inl, inr, is_some, is_none, All, nat_le, nat_lt}
-use Rattle.std.specs.Option.{option_or, option_map, option_map_or}
-use Rattle.std.proofs.lemmas.Bool.{false≢true, true≢false, cases_lt, cases_order, cases_Bool, or_cases, eqb-true, eqb-false, eq-eqb, ne_eqb, ltb-true, ltb-false, leb-true, lt-ltb, le-leb}
+use Rattle.std.proofs.Common.{◌≡◌, ℕ, suc, zero, ◌≤◌, Bool, true, false, List, [], ◌∷◌, length, Some, None, Option, refl, sym, ap, ◌∙◌, subst, arith, ◌&&◌, ◌||◌, not, if◌then◌else◌, is_some, nat_le}
+use Rattle.std.specs.Option.{option_map_or}
+use Rattle.std.proofs.lemmas.Bool.{false≢true}
 use Rattle.qn_base.specs.declared.ids.Rank.{Rank}
 use Rattle.qn_base.specs.declared.ids.View.{View}
-use Rattle.qn_base.specs.Members.{is_member}
 use Rattle.qn_model.specs.declared.configuration.Settings.{Settings}
 use Rattle.qn_model.specs.declared.times.Timing.{Timing}
-use Rattle.qn_model.specs.declared.disk.Message.{Message}
-use Rattle.qn_model.specs.declared.disk.Message.TheVariants as message
-use Rattle.qn_model.specs.declared.disk.Slot.{Slot}
-use Rattle.qn_model.specs.declared.seen.HeaderSeen.{HeaderSeen}
-use Rattle.qn_model.specs.declared.seen.HeaderSeen.TheVariants as header
-use Rattle.qn_model.specs.declared.seen.SlotSeen.{SlotSeen}
-use Rattle.qn_model.specs.declared.seen.SlotSeen.TheVariants as slot
-use Rattle.qn_model.specs.declared.seen.MailSeen.{MailSeen}
-use Rattle.qn_model.specs.declared.seen.MailSeen.TheVariants as mail
-use Rattle.qn_model.specs.declared.packets.Ask.{Ask}
 use Rattle.qn_model.specs.declared.packets.Tell.{Tell}
 use Rattle.qn_model.specs.declared.packets.Packet.{Packet}
 use Rattle.qn_model.specs.declared.packets.Packet.TheVariants as packet
 use Rattle.qn_model.specs.declared.entries.What.{What}
 use Rattle.qn_model.specs.declared.entries.What.TheVariants as what
-use Rattle.qn_model.specs.declared.life.Phase.{Phase}
-use Rattle.qn_model.specs.declared.life.Phase.TheVariants.{Booting, Up, Leaving, Dying, Gone}
-use Rattle.qn_model.specs.declared.outputs.BootCause.{BootCause}
 use Rattle.qn_model.specs.declared.outputs.DiskOp.{DiskOp}
-use Rattle.qn_model.specs.declared.outputs.DiskOp.TheVariants as disk
-use Rattle.qn_model.specs.declared.outputs.Out.{Out}
-use Rattle.qn_model.specs.declared.outputs.Out.TheVariants as out
-use Rattle.qn_model.specs.Log.{Line, op_out, ask_place, ask_tick, claimed, claim_of, incarnation, timing, times_of, no_times, disk_of, has_start, has_stop, is_answer, is_view, view_of}
-use Rattle.qn_model.specs.Phases.{phase, next_phase, boot_phase, mail_phase, header_halt, slot_halt, boot_halt, message_of, deadly_of, in_time, is_booting, is_live, is_up, is_leaving}
-use Rattle.qn_model.specs.Sectors.{is_deadly}
-use Rattle.qn_model.specs.Holding.{holds, stop_due, is_stopped}
-use Rattle.qn_model.specs.NodeVotes.{view, is_in_view, is_present, answers, install, released, quorate}
-use Rattle.qn_model.specs.Hearing.{is_free, told, tells, tell_of}
-use Rattle.qn_model.specs.Licences.{out_time, starts_out_time, slot_read_since, reset_since, reads_slot, writes_reset, is_clean_slot, is_clean, is_written, is_fenced, is_licensed, reset_tick}
-use Rattle.qn_model.specs.Unmet.{unmet, is_clear}
-use Rattle.qn_model.specs.Wanted.{wanted, boot_op, claim_after, rank_of}
-use Rattle.qn_model.specs.Fitting.{fits, read_as, answers_op, is_first, is_own_view, is_for}
-use Rattle.qn_model.specs.NodeOutputs.{outs_at, mail_feeds, feeds_on, taken_in, with_read, with_entry, newest_outs, gives_start}
+use Rattle.qn_model.specs.Log.{Line}
+use Rattle.qn_model.specs.NodeVotes.{view, answers, released, quorate}
+use Rattle.qn_model.specs.Fitting.{fits, read_as, answers_op}
 use Rattle.qn_model.specs.Moments.{Before, Itself, Later}
-use Rattle.qn_safety.proofs.Tools.{some_same, none_some, some_none, clash, and_left_of, and_right_of, not_true, before_length, before_then, before_tail, before_total, before_same, before_shorter}
+use Rattle.qn_safety.proofs.Tools.{clash, and_left_of, and_right_of, not_true, before_length, before_then, before_tail}
 use Rattle.qn_model.specs.declared.packets.Sent.{Sent}
-use Rattle.qn_model.specs.Log as LogSpec
-use Rattle.qn_model.specs.Moments.{Moment, Passes, Boots, Adds, Feeds, Ends, Running, tick_of, is_gone, has_feed, advance_of, advanced, logged, handed, booted, time, node, given_out, packets, packets_of, is_holder}
-use Rattle.qn_model.specs.Rules.{passes, is_within_bounds, outlives, is_between}
-use Rattle.qn_safety.specs.Closing.{is_close, asked_close}
-use Rattle.qn_safety.specs.Timed.{IsUp, IsSameBoot, IsSentTo, WasSent, MayFeed, IsRuled, AllRuled, NoMoment, OneRuled, IsBetween, HasClosed, GetsBadMail, IsAdded, NumbersRise, CleanMeansClosed, WrittenMeansBadMail, HeadersAgree, IsTimedRun}
+use Rattle.qn_model.specs.Moments.{Moment, Adds, node, packets}
+use Rattle.qn_safety.specs.Timed.{IsSentTo, WasSent, AllRuled, IsAdded}
 use Rattle.qn_model.specs.declared.events.Event.{Event}
 use Rattle.qn_model.specs.declared.events.Event.TheVariants as event
-use Rattle.qn_model.specs.World.{World, first_world, put, node_at, op_at, slots_with, mailboxes_with, taken, failed, is_write, given_up, leftover_at, numbered, without}
-use Rattle.qn_model.specs.Rules.{is_well_formed, refusal, unless, unless_running, is_on, may_pass, may_land, may_be_done, may_fail, may_be_stopped, may_be_late, may_deliver, may_feed, is_configured, is_clock}
-use Rattle.qn_model.specs.Steps as Steps
-use Rattle.qn_model.specs.Steps.{happens, written, landed, answered, gives_up, fails, lands_late, entry_of, step, run}
+use Rattle.qn_model.specs.World.{World, op_at, failed, numbered}
+use Rattle.qn_model.specs.Rules.{refusal, is_on, may_be_done}
+use Rattle.qn_model.specs.Steps.{happens, landed, answered, fails, lands_late, entry_of, step, run}
 use Rattle.std.specs.Prelude.{slice_get}
-use Rattle.qn_model.specs.declared.votes.VoteEntry.{VoteEntry}
-use Rattle.qn_model.specs.declared.votes.VoteWhat.{VoteWhat}
 use Rattle.qn_model.specs.declared.votes.VoteWhat.TheVariants as vote
-use Rattle.qn_model.specs.Votes.{is_released, releases, are_all_in, is_quorate, quorum_of, expected_votes, counted_votes, present_view}
+use Rattle.qn_model.specs.Votes.{is_released, releases, are_all_in, quorum_of, expected_votes, counted_votes, present_view}
 use Rattle.qn_model.specs.NodeVotes.{votes, vote_of}
 use Rattle.qn_model.specs.Steps.{AllAllowed}
+use Rattle.qn_safety.specs.Releases.{AllInView}
 use Rattle.qn_safety.proofs.Says.{PacketReason, TellReason}
-use Rattle.qn_safety.proofs.Logs.{Made, NoLine, OneMore, IsLine, before_outs, made_line}
-use Rattle.qn_safety.proofs.Runs.{IsSound, sound, ruled_before, newest_rule, earlier_ruled}
+use Rattle.qn_safety.proofs.Logs.{Made, before_outs, made_line}
+use Rattle.qn_safety.proofs.Runs.{sound, ruled_before, newest_rule, earlier_ruled}
 use Rattle.qn_safety.proofs.Origins.{Origin, ByEntry, ByBoot, origin, AddedLine, added_line, Sending, sent_at}
 use Rattle.qn_safety.proofs.Outs.{plain_no_answer}
 use Rattle.qn_safety.proofs.Fence.{added_then}
 use Rattle.qn_safety.proofs.Tells.{read_tell}
-use Rattle.qn_safety.proofs.Held.{Held}
-use Rattle.qn_safety.proofs.Seats.{seat_of, both_allow}
+use Rattle.qn_safety.proofs.Seats.{both_allow}
 use Rattle.qn_safety.proofs.Kept.{failed_answers}
 use Rattle.qn_safety.proofs.Landings.{AddedBy, added_by}
-use Rattle.qn_safety.proofs.Events.{IsAllowed, NoEvent, OneEvent, allowed_of, allowed_before, Stage, stage, earlier_allowed, run_step, grows, only_nothing, first_moments, newest_state}
+use Rattle.qn_safety.proofs.Events.{IsAllowed, OneEvent, allowed_of, allowed_before, stage, run_step}
 
 -- what released a node: a view of all nodes, or a Tell that says released
 pub data Release (s : Settings) (log : List Line) : Type 0 where
@@ -161,13 +130,14 @@ saw_all s t (suc fuel) i (m ∷ moments) long ruled waits e =
         → (k : ℕ) (sending : Sending s k sent.sent before) → SawAll s (m ∷ moments)
     by_sending rest tell before says back sent k sending =
         let why : TellReason s k sending.past (before_outs sending.line sending.past) sending.line.what sent.sent.to tell =
-              subst (λ c. PacketReason s k sending.past (before_outs sending.line sending.past) sending.line.what sent.sent.to c) sent.content sending.reason in
+        subst (λ c. PacketReason s k sending.past (before_outs sending.line sending.past) sending.line.what sent.sent.to c) sent.content sending.reason in
         let then' : released s (sending.line ∷ sending.past) ≡ true = sym (same_release s sending.line sending.past) ∙ sym why.release ∙ says in
         let at : List Moment = Adds k sending.added.entry ∷ sending.before in
         let at_back : Before at (m ∷ moments) = Later m (before_then sending.added.back back) in
         let short = before_length (before_then sending.added.back back) in
         let shorter : length at ≤ fuel = omega arith in
         saw_later at_back (rest k at shorter (ruled_before at_back ruled) (subst (λ log. released s log ≡ true) (sym sending.added.gave) then'))
+
     by_origin : ((k : ℕ) (ms : List Moment) → length ms ≤ fuel → AllRuled s t ms → released s (node s k ms).log ≡ true → SawAll s ms)
         → (line : Line) (past : List Line) (tell : Tell) → line.what ≡ what.Tell tell → tell.released ≡ true → Origin s i line past (m ∷ moments) → SawAll s (m ∷ moments)
     by_origin rest line past tell reads says (ByBoot begins first) = absurd (no_begin_tell line.what tell begins reads)
@@ -182,6 +152,7 @@ saw_all s t (suc fuel) i (m ∷ moments) long ruled waits e =
         inner : {x : Moment} {xs : List Moment} → Before (x ∷ xs) (m ∷ moments) → Before xs moments
         inner Itself = Itself
         inner (Later newest more) = before_tail more
+
     by_release : ((k : ℕ) (ms : List Moment) → length ms ≤ fuel → AllRuled s t ms → released s (node s k ms).log ≡ true → SawAll s ms)
         → Release s (node s i (m ∷ moments)).log → SawAll s (m ∷ moments)
     by_release rest (ByTell line past tell back reads says) = by_origin rest line past tell reads says (origin s i line past (m ∷ moments) back)
@@ -198,15 +169,6 @@ pub quorate_released : (s : Settings) (log : List Line) (tick : ℕ) → quorate
 quorate_released s log tick e =
     and_right_of (is_some (present_view (votes log))) (is_released s (votes log))
     (and_left_of (is_some (present_view (votes log)) && is_released s (votes log)) (nat_le (quorum_of s (expected_votes s (votes log))) (counted_votes s (votes log) tick)) e)
-
--- an event that hands a node a view of all nodes, and the node takes it
-pub record AllInView (s : Settings) (t : Timing) (events : List Event) : Type 0 where
-  pub rank : Rank
-  pub seen : View
-  pub earlier : List Event
-  pub back : Before (event.View rank seen ∷ earlier) events
-  pub fit : fits s rank.0 (node s rank.0 (run s t earlier).moments).log (what.View seen) ≡ true
-  pub all : are_all_in s.nodes seen.members ≡ true
 
 same_entry : {i k : ℕ} {first second : What} {xs ys : List Moment} → Adds i first ∷ xs ≡ Adds k second ∷ ys → first ≡ second
 same_entry e = cc
@@ -296,21 +258,28 @@ view_event {s = s} {t = t} {events = events} allowed saw = by_event (view_of_eve
   where
     it : AddedBy s t saw.rank saw.line saw.before events
     it = added_by saw.rank saw.line saw.past saw.before allowed saw.added
+
     log : List Line
     log = (node s saw.rank (run s t it.earlier).moments).log
+
     parts : AddedLine s saw.rank saw.added.entry saw.line saw.past saw.before
     parts = added_line s saw.rank saw.added.entry saw.line saw.past saw.before saw.added.gave
+
     is_view_entry : it.entry ≡ what.View saw.seen
     is_view_entry = read_view s saw.rank (node s saw.rank saw.before).log it.entry saw.seen (sym it.reads ∙ saw.reads)
+
     adds : (run s t (it.e ∷ it.earlier)).moments ≡ Adds saw.rank (what.View saw.seen) ∷ (run s t it.earlier).moments
     adds = it.adds ∙ ap (λ w. Adds saw.rank w ∷ saw.before) is_view_entry ∙ ap (λ ms. Adds saw.rank (what.View saw.seen) ∷ ms) (sym it.same)
+
     behind : saw.past ≡ log
     behind = parts.behind ∙ ap (λ ms. (node s saw.rank ms).log) (sym it.same)
+
     fitting : fits s saw.rank log (what.View saw.seen) ≡ true
     fitting =
         let ruled = ruled_before saw.added.back ((stage allowed).ruled) in
         let line_is = made_line (subst (λ l. Made s saw.rank l) saw.added.gave ((sound ruled saw.rank).made)) in
         subst (λ l. fits s saw.rank l (what.View saw.seen) ≡ true) behind (subst (λ w. fits s saw.rank saw.past w ≡ true) saw.reads line_is.fitting)
+
     by_event : (rank : Rank) × (it.e ≡ event.View rank saw.seen) × (rank.0 ≡ saw.rank) → AllInView s t events
     by_event found = record {
       rank = found.0;

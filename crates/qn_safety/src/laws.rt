@@ -1,11 +1,36 @@
-ghost use Rattle.std.specs.Prelude.{◌≡◌, ℕ, List, IsTrue};
+ghost use Rattle.std.specs.Prelude.{◌≡◌, ℕ, List, IsTrue, IsFalse, Some};
+ghost use Rattle.qn_base.specs.Members.{is_member};
 ghost use Rattle.qn_model.specs.declared.configuration.Settings.{Settings};
 ghost use Rattle.qn_model.specs.declared.events.Event.{Event};
 ghost use Rattle.qn_model.specs.declared.times.Timing.{Timing};
+ghost use Rattle.qn_model.specs.Log.{incarnation};
+ghost use Rattle.qn_model.specs.NodeVotes.{quorate};
+ghost use Rattle.qn_model.specs.Phases.{is_leaving, phase};
 ghost use Rattle.qn_model.specs.Timing.{is_safe};
-ghost use Rattle.qn_model.specs.Moments.{Moment, Before, is_holder};
-ghost use Rattle.qn_model.specs.Steps.{AllAllowed, run};
-ghost use Rattle.qn_safety.specs.Timed.{IsTimedRun};
+ghost use Rattle.qn_model.specs.Moments.{Before, Moment, is_holder};
+ghost use Rattle.qn_model.specs.World.{node_at};
+ghost use Rattle.qn_model.specs.Steps.{AllAllowed, holders, run};
+ghost use Rattle.qn_safety.specs.Closing.{asked_close, has_landed_close};
+ghost use Rattle.qn_safety.specs.Releases.{AllInView};
+ghost use Rattle.qn_safety.specs.Timed.{IsSameBoot, IsTimedRun, IsUp, NumbersRise};
+
+/// In the world after any events, each well formed and allowed in its turn, at most one node holds the
+/// resource, and at most one is reported as a holder: for all settings and all safe timing. The events
+/// stand newest first.
+pub fn law_no_two_holders()
+    ensures nodes { (s : Settings) (t : Timing) (events : List Event) (i j : ℕ)
+        → IsTrue (is_safe t)
+        → AllAllowed s t events
+        → IsTrue (is_holder s (run s t events).moments i)
+        → IsTrue (is_holder s (run s t events).moments j)
+        → i ≡ j }
+    ensures reported { (s : Settings) (t : Timing) (events : List Event) (i j : ℕ)
+        → IsTrue (is_safe t)
+        → AllAllowed s t events
+        → IsTrue (is_member (holders s (run s t events)) i)
+        → IsTrue (is_member (holders s (run s t events)) j)
+        → i ≡ j }
+{}
 
 /// In every timed run with safe timing at most one node holds the resource at each moment.
 pub fn law_timed_runs()
@@ -18,20 +43,47 @@ pub fn law_timed_runs()
         → i ≡ j }
 {}
 
-/// In the world after any events, each well formed and allowed in its turn, at most one node holds the
-/// resource: for all settings and all safe timing. The events stand newest first.
-pub fn law_no_two_holders()
-    ensures { (s : Settings) (t : Timing) (events : List Event) (i j : ℕ)
-        → IsTrue (is_safe t)
-        → AllAllowed s t events
-        → IsTrue (is_holder s (run s t events).moments i)
-        → IsTrue (is_holder s (run s t events).moments j)
-        → i ≡ j }
-{}
-
-/// The moments of every such run are a timed run: the image of the world gives the four facts.
+/// The moments of every run of the world are a timed run: the image of the world gives the four facts.
 pub fn law_runs_are_timed()
     ensures { (s : Settings) (t : Timing) (events : List Event)
         → AllAllowed s t events
         → IsTimedRun s t (run s t events).moments }
+{}
+
+/// The incarnations of one node in the world after any allowed events. Their numbers rise strictly. While
+/// one is up, its number stands in its slot; the slot is dirty until its close landed; where the close
+/// landed, the node is leaving. From the asking for its close on it never holds the resource.
+pub fn law_incarnations()
+    ensures rise { (s : Settings) (t : Timing) (events : List Event)
+        → AllAllowed s t events
+        → NumbersRise s (run s t events).moments }
+    ensures number { (s : Settings) (t : Timing) (events : List Event) (rank : ℕ)
+        → AllAllowed s t events
+        → IsUp s rank (run s t events).moments
+        → incarnation (node_at s rank (run s t events)).log ≡ Some ((run s t events).slots rank).incarnation }
+    ensures dirty { (s : Settings) (t : Timing) (events : List Event) (rank : ℕ)
+        → AllAllowed s t events
+        → IsUp s rank (run s t events).moments
+        → IsFalse (has_landed_close s rank (run s t events))
+        → IsFalse ((run s t events).slots rank).clean }
+    ensures leaves { (s : Settings) (t : Timing) (events : List Event) (rank : ℕ)
+        → AllAllowed s t events
+        → IsTrue (has_landed_close s rank (run s t events))
+        → IsTrue (is_leaving (phase s (node_at s rank (run s t events)).log)) }
+    ensures closed { (s : Settings) (t : Timing) (events earlier : List Event) (rank : ℕ)
+        → AllAllowed s t events
+        → Before earlier events
+        → IsTrue (asked_close (node_at s rank (run s t earlier)).log)
+        → IsSameBoot s rank (run s t earlier).moments (run s t events).moments
+        → IsFalse (is_holder s (run s t events).moments rank) }
+{}
+
+/// With wait_for_all on, a node is quorate at a tick only where one of the events handed a node a view of
+/// all configured nodes, which fitted that node.
+pub fn law_wait_for_all()
+    ensures { (s : Settings) (t : Timing) (events : List Event) (rank tick : ℕ)
+        → IsTrue s.wait_for_all
+        → AllAllowed s t events
+        → IsTrue (quorate s (node_at s rank (run s t events)).log tick)
+        → AllInView s t events }
 {}

@@ -3,9 +3,12 @@
 // Promises: in the world after any events that are allowed at most one node holds the resource
 // (`law_no_two_holders`). The same holds at each moment of every timed run (`law_timed_runs`), which knows
 // the shared disk by four facts alone (`specs/Timed`); every run of the world is one
-// (`law_runs_are_timed`).
+// (`law_runs_are_timed`). Beside it: what holds of the incarnations of one node (`law_incarnations`), and
+// that with wait_for_all nothing is quorate before some node saw all (`law_wait_for_all`).
 #![tactic(auto)]
 
 mod laws;
 
-pub use laws::{law_no_two_holders, law_runs_are_timed, law_timed_runs};
+pub use laws::{
+    law_incarnations, law_no_two_holders, law_runs_are_timed, law_timed_runs, law_wait_for_all,
+};
