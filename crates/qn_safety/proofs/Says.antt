@@ -23,7 +23,7 @@ use Rattle.qn_model.specs.declared.outputs.HaltKind.TheVariants as halt
 use Rattle.qn_model.specs.Log.{Line, op_out, incarnation, now, disk_of, has_start}
 use Rattle.qn_model.specs.Phases.{phase, boot_halt, message_of, deadly_of, is_booting, is_live, is_up, is_leaving}
 use Rattle.qn_model.specs.Holding.{holds}
-use Rattle.qn_model.specs.NodeVotes.{view, is_in_view, is_present, released, quorate}
+use Rattle.qn_model.specs.NodeVotes.{install, view, is_in_view, is_present, released, quorate}
 use Rattle.qn_model.specs.Unmet.{unmet, is_clear, is_chosen}
 use Rattle.qn_model.specs.Wanted.{wanted, fencing_op, to_read, to_reset, boot_op, close_op, rank_of, is_mail_due, may_fence}
 use Rattle.qn_model.specs.NodeOutputs.{acts, outs_at, live_outs, boot_outs, boot_step_outs, is_boot_step, is_begin, disk_outs, when, replies, reply, asks_under, ask_to, is_asking, gives_stop, gives_start, mail_feeds}
@@ -72,6 +72,7 @@ pub record TellReason (s : Settings) (me : ℕ) (past log : List Line) (entry : 
   pub from_me : tell.from ≡ rank_of me
   pub for_asker : tell.to ≡ ask.from
   pub incarnation : tell.incarnation ≡ ask.incarnation
+  pub number_of_view : tell.install ≡ ask.install
   pub same_view : tell.view ≡ ask.view
   pub present : is_present log ask.view ≡ true
   pub member : is_member ask.view.members ask.from.0 ≡ true
@@ -84,6 +85,7 @@ pub record AskReason (s : Settings) (me : ℕ) (past log : List Line) (to : Rank
   pub from_me : ask.from ≡ rank_of me
   pub to_other : ask.to ≡ to
   pub number : ask.incarnation ≡ Rattle.std.proofs.Common.unwrap_or (incarnation log) 0
+  pub number_of_view : ask.install ≡ install log
   pub present : view log ≡ Some ask.view
 
 abbrev pub PacketReason : Settings → ℕ → List Line → List Line → What → Rank → Packet → Type 0
@@ -183,6 +185,7 @@ module _ (s : Settings) (me : ℕ) (past : List Line) (tick : ℕ) (entry : What
     from_me = refl;
     for_asker = refl;
     incarnation = refl;
+    number_of_view = refl;
     same_view = refl;
     present = and_left_of _ _ present;
     member = and_right_of (is_present log ask.view) _ present;
@@ -214,6 +217,7 @@ module _ (s : Settings) (me : ℕ) (past : List Line) (tick : ℕ) (entry : What
     from_me = refl;
     to_other = refl;
     number = refl;
+    number_of_view = refl;
     present = same;
   })
 

@@ -23,7 +23,7 @@ use Rattle.qn_model.specs.Moments.{Before, Itself, Later}
 use Rattle.qn_safety.proofs.Tools.{some_same, clash, and_left_of, and_right_of, not_true, before_then, before_tail}
 use Rattle.qn_model.specs.declared.packets.Sent.{Sent}
 use Rattle.qn_model.specs.Moments.{Moment, Adds, node}
-use Rattle.qn_safety.specs.Timed.{IsUp, IsSameBoot, IsSentTo, WasSent, AllRuled, IsTimedRun}
+use Rattle.qn_safety.specs.Timed.{IsAdded, IsUp, IsSameBoot, IsSentTo, WasSent, AllRuled, IsTimedRun}
 use Rattle.std.proofs.Common.{unwrap_or}
 use Rattle.qn_model.specs.NodeVotes.{is_same_view}
 use Rattle.qn_safety.proofs.Says.{PacketReason, TellReason, AskReason}
@@ -32,6 +32,7 @@ use Rattle.qn_safety.proofs.Rests.{TellFound, same_view_at}
 use Rattle.qn_safety.proofs.Runs.{sound, ruled_before, newest_rule}
 use Rattle.qn_safety.proofs.Origins.{Origin, ByEntry, ByBoot, origin, AddedLine, added_line, Sending, sent_at}
 use Rattle.qn_safety.proofs.Numbers.{up_number}
+use Rattle.qn_safety.proofs.Fence.{added_then}
 use Rattle.qn_safety.proofs.Licensed.{added_boots}
 
 -- what node i knows at m by a Tell of node j that says not holding
@@ -118,16 +119,42 @@ one_boot {s = s} run i number p q p_all q_all up_p up_q has_p has_q = by_order (
     by_order (inr (inl less)) = absurd (let rise = run.rise i number number p q p_all q_all up_p up_q less has_p has_q in omega arith)
     by_order (inr (inr more)) = absurd (let rise = run.rise i number number q p q_all p_all up_q up_p more has_q has_p in omega arith)
 
-module _ {s : Settings} {t : Timing} {all : List Moment} (run : IsTimedRun s t all) (i : ℕ) (m : List Moment) (m_all : Before m all) where
+-- What a Tell that answers its reader i, and was sent by j, says of j and of the Ask that it answers. `heard_at` is right
+-- before the Tell was read.
+pub record TellTrace (s : Settings) (i j : ℕ) (tell : Tell) (heard_at : List Moment) : Type 0 where
+  pub line : Line
+  pub past : List Line
+  pub before : List Moment
+  pub added : IsAdded s j line past before heard_at
+  pub idle : tell.holds ≡ false → holds (line ∷ past) ≡ false
+  pub sees : is_in_view (line ∷ past) i ≡ true
+  pub shows : is_present (line ∷ past) tell.view ≡ true
+  pub ask_line : Line
+  pub ask_past : List Line
+  pub asked : List Moment
+  pub ask_added : IsAdded s i ask_line ask_past asked before
+  pub up : IsUp s i asked
+  pub same : IsSameBoot s i asked heard_at
+  pub installed : install (ask_line ∷ ask_past) ≡ tell.install
+
+same_install : (line : Line) (past : List Line) → install (before_outs line past) ≡ install (line ∷ past)
+unfolding install
+same_install line past = refl
+
+same_present : (line : Line) (past : List Line) (seen : View) → is_present (before_outs line past) seen ≡ is_present (line ∷ past) seen
+unfolding view
+same_present line past seen = refl
+
+module _ {s : Settings} {t : Timing} {all : List Moment} (run : IsTimedRun s t all) (i : ℕ) where
   -- from the Ask that was sent on: both packets, and the boot that asked
-  traced_from : (j : ℕ) (tell : Tell) (heard_at : List Moment) → Before heard_at m → IsUp s i heard_at → IsSameBoot s i heard_at m → claimed (node s i heard_at).log ≡ Some tell.incarnation
-      → not tell.holds ≡ true → (sent_tell : Sent) → sent_tell.to.0 ≡ i → sent_tell.packet ≡ packet.Tell tell → (sending : Sending s j sent_tell heard_at)
-      → TellReason s j sending.past (before_outs sending.line sending.past) sending.line.what sent_tell.to tell → Traced s i j m
-  traced_from j tell heard_at heard_m up_heard same_heard claims free sent_tell receiver content sending why =
+  traced_from : (j : ℕ) (tell : Tell) (heard_at : List Moment) → Before heard_at all → IsUp s i heard_at → claimed (node s i heard_at).log ≡ Some tell.incarnation
+      → (sent_tell : Sent) → sent_tell.to.0 ≡ i → (sending : Sending s j sent_tell heard_at)
+      → TellReason s j sending.past (before_outs sending.line sending.past) sending.line.what sent_tell.to tell → TellTrace s i j tell heard_at
+  traced_from j tell heard_at heard_all up_heard claims sent_tell receiver sending why =
       by_ask (sent_at (ruled_before back_before_all run.ruled) asked_sent)
     where
       back_sent_all : Before (Adds j sending.added.entry ∷ sending.before) all
-      back_sent_all = before_then sending.added.back (before_then heard_m m_all)
+      back_sent_all = before_then sending.added.back heard_all
 
       back_before_all : Before sending.before all
       back_before_all = before_tail back_sent_all
@@ -149,59 +176,94 @@ module _ {s : Settings} {t : Timing} {all : List Moment} (run : IsTimedRun s t a
       asker : why.ask.from.0 ≡ i
       asker = ap (λ r. r.0) (sym why.to_asker) ∙ receiver
 
-      by_ask : (k : ℕ) × Sending s k asked_sent.sent sending.before → Traced s i j m
+      same_asker : (k : ℕ) (asking : Sending s k asked_sent.sent sending.before) → k ≡ i → AskReason s k asking.past (before_outs asking.line asking.past) asked_sent.sent.to why.ask
+          → IsSameBoot s i asking.before heard_at
+      same_asker k asking own reason =
+          let up_asking : IsUp s i asking.before = subst (λ r. IsUp s r asking.before) own asking.up in
+          let asking_all : Before asking.before all = before_then (before_tail asking.added.back) back_before_all in
+          let ruled_asking = ruled_before asking_all run.ruled in
+          let state = sound ruled_asking i in
+          let has = up_number state.made up_asking.booted (state.living up_asking.on) in
+          let heard_state = sound (ruled_before heard_all run.ruled) i in
+          let heard_has = up_number heard_state.made up_heard.booted (heard_state.living up_heard.on) in
+          let own_log : asking.past ≡ (node s i asking.before).log = asking.behind ∙ ap (λ r. (node s r asking.before).log) own in
+          let number : why.ask.incarnation ≡ has.number = reason.number ∙ ap (λ log. unwrap_or (claimed log) 0) own_log ∙ ap (λ o. unwrap_or o 0) has.claims in
+          let heard_number : tell.incarnation ≡ heard_has.number = some_same _ _ (sym claims ∙ heard_has.claims) in
+          let numbers : heard_has.number ≡ has.number = sym heard_number ∙ why.incarnation ∙ number in
+          one_boot run i has.number asking.before heard_at asking_all heard_all up_asking up_heard has.has (heard_has.has ∙ ap Some numbers)
+
+      traced_ask : (k : ℕ) (asking : Sending s k asked_sent.sent sending.before) → AskReason s k asking.past (before_outs asking.line asking.past) asked_sent.sent.to why.ask → k ≡ i
+          → TellTrace s i j tell heard_at
+      traced_ask k asking reason own = record {
+        line = sending.line;
+        past = sending.past;
+        before = sending.before;
+        added = sending.added;
+        idle = λ free. tell_idle it (sym why.held ∙ free);
+        sees = sym (same_view_at sending.line sending.past i)
+            ∙ member_of_present (view (before_outs sending.line sending.past)) why.ask.view i why.present (subst (λ r. is_member why.ask.view.members r ≡ true) asker why.member);
+        shows = sym (same_present sending.line sending.past tell.view) ∙ ap (is_present (before_outs sending.line sending.past)) why.same_view ∙ why.present;
+        ask_line = asking.line;
+        ask_past = asking.past;
+        asked = asking.before;
+        ask_added = subst (λ r. IsAdded s r asking.line asking.past asking.before sending.before) own asking.added;
+        up = subst (λ r. IsUp s r asking.before) own asking.up;
+        same = same_asker k asking own reason;
+        installed = sym (same_install asking.line asking.past) ∙ sym reason.number_of_view ∙ sym why.number_of_view;
+      }
+
+      by_ask : (k : ℕ) × Sending s k asked_sent.sent sending.before → TellTrace s i j tell heard_at
       by_ask found =
-          let k = found.0 in
-          let asking = found.1 in
-          let reason : AskReason s k asking.past (before_outs asking.line asking.past) asked_sent.sent.to why.ask =
-          subst (λ c. PacketReason s k asking.past (before_outs asking.line asking.past) asking.line.what asked_sent.sent.to c) asked_sent.content asking.reason in
-          let own : k ≡ i = sym (ap (λ r. r.0) reason.from_me) ∙ asker in
-          record {
-            sent = Adds j sending.added.entry ∷ sending.before;
-            back = before_then sending.added.back heard_m;
-            line = sending.line;
-            past = sending.past;
-            gave = sending.added.gave;
-            idle = tell_idle it (sym why.held ∙ not_true tell.holds free);
-            sees = sym (same_view_at sending.line sending.past i)
-                ∙ member_of_present (view (before_outs sending.line sending.past)) why.ask.view i why.present (subst (λ r. is_member why.ask.view.members r ≡ true) asker why.member);
-            asked = asking.before;
-            asked_back = before_then (before_tail asking.added.back) (Later (Adds j sending.added.entry) Itself);
-            up = subst (λ r. IsUp s r asking.before) own asking.up;
-            same = same_asker k asking own reason ∙ same_heard;
-          }
-        where
-          same_asker : (k : ℕ) (asking : Sending s k asked_sent.sent sending.before) → k ≡ i → AskReason s k asking.past (before_outs asking.line asking.past) asked_sent.sent.to why.ask
-              → IsSameBoot s i asking.before heard_at
-          same_asker k asking own reason =
-              let up_asking : IsUp s i asking.before = subst (λ r. IsUp s r asking.before) own asking.up in
-              let asking_all : Before asking.before all = before_then (before_tail asking.added.back) back_before_all in
-              let heard_all : Before heard_at all = before_then heard_m m_all in
-              let ruled_asking = ruled_before asking_all run.ruled in
-              let state = sound ruled_asking i in
-              let has = up_number state.made up_asking.booted (state.living up_asking.on) in
-              let heard_state = sound (ruled_before heard_all run.ruled) i in
-              let heard_has = up_number heard_state.made up_heard.booted (heard_state.living up_heard.on) in
-              let own_log : asking.past ≡ (node s i asking.before).log = asking.behind ∙ ap (λ r. (node s r asking.before).log) own in
-              let number : why.ask.incarnation ≡ has.number = reason.number ∙ ap (λ log. unwrap_or (claimed log) 0) own_log ∙ ap (λ o. unwrap_or o 0) has.claims in
-              let heard_number : tell.incarnation ≡ heard_has.number = some_same _ _ (sym claims ∙ heard_has.claims) in
-              let numbers : heard_has.number ≡ has.number = sym heard_number ∙ why.incarnation ∙ number in
-              one_boot run i has.number asking.before heard_at asking_all heard_all up_asking up_heard has.has (heard_has.has ∙ ap Some numbers)
+          let reason : AskReason s found.0 found.1.past (before_outs found.1.line found.1.past) asked_sent.sent.to why.ask =
+                subst (λ c. PacketReason s found.0 found.1.past (before_outs found.1.line found.1.past) found.1.line.what asked_sent.sent.to c) asked_sent.content found.1.reason in
+          traced_ask found.0 found.1 reason (sym (ap (λ r. r.0) reason.from_me) ∙ asker)
 
-  by_sending : (j : ℕ) (tell : Tell) (heard_at : List Moment) → Before heard_at m → IsUp s i heard_at → IsSameBoot s i heard_at m → claimed (node s i heard_at).log ≡ Some tell.incarnation
-      → not tell.holds ≡ true → tell.from.0 ≡ j → IsSentTo s i (packet.Tell tell) heard_at → Traced s i j m
-  by_sending j tell heard_at heard_m up_heard same_heard claims free from_j told_sent =
-      let found = sent_at (ruled_before (before_then heard_m m_all) run.ruled) told_sent in
-      let k = found.0 in
-      let sending = found.1 in
-      let why : TellReason s k sending.past (before_outs sending.line sending.past) sending.line.what told_sent.sent.to tell =
-      subst (λ c. PacketReason s k sending.past (before_outs sending.line sending.past) sending.line.what told_sent.sent.to c) told_sent.content sending.reason in
-      subst (λ x. Traced s i x m) (sym (ap (λ r. r.0) why.from_me) ∙ from_j)
-      (traced_from k tell heard_at heard_m up_heard same_heard claims free told_sent.sent told_sent.receiver told_sent.content sending why)
+  by_sending : (tell : Tell) (heard_at : List Moment) → Before heard_at all → IsUp s i heard_at → claimed (node s i heard_at).log ≡ Some tell.incarnation
+      → IsSentTo s i (packet.Tell tell) heard_at → TellTrace s i tell.from.0 tell heard_at
+  by_sending tell heard_at heard_all up_heard claims told_sent =
+      by_teller (sent_at (ruled_before heard_all run.ruled) told_sent)
+    where
+      by_teller : (k : ℕ) × Sending s k told_sent.sent heard_at → TellTrace s i tell.from.0 tell heard_at
+      by_teller found =
+          let why : TellReason s found.0 found.1.past (before_outs found.1.line found.1.past) found.1.line.what told_sent.sent.to tell =
+                subst (λ c. PacketReason s found.0 found.1.past (before_outs found.1.line found.1.past) found.1.line.what told_sent.sent.to c) told_sent.content found.1.reason in
+          subst (λ x. TellTrace s i x tell heard_at) (sym (ap (λ r. r.0) why.from_me))
+          (traced_from found.0 tell heard_at heard_all up_heard claims told_sent.sent told_sent.receiver found.1 why)
 
-  -- what a Tell that a node counts as not holding says
-  pub traced : (j : ℕ) → TellFound (λ tell. not tell.holds) j (node s i m).log → Traced s i j m
-  traced j found = by_origin (origin s i found.line found.past m found.back)
+  -- what a Tell that answers says
+  pub tell_trace : (line : Line) (past : List Line) (before : List Moment) (tell : Tell) → IsAdded s i line past before all → line.what ≡ what.Tell tell → answers past tell ≡ true
+      → TellTrace s i tell.from.0 tell before
+  tell_trace line past before tell added reads answered =
+      let ruled_add = ruled_before added.back run.ruled in
+      let rule = newest_rule ruled_add in
+      let parts = added_line s i added.entry line past before added.gave in
+      let it : IsLine s i line past = made_line (subst (λ log. Made s i log) added.gave ((sound ruled_add i).made)) in
+      let entry : added.entry ≡ what.Tell tell = read_tell s i past added.entry tell (sym parts.reads ∙ reads) in
+      let fit : fits s i past (what.Tell tell) ≡ true = subst (λ w. fits s i past w ≡ true) reads it.fitting in
+      let live : is_live (phase s past) ≡ true = and_left_of (is_live (phase s past)) (is_for s i tell.from tell.to) fit in
+      let booted : is_booting (phase s (node s i before).log) ≡ false = subst (λ log. is_booting (phase s log) ≡ false) parts.behind (live_booted (phase s past) live) in
+      let claims : claimed (node s i before).log ≡ Some tell.incarnation = subst (λ log. claimed log ≡ Some tell.incarnation) parts.behind (answers_number past tell answered) in
+      let told_sent : IsSentTo s i (packet.Tell tell) before = subst (λ w. WasSent s i w before) entry rule.1 in
+      by_sending tell before (before_tail added.back) (record { on = rule.0; booted = booted }) claims told_sent
+
+  -- what node i knows at m by a Tell of node j that says not holding
+  traced_at : (m before : List Moment) (tell : Tell) → Before before m → IsSameBoot s i before m → not tell.holds ≡ true → TellTrace s i tell.from.0 tell before → Traced s i tell.from.0 m
+  traced_at m before tell back same free trace = record {
+    sent = Adds tell.from.0 trace.added.entry ∷ trace.before;
+    back = before_then trace.added.back back;
+    line = trace.line;
+    past = trace.past;
+    gave = trace.added.gave;
+    idle = trace.idle (not_true tell.holds free);
+    sees = trace.sees;
+    asked = trace.asked;
+    asked_back = before_then (before_tail trace.ask_added.back) (Later (Adds tell.from.0 trace.added.entry) Itself);
+    up = trace.up;
+    same = trace.same ∙ same;
+  }
+
+  pub traced : (m : List Moment) → Before m all → (j : ℕ) → TellFound (λ tell. not tell.holds) j (node s i m).log → Traced s i j m
+  traced m m_all j found = by_origin (origin s i found.line found.past m found.back)
     where
       no_begin : found.line.what ≡ what.Begin → ⊥
       no_begin begins = told_begin (sym begins ∙ found.reads)
@@ -212,14 +274,6 @@ module _ {s : Settings} {t : Timing} {all : List Moment} (run : IsTimedRun s t a
       by_origin : Origin s i found.line found.past m → Traced s i j m
       by_origin (ByBoot begins first) = absurd (no_begin begins)
       by_origin (ByEntry before added same) =
-          let ruled_add = ruled_before (before_then added.back m_all) run.ruled in
-          let rule = newest_rule ruled_add in
-          let parts = added_line s i added.entry found.line found.past before added.gave in
-          let it : IsLine s i found.line found.past = made_line (subst (λ log. Made s i log) added.gave ((sound ruled_add i).made)) in
-          let entry : added.entry ≡ what.Tell found.tell = read_tell s i found.past added.entry found.tell (sym parts.reads ∙ found.reads) in
-          let fit : fits s i found.past (what.Tell found.tell) ≡ true = subst (λ w. fits s i found.past w ≡ true) found.reads it.fitting in
-          let live : is_live (phase s found.past) ≡ true = and_left_of (is_live (phase s found.past)) (is_for s i found.tell.from found.tell.to) fit in
-          let booted : is_booting (phase s (node s i before).log) ≡ false = subst (λ log. is_booting (phase s log) ≡ false) parts.behind (live_booted (phase s found.past) live) in
-          let claims : claimed (node s i before).log ≡ Some found.tell.incarnation = subst (λ log. claimed log ≡ Some found.tell.incarnation) parts.behind (answers_number found.past found.tell found.answers) in
-          let told_sent : IsSentTo s i (packet.Tell found.tell) before = subst (λ w. WasSent s i w before) entry rule.1 in
-          by_sending j found.tell before (before_tail added.back) (record { on = rule.0; booted = booted }) (sym (added_boots s i added.entry before) ∙ same) claims found.passes found.sender told_sent
+          subst (λ x. Traced s i x m) found.sender
+          (traced_at m before found.tell (before_tail added.back) (sym (added_boots s i added.entry before) ∙ same) found.passes
+          (tell_trace found.line found.past before found.tell (added_then added m_all) found.reads found.answers))
