@@ -26,3 +26,4 @@ pub mod Rising
 pub mod Holders
 pub mod WaitForAll
 pub mod Incarnations
+pub mod FenceAndTells

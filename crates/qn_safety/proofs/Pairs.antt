@@ -12,7 +12,7 @@ use Rattle.qn_model.specs.Licences.{out_time}
 use Rattle.qn_model.specs.Moments.{Before, Itself}
 use Rattle.qn_safety.proofs.Tools.{clash, before_then, before_total}
 use Rattle.qn_model.specs.Moments.{Moment, Adds, node, is_holder}
-use Rattle.qn_safety.specs.Timed.{IsUp, IsSameBoot, AllRuled, IsTimedRun}
+use Rattle.qn_safety.specs.Timed.{IsAdded, IsUp, IsSameBoot, AllRuled, IsTimedRun}
 use Rattle.std.proofs.lemmas.Bool.{cases_eq}
 use Rattle.qn_model.specs.Timing.{is_safe}
 use Rattle.qn_safety.proofs.Logs.{IsLine, line_at, start_reason}
@@ -33,6 +33,10 @@ pub record Started (s : Settings) (i : ℕ) (now : List Moment) : Type 0 where
   pub line : Line
   pub past : List Line
   pub gave : (node s i at).log ≡ line ∷ past
+  pub before : List Moment
+  pub added : IsAdded s i line past before now
+  pub is : at ≡ Adds i added.entry ∷ before
+  pub starts : has_start line.outs ≡ true
   pub facts : StartFacts s i line past
   pub held : (mid : List Moment) → Before at mid → Before mid now → is_holder s mid i ≡ true
 
@@ -48,7 +52,7 @@ module _ {s : Settings} {t : Timing} {all : List Moment} (run : IsTimedRun s t a
       first_not_live : (s : Settings) → is_live (phase s []) ≡ false
       first_not_live s = unfold phase in refl
 
-  started : (i : ℕ) (now : List Moment) → Before now all → is_holder s now i ≡ true → Started s i now
+  pub started : (i : ℕ) (now : List Moment) → Before now all → is_holder s now i ≡ true → Started s i now
   started i now until holder = by_origin (origin s i start.line start.past now start.back)
     where
       start : StartedAt (node s i now).log
@@ -75,6 +79,10 @@ module _ {s : Settings} {t : Timing} {all : List Moment} (run : IsTimedRun s t a
             line = start.line;
             past = start.past;
             gave = added.gave;
+            before = before;
+            added = added;
+            is = refl;
+            starts = start.start;
             facts = facts;
             held = λ mid since to_now.
                 let mids = same_mid s i since to_now same in

@@ -215,7 +215,7 @@ module _ {s : Settings} {t : Timing} {all : List Moment} (run : IsTimedRun s t a
       by_ask : (k : ℕ) × Sending s k asked_sent.sent sending.before → TellTrace s i j tell heard_at
       by_ask found =
           let reason : AskReason s found.0 found.1.past (before_outs found.1.line found.1.past) asked_sent.sent.to why.ask =
-                subst (λ c. PacketReason s found.0 found.1.past (before_outs found.1.line found.1.past) found.1.line.what asked_sent.sent.to c) asked_sent.content found.1.reason in
+          subst (λ c. PacketReason s found.0 found.1.past (before_outs found.1.line found.1.past) found.1.line.what asked_sent.sent.to c) asked_sent.content found.1.reason in
           traced_ask found.0 found.1 reason (sym (ap (λ r. r.0) reason.from_me) ∙ asker)
 
   by_sending : (tell : Tell) (heard_at : List Moment) → Before heard_at all → IsUp s i heard_at → claimed (node s i heard_at).log ≡ Some tell.incarnation
@@ -226,7 +226,7 @@ module _ {s : Settings} {t : Timing} {all : List Moment} (run : IsTimedRun s t a
       by_teller : (k : ℕ) × Sending s k told_sent.sent heard_at → TellTrace s i tell.from.0 tell heard_at
       by_teller found =
           let why : TellReason s found.0 found.1.past (before_outs found.1.line found.1.past) found.1.line.what told_sent.sent.to tell =
-                subst (λ c. PacketReason s found.0 found.1.past (before_outs found.1.line found.1.past) found.1.line.what told_sent.sent.to c) told_sent.content found.1.reason in
+          subst (λ c. PacketReason s found.0 found.1.past (before_outs found.1.line found.1.past) found.1.line.what told_sent.sent.to c) told_sent.content found.1.reason in
           subst (λ x. TellTrace s i x tell heard_at) (sym (ap (λ r. r.0) why.from_me))
           (traced_from found.0 tell heard_at heard_all up_heard claims told_sent.sent told_sent.receiver found.1 why)
 

@@ -1,3 +1,4 @@
 pub mod Closing
 pub mod Timed
 pub mod Releases
+pub mod Lemmas
