@@ -27,3 +27,4 @@ pub mod Holders
 pub mod WaitForAll
 pub mod Incarnations
 pub mod FenceAndTells
+pub mod Premises

@@ -1,5 +1,6 @@
 -- A timed run of the cluster: moments that obey the rules of time, of packets and of feeds, and four facts that the
--- shared disk gives. Nothing else is said of the disk. This project's profile, after sbd(8).
+-- shared disk gives. Nothing else is said of the disk, so that a disk of another kind needs only these facts. Its numbers
+-- may be of any size, and a view need not hold its node: such a view fits no node. This project's profile, after sbd(8).
 use Rattle.std.specs.Prelude.{◌≡◌, ◌<◌, ◌≤◌, ◌+◌, ℕ, true, false, List, [], ◌∷◌, length, Some, slice_get}
 use Rattle.qn_model.specs.declared.configuration.Settings.{Settings}
 use Rattle.qn_model.specs.declared.times.Timing.{Timing}

@@ -5,13 +5,15 @@
 // the shared disk by four facts alone (`specs/Timed`); every run of the world is one
 // (`law_runs_are_timed`). Beside it: what holds of the incarnations of one node (`law_incarnations`), and
 // that with wait_for_all nothing is quorate before some node saw all (`law_wait_for_all`). The two lemmas
-// that the theorem rests on are laws too: `law_fence` and `law_tells`.
+// that the theorem rests on are laws too: `law_fence` and `law_tells`. The premises are met by a schedule
+// after which a node holds (`law_premises_are_met`).
 #![tactic(auto)]
 
 mod laws;
 mod lemmas;
 
 pub use laws::{
-    law_incarnations, law_no_two_holders, law_runs_are_timed, law_timed_runs, law_wait_for_all,
+    law_incarnations, law_no_two_holders, law_premises_are_met, law_runs_are_timed, law_timed_runs,
+    law_wait_for_all,
 };
 pub use lemmas::{law_fence, law_tells};

@@ -1,0 +1,104 @@
+-- A schedule after which a node holds: the premises of the safety laws are met.
+use Rattle.std.proofs.Common.{◌<◌, ◌+◌, slice_index, sym, subst, ◌≡◌, ℕ, ◌≤◌, true, false, List, [], ◌∷◌, None, refl, arith, All}
+use Rattle.std.proofs.lemmas.Bool.{false≢true}
+use Rattle.std.proofs.lemmas.List.Elements.{All-nil, All-cons}
+use Rattle.qn_base.specs.declared.ids.Rank.{Rank}
+use Rattle.qn_base.specs.declared.ids.View.{View}
+use Rattle.qn_model.specs.declared.configuration.Settings.{Settings}
+use Rattle.qn_model.specs.declared.nodelist.NodeEntry.{NodeEntry}
+use Rattle.qn_model.specs.declared.times.Timing.{Timing}
+use Rattle.qn_model.specs.declared.events.Event.{Event}
+use Rattle.qn_model.specs.declared.events.Event.TheVariants as event
+use Rattle.qn_model.specs.Log.{op_out, ask_place, ask_tick, claimed, timing}
+use Rattle.qn_model.specs.NodeVotes.{view, install, votes}
+use Rattle.qn_model.specs.Votes.{answer_at, present_view, view_tick, is_released, expected_votes, device_yes}
+use Rattle.qn_model.specs.Phases.{phase}
+use Rattle.qn_model.specs.Holding.{holds, stop_due, may_stop}
+use Rattle.qn_model.specs.Hearing.{told}
+use Rattle.qn_model.specs.Licences.{out_time, slot_read_since, reset_since}
+use Rattle.qn_model.specs.Settings.{IsValid, ids}
+use Rattle.qn_model.specs.Unmet.{least_from, unmet}
+use Rattle.qn_model.specs.Wanted.{mail_tick, wanted}
+use Rattle.qn_model.specs.NodeOutputs.{moment, acts, outs_at, with_entry}
+use Rattle.qn_model.specs.Moments.{logged, handed, booted, time, node, given_out, packets, is_holder}
+use Rattle.qn_model.specs.World.{taken, failed}
+use Rattle.qn_model.specs.Rules.{is_well_formed, refusal}
+use Rattle.qn_model.specs.Steps.{step, run, AllAllowed}
+use Rattle.qn_safety.specs.Premises.{AllPremises}
+
+-- sbd(8)'s usual times, with a read limit of 2 s and a feed delay of 1 s
+abbrev usual : Timing
+usual = record { watchdog = 5000; msgwait = 10000; loop_ms = 1000; read_limit = 2000; feed_delay = 1000 }
+
+-- two nodes of one vote each with two_node and without wait_for_all
+abbrev two_nodes : Settings
+two_nodes =
+    record {
+      nodes = record { id = record { 0 = 1 }; votes = 1 } ∷ record { id = record { 0 = 2 }; votes = 1 } ∷ [];
+      two_node = true;
+      wait_for_all = false;
+      last_man_standing = false;
+      window = 10000;
+      device = None;
+      expected = 2;
+    }
+
+abbrev first : Rank
+first = record { 0 = 0 }
+
+abbrev alone : View
+alone = record { id = 1; members = record { 0 = 1 } }
+
+-- the first node boots, sees itself alone, reads its mailbox, and reads the other node's slot, which is clean: it starts
+abbrev start_alone : List Event
+start_alone = event.Done first ∷ event.Land first ∷ event.Done first ∷ event.Land first ∷ event.View first alone ∷ event.Done first ∷ event.Land first ∷ event.Done first ∷ event.Land first ∷ event.Done first ∷ event.Land first ∷ event.Done first ∷ event.Land first ∷ event.Boot first 0 ∷ []
+
+start_alone_allowed : AllAllowed two_nodes usual start_alone
+unfolding op_out ask_place ask_tick claimed timing view install votes answer_at present_view view_tick is_released expected_votes device_yes phase holds stop_due may_stop told out_time slot_read_since reset_since least_from unmet mail_tick wanted moment acts outs_at with_entry logged handed booted time node given_out packets taken failed is_well_formed refusal step run AllAllowed
+start_alone_allowed = (refl, refl, (refl, refl, (refl, refl, (refl, refl, (refl, refl, (refl, refl, (refl, refl, (refl, refl, (refl, refl, (refl, refl, (refl, refl, (refl, refl, (refl, refl, (refl, refl, tt))))))))))))))
+
+start_alone_holds : is_holder two_nodes (run two_nodes usual start_alone).moments 0 ≡ true
+unfolding op_out ask_place ask_tick claimed timing view install votes answer_at present_view view_tick is_released expected_votes device_yes phase holds stop_due may_stop told out_time slot_read_since reset_since least_from unmet mail_tick wanted moment acts outs_at with_entry logged handed booted time node given_out packets taken failed is_well_formed refusal step run AllAllowed
+start_alone_holds = refl
+
+each_node : (P : NodeEntry → Type 0) → P (record { id = record { 0 = 1 }; votes = 1 }) → P (record { id = record { 0 = 2 }; votes = 1 }) → All P two_nodes.nodes
+each_node P one two = All-cons P one_vote (two_votes ∷ []) one (All-cons P two_votes [] two (All-nil P))
+  where
+    one_vote : NodeEntry
+    one_vote = record { id = record { 0 = 1 }; votes = 1 }
+
+    two_votes : NodeEntry
+    two_votes = record { id = record { 0 = 2 }; votes = 1 }
+
+two_nodes_valid : IsValid two_nodes
+two_nodes_valid = record {
+  some_node = omega arith;
+  few_nodes = omega arith;
+  ids_from_one = each_node (λ n. 1 ≤ n.id.0) (omega arith) (omega arith);
+  ids_fit = each_node (λ n. n.id.0 ≤ 4294967295) (omega arith) (omega arith);
+  ids_ascend = ids_ascend;
+  votes_fit = each_node (λ n. n.votes ≤ 65535) (omega arith) (omega arith);
+  some_vote = omega arith;
+  some_expected = omega arith;
+  window = (omega arith, omega arith);
+  timeout = tt;
+  two_nodes = λ e. refl;
+  two_votes = λ e. each_node (λ n. n.votes ≡ 1) refl refl;
+  two_alone = λ e. refl;
+  last_man_votes = λ e. absurd (false≢true e);
+}
+  where
+    ids_ascend : (k : ℕ) → k + 1 < 2 → slice_index (ids two_nodes.nodes) k < slice_index (ids two_nodes.nodes) (k + 1)
+    ids_ascend k below = let same : k ≡ 0 = omega arith in subst (λ n. slice_index (ids two_nodes.nodes) n < slice_index (ids two_nodes.nodes) (n + 1)) (sym same) (omega arith)
+
+pub premises_met : AllPremises
+premises_met = record {
+  settings = two_nodes;
+  timing = usual;
+  events = start_alone;
+  rank = 0;
+  valid = two_nodes_valid;
+  safe = refl;
+  allowed = start_alone_allowed;
+  holder = start_alone_holds;
+}
