@@ -70,6 +70,13 @@ impl Heard {
         self.installs
     }
 
+    /// The present view: the last that was installed.
+    pub fn view(&self) -> Option<View>
+        ensures { (s : Settings) (me : ℕ) (log : List Line) → HeardFor self.now s me log → result ≡ view log }
+    {
+        self.view
+    }
+
     /// A view is installed at this tick: what was heard before it counts for nothing.
     pub fn on_view(&mut self, tick: u64, view: View)
         requires { installs_of self.old < u64.MAX }
