@@ -188,13 +188,21 @@ impl Boot<WantClaim> {
 }
 
 impl Boot<WantClear> {
-    ghost use Rattle.std.specs.Prelude.{◌≡◌, ℕ, List, IfOk};
+    ghost use Rattle.std.specs.Prelude.{◌≡◌, ℕ, List, Some, IfOk};
     ghost use Rattle.qn_model.specs.declared.configuration.Settings.{Settings};
     ghost use Rattle.qn_model.specs.declared.entries.What.{What};
-    ghost use Rattle.qn_model.specs.Log.{Line};
+    ghost use Rattle.qn_model.specs.Log.{Line, claimed};
     ghost use Rattle.qn_model.specs.NodeOutputs.{with_read};
     ghost use Rattle.qn_model.specs.Phases.{boot_halt};
     ghost use Rattle.qn_boot.specs.Boot.{ReadyFor, WantClearFor, halted_by};
+
+    /// The incarnation that was written.
+    pub fn claims(&self) -> u64
+        ensures value { result ≡ self.now.claims }
+        ensures stands { (s : Settings) (log : List Line) → WantClearFor s self.now log → claimed log ≡ Some result }
+    {
+        self.state.claims
+    }
 
     /// The own mailbox was cleared at that tick, or not. The boot ends well where it was; else it halts
     /// with ClearFailed. It is not tried again.
