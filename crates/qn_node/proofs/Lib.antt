@@ -1,0 +1,13 @@
+pub mod Acting
+pub mod ActsLaws
+pub mod LiveEntries
+pub mod LiveReads
+pub mod LiveSteps
+pub mod Ids
+pub mod Ranks
+pub mod ResourceSteps
+pub mod RestSteps
+pub mod Asking
+pub mod BootEntries
+pub mod Conditions
+pub mod Stages

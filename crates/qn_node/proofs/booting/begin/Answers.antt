@@ -1,0 +1,31 @@
+use Rattle.std.proofs.Common.{◌≡◌, ◌++◌, ◌∷◌, [], None, refl, sym, ap, subst, ◌∙◌}
+use Rattle.qn_model.specs.declared.entries.What.TheVariants as what
+use Rattle.qn_model.specs.declared.life.Phase.TheVariants.{Booting}
+use Rattle.qn_model.specs.declared.outputs.DiskOp.TheVariants as disk
+use Rattle.qn_model.specs.declared.outputs.Out.TheVariants as out
+use Rattle.qn_model.specs.NodeOutputs.{newest_outs, with_read}
+use Rattle.qn_node.specs.declared.resource.Resource.TheVariants as resource
+use Rattle.qn_node.specs.Rest.{RestFor}
+use Rattle.qn_node.proofs.BootEntries.{as_read, begin_outs, idle_outs, idle_stands, never_begun}
+use Rattle.qn_node.proofs.booting.begin.Goals as goal
+
+pub returns-in-Begin-clause-outs : goal.returns-in-Begin-clause-outs
+returns-in-Begin-clause-outs c =
+    let s = c.args.own.now.settings in
+    let me = c.args.own.now.me.0 in
+    as_read (λ w. c.push.new.self ≡ newest_outs (with_read s me [] c.args.tick w)) s me [] c.args.what what.Begin c.in-Begin.is refl
+    (c.push.ensures ∙ (ap (λ o. o ++ out.Disk disk.ReadHeader ∷ []) c.requires ∙ sym (begin_outs s me c.args.tick)))
+
+pub returns-in_default-clause-stands : goal.returns-in_default-clause-stands
+returns-in_default-clause-stands c =
+    let s = c.args.own.now.settings in
+    let me = c.args.own.now.me.0 in
+    subst (λ w. RestFor (record { phase = Booting; claims = None; resource = resource.Free }) s (with_read s me [] c.args.tick w)) (sym (never_begun s me c.args.tick c.args.what c.in_default.not-Begin))
+    (idle_stands s me c.args.tick)
+
+pub returns-in_default-clause-outs : goal.returns-in_default-clause-outs
+returns-in_default-clause-outs c =
+    let s = c.args.own.now.settings in
+    let me = c.args.own.now.me.0 in
+    subst (λ w. c.args.outs.now ≡ newest_outs (with_read s me [] c.args.tick w)) (sym (never_begun s me c.args.tick c.args.what c.in_default.not-Begin))
+    (c.requires ∙ sym (idle_outs s me c.args.tick))

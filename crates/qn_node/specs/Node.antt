@@ -1,0 +1,28 @@
+-- What a node in fixed memory stands for: the log of a member.
+use Rattle.std.specs.Prelude.{◌≡◌, ◌<◌, ℕ, List, length}
+use Rattle.qn_model.specs.declared.configuration.Settings.{Settings}
+use Rattle.qn_model.specs.declared.life.Phase.{Phase}
+use Rattle.qn_model.specs.Log.{Line, incarnation}
+use Rattle.qn_model.specs.NodeVotes.{votes}
+use Rattle.qn_fence.specs.Fence.{IsAskedInside}
+use Rattle.qn_quorum.specs.Quorum.{QuorumFor}
+use Rattle.qn_node.specs.declared.node.Node.{Node}
+use Rattle.qn_node.specs.Stage.{StageFor, stage_phase}
+
+-- how many entries a node can still take
+abbrev pub steps_of : Node → ℕ
+steps_of node = node.steps_left
+
+-- the phase of a node
+abbrev pub phase_of : Node → Phase
+phase_of node = stage_phase node.stage
+
+-- the node stands for the log of the configured member of that rank
+pub record NodeFor (node : Node) (s : Settings) (me : ℕ) (log : List Line) : Type 0 where
+  pub has_settings : node.own.settings ≡ s
+  pub has_rank : node.own.me.0 ≡ me
+  pub is_configured : me < length s.nodes
+  pub knows : node.incarnation ≡ incarnation log
+  pub is_inside : IsAskedInside log
+  pub counts : QuorumFor node.quorum s (votes log)
+  pub stands : StageFor node.stage s me log

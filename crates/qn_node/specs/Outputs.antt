@@ -1,0 +1,17 @@
+-- What can come out of a node: this project's profile.
+use Rattle.std.specs.Prelude.{◌<◌, length}
+use Rattle.qn_model.specs.declared.configuration.Settings.{Settings}
+use Rattle.qn_model.specs.declared.packets.Packet.TheVariants as packet
+use Rattle.qn_model.specs.declared.outputs.DiskOp.TheVariants as disk
+use Rattle.qn_model.specs.declared.outputs.Out.{Out}
+use Rattle.qn_model.specs.declared.outputs.Out.TheVariants as out
+
+-- an output of a node: a packet is an Ask or a Tell to a configured node, and a read of a slot or a reset is
+-- that of a configured node
+abbrev pub IsNodeOutput : Settings → Out → Type 0
+IsNodeOutput s (out.Send to (packet.Ask ask)) = to.0 < length s.nodes
+IsNodeOutput s (out.Send to (packet.Tell tell)) = to.0 < length s.nodes
+IsNodeOutput s (out.Send to packet) = ⊥
+IsNodeOutput s (out.Disk (disk.ReadSlot rank)) = rank.0 < length s.nodes
+IsNodeOutput s (out.Disk (disk.WriteReset rank)) = rank.0 < length s.nodes
+IsNodeOutput s output = Unit {0}

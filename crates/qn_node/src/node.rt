@@ -1,0 +1,140 @@
+ghost use Rattle.std.specs.Prelude.{◌≤◌, ◌+◌};
+ghost use Rattle.qn_node.specs.Stage.{installs_in};
+
+use crate::own::Own;
+use crate::stage::Stage;
+use qn_base::Rank;
+use qn_model::{Answer, Entry, Outs, Phase, Settings, Why};
+use qn_quorum::Quorum;
+use std::mem;
+
+/// One member of the cluster. Ticks are milliseconds of its clock.
+#[derive(Drop)]
+pub struct Node {
+    own: Own,
+    steps_left: u64,
+    incarnation: Option<u64>,
+    quorum: Quorum,
+    stage: Stage,
+    ghost few_views: { installs_in stage + steps_left ≤ 18446744073709551615 },
+}
+
+impl Node {
+    ghost use Rattle.std.specs.Prelude.{◌≡◌, ◌<◌, ◌≤◌, ◌+◌, ℕ, List, [], All, length, true};
+    ghost use Rattle.qn_model.specs.declared.configuration.Settings.{Settings};
+    ghost use Rattle.qn_model.specs.Log.{Line, incarnation, now};
+    ghost use Rattle.qn_model.specs.Phases.{is_live, phase};
+    ghost use Rattle.qn_model.specs.Holding.{holds};
+    ghost use Rattle.qn_model.specs.NodeVotes.{answer};
+    ghost use Rattle.qn_model.specs.NodeOutputs.{newest_outs, with_entry};
+    ghost use Rattle.qn_model.specs.Unmet.{unmet};
+    ghost use Rattle.qn_node.specs.Node.{NodeFor, phase_of, steps_of};
+    ghost use Rattle.qn_node.specs.Outputs.{IsNodeOutput};
+
+    /// The node of that rank before its first entry.
+    pub fn new(settings: &Settings, me: Rank) -> Node
+        requires { me.0 < length settings.now.nodes }
+        ensures stands { NodeFor result settings.now me.0 [] }
+        ensures fresh { steps_of result ≡ u64.MAX }
+    {
+        qn_fence::law_asked_inside();
+        Node {
+            own: Own {
+                settings: settings.copy(),
+                me,
+            },
+            steps_left: u64::MAX,
+            incarnation: None,
+            quorum: Quorum::new(settings),
+            stage: Stage::Idle,
+        }
+    }
+
+    /// Takes an entry in; `outs` is emptied, and then holds what comes out of the entry. An entry that does
+    /// not fit is read as a Tick. The entry's tick is not below that of the last one.
+    pub fn step(&mut self, entry: Entry, outs: &mut Outs)
+        requires { 0 < steps_of self.old }
+        ensures stands { (s : Settings) (me : ℕ) (log : List Line)
+            → NodeFor self.old s me log
+            → now log ≤ entry.tick
+            → NodeFor self.new s me (with_entry s me log entry) }
+        ensures outs { (s : Settings) (me : ℕ) (log : List Line)
+            → NodeFor self.old s me log
+            → now log ≤ entry.tick
+            → outs.new ≡ newest_outs (with_entry s me log entry) }
+        ensures ranks { (s : Settings) (me : ℕ) (log : List Line)
+            → NodeFor self.old s me log
+            → now log ≤ entry.tick
+            → All (IsNodeOutput s) outs.new }
+        ensures count { steps_of self.new + 1 ≡ steps_of self.old }
+    {
+        qn_fence::law_asked_inside();
+        outs.clear();
+        let stage = mem::replace(&mut self.stage, Stage::Idle);
+        self.incarnation = stage.claims();
+        self.steps_left -= 1;
+        self.stage = stage.step(&self.own, &mut self.quorum, entry, outs);
+    }
+
+    /// The first condition that a start of the resource still lacks at this tick, which is not below that of
+    /// the last entry.
+    pub fn why(&self, tick: u64) -> Why
+        ensures { (s : Settings) (me : ℕ) (log : List Line)
+            → NodeFor self.now s me log
+            → now log ≤ tick
+            → result ≡ unmet s me log tick }
+    {
+        self.stage.why(&self.own, tick, self.quorum.answer(tick))
+    }
+
+    /// The count of votes at this tick.
+    pub fn answer(&self, tick: u64) -> Answer
+        ensures { (s : Settings) (me : ℕ) (log : List Line) → NodeFor self.now s me log → result ≡ answer s log tick }
+    {
+        self.quorum.answer(tick)
+    }
+
+    /// Whether the node holds the resource.
+    pub fn holds(&self) -> bool
+        ensures { (s : Settings) (me : ℕ) (log : List Line) → NodeFor self.now s me log → result ≡ holds log }
+    {
+        self.stage.holds()
+    }
+
+    /// Where the node is in its life.
+    pub fn phase(&self) -> Phase
+        ensures value { result ≡ phase_of self.now }
+        ensures exact { (s : Settings) (me : ℕ) (log : List Line) → NodeFor self.now s me log → result ≡ phase s log }
+    {
+        self.stage.phase()
+    }
+
+    /// The incarnation that the node claimed: None up to the entry that gives the claim, that entry included.
+    pub fn incarnation(&self) -> Option<u64>
+        ensures { (s : Settings) (me : ℕ) (log : List Line) → NodeFor self.now s me log → result ≡ incarnation log }
+    {
+        self.incarnation
+    }
+
+    /// How many entries the node can still take.
+    pub fn steps_left(&self) -> u64
+        ensures { result ≡ steps_of self.now }
+    {
+        self.steps_left
+    }
+
+    /// An equal node, of one that is up or leaving: it stands for each log that this one stands for.
+    pub fn copy(&self) -> Node
+        requires { is_live (phase_of self.now) ≡ true }
+        ensures stands { (s : Settings) (me : ℕ) (log : List Line) → NodeFor self.now s me log → NodeFor result s me log }
+        ensures count { steps_of result ≡ steps_of self.now }
+    {
+        Node {
+            own: self.own.copy(),
+            steps_left: self.steps_left,
+            incarnation: self.incarnation,
+            quorum: self.quorum.copy(),
+            stage: self.stage.copy(),
+        }
+    }
+}

@@ -1,0 +1,151 @@
+use crate::booting::{begin, claimed, cleared, header, slot};
+use crate::live::Live;
+use crate::own::Own;
+use crate::rest::Rest;
+use qn_boot::{Boot, WantClaim, WantClear, WantHeader, WantSlot};
+use qn_model::{Answer, Entry, Outs, Phase, Why};
+use qn_quorum::Quorum;
+
+/// Where a node is in its life.
+#[derive(Drop)]
+pub enum Stage {
+    /// No entry came yet.
+    Idle,
+    /// The boot waits for the header.
+    Header(Boot<WantHeader>),
+    /// The boot waits for the own slot.
+    Slot(Boot<WantSlot>),
+    /// The boot waits for its claim to be written.
+    Claim(Boot<WantClaim>),
+    /// The boot waits for the own mailbox to be cleared.
+    Clear(Boot<WantClear>),
+    /// The node takes part.
+    Live(Live),
+    /// Nothing comes of it any more.
+    Rest(Rest),
+}
+
+impl Stage {
+    ghost use Rattle.std.specs.Prelude.{◌≡◌, ◌≤◌, ◌<◌, ◌+◌, List, [], true};
+    ghost use Rattle.qn_model.specs.Log.{Line, now};
+    ghost use Rattle.qn_model.specs.NodeOutputs.{newest_outs, with_entry};
+    ghost use Rattle.qn_model.specs.NodeVotes.{answer as answer_of, votes};
+    ghost use Rattle.qn_model.specs.Phases.{is_live};
+    ghost use Rattle.qn_model.specs.Unmet.{unmet};
+    ghost use Rattle.qn_fence.specs.Fence.{IsAskedInside};
+    ghost use Rattle.qn_quorum.specs.Quorum.{QuorumFor};
+    ghost use Rattle.qn_node.specs.Stage.{StageFor, claims_in, holds_in, installs_in, stage_phase};
+
+    /// Takes an entry in, gives its outputs, and hands out the next stage.
+    pub fn step(self, own: &Own, quorum: &mut Quorum, entry: Entry, outs: &mut Outs) -> Stage
+        requires few { installs_in self < u64.MAX }
+        requires empty { outs.old ≡ [] }
+        ensures few { installs_in result ≤ installs_in self + 1 }
+        ensures counts { (log : List Line)
+            → StageFor self own.now.settings own.now.me.0 log
+            → QuorumFor quorum.old own.now.settings (votes log)
+            → QuorumFor quorum.new own.now.settings (votes (with_entry own.now.settings own.now.me.0 log entry)) }
+        ensures stands { (log : List Line)
+            → StageFor self own.now.settings own.now.me.0 log
+            → QuorumFor quorum.old own.now.settings (votes log)
+            → IsAskedInside log
+            → now log ≤ entry.tick
+            → StageFor result own.now.settings own.now.me.0 (with_entry own.now.settings own.now.me.0 log entry) }
+        ensures outs { (log : List Line)
+            → StageFor self own.now.settings own.now.me.0 log
+            → QuorumFor quorum.old own.now.settings (votes log)
+            → now log ≤ entry.tick
+            → outs.new ≡ newest_outs (with_entry own.now.settings own.now.me.0 log entry) }
+    {
+        let Entry { tick, what } = entry;
+        match self {
+            Stage::Live(live) => live.step(own, quorum, entry, outs),
+            Stage::Idle => {
+                quorum.on_tick(tick);
+                begin(own, tick, what, outs)
+            }
+            Stage::Header(boot) => {
+                quorum.on_tick(tick);
+                header(boot, own, tick, what, outs)
+            }
+            Stage::Slot(boot) => {
+                quorum.on_tick(tick);
+                slot(boot, own, tick, what, outs)
+            }
+            Stage::Claim(boot) => {
+                quorum.on_tick(tick);
+                claimed(boot, own, tick, what, outs)
+            }
+            Stage::Clear(boot) => {
+                quorum.on_tick(tick);
+                cleared(boot, own, tick, what, outs)
+            }
+            Stage::Rest(rest) => {
+                quorum.on_tick(tick);
+                Stage::Rest(rest.step(tick, what))
+            }
+        }
+    }
+
+    /// The first condition that a start of the resource still lacks at this tick, which is not below that of
+    /// the last entry. `answer` is the count of votes at the tick.
+    pub fn why(&self, own: &Own, tick: u64, answer: Answer) -> Why
+        ensures { (log : List Line)
+            → StageFor self.now own.now.settings own.now.me.0 log
+            → now log ≤ tick
+            → answer ≡ answer_of own.now.settings log tick
+            → result ≡ unmet own.now.settings own.now.me.0 log tick }
+    {
+        match self {
+            Stage::Live(live) => live.why(own, tick, answer),
+            _ => Why::Down,
+        }
+    }
+
+    /// An equal stage, of a node that takes part.
+    pub fn copy(&self) -> Self
+        requires { is_live (stage_phase self.now) ≡ true }
+        ensures { result ≡ self.now }
+    {
+        match self {
+            Stage::Live(live) => Stage::Live(live.copy()),
+            Stage::Rest(rest) => Stage::Rest(*rest),
+            _ => unreachable!(),
+        }
+    }
+
+    /// The incarnation that was claimed.
+    pub fn claims(&self) -> Option<u64>
+        ensures { result ≡ claims_in self.now }
+    {
+        match self {
+            Stage::Idle | Stage::Header(_) | Stage::Slot(_) => None,
+            Stage::Claim(boot) => Some(boot.claims()),
+            Stage::Clear(boot) => Some(boot.claims()),
+            Stage::Live(live) => Some(live.incarnation()),
+            Stage::Rest(rest) => rest.claims,
+        }
+    }
+
+    /// The phase of a node at this stage.
+    pub fn phase(&self) -> Phase
+        ensures { result ≡ stage_phase self.now }
+    {
+        match self {
+            Stage::Live(live) => live.phase(),
+            Stage::Rest(rest) => rest.phase,
+            _ => Phase::Booting,
+        }
+    }
+
+    /// Whether a node at this stage holds the resource.
+    pub fn holds(&self) -> bool
+        ensures { result ≡ holds_in self.now }
+    {
+        match self {
+            Stage::Live(live) => live.holds(),
+            Stage::Rest(rest) => rest.resource.is_held(),
+            _ => false,
+        }
+    }
+}
