@@ -1,4 +1,4 @@
--- A schedule after which a node holds: the premises of the safety laws are met.
+-- A schedule in which two nodes hold, one after the other: the premises of the safety laws are met.
 use Rattle.std.proofs.Common.{◌<◌, ◌+◌, slice_index, sym, subst, ◌≡◌, ℕ, ◌≤◌, true, false, List, [], ◌∷◌, None, refl, arith, All}
 use Rattle.std.proofs.lemmas.Bool.{false≢true}
 use Rattle.std.proofs.lemmas.List.Elements.{All-nil, All-cons}
@@ -20,11 +20,11 @@ use Rattle.qn_model.specs.Settings.{IsValid, ids}
 use Rattle.qn_model.specs.Unmet.{least_from, unmet}
 use Rattle.qn_model.specs.Wanted.{mail_tick, wanted}
 use Rattle.qn_model.specs.NodeOutputs.{moment, acts, outs_at, with_entry}
-use Rattle.qn_model.specs.Moments.{logged, handed, booted, time, node, given_out, packets, is_holder}
+use Rattle.qn_model.specs.Moments.{Before, Itself, Later, logged, handed, booted, time, node, given_out, packets, is_holder}
 use Rattle.qn_model.specs.World.{taken, failed}
 use Rattle.qn_model.specs.Rules.{is_well_formed, refusal}
 use Rattle.qn_model.specs.Steps.{step, run, AllAllowed}
-use Rattle.qn_safety.specs.Premises.{AllPremises}
+use Rattle.qn_safety.specs.Premises.{OneAfterAnother}
 
 -- sbd(8)'s usual times, with a read limit of 2 s and a feed delay of 1 s
 abbrev usual : Timing
@@ -46,20 +46,38 @@ two_nodes =
 abbrev first : Rank
 first = record { 0 = 0 }
 
-abbrev alone : View
-alone = record { id = 1; members = record { 0 = 1 } }
+abbrev second : Rank
+second = record { 0 = 1 }
 
--- the first node boots, sees itself alone, reads its mailbox, and reads the other node's slot, which is clean: it starts
+abbrev sees : ℕ → View
+sees members = record { id = 1; members = record { 0 = members } }
+
+-- the second node boots, sees itself alone, reads its mailbox and the slot of the first node, which is clean: it starts
 abbrev start_alone : List Event
-start_alone = event.Done first ∷ event.Land first ∷ event.Done first ∷ event.Land first ∷ event.View first alone ∷ event.Done first ∷ event.Land first ∷ event.Done first ∷ event.Land first ∷ event.Done first ∷ event.Land first ∷ event.Done first ∷ event.Land first ∷ event.Boot first 0 ∷ []
+start_alone = event.Done second ∷ event.Land second ∷ event.Done second ∷ event.Land second ∷ event.View second (sees 2) ∷ event.Done second ∷ event.Land second ∷ event.Done second ∷ event.Land second ∷ event.Done second ∷ event.Land second ∷ event.Done second ∷ event.Land second ∷ event.Boot second 0 ∷ []
 
-start_alone_allowed : AllAllowed two_nodes usual start_alone
-unfolding op_out ask_place ask_tick claimed timing view install votes answer_at present_view view_tick is_released expected_votes device_yes phase holds stop_due may_stop told out_time slot_read_since reset_since least_from unmet mail_tick wanted moment acts outs_at with_entry logged handed booted time node given_out packets taken failed is_well_formed refusal step run AllAllowed
-start_alone_allowed = (refl, refl, (refl, refl, (refl, refl, (refl, refl, (refl, refl, (refl, refl, (refl, refl, (refl, refl, (refl, refl, (refl, refl, (refl, refl, (refl, refl, (refl, refl, (refl, refl, tt))))))))))))))
+-- it crashes; the first node boots, sees itself alone, finds the other slot dirty, and writes a reset; it goes on reading
+-- its mailbox and feeding its watchdog; 10000 ticks after the reset was written it starts
+abbrev takes_over : List Event
+takes_over = event.Tick first ∷ event.Pass 2000 [] ∷ event.Feed first ∷ event.Done first ∷ event.Land first ∷ event.Tick first ∷ event.Pass 4000 [] ∷ event.Feed first ∷ event.Done first ∷ event.Land first ∷ event.Tick first ∷ event.Pass 4000 [] ∷ event.Done first ∷ event.Land first ∷ event.Done first ∷ event.Land first ∷ event.Done first ∷ event.Land first ∷ event.View first (sees 1) ∷ event.Done first ∷ event.Land first ∷ event.Done first ∷ event.Land first ∷ event.Done first ∷ event.Land first ∷ event.Done first ∷ event.Land first ∷ event.Boot first 0 ∷ event.Crash second ∷ start_alone
 
-start_alone_holds : is_holder two_nodes (run two_nodes usual start_alone).moments 0 ≡ true
+start_alone_holds : is_holder two_nodes (run two_nodes usual start_alone).moments 1 ≡ true
 unfolding op_out ask_place ask_tick claimed timing view install votes answer_at present_view view_tick is_released expected_votes device_yes phase holds stop_due may_stop told out_time slot_read_since reset_since least_from unmet mail_tick wanted moment acts outs_at with_entry logged handed booted time node given_out packets taken failed is_well_formed refusal step run AllAllowed
 start_alone_holds = refl
+
+takes_over_holds : is_holder two_nodes (run two_nodes usual takes_over).moments 0 ≡ true
+unfolding op_out ask_place ask_tick claimed timing view install votes answer_at present_view view_tick is_released expected_votes device_yes phase holds stop_due may_stop told out_time slot_read_since reset_since least_from unmet mail_tick wanted moment acts outs_at with_entry logged handed booted time node given_out packets taken failed is_well_formed refusal step run AllAllowed
+takes_over_holds = refl
+
+takes_over_allowed : AllAllowed two_nodes usual takes_over
+unfolding op_out ask_place ask_tick claimed timing view install votes answer_at present_view view_tick is_released expected_votes device_yes phase holds stop_due may_stop told out_time slot_read_since reset_since least_from unmet mail_tick wanted moment acts outs_at with_entry logged handed booted time node given_out packets taken failed is_well_formed refusal step run AllAllowed
+takes_over_allowed = (refl, refl, (refl, refl, (refl, refl, (refl, refl, (refl, refl, (refl, refl, (refl, refl, (refl, refl, (refl, refl, (refl, refl, (refl, refl, (refl, refl, (refl, refl, (refl, refl, (refl, refl, (refl, refl, (refl, refl, (refl, refl, (refl, refl, (refl, refl, (refl, refl, (refl, refl, (refl, refl, (refl, refl, (refl, refl, (refl, refl, (refl, refl, (refl, refl, (refl, refl, (refl, refl, (refl, refl, (refl, refl, (refl, refl, (refl, refl, (refl, refl, (refl, refl, (refl, refl, (refl, refl, (refl, refl, (refl, refl, (refl, refl, (refl, refl, (refl, refl, tt)))))))))))))))))))))))))))))))))))))))))))
+
+takes_over_later : Before start_alone takes_over
+takes_over_later = Later (event.Tick first) (Later (event.Pass 2000 []) (Later (event.Feed first) (Later (event.Done first) (Later (event.Land first) (Later (event.Tick first) (Later (event.Pass 4000 []) (Later (event.Feed first) (Later (event.Done first) (Later (event.Land first) (Later (event.Tick first) (Later (event.Pass 4000 []) (Later (event.Done first) (Later (event.Land first) (Later (event.Done first) (Later (event.Land first) (Later (event.Done first) (Later (event.Land first) (Later (event.View first (sees 1)) (Later (event.Done first) (Later (event.Land first) (Later (event.Done first) (Later (event.Land first) (Later (event.Done first) (Later (event.Land first) (Later (event.Done first) (Later (event.Land first) (Later (event.Boot first 0) (Later (event.Crash second) Itself))))))))))))))))))))))))))))
+
+one_is_not_zero : ¬ (◌≡◌ {A = ℕ} 1 0)
+one_is_not_zero e = absurd (omega arith)
 
 each_node : (P : NodeEntry → Type 0) → P (record { id = record { 0 = 1 }; votes = 1 }) → P (record { id = record { 0 = 2 }; votes = 1 }) → All P two_nodes.nodes
 each_node P one two = All-cons P one_vote (two_votes ∷ []) one (All-cons P two_votes [] two (All-nil P))
@@ -91,14 +109,19 @@ two_nodes_valid = record {
     ids_ascend : (k : ℕ) → k + 1 < 2 → slice_index (ids two_nodes.nodes) k < slice_index (ids two_nodes.nodes) (k + 1)
     ids_ascend k below = let same : k ≡ 0 = omega arith in subst (λ n. slice_index (ids two_nodes.nodes) n < slice_index (ids two_nodes.nodes) (n + 1)) (sym same) (omega arith)
 
-pub premises_met : AllPremises
-premises_met = record {
+pub one_after_another : OneAfterAnother
+one_after_another = record {
   settings = two_nodes;
   timing = usual;
-  events = start_alone;
-  rank = 0;
+  earlier = start_alone;
+  events = takes_over;
+  first_holder = 1;
+  second_holder = 0;
   valid = two_nodes_valid;
   safe = refl;
-  allowed = start_alone_allowed;
-  holder = start_alone_holds;
+  allowed = takes_over_allowed;
+  order = takes_over_later;
+  first_holds = start_alone_holds;
+  second_holds = takes_over_holds;
+  differ = one_is_not_zero;
 }

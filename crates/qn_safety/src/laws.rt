@@ -11,7 +11,7 @@ ghost use Rattle.qn_model.specs.Moments.{Before, Moment, is_holder};
 ghost use Rattle.qn_model.specs.World.{node_at};
 ghost use Rattle.qn_model.specs.Steps.{AllAllowed, holders, run};
 ghost use Rattle.qn_safety.specs.Closing.{asked_close, has_landed_close};
-ghost use Rattle.qn_safety.specs.Premises.{AllPremises};
+ghost use Rattle.qn_safety.specs.Premises.{OneAfterAnother};
 ghost use Rattle.qn_safety.specs.Releases.{AllInView};
 ghost use Rattle.qn_safety.specs.Timed.{IsSameBoot, IsTimedRun, IsUp, NumbersRise};
 
@@ -89,8 +89,8 @@ pub fn law_wait_for_all()
         → AllInView s t events }
 {}
 
-/// The premises are met: there are valid settings, safe timing and events, each allowed in its turn, after
-/// which a node holds the resource.
+/// The premises are met: there are valid settings, safe timing and events, each allowed in its turn, in which
+/// two nodes hold the resource, one after the other.
 pub fn law_premises_are_met()
-    ensures { AllPremises }
+    ensures { OneAfterAnother }
 {}

@@ -6,7 +6,7 @@
 // (`law_runs_are_timed`). Beside it: what holds of the incarnations of one node (`law_incarnations`), and
 // that with wait_for_all nothing is quorate before some node saw all (`law_wait_for_all`). The two lemmas
 // that the theorem rests on are laws too: `law_fence` and `law_tells`. The premises are met by a schedule
-// after which a node holds (`law_premises_are_met`).
+// in which two nodes hold, one after the other (`law_premises_are_met`).
 #![tactic(auto)]
 
 mod laws;
