@@ -1,5 +1,13 @@
+mod Binds
+mod ClockSpelling
+mod ClocksListed
+mod EventSpelling
+mod Joining
+mod LineWords
 mod Listed
+mod MemberSpelling
 mod PartsLemmas
 mod Places
+mod RankSpelling
 mod TimingSpelling
 mod WrittenNumbers

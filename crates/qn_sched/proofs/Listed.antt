@@ -6,6 +6,7 @@ use Rattle.qn_model.specs.declared.line_fault.LineFault.{LineFault}
 use Rattle.qn_model.specs.declared.line_fault.LineFault.TheVariants.{BadView}
 use Rattle.qn_model.specs.Lines.{◌>>=◌, parts, known_rank, known_ranks, members_of, mask_of, is_filled, is_ascending}
 use Rattle.qn_sched.specs.declared.members.MemberList.{MemberList}
+use Rattle.qn_sched.proofs.Binds.{bind-same, bind-ok}
 use Rattle.qn_sched.specs.MemberList.{is_above, no_members, with_rank, with_part, with_parts, finished}
 
 -- ids that ascend, behind one that stands before them
@@ -18,14 +19,6 @@ abbrev pub listed : List ℕ → MemberList → List (List ℕ) → List ℕ →
 listed ids list words ranks =
     cond (list.is_sound && (list_all is_filled words && ascends_from list.last (map (slice_index ids) ranks)))
     (Ok (record { 0 = fold (λ mask rank. bit_or mask (2 ^ rank)) list.ranks ranks })) (Err BadView)
-
-bind-same : {A B : Type 0} (r : Result A LineFault) (f g : A → Result B LineFault) → ((x : A) → f x ≡ g x) → (r >>= f) ≡ (r >>= g)
-bind-same (Ok x) f g same = same x
-bind-same (Err fault) f g same = refl
-
-bind-ok : {A B C : Type 0} (r : Result A LineFault) (f : A → B) (g : B → Result C LineFault) → ((r >>= (λ x. Ok (f x))) >>= g) ≡ (r >>= (λ x. g (f x)))
-bind-ok (Ok x) f g = refl
-bind-ok (Err fault) f g = refl
 
 ascends_from-first : (id : ℕ) (ids : List ℕ) → is_ascending (id ∷ ids) ≡ ascends_from (Some id) ids
 ascends_from-first id [] = refl

@@ -1,6 +1,7 @@
 -- The parts of a text round a byte, at the first place where the byte stands.
-use Rattle.std.proofs.Common.{◌≡◌, ◌+◌, ◌<◌, ◌≤◌, ◌==◌, ◌≢◌, ℕ, false, List, [], ◌∷◌, ◌++◌, length, take, drop, get_or, refl, sym, ap, ◌∙◌, subst, arith}
+use Rattle.std.proofs.Common.{◌≡◌, ◌+◌, ◌<◌, ◌≤◌, ◌==◌, ◌≢◌, ℕ, true, false, List, [], ◌∷◌, ◌++◌, length, take, drop, get_or, refl, sym, ap, ◌∙◌, subst, arith}
 use Rattle.std.specs.Prelude.{All}
+use Rattle.std.specs.List.{join_with_byte}
 use Rattle.std.proofs.lemmas.List.{take-append-drop, drop_more, take_all, drop-drop, take_more}
 use Rattle.std.proofs.lemmas.List.Splits.{slice_split_at, slice_split_none, length-slice_split}
 use Rattle.std.proofs.lemmas.List.Elements.{All-push}
@@ -8,6 +9,7 @@ use Rattle.std.proofs.Common.{eq-eqb, ne_eqb}
 use Rattle.std.specs.Prelude.{Err}
 use Rattle.qn_model.specs.declared.line_fault.LineFault.TheVariants.{BadCount}
 use Rattle.qn_model.specs.Lines.{parts, two_words}
+use Rattle.qn_sched.specs.Words.{one_word, three_words}
 
 -- cut at place i, where the byte stands and not before
 pub parts-at : (byte : ℕ) (text : List ℕ) (i : ℕ) → i < length text → All (λ b. (b == byte) ≡ false) (take i text) → get_or text i 0 ≡ byte
@@ -37,3 +39,26 @@ parts-some byte text = omega (arith, length-slice_split (λ b. b == byte) text)
 pub two_words-more : (first second : List ℕ) (words : List (List ℕ)) → 0 < length words → two_words (first ∷ second ∷ words) ≡ Err BadCount
 two_words-more first second [] some = absurd (omega arith)
 two_words-more first second (third ∷ words) some = refl
+
+-- more than one word
+pub one_word-more : (first : List ℕ) (words : List (List ℕ)) → 0 < length words → one_word (first ∷ words) ≡ Err BadCount
+one_word-more first [] some = absurd (omega arith)
+one_word-more first (second ∷ words) some = refl
+
+-- more than three words
+pub three_words-more : (first second third : List ℕ) (words : List (List ℕ)) → 0 < length words → three_words (first ∷ second ∷ third ∷ words) ≡ Err BadCount
+three_words-more first second third [] some = absurd (omega arith)
+three_words-more first second third (fourth ∷ words) some = refl
+
+-- words of which none has a byte
+abbrev pub AreWithout : ℕ → List (List ℕ) → Type 0
+AreWithout byte [] = Unit {0}
+AreWithout byte (word ∷ words) = All (λ b. (b == byte) ≡ false) word × AreWithout byte words
+
+-- words that were joined by a byte which none of them has
+pub parts-joined : (byte : ℕ) → (byte == byte) ≡ true → (word : List ℕ) (words : List (List ℕ)) → AreWithout byte (word ∷ words)
+    → parts byte (join_with_byte byte (word ∷ words)) ≡ word ∷ words
+parts-joined byte same word [] without = slice_split_none (λ b. b == byte) word without.0
+parts-joined byte same word (next ∷ words) without =
+    slice_split_at (λ b. b == byte) word byte (join_with_byte byte (next ∷ words)) without.0 same
+    ∙ ap (λ ws. word ∷ ws) (parts-joined byte same next words without.1)

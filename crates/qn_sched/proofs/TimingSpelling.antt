@@ -12,16 +12,11 @@ use Rattle.std.proofs.lemmas.Slice.Eq.{bytes_eq-Decides}
 use Rattle.qn_model.specs.declared.line_fault.LineFault.{LineFault}
 use Rattle.qn_model.specs.declared.line_fault.LineFault.TheVariants.{UnknownWord, BadCount, TooLong}
 use Rattle.qn_model.specs.declared.times.Timing.{Timing}
-use Rattle.qn_model.specs.Lines.{◌>>=◌, words_of}
+use Rattle.qn_model.specs.Lines.{words_of}
 use Rattle.qn_model.specs.Timing.{is_period, has_periods}
 use Rattle.qn_sched.specs.TimingLine.{time_of, times_of, times_of_words, timing_line, timing_of, timing_of_words}
+use Rattle.qn_sched.proofs.Binds.{bind_ok}
 use Rattle.qn_sched.proofs.WrittenNumbers.{number_between-ok, number_between-decimal, decimal_blankless}
-
--- a step that gave a value was taken at a value
-bind_ok : {A B : Type 0} (r : Result A LineFault) (next : A → Result B LineFault) (b : B) → (r >>= next) ≡ Ok b
-    → (a : A) × (r ≡ Ok a) × (next a ≡ Ok b)
-bind_ok (Ok a) next b is = (a, refl, is)
-bind_ok (Err fault) next b is = cc
 
 ok_same : {A : Type 0} (a b : A) (x y : Result A LineFault) → x ≡ Ok a → y ≡ Ok b → x ≡ y → a ≡ b
 ok_same a b x y is_a is_b same = cc

@@ -1,5 +1,5 @@
 -- A number is accepted exactly where it is written as `decimal` writes it.
-use Rattle.std.proofs.Common.{◌≡◌, ℕ, ◌^◌, ◌<◌, ◌≤◌, Bool, true, false, ◌&&◌, ◌||◌, ◌==◌, List, [], ◌∷◌, length, get_or, Option, None, Some, Result, Ok, Err, refl, sym, ap, ◌∙◌, arith, nat_lt, nat_le, cond, lit<, zero, suc}
+use Rattle.std.proofs.Common.{◌≡◌, ℕ, ◌^◌, ◌<◌, ◌≤◌, Bool, true, false, ◌&&◌, ◌||◌, ◌==◌, List, [], ◌∷◌, length, get_or, Option, None, Some, Result, Ok, Err, refl, sym, ap, ◌∙◌, arith, nat_lt, nat_le, cond, lit<, zero, suc, ◌⊎◌, inl, inr}
 use Rattle.std.specs.Prelude.{decimal}
 use Rattle.std.specs.Option.{ok_or}
 use Rattle.std.specs.Str.{all_ascii_digits}
@@ -104,11 +104,18 @@ pub number_between-ok : (low high : ℕ) (word : List ℕ) (n : ℕ) → number_
 unfolding number_between
 number_between-ok low high word n is = by_number low high word n (number_of word) refl is
 
--- a written number has no blank
-pub decimal_blankless : (n : ℕ) → n < 2 ^ 64 → All (λ b. (b == 32) ≡ false) (decimal n)
-decimal_blankless n small = λ k d here.
+-- a written number has no byte that is no digit
+pub decimal_without : (byte : ℕ) → (byte < 48) ⊎ (57 < byte) → (n : ℕ) → n < 2 ^ 64 → All (λ b. (b == byte) ≡ false) (decimal n)
+decimal_without byte other n small = λ k d here.
     let digits : all_ascii_digits (decimal n) ≡ true = digits_decimal numerals n small in
     let in_range : IsInRange 48 57 (get_or (decimal n) k 0) =
     (numerals_by_value (λ ds. (i : ℕ) → i < length ds → IsInRange 48 57 (get_or ds i 0)) tells_by_index).from (decimal n) (numerals.to (decimal n) digits) k here in
     let same : get_or (decimal n) k d ≡ get_or (decimal n) k 0 = get_or_default (decimal n) k d 0 here in
-    ne_eqb (get_or (decimal n) k d) 32 (λ blank. omega arith)
+    elim other [
+      | inl below ↦ ne_eqb (get_or (decimal n) k d) byte (λ e. omega arith)
+      | inr above ↦ ne_eqb (get_or (decimal n) k d) byte (λ e. omega arith)
+    ]
+
+-- a written number has no blank
+pub decimal_blankless : (n : ℕ) → n < 2 ^ 64 → All (λ b. (b == 32) ≡ false) (decimal n)
+decimal_blankless n small = decimal_without 32 (inl (omega arith)) n small

@@ -1,5 +1,10 @@
+pub mod ClockList
 pub mod Ends
+pub mod EventLines
+pub mod EventNames
+pub mod EventReading
 pub mod Head
 pub mod MemberList
 pub mod TimingLine
+pub mod TraceLines
 pub mod Words

@@ -1,6 +1,7 @@
 ghost use Rattle.std.specs.Prelude.{◌≡◌, ◌<◌, ◌==◌, ◌&&◌, length, slice_index, position, IfOk, IfSome};
 ghost use Rattle.qn_model.specs.Lines.{known_rank, members_of};
 ghost use Rattle.qn_model.specs.Settings.{ids};
+ghost use Rattle.qn_sched.specs.EventReading.{rank_of};
 ghost use Rattle.qn_sched.specs.MemberList.{rank_number};
 
 use crate::numbers::number_between;
@@ -10,9 +11,10 @@ use qn_model::{LineFault, NodeEntry, Nodes};
 
 /// The rank of the node that a word names by its id. BadNumber where the word is no number of 64 bits,
 /// and else UnknownNode where no node has the id.
-#[tactic(auto, unfolding(qn_model::specs::Lines::known_rank))]
+#[tactic(auto, unfolding(qn_model::specs::Lines::known_rank, crate::specs::EventReading::rank_of))]
 pub fn known_rank(nodes: &Nodes, word: &[u8]) -> Result<Rank, LineFault>
     ensures value { rank_number result ≡ known_rank (ids nodes.now) word.now }
+    ensures rank { result ≡ rank_of (ids nodes.now) word.now }
     ensures within { IfOk result (λ rank. (rank.0 < length nodes.now) × (rank.0 < 32)) }
 {
     let id = number_between(0, u64::MAX, word)?;

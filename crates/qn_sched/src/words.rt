@@ -1,7 +1,7 @@
 ghost use Rattle.std.specs.Prelude.{◌≡◌, [], ◌∷◌, ◌≤◌, ◌<◌, length, None, Ok, Err, OnOk, OnErr, IfOk, IfErr, IfSome};
 ghost use Rattle.std.specs.Option.{option_copied};
 ghost use Rattle.qn_model.specs.Lines.{parts, two_words};
-ghost use Rattle.qn_sched.specs.Words.{parts_left};
+ghost use Rattle.qn_sched.specs.Words.{one_word, parts_left, three_words};
 
 use qn_model::LineFault;
 
@@ -45,6 +45,16 @@ pub fn no_more_words(rest: Option<&[u8]>) -> Result<(), LineFault>
     }
 }
 
+/// The one word that is left of a line. BadCount where there is none, or more than one.
+pub fn one_word(rest: Option<&[u8]>) -> Result<&[u8], LineFault>
+    ensures word { IfOk result (λ word. one_word (parts_left 32 (option_copied rest.entry)) ≡ Ok word.now) }
+    ensures fault { IfErr result (λ fault. one_word (parts_left 32 (option_copied rest.entry)) ≡ Err fault) }
+{
+    let (word, rest) = next_word(rest)?;
+    no_more_words(rest)?;
+    Ok(word)
+}
+
 /// The two words that are left of a line. BadCount where there are fewer or more.
 pub fn two_words(rest: Option<&[u8]>) -> Result<(&[u8], &[u8]), LineFault>
     ensures words { IfOk result
@@ -55,4 +65,17 @@ pub fn two_words(rest: Option<&[u8]>) -> Result<(&[u8], &[u8]), LineFault>
     let (second, rest) = next_word(rest)?;
     no_more_words(rest)?;
     Ok((first, second))
+}
+
+/// The three words that are left of a line. BadCount where there are fewer or more.
+pub fn three_words(rest: Option<&[u8]>) -> Result<(&[u8], &[u8], &[u8]), LineFault>
+    ensures words { IfOk result
+        (λ three. three_words (parts_left 32 (option_copied rest.entry)) ≡ Ok (three.0.now, three.1.now, three.2.now)) }
+    ensures fault { IfErr result (λ fault. three_words (parts_left 32 (option_copied rest.entry)) ≡ Err fault) }
+{
+    let (first, rest) = next_word(rest)?;
+    let (second, rest) = next_word(rest)?;
+    let (third, rest) = next_word(rest)?;
+    no_more_words(rest)?;
+    Ok((first, second, third))
 }

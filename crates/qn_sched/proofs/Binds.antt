@@ -1,0 +1,25 @@
+-- Steps of which each goes on with the value of the one before it, or stops at the first fault.
+use Rattle.std.proofs.Common.{◌≡◌, Result, Ok, Err, refl}
+use Rattle.qn_model.specs.declared.line_fault.LineFault.{LineFault}
+use Rattle.qn_model.specs.Lines.{◌>>=◌}
+
+pub bind-same : {A B : Type 0} (r : Result A LineFault) (f g : A → Result B LineFault) → ((x : A) → f x ≡ g x) → (r >>= f) ≡ (r >>= g)
+bind-same (Ok x) f g same = same x
+bind-same (Err fault) f g same = refl
+
+pub bind-ok : {A B C : Type 0} (r : Result A LineFault) (f : A → B) (g : B → Result C LineFault) → ((r >>= (λ x. Ok (f x))) >>= g) ≡ (r >>= (λ x. g (f x)))
+bind-ok (Ok x) f g = refl
+bind-ok (Err fault) f g = refl
+
+-- a step that gave a value was taken at a value
+pub bind_ok : {A B : Type 0} (r : Result A LineFault) (next : A → Result B LineFault) (b : B) → (r >>= next) ≡ Ok b
+    → (a : A) × (r ≡ Ok a) × (next a ≡ Ok b)
+bind_ok (Ok a) next b is = (a, refl, is)
+bind_ok (Err fault) next b is = cc
+
+abbrev pub good : {A : Type 0} → A → Result A LineFault
+good a = Ok a
+
+-- equal results have equal values
+pub same_ok : {A : Type 0} (a b : A) → good a ≡ good b → a ≡ b
+same_ok a b same = cc

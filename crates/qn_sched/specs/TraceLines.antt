@@ -1,0 +1,112 @@
+-- The lines that a replay writes for its events: this project's profile.
+use Rattle.std.specs.Prelude.{ℕ, true, false, List, [], ◌∷◌, ◌++◌, Option, None, Some, map, codes, decimal}
+use Rattle.std.specs.List.{join_with_byte}
+use Rattle.qn_base.specs.declared.ids.Mask.{Mask}
+use Rattle.qn_base.specs.declared.ids.Rank.{Rank}
+use Rattle.qn_model.specs.CountText.{yes_no}
+use Rattle.qn_model.specs.declared.disk.Message.{Message}
+use Rattle.qn_model.specs.declared.disk.Message.TheVariants as message
+use Rattle.qn_model.specs.declared.life.Why.{Why}
+use Rattle.qn_model.specs.declared.life.Why.TheVariants.{Down, Holding, NoView, WaitForAll, NotQuorate, NotChosen, HeldBy, Unheard, Unfenced, Clear}
+use Rattle.qn_model.specs.declared.outputs.BootCause.{BootCause}
+use Rattle.qn_model.specs.declared.outputs.BootCause.TheVariants as cause
+use Rattle.qn_model.specs.declared.outputs.DiskOp.{DiskOp}
+use Rattle.qn_model.specs.declared.outputs.DiskOp.TheVariants as disk
+use Rattle.qn_model.specs.declared.outputs.HaltKind.{HaltKind}
+use Rattle.qn_model.specs.declared.outputs.HaltKind.TheVariants as halt
+use Rattle.qn_model.specs.declared.outputs.Out.{Out}
+use Rattle.qn_model.specs.declared.outputs.Out.TheVariants as out
+use Rattle.qn_model.specs.declared.packets.Packet.{Packet}
+use Rattle.qn_model.specs.declared.packets.Packet.TheVariants as packet
+use Rattle.qn_model.specs.declared.reports.Report.{Report}
+use Rattle.qn_model.specs.declared.votes.Answer.{Answer}
+use Rattle.qn_sched.specs.EventLines.{id_word, ids_from}
+
+-- the first condition that a start lacks
+abbrev pub why_text : Why → List ℕ
+why_text Down = codes "down"
+why_text Holding = codes "holding"
+why_text NoView = codes "no-view"
+why_text WaitForAll = codes "wait-for-all"
+why_text (NotQuorate votes quorum) = codes "not-quorate:" ++ decimal votes ++ codes "/" ++ decimal quorum
+why_text (NotChosen id) = codes "not-chosen:" ++ decimal id.0
+why_text (HeldBy id) = codes "held-by:" ++ decimal id.0
+why_text (Unheard id) = codes "unheard:" ++ decimal id.0
+why_text (Unfenced id false left) = codes "unfenced:" ++ decimal id.0 ++ codes ":unwritten"
+why_text (Unfenced id true left) = codes "unfenced:" ++ decimal id.0 ++ codes ":" ++ decimal left
+why_text Clear = codes "clear"
+
+-- a packet that is sent, before the `>` and the id of its receiver
+abbrev pub packet_word : Packet → List ℕ
+packet_word (packet.Ask ask) = codes "ask"
+packet_word (packet.Tell tell) = codes "tell"
+packet_word (packet.Hello from) = codes "hello"
+packet_word (packet.Announce from view) = codes "announce"
+packet_word (packet.Vote agrees) = codes "vote"
+
+abbrev pub message_word : Message → List ℕ
+message_word message.Empty = codes "empty"
+message_word message.Test = codes "test"
+message_word message.Reset = codes "reset"
+message_word message.Off = codes "off"
+message_word message.Exit = codes "exit"
+message_word message.Crashdump = codes "crashdump"
+
+-- the number of a cause
+abbrev pub cause_number : BootCause → ℕ
+cause_number cause.ReadFailed = 1
+cause_number cause.NotImage = 2
+cause_number cause.UnsafeTiming = 3
+cause_number cause.ClaimFailed = 4
+cause_number cause.ClearFailed = 5
+cause_number cause.IncarnationSpent = 6
+
+abbrev pub halt_word : HaltKind → List ℕ
+halt_word (halt.Deadly message) = codes "halt:" ++ message_word message
+halt_word (halt.Boot cause) = codes "halt:boot-" ++ decimal (cause_number cause)
+
+abbrev pub disk_word : List ℕ → DiskOp → List ℕ
+disk_word ids disk.ReadHeader = codes "read-header"
+disk_word ids (disk.ReadSlot rank) = codes "read-slot:" ++ id_word ids rank
+disk_word ids (disk.WriteClaim incarnation) = codes "claim:" ++ decimal incarnation
+disk_word ids disk.WriteClear = codes "clear"
+disk_word ids disk.ReadMail = codes "read-mail"
+disk_word ids (disk.WriteReset rank) = codes "reset:" ++ id_word ids rank
+disk_word ids (disk.WriteClose incarnation) = codes "close:" ++ decimal incarnation
+
+-- one output
+abbrev pub out_word : List ℕ → Out → List ℕ
+out_word ids out.Stop = codes "stop"
+out_word ids out.Start = codes "start"
+out_word ids out.Feed = codes "feed"
+out_word ids (out.Send rank packet) = packet_word packet ++ codes ">" ++ id_word ids rank
+out_word ids (out.Disk op) = disk_word ids op
+out_word ids out.Disarm = codes "disarm"
+out_word ids (out.Halt kind) = halt_word kind
+
+-- the parts of a list, joined by a byte, or `-` where there is none
+abbrev pub joined_or_dash : ℕ → List (List ℕ) → List ℕ
+joined_or_dash byte [] = codes "-"
+joined_or_dash byte (word ∷ words) = join_with_byte byte (word ∷ words)
+
+abbrev pub outs_text : List ℕ → List Out → List ℕ
+outs_text ids outs = joined_or_dash 44 (map (out_word ids) outs)
+
+-- the ids of the nodes that hold the resource
+abbrev pub holders_text : List ℕ → Mask → List ℕ
+holders_text ids holders = joined_or_dash 43 (map decimal (ids_from 0 ids holders))
+
+-- the count of a node
+abbrev pub answer_text : Answer → List ℕ
+answer_text answer = codes " quorate=" ++ yes_no answer.quorate ++ codes " " ++ decimal answer.votes ++ codes "/" ++ decimal answer.quorum
+
+-- what stands behind the number and the time: at a pass, and at an event of a node
+abbrev pub touched_text : List ℕ → Report → Option Rank → List ℕ
+touched_text ids report None = codes " - - holders=" ++ holders_text ids report.holders
+touched_text ids report (Some rank) =
+    codes " " ++ id_word ids rank ++ codes " " ++ outs_text ids report.outs ++ codes " holders=" ++ holders_text ids report.holders
+    ++ answer_text report.answer ++ codes " why=" ++ why_text report.why
+
+-- the trace line of an event, without its end, where the nodes have these ids by rank
+unfoldable pub trace_line : List ℕ → ℕ → Report → List ℕ
+trace_line ids number report = decimal number ++ codes " " ++ decimal report.time ++ touched_text ids report report.touched

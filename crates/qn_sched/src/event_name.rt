@@ -1,0 +1,115 @@
+ghost use Rattle.std.specs.Prelude.{◌≡◌};
+ghost use Rattle.qn_sched.specs.EventNames.{event_at, event_name, event_word, node_event_word};
+
+use qn_base::Rank;
+use qn_model::Event;
+
+/// What the first word of an event's line says.
+#[derive(Clone, Copy, PartialEq, Eq, Debug)]
+pub(crate) enum EventName {
+    Pass,
+    Boot,
+    Late,
+    View,
+    Deliver,
+    Device,
+    /// An event of which the line says the node alone.
+    OfNode(NodeEvent),
+}
+
+/// An event of which the line says the node alone.
+#[derive(Clone, Copy, PartialEq, Eq, Debug)]
+pub(crate) enum NodeEvent {
+    Crash,
+    Land,
+    Done,
+    Fail,
+    Tick,
+    Stopped,
+    Unstopped,
+    Leave,
+    Feed,
+}
+
+/// The names of all events.
+const EVENT_NAMES: [EventName; 15] = [
+    EventName::Pass,
+    EventName::Boot,
+    EventName::OfNode(NodeEvent::Crash),
+    EventName::OfNode(NodeEvent::Land),
+    EventName::OfNode(NodeEvent::Done),
+    EventName::OfNode(NodeEvent::Fail),
+    EventName::OfNode(NodeEvent::Tick),
+    EventName::OfNode(NodeEvent::Stopped),
+    EventName::OfNode(NodeEvent::Unstopped),
+    EventName::OfNode(NodeEvent::Leave),
+    EventName::OfNode(NodeEvent::Feed),
+    EventName::Late,
+    EventName::View,
+    EventName::Deliver,
+    EventName::Device,
+];
+
+impl NodeEvent {
+    /// The first word of its line.
+    pub(crate) fn word(self) -> &'static str
+        ensures { result.now ≡ node_event_word self }
+    {
+        match self {
+            NodeEvent::Crash => "crash",
+            NodeEvent::Land => "land",
+            NodeEvent::Done => "done",
+            NodeEvent::Fail => "fail",
+            NodeEvent::Tick => "tick",
+            NodeEvent::Stopped => "stopped",
+            NodeEvent::Unstopped => "unstopped",
+            NodeEvent::Leave => "leave",
+            NodeEvent::Feed => "feed",
+        }
+    }
+
+    /// The event at the node of that rank.
+    pub(crate) fn at(self, rank: Rank) -> Event
+        ensures { result ≡ event_at self rank }
+    {
+        match self {
+            NodeEvent::Crash => Event::Crash(rank),
+            NodeEvent::Land => Event::Land(rank),
+            NodeEvent::Done => Event::Done(rank),
+            NodeEvent::Fail => Event::Fail(rank),
+            NodeEvent::Tick => Event::Tick(rank),
+            NodeEvent::Stopped => Event::Stopped(rank),
+            NodeEvent::Unstopped => Event::Unstopped(rank),
+            NodeEvent::Leave => Event::Leave(rank),
+            NodeEvent::Feed => Event::Feed(rank),
+        }
+    }
+}
+
+impl EventName {
+    /// The first word of its line.
+    pub(crate) fn word(self) -> &'static str
+        ensures { result.now ≡ event_word self }
+    {
+        match self {
+            EventName::Pass => "pass",
+            EventName::Boot => "boot",
+            EventName::Late => "late",
+            EventName::View => "view",
+            EventName::Deliver => "deliver",
+            EventName::Device => "device",
+            EventName::OfNode(event) => event.word(),
+        }
+    }
+}
+
+/// The name that a first word is, or none.
+#[tactic(auto, unfolding(crate::specs::EventNames::event_name))]
+pub(crate) fn event_name(word: &[u8]) -> Option<EventName>
+    ensures { result ≡ event_name word.now }
+{
+    EVENT_NAMES
+        .iter()
+        .copied()
+        .find(|name| name.word().as_bytes() == word)
+}

@@ -1,0 +1,288 @@
+ghost use Rattle.std.specs.Prelude.{◌≡◌, ◌≤◌, ◌+◌, ◌*◌, ◌++◌, [], Some, length, map, codes, decimal};
+ghost use Rattle.qn_model.specs.Settings.{ids};
+ghost use Rattle.qn_sched.specs.EventLines.{id_word};
+ghost use Rattle.qn_sched.specs.TraceLines.{answer_text, cause_number, disk_word, halt_word, holders_text, message_word, out_word, outs_text, packet_word, touched_text, trace_line, why_text};
+
+use crate::text::{add, add_id, add_joined, add_number, add_yes_or_no, member_ids};
+use arrayvec::ArrayVec;
+use qn_base::{Mask, NodeId, Rank};
+use qn_model::{
+    Answer, BootCause, DiskOp, HaltKind, Message, Nodes, Out, Outs, Packet, Report, Settings, Why,
+};
+
+/// Empties `into` and writes the first condition that a start of the resource lacks, as a trace and a status
+/// print it.
+pub fn write_why(why: &Why, into: &mut ArrayVec<u8, 64>)
+    ensures { into.new.items ≡ why_text why.now }
+{
+    into.clear();
+    match *why {
+        Why::Down => add(into, b"down"),
+        Why::Holding => add(into, b"holding"),
+        Why::NoView => add(into, b"no-view"),
+        Why::WaitForAll => add(into, b"wait-for-all"),
+        Why::NotQuorate { votes, quorum } => add_not_quorate(into, votes, quorum),
+        Why::NotChosen { id } => add_named(into, b"not-chosen:", id),
+        Why::HeldBy { id } => add_named(into, b"held-by:", id),
+        Why::Unheard { id } => add_named(into, b"unheard:", id),
+        Why::Unfenced { id, written, left } => add_unfenced(into, id, written, left),
+        Why::Clear => add(into, b"clear"),
+    }
+}
+
+/// Adds a count that is too low.
+fn add_not_quorate(into: &mut ArrayVec<u8, 64>, votes: u64, quorum: u64)
+    requires { into.old.items ≡ [] }
+    ensures { into.new.items ≡ codes "not-quorate:" ++ decimal votes ++ codes "/" ++ decimal quorum }
+{
+    add(into, b"not-quorate:");
+    add_number(into, votes);
+    add(into, b"/");
+    add_number(into, quorum);
+}
+
+/// Adds a word and the id of a node.
+fn add_named(into: &mut ArrayVec<u8, 64>, word: &[u8], id: NodeId)
+    requires empty { into.old.items ≡ [] }
+    requires short { length word.now ≤ 20 }
+    ensures text { into.new.items ≡ word.now ++ decimal id.0 }
+    ensures len { length into.new.items ≤ length word.now + 20 }
+{
+    add(into, word);
+    add_number(into, u64::from(id.0));
+}
+
+/// Adds a node that is neither cleanly stopped nor fenced.
+fn add_unfenced(into: &mut ArrayVec<u8, 64>, id: NodeId, written: bool, left: u64)
+    requires { into.old.items ≡ [] }
+    ensures { into.new.items ≡ why_text (Why.Unfenced id written left) }
+{
+    add_named(into, b"unfenced:", id);
+    if written {
+        add(into, b":");
+        add_number(into, left);
+    } else {
+        add(into, b":unwritten");
+    }
+}
+
+/// Empties `into` and writes the trace line of the event of that number, without its end, in the form of a
+/// pass where no node is touched. The id of a rank that is not configured is 0.
+#[tactic(auto, unfolding(crate::specs::TraceLines::trace_line))]
+pub fn write_trace(number: u64, report: &Report, settings: &Settings, into: &mut ArrayVec<u8, 4096>)
+    ensures { into.new.items ≡ trace_line (ids settings.now.nodes) number report.now }
+{
+    let nodes = &settings.nodes;
+    into.clear();
+    add_number(into, number);
+    add(into, b" ");
+    add_number(into, report.time);
+    match report.touched {
+        None => add_pass(into, nodes, report),
+        Some(rank) => add_touched(into, nodes, report, rank),
+    }
+}
+
+/// Adds what stands behind the time at a pass.
+fn add_pass(into: &mut ArrayVec<u8, 4096>, nodes: &Nodes, report: &Report)
+    requires { length into.old.items ≤ 100 }
+    ensures { into.new.items ≡ into.old.items ++ (codes " - - holders=" ++ holders_text (ids nodes.now) report.now.holders) }
+{
+    add(into, b" - - holders=");
+    add_holders(into, nodes, report.holders);
+}
+
+/// Adds what stands behind the time at an event of a node.
+fn add_touched(into: &mut ArrayVec<u8, 4096>, nodes: &Nodes, report: &Report, rank: Rank)
+    requires { length into.old.items ≤ 100 }
+    ensures { into.new.items ≡ into.old.items ++ touched_text (ids nodes.now) report.now (Some rank) }
+{
+    add(into, b" ");
+    add_id(into, nodes, rank);
+    add(into, b" ");
+    add_outs(into, nodes, &report.outs);
+    add(into, b" holders=");
+    add_holders(into, nodes, report.holders);
+    add_answer(into, &report.answer);
+    add(into, b" why=");
+    add_why(into, &report.why);
+}
+
+/// Adds the count of a node.
+fn add_answer(into: &mut ArrayVec<u8, 4096>, answer: &Answer)
+    requires { length into.old.items ≤ 3000 }
+    ensures text { into.new.items ≡ into.old.items ++ answer_text answer.now }
+    ensures len { length into.new.items ≤ length into.old.items + 60 }
+{
+    add(into, b" quorate=");
+    add_yes_or_no(into, answer.quorate);
+    add(into, b" ");
+    add_number(into, answer.votes);
+    add(into, b"/");
+    add_number(into, answer.quorum);
+}
+
+/// Adds the first condition that a start lacks.
+fn add_why(into: &mut ArrayVec<u8, 4096>, why: &Why)
+    requires { length into.old.items ≤ 4000 }
+    ensures { into.new.items ≡ into.old.items ++ why_text why.now }
+{
+    let mut text = ArrayVec::new();
+    write_why(why, &mut text);
+    add(into, text.as_slice());
+}
+
+/// Adds the ids of the nodes that hold the resource, or a dash.
+fn add_holders(into: &mut ArrayVec<u8, 4096>, nodes: &Nodes, holders: Mask)
+    requires { length into.old.items ≤ 3000 }
+    ensures text { into.new.items ≡ into.old.items ++ holders_text (ids nodes.now) holders }
+    ensures len { length into.new.items ≤ length into.old.items + 21 * 32 }
+{
+    let list = member_ids(nodes, holders);
+    if list.is_empty() {
+        add(into, b"-");
+    } else {
+        add_joined(into, b'+', list.as_slice());
+    }
+}
+
+/// Adds the outputs, or a dash.
+fn add_outs(into: &mut ArrayVec<u8, 4096>, nodes: &Nodes, outs: &Outs)
+    requires { length into.old.items ≤ 200 }
+    ensures text { into.new.items ≡ into.old.items ++ outs_text (ids nodes.now) outs.now }
+    ensures len { length into.new.items ≤ length into.old.items + 1640 }
+{
+    let outs = outs.as_slice();
+    let Some((first, others)) = outs.split_first() else {
+        add(into, b"-");
+        return;
+    };
+    add_out(into, nodes, first);
+    'others: for out in others {
+        add(into, b",");
+        add_out(into, nodes, out);
+    }
+}
+
+/// Adds one output.
+fn add_out(into: &mut ArrayVec<u8, 4096>, nodes: &Nodes, out: &Out)
+    requires { length into.old.items ≤ 4000 }
+    ensures text { into.new.items ≡ into.old.items ++ out_word (ids nodes.now) out.now }
+    ensures len { length into.new.items ≤ length into.old.items + 40 }
+{
+    match *out {
+        Out::Stop => add(into, b"stop"),
+        Out::Start => add(into, b"start"),
+        Out::Feed => add(into, b"feed"),
+        Out::Send(rank, packet) => add_send(into, nodes, rank, packet),
+        Out::Disk(op) => add_op(into, nodes, op),
+        Out::Disarm => add(into, b"disarm"),
+        Out::Halt(kind) => add_halt(into, kind),
+    }
+}
+
+fn add_send(into: &mut ArrayVec<u8, 4096>, nodes: &Nodes, rank: Rank, packet: Packet)
+    requires { length into.old.items ≤ 4000 }
+    ensures text { into.new.items ≡ into.old.items ++ (packet_word packet ++ codes ">" ++ id_word (ids nodes.now) rank) }
+    ensures len { length into.new.items ≤ length into.old.items + 40 }
+{
+    add(into, packet_name(packet).as_bytes());
+    add(into, b">");
+    add_id(into, nodes, rank);
+}
+
+fn packet_name(packet: Packet) -> &'static str
+    ensures word { result.now ≡ packet_word packet }
+    ensures len { length result.now ≤ 9 }
+{
+    match packet {
+        Packet::Ask(_) => "ask",
+        Packet::Tell(_) => "tell",
+        Packet::Hello { .. } => "hello",
+        Packet::Announce { .. } => "announce",
+        Packet::Vote { .. } => "vote",
+    }
+}
+
+fn add_op(into: &mut ArrayVec<u8, 4096>, nodes: &Nodes, op: DiskOp)
+    requires { length into.old.items ≤ 4000 }
+    ensures text { into.new.items ≡ into.old.items ++ disk_word (ids nodes.now) op }
+    ensures len { length into.new.items ≤ length into.old.items + 40 }
+{
+    match op {
+        DiskOp::ReadHeader => add(into, b"read-header"),
+        DiskOp::ReadSlot(rank) => add_at(into, b"read-slot:", nodes, rank),
+        DiskOp::WriteClaim(incarnation) => add_numbered(into, b"claim:", incarnation),
+        DiskOp::WriteClear => add(into, b"clear"),
+        DiskOp::ReadMail => add(into, b"read-mail"),
+        DiskOp::WriteReset(rank) => add_at(into, b"reset:", nodes, rank),
+        DiskOp::WriteClose(incarnation) => add_numbered(into, b"close:", incarnation),
+    }
+}
+
+/// Adds a word and the id of a node.
+fn add_at(into: &mut ArrayVec<u8, 4096>, word: &[u8], nodes: &Nodes, rank: Rank)
+    requires { length into.old.items + length word.now ≤ 4010 }
+    ensures text { into.new.items ≡ into.old.items ++ (word.now ++ id_word (ids nodes.now) rank) }
+    ensures len { length into.new.items ≤ length into.old.items + length word.now + 20 }
+{
+    add(into, word);
+    add_id(into, nodes, rank);
+}
+
+/// Adds a word and a number.
+fn add_numbered(into: &mut ArrayVec<u8, 4096>, word: &[u8], number: u64)
+    requires { length into.old.items + length word.now ≤ 4010 }
+    ensures text { into.new.items ≡ into.old.items ++ (word.now ++ decimal number) }
+    ensures len { length into.new.items ≤ length into.old.items + length word.now + 20 }
+{
+    add(into, word);
+    add_number(into, number);
+}
+
+fn add_halt(into: &mut ArrayVec<u8, 4096>, kind: HaltKind)
+    requires { length into.old.items ≤ 4000 }
+    ensures text { into.new.items ≡ into.old.items ++ halt_word kind }
+    ensures len { length into.new.items ≤ length into.old.items + 40 }
+{
+    match kind {
+        HaltKind::Deadly(message) => add_message(into, message),
+        HaltKind::Boot(cause) => add_numbered(into, b"halt:boot-", cause_number(cause)),
+    }
+}
+
+fn add_message(into: &mut ArrayVec<u8, 4096>, message: Message)
+    requires { length into.old.items ≤ 4000 }
+    ensures text { into.new.items ≡ into.old.items ++ (codes "halt:" ++ message_word message) }
+    ensures len { length into.new.items ≤ length into.old.items + 40 }
+{
+    add(into, b"halt:");
+    add(into, message_name(message).as_bytes());
+}
+
+fn message_name(message: Message) -> &'static str
+    ensures word { result.now ≡ message_word message }
+    ensures len { length result.now ≤ 9 }
+{
+    match message {
+        Message::Empty => "empty",
+        Message::Test => "test",
+        Message::Reset => "reset",
+        Message::Off => "off",
+        Message::Exit => "exit",
+        Message::Crashdump => "crashdump",
+    }
+}
+
+fn cause_number(cause: BootCause) -> u64
+    ensures { result ≡ cause_number cause }
+{
+    match cause {
+        BootCause::ReadFailed => 1,
+        BootCause::NotImage => 2,
+        BootCause::UnsafeTiming => 3,
+        BootCause::ClaimFailed => 4,
+        BootCause::ClearFailed => 5,
+        BootCause::IncarnationSpent => 6,
+    }
+}
