@@ -1,0 +1,108 @@
+use Rattle.std.proofs.Common.{◌∙◌, ◌≡◌, ap, subst, sym, true}
+use Rattle.qn_model.specs.Rules.{is_well_formed, refusal}
+use Rattle.qn_model.specs.Steps.{touched}
+use Rattle.qn_world.proofs.RuleSteps.{late_number, rank_within}
+use Rattle.qn_world.proofs.state.State.refusal.Goals as goal
+
+pub refuses_boot-requires : goal.refuses_boot-requires
+refuses_boot-requires c = rank_within c.args.self.now c.args.event.now _ c.requires.standing c.requires.formed (ap touched c.in-Boot.is)
+
+pub returns-in-Boot : goal.returns-in-Boot
+unfolding refusal
+returns-in-Boot c d is = c.refuses_boot.ensures d is ∙ ap (λ e. refusal c.args.self.now.settings c.args.self.now.timing e d) (sym c.in-Boot.is)
+
+pub refuses_off-requires : goal.refuses_off-requires
+refuses_off-requires c = rank_within c.args.self.now c.args.event.now _ c.requires.standing c.requires.formed (ap touched c.in-Crash.is)
+
+pub returns-in-Crash : goal.returns-in-Crash
+unfolding refusal
+returns-in-Crash c d is = c.refuses_off.ensures d is ∙ ap (λ e. refusal c.args.self.now.settings c.args.self.now.timing e d) (sym c.in-Crash.is)
+
+pub refuses_off-requires-in-Device : goal.refuses_off-requires-in-Device
+refuses_off-requires-in-Device c = rank_within c.args.self.now c.args.event.now _ c.requires.standing c.requires.formed (ap touched c.in-Device.is)
+
+pub returns-in-Device : goal.returns-in-Device
+unfolding refusal
+returns-in-Device c d is = c.refuses_off-in-Device.ensures d is ∙ ap (λ e. refusal c.args.self.now.settings c.args.self.now.timing e d) (sym c.in-Device.is)
+
+pub refuses_off-requires-in-Tick : goal.refuses_off-requires-in-Tick
+refuses_off-requires-in-Tick c = rank_within c.args.self.now c.args.event.now _ c.requires.standing c.requires.formed (ap touched c.in-Tick.is)
+
+pub returns-in-Tick : goal.returns-in-Tick
+unfolding refusal
+returns-in-Tick c d is = c.refuses_off-in-Tick.ensures d is ∙ ap (λ e. refusal c.args.self.now.settings c.args.self.now.timing e d) (sym c.in-Tick.is)
+
+pub refuses_off-requires-in-Leave : goal.refuses_off-requires-in-Leave
+refuses_off-requires-in-Leave c = rank_within c.args.self.now c.args.event.now _ c.requires.standing c.requires.formed (ap touched c.in-Leave.is)
+
+pub returns-in-Leave : goal.returns-in-Leave
+unfolding refusal
+returns-in-Leave c d is = c.refuses_off-in-Leave.ensures d is ∙ ap (λ e. refusal c.args.self.now.settings c.args.self.now.timing e d) (sym c.in-Leave.is)
+
+pub refuses_land-requires : goal.refuses_land-requires
+refuses_land-requires c = rank_within c.args.self.now c.args.event.now _ c.requires.standing c.requires.formed (ap touched c.in-Land.is)
+
+pub returns-in-Land : goal.returns-in-Land
+unfolding refusal
+returns-in-Land c d is = c.refuses_land.ensures d is ∙ ap (λ e. refusal c.args.self.now.settings c.args.self.now.timing e d) (sym c.in-Land.is)
+
+pub refuses_done-requires : goal.refuses_done-requires
+refuses_done-requires c = rank_within c.args.self.now c.args.event.now _ c.requires.standing c.requires.formed (ap touched c.in-Done.is)
+
+pub returns-in-Done : goal.returns-in-Done
+unfolding refusal
+returns-in-Done c d is = c.refuses_done.ensures d is ∙ ap (λ e. refusal c.args.self.now.settings c.args.self.now.timing e d) (sym c.in-Done.is)
+
+pub refuses_fail-requires : goal.refuses_fail-requires
+refuses_fail-requires c = rank_within c.args.self.now c.args.event.now _ c.requires.standing c.requires.formed (ap touched c.in-Fail.is)
+
+pub returns-in-Fail : goal.returns-in-Fail
+unfolding refusal
+returns-in-Fail c d is = c.refuses_fail.ensures d is ∙ ap (λ e. refusal c.args.self.now.settings c.args.self.now.timing e d) (sym c.in-Fail.is)
+
+pub refuses_stopped-requires : goal.refuses_stopped-requires
+refuses_stopped-requires c = rank_within c.args.self.now c.args.event.now _ c.requires.standing c.requires.formed (ap touched c.in-Stopped.is)
+
+pub returns-in-Stopped : goal.returns-in-Stopped
+unfolding refusal
+returns-in-Stopped c d is = c.refuses_stopped.ensures d is ∙ ap (λ e. refusal c.args.self.now.settings c.args.self.now.timing e d) (sym c.in-Stopped.is)
+
+pub refuses_stopped-requires-in-Unstopped : goal.refuses_stopped-requires-in-Unstopped
+refuses_stopped-requires-in-Unstopped c = rank_within c.args.self.now c.args.event.now _ c.requires.standing c.requires.formed (ap touched c.in-Unstopped.is)
+
+pub returns-in-Unstopped : goal.returns-in-Unstopped
+unfolding refusal
+returns-in-Unstopped c d is = c.refuses_stopped-in-Unstopped.ensures d is ∙ ap (λ e. refusal c.args.self.now.settings c.args.self.now.timing e d) (sym c.in-Unstopped.is)
+
+pub refuses_view-requires : goal.refuses_view-requires
+refuses_view-requires c = rank_within c.args.self.now c.args.event.now _ c.requires.standing c.requires.formed (ap touched c.in-View.is)
+
+pub returns-in-View : goal.returns-in-View
+unfolding refusal
+returns-in-View c d is = c.refuses_view.ensures d is ∙ ap (λ e. refusal c.args.self.now.settings c.args.self.now.timing e d) (sym c.in-View.is)
+
+pub refuses_deliver-requires : goal.refuses_deliver-requires
+refuses_deliver-requires c = rank_within c.args.self.now c.args.event.now _ c.requires.standing c.requires.formed (ap touched c.in-Deliver.is)
+
+pub returns-in-Deliver : goal.returns-in-Deliver
+unfolding refusal
+returns-in-Deliver c d is = c.refuses_deliver.ensures d is ∙ ap (λ e. refusal c.args.self.now.settings c.args.self.now.timing e d) (sym c.in-Deliver.is)
+
+pub refuses_feed-requires : goal.refuses_feed-requires
+refuses_feed-requires c = rank_within c.args.self.now c.args.event.now _ c.requires.standing c.requires.formed (ap touched c.in-Feed.is)
+
+pub returns-in-Feed : goal.returns-in-Feed
+unfolding refusal
+returns-in-Feed c d is = c.refuses_feed.ensures d is ∙ ap (λ e. refusal c.args.self.now.settings c.args.self.now.timing e d) (sym c.in-Feed.is)
+
+pub refuses_late-requires : goal.refuses_late-requires
+refuses_late-requires c =
+    late_number c.args.self.now.settings _ _ (subst (λ e. is_well_formed c.args.self.now.settings e ≡ true) c.in-Late.is c.requires.formed)
+
+pub returns-in-Late : goal.returns-in-Late
+unfolding refusal
+returns-in-Late c d is = c.refuses_late.ensures d is ∙ ap (λ e. refusal c.args.self.now.settings c.args.self.now.timing e d) (sym c.in-Late.is)
+
+pub returns-in-Pass : goal.returns-in-Pass
+unfolding refusal
+returns-in-Pass c d is = c.refuses_pass.ensures d is ∙ ap (λ e. refusal c.args.self.now.settings c.args.self.now.timing e d) (sym c.in-Pass.is)

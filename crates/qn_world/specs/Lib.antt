@@ -1,0 +1,9 @@
+pub mod Leftovers
+pub mod Memory
+pub mod Outputs
+pub mod Seats
+pub mod Seen
+pub mod Standing
+pub mod Stepping
+pub mod Tests
+pub mod Whole

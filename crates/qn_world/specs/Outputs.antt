@@ -1,0 +1,43 @@
+-- What an entry and its outputs mean to the world that keeps a node: this project's profile.
+use Rattle.std.specs.Prelude.{Bool, true, false, List, Option, None, Some, ◌&&◌, ◌||◌, not, map, if◌then◌else◌}
+use Rattle.std.specs.Option.{option_or}
+use Rattle.qn_base.specs.declared.ids.Rank.{Rank}
+use Rattle.qn_model.specs.declared.entries.What.{What}
+use Rattle.qn_model.specs.declared.outputs.DiskOp.{DiskOp}
+use Rattle.qn_model.specs.declared.packets.Sent.{Sent}
+use Rattle.qn_model.specs.declared.outputs.Out.{Out}
+use Rattle.qn_model.specs.declared.outputs.Out.TheVariants as out
+use Rattle.qn_model.specs.Log.{disk_of, has_stop, is_answer}
+use Rattle.qn_world.specs.declared.leftover.Leftover.{Leftover}
+use Rattle.qn_model.specs.Holding.{answers_stop}
+
+-- one output
+abbrev pub is_stop : Out → Bool
+is_stop out.Stop = true
+is_stop output = false
+
+abbrev pub is_feed : Out → Bool
+is_feed out.Feed = true
+is_feed output = false
+
+-- the disk operation that an output is
+abbrev pub op_in : Out → Option DiskOp
+op_in (out.Disk op) = Some op
+op_in output = None
+
+-- the packet that an output sends
+abbrev pub packet_in : Out → Option Sent
+packet_in (out.Send to packet) = Some (record { to = to; packet = packet })
+packet_in output = None
+
+-- the operation that is out after an entry with these outputs
+abbrev pub op_with : What → List Out → Option DiskOp → Option DiskOp
+op_with what outs before = option_or (disk_of outs) (if is_answer what then None else before)
+
+-- whether a Stop is unanswered after an entry with these outputs
+abbrev pub stop_with : What → List Out → Bool → Bool
+stop_with what outs before = has_stop outs || (before && not (answers_stop what))
+
+-- the writes of a rank as leftovers
+abbrev pub leftovers : Rank → List DiskOp → List Leftover
+leftovers rank ops = map (λ op. record { of = rank; op = op }) ops

@@ -1,0 +1,44 @@
+-- What a world shows of one node.
+use Rattle.std.specs.Prelude.{◌<◌, ℕ, Bool, Option, None, Some, length, ◌&&◌, is_some, if◌then◌else◌}
+use Rattle.qn_base.specs.declared.ids.Rank.{Rank}
+use Rattle.qn_model.specs.declared.configuration.Settings.{Settings}
+use Rattle.qn_model.specs.declared.life.Phase.{Phase}
+use Rattle.qn_model.specs.declared.life.Phase.TheVariants.{Gone}
+use Rattle.qn_model.specs.Holding.{stop_due}
+use Rattle.qn_model.specs.Log.{op_out}
+use Rattle.qn_model.specs.Moments.{Running, is_holder}
+use Rattle.qn_model.specs.Phases.{phase}
+use Rattle.qn_model.specs.Steps.{answer_now, why_now}
+use Rattle.qn_model.specs.World.{World, node_at}
+use Rattle.qn_world.specs.declared.looking.NodeSeen.{NodeSeen}
+
+-- the phase of a node; one that is off is gone
+abbrev pub phase_now : Settings → Running → Phase
+phase_now s node = if node.on then phase s node.log else Gone
+
+-- an operation is out
+abbrev pub is_op_out : Running → Bool
+is_op_out node = node.on && is_some (op_out node.log)
+
+-- what a world shows of the node of a rank
+abbrev pub seen_of : Settings → ℕ → World → NodeSeen
+seen_of s rank w =
+    let node = node_at s rank w in
+    record {
+      running = node.on;
+      phase = phase_now s node;
+      fed = (if node.on then node.fed else 0);
+      decided = (if node.on then node.decided else None);
+      out = is_op_out node;
+      landed = is_op_out node && is_some (w.took rank);
+      stop_due = node.on && stop_due node.log;
+      leftovers = length (w.left rank);
+      answer = answer_now s node;
+      why = why_now s rank node;
+      holds = is_holder s w.moments rank;
+    }
+
+-- a rank, where there is one, is configured
+abbrev pub IsConfigured : Settings → Option Rank → Type 0
+IsConfigured s None = Unit {0}
+IsConfigured s (Some rank) = rank.0 < length s.nodes

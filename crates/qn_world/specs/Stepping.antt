@@ -1,0 +1,96 @@
+-- What a call that steps the world promises.
+use Rattle.std.specs.Prelude.{◌≡◌, ◌<◌, ◌≤◌, ◌+◌, ℕ, true, false, List, Option, Some, None, All, length}
+use Rattle.qn_base.specs.declared.ids.Rank.{Rank}
+use Rattle.qn_model.specs.declared.entries.What.{What}
+use Rattle.qn_model.specs.declared.entries.What.TheVariants as what
+use Rattle.qn_model.specs.declared.events.Event.{Event}
+use Rattle.qn_model.specs.declared.events.Event.TheVariants as event
+use Rattle.qn_model.specs.declared.outputs.Out.{Out}
+use Rattle.qn_model.specs.declared.reports.Refused.{Refused}
+use Rattle.qn_model.specs.declared.reports.Refused.TheVariants as refused
+use Rattle.qn_model.specs.NodeOutputs.{newest_outs}
+use Rattle.qn_model.specs.Moments.{Adds}
+use Rattle.qn_model.specs.World.{World, node_at}
+use Rattle.qn_model.specs.Rules.{is_well_formed, refusal}
+use Rattle.qn_model.specs.Steps.{happens, outs_after, step}
+use Rattle.qn_node.specs.Outputs.{IsNodeOutput}
+use Rattle.qn_world.specs.Memory.{needs_memory, sends_between}
+use Rattle.qn_world.specs.Seats.{IsDue, IsFree}
+use Rattle.qn_world.specs.Standing.{HasRoom, IsStanding, WorldFor}
+use Rattle.qn_world.specs.Whole.{Whole}
+
+-- settings, timing and the counts of steps and of nodes stay
+pub record SameFrame (old new : Whole) : Type 0 where
+  pub settings : new.settings ≡ old.settings
+  pub timing : new.timing ≡ old.timing
+  pub steps : new.steps ≡ old.steps
+  pub count : length new.seats ≡ length old.seats
+
+-- the world can make the step of an event
+pub record IsReady (w : Whole) (event : Event) : Type 0 where
+  pub formed : is_well_formed w.settings event ≡ true
+  pub standing : IsStanding w
+  pub room : HasRoom w
+  pub few : w.steps < 18446744073709551615
+  pub early : w.time ≤ 10000000000000000
+  pub allowed : refusal w.settings w.timing event standing.0 ≡ None
+
+-- the world made the step of an event, which gave these outputs
+pub record Stepped (old new : Whole) (event : Event) (outs : List Out) : Type 0 where
+  pub frame : SameFrame old new
+  pub stands : (d : World) → WorldFor old d → refusal old.settings old.timing event d ≡ None → WorldFor new (step old.settings old.timing event d)
+  pub gives : (d : World) → WorldFor old d → refusal old.settings old.timing event d ≡ None
+      → outs ≡ outs_after old.settings event (step old.settings old.timing event d)
+  pub ranks : (d : World) → WorldFor old d → refusal old.settings old.timing event d ≡ None → All (IsNodeOutput old.settings) outs
+
+-- the world found no memory for the step of an event, and is as it was
+pub record OutOfMemory (old new : Whole) (event : Event) : Type 0 where
+  pub same : new ≡ old
+  pub cause : (d : World) → WorldFor old d → refusal old.settings old.timing event d ≡ None
+      → needs_memory old.settings old.timing event d ≡ true
+
+-- the event was allowed, and the world made its step
+pub record Applied (old new : Whole) (event : Event) (outs : List Out) : Type 0 where
+  pub settings : new.settings ≡ old.settings
+  pub timing : new.timing ≡ old.timing
+  pub steps : new.steps + 1 ≡ old.steps
+  pub allowed : (d : World) → WorldFor old d → refusal old.settings old.timing event d ≡ None
+  pub stands : (d : World) → WorldFor old d → WorldFor new (step old.settings old.timing event d)
+  pub gives : (d : World) → WorldFor old d → outs ≡ outs_after old.settings event (step old.settings old.timing event d)
+  pub ranks : All (IsNodeOutput old.settings) outs
+
+-- an event that was refused: by this rule, or for want of memory
+abbrev pub RefusedBy : Option ℕ → Refused → Type 0
+RefusedBy rule (refused.NotAllowed number) = rule ≡ Some number.0
+RefusedBy rule refused.NoMemory = rule ≡ None
+
+-- the event was refused, and the world is as it was
+pub record Refuses (old new : Whole) (event : Event) (answer : Refused) : Type 0 where
+  pub same : new ≡ old
+  pub why : (d : World) → WorldFor old d → RefusedBy (refusal old.settings old.timing event d) answer
+  pub memory : answer ≡ refused.NoMemory → (d : World) → WorldFor old d → needs_memory old.settings old.timing event d ≡ true
+
+-- a running node was handed an entry that is due, and gave these outputs
+pub record Handed (old new : Whole) (rank : ℕ) (entry : What) (outs : List Out) : Type 0 where
+  pub frame : SameFrame old new
+  pub stands : (d : World) → WorldFor old d → (node_at old.settings rank d).on ≡ true → IsDue (node_at old.settings rank d) entry → IsFree (d.took rank) entry
+      → WorldFor new (happens (Adds rank entry) d)
+  pub gives : (d : World) → WorldFor old d → (node_at old.settings rank d).on ≡ true
+      → outs ≡ newest_outs (node_at old.settings rank (happens (Adds rank entry) d)).log
+  pub ranks : (d : World) → WorldFor old d → (node_at old.settings rank d).on ≡ true → All (IsNodeOutput old.settings) outs
+
+-- there was no memory for what a node sends
+pub record Unhanded (old new : Whole) (rank : ℕ) (entry : What) : Type 0 where
+  pub same : new ≡ old
+  pub cause : (d : World) → WorldFor old d → (node_at old.settings rank d).on ≡ true
+      → sends_between old.settings d (happens (Adds rank entry) d) ≡ true
+
+-- an event that hands a rank this entry, whatever came before it
+abbrev pub Hands : Event → Rank → What → Type 0
+Hands (event.View rank view) i entry = (rank ≡ i) × (entry ≡ what.View view)
+Hands (event.Device rank agrees) i entry = (rank ≡ i) × (entry ≡ what.Device agrees)
+Hands (event.Tick rank) i entry = (rank ≡ i) × (entry ≡ what.Tick)
+Hands (event.Stopped rank) i entry = (rank ≡ i) × (entry ≡ what.Stopped true)
+Hands (event.Unstopped rank) i entry = (rank ≡ i) × (entry ≡ what.Stopped false)
+Hands (event.Leave rank) i entry = (rank ≡ i) × (entry ≡ what.Leave)
+Hands event i entry = ⊥

@@ -1,0 +1,151 @@
+use crate::outputs::{answers_stop, disk_of, has_feed, has_stop, is_answer, is_gone, is_write};
+use qn_base::Rank;
+use qn_model::{DiskOp, Entry, Out, Outs, Phase, Settings, What};
+use qn_node::Node;
+
+/// A node of the world, running or off.
+#[derive(Drop)]
+pub(crate) struct Seat {
+    pub(crate) on: bool,
+    pub(crate) node: Node,
+    pub(crate) clock: u64,
+    pub(crate) fed: u64,
+    pub(crate) decided: Option<u64>,
+    pub(crate) op: Option<DiskOp>,
+    pub(crate) took: Option<What>,
+    pub(crate) stop_due: bool,
+}
+
+impl Seat {
+    ghost use Rattle.std.specs.Prelude.{◌≡◌, ◌<◌, ◌+◌, ◌≤◌, ℕ, true, false, not, None, Some, Option, if◌then◌else◌, option_to_list, length, All};
+    ghost use Rattle.qn_model.specs.declared.configuration.Settings.{Settings};
+    ghost use Rattle.qn_model.specs.declared.entries.What.{What};
+    ghost use Rattle.qn_model.specs.Moments.{Running, booted, handed, has_feed, tick_of};
+    ghost use Rattle.qn_model.specs.NodeOutputs.{newest_outs};
+    ghost use Rattle.qn_model.specs.Phases.{is_live, phase};
+    ghost use Rattle.qn_model.specs.World.{given_up};
+    ghost use Rattle.qn_node.specs.Node.{phase_of, steps_of};
+    ghost use Rattle.qn_node.specs.Outputs.{IsNodeOutput};
+    ghost use Rattle.qn_world.specs.Outputs.{op_with, stop_with};
+    ghost use Rattle.qn_world.specs.Seats.{BootedSeat, HandedSeat, IsFresh, SeatFor};
+
+    /// The seat of a node that never ran.
+    pub(crate) fn off(settings: &Settings, me: Rank) -> Seat
+        requires { me.0 < length settings.now.nodes }
+        ensures { IsFresh result }
+    {
+        Seat {
+            on: false,
+            node: Node::new(settings, me),
+            clock: 0,
+            fed: 0,
+            decided: None,
+            op: None,
+            took: None,
+            stop_due: false,
+        }
+    }
+
+    /// The tick of the node's clock, in milliseconds.
+    pub(crate) fn tick(&self) -> u64
+        ensures { result ≡ tick_of self.now.clock }
+    {
+        self.clock / 100
+    }
+
+    /// The node boots: a new history, which begins with Begin.
+    pub(crate) fn boot(
+        &mut self,
+        settings: &Settings,
+        me: Rank,
+        time: u64,
+        base: u64,
+        outs: &mut Outs,
+    )
+        requires { me.0 < length settings.now.nodes }
+        ensures { BootedSeat self.new settings.now me.0 time base outs.new }
+    {
+        *self = Seat {
+            on: true,
+            node: Node::new(settings, me),
+            clock: base,
+            fed: time,
+            decided: None,
+            op: None,
+            took: None,
+            stop_due: false,
+        };
+        self.hand(time, What::Begin, outs);
+    }
+
+    /// The running node is handed an entry at the present tick of its clock.
+    pub(crate) fn hand(&mut self, time: u64, what: What, outs: &mut Outs)
+        requires { 0 < steps_of self.old.node }
+        ensures { HandedSeat self.old self.new time what outs.new }
+    {
+        let tick = self.tick();
+        self.node.step(Entry { tick, what }, outs);
+        let gone = is_gone(self.node.phase());
+        self.note(gone, time, what, outs.as_slice());
+    }
+
+    /// Whether the node takes part in the cluster.
+    pub(crate) fn is_live(&self) -> bool
+        ensures value { result ≡ is_live (phase_of self.now.node) }
+        ensures exact { (s : Settings) (me : ℕ) (node : Running) (took : Option What)
+            → SeatFor self.now s me node took
+            → node.on ≡ true
+            → result ≡ is_live (phase s node.log) }
+    {
+        matches!(self.node.phase(), Phase::Up | Phase::Leaving)
+    }
+
+    /// A seat that stands for the same node, which takes part in the cluster.
+    pub(crate) fn copy(&self) -> Seat
+        requires { is_live (phase_of self.now.node) ≡ true }
+        ensures room { steps_of result.node ≡ steps_of self.now.node }
+        ensures op { result.op ≡ self.now.op }
+        ensures took { result.took ≡ self.now.took }
+        ensures stands { (s : Settings) (me : ℕ) (node : Running) (took : Option What)
+            → SeatFor self.now s me node took
+            → SeatFor result s me node took }
+    {
+        Seat {
+            on: self.on,
+            node: self.node.copy(),
+            clock: self.clock,
+            fed: self.fed,
+            decided: self.decided,
+            op: self.op,
+            took: self.took,
+            stop_due: self.stop_due,
+        }
+    }
+
+    /// What an entry and its outputs come to, of which the node may be gone.
+    fn note(&mut self, gone: bool, time: u64, what: What, outs: &[Out])
+        ensures { self.new ≡ record self.old {
+          on = not gone;
+          decided = (if has_feed outs.now then Some time else self.old.decided);
+          op = op_with what outs.now self.old.op;
+          stop_due = stop_with what outs.now self.old.stop_due;
+        } }
+    {
+        self.on = !gone;
+        if has_feed(outs) {
+            self.decided = Some(time);
+        }
+        self.op = disk_of(outs).or(if is_answer(what) { None } else { self.op });
+        self.stop_due = has_stop(outs) || (self.stop_due && !answers_stop(what));
+    }
+
+    /// What the node's operation leaves over where it is given up now: a write that did not land.
+    pub(crate) fn leftover(&self) -> Option<DiskOp>
+        ensures { option_to_list result ≡ given_up self.now.op self.now.took }
+    {
+        match (self.op, self.took) {
+            (Some(op), None) if is_write(op) => Some(op),
+            _ => None,
+        }
+    }
+}

@@ -1,0 +1,231 @@
+ghost use Rattle.std.specs.Prelude.{◌≡◌};
+ghost use Rattle.qn_model.specs.World.{failed};
+ghost use Rattle.qn_model.specs.Steps.{entry_of};
+
+use crate::clocks::advance_all;
+use crate::state::State;
+use qn_base::{NoMemory, Rank};
+use qn_model::{
+    Clocks, DiskOp, Event, HeaderSeen, MailSeen, Outs, Packet, Refused, SlotSeen, What,
+};
+
+/// The entry of an operation that failed.
+#[tactic(auto, unfolding(qn_model::specs::World::failed))]
+fn failed(op: DiskOp) -> What
+    ensures { result ≡ failed op }
+{
+    match op {
+        DiskOp::ReadHeader => What::Header(HeaderSeen::Failed),
+        DiskOp::ReadSlot(other) => What::SlotRead(other, SlotSeen::Failed),
+        DiskOp::WriteClaim(_) => What::Claimed(false),
+        DiskOp::WriteClear => What::Cleared(false),
+        DiskOp::ReadMail => What::MailRead(MailSeen::Failed),
+        DiskOp::WriteReset(other) => What::MailWritten(other, false),
+        DiskOp::WriteClose(_) => What::Closed(false),
+    }
+}
+
+/// The entry that a packet is to its receiver.
+fn entry_of(packet: Packet) -> What
+    ensures { result ≡ entry_of packet }
+{
+    match packet {
+        Packet::Ask(ask) => What::Ask(ask),
+        Packet::Tell(tell) => What::Tell(tell),
+        Packet::Hello { .. } | Packet::Announce { .. } => What::Tick,
+        Packet::Vote { yes } => What::Device(yes),
+    }
+}
+
+impl State {
+    ghost use Rattle.std.specs.Prelude.{◌≡◌, ◌≤◌, ◌<◌, [], true, IfErr, OnOk, OnErr, length};
+    ghost use Rattle.qn_world.specs.Stepping.{Applied, Hands, IsReady, OutOfMemory, Refuses, Stepped};
+    ghost use Rattle.qn_model.specs.Rules.{is_well_formed};
+    ghost use Rattle.qn_world.specs.Standing.{IsStanding};
+
+    /// The step of an event, if the event is allowed and there is memory for it.
+    pub(crate) fn apply(&mut self, event: &Event, outs: &mut Outs) -> Result<(), Refused>
+        requires formed { is_well_formed self.old.settings event.now ≡ true }
+        requires standing { IsStanding self.old }
+        requires early { self.old.time ≤ 10000000000000000 }
+        requires room { 0 < self.old.steps }
+        requires none { outs.old ≡ [] }
+        ensures ok { OnOk result (Applied self.old self.new event.now outs.new) }
+        ensures err { IfErr result (λ answer. Refuses self.old self.new event.now answer) }
+    {
+        if let Err(rule) = self.allowed(event) {
+            return Err(Refused::NotAllowed(rule));
+        }
+        self.spend();
+        if self.step(event, outs).is_err() {
+            self.give_back();
+            return Err(Refused::NoMemory);
+        }
+        Ok(())
+    }
+
+    /// The world makes the step of an event that is allowed; or it finds no memory, and is as it was.
+    pub(crate) fn step(&mut self, event: &Event, outs: &mut Outs) -> Result<(), NoMemory>
+        requires ready { IsReady self.old event.now }
+        requires none { outs.old ≡ [] }
+        ensures ok { OnOk result (Stepped self.old self.new event.now outs.new) }
+        ensures err { OnErr result (OutOfMemory self.old self.new event.now) }
+    {
+        match event {
+            Event::Pass { dt, clocks } => {
+                self.pass(*dt, clocks);
+                Ok(())
+            }
+            Event::Boot(i, base) => {
+                self.boot(*i, *base, outs);
+                Ok(())
+            }
+            Event::Crash(i) => self.crash(*i),
+            Event::Land(i) => {
+                self.land(*i);
+                Ok(())
+            }
+            Event::Done(i) => self.done(*i, outs),
+            Event::Fail(i) => self.fail(*i, outs),
+            Event::Late(i, number) => {
+                self.late(*i, *number);
+                Ok(())
+            }
+            Event::View(i, view) => self.hand_event(event, *i, What::View(*view), outs),
+            Event::Deliver(i, number) => self.deliver(*i, *number, outs),
+            Event::Device(i, yes) => self.hand_event(event, *i, What::Device(*yes), outs),
+            Event::Tick(i) => self.hand_event(event, *i, What::Tick, outs),
+            Event::Stopped(i) => self.hand_event(event, *i, What::Stopped(true), outs),
+            Event::Unstopped(i) => self.hand_event(event, *i, What::Stopped(false), outs),
+            Event::Leave(i) => self.hand_event(event, *i, What::Leave, outs),
+            Event::Feed(i) => {
+                self.feed(*i);
+                Ok(())
+            }
+        }
+    }
+
+    /// Time passes, and the clocks of the running nodes advance.
+    fn pass(&mut self, dt: u64, clocks: &Clocks)
+        requires { IsReady self.old (Event.Pass dt clocks.now) }
+        ensures { Stepped self.old self.new (Event.Pass dt clocks.now) [] }
+    {
+        self.advance(dt, clocks);
+        self.add_time(dt);
+    }
+
+    /// A node boots; its leftovers are dropped.
+    fn boot(&mut self, i: Rank, base: u64, outs: &mut Outs)
+        requires { IsReady self.old (Event.Boot i base) }
+        ensures { Stepped self.old self.new (Event.Boot i base) outs.new }
+    {
+        self.drop_left(i);
+        self.boot_seat(i, base, outs);
+    }
+
+    /// A node is off at once.
+    fn crash(&mut self, i: Rank) -> Result<(), NoMemory>
+        requires { IsReady self.old (Event.Crash i) }
+        ensures ok { OnOk result (Stepped self.old self.new (Event.Crash i) []) }
+        ensures err { OnErr result (OutOfMemory self.old self.new (Event.Crash i)) }
+    {
+        self.give_up(i)?;
+        self.switch_off(i);
+        Ok(())
+    }
+
+    /// The operation of a node lands.
+    fn land(&mut self, i: Rank)
+        requires { IsReady self.old (Event.Land i) }
+        ensures { Stepped self.old self.new (Event.Land i) [] }
+    {
+        if let Some(op) = self.seat(i).op {
+            let entry = self.taken(i, op);
+            self.write(i, op);
+            self.take(i, Some(entry));
+        }
+    }
+
+    /// The operation of a node, which landed, is answered.
+    fn done(&mut self, i: Rank, outs: &mut Outs) -> Result<(), NoMemory>
+        requires { IsReady self.old (Event.Done i) }
+        ensures ok { OnOk result (Stepped self.old self.new (Event.Done i) outs.new) }
+        ensures err { OnErr result (OutOfMemory self.old self.new (Event.Done i)) }
+    {
+        if let Some(entry) = self.seat(i).took {
+            self.take(i, None);
+            if let Err(error) = self.hand(i, entry, outs) {
+                self.take(i, Some(entry));
+                return Err(error);
+            }
+        }
+        Ok(())
+    }
+
+    /// The operation of a node fails; a write that did not land is left over.
+    fn fail(&mut self, i: Rank, outs: &mut Outs) -> Result<(), NoMemory>
+        requires { IsReady self.old (Event.Fail i) }
+        ensures ok { OnOk result (Stepped self.old self.new (Event.Fail i) outs.new) }
+        ensures err { OnErr result (OutOfMemory self.old self.new (Event.Fail i)) }
+    {
+        if let Some(op) = self.seat(i).op {
+            let took = self.seat(i).took;
+            let before = self.left_count();
+            self.give_up(i)?;
+            self.take(i, None);
+            if let Err(error) = self.hand(i, failed(op), outs) {
+                self.take(i, took);
+                self.keep_left(before);
+                return Err(error);
+            }
+        }
+        Ok(())
+    }
+
+    /// A leftover of a node lands.
+    fn late(&mut self, i: Rank, number: u64)
+        requires { IsReady self.old (Event.Late i number) }
+        ensures { Stepped self.old self.new (Event.Late i number) [] }
+    {
+        if let Some(place) = self.place_of(i, number) {
+            let leftover = self.take_left(place);
+            self.write(i, leftover.op);
+        }
+    }
+
+    /// A node is handed the entry of an event that concerns nothing else.
+    fn hand_event(
+        &mut self,
+        event: &Event,
+        i: Rank,
+        what: What,
+        outs: &mut Outs,
+    ) -> Result<(), NoMemory>
+        requires ready { IsReady self.old event.now }
+        requires entry { Hands event.now i what }
+        ensures ok { OnOk result (Stepped self.old self.new event.now outs.new) }
+        ensures err { OnErr result (OutOfMemory self.old self.new event.now) }
+    {
+        self.hand(i, what, outs)
+    }
+
+    /// A node is handed a packet.
+    fn deliver(&mut self, i: Rank, number: u64, outs: &mut Outs) -> Result<(), NoMemory>
+        requires { IsReady self.old (Event.Deliver i number) }
+        ensures ok { OnOk result (Stepped self.old self.new (Event.Deliver i number) outs.new) }
+        ensures err { OnErr result (OutOfMemory self.old self.new (Event.Deliver i number)) }
+    {
+        if let Some(sent) = self.packet(number) {
+            self.hand(i, entry_of(sent.packet), outs)?;
+        }
+        Ok(())
+    }
+
+    /// The last feed that a node decided takes effect.
+    fn feed(&mut self, i: Rank)
+        requires { IsReady self.old (Event.Feed i) }
+        ensures { Stepped self.old self.new (Event.Feed i) [] }
+    {
+        self.take_feed(i);
+    }
+}
