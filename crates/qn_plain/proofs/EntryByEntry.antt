@@ -15,7 +15,7 @@ unfolding present_view view_tick is_released expected_votes device_yes
 tally_of-cons s entry past = refl
 
 -- the count is read off the tally
-tally_answer-tally_of : (s : Settings) (past : List VoteEntry) (now : ℕ) → tally_answer s (tally_of s past) now ≡ answer_at s past now
+pub tally_answer-tally_of : (s : Settings) (past : List VoteEntry) (now : ℕ) → tally_answer s (tally_of s past) now ≡ answer_at s past now
 unfolding answer_at
 tally_answer-tally_of s past now = refl
 

@@ -1,1 +1,9 @@
+pub mod Asking
 pub mod EntryByEntry
+pub mod Given
+pub mod Histories
+pub mod Lives
+pub mod Peers
+pub mod Questions
+pub mod Stands
+pub mod Steps

@@ -43,6 +43,10 @@ abbrev pub with_lowered : Settings → ℕ → Tally → Tally
 with_lowered s now tally =
     record tally { expected = if tally_lowers s tally now then tally_votes s tally else tally.expected }
 
+-- a tally with one more entry
+abbrev pub tally_after : Settings → VoteEntry → Tally → Tally
+tally_after s entry tally = with_lowered s entry.tick (with_entry s entry tally)
+
 -- the device's votes at a tick
 abbrev pub tally_device : Settings → Tally → ℕ → ℕ
 tally_device s tally now =

@@ -1,10 +1,28 @@
-// The count of a node from its whole vote list: slow, plain, in no memory of its own.
+// A node from its whole history, and a count from its whole vote list: slow, plain, in no memory of its
+// own. The tests of the fixed-memory cores have these as their second opinion.
 //
-// Promises: `vote_answer` is the defined answer of every settings, every vote list and every tick. It
-// has no condition, no refusal and takes no memory.
+// Promises: `outs` is what the definitions say comes out of the last entry of a history, `why` the first
+// condition that a start lacks, `answer` the count of votes; `vote_answer` is the defined answer of a vote
+// list. They hold for every settings, every rank and every list; `why` alone asks that its tick is no
+// earlier than that of any entry. None of them refuses or takes memory.
 #![tactic(auto)]
 
+mod entries;
+mod evaluation;
+mod lack;
+mod life;
+mod operations;
+mod outputs;
+mod past;
+mod peer;
+mod phases;
+mod sought;
+mod spans;
 mod tally;
+#[cfg(test)]
+mod tests;
 mod votes;
+mod wanted;
 
+pub use evaluation::{answer, outs, why};
 pub use votes::vote_answer;

@@ -1,6 +1,7 @@
 ghost use Rattle.std.specs.Prelude.{◌≡◌, ◌≤◌, ◌+◌, nat_le};
 ghost use Rattle.qn_model.specs.Votes.{votes_of_device};
 
+use crate::spans::has_passed;
 use qn_base::View;
 use qn_model::{Answer, Device, Settings, VoteEntry, VoteWhat};
 
@@ -18,7 +19,7 @@ pub struct Tally {
 impl Tally {
     ghost use Rattle.std.specs.Prelude.{◌≡◌, ◌≤◌, ◌+◌, ◌*◌, [], ◌∷◌, List};
     ghost use Rattle.qn_model.specs.declared.votes.VoteEntry.{VoteEntry};
-    ghost use Rattle.qn_plain.specs.Tally.{tally_answer, tally_counted, tally_device, tally_lowers, tally_of, tally_votes, with_entry, with_lowered};
+    ghost use Rattle.qn_plain.specs.Tally.{tally_after, tally_answer, tally_counted, tally_device, tally_lowers, tally_of, tally_votes, with_entry, with_lowered};
 
     /// The tally of no entries.
     #[tactic(auto, unfolding(qn_model::specs::Votes::present_view, qn_model::specs::Votes::view_tick, qn_model::specs::Votes::is_released, qn_model::specs::Votes::expected_votes, qn_model::specs::Votes::device_yes))]
@@ -36,7 +37,8 @@ impl Tally {
 
     /// Takes in the next entry of the list.
     pub fn push(&mut self, settings: &Settings, entry: &VoteEntry)
-        ensures { (past : List VoteEntry)
+        ensures after { self.new ≡ tally_after settings.now entry.now self.old }
+        ensures stands { (past : List VoteEntry)
             → self.old ≡ tally_of settings.now past
             → self.new ≡ tally_of settings.now (entry.now ∷ past) }
     {
@@ -139,11 +141,4 @@ fn votes_of_device(device: Device, agreed: Option<u64>, now: u64) -> u64
         Some(since) if !has_passed(since, device.timeout, now) => u64::from(device.votes),
         _ => 0,
     }
-}
-
-/// Whether at least this span of milliseconds lies between the two ticks.
-fn has_passed(since: u64, span: u64, now: u64) -> bool
-    ensures { result ≡ nat_le (since + span) now }
-{
-    since <= now && now - since >= span
 }

@@ -3,8 +3,8 @@ use Rattle.qn_plain.specs.Tally.{with_entry, with_lowered}
 use Rattle.qn_plain.proofs.EntryByEntry.{tally_of-cons}
 use Rattle.qn_plain.proofs.tally.Tally.push.Goals as goal
 
-pub returns : goal.returns
-returns c = λ past was.
+pub returns-clause-stands : goal.returns-clause-stands
+returns-clause-stands c = λ past was.
     let s = c.args.settings.now in
     let entry = c.args.entry.now in
     c.lower.ensures ∙ (ap (with_lowered s entry.tick) (c.take_in.ensures ∙ ap (with_entry s entry) was) ∙ tally_of-cons s entry past)

@@ -1,0 +1,29 @@
+-- Which rank is the least one that is sought, by what a history comes to.
+use Rattle.std.specs.Prelude.{ℕ, Bool, Option, ◌||◌, ◌&&◌, ◌==◌, not}
+use Rattle.std.specs.Option.{option_map}
+use Rattle.qn_base.specs.declared.ids.Rank.{Rank}
+use Rattle.qn_model.specs.declared.configuration.Settings.{Settings}
+use Rattle.qn_model.specs.Unmet.{least_rank}
+use Rattle.qn_model.specs.Wanted.{rank_of}
+use Rattle.qn_plain.specs.declared.past.Past.{Past}
+use Rattle.qn_plain.specs.declared.sought.Sought.{Sought}
+use Rattle.qn_plain.specs.declared.sought.Sought.TheVariants.{Member, Holder, Unheard, Unfenced, Unread, Unreset}
+use Rattle.qn_plain.specs.Past.{is_in}
+use Rattle.qn_plain.specs.Peer.{peer_at, peer_is_clean, peer_is_fenced, peer_is_held, peer_is_seen, peer_is_written}
+
+-- whether a rank is sought
+abbrev pub is_sought : Sought → ℕ → ℕ → Past → ℕ → Bool
+is_sought Member me tick past rank = is_in past.votes.view rank
+is_sought Holder me tick past rank =
+    is_in past.votes.view rank && not (rank == me) && peer_is_held (peer_at past.peers rank)
+is_sought Unheard me tick past rank =
+    is_in past.votes.view rank && not (rank == me) && not (peer_at past.peers rank).free && not (peer_is_held (peer_at past.peers rank))
+is_sought Unfenced me tick past rank =
+    not (is_in past.votes.view rank) && not (peer_is_clean (peer_at past.peers rank) || peer_is_fenced (peer_at past.peers rank) past.life.timing.msgwait tick)
+is_sought Unread me tick past rank = not (is_in past.votes.view rank) && not (peer_is_seen (peer_at past.peers rank))
+is_sought Unreset me tick past rank =
+    not (is_in past.votes.view rank) && not (peer_is_clean (peer_at past.peers rank)) && not (peer_is_written (peer_at past.peers rank))
+
+-- the least configured rank that is sought
+abbrev pub least_sought : Settings → Sought → ℕ → ℕ → Past → Option Rank
+least_sought s sought me tick past = option_map rank_of (least_rank s (is_sought sought me tick past))

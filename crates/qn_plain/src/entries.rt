@@ -1,0 +1,102 @@
+ghost use Rattle.std.specs.Prelude.{◌≡◌};
+ghost use Rattle.qn_model.specs.Holding.{answers_stop, is_stopped};
+ghost use Rattle.qn_model.specs.Log.{is_answer, is_view, times_of};
+ghost use Rattle.qn_model.specs.NodeOutputs.{feeds_on, is_begin, is_boot_step};
+ghost use Rattle.qn_model.specs.Phases.{deadly_of, gives_exit, message_of};
+
+use qn_model::{HeaderSeen, MailSeen, Message, Timing, What};
+
+/// Whether an entry is the answer of a disk operation.
+pub fn is_answer(what: What) -> bool
+    ensures { result ≡ is_answer what }
+{
+    matches!(
+        what,
+        What::Header(_)
+            | What::SlotRead(_, _)
+            | What::Claimed(_)
+            | What::Cleared(_)
+            | What::MailRead(_)
+            | What::MailWritten(_, _)
+            | What::Closed(_)
+    )
+}
+
+/// Whether an entry installs a view.
+pub fn is_view(what: What) -> bool
+    ensures { result ≡ is_view what }
+{
+    matches!(what, What::View(_))
+}
+
+/// Whether an entry begins the boot.
+pub fn is_begin(what: What) -> bool
+    ensures { result ≡ is_begin what }
+{
+    matches!(what, What::Begin)
+}
+
+/// Whether an entry is a step of the boot.
+pub fn is_boot_step(what: What) -> bool
+    ensures { result ≡ is_boot_step what }
+{
+    matches!(
+        what,
+        What::Begin | What::Header(_) | What::SlotRead(_, _) | What::Claimed(_) | What::Cleared(_)
+    )
+}
+
+/// Whether an entry answers a Stop.
+pub fn answers_stop(what: What) -> bool
+    ensures { result ≡ answers_stop what }
+{
+    matches!(what, What::Stopped(_))
+}
+
+/// Whether an entry is a stop that succeeded.
+pub fn is_stopped(what: What) -> bool
+    ensures { result ≡ is_stopped what }
+{
+    matches!(what, What::Stopped(true))
+}
+
+/// The times of the header that an entry is a read of.
+pub fn times_of(what: What) -> Option<Timing>
+    ensures { result ≡ times_of what }
+{
+    match what {
+        What::Header(HeaderSeen::Read { timing, .. }) => Some(timing),
+        _ => None,
+    }
+}
+
+/// The message that an entry read in the own mailbox.
+pub fn message_of(what: What) -> Option<Message>
+    ensures { result ≡ message_of what }
+{
+    match what {
+        What::MailRead(MailSeen::Read(message)) => Some(message),
+        _ => None,
+    }
+}
+
+/// The message, where it is deadly.
+pub fn deadly_of(message: Option<Message>) -> Option<Message>
+    ensures { result ≡ deadly_of message }
+{
+    message.filter(|m| m.is_deadly())
+}
+
+/// Whether a message feeds the watchdog, where it came in time (sbd(8), `watch`).
+pub fn feeds_on(message: Option<Message>) -> bool
+    ensures { result ≡ feeds_on message }
+{
+    message.is_some_and(|m| !m.is_deadly())
+}
+
+/// Whether a message makes the node leave, where it came in time.
+pub fn gives_exit(message: Option<Message>) -> bool
+    ensures { result ≡ gives_exit message }
+{
+    matches!(message, Some(Message::Exit))
+}

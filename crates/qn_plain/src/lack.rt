@@ -1,0 +1,165 @@
+ghost use Rattle.std.specs.Prelude.{◌≡◌, ◌<◌, length};
+ghost use Rattle.qn_model.specs.Unmet.{id_of};
+ghost use Rattle.qn_plain.specs.Lack.{is_nothing, is_rank};
+
+use crate::past::Past;
+use crate::phases::is_up;
+use crate::sought::Sought;
+use qn_base::{NodeId, Rank};
+use qn_model::{Settings, Why};
+
+/// The first condition that a start of the resource still lacks, by ranks.
+#[derive(Clone, Copy)]
+pub enum Lack {
+    Down,
+    Holding,
+    NoView,
+    WaitForAll,
+    NotQuorate,
+    NotChosen(Rank),
+    HeldBy(Rank),
+    Unheard(Rank),
+    Unfenced(Rank),
+    Clear,
+}
+
+impl Lack {
+    /// Whether nothing lacks.
+    pub fn is_nothing(self) -> bool
+        ensures { result ≡ is_nothing self }
+    {
+        matches!(self, Lack::Clear)
+    }
+}
+
+impl Past {
+    ghost use Rattle.std.specs.Prelude.{◌≡◌, ◌<◌, length, IfSome};
+    ghost use Rattle.qn_plain.specs.Lack.{HasRank, is_quorate_at, lack_at, lack_of_others, other_than, why_by};
+    ghost use Rattle.qn_plain.specs.Past.{ResetsBy};
+    ghost use Rattle.qn_plain.specs.Peer.{peer_at};
+    ghost use Rattle.qn_plain.specs.declared.sought.Sought.TheVariants as sought;
+    ghost use Rattle.qn_plain.specs.Sought.{least_sought};
+
+    /// Whether the node is quorate at a tick.
+    pub fn is_quorate(&self, settings: &Settings, tick: u64) -> bool
+        ensures { result ≡ is_quorate_at settings.now tick self.now }
+    {
+        self.votes.answer(settings, tick).quorate
+    }
+
+    /// The first condition that lacks at a tick, by ranks that are configured.
+    pub fn lack(&self, settings: &Settings, me: Rank, tick: u64) -> Lack
+        ensures value { result ≡ lack_at settings.now me.0 tick self.now }
+        ensures within { HasRank settings.now result }
+    {
+        if !is_up(self.life.phase) {
+            Lack::Down
+        } else if self.life.holds {
+            Lack::Holding
+        } else if self.votes.view.is_none() {
+            Lack::NoView
+        } else if !self.votes.released {
+            Lack::WaitForAll
+        } else if !self.is_quorate(settings, tick) {
+            Lack::NotQuorate
+        } else {
+            match self.other_chosen(settings, me, tick) {
+                Some(rank) => Lack::NotChosen(rank),
+                None => self.lack_of_others(settings, me, tick),
+            }
+        }
+    }
+
+    /// The least member of the present view where it is another node.
+    fn other_chosen(&self, settings: &Settings, me: Rank, tick: u64) -> Option<Rank>
+        ensures value { result ≡ other_than me.0 (least_sought settings.now sought.Member me.0 tick self.now) }
+        ensures within { IfSome result (λ rank. rank.0 < length settings.now.nodes) }
+    {
+        let chosen = self.least(settings, Sought::Member, me, tick);
+        if is_rank(me, chosen) { None } else { chosen }
+    }
+
+    /// What lacks of the other nodes.
+    fn lack_of_others(&self, settings: &Settings, me: Rank, tick: u64) -> Lack
+        ensures value { result ≡ lack_of_others settings.now me.0 tick self.now }
+        ensures within { HasRank settings.now result }
+    {
+        if let Some(rank) = self.least(settings, Sought::Holder, me, tick) {
+            return Lack::HeldBy(rank);
+        }
+        if let Some(rank) = self.least(settings, Sought::Unheard, me, tick) {
+            return Lack::Unheard(rank);
+        }
+        if let Some(rank) = self.least(settings, Sought::Unfenced, me, tick) {
+            return Lack::Unfenced(rank);
+        }
+        Lack::Clear
+    }
+
+    /// The condition with the numbers that it names. No reset may have been written behind the tick.
+    pub fn why(&self, settings: &Settings, tick: u64, lack: Lack) -> Why
+        requires resets { ResetsBy self.now tick }
+        requires within { HasRank settings.now lack }
+        ensures { result ≡ why_by settings.now tick self.now lack }
+    {
+        match lack {
+            Lack::Down => Why::Down,
+            Lack::Holding => Why::Holding,
+            Lack::NoView => Why::NoView,
+            Lack::WaitForAll => Why::WaitForAll,
+            Lack::NotQuorate => {
+                let answer = self.votes.answer(settings, tick);
+                Why::NotQuorate {
+                    votes: answer.votes,
+                    quorum: answer.quorum,
+                }
+            }
+            Lack::NotChosen(rank) => Why::NotChosen {
+                id: id_of(settings, rank),
+            },
+            Lack::HeldBy(rank) => Why::HeldBy {
+                id: id_of(settings, rank),
+            },
+            Lack::Unheard(rank) => Why::Unheard {
+                id: id_of(settings, rank),
+            },
+            Lack::Unfenced(rank) => self.why_unfenced(settings, tick, rank),
+            Lack::Clear => Why::Clear,
+        }
+    }
+
+    /// That a rank has no licence, with the ticks that still lack to msgwait.
+    fn why_unfenced(&self, settings: &Settings, tick: u64, rank: Rank) -> Why
+        requires resets { ResetsBy self.now tick }
+        requires within { rank.0 < length settings.now.nodes }
+        ensures { result ≡ why_by settings.now tick self.now (Lack.Unfenced rank) }
+    {
+        let id = id_of(settings, rank);
+        let peer = self.peers[usize::from(rank.0)];
+        Why::Unfenced {
+            id,
+            written: peer.is_written(),
+            left: peer.left(self.life.timing.msgwait, tick),
+        }
+    }
+}
+
+/// Whether it is this rank.
+pub fn is_rank(me: Rank, found: Option<Rank>) -> bool
+    ensures { result ≡ is_rank me.0 found }
+{
+    match found {
+        Some(rank) => rank.0 == me.0,
+        None => false,
+    }
+}
+
+/// The id of a configured rank.
+fn id_of(settings: &Settings, rank: Rank) -> NodeId
+    requires { rank.0 < length settings.now.nodes }
+    ensures id { result ≡ id_of settings.now rank.0 }
+    ensures few { rank.0 < 32 }
+{
+    let nodes = settings.nodes.as_slice();
+    nodes[usize::from(rank.0)].id
+}
