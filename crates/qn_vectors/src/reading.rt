@@ -1,30 +1,48 @@
-use qn_base::{Mask, NodeId, View};
-use qn_model::{Answer, Device, NodeEntry, Nodes, Settings, VoteEntry, VoteWhat};
-use std::alloc::Global;
-use std::test::Fail;
+use qn_base::{Mask, NodeId, Rank, View};
+use qn_model::{Answer, Device, NodeEntry, Nodes, Settings};
+use std::alloc::{AllocError, AllocFailed};
+use std::num::ParseIntError;
 
-/// A row of the table: a vote list and its count at a tick.
-#[derive(Drop)]
-pub struct Row {
-    pub settings: Settings,
-    pub votes: Vec<VoteEntry>,
-    pub tick: u64,
-    pub answer: Answer,
+/// What is wrong with a row.
+#[derive(Clone, Copy)]
+pub enum Wrong {
+    /// It is no row.
+    Form,
+    /// Memory was wanted and not there.
+    Memory,
+    /// This comes out otherwise.
+    Other(&'static str),
 }
 
-/// Reads a row of the table.
-pub fn row_of(alloc: Global, text: &str) -> Result<Row, Fail> {
-    let mut parts = text.split(" | ");
-    let _name = parts.next().ok_or("name")?;
-    Ok(Row {
-        settings: settings_of(parts.next().ok_or("settings")?)?,
-        votes: votes_of(alloc, parts.next().ok_or("entries")?)?,
-        tick: number(parts.next().ok_or("tick")?)?,
-        answer: answer_of(parts.next().ok_or("answer")?)?,
-    })
+impl Wrong {
+    pub fn name(self) -> &'static str {
+        match self {
+            Wrong::Form => "the form",
+            Wrong::Memory => "the memory",
+            Wrong::Other(name) => name,
+        }
+    }
 }
 
-fn settings_of(text: &str) -> Result<Settings, Fail> {
+impl From<AllocError> for Wrong {
+    fn from(_: AllocError) -> Self {
+        Wrong::Memory
+    }
+}
+
+impl<T: Drop> From<AllocFailed<T>> for Wrong {
+    fn from(_: AllocFailed<T>) -> Self {
+        Wrong::Memory
+    }
+}
+
+impl From<ParseIntError> for Wrong {
+    fn from(_: ParseIntError) -> Self {
+        Wrong::Form
+    }
+}
+
+pub fn settings_of(text: &str) -> Result<Settings, Wrong> {
     Ok(Settings {
         nodes: nodes_of(value(text, "nodes=")?)?,
         two_node: truth(value(text, "two_node=")?)?,
@@ -37,21 +55,21 @@ fn settings_of(text: &str) -> Result<Settings, Fail> {
 }
 
 /// The rest of the word that begins with this key.
-fn value<'a>(text: &'a str, key: &str) -> Result<&'a str, Fail> {
+fn value<'a>(text: &'a str, key: &str) -> Result<&'a str, Wrong> {
     for word in text.split(' ') {
         if let Some(rest) = word.strip_prefix(key) {
             return Ok(rest);
         }
     }
-    Err("no such key")?
+    Err(Wrong::Form)
 }
 
-fn nodes_of(text: &str) -> Result<Nodes, Fail> {
+fn nodes_of(text: &str) -> Result<Nodes, Wrong> {
     let mut nodes = Nodes::new();
     for word in text.split(',') {
-        let (id, votes) = word.split_once(':').ok_or("node")?;
+        let (id, votes) = word.split_once(':').ok_or(Wrong::Form)?;
         if nodes.is_full() {
-            return Err("too many nodes")?;
+            return Err(Wrong::Form);
         }
         nodes.push(NodeEntry {
             id: NodeId(id.parse::<u32>()?),
@@ -61,73 +79,61 @@ fn nodes_of(text: &str) -> Result<Nodes, Fail> {
     Ok(nodes)
 }
 
-fn device_of(text: &str) -> Result<Option<Device>, Fail> {
+fn device_of(text: &str) -> Result<Option<Device>, Wrong> {
     if text == "none" {
         return Ok(None);
     }
-    let (votes, timeout) = text.split_once(':').ok_or("device")?;
+    let (votes, timeout) = text.split_once(':').ok_or(Wrong::Form)?;
     Ok(Some(Device {
         votes: votes.parse::<u32>()?,
         timeout: number(timeout)?,
     }))
 }
 
-fn votes_of(alloc: Global, text: &str) -> Result<Vec<VoteEntry>, Fail> {
-    let mut votes = Vec::new(alloc);
-    if text == "-" {
-        return Ok(votes);
-    }
-    for entry in text.split("; ") {
-        let (tick, what) = entry.split_once(' ').ok_or("entry")?;
-        votes.push(VoteEntry {
-            tick: number(tick)?,
-            what: what_of(what)?,
-        })?;
-    }
-    Ok(votes)
-}
-
-fn what_of(text: &str) -> Result<VoteWhat, Fail> {
-    Ok(match text {
-        "tick" => VoteWhat::Tick,
-        "released" => VoteWhat::Released,
-        "device yes" => VoteWhat::Device(true),
-        "device no" => VoteWhat::Device(false),
-        _ => VoteWhat::View(View {
-            id: 0,
-            members: members_of(text.strip_prefix("view ").ok_or("entry")?)?,
-        }),
+/// The five words of a count.
+pub fn answer_of(text: &str) -> Result<Answer, Wrong> {
+    let mut words = text.split(' ');
+    Ok(Answer {
+        quorate: truth(words.next().ok_or(Wrong::Form)?)?,
+        votes: number(words.next().ok_or(Wrong::Form)?)?,
+        quorum: number(words.next().ok_or(Wrong::Form)?)?,
+        expected: number(words.next().ok_or(Wrong::Form)?)?,
+        released: truth(words.next().ok_or(Wrong::Form)?)?,
     })
 }
 
-fn members_of(text: &str) -> Result<Mask, Fail> {
+pub fn view_of(id: &str, members: &str) -> Result<View, Wrong> {
+    Ok(View {
+        id: number(id)?,
+        members: members_of(members)?,
+    })
+}
+
+pub fn members_of(text: &str) -> Result<Mask, Wrong> {
     let mut mask = 0u32;
     for word in text.split(',') {
         let rank = word.parse::<u32>()?;
-        mask |= 1u32.checked_shl(rank).ok_or("rank")?;
+        mask |= 1u32.checked_shl(rank).ok_or(Wrong::Form)?;
     }
     Ok(Mask(mask))
 }
 
-fn answer_of(text: &str) -> Result<Answer, Fail> {
-    let mut words = text.split(' ');
-    Ok(Answer {
-        quorate: truth(words.next().ok_or("quorate")?)?,
-        votes: number(words.next().ok_or("votes")?)?,
-        quorum: number(words.next().ok_or("quorum")?)?,
-        expected: number(words.next().ok_or("expected")?)?,
-        released: truth(words.next().ok_or("released")?)?,
-    })
-}
-
-fn truth(text: &str) -> Result<bool, Fail> {
+pub fn truth(text: &str) -> Result<bool, Wrong> {
     match text {
         "yes" => Ok(true),
         "no" => Ok(false),
-        _ => Err("neither yes nor no")?,
+        _ => Err(Wrong::Form),
     }
 }
 
-fn number(text: &str) -> Result<u64, Fail> {
+pub fn number(text: &str) -> Result<u64, Wrong> {
     Ok(text.parse::<u64>()?)
+}
+
+pub fn rank(text: &str) -> Result<Rank, Wrong> {
+    Ok(Rank(text.parse::<u8>()?))
+}
+
+pub fn node(text: &str) -> Result<NodeId, Wrong> {
+    Ok(NodeId(text.parse::<u32>()?))
 }

@@ -1,231 +1,261 @@
-// Counts from outside, a line a count: name | settings | entries | tick | quorate, votes, quorum, expected
-// votes, released. Members are ranks. The lists are grouped by what their settings have.
+use crate::reading::{Wrong, answer_of, node, number, rank, truth, view_of};
+use qn_model::{
+    Answer, Ask, BootCause, DiskOp, HaltKind, HeaderSeen, MailSeen, Message, Out, Packet, Phase,
+    Slot, SlotSeen, Tell, Timing, What, Why,
+};
+use std::alloc::Global;
 
-/// The examples that were worked by hand.
-pub fn worked() -> &'static [&'static str] {
-    &[
-        "last-man-standing-lowers-0 | nodes=1:1,2:1,3:1,4:1,5:1,6:1,7:1,8:1 two_node=no wait_for_all=no last_man_standing=yes window=10000 device=none expected=8 | - | 0 | no 0 5 8 yes",
-        "last-man-standing-lowers-1 | nodes=1:1,2:1,3:1,4:1,5:1,6:1,7:1,8:1 two_node=no wait_for_all=no last_man_standing=yes window=10000 device=none expected=8 | 0 view 0,1,2,3,4,5,6,7 | 0 | yes 8 5 8 yes",
-        "last-man-standing-lowers-2 | nodes=1:1,2:1,3:1,4:1,5:1,6:1,7:1,8:1 two_node=no wait_for_all=no last_man_standing=yes window=10000 device=none expected=8 | 0 view 0,1,2,3,4,5,6,7; 1000 view 0,1,2,3,4 | 1000 | yes 5 5 8 yes",
-        "last-man-standing-lowers-3 | nodes=1:1,2:1,3:1,4:1,5:1,6:1,7:1,8:1 two_node=no wait_for_all=no last_man_standing=yes window=10000 device=none expected=8 | 0 view 0,1,2,3,4,5,6,7; 1000 view 0,1,2,3,4; 10999 tick | 10999 | yes 5 5 8 yes",
-        "last-man-standing-lowers-4 | nodes=1:1,2:1,3:1,4:1,5:1,6:1,7:1,8:1 two_node=no wait_for_all=no last_man_standing=yes window=10000 device=none expected=8 | 0 view 0,1,2,3,4,5,6,7; 1000 view 0,1,2,3,4; 10999 tick; 11000 tick | 11000 | yes 5 3 5 yes",
-        "last-man-standing-lowers-5 | nodes=1:1,2:1,3:1,4:1,5:1,6:1,7:1,8:1 two_node=no wait_for_all=no last_man_standing=yes window=10000 device=none expected=8 | 0 view 0,1,2,3,4,5,6,7; 1000 view 0,1,2,3,4; 10999 tick; 11000 tick; 12000 view 0,1,2 | 12000 | yes 3 3 5 yes",
-        "last-man-standing-lowers-6 | nodes=1:1,2:1,3:1,4:1,5:1,6:1,7:1,8:1 two_node=no wait_for_all=no last_man_standing=yes window=10000 device=none expected=8 | 0 view 0,1,2,3,4,5,6,7; 1000 view 0,1,2,3,4; 10999 tick; 11000 tick; 12000 view 0,1,2; 22000 tick | 22000 | yes 3 2 3 yes",
-        "last-man-standing-lowers-7 | nodes=1:1,2:1,3:1,4:1,5:1,6:1,7:1,8:1 two_node=no wait_for_all=no last_man_standing=yes window=10000 device=none expected=8 | 0 view 0,1,2,3,4,5,6,7; 1000 view 0,1,2,3,4; 10999 tick; 11000 tick; 12000 view 0,1,2; 22000 tick; 23000 view 0,1 | 23000 | yes 2 2 3 yes",
-        "last-man-standing-lowers-8 | nodes=1:1,2:1,3:1,4:1,5:1,6:1,7:1,8:1 two_node=no wait_for_all=no last_man_standing=yes window=10000 device=none expected=8 | 0 view 0,1,2,3,4,5,6,7; 1000 view 0,1,2,3,4; 10999 tick; 11000 tick; 12000 view 0,1,2; 22000 tick; 23000 view 0,1; 33000 tick | 33000 | yes 2 2 2 yes",
-        "last-man-standing-lowers-9 | nodes=1:1,2:1,3:1,4:1,5:1,6:1,7:1,8:1 two_node=no wait_for_all=no last_man_standing=yes window=10000 device=none expected=8 | 0 view 0,1,2,3,4,5,6,7; 1000 view 0,1,2,3,4; 10999 tick; 11000 tick; 12000 view 0,1,2; 22000 tick; 23000 view 0,1; 33000 tick; 34000 view 0 | 34000 | no 1 2 2 yes",
-        "last-man-standing-lowers-10 | nodes=1:1,2:1,3:1,4:1,5:1,6:1,7:1,8:1 two_node=no wait_for_all=no last_man_standing=yes window=10000 device=none expected=8 | 0 view 0,1,2,3,4,5,6,7; 1000 view 0,1,2,3,4; 10999 tick; 11000 tick; 12000 view 0,1,2; 22000 tick; 23000 view 0,1; 33000 tick; 34000 view 0; 99000 tick | 99000 | no 1 2 2 yes",
-        "device-vote-expires-start | nodes=1:1,2:1,3:1 two_node=no wait_for_all=no last_man_standing=no window=10000 device=1:10000 expected=4 | - | 0 | no 0 3 4 yes",
-        "device-vote-expires-view | nodes=1:1,2:1,3:1 two_node=no wait_for_all=no last_man_standing=no window=10000 device=1:10000 expected=4 | 0 view 0,1 | 0 | no 2 3 4 yes",
-        "device-vote-expires-9999 | nodes=1:1,2:1,3:1 two_node=no wait_for_all=no last_man_standing=no window=10000 device=1:10000 expected=4 | 0 view 0,1; 0 device yes | 9999 | yes 3 3 4 yes",
-        "device-vote-expires-10000 | nodes=1:1,2:1,3:1 two_node=no wait_for_all=no last_man_standing=no window=10000 device=1:10000 expected=4 | 0 view 0,1; 0 device yes | 10000 | no 2 3 4 yes",
-        "device-default-votes | nodes=1:1,2:1,3:1 two_node=no wait_for_all=no last_man_standing=no window=10000 device=2:10000 expected=5 | 0 view 0,1; 0 device yes | 0 | yes 4 3 5 yes",
-        "two-nodes-wait-for-all-alone | nodes=1:1,2:1 two_node=yes wait_for_all=yes last_man_standing=no window=10000 device=none expected=2 | 0 view 0 | 0 | no 1 1 2 no",
-        "two-nodes-wait-for-all-both | nodes=1:1,2:1 two_node=yes wait_for_all=yes last_man_standing=no window=10000 device=none expected=2 | 0 view 0; 0 view 0,1 | 0 | yes 2 1 2 yes",
-        "two-nodes-wait-for-all-released | nodes=1:1,2:1 two_node=yes wait_for_all=yes last_man_standing=no window=10000 device=none expected=2 | 0 view 0; 0 view 0,1; 0 view 0 | 0 | yes 1 1 2 yes",
-        "two-nodes-wait-for-all-told | nodes=1:1,2:1 two_node=yes wait_for_all=yes last_man_standing=no window=10000 device=none expected=2 | 0 view 0; 3 released | 3 | yes 1 1 2 yes",
-    ]
+/// A row of a history: an entry, or a look at a later tick, and what is then known of the node.
+#[derive(Drop)]
+pub struct Row {
+    pub tick: u64,
+    /// The entry; none where the row only looks.
+    pub what: Option<What>,
+    pub outs: Vec<Out>,
+    pub why: Why,
+    pub answer: Answer,
+    pub phase: Phase,
+    pub holds: bool,
+    /// None where it is not compared.
+    pub incarnation: Option<Option<u64>>,
 }
 
-/// Last man standing, without wait_for_all and a device.
-pub fn last_man_alone() -> &'static [&'static str] {
-    &[
-        "list-502 | nodes=3:1,5:1,11:1,16:1,23:1,25:1,28:1,33:1 two_node=no wait_for_all=no last_man_standing=yes window=1 device=none expected=8 | 7 tick; 9 view 2; 9 view 0,1,2,3,4,6,7; 9 device yes; 9 tick; 10 released; 10 tick; 11 tick; 11 view 0,1,2,3,4,5,7; 12 tick; 12 tick; 12 tick; 13 view 2,4,7; 13 tick; 14 tick; 14 tick | 14 | no 3 4 7 yes",
-        "list-2060 | nodes=1:1,2:1,36:1 two_node=no wait_for_all=no last_man_standing=yes window=10000 device=none expected=4 | 10001 tick; 10002 view 0,1,2; 10002 tick; 20001 tick; 30002 released; 30002 tick; 30003 view 0,1,2; 40004 view 0,2 | 50004 | yes 2 2 3 yes",
-        "list-3394 | nodes=24:1,25:1,39:1 two_node=no wait_for_all=no last_man_standing=yes window=1 device=none expected=3 | 1 tick; 1 view 1,2; 1 tick; 3 device yes | 3 | yes 2 2 2 yes",
-        "list-1240 | nodes=1:1,2:1,3:1,4:1,5:1 two_node=no wait_for_all=no last_man_standing=yes window=1 device=none expected=5 | 10000000000001 tick; 10000000000002 tick; 10000000000002 tick; 10000000000002 view 0,1,2,3,4; 10000000000002 view 0,2,4; 10000000000003 device no; 10000000000004 tick; 10000000000004 tick | 10000000000004 | yes 3 2 3 yes",
-        "list-3220 | nodes=1:1,2:1,3:1 two_node=no wait_for_all=no last_man_standing=yes window=1 device=none expected=3 | 0 tick; 0 view 0,2; 2 tick; 2 view 0,2; 2 tick; 4 view 2; 4 tick; 5 tick | 5 | no 1 2 2 yes",
-        "list-1672 | nodes=2:1,3:1,5:1,6:1,21:1,22:1,34:1,35:1 two_node=no wait_for_all=no last_man_standing=yes window=1 device=none expected=8 | 10000000000002 view 1,2,3,4,5,6; 10000000000003 tick; 10000000000003 view 0,1,2,3,4,5,6,7 | 10000000000003 | yes 8 5 8 yes",
-        "list-3030 | nodes=1:1,2:1,3:1 two_node=no wait_for_all=no last_man_standing=yes window=1 device=none expected=3 | 8 tick; 9 tick; 10 view 0,1,2; 10 tick; 11 view 0,2; 13 tick; 13 tick; 13 tick; 14 tick; 14 view 0; 16 tick; 18 view 0 | 18 | no 1 2 2 yes",
-    ]
+/// Reads a row of eight columns, parted by tabs.
+pub fn row_of(alloc: Global, line: &str) -> Result<Row, Wrong> {
+    let columns: Vec<&str> = line.split('\t').collect(alloc)?;
+    let [tick, what, outs, why, answer, phase, holds, incarnation] = columns.as_slice() else {
+        return Err(Wrong::Form);
+    };
+    Ok(Row {
+        tick: number(tick)?,
+        what: entry_of(alloc, what)?,
+        outs: outs_of(alloc, outs)?,
+        why: why_of(alloc, why)?,
+        answer: answer_of(answer)?,
+        phase: phase_of(phase)?,
+        holds: *holds == "holds",
+        incarnation: incarnation_of(incarnation)?,
+    })
 }
 
-/// Last man standing with wait_for_all.
-pub fn last_man_waits() -> &'static [&'static str] {
-    &[
-        "list-1430 | nodes=1:1,2:1,3:1 two_node=no wait_for_all=yes last_man_standing=yes window=10000 device=none expected=3 | 10000 view 0,1; 10001 tick; 20001 released; 20001 released; 30000 view 0,1,2; 40000 tick; 50001 tick; 50001 view 1,2; 60001 tick; 70001 view 1; 80002 tick; 80003 released | 90003 | no 1 2 2 yes",
-        "list-3070 | nodes=1:1,2:1,3:1 two_node=no wait_for_all=yes last_man_standing=yes window=10000 device=none expected=4 | 1 view 0,1,2; 10001 device yes; 10002 device yes; 10003 tick; 20002 view 0,1,2; 30001 view 0,2; 30001 device yes; 30001 tick; 40000 tick; 40000 tick; 40001 tick; 50001 view 0; 50002 view 0; 60003 view 0; 60003 tick; 70004 view 0,1 | 70004 | yes 2 2 2 yes",
-        "list-5752 | nodes=1:1,2:1,3:1,4:1,5:1,6:1,7:1,8:1 two_node=no wait_for_all=yes last_man_standing=yes window=10000 device=none expected=8 | 10000000000000 view 1; 10000000009999 tick; 10000000020000 tick; 10000000020001 view 0,1,2,4,5,6,7; 10000000030001 released; 10000000030002 view 0,1,2,4,5,6,7; 10000000030002 tick; 10000000040002 view 2; 10000000050001 view 2; 10000000050001 view 2; 10000000060000 tick; 10000000070001 released; 10000000070001 tick; 10000000080002 tick; 10000000090002 tick; 10000000090002 view 0,1,2,3,4,5,6,7 | 10000000090002 | yes 8 5 8 yes",
-        "list-536 | nodes=1:1,2:1,3:1 two_node=no wait_for_all=yes last_man_standing=yes window=1 device=none expected=3 | 10000000000002 tick; 10000000000004 view 0,1; 10000000000004 tick; 10000000000005 tick; 10000000000006 released; 10000000000006 view 0,1,2; 10000000000006 tick; 10000000000007 tick | 10000000000007 | yes 3 2 3 yes",
-        "list-152 | nodes=2:1,6:1,8:1,13:1 two_node=no wait_for_all=yes last_man_standing=yes window=1 device=none expected=4 | 8 view 0,1,2,3; 10 view 1,2,3; 11 device yes; 11 view 1; 11 tick; 11 tick; 11 tick; 11 device no; 12 released; 12 view 0,1,2,3; 14 view 0,1,2,3; 15 device no | 15 | yes 4 3 4 yes",
-        "list-4564 | nodes=1:1,2:1,3:1,4:1,5:1,6:1,7:1,8:1 two_node=no wait_for_all=yes last_man_standing=yes window=1 device=none expected=8 | 9 view 0,1,2,3,4,6,7; 9 tick; 10 view 0,1,4,6,7; 10 tick; 10 released; 12 released; 13 view 0,1,2,3,4,5,6,7; 14 tick; 15 tick; 15 tick; 15 view 0,1,2,3,4,6,7; 16 view 7 | 16 | no 1 5 8 yes",
-        "list-1180 | nodes=1:1,2:1,3:1,4:1 two_node=no wait_for_all=yes last_man_standing=yes window=10000 device=none expected=4 | 0 tick; 1 tick; 1 view 2,3; 1 view 0,2,3; 1 view 0; 1 view 1,2,3; 10002 tick; 20001 view 1,2,3; 30000 view 1,2,3; 40000 tick; 50001 tick; 50002 view 0,2,3; 50002 tick; 60003 released; 70002 tick; 80001 view 0,2,3 | 80001 | yes 3 2 3 yes",
-        "list-2472 | nodes=1:1,2:1,3:1,4:1 two_node=no wait_for_all=yes last_man_standing=yes window=1 device=none expected=5 | 0 tick; 0 view 0,2,3; 0 tick; 1 view 0,1,2,3; 1 tick; 2 released; 3 tick; 3 view 0,1,3; 4 view 1; 5 tick; 5 tick; 7 tick; 8 view 1; 9 view 0,1,2,3; 9 tick; 10 tick | 1000010 | yes 4 3 4 yes",
-        "list-5884 | nodes=15:1,33:1,36:1 two_node=no wait_for_all=yes last_man_standing=yes window=1 device=none expected=1 | 0 view 0,1,2; 0 tick; 2 view 0,2; 2 view 0,2; 2 view 0; 3 tick; 4 view 0,1,2; 4 tick; 6 released; 6 view 1,2; 6 released; 7 tick | 7 | yes 2 2 2 yes",
-        "list-4280 | nodes=1:1,2:1,3:1 two_node=no wait_for_all=yes last_man_standing=yes window=1 device=none expected=3 | 9 view 0; 9 tick; 10 view 0; 10 tick; 11 tick; 11 device yes; 11 view 0,1,2; 11 view 1,2; 11 tick; 11 tick; 13 view 2; 15 tick | 15 | no 1 2 3 yes",
-        "list-3640 | nodes=1:1,3:1,14:1,26:1 two_node=no wait_for_all=yes last_man_standing=yes window=1 device=none expected=2 | 2 view 0,1,2; 3 view 0,1,3; 3 tick; 3 tick; 4 released; 6 released; 7 tick; 7 view 0,1,2; 8 view 1,2,3; 9 released; 10 released; 11 view 1,2; 12 tick; 12 view 0,1,2,3; 13 tick; 15 tick | 1000015 | yes 4 3 4 yes",
-        "list-532 | nodes=1:1,2:1,3:1 two_node=no wait_for_all=yes last_man_standing=yes window=20 device=none expected=4 | 0 released | 0 | no 0 3 4 yes",
-        "list-910 | nodes=8:1,9:1,18:1,20:1,29:1 two_node=no wait_for_all=yes last_man_standing=yes window=5 device=none expected=5 | 6 view 3; 7 view 3; 7 tick; 13 tick; 18 tick; 18 tick; 18 tick; 19 view 0,1,2,3,4; 19 tick; 25 view 0,1,2,3,4; 25 tick; 25 view 1,2,3,4; 31 tick; 31 view 4; 35 tick; 35 tick | 35 | no 1 3 4 yes",
-        "list-706 | nodes=1:1,2:1,3:1 two_node=no wait_for_all=yes last_man_standing=yes window=10000 device=none expected=3 | 10000 tick; 10000 device no; 10000 view 0,1; 10001 view 0,1; 10001 tick; 10002 view 0,1; 10002 tick; 20001 device yes; 20001 tick; 20001 tick; 20001 tick; 30001 released; 40000 tick; 49999 view 0,1; 50000 tick; 50000 released | 60000 | yes 2 2 2 yes",
-        "list-1542 | nodes=1:1,2:1,3:1 two_node=no wait_for_all=yes last_man_standing=yes window=20 device=none expected=3 | 0 released | 0 | no 0 2 3 yes",
-        "list-5394 | nodes=3:1,16:1 two_node=no wait_for_all=yes last_man_standing=yes window=1 device=none expected=2 | 10000000000002 view 1; 10000000000002 tick; 10000000000003 tick; 10000000000004 released; 10000000000004 tick; 10000000000004 device yes; 10000000000006 view 1; 10000000000006 view 0,1; 10000000000007 view 0,1; 10000000000008 view 0; 10000000000010 view 0; 10000000000011 tick | 10000001000011 | no 1 2 2 yes",
-        "list-1118 | nodes=1:1,2:1,3:1 two_node=no wait_for_all=yes last_man_standing=yes window=1 device=none expected=3 | 2 view 0,1,2; 2 view 0,1; 3 tick; 3 released; 4 view 1; 4 tick; 5 tick; 7 tick; 8 released; 8 view 0; 9 tick; 11 view 0; 13 view 1; 15 view 1; 15 tick; 17 tick | 17 | no 1 2 2 yes",
-        "list-5948 | nodes=1:1,2:1,3:1 two_node=no wait_for_all=yes last_man_standing=yes window=1 device=none expected=3 | 2 tick; 4 tick; 4 released; 5 tick; 6 view 0,1,2; 6 tick; 7 view 0,2; 7 tick; 9 view 0,2; 10 tick; 11 tick; 13 tick; 14 tick; 14 view 2; 14 view 2; 15 tick | 16 | no 1 2 2 yes",
-        "list-2426 | nodes=1:1,2:1,3:1,4:1,5:1,6:1,7:1,8:1 two_node=no wait_for_all=yes last_man_standing=yes window=10000 device=none expected=2 | 10000 view 0,1,3,4,5,6,7; 10000 view 0,1,3,4,5,6,7; 20000 tick; 29999 view 0,1,4,5,6,7; 29999 tick; 39998 tick; 39999 tick; 49999 tick; 50000 tick; 60000 view 0,1,4,5,6,7; 60000 tick; 70001 tick | 70001 | no 6 4 7 no",
-        "list-1970 | nodes=8:1,16:1 two_node=no wait_for_all=yes last_man_standing=yes window=1 device=none expected=2 | 2 view 1; 3 tick; 3 view 0; 3 device yes; 5 device yes; 6 tick; 6 view 0; 6 tick; 8 view 0; 8 view 1; 9 view 1; 10 tick; 10 view 0,1; 10 view 0; 11 released; 11 tick | 11 | no 1 2 2 yes",
-        "list-5834 | nodes=4:1,27:1,33:1 two_node=no wait_for_all=yes last_man_standing=yes window=5 device=none expected=3 | 10000000000006 view 0,1,2; 10000000000011 view 0,2; 10000000000016 view 0,2; 10000000000022 tick; 10000000000027 view 0,1,2; 10000000000028 view 1; 10000000000032 released; 10000000000036 released | 10000000000036 | no 1 2 3 yes",
-        "list-1414 | nodes=6:1,31:1 two_node=no wait_for_all=yes last_man_standing=yes window=5 device=none expected=2 | 10000000000001 view 0; 10000000000007 tick; 10000000000008 tick; 10000000000009 released; 10000000000013 tick; 10000000000018 tick | 10000000000018 | no 1 2 2 yes",
-        "list-3812 | nodes=8:1,9:1,10:1,18:1,20:1,23:1,26:1,31:1 two_node=no wait_for_all=yes last_man_standing=yes window=20 device=none expected=8 | 7 released; 8 tick; 8 tick; 8 view 1,5,7; 9 view 0,1,2,3,4,5,7; 9 tick; 9 view 0,1,2,3,4,5,7; 28 tick; 28 view 0,1,2,3,4,5,7; 49 tick; 49 view 0,1,2,3,4,5,7; 69 view 0,1,2,3,4,5,6,7; 88 view 2,4,6,7; 88 view 4,6,7; 89 view 0,1,2,3,4,5,6; 89 view 0,1,2,3,4,5,6 | 89 | yes 7 5 8 yes",
-        "list-4382 | nodes=1:1,2:1,3:1,4:1,5:1,6:1,7:1,8:1 two_node=no wait_for_all=yes last_man_standing=yes window=10000 device=none expected=8 | 10000 tick; 10000 tick; 19999 tick; 29998 view 0,1,2,3; 39998 view 0,1,2,3,4,5,6,7; 39999 tick; 40000 released; 40000 tick; 40001 tick; 50002 tick; 60002 view 0,1,3,5,6,7; 70002 released | 70002 | yes 6 4 6 yes",
-        "list-3792 | nodes=1:1,2:1,3:1,4:1,5:1 two_node=no wait_for_all=yes last_man_standing=yes window=10000 device=none expected=1 | 0 view 0,1,3,4; 0 view 3,4; 10000 tick; 10000 view 0,1,2,3,4 | 20000 | yes 5 3 5 yes",
-        "list-1754 | nodes=2:1,30:1,32:1 two_node=no wait_for_all=yes last_man_standing=yes window=10000 device=none expected=3 | 10008 tick; 10008 tick; 20007 view 0,1; 20008 released; 20009 tick; 30009 view 0,1; 40010 tick; 50011 tick; 60012 view 1; 60012 tick; 70012 view 0; 80013 view 0; 80013 view 1,2; 80013 released; 90014 device no; 100013 view 1,2 | 100013 | yes 2 2 2 yes",
-        "list-4770 | nodes=1:1,2:1 two_node=no wait_for_all=yes last_man_standing=yes window=10000 device=none expected=2 | 0 view 0; 10000 tick | 1010000 | no 1 2 2 no",
-        "list-2430 | nodes=16:1,18:1 two_node=no wait_for_all=yes last_man_standing=yes window=1 device=none expected=2 | 7 released; 8 tick | 8 | no 0 2 2 yes",
-        "list-4156 | nodes=1:1,2:1,3:1,4:1,5:1,6:1,7:1,8:1 two_node=no wait_for_all=yes last_man_standing=yes window=20 device=none expected=8 | 28 view 0,2,3,4,5,6,7; 48 view 2,3,4,5,6,7; 48 device yes; 48 view 2,5,7; 69 released; 89 view 0,1,2,3,4,5,6,7; 89 tick; 89 released; 90 view 0,1,2,6,7; 110 tick; 131 view 1,2,3,4,5,6,7; 132 view 2,5,6 | 132 | no 3 4 7 yes",
-        "list-370 | nodes=1:1,2:1 two_node=no wait_for_all=yes last_man_standing=yes window=20 device=none expected=2 | 20 view 0; 41 tick; 61 tick; 61 tick | 61 | no 1 2 2 no",
-        "list-3314 | nodes=4:1,18:1 two_node=no wait_for_all=yes last_man_standing=yes window=20 device=none expected=2 | 1 tick; 1 released | 1 | no 0 2 2 yes",
-        "list-5554 | nodes=8:1,34:1 two_node=no wait_for_all=yes last_man_standing=yes window=5 device=none expected=2 | 10000000000005 released; 10000000000009 device yes | 10000000000009 | no 0 2 2 yes",
-    ]
+fn entry_of(alloc: Global, text: &str) -> Result<Option<What>, Wrong> {
+    if text == "look" {
+        return Ok(None);
+    }
+    let words: Vec<&str> = text.split(' ').collect(alloc)?;
+    Ok(Some(what_of(words.as_slice())?))
 }
 
-/// Last man standing with a device, which counts for nothing.
-pub fn last_man_with_device() -> &'static [&'static str] {
-    &[
-        "list-2158 | nodes=1:1,2:1,3:1,4:1,5:1,6:1,7:1,8:1 two_node=no wait_for_all=no last_man_standing=yes window=10000 device=1:10000 expected=10 | 10000000010000 tick; 10000000019999 device yes; 10000000019999 released; 10000000030000 view 0,1,2,3,4,5,6; 10000000039999 tick; 10000000049998 device no; 10000000049998 view 1,2,3,4,5,6,7; 10000000059997 tick; 10000000069997 tick; 10000000079997 tick; 10000000079998 view 0,1,2,4,5,6,7; 10000000089998 view 0,1,2,4,5,7; 10000000089999 tick; 10000000089999 tick; 10000000089999 device no; 10000000100000 tick | 10000000100000 | yes 6 4 6 yes",
-        "list-3534 | nodes=1:1,2:1,3:1,4:1 two_node=no wait_for_all=no last_man_standing=yes window=10000 device=1:20 expected=4 | 19 view 1,2,3; 39 released; 58 view 0,1,2,3; 10058 view 0,1,2; 10078 tick; 20078 device yes; 30078 tick; 40077 view 0; 40096 tick; 40116 view 0,1,2,3; 40135 tick; 40135 device yes | 40154 | yes 4 3 4 yes",
-        "list-1236 | nodes=1:1,2:1,3:1,4:1,5:1,6:1,7:1,8:1 two_node=no wait_for_all=no last_man_standing=yes window=1 device=2:20 expected=8 | 10000000000000 view 0,1,2,3,4,5,6; 10000000000000 view 0,2,5,6; 10000000000000 device yes; 10000000000019 device yes | 10000000000019 | no 4 5 8 yes",
-        "list-288 | nodes=1:1,2:1,3:1 two_node=no wait_for_all=no last_man_standing=yes window=1 device=2:10000 expected=4 | 10000000000001 tick; 10000000000003 view 0,1,2; 10000000010003 tick; 10000000010004 device yes; 10000000020004 view 2; 10000000020004 released; 10000000020004 device yes; 10000000030004 tick; 10000000040004 device no; 10000000050004 tick; 10000000050004 device no; 10000000050004 tick | 10000000060004 | no 1 2 3 yes",
-        "list-2412 | nodes=15:1,25:1,30:1 two_node=no wait_for_all=no last_man_standing=yes window=1 device=1:5 expected=3 | 10000000000000 tick; 10000000000000 view 2; 10000000000001 view 2; 10000000000003 view 0,2; 10000000000004 view 0,2; 10000000000005 device yes | 10000000000005 | yes 2 2 2 yes",
-        "list-2154 | nodes=4:1,28:1,30:1,34:1,38:1 two_node=no wait_for_all=no last_man_standing=yes window=10000 device=4:1 expected=5 | 1 view 3; 1 view 0,1,2,3,4; 10000 device yes; 19999 tick; 20000 device yes; 20001 tick; 30000 view 0,2,4; 39999 tick; 50000 tick; 50001 device yes; 50001 view 4; 50001 device yes | 50002 | no 1 2 3 yes",
-        "list-870 | nodes=1:1,2:1,3:1 two_node=no wait_for_all=no last_man_standing=yes window=10000 device=1:20 expected=3 | 9999 released; 10018 tick; 20019 tick; 30018 device yes; 30037 view 1,2; 40037 view 1,2; 40057 device yes; 50056 view 1,2; 50056 device yes; 50076 device yes; 50095 tick; 60095 device yes | 60095 | yes 2 2 2 yes",
-        "list-3008 | nodes=5:1,6:1,27:1 two_node=no wait_for_all=no last_man_standing=yes window=5 device=2:20 expected=3 | 20 tick; 20 released; 20 tick; 21 released; 27 view 0,1; 28 view 0,1,2; 48 tick; 52 view 0,2; 71 device yes; 75 device yes; 79 released; 99 view 0; 99 view 0; 118 tick; 122 view 0,1,2; 141 view 1,2 | 141 | yes 2 2 3 yes",
-        "list-5720 | nodes=1:1,2:1,3:1,4:1,5:1 two_node=no wait_for_all=no last_man_standing=yes window=1 device=0:20 expected=5 | 19 device no; 20 tick; 21 device no; 41 device yes; 43 device yes; 45 view 0,1,3; 45 view 0; 46 tick; 46 tick; 66 tick; 66 released; 67 tick; 67 device yes; 68 view 0; 88 view 1,3; 88 device yes | 108 | no 2 3 5 yes",
-        "list-4398 | nodes=1:1,2:1,3:1,4:1 two_node=no wait_for_all=no last_man_standing=yes window=1 device=1:5 expected=4 | 10000000000004 view 1,2,3; 10000000000006 device yes; 10000000000010 view 1,2,3; 10000000000014 tick; 10000000000014 tick; 10000000000015 tick; 10000000000015 tick; 10000000000015 view 1 | 10000000000016 | no 1 2 3 yes",
-        "list-3496 | nodes=1:1,2:1 two_node=no wait_for_all=no last_man_standing=yes window=5 device=1:10000 expected=2 | 10000000010000 view 0,1; 10000000010000 tick; 10000000020000 device yes; 10000000020001 view 0; 10000000030001 view 0; 10000000040001 tick; 10000000040006 device yes; 10000000050006 tick | 10000000050006 | no 1 2 2 yes",
-        "list-1360 | nodes=1:1,2:1,3:1 two_node=no wait_for_all=no last_man_standing=yes window=1 device=1:1 expected=5 | 9 tick; 9 view 0,1,2; 9 view 0,1,2; 11 released | 11 | yes 3 2 3 yes",
-        "list-5676 | nodes=1:1,2:1,3:1,4:1 two_node=no wait_for_all=no last_man_standing=yes window=10000 device=1:20 expected=4 | 10000000009999 view 1,2,3; 10000000010018 device no; 10000000010038 device no; 10000000020039 device yes; 10000000030038 view 0,1,3; 10000000030038 tick; 10000000030038 view 0; 10000000030039 view 0; 10000000030059 view 0; 10000000030059 view 0; 10000000040058 view 0; 10000000050058 tick | 10000000050058 | no 1 2 3 yes",
-        "list-2600 | nodes=3:1,5:1,9:1,11:1,15:1,20:1,24:1,27:1 two_node=no wait_for_all=no last_man_standing=yes window=20 device=1:1 expected=8 | 20 view 0,1,2,3,4,5,6,7; 20 view 0,4,5,7; 20 view 0,1,3,4,5,6,7; 41 tick; 41 view 0,1,3,4,5,6,7; 41 released; 41 device no; 42 tick; 42 tick; 62 device yes; 62 device yes; 82 tick | 82 | yes 7 4 7 yes",
-        "list-796 | nodes=1:1,2:1,3:1,4:1,5:1,6:1,7:1,8:1 two_node=no wait_for_all=no last_man_standing=yes window=10000 device=7:10000 expected=8 | 10000000010000 view 7; 10000000019999 view 0,1,2,3,4,5,6,7; 10000000029999 released; 10000000040000 device yes; 10000000050000 view 0,2,3,4,5,6,7; 10000000060000 device yes; 10000000060001 device yes; 10000000070001 tick; 10000000080002 tick; 10000000080003 tick; 10000000080004 device no; 10000000090003 tick; 10000000090003 device yes; 10000000090003 view 3,4,5; 10000000100003 device yes; 10000000110003 view 3,4,5 | 10000000110003 | no 3 4 7 yes",
-        "list-4364 | nodes=17:1,18:1 two_node=no wait_for_all=no last_man_standing=yes window=1 device=1:20 expected=2 | 0 view 0,1; 2 tick; 3 device yes; 4 device no; 23 tick; 23 tick; 23 tick; 42 view 1; 43 device yes; 45 view 1; 64 view 1; 64 device yes | 84 | no 1 2 2 yes",
-        "list-6 | nodes=1:1,2:1 two_node=no wait_for_all=no last_man_standing=yes window=10000 device=0:1 expected=4 | 7 device yes; 10006 tick; 10006 device yes; 20006 view 0,1; 30006 tick; 40005 device yes | 40006 | no 2 3 4 yes",
-        "list-4068 | nodes=1:1,2:1,3:1 two_node=no wait_for_all=no last_man_standing=yes window=20 device=2:10000 expected=3 | 10000000000020 device yes; 10000000000041 tick; 10000000010041 view 1; 10000000010041 device yes; 10000000010061 released; 10000000010062 device yes; 10000000010082 tick; 10000000020082 device no | 10000001020082 | no 1 2 3 yes",
-        "list-5686 | nodes=1:1,2:1,3:1,4:1,5:1,6:1,7:1,8:1 two_node=no wait_for_all=no last_man_standing=yes window=1 device=2:1 expected=8 | 0 view 0,1,2,3,4,5,6,7; 1 view 0,3,4,5,6,7; 1 device yes | 2 | yes 6 5 8 yes",
-        "list-4110 | nodes=11:1,24:1,25:1,34:1 two_node=no wait_for_all=no last_man_standing=yes window=1 device=2:10000 expected=4 | 0 tick; 1 view 0,1,2,3; 1 tick; 10000 view 1,3; 10002 device no; 10003 tick; 20002 tick; 20002 tick; 30002 view 1,3; 30004 device yes; 30004 tick; 40004 tick | 40004 | no 2 3 4 yes",
-        "list-2648 | nodes=1:1,2:1,3:1 two_node=no wait_for_all=no last_man_standing=yes window=5 device=1:1 expected=3 | 10000000000006 tick; 10000000000006 tick; 10000000000006 tick; 10000000000007 tick; 10000000000007 tick; 10000000000007 view 1,2; 10000000000012 device yes; 10000000000016 device yes; 10000000000020 tick; 10000000000025 tick; 10000000000025 device yes; 10000000000025 device yes; 10000000000025 view 1,2; 10000000000026 tick; 10000000000027 device yes; 10000000000032 view 1,2 | 10000000000032 | yes 2 2 2 yes",
-        "list-1622 | nodes=1:1,2:1,3:1,4:1,5:1 two_node=no wait_for_all=no last_man_standing=yes window=20 device=1:10000 expected=1 | 0 view 0,1,2,3,4; 0 device yes; 9999 device yes; 10020 device yes | 10021 | yes 5 3 5 yes",
-    ]
+fn what_of(words: &[&str]) -> Result<What, Wrong> {
+    Ok(match words {
+        ["begin"] => What::Begin,
+        ["tick"] => What::Tick,
+        ["leave"] => What::Leave,
+        ["header", seen @ ..] => What::Header(header_of(seen)?),
+        ["slot", of, seen @ ..] => What::SlotRead(rank(of)?, slot_of(seen)?),
+        ["claimed", ok] => What::Claimed(truth(ok)?),
+        ["cleared", ok] => What::Cleared(truth(ok)?),
+        ["closed", ok] => What::Closed(truth(ok)?),
+        ["stopped", ok] => What::Stopped(truth(ok)?),
+        ["device", agrees] => What::Device(truth(agrees)?),
+        ["mail", seen] => What::MailRead(mail_of(seen)?),
+        ["written", to, ok] => What::MailWritten(rank(to)?, truth(ok)?),
+        ["view", id, members] => What::View(view_of(id, members)?),
+        ["ask", ask @ ..] => What::Ask(ask_of(ask)?),
+        ["tell", tell @ ..] => What::Tell(tell_of(tell)?),
+        _ => return Err(Wrong::Form),
+    })
 }
 
-/// Two nodes with two_node.
-pub fn two_nodes() -> &'static [&'static str] {
-    &[
-        "list-1072 | nodes=6:1,14:1 two_node=yes wait_for_all=yes last_man_standing=no window=10000 device=none expected=3 | 10000000000001 device no; 10000000000001 released | 10000000000001 | no 0 1 3 yes",
-        "list-3390 | nodes=13:1,15:1 two_node=yes wait_for_all=yes last_man_standing=no window=20 device=none expected=2 | 1 tick; 22 released | 1000022 | no 0 1 2 yes",
-        "list-852 | nodes=1:1,2:1 two_node=yes wait_for_all=yes last_man_standing=no window=5 device=none expected=2 | 10000000000000 tick; 10000000000000 device yes; 10000000000000 view 1; 10000000000000 released | 10000000000000 | yes 1 1 2 yes",
-        "list-4804 | nodes=1:1,2:1 two_node=yes wait_for_all=yes last_man_standing=no window=1 device=none expected=2 | 10000000000001 tick; 10000000000003 released | 10000000000004 | no 0 1 2 yes",
-        "list-5088 | nodes=4:1,14:1 two_node=yes wait_for_all=yes last_man_standing=no window=10000 device=none expected=2 | 9999 tick; 10000 released; 10001 tick; 10001 tick; 20001 device yes; 30001 tick | 30001 | no 0 1 2 yes",
-        "list-2324 | nodes=1:1,2:1 two_node=yes wait_for_all=yes last_man_standing=no window=10000 device=none expected=2 | 10000000000000 view 1; 10000000010000 tick; 10000000020001 tick; 10000000020002 released | 10000000020002 | yes 1 1 2 yes",
-        "list-2936 | nodes=1:1,2:1 two_node=yes wait_for_all=yes last_man_standing=no window=1 device=none expected=2 | 10000000000000 tick; 10000000000001 view 0; 10000000000002 tick; 10000000000003 tick; 10000000000003 released; 10000000000004 tick | 10000000000004 | yes 1 1 2 yes",
-        "list-38 | nodes=1:1,2:1 two_node=yes wait_for_all=yes last_man_standing=no window=10000 device=none expected=2 | - | 7 | no 0 1 2 no",
-        "list-3066 | nodes=19:1,27:1 two_node=yes wait_for_all=yes last_man_standing=no window=10000 device=none expected=2 | 10000000000000 tick; 10000000010000 view 1; 10000000019999 tick; 10000000019999 device yes; 10000000029999 released; 10000000039998 view 1 | 10000000049998 | yes 1 1 2 yes",
-        "list-4864 | nodes=1:1,2:1 two_node=yes wait_for_all=yes last_man_standing=no window=10000 device=none expected=2 | 0 tick; 0 tick; 10001 tick; 10002 view 1; 10002 released; 10003 tick; 20004 tick; 30004 view 1 | 1030004 | yes 1 1 2 yes",
-        "list-666 | nodes=1:1,2:1 two_node=yes wait_for_all=yes last_man_standing=no window=20 device=none expected=2 | - | 0 | no 0 1 2 no",
-        "list-2334 | nodes=1:1,2:1 two_node=yes wait_for_all=yes last_man_standing=no window=1 device=none expected=2 | 1 view 0; 2 view 0; 2 tick; 2 view 1; 3 tick; 4 tick; 6 view 0; 8 tick; 8 released; 8 view 1; 10 tick; 10 released | 11 | yes 1 1 2 yes",
-        "list-1250 | nodes=1:1,2:1 two_node=yes wait_for_all=yes last_man_standing=no window=20 device=none expected=2 | - | 10000000000000 | no 0 1 2 no",
-        "list-2692 | nodes=1:1,2:1 two_node=yes wait_for_all=yes last_man_standing=no window=5 device=none expected=2 | 13 view 1; 18 released; 19 tick; 20 view 0,1 | 25 | yes 2 1 2 yes",
-        "list-1552 | nodes=7:1,37:1 two_node=yes wait_for_all=yes last_man_standing=no window=10000 device=none expected=2 | - | 0 | no 0 1 2 no",
-        "list-1492 | nodes=1:1,2:1 two_node=yes wait_for_all=yes last_man_standing=no window=10000 device=none expected=1 | 10006 view 0,1; 20005 view 0,1; 30004 view 0 | 30004 | yes 1 1 2 yes",
-        "list-1670 | nodes=1:1,2:1 two_node=yes wait_for_all=yes last_man_standing=no window=10000 device=none expected=2 | - | 10000001000000 | no 0 1 2 no",
-        "list-2572 | nodes=1:1,2:1 two_node=yes wait_for_all=yes last_man_standing=no window=20 device=none expected=2 | 7 view 0; 27 released; 27 tick; 28 released; 29 tick; 48 view 0,1 | 48 | yes 2 1 2 yes",
-        "list-2930 | nodes=1:1,2:1 two_node=yes wait_for_all=yes last_man_standing=no window=10000 device=none expected=2 | - | 7 | no 0 1 2 no",
-        "list-2820 | nodes=1:1,2:1 two_node=yes wait_for_all=yes last_man_standing=no window=10000 device=none expected=2 | 10001 view 1; 20000 released; 30001 view 0,1; 30001 tick; 40000 tick; 49999 view 0,1; 49999 view 0,1; 60000 tick | 60000 | yes 2 1 2 yes",
-        "list-3308 | nodes=1:1,2:1 two_node=yes wait_for_all=yes last_man_standing=no window=5 device=none expected=2 | - | 12 | no 0 1 2 no",
-        "list-2046 | nodes=1:1,2:1 two_node=yes wait_for_all=yes last_man_standing=no window=10000 device=none expected=1 | 10001 view 0,1; 20000 tick; 20001 view 0; 20001 view 0 | 20001 | yes 1 1 2 yes",
-        "list-3324 | nodes=1:1,2:1 two_node=yes wait_for_all=yes last_man_standing=no window=10000 device=none expected=2 | - | 0 | no 0 1 2 no",
-        "list-3420 | nodes=1:1,2:1 two_node=yes wait_for_all=yes last_man_standing=no window=20 device=none expected=2 | - | 0 | no 0 1 2 no",
-        "list-3620 | nodes=1:1,2:1 two_node=yes wait_for_all=yes last_man_standing=no window=20 device=none expected=4 | 19 tick; 39 view 1; 39 view 1; 40 released; 59 view 0,1; 60 tick; 80 view 0,1; 101 tick; 122 released; 123 device no; 144 released; 165 tick; 185 view 0,1; 186 view 1; 205 tick; 225 tick | 226 | yes 1 1 4 yes",
-        "list-4190 | nodes=1:1,2:1 two_node=yes wait_for_all=yes last_man_standing=no window=20 device=none expected=2 | - | 0 | no 0 1 2 no",
-    ]
+fn header_of(words: &[&str]) -> Result<HeaderSeen, Wrong> {
+    Ok(match words {
+        ["failed"] => HeaderSeen::Failed,
+        ["not-image"] => HeaderSeen::NotImage,
+        [
+            "read",
+            nodes,
+            watchdog,
+            msgwait,
+            loop_ms,
+            read_limit,
+            feed_delay,
+        ] => HeaderSeen::Read {
+            nodes: nodes.parse::<u32>()?,
+            timing: Timing {
+                watchdog: number(watchdog)?,
+                msgwait: number(msgwait)?,
+                loop_ms: number(loop_ms)?,
+                read_limit: number(read_limit)?,
+                feed_delay: number(feed_delay)?,
+            },
+        },
+        _ => return Err(Wrong::Form),
+    })
 }
 
-/// A device, without wait_for_all.
-pub fn device_alone() -> &'static [&'static str] {
-    &[
-        "list-5820 | nodes=1:1,2:1,3:1 two_node=no wait_for_all=no last_man_standing=no window=1 device=2:5 expected=5 | 4 tick; 4 device yes; 5 view 0,1,2; 5 tick; 6 view 0,1,2; 6 view 1; 8 device yes; 12 device no | 1000012 | no 1 3 5 yes",
-        "list-1582 | nodes=1:1,2:1,3:1 two_node=no wait_for_all=no last_man_standing=no window=20 device=2:20 expected=5 | 0 tick; 19 view 0,1,2; 38 view 0; 59 view 0,1; 60 tick; 61 view 0,1,2; 82 device yes; 83 tick; 102 view 0; 123 view 0,1; 124 device yes; 145 device yes | 164 | yes 4 3 5 yes",
-        "list-4324 | nodes=1:0,2:1 two_node=no wait_for_all=no last_man_standing=no window=10000 device=1:10000 expected=2 | 10000000010000 device yes; 10000000020000 device no; 10000000020000 view 0; 10000000029999 tick; 10000000039998 tick; 10000000049998 device no; 10000000049998 tick; 10000000059997 tick; 10000000069996 device yes; 10000000069996 view 0; 10000000069997 tick; 10000000079997 device yes | 10000000089996 | no 1 2 2 yes",
-        "list-3786 | nodes=1:1,2:1 two_node=no wait_for_all=no last_man_standing=no window=1 device=1:20 expected=3 | 7 view 1; 8 tick; 10 device yes; 11 device no; 12 device no; 12 tick; 13 view 0,1; 13 tick; 32 device no; 34 view 0,1; 35 device yes; 35 device no | 55 | yes 2 2 3 yes",
-        "list-3446 | nodes=1:1,2:1,3:1,4:1 two_node=no wait_for_all=no last_man_standing=no window=5 device=3:20 expected=7 | 20 view 1,2,3; 20 tick; 21 device yes; 26 device no | 46 | no 3 4 7 yes",
-        "list-634 | nodes=1:1,2:3 two_node=no wait_for_all=no last_man_standing=no window=10000 device=3:5 expected=7 | 8 tick; 10008 view 1; 10009 device yes; 20008 view 0; 30008 tick; 40009 device yes; 40014 tick; 50015 tick; 50015 tick; 60016 device yes; 70016 view 0,1; 70021 device yes; 70021 device yes; 70026 device yes; 80026 view 1; 80026 device yes | 80030 | yes 6 4 7 yes",
-        "list-860 | nodes=1:1,2:1 two_node=no wait_for_all=no last_man_standing=no window=20 device=1:10000 expected=2 | 1 view 0; 2 device yes; 10001 released; 10001 device yes; 20000 tick; 30000 device no; 39999 tick; 40018 device yes | 50017 | yes 2 2 2 yes",
-        "list-22 | nodes=12:1,29:1 two_node=no wait_for_all=no last_man_standing=no window=20 device=1:1 expected=1 | 0 view 1; 20 tick; 39 view 0; 60 tick; 80 view 0,1; 100 view 1; 100 tick; 120 device yes; 120 tick; 121 device yes; 121 view 0,1; 121 view 0,1; 121 view 0; 121 view 0; 122 view 0,1; 143 device yes | 144 | yes 2 2 2 yes",
-        "list-304 | nodes=1:1,2:1 two_node=no wait_for_all=no last_man_standing=no window=20 device=2:1 expected=4 | 0 view 0,1; 0 view 1; 21 device yes | 21 | yes 3 3 4 yes",
-        "list-3316 | nodes=1:1,2:1 two_node=no wait_for_all=no last_man_standing=no window=1 device=1:1 expected=3 | 2 tick; 2 device yes; 2 tick; 4 view 0,1; 4 device yes; 4 view 1; 5 device yes; 6 device yes; 6 device no; 7 device yes; 7 tick; 8 view 0,1 | 9 | yes 2 2 3 yes",
-        "list-3032 | nodes=1:0,2:1 two_node=no wait_for_all=no last_man_standing=no window=5 device=1:5 expected=2 | 12 tick; 12 view 0,1; 16 view 1; 17 tick; 21 device yes; 21 view 0 | 1000021 | no 0 2 2 yes",
-        "list-556 | nodes=1:1,2:1,3:1,4:1,5:1 two_node=no wait_for_all=no last_man_standing=no window=10000 device=2:20 expected=1 | 1 view 2; 1 view 0,1,2,3,4; 21 view 3; 41 tick; 41 device yes; 10040 tick; 10060 device yes; 10060 device yes; 20060 device no; 30061 tick; 40060 view 0,1,2,3; 50061 device yes; 50062 view 4; 50062 device yes; 50062 tick; 50062 device yes | 50062 | yes 3 3 5 yes",
-        "list-3028 | nodes=1:1,2:1,3:1 two_node=no wait_for_all=no last_man_standing=no window=20 device=2:20 expected=5 | 8 view 1; 28 device yes; 28 device no; 48 device yes; 68 view 1,2; 69 view 0,1,2; 69 tick; 88 tick | 88 | yes 3 3 5 yes",
-        "list-448 | nodes=1:1,11:1,19:1 two_node=no wait_for_all=no last_man_standing=no window=1 device=2:20 expected=5 | 2 tick; 4 tick; 24 device no; 24 tick; 43 tick; 43 view 1; 45 device yes; 45 device yes; 46 device no; 65 tick; 85 tick; 87 view 0,1; 87 tick; 87 tick; 87 view 0,1; 88 device yes | 1000088 | no 2 3 5 yes",
-        "list-5856 | nodes=1:1,2:1,3:1 two_node=no wait_for_all=no last_man_standing=no window=10000 device=1:10000 expected=1 | 7 view 0,1,2; 10006 device yes; 10006 device no | 10006 | yes 3 2 3 yes",
-        "list-5312 | nodes=1:1,2:1 two_node=no wait_for_all=no last_man_standing=no window=20 device=2:20 expected=4 | 19 view 0,1; 39 tick; 39 device no; 59 view 0,1; 59 released; 60 view 0; 80 view 0,1; 80 device yes; 81 tick; 100 device no; 100 device yes; 119 device yes; 138 device no; 139 device yes; 139 tick; 159 view 0 | 160 | no 1 3 4 yes",
-        "list-1642 | nodes=3:1,4:1,31:1,39:1 two_node=no wait_for_all=no last_man_standing=no window=10000 device=1:5 expected=2 | 7 view 1; 10007 device yes | 10007 | yes 2 2 2 yes",
-        "list-3386 | nodes=1:1,2:1 two_node=no wait_for_all=no last_man_standing=no window=5 device=1:5 expected=3 | 4 view 0; 9 device yes; 14 view 0,1; 14 view 0,1; 19 device yes; 19 device no; 24 tick; 29 device no | 33 | yes 2 2 3 yes",
-        "list-2018 | nodes=3:0,8:2,16:1,20:0,28:2,33:3,34:0,35:0 two_node=no wait_for_all=no last_man_standing=no window=20 device=1:5 expected=9 | 21 tick; 21 tick; 22 device yes; 27 tick; 47 view 0,1,2,3,4,5,6,7; 47 view 0,1,2,3,4,5,6,7; 67 view 3; 87 tick; 87 device yes; 88 device yes; 107 device yes; 126 tick | 126 | no 0 5 9 yes",
-        "list-3274 | nodes=1:2,2:3,3:1 two_node=no wait_for_all=no last_man_standing=no window=10000 device=5:5 expected=11 | 0 view 0,1,2; 0 view 0; 10000 device yes; 10000 tick; 20001 device no; 30001 device no | 30006 | no 2 6 11 yes",
-        "list-2898 | nodes=6:1,11:1 two_node=no wait_for_all=no last_man_standing=no window=10000 device=2:5 expected=4 | 10000000000000 view 1; 10000000010000 view 0,1; 10000000010000 tick; 10000000010000 device yes; 10000000010000 tick; 10000000010000 view 0,1; 10000000019999 view 0,1; 10000000020000 device yes; 10000000030001 device yes; 10000000040002 tick; 10000000040002 view 0,1; 10000000050001 view 0; 10000000050001 device no; 10000000050005 tick; 10000000050006 device no; 10000000050010 device yes | 10000000050010 | yes 3 3 4 yes",
-        "list-1388 | nodes=1:0,2:2,3:1 two_node=no wait_for_all=no last_man_standing=no window=1 device=1:5 expected=4 | 0 device yes; 0 view 1; 2 device yes | 7 | no 2 3 4 yes",
-        "list-5046 | nodes=1:1 two_node=no wait_for_all=no last_man_standing=no window=10000 device=2:5 expected=3 | 5 view 0; 5 device yes; 6 device yes; 10007 device yes; 20006 tick; 20007 device yes | 20007 | yes 3 2 3 yes",
-        "list-5556 | nodes=1:3,2:1 two_node=no wait_for_all=no last_man_standing=no window=20 device=3:5 expected=7 | 11 view 0; 31 device yes; 35 tick; 36 device no | 40 | no 3 4 7 yes",
-        "list-1592 | nodes=1:0,2:1,3:3 two_node=no wait_for_all=no last_man_standing=no window=5 device=3:5 expected=7 | 7 tick; 13 tick; 13 view 1,2; 17 view 0 | 17 | no 0 4 7 yes",
-        "list-4478 | nodes=1:1,2:1 two_node=no wait_for_all=no last_man_standing=no window=1 device=2:5 expected=4 | 4 tick; 5 device yes; 10 view 0,1; 11 released; 16 view 0; 17 view 0,1; 18 device yes; 18 tick | 23 | no 2 3 4 yes",
-        "list-3348 | nodes=25:1,35:1,36:1 two_node=no wait_for_all=no last_man_standing=no window=1 device=1:1 expected=4 | 7 device yes; 8 tick; 8 device no; 8 view 0,1,2; 8 view 0,2; 8 device yes; 9 view 0,1; 10 device yes; 10 tick; 12 tick; 12 tick; 13 tick; 14 tick; 15 tick; 16 view 0; 18 device yes | 18 | no 2 3 4 yes",
-        "list-898 | nodes=2:2,3:3,15:1,31:1 two_node=no wait_for_all=no last_man_standing=no window=20 device=1:10000 expected=8 | 0 device yes; 19 tick; 40 tick; 40 view 0,1,2,3; 10040 device yes; 10040 device yes; 10040 device yes; 10061 device no | 20060 | yes 7 5 8 yes",
-        "list-4652 | nodes=8:1,9:0,36:1 two_node=no wait_for_all=no last_man_standing=no window=20 device=0:20 expected=2 | 7 view 1,2; 7 view 1; 7 tick | 7 | no 0 2 2 yes",
-        "list-3152 | nodes=1:1,2:1,3:2,4:3,5:3,6:2,7:1,8:3 two_node=no wait_for_all=no last_man_standing=no window=5 device=0:10000 expected=2 | 0 tick; 6 view 0,1,2,3,4,5,6,7; 10 view 0,1,2,3,4,5,6,7; 15 device yes | 10014 | yes 16 9 16 yes",
-        "list-5996 | nodes=1:1,2:1,3:1 two_node=no wait_for_all=no last_man_standing=no window=5 device=2:1 expected=5 | 7 device yes; 7 view 0,1; 13 device yes; 13 view 0,1; 19 device yes; 20 tick | 20 | no 2 3 5 yes",
-        "list-570 | nodes=1:1,4:1 two_node=no wait_for_all=no last_man_standing=no window=5 device=1:20 expected=3 | 6 view 1; 11 view 0,1; 15 device yes; 15 tick; 21 device yes; 40 device no | 40 | yes 2 2 3 yes",
-    ]
+fn slot_of(words: &[&str]) -> Result<SlotSeen, Wrong> {
+    Ok(match words {
+        ["failed"] => SlotSeen::Failed,
+        ["damaged"] => SlotSeen::Damaged,
+        ["read", incarnation, state] => SlotSeen::Read(Slot {
+            incarnation: number(incarnation)?,
+            clean: *state == "clean",
+        }),
+        _ => return Err(Wrong::Form),
+    })
 }
 
-/// A device with wait_for_all, of at most three nodes.
-pub fn device_waits_few() -> &'static [&'static str] {
-    &[
-        "list-4076 | nodes=1:1,2:1 two_node=no wait_for_all=yes last_man_standing=no window=5 device=2:1 expected=4 | 1 view 0; 5 released; 6 released; 10 tick; 16 view 0,1; 16 released; 16 device yes; 16 view 0,1; 20 device yes; 20 tick; 20 tick; 20 released | 21 | no 2 3 4 yes",
-        "list-3376 | nodes=1:1,2:1,3:1 two_node=no wait_for_all=yes last_man_standing=no window=10000 device=2:5 expected=5 | 10007 tick; 20007 view 0,1,2; 20007 view 1; 30007 view 0,2; 30008 device yes; 30009 device yes | 30013 | yes 4 3 5 yes",
-        "list-5818 | nodes=1:1,2:0,3:2 two_node=no wait_for_all=yes last_man_standing=no window=1 device=0:1 expected=5 | 7 view 1; 9 tick; 9 tick; 11 tick; 12 device yes; 14 tick; 14 device no; 14 released | 15 | no 0 3 5 yes",
-        "list-2388 | nodes=1:1,2:1 two_node=no wait_for_all=yes last_man_standing=no window=1 device=2:10000 expected=4 | 1 view 0; 1 device yes | 10001 | no 1 3 4 no",
-        "list-3072 | nodes=1:1,2:1 two_node=no wait_for_all=yes last_man_standing=no window=5 device=2:5 expected=4 | 10000000000006 device yes; 10000000000006 tick; 10000000000010 tick; 10000000000016 view 0,1; 10000000000020 released; 10000000000024 tick; 10000000000029 view 0,1; 10000000000034 device yes; 10000000000035 device no; 10000000000040 view 0,1; 10000000000044 view 0,1; 10000000000045 tick | 10000000000045 | no 2 3 4 yes",
-        "list-4802 | nodes=29:1 two_node=no wait_for_all=yes last_man_standing=no window=1 device=1:5 expected=2 | 7 view 0; 11 tick; 11 tick; 11 device yes; 12 view 0; 13 device yes | 13 | yes 2 2 2 yes",
-        "list-1200 | nodes=1:1,2:1,3:1 two_node=no wait_for_all=yes last_man_standing=no window=1 device=0:5 expected=3 | 10000000000001 device yes; 10000000000001 view 0,2; 10000000000001 released; 10000000000001 tick; 10000000000002 view 1; 10000000000002 device yes; 10000000000002 view 2; 10000000000003 tick; 10000000000008 device yes; 10000000000008 device yes; 10000000000012 device yes; 10000000000012 device no | 10000000000012 | no 1 2 3 yes",
-        "list-4196 | nodes=12:1 two_node=no wait_for_all=yes last_man_standing=no window=1 device=1:10000 expected=2 | 10000000000002 tick; 10000000000004 device yes; 10000000000006 tick; 10000000000006 tick; 10000000000006 tick; 10000000000007 view 0; 10000000010007 device yes; 10000000010008 tick; 10000000020008 tick; 10000000020009 tick; 10000000020010 view 0; 10000000030009 device yes | 10000000040009 | no 1 2 2 yes",
-        "list-2858 | nodes=1:1,19:1,21:0 two_node=no wait_for_all=yes last_man_standing=no window=5 device=1:1 expected=3 | 10000000000000 view 0,1,2; 10000000000000 device no; 10000000000000 view 2; 10000000000001 device yes; 10000000000005 device yes; 10000000000009 tick | 10000000000009 | no 0 2 3 yes",
-        "list-2062 | nodes=1:1,2:1,3:1 two_node=no wait_for_all=yes last_man_standing=no window=20 device=1:10000 expected=6 | 10007 view 0,1,2; 10027 device yes | 20027 | no 3 4 6 yes",
-        "list-5946 | nodes=1:3,2:1 two_node=no wait_for_all=yes last_man_standing=no window=20 device=2:5 expected=6 | 4 device no; 8 view 0; 28 view 0; 28 view 1; 29 view 0; 30 device yes; 51 device yes; 51 tick | 55 | no 5 4 6 no",
-        "list-2042 | nodes=1:1,2:1,3:1 two_node=no wait_for_all=yes last_man_standing=no window=10000 device=1:1 expected=4 | 9999 released | 9999 | no 0 3 4 yes",
-        "list-4378 | nodes=1:1,2:1,3:1 two_node=no wait_for_all=yes last_man_standing=no window=10000 device=2:1 expected=5 | 10000000000000 released; 10000000000001 device yes; 10000000000002 view 0,1,2; 10000000010002 tick; 10000000020003 view 0,1,2; 10000000020004 view 0,1,2; 10000000030003 tick; 10000000030004 released; 10000000030004 view 0,1; 10000000030005 view 0,1; 10000000030006 tick; 10000000030007 view 1,2; 10000000040007 view 0,1; 10000000040008 released; 10000000040008 view 2; 10000000040008 device yes | 10000000040009 | no 1 3 5 yes",
-        "list-2086 | nodes=5:1,29:1,33:1 two_node=no wait_for_all=yes last_man_standing=no window=10000 device=1:1 expected=3 | 0 device yes; 10001 tick; 10002 view 0; 10003 device yes; 10004 view 0,1,2; 20005 device yes | 20005 | yes 4 2 3 yes",
-        "list-5788 | nodes=14:1 two_node=no wait_for_all=yes last_man_standing=no window=10000 device=2:20 expected=2 | 10000000010000 view 0; 10000000020001 view 0; 10000000020002 tick; 10000000020003 released; 10000000020022 view 0; 10000000020022 view 0; 10000000020023 view 0; 10000000020024 view 0; 10000000020043 view 0; 10000000020063 view 0; 10000000030063 view 0; 10000000030063 device yes | 10000000030083 | no 1 2 2 yes",
-        "list-1508 | nodes=1:1,2:0,3:1 two_node=no wait_for_all=yes last_man_standing=no window=1 device=1:1 expected=3 | 0 tick; 0 released | 0 | no 0 2 3 yes",
-        "list-2824 | nodes=1:1,2:1,3:1 two_node=no wait_for_all=yes last_man_standing=no window=5 device=1:10000 expected=4 | 10000000009999 tick; 10000000010003 view 0,1,2; 10000000010009 view 2; 10000000010013 device yes | 10000000020012 | no 2 3 4 yes",
-        "list-1058 | nodes=7:1,32:0,36:0 two_node=no wait_for_all=yes last_man_standing=no window=1 device=2:1 expected=5 | 10000000000001 view 0,1,2; 10000000000002 tick; 10000000000003 device yes | 10000000000004 | no 1 3 5 yes",
-        "list-4716 | nodes=1:1,2:1,3:1 two_node=no wait_for_all=yes last_man_standing=no window=20 device=1:10000 expected=4 | 7 view 0,1,2; 10007 view 0,1,2; 10007 device yes | 20006 | yes 4 3 4 yes",
-    ]
+fn mail_of(word: &str) -> Result<MailSeen, Wrong> {
+    Ok(match word {
+        "failed" => MailSeen::Failed,
+        "damaged" => MailSeen::Damaged,
+        _ => MailSeen::Read(message_of(word)?),
+    })
 }
 
-/// A device with wait_for_all, of more than three nodes.
-pub fn device_waits_many() -> &'static [&'static str] {
-    &[
-        "list-2382 | nodes=1:1,2:1,3:1,4:1,5:1 two_node=no wait_for_all=yes last_man_standing=no window=20 device=4:20 expected=9 | 7 view 0,3,4; 27 view 0,1,2,3,4; 48 view 1,2,3,4; 49 device yes; 69 device no; 69 tick; 89 view 0,1,3,4; 108 view 0,1,2,3,4; 127 tick; 127 view 0,1,3; 146 device yes; 147 device yes | 147 | yes 7 5 9 yes",
-        "list-5056 | nodes=10:1,22:0,35:1,37:2,39:1 two_node=no wait_for_all=yes last_man_standing=no window=10000 device=4:10000 expected=9 | 10000000009999 view 1; 10000000019998 device no | 10000000029998 | no 0 5 9 no",
-        "list-3102 | nodes=1:0,2:1,3:0,4:1,5:2 two_node=no wait_for_all=yes last_man_standing=no window=10000 device=3:5 expected=7 | 10000000000005 view 0,1,2,3,4; 10000000010006 view 4; 10000000020006 view 2,3,4; 10000000030007 device yes; 10000000030007 view 3; 10000000040006 device yes; 10000000040011 device yes; 10000000050012 device yes; 10000000050016 view 0,1,3,4; 10000000060017 tick; 10000000070017 device yes; 10000000070017 device yes | 10000000070022 | yes 4 4 7 yes",
-        "list-3596 | nodes=1:1,2:1,3:1,4:1 two_node=no wait_for_all=yes last_man_standing=no window=10000 device=1:5 expected=1 | 10001 device no; 10001 view 0; 20001 tick; 20001 view 0,1,3; 20005 device yes; 30004 device no; 30004 device yes; 40005 view 0,1,2,3; 40009 view 0,1,2,3; 40009 view 0,1,2,3; 40009 device yes; 40014 view 0,1,2,3; 40018 tick; 50018 view 0,1,2,3; 50022 tick; 50026 device yes | 50031 | yes 4 3 4 yes",
-        "list-40 | nodes=1:1,2:1,3:1,4:1,5:1 two_node=no wait_for_all=yes last_man_standing=no window=10000 device=0:5 expected=2 | 10001 view 0,1,2,3,4; 20002 device yes | 20006 | yes 5 3 5 yes",
-        "list-3236 | nodes=1:2,2:0,3:1,4:1,5:3,6:1,7:1,8:0 two_node=no wait_for_all=yes last_man_standing=no window=1 device=1:20 expected=10 | 19 released | 19 | no 0 6 10 yes",
-        "list-776 | nodes=1:1,2:1,3:1,4:1,5:1 two_node=no wait_for_all=yes last_man_standing=no window=10000 device=2:1 expected=7 | 10000000000000 device yes; 10000000000000 tick; 10000000000001 view 0,1,2,3,4; 10000000000002 tick; 10000000000003 view 0,1,2,3,4; 10000000000004 tick; 10000000000005 view 0,1,2,3,4; 10000000010005 device yes; 10000000020006 released; 10000000020007 device yes; 10000000030007 device yes; 10000000030007 device no; 10000000040008 tick; 10000000040008 released; 10000000040009 tick; 10000000040010 tick | 10000000040010 | yes 5 4 7 yes",
-        "list-3484 | nodes=1:2,2:1,3:1,4:1 two_node=no wait_for_all=yes last_man_standing=no window=10000 device=1:1 expected=6 | 10006 device yes; 10006 device yes; 10006 view 1,3; 20005 released; 20005 view 0,1,2,3; 20006 view 0,1,3; 30006 device yes; 30006 device yes | 30006 | yes 5 4 6 yes",
-        "list-878 | nodes=6:1,11:2,15:1,17:1,22:1,26:1,27:0,35:0 two_node=no wait_for_all=yes last_man_standing=no window=20 device=6:10000 expected=13 | 8 released; 8 released; 27 view 3; 10026 device yes | 20026 | no 1 7 13 yes",
-    ]
+fn message_of(word: &str) -> Result<Message, Wrong> {
+    Ok(match word {
+        "empty" => Message::Empty,
+        "test" => Message::Test,
+        "reset" => Message::Reset,
+        "off" => Message::Off,
+        "exit" => Message::Exit,
+        "crashdump" => Message::Crashdump,
+        _ => return Err(Wrong::Form),
+    })
 }
 
-/// None of these.
-pub fn plain() -> &'static [&'static str] {
-    &[
-        "list-1762 | nodes=1:0,2:0,3:1 two_node=no wait_for_all=yes last_man_standing=no window=10000 device=none expected=1 | 10006 view 0,1; 20005 tick | 1020005 | no 0 1 1 no",
-        "list-2422 | nodes=16:1,18:0,26:1,32:2,36:1 two_node=no wait_for_all=yes last_man_standing=no window=20 device=none expected=5 | 0 tick; 21 view 1 | 21 | no 0 3 5 no",
-        "list-3598 | nodes=1:2,2:1,3:1,4:0 two_node=no wait_for_all=yes last_man_standing=no window=10000 device=none expected=4 | 0 view 0,1,2,3; 0 view 0; 10001 tick; 20002 tick; 30002 tick; 30002 view 0,1,2; 40001 view 1; 40001 tick; 50001 tick; 50001 view 0,1,3; 50001 view 3; 60002 tick | 70002 | no 0 3 4 yes",
-        "list-3282 | nodes=1:1,2:1,3:1,4:1 two_node=no wait_for_all=yes last_man_standing=no window=1 device=none expected=4 | 1 released | 1 | no 0 3 4 yes",
-        "list-3746 | nodes=1:1,2:1,3:1,4:1,5:1,6:1,7:1,8:1 two_node=no wait_for_all=yes last_man_standing=no window=1 device=none expected=8 | 10000000000001 released | 10000000000001 | no 0 5 8 yes",
-        "list-2372 | nodes=1:1,2:1,3:1,4:1,5:1,6:1,7:1,8:1 two_node=no wait_for_all=yes last_man_standing=no window=5 device=none expected=8 | 5 released; 5 tick | 5 | no 0 5 8 yes",
-        "list-3706 | nodes=1:3,2:0,3:0,4:2,5:1 two_node=no wait_for_all=no last_man_standing=no window=20 device=none expected=6 | 8 tick; 9 tick; 28 tick; 49 tick; 50 view 1,4; 70 view 0,2,3,4; 70 tick; 89 tick; 109 tick; 129 view 1; 150 view 2; 150 tick | 150 | no 0 4 6 yes",
-        "list-2684 | nodes=1:1,2:1,3:1 two_node=no wait_for_all=yes last_man_standing=no window=20 device=none expected=3 | 20 tick; 41 released | 41 | no 0 2 3 yes",
-    ]
+fn ask_of(words: &[&str]) -> Result<Ask, Wrong> {
+    let [from, to, incarnation, install, id, members] = words else {
+        return Err(Wrong::Form);
+    };
+    Ok(Ask {
+        from: rank(from)?,
+        to: rank(to)?,
+        incarnation: number(incarnation)?,
+        install: number(install)?,
+        view: view_of(id, members)?,
+    })
+}
+
+fn tell_of(words: &[&str]) -> Result<Tell, Wrong> {
+    let [from, to, incarnation, install, id, members, holds, released] = words else {
+        return Err(Wrong::Form);
+    };
+    Ok(Tell {
+        from: rank(from)?,
+        to: rank(to)?,
+        incarnation: number(incarnation)?,
+        install: number(install)?,
+        view: view_of(id, members)?,
+        holds: truth(holds)?,
+        released: truth(released)?,
+    })
+}
+
+fn outs_of(alloc: Global, text: &str) -> Result<Vec<Out>, Wrong> {
+    let mut outs = Vec::new(alloc);
+    if text == "-" {
+        return Ok(outs);
+    }
+    for part in text.split("; ") {
+        let words: Vec<&str> = part.split(' ').collect(alloc)?;
+        outs.push(out_of(words.as_slice())?)?;
+    }
+    Ok(outs)
+}
+
+fn out_of(words: &[&str]) -> Result<Out, Wrong> {
+    Ok(match words {
+        ["stop"] => Out::Stop,
+        ["start"] => Out::Start,
+        ["feed"] => Out::Feed,
+        ["disarm"] => Out::Disarm,
+        ["ask", words @ ..] => {
+            let ask = ask_of(words)?;
+            Out::Send(ask.to, Packet::Ask(ask))
+        }
+        ["tell", words @ ..] => {
+            let tell = tell_of(words)?;
+            Out::Send(tell.to, Packet::Tell(tell))
+        }
+        ["halt", "boot", cause] => Out::Halt(HaltKind::Boot(cause_of(cause)?)),
+        ["halt", message] => Out::Halt(HaltKind::Deadly(message_of(message)?)),
+        _ => Out::Disk(op_of(words)?),
+    })
+}
+
+fn op_of(words: &[&str]) -> Result<DiskOp, Wrong> {
+    Ok(match words {
+        ["read-header"] => DiskOp::ReadHeader,
+        ["read-slot", of] => DiskOp::ReadSlot(rank(of)?),
+        ["claim", incarnation] => DiskOp::WriteClaim(number(incarnation)?),
+        ["clear"] => DiskOp::WriteClear,
+        ["read-mail"] => DiskOp::ReadMail,
+        ["reset", of] => DiskOp::WriteReset(rank(of)?),
+        ["close", incarnation] => DiskOp::WriteClose(number(incarnation)?),
+        _ => return Err(Wrong::Form),
+    })
+}
+
+fn cause_of(word: &str) -> Result<BootCause, Wrong> {
+    Ok(match word {
+        "1" => BootCause::ReadFailed,
+        "2" => BootCause::NotImage,
+        "3" => BootCause::UnsafeTiming,
+        "4" => BootCause::ClaimFailed,
+        "5" => BootCause::ClearFailed,
+        "6" => BootCause::IncarnationSpent,
+        _ => return Err(Wrong::Form),
+    })
+}
+
+fn why_of(alloc: Global, text: &str) -> Result<Why, Wrong> {
+    let words: Vec<&str> = text.split(':').collect(alloc)?;
+    Ok(match words.as_slice() {
+        ["down"] => Why::Down,
+        ["holding"] => Why::Holding,
+        ["no-view"] => Why::NoView,
+        ["wait-for-all"] => Why::WaitForAll,
+        ["not-quorate", votes] => {
+            let (votes, quorum) = votes.split_once('/').ok_or(Wrong::Form)?;
+            Why::NotQuorate {
+                votes: number(votes)?,
+                quorum: number(quorum)?,
+            }
+        }
+        ["not-chosen", id] => Why::NotChosen { id: node(id)? },
+        ["held-by", id] => Why::HeldBy { id: node(id)? },
+        ["unheard", id] => Why::Unheard { id: node(id)? },
+        ["unfenced", id, left] => Why::Unfenced {
+            id: node(id)?,
+            written: *left != "unwritten",
+            left: if *left == "unwritten" {
+                0
+            } else {
+                number(left)?
+            },
+        },
+        ["clear"] => Why::Clear,
+        _ => return Err(Wrong::Form),
+    })
+}
+
+fn phase_of(word: &str) -> Result<Phase, Wrong> {
+    Ok(match word {
+        "booting" => Phase::Booting,
+        "up" => Phase::Up,
+        "leaving" => Phase::Leaving,
+        "dying" => Phase::Dying,
+        "gone" => Phase::Gone,
+        _ => return Err(Wrong::Form),
+    })
+}
+
+fn incarnation_of(word: &str) -> Result<Option<Option<u64>>, Wrong> {
+    Ok(match word {
+        "*" => None,
+        "-" => Some(None),
+        _ => Some(Some(number(word)?)),
+    })
 }
