@@ -21,3 +21,6 @@ mod world;
 
 pub use looking::NodeSeen;
 pub use world::World;
+
+#[cfg(test)]
+mod tests;
