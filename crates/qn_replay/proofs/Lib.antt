@@ -1,5 +1,7 @@
 mod EventLines
 mod EventSteps
+mod Judging
+mod LastEnds
 mod RunEnds
 mod SettingsSteps
 mod Steps

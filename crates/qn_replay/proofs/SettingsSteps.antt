@@ -1,5 +1,5 @@
 -- The settings of a whole text: they are good, or the text ends the replay.
-use Rattle.std.proofs.Common.{◌≡◌, ◌⊎◌, ◌+◌, ℕ, List, Option, Result, Ok, Err, refl, sym, ap, ◌∙◌, subst, inl, inr}
+use Rattle.std.proofs.Common.{◌≡◌, ◌⊎◌, ◌+◌, ℕ, List, Option, Result, Ok, Err, refl, sym, ap, ◌∙◌, subst, inl, inr, None}
 use Rattle.qn_conf.specs.declared.faults.ConfFault.{ConfFault}
 use Rattle.qn_conf.specs.declared.faults.ConfFault.TheVariants as conf
 use Rattle.qn_conf.specs.declared.tree.Item.{Item}
@@ -11,7 +11,7 @@ use Rattle.qn_sched.specs.declared.replay_end.ReplayEnd.{ReplayEnd}
 use Rattle.qn_sched.specs.declared.replay_end.ReplayEnd.TheVariants.{BadSettings, NoMemory}
 use Rattle.qn_sched.specs.Ends.{end_of_conf}
 use Rattle.qn_sched.specs.Head.{or_bad_settings, settings_in, settings_of_tree}
-use Rattle.qn_replay.specs.Reading.{GoesOn, Stops, settings_rest, timing_rest}
+use Rattle.qn_replay.specs.Reading.{GoesOn, Stops, settings_rest, timing_rest, Anywhere}
 use Rattle.qn_replay.specs.Replay.{replay_of}
 use Rattle.qn_replay.proofs.Steps.{goes_judged, stops_judged, stops_wanted}
 
@@ -37,7 +37,7 @@ judged_settings text tree settings good answer = inl (ap or_bad_settings answer 
 
 -- the text ends the replay
 pub stops_at_settings : {a b : Option (List ℕ)} {at_end failed : Type 0} (whole : List ℕ) (lines : ℕ) (read : List ℕ) (end : ReplayEnd) → read ≡ whole
-    → GoesOn replay_of (settings_rest whole lines) a b → IsJudged (Err end) read → Stops replay_of a b at_end failed end
+    → GoesOn replay_of (settings_rest whole lines) a b → IsJudged (Err end) read → Stops replay_of None Anywhere a b at_end failed end
 stops_at_settings whole lines read end is first (inl same) =
     stops_judged (settings_in whole) end (timing_rest (lines + 1)) first (sym (same ∙ ap settings_in is))
 stops_at_settings whole lines read end is first (inr memory) = stops_wanted end first cc

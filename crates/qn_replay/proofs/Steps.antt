@@ -1,14 +1,13 @@
 -- Taking the input step by step, up to the end.
-use Rattle.std.proofs.Common.{◌≡◌, ◌≤◌, arith, ℕ, List, [], ◌∷◌, ◌++◌, Option, Result, Ok, Err, refl, sym, ap, ◌∙◌, subst, append_assoc}
+use Rattle.std.proofs.Common.{◌≡◌, ◌≤◌, arith, ℕ, List, [], ◌∷◌, ◌++◌, None, Option, Result, Ok, Err, refl, sym, ap, ◌∙◌, subst, append_assoc}
 use Rattle.std.specs.Io.KnownBytes.{IsAtEnd, prepend_known}
 use Rattle.qn_io.specs.Outside.{HasRisen, prepend_known-append, prepend_known-nil}
 use Rattle.qn_model.specs.Inputs.{Tells, Anyway, AtEnd, AtFailure}
 use Rattle.qn_model.specs.Lines.{Ending, Ended, ReadFailed}
 use Rattle.qn_sched.specs.declared.replay_end.ReplayEnd.{ReplayEnd}
 use Rattle.qn_sched.specs.declared.replay_end.ReplayEnd.TheVariants.{NoMemory}
-use Rattle.qn_replay.specs.Reading.{EndsWith, GoesOn, IsNeeded, IsOpen, LastDecides, StillOpen, Stops, Told, Wanted}
-use Rattle.qn_replay.specs.Replay.{Replayed, ends, go_on, replay_of}
-use Rattle.qn_replay.specs.Runs.{Takes}
+use Rattle.qn_replay.specs.Reading.{Anywhere, EndsWith, GoesOn, IsNeeded, IsOpen, LastDecides, StillOpen, Stops, Told, Wanted}
+use Rattle.qn_replay.specs.Replay.{Progress, Replayed, ended, ends, go_on, traced}
 
 abbrev pub Rest : Type 0
 Rest = Ending → List ℕ → Replayed
@@ -22,12 +21,22 @@ goes_nowhere answer_of to_come may = record {
   rest = λ ending more. refl;
 }
 
+pub needed_traced : {between : Rest} {taken : List ℕ} (text : List ℕ) → IsNeeded between taken → IsNeeded (λ ending more. traced text (between ending more)) taken
+needed_traced text (StillOpen may) = StillOpen may
+needed_traced text (LastDecides front byte parts may) = LastDecides front byte parts may
+
+pub tells_traced : {between : Rest} {taken : List ℕ} {at_end failed : Type 0} (text : List ℕ) (answer : Replayed) → Tells between taken at_end failed (λ a. a ≡ answer)
+    → Tells (λ ending more. traced text (between ending more)) taken at_end failed (λ a. a ≡ traced text answer)
+tells_traced text answer (Anyway always) = Anyway (λ ending more. ap (traced text) (always ending more))
+tells_traced text answer (AtEnd at_end holds) = AtEnd at_end (ap (traced text) holds)
+tells_traced text answer (AtFailure fails holds) = AtFailure fails (ap (traced text) holds)
+
 module _ {before between : Rest} {a b : Option (List ℕ)} (first : GoesOn before between a b) where
   -- what is open in the rest is open in the whole
   open_behind : (front : List ℕ) → IsOpen between front → IsOpen before (first.taken ++ front)
   open_behind front may = ap (λ answer. answer.end) (first.rest ReadFailed front) ∙ may
 
-  needed_behind : {taken : List ℕ} → IsNeeded between taken → IsNeeded before (first.taken ++ taken)
+  pub needed_behind : {taken : List ℕ} → IsNeeded between taken → IsNeeded before (first.taken ++ taken)
   needed_behind {taken} (StillOpen may) = StillOpen (open_behind taken may)
   needed_behind {taken} (LastDecides front byte parts may) =
       LastDecides (first.taken ++ front) byte
@@ -47,65 +56,75 @@ module _ {before between : Rest} {a b : Option (List ℕ)} (first : GoesOn befor
         ap (before ending) (append_assoc first.taken second.taken more) ∙ first.rest ending (second.taken ++ more) ∙ second.rest ending more;
   }
 
-  tells_behind : {taken : List ℕ} {at_end failed : Type 0} (P : Replayed → Type 0) → Tells between taken at_end failed P → Tells before (first.taken ++ taken) at_end failed P
+  pub tells_behind : {taken : List ℕ} {at_end failed : Type 0} (P : Replayed → Type 0) → Tells between taken at_end failed P → Tells before (first.taken ++ taken) at_end failed P
   tells_behind {taken} P (Anyway always) =
       Anyway (λ ending more. subst P (sym (ap (before ending) (append_assoc first.taken taken more) ∙ first.rest ending (taken ++ more))) (always ending more))
   tells_behind {taken} P (AtEnd ended holds) = AtEnd ended (subst P (sym (first.rest Ended taken)) holds)
   tells_behind {taken} P (AtFailure fails holds) = AtFailure fails (subst P (sym (first.rest ReadFailed taken)) holds)
 
-  ends_behind : {taken : List ℕ} {at_end failed : Type 0} {end : ReplayEnd} → EndsWith between taken at_end failed end
-      → EndsWith before (first.taken ++ taken) at_end failed end
+  ends_behind : {taken : List ℕ} {at_end failed : Type 0} {end : ReplayEnd} → EndsWith between None Anywhere taken at_end failed end
+      → EndsWith before None Anywhere (first.taken ++ taken) at_end failed end
   ends_behind {end} (Told tells needed) = Told (tells_behind (λ answer. answer ≡ ends end) tells) (needed_behind needed)
-  ends_behind (Wanted memory) = Wanted memory
+  ends_behind (Wanted memory anywhere) = Wanted memory tt
 
   -- a step, and then the end
-  pub stops_then : {c : Option (List ℕ)} {at_end failed : Type 0} {end : ReplayEnd} → Stops between b c at_end failed end → Stops before a c at_end failed end
+  pub stops_then : {c : Option (List ℕ)} {at_end failed : Type 0} {end : ReplayEnd} → Stops between None Anywhere b c at_end failed end → Stops before None Anywhere a c at_end failed end
   stops_then {c} second = record {
     taken = first.taken ++ second.taken;
     takes = takes_behind second.taken c second.takes;
     stops = ends_behind second.stops;
   }
 
+-- the same behind a text
+pub goes_traced : {between after : Rest} {a b : Option (List ℕ)} (text : List ℕ) → GoesOn between after a b
+    → GoesOn (λ ending more. traced text (between ending more)) (λ ending more. traced text (after ending more)) a b
+goes_traced {between} {after} text goes = record {
+  taken = goes.taken;
+  takes = goes.takes;
+  needed = needed_traced text goes.needed;
+  rest = λ ending more. ap (traced text) (goes.rest ending more);
+}
+
 -- what was judged is good
 pub goes_judged : {A : Type 0} {before : Rest} {a b : Option (List ℕ)} (judged : Result A ReplayEnd) (value : A) (next : A → Rest)
-    → GoesOn before (λ ending more. go_on judged (λ v. next v ending more)) a b → judged ≡ Ok value → GoesOn before (next value) a b
+    → GoesOn before (λ ending more. go_on None judged (λ v. next v ending more)) a b → judged ≡ Ok value → GoesOn before (next value) a b
 goes_judged judged value next first is = record {
   taken = first.taken;
   takes = first.takes;
   needed = first.needed;
-  rest = λ ending more. first.rest ending more ∙ ap (λ j. go_on j (λ v. next v ending more)) is;
+  rest = λ ending more. first.rest ending more ∙ ap (λ j. go_on None j (λ v. next v ending more)) is;
 }
 
 -- what was judged is at fault
 pub stops_judged : {A : Type 0} {before : Rest} {a b : Option (List ℕ)} {at_end failed : Type 0} (judged : Result A ReplayEnd) (end : ReplayEnd) (next : A → Rest)
-    → GoesOn before (λ ending more. go_on judged (λ v. next v ending more)) a b → judged ≡ Err end → Stops before a b at_end failed end
+    → GoesOn before (λ ending more. go_on None judged (λ v. next v ending more)) a b → judged ≡ Err end → Stops before None Anywhere a b at_end failed end
 stops_judged judged end next first is = record {
   taken = first.taken;
   takes = first.takes;
-  stops = Told (Anyway (λ ending more. first.rest ending more ∙ ap (λ j. go_on j (λ v. next v ending more)) is)) first.needed;
+  stops = Told (Anyway (λ ending more. first.rest ending more ∙ ap (λ j. go_on None j (λ v. next v ending more)) is)) first.needed;
 }
 
 -- memory was wanted
 pub stops_wanted : {before after : Rest} {a b : Option (List ℕ)} {at_end failed : Type 0} (end : ReplayEnd) → GoesOn before after a b → end ≡ NoMemory
-    → Stops before a b at_end failed end
-stops_wanted end first is = record { taken = first.taken; takes = first.takes; stops = Wanted is }
+    → Stops before None Anywhere a b at_end failed end
+stops_wanted end first is = record { taken = first.taken; takes = first.takes; stops = Wanted is tt }
 
-ends_wider : {answer_of : Rest} {taken : List ℕ} {at_end failed failed_before : Type 0} {end : ReplayEnd} → (failed_before → failed)
-    → EndsWith answer_of taken at_end failed_before end → EndsWith answer_of taken at_end failed end
+ends_wider : {answer_of : Rest} {last : Option Progress} {wanted : List ℕ → Type 0} {taken : List ℕ} {at_end failed failed_before : Type 0} {end : ReplayEnd} → (failed_before → failed)
+    → EndsWith answer_of last wanted taken at_end failed_before end → EndsWith answer_of last wanted taken at_end failed end
 ends_wider wider (Told (Anyway always) needed) = Told (Anyway always) needed
 ends_wider wider (Told (AtEnd ended holds) needed) = Told (AtEnd ended holds) needed
 ends_wider wider (Told (AtFailure fails holds) needed) = Told (AtFailure (wider fails) holds) needed
-ends_wider wider (Wanted memory) = Wanted memory
+ends_wider wider (Wanted memory why) = Wanted memory why
 
 -- the count rose in a part of the call
-pub stops_wider : {answer_of : Rest} {a b : Option (List ℕ)} {at_end failed failed_before : Type 0} {end : ReplayEnd} → (failed_before → failed)
-    → Stops answer_of a b at_end failed_before end → Stops answer_of a b at_end failed end
+pub stops_wider : {answer_of : Rest} {last : Option Progress} {wanted : List ℕ → Type 0} {a b : Option (List ℕ)} {at_end failed failed_before : Type 0} {end : ReplayEnd} → (failed_before → failed)
+    → Stops answer_of last wanted a b at_end failed_before end → Stops answer_of last wanted a b at_end failed end
 stops_wider wider stop = record { taken = stop.taken; takes = stop.takes; stops = ends_wider wider stop.stops }
 
 -- the bytes end what is open without the last of them
-pub stops_at : {answer_of : Rest} {a b : Option (List ℕ)} {at_end failed : Type 0} (front : List ℕ) (byte : ℕ) (end : ReplayEnd)
+pub stops_at : {answer_of : Rest} {last : Option Progress} {wanted : List ℕ → Type 0} {a b : Option (List ℕ)} {at_end failed : Type 0} (front : List ℕ) (byte : ℕ) (end : ReplayEnd)
     → a ≡ prepend_known (front ++ byte ∷ []) b → IsOpen answer_of front
-    → ((ending : Ending) (more : List ℕ) → answer_of ending ((front ++ byte ∷ []) ++ more) ≡ ends end) → Stops answer_of a b at_end failed end
+    → ((ending : Ending) (more : List ℕ) → answer_of ending ((front ++ byte ∷ []) ++ more) ≡ ended last end) → Stops answer_of last wanted a b at_end failed end
 stops_at front byte end takes may always = record {
   taken = front ++ byte ∷ [];
   takes = takes;
@@ -113,13 +132,13 @@ stops_at front byte end takes may always = record {
 }
 
 -- the input ended behind these bytes
-pub stops_ended : {answer_of : Rest} {a b : Option (List ℕ)} {at_end failed : Type 0} (taken : List ℕ) (end : ReplayEnd)
-    → a ≡ prepend_known taken b → at_end → IsOpen answer_of taken → answer_of Ended taken ≡ ends end → Stops answer_of a b at_end failed end
-stops_ended taken end takes ended may is = record { taken = taken; takes = takes; stops = Told (AtEnd ended is) (StillOpen may) }
+pub stops_ended : {answer_of : Rest} {last : Option Progress} {wanted : List ℕ → Type 0} {a b : Option (List ℕ)} {at_end failed : Type 0} (taken : List ℕ) (end : ReplayEnd)
+    → a ≡ prepend_known taken b → at_end → IsOpen answer_of taken → answer_of Ended taken ≡ ended last end → Stops answer_of last wanted a b at_end failed end
+stops_ended taken end takes at_end may is = record { taken = taken; takes = takes; stops = Told (AtEnd at_end is) (StillOpen may) }
 
 -- a read failed behind these bytes
-pub stops_failed : {answer_of : Rest} {a b : Option (List ℕ)} {at_end failed : Type 0} (taken : List ℕ) (end : ReplayEnd)
-    → a ≡ prepend_known taken b → failed → IsOpen answer_of taken → answer_of ReadFailed taken ≡ ends end → Stops answer_of a b at_end failed end
+pub stops_failed : {answer_of : Rest} {last : Option Progress} {wanted : List ℕ → Type 0} {a b : Option (List ℕ)} {at_end failed : Type 0} (taken : List ℕ) (end : ReplayEnd)
+    → a ≡ prepend_known taken b → failed → IsOpen answer_of taken → answer_of ReadFailed taken ≡ ended last end → Stops answer_of last wanted a b at_end failed end
 stops_failed taken end takes fails may is = record { taken = taken; takes = takes; stops = Told (AtFailure fails is) (StillOpen may) }
 
 -- nothing is left behind the pieces that were handed out
@@ -129,16 +148,3 @@ left_at_end waiting left none at_end = subst IsAtEnd (ap (λ w. prepend_known w 
 -- a count that rose in between rose over all
 pub risen_within : (a b c d : ℕ) → a ≤ b → b ≤ c → c ≤ d → HasRisen b c → HasRisen a d
 risen_within a b c d before between behind rose = grind (arith, rose)
-
--- all that was taken, in what was read of the source
-pub takes_of_stop : {failed : Type 0} (left left_new : Option (List ℕ)) (pieces waiting : List ℕ) (end : ReplayEnd) → pieces ≡ []
-    → Stops replay_of (prepend_known pieces left) (prepend_known waiting left_new) ((waiting ≡ []) × IsAtEnd left_new) ((waiting ≡ []) × failed) end
-    → Takes left left_new failed end
-takes_of_stop left left_new pieces waiting end none stop = record {
-  taken = stop.taken;
-  waiting = waiting;
-  takes =
-      sym (prepend_known-nil left) ∙ ap (λ p. prepend_known p left) (sym none) ∙ stop.takes
-      ∙ sym (prepend_known-append stop.taken waiting left_new);
-  ends = stop.stops;
-}

@@ -1,5 +1,5 @@
 -- The settings text of an input, line by line and byte by byte.
-use Rattle.std.proofs.Common.{◌≡◌, ◌+◌, ◌<◌, ◌≤◌, ℕ, true, false, cond, List, [], ◌∷◌, ◌++◌, length, drop, refl, sym, ap, ◌∙◌, arith, nat_eq, nat_lt, if◌then◌else◌, inl, inr, append_assoc, append-nil, lt-ltb, le-ltb}
+use Rattle.std.proofs.Common.{◌≡◌, ◌+◌, ◌<◌, ◌≤◌, ℕ, true, false, cond, List, [], ◌∷◌, ◌++◌, length, drop, refl, sym, ap, ◌∙◌, arith, nat_eq, nat_lt, if◌then◌else◌, inl, inr, append_assoc, append-nil, lt-ltb, le-ltb, None}
 use Rattle.std.specs.List.{starts_with}
 use Rattle.std.specs.Str.{bytes_eq}
 use Rattle.std.proofs.lemmas.Bool.{cases_Bool, cond-false, cond-true, false_from_ne_true, both_ways}
@@ -17,7 +17,7 @@ use Rattle.qn_replay.specs.Replay.{Replayed, counted_bytes, cut_in, ends, go_on,
 -- what a whole line makes of the settings text
 abbrev line_of_text : List ℕ → ℕ → Ending → List ℕ → List (List ℕ) → Replayed
 line_of_text text before ending line lines =
-    if bytes_eq line dashes then go_on (settings_in text) (λ settings. timing_lines settings (before + 1) ending lines)
+    if bytes_eq line dashes then go_on None (settings_in text) (λ settings. timing_lines settings (before + 1) ending lines)
     else if nat_lt 1048576 (length (text ++ line ++ 10 ∷ [])) then ends (BadConf conf.TooLong)
     else text_lines (text ++ line ++ 10 ∷ []) (before + 1) ending lines
 
@@ -96,7 +96,7 @@ last_of_text-long : (text rest : List ℕ) (before : ℕ) (ending : Ending) → 
 unfolding last_of_text
 last_of_text-long text rest before ending long = cond-true (nat_lt 1048576 (counted_bytes text rest)) _ _ (lt-ltb 1048576 (counted_bytes text rest) long)
 
-last_of_text-short : (text rest : List ℕ) (before : ℕ) (ending : Ending) → counted_bytes text rest ≤ 1048576 → last_of_text text before ending rest ≡ cut_in (before + 1) ending
+last_of_text-short : (text rest : List ℕ) (before : ℕ) (ending : Ending) → counted_bytes text rest ≤ 1048576 → last_of_text text before ending rest ≡ cut_in None (before + 1) ending
 unfolding last_of_text
 last_of_text-short text rest before ending short = cond-false (nat_lt 1048576 (counted_bytes text rest)) _ _ (le-ltb 1048576 (counted_bytes text rest) short)
 
@@ -130,7 +130,7 @@ text_rest-long text ending more inside low long =
 
 -- the input ended, or a read failed, before the text was whole
 pub text_rest-cut : (text : TextSoFar) (ending : Ending) → IsPartOfLine text.rest → counted_bytes text.whole text.rest ≤ 1048576
-    → text_rest text ending [] ≡ cut_in (text.lines + 1) ending
+    → text_rest text ending [] ≡ cut_in None (text.lines + 1) ending
 text_rest-cut text ending inside short =
     ap (λ rest. text_lines text.whole text.lines ending (lines_of rest)) (append-nil text.rest)
     ∙ ap (text_lines text.whole text.lines ending) (lines_of-last text.rest inside)

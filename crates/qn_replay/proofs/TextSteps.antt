@@ -1,5 +1,5 @@
 -- A settings text, byte after byte.
-use Rattle.std.proofs.Common.{◌≡◌, ◌+◌, ◌==◌, false, ℕ, List, [], ◌∷◌, Option, refl, sym, ap, ◌∙◌, subst, arith}
+use Rattle.std.proofs.Common.{◌≡◌, ◌+◌, ◌==◌, false, ℕ, List, [], ◌∷◌, Option, refl, sym, ap, ◌∙◌, subst, arith, None}
 use Rattle.std.specs.Io.KnownBytes.{prepend_known}
 use Rattle.std.proofs.lemmas.List.Elements.{All-nil}
 use Rattle.qn_io.specs.Outside.{prepend_known-nil}
@@ -7,7 +7,7 @@ use Rattle.qn_model.specs.declared.line_fault.LineFault.TheVariants.{Unended}
 use Rattle.qn_model.specs.Lines.{Ending, Ended, ReadFailed}
 use Rattle.qn_sched.specs.declared.replay_end.ReplayEnd.{ReplayEnd}
 use Rattle.qn_sched.specs.declared.replay_end.ReplayEnd.TheVariants.{BadSchedule, NoMemory, ReadFault}
-use Rattle.qn_replay.specs.Reading.{GoesOn, IsOpen, LastDecides, MayGoOn, Stops, TextSoFar, Wanted, no_text, settings_rest, text_rest}
+use Rattle.qn_replay.specs.Reading.{GoesOn, IsOpen, LastDecides, MayGoOn, Stops, TextSoFar, Wanted, no_text, settings_rest, text_rest, Anywhere}
 use Rattle.qn_replay.specs.Replay.{ends, replay_of}
 use Rattle.qn_replay.specs.Taking.{TakesEnd, TakesMore}
 use Rattle.qn_replay.proofs.Steps.{goes_nowhere, goes_then, stops_at, stops_ended, stops_failed, stops_then}
@@ -38,22 +38,22 @@ module _ {a b : Option (List ℕ)} (text : TextSoFar) (may : MayGoOn text) (firs
 
   -- the byte that is too many
   pub text_is_too_long : {c : Option (List ℕ)} {at_end failed : Type 0} (byte : ℕ) (end : ReplayEnd) → b ≡ prepend_known (byte ∷ []) c → ((ending : Ending) (more : List ℕ) → text_rest text ending (byte ∷ more) ≡ ends end)
-      → Stops replay_of a c at_end failed end
+      → Stops replay_of None Anywhere a c at_end failed end
   text_is_too_long byte end takes long = stops_then first (stops_at [] byte end takes (text_open text may) long)
 
   -- the byte for which there was no memory
-  pub text_wants_memory : {c : Option (List ℕ)} {at_end failed : Type 0} (byte : ℕ) → b ≡ prepend_known (byte ∷ []) c → Stops replay_of a c at_end failed NoMemory
-  text_wants_memory byte takes = stops_then first (record { taken = byte ∷ []; takes = takes; stops = Wanted refl })
+  pub text_wants_memory : {c : Option (List ℕ)} {at_end failed : Type 0} (byte : ℕ) → b ≡ prepend_known (byte ∷ []) c → Stops replay_of None Anywhere a c at_end failed NoMemory
+  text_wants_memory byte takes = stops_then first (record { taken = byte ∷ []; takes = takes; stops = Wanted refl tt })
 
   -- the input ended
-  pub text_ends : {c : Option (List ℕ)} {at_end failed : Type 0} (end : ReplayEnd) → c ≡ b → at_end → end ≡ BadSchedule (text.lines + 1) Unended → Stops replay_of a c at_end failed end
+  pub text_ends : {c : Option (List ℕ)} {at_end failed : Type 0} (end : ReplayEnd) → c ≡ b → at_end → end ≡ BadSchedule (text.lines + 1) Unended → Stops replay_of None Anywhere a c at_end failed end
   text_ends {c} end kept ended is =
       stops_then first
       (stops_ended [] end (sym kept ∙ sym (prepend_known-nil c)) ended (text_open text may)
       (text_rest-cut text Ended may.inside may.fits ∙ ap ends (sym is)))
 
   -- a read failed
-  pub text_fails : {c : Option (List ℕ)} {at_end failed : Type 0} → c ≡ b → failed → Stops replay_of a c at_end failed ReadFault
+  pub text_fails : {c : Option (List ℕ)} {at_end failed : Type 0} → c ≡ b → failed → Stops replay_of None Anywhere a c at_end failed ReadFault
   text_fails {c} kept fails =
       stops_then first
       (stops_failed [] ReadFault (sym kept ∙ sym (prepend_known-nil c)) fails (text_open text may) (text_rest-cut text ReadFailed may.inside may.fits))

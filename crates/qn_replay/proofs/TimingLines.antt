@@ -1,5 +1,5 @@
 -- The input behind the settings text, where the timing line is due.
-use Rattle.std.proofs.Common.{◌≡◌, ◌+◌, ◌<◌, ◌≤◌, ℕ, List, [], ◌∷◌, ◌++◌, length, refl, ap, ◌∙◌, arith, Err, nat_lt, append_assoc, lt-ltb, le-ltb}
+use Rattle.std.proofs.Common.{◌≡◌, ◌+◌, ◌<◌, ◌≤◌, ℕ, List, [], ◌∷◌, ◌++◌, length, refl, ap, ◌∙◌, arith, Err, nat_lt, append_assoc, lt-ltb, le-ltb, None}
 use Rattle.std.proofs.lemmas.Bool.{cond-false, cond-true}
 use Rattle.std.proofs.lemmas.List.{length-append}
 use Rattle.qn_model.specs.declared.configuration.Settings.{Settings}
@@ -10,20 +10,20 @@ use Rattle.qn_sched.specs.declared.replay_end.ReplayEnd.TheVariants.{BadSchedule
 use Rattle.qn_sched.specs.Head.{safe_or_not, safe_timing_in}
 use Rattle.qn_sched.specs.TimingLine.{timing_of}
 use Rattle.qn_replay.specs.Reading.{event_rest, timing_rest}
-use Rattle.qn_replay.specs.Replay.{cut_in, ends, event_lines, go_on, last_timing, timing_lines}
+use Rattle.qn_replay.specs.Replay.{cut_in, ends, event_lines, go_on, last_timing, timing_lines, at_start}
 
 timing_lines-more : (settings : Settings) (before : ℕ) (ending : Ending) (line : List ℕ) (lines : List (List ℕ)) → 0 < length lines
     → timing_lines settings before ending (line ∷ lines)
-    ≡ go_on (safe_timing_in (before + 1) line)
-    (λ timing. event_lines (record { settings = settings; timing = timing; lines = before + 1; events = 0 }) ending lines)
+    ≡ go_on None (safe_timing_in (before + 1) line)
+    (λ timing. event_lines (at_start settings timing (before + 1)) ending lines)
 timing_lines-more settings before ending line [] some = absurd (omega arith)
 timing_lines-more settings before ending line (next ∷ lines) some = refl
 
 -- a whole line, whatever follows
 pub timing_rest-line : (before : ℕ) (settings : Settings) (ending : Ending) (line more : List ℕ) → IsPartOfLine line
     → timing_rest before settings ending ((line ++ 10 ∷ []) ++ more)
-    ≡ go_on (safe_timing_in (before + 1) line)
-    (λ timing. event_rest (record { settings = settings; timing = timing; lines = before + 1; events = 0 }) ending more)
+    ≡ go_on None (safe_timing_in (before + 1) line)
+    (λ timing. event_rest (at_start settings timing (before + 1)) ending more)
 timing_rest-line before settings ending line more inside =
     ap (timing_rest before settings ending) (append_assoc line (10 ∷ []) more)
     ∙ ap (timing_lines settings before ending) (lines_of-line line more inside)
@@ -31,7 +31,7 @@ timing_rest-line before settings ending line more inside =
 
 -- the input ended, or a read failed, before the line was whole
 pub timing_rest-cut : (before : ℕ) (settings : Settings) (ending : Ending) (line : List ℕ) → IsPartOfLine line → length line ≤ 4096
-    → timing_rest before settings ending line ≡ cut_in (before + 1) ending
+    → timing_rest before settings ending line ≡ cut_in None (before + 1) ending
 unfolding last_timing
 timing_rest-cut before settings ending line inside short =
     ap (timing_lines settings before ending) (lines_of-last line inside)
@@ -50,8 +50,8 @@ timing_lines-long : (settings : Settings) (before : ℕ) (ending : Ending) (line
 unfolding last_timing
 timing_lines-long settings before ending line [] long = cond-true (nat_lt 4096 (length line)) _ _ (lt-ltb 4096 (length line) long)
 timing_lines-long settings before ending line (next ∷ lines) long =
-    ap (λ judged. go_on judged
-    (λ timing. event_lines (record { settings = settings; timing = timing; lines = before + 1; events = 0 }) ending (next ∷ lines)))
+    ap (λ judged. go_on None judged
+    (λ timing. event_lines (at_start settings timing (before + 1)) ending (next ∷ lines)))
     (safe_timing-long (before + 1) line long)
 
 -- too many bytes of the line, whatever follows

@@ -1,4 +1,5 @@
 pub mod Endings
+pub mod Playing
 pub mod Reading
 pub mod Replay
 pub mod Runs

@@ -1,15 +1,16 @@
 -- How a replay takes its input, up to the byte that decides its end.
-use Rattle.std.specs.Prelude.{◌≡◌, ◌≤◌, ℕ, ◌+◌, List, [], ◌∷◌, ◌++◌, length, Option}
+use Rattle.std.specs.Prelude.{◌≡◌, ◌≤◌, ℕ, ◌+◌, true, List, [], ◌∷◌, ◌++◌, length, None, Ok, Option}
 use Rattle.std.specs.Io.KnownBytes.{prepend_known}
 use Rattle.qn_model.specs.declared.configuration.Settings.{Settings}
+use Rattle.qn_model.specs.declared.events.Event.{Event}
 use Rattle.qn_model.specs.Inputs.{Tells}
 use Rattle.qn_model.specs.LineLaws.{IsPartOfLine}
 use Rattle.qn_model.specs.Lines.{Ending, ReadFailed, lines_of}
 use Rattle.qn_sched.specs.declared.replay_end.ReplayEnd.{ReplayEnd}
 use Rattle.qn_sched.specs.declared.replay_end.ReplayEnd.TheVariants.{NoMemory, ReadFault}
 use Rattle.qn_sched.specs.Head.{settings_in}
-use Rattle.qn_replay.specs.declared.schedule.Schedule.{Schedule}
-use Rattle.qn_replay.specs.Replay.{Replayed, counted_bytes, ends, event_lines, go_on, text_lines, timing_lines}
+use Rattle.qn_replay.specs.Replay.{Progress, Replayed, allowed_in, counted_bytes, ended, event_in, event_lines, go_on, text_lines, timing_lines}
+use Rattle.qn_world.specs.Memory.{needs_memory}
 
 -- a settings text so far: its whole lines with their ends, how many they are, and what there is of the next line
 pub record TextSoFar : Type 0 where
@@ -44,11 +45,11 @@ timing_rest before settings ending more = timing_lines settings before ending (l
 
 -- behind a settings text of so many lines, and `----`
 abbrev pub settings_rest : List ℕ → ℕ → Ending → List ℕ → Replayed
-settings_rest whole lines ending more = go_on (settings_in whole) (λ settings. timing_rest (lines + 1) settings ending more)
+settings_rest whole lines ending more = go_on None (settings_in whole) (λ settings. timing_rest (lines + 1) settings ending more)
 
 -- behind the head
-abbrev pub event_rest : Schedule → Ending → List ℕ → Replayed
-event_rest schedule ending more = event_lines schedule ending (lines_of more)
+abbrev pub event_rest : Progress → Ending → List ℕ → Replayed
+event_rest so_far ending more = event_lines so_far ending (lines_of more)
 
 -- the bytes leave the end open: a failing read would end it
 abbrev pub IsOpen : (Ending → List ℕ → Replayed) → List ℕ → Type 0
@@ -67,12 +68,25 @@ pub record GoesOn (before after : Ending → List ℕ → Replayed) (to_come_old
   pub rest : (ending : Ending) (more : List ℕ) → before ending (taken ++ more) ≡ after ending more
 
 -- the end is the one that the taken bytes tell of, with nothing written; or memory was wanted
-pub data EndsWith (answer_of : Ending → List ℕ → Replayed) (taken : List ℕ) (at_end failed : Type 0) (end : ReplayEnd) : Type 0 where
-  Told : Tells answer_of taken at_end failed (λ answer. answer ≡ ends end) → IsNeeded answer_of taken → EndsWith answer_of taken at_end failed end
-  Wanted : end ≡ NoMemory → EndsWith answer_of taken at_end failed end
+pub data EndsWith (answer_of : Ending → List ℕ → Replayed) (last : Option Progress) (wanted : List ℕ → Type 0) (taken : List ℕ) (at_end failed : Type 0) (end : ReplayEnd) : Type 0 where
+  Told : Tells answer_of taken at_end failed (λ answer. answer ≡ ended last end) → IsNeeded answer_of taken → EndsWith answer_of last wanted taken at_end failed end
+  Wanted : end ≡ NoMemory → wanted taken → EndsWith answer_of last wanted taken at_end failed end
 
--- bytes were taken, and they decided the end
-pub record Stops (answer_of : Ending → List ℕ → Replayed) (to_come_old to_come_new : Option (List ℕ)) (at_end failed : Type 0) (end : ReplayEnd) : Type 0 where
+-- bytes were taken, and they decided the end; `last` is where the replay stood, and `wanted` says why memory was wanted
+pub record Stops (answer_of : Ending → List ℕ → Replayed) (last : Option Progress) (wanted : List ℕ → Type 0) (to_come_old to_come_new : Option (List ℕ)) (at_end failed : Type 0) (end : ReplayEnd) : Type 0 where
   pub taken : List ℕ
   pub takes : to_come_old ≡ prepend_known taken to_come_new
-  pub stops : EndsWith answer_of taken at_end failed end
+  pub stops : EndsWith answer_of last wanted taken at_end failed end
+
+-- within the head memory may be wanted anywhere
+abbrev pub Anywhere : List ℕ → Type 0
+Anywhere taken = Unit {0}
+
+-- memory was wanted for the event of the line that was taken, which the world adds something for
+pub record WantsAt (so_far : Progress) (taken : List ℕ) : Type 0 where
+  pub line : List ℕ
+  pub event : Event
+  pub parts : taken ≡ line ++ 10 ∷ []
+  pub judged : event_in so_far line ≡ Ok event
+  pub allowed : allowed_in so_far event ≡ Ok event
+  pub wants : needs_memory so_far.settings so_far.timing event so_far.world ≡ true

@@ -1,13 +1,22 @@
 -- A whole replay: what it took from its input, what it wrote, and how it ended.
-use Rattle.std.specs.Prelude.{◌≡◌, ℕ, List, [], ◌++◌, Option}
+use Rattle.std.specs.Prelude.{◌≡◌, ◌⊎◌, ℕ, List, [], ◌++◌, Option, Some, Result, Ok, Err}
+use Rattle.qn_world.specs.Standing.{WorldFor}
+use Rattle.qn_world.specs.Whole.{Whole}
 use Rattle.std.specs.Io.KnownBytes.{IsAtEnd, prepend_known, append_known}
 use Rattle.qn_io.specs.Writes.{AppendsFront}
 use Rattle.qn_model.specs.Inputs.{BeginsWith, Tells}
 use Rattle.qn_model.specs.Lines.{Ended}
 use Rattle.qn_sched.specs.declared.replay_end.ReplayEnd.{ReplayEnd}
 use Rattle.qn_sched.specs.declared.replay_end.ReplayEnd.TheVariants.{Done, NoMemory, WriteFault}
-use Rattle.qn_replay.specs.Reading.{EndsWith, IsNeeded}
-use Rattle.qn_replay.specs.Replay.{Replayed, replay_of}
+use Rattle.qn_replay.specs.Reading.{IsNeeded, WantsAt}
+use Rattle.qn_replay.specs.Replay.{Progress, Replayed, replay_of}
+
+-- Why memory was wanted behind a trace: nothing was written yet; or the event behind those whose lines were written adds a packet or a
+-- leftover to the world.
+pub data WantsMemory (taken trace : List ℕ) : Type 0 where
+  AtHead : trace ≡ [] → WantsMemory taken trace
+  AtEvent : (so_far : Progress) (front line : List ℕ) → taken ≡ front ++ line
+      → replay_of Ended front ≡ record { trace = trace; end = Done so_far.events; last = Some so_far } → WantsAt so_far line → WantsMemory taken trace
 
 -- The trace that the taken bytes tell of was written whole, and the end is the one that they tell of; or a front of it was
 -- written, because the sink failed or memory was wanted.
@@ -17,7 +26,7 @@ pub data EndsAs (taken : List ℕ) (at_end read_failed : Type 0) (old new : Opti
   Unwritten : (trace : List ℕ) → Tells replay_of taken at_end read_failed (λ a. BeginsWith a.trace trace) → end ≡ WriteFault → write_failed
       → AppendsFront old new trace → EndsAs taken at_end read_failed old new write_failed end
   Wanted : (trace : List ℕ) → Tells replay_of taken at_end read_failed (λ a. BeginsWith a.trace trace) → end ≡ NoMemory
-      → AppendsFront old new trace → EndsAs taken at_end read_failed old new write_failed end
+      → new ≡ append_known old trace → WantsMemory taken trace → EndsAs taken at_end read_failed old new write_failed end
 
 -- Bytes were taken, and decided the end. What was read behind them waits, and was not looked at.
 pub record Replays (left_old left_new : Option (List ℕ)) (read_failed : Type 0) (old new : Option (List ℕ)) (write_failed : Type 0) (end : ReplayEnd) : Type 0 where
@@ -26,12 +35,14 @@ pub record Replays (left_old left_new : Option (List ℕ)) (read_failed : Type 0
   pub takes : left_old ≡ prepend_known (taken ++ waiting) left_new
   pub ends : EndsAs taken ((waiting ≡ []) × IsAtEnd left_new) ((waiting ≡ []) × read_failed) old new write_failed end
 
--- the same of a run that writes nothing
-pub record Takes (left_old left_new : Option (List ℕ)) (read_failed : Type 0) (end : ReplayEnd) : Type 0 where
+-- memory was wanted behind this trace, which is all that was written
+pub record Wants (left_old left_new old new : Option (List ℕ)) : Type 0 where
   pub taken : List ℕ
   pub waiting : List ℕ
+  pub trace : List ℕ
   pub takes : left_old ≡ prepend_known (taken ++ waiting) left_new
-  pub ends : EndsWith replay_of taken ((waiting ≡ []) × IsAtEnd left_new) ((waiting ≡ []) × read_failed) end
+  pub writes : new ≡ append_known old trace
+  pub why : WantsMemory taken trace
 
 -- the whole input was read, and all of its trace was written
 pub record Completes (left_old left_new old new : Option (List ℕ)) (end : ReplayEnd) : Type 0 where
@@ -49,3 +60,36 @@ IfDone _ P = Unit {0}
 -- the trace and the end are those of the whole input
 abbrev pub AnswersWhole : Replayed → Option (List ℕ) → Option (List ℕ) → ReplayEnd → Type 0
 AnswersWhole answer old new end = (end ≡ answer.end) × (new ≡ append_known old answer.trace)
+
+-- an end that is a fault of the input, or want of memory
+abbrev pub IsFault : ReplayEnd → Type 0
+IsFault (Done events) = ⊥
+IsFault WriteFault = ⊥
+IsFault end = Unit {0}
+
+-- the world, where the replay ended well
+abbrev pub last_of : Whole → ReplayEnd → Result Whole ReplayEnd
+last_of world (Done events) = Ok world
+last_of world end = Err end
+
+-- a world after the last event of a replay that ended well
+pub record IsLast (answer : Replayed) (world : Whole) : Type 0 where
+  pub events : ℕ
+  pub so_far : Progress
+  pub ends : answer.end ≡ Done events
+  pub last : answer.last ≡ Some so_far
+  pub settings : world.settings ≡ so_far.settings
+  pub timing : world.timing ≡ so_far.timing
+  pub stands : WorldFor world so_far.world
+
+-- the world after the last event, or else the end of the replay
+abbrev pub GivesWorld : Result Whole ReplayEnd → Replayed → Type 0
+GivesWorld (Ok world) answer = IsLast answer world
+GivesWorld (Err end) answer = (answer.end ≡ end) × IsFault end
+
+-- bytes were taken, and tell of the last world or of the end; or memory was wanted
+pub record Reaches (left_old left_new : Option (List ℕ)) (read_failed : Type 0) (result : Result Whole ReplayEnd) : Type 0 where
+  pub taken : List ℕ
+  pub waiting : List ℕ
+  pub takes : left_old ≡ prepend_known (taken ++ waiting) left_new
+  pub ends : (result ≡ Err NoMemory) ⊎ Tells replay_of taken ((waiting ≡ []) × IsAtEnd left_new) ((waiting ≡ []) × read_failed) (GivesWorld result)

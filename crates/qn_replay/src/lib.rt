@@ -1,17 +1,21 @@
-// The replay of a schedule over any source, piece by piece. Until a world stands the table of events is
-// empty: the head is read and judged, and every line behind it is at fault.
+// The replay of a schedule over any source, piece by piece.
 //
-// Promises, on `replay`: the end is exactly the defined one of the bytes that were read, however they were
-// cut; nothing is read behind the piece in which the first fault stood; ReadFault comes only where the
-// count of faults of the source rose, WriteFault only where that of the sink rose. Want of memory is free.
+// Promises, on `replay`: the trace and the end are exactly the defined ones of the bytes that were read,
+// however they were cut; nothing is read behind the piece in which the first fault stood; ReadFault comes
+// only where the count of faults of the source rose, WriteFault only where that of the sink rose. Want of
+// memory is free up to the first trace line; behind it, it comes only at an event that adds a packet or a
+// leftover to the world.
 #![tactic(auto)]
 
+mod last;
 mod part_text;
+mod playback;
 mod reader;
 mod rows;
 mod run;
 mod schedule;
 
+pub use last::last_world;
 pub use rows::{law_ending, law_heads, law_texts};
 pub use run::replay;
 

@@ -10,12 +10,12 @@ ghost use Rattle.qn_settings.specs.declared.faults.SettingsFault.TheVariants.{No
 /// The head of one node is good, and a line behind it begins no event. Where the timing line is due and
 /// the input ends, it is unended; where a read fails there, that is the end.
 pub fn law_heads()
-    ensures good { replay_of Ended
-        (codes "nodelist {\nnode {\nnodeid: 1\n}\n}\n----\ntiming 5000 10000 1000 2000 1000\n")
-        ≡ ends (Done 0) }
-    ensures event { replay_of Ended
-        (codes "nodelist {\nnode {\nnodeid: 1\n}\n}\n----\ntiming 5000 10000 1000 2000 1000\ntick 1\n")
-        ≡ ends (BadSchedule 8 UnknownWord) }
+    ensures good { (replay_of Ended
+        (codes "nodelist {\nnode {\nnodeid: 1\n}\n}\n----\ntiming 5000 10000 1000 2000 1000\n")).end
+        ≡ Done 0 }
+    ensures event { (replay_of Ended
+        (codes "nodelist {\nnode {\nnodeid: 1\n}\n}\n----\ntiming 5000 10000 1000 2000 1000\ntock 1\n")).end
+        ≡ BadSchedule 8 UnknownWord }
     ensures no_timing { replay_of Ended (codes "nodelist {\nnode {\nnodeid: 1\n}\n}\n----\n") ≡ ends (BadSchedule 7 Unended) }
     ensures failed { replay_of ReadFailed (codes "nodelist {\nnode {\nnodeid: 1\n}\n}\n----\n") ≡ ends ReadFault }
     ensures unsafe_times { replay_of Ended

@@ -2,7 +2,7 @@ ghost use Rattle.std.specs.Prelude.{◌≡◌, ◌≢◌, ◌≤◌, IfSome};
 ghost use Rattle.qn_io.specs.Outside.{HasRisen};
 ghost use Rattle.qn_model.specs.Lines.{Ended};
 ghost use Rattle.qn_replay.specs.Replay.{replay_of};
-ghost use Rattle.qn_replay.specs.Runs.{AnswersWhole, Completes, IfDone, Replays, Takes};
+ghost use Rattle.qn_replay.specs.Runs.{AnswersWhole, Completes, IfDone, Replays, Wants};
 
 use crate::reader::Reader;
 use qn_io::{Sink, Source};
@@ -10,8 +10,9 @@ use qn_sched::ReplayEnd;
 use std::alloc::Global;
 
 /// Replays a schedule: reads its input in pieces of at most 4096 bytes, up to the byte that decides the end,
-/// and keeps no more of it than the settings text, one line and one piece. It writes the trace alone, and
-/// nothing of the end. `NoMemory` comes only where memory was wanted.
+/// and keeps no more of it than the settings text, one line, one piece and the world. It writes the trace
+/// alone, each line before it judges the next one, and nothing of the end. Behind the first trace line,
+/// `NoMemory` comes only where the next event adds a packet or a leftover to the world.
 pub fn replay<I: Source, O: Sink>(alloc: Global, input: &mut I, out: &mut O) -> ReplayEnd
     // The end is the defined one of the bytes that were taken, and what was written is their trace, or a front
     // of it at WriteFault and NoMemory.
@@ -23,23 +24,37 @@ pub fn replay<I: Source, O: Sink>(alloc: Global, input: &mut I, out: &mut O) -> 
         → IfSome (I.left input.old) (λ bytes. AnswersWhole (replay_of Ended bytes) (O.written out.old) (O.written out.new) result) }
     ensures done { IfDone result (Completes (I.left input.old) (I.left input.new) (O.written out.old) (O.written out.new) result) }
 
+    // Want of memory.
+    ensures memory { result ≡ ReplayEnd.NoMemory → Wants (I.left input.old) (I.left input.new) (O.written out.old) (O.written out.new) }
+
     // The faults of the outside.
     ensures read_fault { result ≡ ReplayEnd.ReadFault → HasRisen (I.faults input.old) (I.faults input.new) }
     ensures write_fault { result ≡ ReplayEnd.WriteFault → HasRisen (O.faults out.old) (O.faults out.new) }
     ensures source_faults { I.faults input.old ≤ I.faults input.new }
     ensures sink_faults { O.faults out.old ≤ O.faults out.new }
 {
-    run(alloc, input)
+    run(alloc, input, out)
 }
 
-/// The end of a replay that has no event.
-fn run<I: Source>(alloc: Global, input: &mut I) -> ReplayEnd
-    ensures takes { Takes (I.left input.old) (I.left input.new) (HasRisen (I.faults input.old) (I.faults input.new)) result }
-    ensures never_falls { I.faults input.old ≤ I.faults input.new }
+/// A replay up to its end.
+fn run<I: Source, O: Sink>(alloc: Global, input: &mut I, out: &mut O) -> ReplayEnd
+    ensures replays { Replays (I.left input.old) (I.left input.new) (HasRisen (I.faults input.old) (I.faults input.new))
+        (O.written out.old) (O.written out.new) (HasRisen (O.faults out.old) (O.faults out.new)) result }
+    ensures source_faults { I.faults input.old ≤ I.faults input.new }
+    ensures sink_faults { O.faults out.old ≤ O.faults out.new }
 {
     let mut reader = Reader::new();
-    match reader.read_head(alloc, input) {
-        Ok(schedule) => reader.read_event(input, &schedule),
-        Err(end) => end,
+    let mut playback = match reader.start(alloc, input) {
+        Ok(playback) => playback,
+        Err(end) => return end,
+    };
+    'events: loop {
+        let report = match reader.next(input, &mut playback) {
+            Ok(report) => report,
+            Err(end) => return end,
+        };
+        let Ok(()) = playback.write(&report, out) else {
+            return ReplayEnd::WriteFault;
+        };
     }
 }

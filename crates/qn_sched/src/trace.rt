@@ -70,7 +70,8 @@ fn add_unfenced(into: &mut ArrayVec<u8, 64>, id: NodeId, written: bool, left: u6
 /// pass where no node is touched. The id of a rank that is not configured is 0.
 #[tactic(auto, unfolding(crate::specs::TraceLines::trace_line))]
 pub fn write_trace(number: u64, report: &Report, settings: &Settings, into: &mut ArrayVec<u8, 4096>)
-    ensures { into.new.items ≡ trace_line (ids settings.now.nodes) number report.now }
+    ensures text { into.new.items ≡ trace_line (ids settings.now.nodes) number report.now }
+    ensures fits { length into.new.items ≤ 4000 }
 {
     let nodes = &settings.nodes;
     into.clear();
@@ -86,7 +87,8 @@ pub fn write_trace(number: u64, report: &Report, settings: &Settings, into: &mut
 /// Adds what stands behind the time at a pass.
 fn add_pass(into: &mut ArrayVec<u8, 4096>, nodes: &Nodes, report: &Report)
     requires { length into.old.items ≤ 100 }
-    ensures { into.new.items ≡ into.old.items ++ (codes " - - holders=" ++ holders_text (ids nodes.now) report.now.holders) }
+    ensures text { into.new.items ≡ into.old.items ++ (codes " - - holders=" ++ holders_text (ids nodes.now) report.now.holders) }
+    ensures len { length into.new.items ≤ length into.old.items + 3000 }
 {
     add(into, b" - - holders=");
     add_holders(into, nodes, report.holders);
@@ -95,7 +97,8 @@ fn add_pass(into: &mut ArrayVec<u8, 4096>, nodes: &Nodes, report: &Report)
 /// Adds what stands behind the time at an event of a node.
 fn add_touched(into: &mut ArrayVec<u8, 4096>, nodes: &Nodes, report: &Report, rank: Rank)
     requires { length into.old.items ≤ 100 }
-    ensures { into.new.items ≡ into.old.items ++ touched_text (ids nodes.now) report.now (Some rank) }
+    ensures text { into.new.items ≡ into.old.items ++ touched_text (ids nodes.now) report.now (Some rank) }
+    ensures len { length into.new.items ≤ length into.old.items + 3000 }
 {
     add(into, b" ");
     add_id(into, nodes, rank);
@@ -125,7 +128,8 @@ fn add_answer(into: &mut ArrayVec<u8, 4096>, answer: &Answer)
 /// Adds the first condition that a start lacks.
 fn add_why(into: &mut ArrayVec<u8, 4096>, why: &Why)
     requires { length into.old.items ≤ 4000 }
-    ensures { into.new.items ≡ into.old.items ++ why_text why.now }
+    ensures text { into.new.items ≡ into.old.items ++ why_text why.now }
+    ensures len { length into.new.items ≤ length into.old.items + 64 }
 {
     let mut text = ArrayVec::new();
     write_why(why, &mut text);

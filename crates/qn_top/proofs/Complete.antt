@@ -42,7 +42,7 @@ replay_whole : {taken waiting rest bytes : List ℕ} {failed write_failed : Type
     → ReplayEnds taken ((waiting ≡ []) × (rest ≡ [])) ((waiting ≡ []) × failed) old new write_failed status
     → AnswersWhole (replay_text Ended bytes) old new status
 replay_whole parts memory no_failure no_write_failure (Told ends) = ends_complete parts no_failure no_write_failure ends
-replay_whole parts memory no_failure no_write_failure (Wanted trace middle tells front answers) =
+replay_whole parts memory no_failure no_write_failure (Wanted trace middle tells whole why answers) =
     absurd (memory (wanted_status answers no_write_failure))
 
 -- the whole text of a replay

@@ -58,8 +58,8 @@ module _ {taken : List ℕ} {at_end failed : Type 0} {old : Option (List ℕ)} w
   finished {middle} {new} {write_failed} {status} ended other (WroteAll answer tells needed is whole) answers =
       whole_trace answer tells whole (subst (λ (e : ReplayEnd). Answers [] (end_outcome e).text (end_outcome e).status middle new write_failed status) is answers)
   finished ended other (Unwritten trace tells is fails front) answers = absurd (other is)
-  finished {middle} {new} {write_failed} {status} ended other (Wanted trace tells is front) answers =
-      WantedBehind trace middle tells front
+  finished {middle} {new} {write_failed} {status} ended other (Wanted trace tells is whole why) answers =
+      WantedBehind trace middle tells whole why
       (subst (λ (e : ReplayEnd). Answers [] (end_outcome e).text (end_outcome e).status middle new write_failed status) is answers)
 
   -- a replay whose sink failed
@@ -68,7 +68,7 @@ module _ {taken : List ℕ} {at_end failed : Type 0} {old : Option (List ℕ)} w
       whole_trace answer tells whole
       (subst (λ (e : ReplayEnd). Answers [] (end_outcome e).text (end_outcome e).status new new write_failed 7) is (Whole refl (sym (append_known-nil new))))
   unwritten (Unwritten trace tells is fails front) = cut_trace trace tells fails front
-  unwritten (Wanted trace tells is front) = cc
+  unwritten (Wanted trace tells is whole why) = cc
 
 answers_wider : {text : List ℕ} {wanted : ℕ} {old new : Option (List ℕ)} {failed wider : Type 0} {status : ℕ}
     → (failed → wider) → Answers [] text wanted old new failed status → Answers [] text wanted old new wider status

@@ -1,10 +1,10 @@
 -- `replay`: the trace, and then its last line; this project's profile.
 use Rattle.std.specs.Prelude.{◌≡◌, ℕ, List, [], ◌++◌, Option, codes, decimal}
-use Rattle.std.specs.Io.KnownBytes.{IsAtEnd, prepend_known}
-use Rattle.qn_io.specs.Writes.{AppendsFront}
+use Rattle.std.specs.Io.KnownBytes.{IsAtEnd, append_known, prepend_known}
 use Rattle.qn_model.specs.Inputs.{BeginsWith, Tells}
 use Rattle.qn_model.specs.Lines.{Ending, Outcome, after}
 use Rattle.qn_replay.specs.Replay.{replay_of}
+use Rattle.qn_replay.specs.Runs.{WantsMemory}
 use Rattle.qn_sched.specs.declared.replay_end.ReplayEnd.{ReplayEnd}
 use Rattle.qn_sched.specs.declared.replay_end.ReplayEnd.TheVariants as end
 use Rattle.qn_top.specs.declared.fault.Fault.{Fault}
@@ -32,11 +32,11 @@ abbrev pub replay_text : Ending → List ℕ → Outcome
 replay_text ending bytes = after (replay_of ending bytes).trace (end_outcome (replay_of ending bytes).end)
 
 -- The text that the taken bytes tell of was written, or a front of it where the sink failed; or memory was wanted behind a front
--- of the trace.
+-- of the trace: before any of it, or at an event that adds a packet or a leftover to the world.
 pub data ReplayEnds (taken : List ℕ) (at_end read_failed : Type 0) (old new : Option (List ℕ)) (write_failed : Type 0) (status : ℕ) : Type 0 where
   Told : EndsAs replay_text taken [] at_end read_failed old new write_failed status → ReplayEnds taken at_end read_failed old new write_failed status
   Wanted : (trace : List ℕ) (middle : Option (List ℕ)) → Tells replay_of taken at_end read_failed (λ a. BeginsWith a.trace trace)
-      → AppendsFront old middle trace → Answers [] (fault_line fault.NoMemory) 11 middle new write_failed status
+      → middle ≡ append_known old trace → WantsMemory taken trace → Answers [] (fault_line fault.NoMemory) 11 middle new write_failed status
       → ReplayEnds taken at_end read_failed old new write_failed status
 
 -- bytes were taken and decided the end; what was read behind them waits, and was not looked at

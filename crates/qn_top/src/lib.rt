@@ -3,8 +3,8 @@
 // Promises, on `top`: what is written, the calls on the outside and the status are exactly those that the
 // definition gives for the words, the bytes read and the answers of the calls. Status 2 comes exactly for words
 // that are no command; 6, 7 and 8 only where the count of faults of the source, the sink or the outside rose,
-// and at 7 a front of the text was written. Only `create` takes memory, for its settings text. Input is read in
-// pieces of at most 4096 bytes.
+// and at 7 a front of the text was written. `create` takes memory for its settings text, and
+// `replay` for that and for its world. Input is read in pieces of at most 4096 bytes.
 #![tactic(auto)]
 
 mod command;

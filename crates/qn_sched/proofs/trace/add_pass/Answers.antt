@@ -4,8 +4,8 @@ use Rattle.qn_model.specs.Settings.{ids}
 use Rattle.qn_sched.specs.TraceLines.{holders_text}
 use Rattle.qn_sched.proofs.trace.add_pass.Goals as goal
 
-pub returns : goal.returns
-returns c =
+pub returns-clause-text : goal.returns-clause-text
+returns-clause-text c =
     let holders = holders_text (ids c.args.nodes.now) c.args.report.now.holders in
     c.add_holders.ensures.text
     ∙ ap (λ t. t ++ holders) c.add.ensures.text

@@ -10,14 +10,14 @@ returns-in-Line-clause-timing g c = λ settings.
     let same = sym c.as_slice-line.ensures.value in
     goes_behind_line c.args.before settings c.as_slice-line.result.now (subst HasNoLineFeed same c.in-Line.ensures.unended) c.as_slice-line.ensures.fits _ _ c.safe_timing.result
     (c.in-Line.ensures.reads ∙ ap (λ xs. prepend_known (xs ++ 10 ∷ []) (prepend_known c.read_line-read.new.pieces (g.I.Source.left c.read_line-read.new.input))) same)
-    c.safe_timing.ensures
+    c.safe_timing.ensures.timing
 
 pub returns-in-Line-clause-end : goal.returns-in-Line-clause-end
 returns-in-Line-clause-end g c = λ settings.
     let same = sym c.as_slice-line.ensures.value in
     stops_at_line c.args.before settings c.as_slice-line.result.now (subst HasNoLineFeed same c.in-Line.ensures.unended) c.as_slice-line.ensures.fits _ _ _ _ c.safe_timing.result
     (c.in-Line.ensures.reads ∙ ap (λ xs. prepend_known (xs ++ 10 ∷ []) (prepend_known c.read_line-read.new.pieces (g.I.Source.left c.read_line-read.new.input))) same)
-    c.safe_timing.ensures
+    c.safe_timing.ensures.timing
 
 pub returns-in-Rest-clause-end : goal.returns-in-Rest-clause-end
 returns-in-Rest-clause-end g c = λ settings.

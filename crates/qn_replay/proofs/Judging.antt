@@ -1,0 +1,138 @@
+-- The event of a whole line, the rules, and the numbers of a playback.
+use Rattle.std.proofs.Common.{◌≡◌, ◌≢◌, ◌+◌, ◌<◌, ◌≤◌, ◌==◌, ℕ, true, ◌&&◌, List, length, Option, None, Some, Result, Ok, Err, refl, sym, ap, ◌∙◌, arith, nat_lt, nat_le, le-ltb, eq-eqb, ne_eqb}
+use Rattle.std.specs.Prelude.{map, slice_get}
+use Rattle.std.specs.List.{list_all}
+use Rattle.std.specs.Option.{option_map_or}
+use Rattle.std.proofs.lemmas.Bool.{and_parts, cond-false, cond-true, leb-true}
+use Rattle.qn_model.specs.declared.configuration.Settings.{Settings}
+use Rattle.qn_model.specs.declared.events.Event.{Event}
+use Rattle.qn_model.specs.declared.events.Event.TheVariants as event
+use Rattle.qn_model.specs.declared.line_fault.LineFault.{LineFault}
+use Rattle.qn_model.specs.declared.line_fault.LineFault.TheVariants.{TooMany}
+use Rattle.qn_model.specs.declared.times.Timing.{Timing}
+use Rattle.qn_model.specs.Lines.{is_ascending}
+use Rattle.qn_model.specs.declared.packets.Sent.{Sent}
+use Rattle.qn_model.specs.declared.reports.Refused.{Refused}
+use Rattle.qn_model.specs.declared.reports.Refused.TheVariants as refused
+use Rattle.qn_base.specs.declared.ids.Rank.{Rank}
+use Rattle.qn_model.specs.Moments.{Adds, packets, time}
+use Rattle.qn_model.specs.Rules.{is_between, is_clock, is_well_formed, refusal}
+use Rattle.qn_model.specs.Settings.{ids}
+use Rattle.qn_model.specs.Steps.{answered, entry_of, fails, happens, landed, lands_late, step}
+use Rattle.qn_model.specs.World.{World, first_world, numbered, op_at}
+use Rattle.qn_sched.specs.declared.replay_end.ReplayEnd.{ReplayEnd}
+use Rattle.qn_sched.specs.declared.replay_end.ReplayEnd.TheVariants.{BadSchedule}
+use Rattle.qn_sched.specs.EventReading.{event_of}
+use Rattle.qn_world.specs.Memory.{needs_memory}
+use Rattle.qn_world.specs.Standing.{WorldFor}
+use Rattle.qn_world.specs.Stepping.{RefusedBy}
+use Rattle.qn_world.specs.Whole.{Whole}
+use Rattle.qn_replay.specs.declared.playback.Playback.{Playback}
+use Rattle.qn_replay.specs.Playing.{IsGoing, NotAllowedHere, OutOfMemory, RefusesLine, progress_at, refused_end}
+use Rattle.qn_replay.specs.Replay.{Progress, allowed_in, at_start, event_in, or_bad_line, stepped, unless_refused, with_event}
+
+abbrev pub refused_with : ReplayEnd → Result Event ReplayEnd
+refused_with end = Err end
+
+-- one event too many
+pub event_in-many : (so_far : Progress) (line : List ℕ) → length line ≤ 4096 → so_far.events ≡ 200000 → event_in so_far line ≡ Err (BadSchedule (so_far.lines + 1) TooMany)
+unfolding event_in
+event_in-many so_far line short many =
+    cond-false (nat_lt 4096 (length line)) _ _ (le-ltb 4096 (length line) short)
+    ∙ cond-true (so_far.events == 200000) _ _ (eq-eqb so_far.events 200000 many)
+
+-- a line that is read
+pub event_in-read : (so_far : Progress) (line : List ℕ) (read : Result Event LineFault) → length line ≤ 4096 → so_far.events ≢ 200000 → event_of (ids so_far.settings.nodes) line ≡ read
+    → event_in so_far line ≡ or_bad_line (so_far.lines + 1) read
+unfolding event_in
+event_in-read so_far line read short few is =
+    cond-false (nat_lt 4096 (length line)) _ _ (le-ltb 4096 (length line) short)
+    ∙ cond-false (so_far.events == 200000) _ _ (ne_eqb so_far.events 200000 few)
+    ∙ ap (or_bad_line (so_far.lines + 1)) is
+
+-- the rules
+pub allowed_in-is : (so_far : Progress) (e : Event) (rule : Option ℕ) → refusal so_far.settings so_far.timing e so_far.world ≡ rule → allowed_in so_far e ≡ unless_refused (so_far.lines + 1) e rule
+unfolding allowed_in
+allowed_in-is so_far e rule is = ap (unless_refused (so_far.lines + 1) e) is
+
+same_moments : {A : Type 0} (o : Option A) (f : A → World) (w : World) → ((a : A) → time (f a).moments ≡ time w.moments) → time (option_map_or f o w).moments ≡ time w.moments
+same_moments None f w same = refl
+same_moments (Some a) f w same = same a
+
+-- an event takes 1000000000 milliseconds at most
+pub time-step : (s : Settings) (t : Timing) (e : Event) (w : World) → is_well_formed s e ≡ true → time (step s t e w).moments ≤ time w.moments + 1000000000
+unfolding step time is_well_formed
+time-step s t (event.Pass dt clocks) w formed =
+    let all = and_parts (is_between 1 1000000000 dt && list_all (is_clock s) clocks) (is_ascending (map (λ (clock : Rank × ℕ). clock.0.0) clocks)) formed in
+    let first = and_parts (is_between 1 1000000000 dt) (list_all (is_clock s) clocks) all.0 in
+    let below = leb-true dt 1000000000 (and_parts (nat_le 1 dt) (nat_le dt 1000000000) first.0).1 in
+    omega (arith, below)
+time-step s t (event.Boot rank base) w formed = omega arith
+time-step s t (event.Crash rank) w formed = omega arith
+time-step s t (event.Land rank) w formed = let same = same_moments (op_at s rank.0 w) (λ op. landed s t rank.0 op w) w (λ op. refl) in omega (arith, same)
+time-step s t (event.Done rank) w formed = let same = same_moments (w.took rank.0) (λ entry. answered rank.0 entry w) w (λ entry. refl) in omega (arith, same)
+time-step s t (event.Fail rank) w formed = let same = same_moments (op_at s rank.0 w) (λ op. fails s rank.0 op w) w (λ op. refl) in omega (arith, same)
+time-step s t (event.Late rank number) w formed = let same = same_moments (numbered (w.left rank.0) number) (λ op. lands_late rank.0 number op w) w (λ op. refl) in omega (arith, same)
+time-step s t (event.View rank view) w formed = omega arith
+time-step s t (event.Deliver rank number) w formed =
+    let same = same_moments (slice_get (packets s w.moments) number) (λ (sent : Sent). happens (Adds rank.0 (entry_of sent.packet)) w) w (λ sent. refl) in
+    omega (arith, same)
+time-step s t (event.Device rank agrees) w formed = omega arith
+time-step s t (event.Tick rank) w formed = omega arith
+time-step s t (event.Stopped rank) w formed = omega arith
+time-step s t (event.Unstopped rank) w formed = omega arith
+time-step s t (event.Leave rank) w formed = omega arith
+time-step s t (event.Feed rank) w formed = omega arith
+
+-- a playback begins early
+pub starts_early : (w : Whole) → WorldFor w first_world → w.time ≤ 0
+unfolding time
+starts_early w stands = let same = stands.times in omega (arith, same)
+
+-- a playback with one more event
+pub going_on : (old new : Playback) (e : Event) (world : World) → IsGoing old → old.events < 200000 → is_well_formed old.world.settings e ≡ true → WorldFor old.world world
+    → WorldFor new.world (stepped (progress_at old world) e) → new.world.steps + 1 ≡ old.world.steps → new.lines ≡ old.lines + 1 → new.events ≡ old.events + 1 → IsGoing new
+going_on old new e world going few formed stands stood steps lines events =
+    let before = stands.times in
+    let after = stood.times in
+    let later = time-step old.world.settings old.world.timing e world formed in
+    let numbered = going.numbered in
+    let left = going.steps in
+    let early = going.early in
+    record {
+      few = omega (arith, few, events);
+      numbered = omega (arith, numbered, lines, events);
+      steps = omega (arith, left, steps, events);
+      early = omega (arith, early, before, after, later, events);
+    }
+
+pub moved_on : (old new : Playback) (e : Event) (world : World) → new.world.settings ≡ old.world.settings → new.world.timing ≡ old.world.timing
+    → new.lines ≡ old.lines + 1 → new.events ≡ old.events + 1
+    → progress_at new (stepped (progress_at old world) e) ≡ with_event (progress_at old world) e
+unfolding with_event
+moved_on old new e world settings timing lines events =
+    let next = stepped (progress_at old world) e in
+    let made : Settings → Timing → ℕ → ℕ → Progress = λ s t l n. record { settings = s; timing = t; lines = l; events = n; world = next } in
+    ap (λ s. made s new.world.timing new.lines new.events) settings
+    ∙ ap (λ t. made old.world.settings t new.lines new.events) timing
+    ∙ ap (λ l. made old.world.settings old.world.timing l new.events) lines
+    ∙ ap (λ n. made old.world.settings old.world.timing (old.lines + 1) n) events
+
+-- a playback that begins stands at the start
+pub begins_at : (playback : Playback) (settings : Settings) (timing : Timing) (lines : ℕ) → playback.world.settings ≡ settings → playback.world.timing ≡ timing
+    → playback.lines ≡ lines → playback.events ≡ 0 → progress_at playback first_world ≡ at_start settings timing lines
+begins_at playback s t n settings timing lines events =
+    let made : Settings → Timing → ℕ → ℕ → Progress = λ s t l n. record { settings = s; timing = t; lines = l; events = n; world = first_world } in
+    ap (λ x. made x playback.world.timing playback.lines playback.events) settings
+    ∙ ap (λ x. made s x playback.lines playback.events) timing
+    ∙ ap (λ x. made s t x playback.events) lines
+    ∙ ap (λ x. made s t n x) events
+
+-- an event that the world refused
+pub refuses : (old : Playback) (line : List ℕ) (e : Event) (world : World) (why : Refused) (end : ReplayEnd) → event_in (progress_at old world) line ≡ Ok e
+    → RefusedBy (refusal old.world.settings old.world.timing e world) why
+    → (why ≡ refused.NoMemory → needs_memory old.world.settings old.world.timing e world ≡ true) → end ≡ refused_end (old.lines + 1) why → RefusesLine old line end world
+refuses old line e world (refused.NotAllowed rule) end is by memory ends =
+    NotAllowedHere e is (allowed_in-is (progress_at old world) e (Some rule.0) by ∙ ap refused_with (sym ends))
+refuses old line e world refused.NoMemory end is by memory ends =
+    OutOfMemory e is (allowed_in-is (progress_at old world) e None by) (memory refl) ends

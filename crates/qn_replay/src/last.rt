@@ -1,0 +1,44 @@
+ghost use Rattle.std.specs.Prelude.{◌≡◌, ◌≢◌, ◌≤◌, Err, IfErr, IfSome};
+ghost use Rattle.qn_io.specs.Outside.{HasRisen};
+ghost use Rattle.qn_model.specs.Lines.{Ended};
+ghost use Rattle.qn_replay.specs.Replay.{replay_of};
+ghost use Rattle.qn_replay.specs.Runs.{GivesWorld, IsFault, Reaches};
+
+use crate::reader::Reader;
+use qn_io::Source;
+use qn_sched::ReplayEnd;
+use qn_world::World;
+use std::alloc::Global;
+
+/// The world after the last event of a schedule that is good to its end. Otherwise how its replay ends, which
+/// is never `Done` or `WriteFault`; `NoMemory` comes only where memory was wanted. It reads as `replay` does,
+/// and writes nothing.
+pub fn last_world<I: Source>(alloc: Global, input: &mut I) -> Result<World, ReplayEnd>
+    ensures reaches { Reaches (I.left input.old) (I.left input.new) (HasRisen (I.faults input.old) (I.faults input.new)) result }
+    ensures complete { ¬ HasRisen (I.faults input.old) (I.faults input.new) → result ≢ Err ReplayEnd.NoMemory
+        → IfSome (I.left input.old) (λ bytes. GivesWorld result (replay_of Ended bytes)) }
+    ensures fault { IfErr result IsFault }
+    ensures read_fault { result ≡ Err ReplayEnd.ReadFault → HasRisen (I.faults input.old) (I.faults input.new) }
+    ensures source_faults { I.faults input.old ≤ I.faults input.new }
+{
+    run_silent(alloc, input)
+}
+
+/// A replay up to its end, of which nothing is written.
+fn run_silent<I: Source>(alloc: Global, input: &mut I) -> Result<World, ReplayEnd>
+    ensures reaches { Reaches (I.left input.old) (I.left input.new) (HasRisen (I.faults input.old) (I.faults input.new)) result }
+    ensures fault { IfErr result IsFault }
+    ensures source_faults { I.faults input.old ≤ I.faults input.new }
+{
+    let mut reader = Reader::new();
+    let mut playback = match reader.start(alloc, input) {
+        Ok(playback) => playback,
+        Err(end) => return Err(end),
+    };
+    'events: loop {
+        match reader.next(input, &mut playback) {
+            Ok(_) => {}
+            Err(end) => return playback.last(end),
+        }
+    }
+}
