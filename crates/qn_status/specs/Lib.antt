@@ -1,0 +1,5 @@
+pub mod NodeStates
+pub mod PlainTexts
+pub mod StateData
+pub mod StatusJson
+pub mod StatusText

@@ -1,0 +1,98 @@
+ghost use Rattle.std.specs.Prelude.{◌≡◌, ◌≤◌, ◌+◌, ◌++◌, ℕ, codes, flat_map, length, OnOk, OnErr};
+ghost use Rattle.std.specs.Io.KnownBytes.{append_known};
+ghost use Rattle.qn_io.specs.Outside.{HasRisen};
+ghost use Rattle.qn_io.specs.Writes.{AppendsFront};
+ghost use Rattle.qn_model.specs.CountText.{yes_no};
+ghost use Rattle.qn_sched.specs.TraceLines.{why_text};
+ghost use Rattle.qn_status.specs.StatusText.{answer_text, phase_name, state_line};
+
+use crate::line::Line;
+use crate::node_state::NodeState;
+use arrayvec::ArrayVec;
+use qn_base::Failed;
+use qn_io::{Sink, put_all};
+use qn_model::{Answer, Phase, Why};
+use qn_sched::write_why;
+
+/// Writes the line of each node. At `Failed` a front of the lines was written.
+pub(crate) fn write_lines<O: Sink>(nodes: &[NodeState], out: &mut O) -> Result<(), Failed>
+    ensures whole { OnOk result (O.written out.new ≡ append_known (O.written out.old) (flat_map state_line nodes.now)) }
+    ensures front { OnErr result (AppendsFront (O.written out.old) (O.written out.new) (flat_map state_line nodes.now)) }
+    ensures never_falls { O.faults out.old ≤ O.faults out.new }
+    ensures cause { OnErr result (HasRisen (O.faults out.old) (O.faults out.new)) }
+{
+    'nodes: for node in nodes {
+        let line = state_line(*node);
+        put_all(out, line.as_slice())?;
+    }
+    Ok(())
+}
+
+/// The line of a node.
+#[tactic(auto, unfolding(crate::specs::StatusText::state_line))]
+fn state_line(node: NodeState) -> Line
+    ensures { result ≡ state_line node }
+{
+    let mut line = Line::new();
+    line.add(b"node ");
+    line.add_number(u64::from(node.id.0));
+    line.add(b" ");
+    line.add(phase_name(node.phase).as_bytes());
+    line.add(b" holds=");
+    line.add(yes_no(node.holds));
+    add_answer(&mut line, node.answer);
+    add_why(&mut line, node.why);
+    line
+}
+
+/// Adds the count of a node.
+#[tactic(auto, unfolding(crate::specs::StatusText::answer_text))]
+fn add_answer(line: &mut Line, answer: Answer)
+    requires { length line.old ≤ 64 }
+    ensures text { line.new ≡ line.old ++ answer_text answer }
+    ensures len { length line.new ≤ length line.old + 100 }
+{
+    line.add(b" quorate=");
+    line.add(yes_no(answer.quorate));
+    line.add(b" ");
+    line.add_number(answer.votes);
+    line.add(b"/");
+    line.add_number(answer.quorum);
+    line.add(b" expected=");
+    line.add_number(answer.expected);
+    line.add(b" released=");
+    line.add(yes_no(answer.released));
+}
+
+/// Adds the condition that a start of a node lacks, and ends the line.
+fn add_why(line: &mut Line, why: Why)
+    requires { length line.old ≤ 180 }
+    ensures { line.new ≡ line.old ++ (codes " why=" ++ why_text why ++ codes "\n") }
+{
+    let mut text = ArrayVec::new();
+    write_why(&why, &mut text);
+    line.add(b" why=");
+    line.add(text.as_slice());
+    line.add(b"\n");
+}
+
+/// The word of a phase.
+pub(crate) fn phase_name(phase: Phase) -> &'static str
+    ensures text { result.now ≡ phase_name phase }
+    ensures len { length result.now ≤ 7 }
+{
+    match phase {
+        Phase::Booting => "booting",
+        Phase::Up => "up",
+        Phase::Leaving => "leaving",
+        Phase::Dying => "dying",
+        Phase::Gone => "off",
+    }
+}
+
+fn yes_no(yes: bool) -> &'static [u8]
+    ensures text { result.now ≡ yes_no yes }
+    ensures len { length result.now ≤ 3 }
+{
+    if yes { b"yes" } else { b"no" }
+}
