@@ -1,0 +1,48 @@
+# The examples of docs/SCHEDULES.md: lines at fault by their fault, and events that a rule refuses, in a cluster of the
+# nodes 1 and 2.
+. "$TOP/tests/expect.sh"
+
+HEAD='nodelist {\nnode {\nnodeid: 1\n}\nnode {\nnodeid: 2\n}\n}\n----\ntiming 5000 10000 1000 2000 1000\n'
+
+# fault NAME LINE..: each of these lines, as the first event, has that fault
+fault() {
+    local name=$1 line
+    shift
+    for line; do
+        { printf "$HEAD"; printf '%s\n' "$line"; } > schedule
+        expect 4 "fault BadSchedule line 11 $name\\n" replay < schedule
+    done
+}
+
+fault TooLong "tick $(head -c 4092 /dev/zero | tr '\0' 1)"
+fault UnknownWord tock 'Tick 1' ' tick 1' '' '# tick 1' 'device 1 maybe' 'device 1 Yes'
+fault BadCount tick 'tick 1 2' 'tick  1' 'boot 1' pass 'pass 1 2=100 1=100' 'pass 1 1=100 1=100'
+fault BadNumber 'tick 01' 'tick x' 'pass 0' 'boot 1 1000000000000001' 'late 1 0' 'pass 1 1' 'view 1 1 1,x' 'boot x x' 'boot 1 x'
+fault UnknownNode 'tick 9' 'tick 0' 'pass 1 9=100' 'view 1 1 1,9' 'boot 9 x' 'view 1 1 2,1,9'
+fault BadView 'view 1 1 2,1' 'view 1 1 1,1' 'view 1 1 1,' 'view 1 1 ,'
+
+{ printf "$HEAD"; printf 'tick 1'; } > schedule
+expect 4 'fault BadSchedule line 11 Unended\n' replay < schedule
+
+# refused RULE LINE..: the last of these events is refused by that rule, behind the trace of the others
+refused() {
+    local rule=$1 status=0
+    shift
+    { printf "$HEAD"; printf '%s\n' "$@"; } > schedule
+    "$QUORUMD" replay < schedule > got || status=$?
+    same "$status $(tail -n 1 got)" "5 fault NotAllowed line $((10 + $#)) rule $rule"
+    same "$(wc -l < got)" "$#"
+}
+
+refused 1 'boot 1 0' 'pass 5051'
+refused 1 'boot 1 0' 'pass 1 1=98'
+refused 2 'boot 1 0' 'boot 1 0'
+refused 3 'tick 1'
+refused 4 'boot 1 0' 'land 1' 'land 1'
+refused 5 'boot 1 0' 'done 1'
+refused 5 'boot 1 0' 'land 1' 'done 1' 'land 1' 'done 1' 'land 1' 'done 1' 'land 1' 'done 1' 'land 1' 'done 1' 'fail 1'
+refused 5 'boot 1 0' 'stopped 1'
+refused 6 'late 1 1'
+refused 7 'boot 1 0' 'view 1 1 2'
+refused 8 'boot 1 0' 'deliver 1 0'
+refused 9 'boot 1 0' 'land 1' 'done 1' 'pass 1001' 'feed 1'
