@@ -15,6 +15,9 @@ printf 'nodelist {\nnode {\nnodeid: 1\n}\n}\nquorum {\ntwo_node: 1\n}\n' > coros
 { cat corosync.conf; printf -- '----\ntiming 5000 10000 1000 2000 1000\n'; } > head
 expect 3 'fault BadConf TwoNodeCount\n' replay < head
 
+printf 'nodelist {\nnode {\nnodeid: 1\n}\n}\n----\ntiming 5000 10000 1000 2000 1000\nboot 1 0\npass 5050\n' > schedule
+expect 0 '1 0 1 read-header holders=- quorate=no 0/1 why=down\n2 5050 - - holders=-\nend 2\n' replay < schedule
+
 expect 0 'created nodes 2\n' create --image disk < "$TOP/examples/two-node.conf"
 expect 0 'node 1 incarnation 0 clean mail empty\nnode 2 incarnation 0 clean mail empty\n' list --image disk
 expect 0 'sent reset to 2\n' message --image disk --id 2 --kind reset
