@@ -3,6 +3,7 @@ mod EventSteps
 mod Judging
 mod LastEnds
 mod RunEnds
+mod RunTraces
 mod SettingsSteps
 mod Steps
 mod Taken

@@ -4,7 +4,7 @@
 // however they were cut; nothing is read behind the piece in which the first fault stood; ReadFault comes
 // only where the count of faults of the source rose, WriteFault only where that of the sink rose. Want of
 // memory is free up to the first trace line; behind it, it comes only at an event that adds a packet or a
-// leftover to the world.
+// leftover to the world. Each line of a trace names one holder at most (`law_one_holder`).
 #![tactic(auto)]
 
 mod last;
@@ -16,7 +16,7 @@ mod run;
 mod schedule;
 
 pub use last::last_world;
-pub use rows::{law_ending, law_heads, law_texts};
+pub use rows::{law_ending, law_heads, law_one_holder, law_texts};
 pub use run::replay;
 
 #[cfg(test)]

@@ -4,6 +4,7 @@ ghost use Rattle.qn_model.specs.Lines.{Ended, ReadFailed};
 ghost use Rattle.qn_model.specs.declared.line_fault.LineFault.TheVariants.{Unended, UnknownWord};
 ghost use Rattle.qn_replay.specs.Endings.{ReplayFits};
 ghost use Rattle.qn_replay.specs.Replay.{ends, replay_of};
+ghost use Rattle.qn_replay.specs.RunTrace.{TracesAreRuns};
 ghost use Rattle.qn_sched.specs.declared.replay_end.ReplayEnd.TheVariants.{BadConf, BadSettings, BadSchedule, Done, ReadFault, UnsafeTiming};
 ghost use Rattle.qn_settings.specs.declared.faults.SettingsFault.TheVariants.{NoNodes};
 
@@ -36,4 +37,11 @@ pub fn law_texts()
 /// input gives WriteFault or NoMemory.
 pub fn law_ending()
     ensures { ReplayFits }
+{}
+
+/// The trace of each replay is that of a run of the world: the settings are valid and the times safe, each
+/// event was well formed and allowed in its turn, each line is that of the report of its event, and at most
+/// one holder is named in each.
+pub fn law_one_holder()
+    ensures { TracesAreRuns }
 {}

@@ -1,13 +1,13 @@
 mod Binds
 mod ClockSpelling
 mod ClocksListed
-mod EventSpelling
+pub mod EventSpelling
 mod Joining
 mod LineWords
 mod Listed
 mod MemberSpelling
 mod PartsLemmas
 mod Places
-mod RankSpelling
+pub mod RankSpelling
 mod TimingSpelling
 mod WrittenNumbers

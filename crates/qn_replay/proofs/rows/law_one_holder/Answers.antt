@@ -1,0 +1,5 @@
+use Rattle.qn_replay.proofs.RunTraces.{traces_are_runs}
+use Rattle.qn_replay.proofs.rows.law_one_holder.Goals as goal
+
+pub returns : goal.returns
+returns c = traces_are_runs
