@@ -7,5 +7,6 @@ mod OptionWords
 mod ReadTexts
 mod Replayed
 mod RunEnds
+mod Shown
 mod Turned
 mod Working

@@ -1,9 +1,11 @@
 -- `replay`: the trace, and then its last line; this project's profile.
 use Rattle.std.specs.Prelude.{◌≡◌, ℕ, List, [], ◌++◌, Option, codes, decimal}
 use Rattle.std.specs.Io.KnownBytes.{IsAtEnd, append_known, prepend_known}
+use Rattle.qn_io.specs.Writes.{AppendsFront}
 use Rattle.qn_model.specs.Inputs.{BeginsWith, Tells}
 use Rattle.qn_model.specs.Lines.{Ending, Outcome, after}
 use Rattle.qn_replay.specs.Replay.{replay_of}
+use Rattle.qn_replay.specs.RunTrace.{IsRunTrace}
 use Rattle.qn_replay.specs.Runs.{WantsMemory}
 use Rattle.qn_sched.specs.declared.replay_end.ReplayEnd.{ReplayEnd}
 use Rattle.qn_sched.specs.declared.replay_end.ReplayEnd.TheVariants as end
@@ -45,3 +47,12 @@ pub record RunsReplay (left_old left_new : Option (List ℕ)) (read_failed : Typ
   pub waiting : List ℕ
   pub takes : left_old ≡ prepend_known (taken ++ waiting) left_new
   pub ends : ReplayEnds taken ((waiting ≡ []) × IsAtEnd left_new) ((waiting ≡ []) × read_failed) old new write_failed status
+
+-- What was written is a front of lines of a run of the world, in which each event was allowed and each line names one holder at
+-- most, and of a last line behind them.
+pub record ShowsRun (old new : Option (List ℕ)) : Type 0 where
+  pub shown : List ℕ
+  pub hidden : List ℕ
+  pub run : IsRunTrace (shown ++ hidden)
+  pub end : ReplayEnd
+  pub writes : AppendsFront old new (shown ++ (end_outcome end).text)

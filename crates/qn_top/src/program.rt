@@ -8,7 +8,7 @@ ghost use Rattle.qn_model.specs.Lines.{Ended};
 ghost use Rattle.qn_model.specs.Timing.{is_safe};
 ghost use Rattle.qn_top.specs.Commands.{command_of};
 ghost use Rattle.qn_top.specs.ImageWorks.{Creates, dump_work, input_settings, list_work, message_work, refusal};
-ghost use Rattle.qn_top.specs.Replaying.{RunsReplay, replay_text};
+ghost use Rattle.qn_top.specs.Replaying.{RunsReplay, ShowsRun, replay_text};
 ghost use Rattle.qn_top.specs.Runs.{Answers, AnswersWhole, Completes, Runs};
 ghost use Rattle.qn_top.specs.Statuses.{code_of};
 ghost use Rattle.qn_top.specs.Works.{Works};
@@ -66,6 +66,9 @@ pub fn top<I: Source, O: Sink, E: Env>(
     ensures replay_complete { command_of (map string_bytes words.now) ≡ Some Command.Replay → result ≢ 11
         → ¬ HasRisen (I.faults input.old) (I.faults input.new) → ¬ HasRisen (O.faults out.old) (O.faults out.new)
         → IfSome (I.left input.old) (λ bytes. AnswersWhole (replay_text Ended bytes) (O.written out.old) (O.written out.new) result) }
+
+    // Its lines are those of a run of the world, and each of them names one holder at most.
+    ensures one_holder { command_of (map string_bytes words.now) ≡ Some Command.Replay → ShowsRun (O.written out.old) (O.written out.new) }
 
     // `create`: times that are not safe are refused before anything is read.
     ensures unsafe_unread { (image : List ℕ) (timing : Timing) → command_of (map string_bytes words.now) ≡ Some (Command.Create image timing) → is_safe timing ≡ false
