@@ -1,10 +1,14 @@
+mod Choices
+mod Clocks
 mod EventLines
 mod EventSteps
+mod Forced
 mod Judging
 mod LastEnds
 mod RunEnds
 mod RunTraces
 mod SettingsSteps
+mod SoakSteps
 mod Steps
 mod Taken
 mod TextLines

@@ -1,7 +1,10 @@
+pub mod Draws
 pub mod Endings
+pub mod Generator
 pub mod Playing
 pub mod Reading
 pub mod Replay
 pub mod RunTrace
 pub mod Runs
+pub mod Soak
 pub mod Taking

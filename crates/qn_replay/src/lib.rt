@@ -5,8 +5,15 @@
 // only where the count of faults of the source rose, WriteFault only where that of the sink rose. Want of
 // memory is free up to the first trace line; behind it, it comes only at an event that adds a packet or a
 // leftover to the world. Each line of a trace names one holder at most (`law_one_holder`).
+//
+// `last_world` is the world behind such a replay. `Gen::next` is the next event of a soak, well formed and
+// allowed, and `soak` writes the defined summary of its events, with at most one holder.
 #![tactic(auto)]
 
+mod choice;
+mod drawn_events;
+mod generator;
+mod in_place;
 mod last;
 mod part_text;
 mod playback;
@@ -14,10 +21,16 @@ mod reader;
 mod rows;
 mod run;
 mod schedule;
+mod soak_settings;
+mod soaking;
+mod summary_line;
+mod tally;
 
+pub use generator::Gen;
 pub use last::last_world;
 pub use rows::{law_ending, law_heads, law_one_holder, law_texts};
 pub use run::replay;
+pub use soaking::soak;
 
 #[cfg(test)]
 mod tests;

@@ -1,0 +1,9 @@
+use Rattle.qn_replay.specs.declared.choice.Choice.TheVariants as kind
+use Rattle.qn_replay.proofs.Choices.{pass_drawn}
+use Rattle.qn_replay.proofs.generator.Gen.pass_of.Goals as goal
+
+pub returns-clause-drawn : goal.returns-clause-drawn
+returns-clause-drawn c =
+    λ d stands.
+    pass_drawn d kind.Pass (record { 0 = 0 }) c.args.self.now _ c.seen-first.result c.seen-second.result c.seen-third.result c.requires
+    (c.seen-first.ensures d stands) (c.seen-second.ensures d stands) (c.seen-third.ensures d stands) c.pass.ensures.drawn

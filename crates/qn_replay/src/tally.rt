@@ -1,0 +1,89 @@
+ghost use Rattle.std.specs.Prelude.{◌≡◌, ◌≤◌, count_by, length};
+ghost use Rattle.qn_replay.specs.Soak.{is_boot, is_crash, is_reset, is_start, is_stop};
+
+use qn_model::{DiskOp, Event, Out, Report};
+
+/// What the events of a soak came to: boots and crashes count events, resets, starts and stops count outputs,
+/// and `most_holders` is the greatest number of nodes that held the resource after any event.
+#[derive(Clone, Copy, PartialEq, Eq, Debug)]
+pub(crate) struct Tally {
+    pub(crate) boots: u64,
+    pub(crate) crashes: u64,
+    pub(crate) resets: u64,
+    pub(crate) starts: u64,
+    pub(crate) stops: u64,
+    pub(crate) most_holders: u64,
+}
+
+impl Tally {
+    ghost use Rattle.std.specs.Prelude.{◌≡◌};
+    ghost use Rattle.qn_replay.specs.Soak.{GrowsBy, IsWithin, nothing_tallied, tallied};
+
+    /// Nothing happened yet.
+    pub(crate) fn new() -> Tally
+        ensures { result ≡ nothing_tallied }
+    {
+        Tally {
+            boots: 0,
+            crashes: 0,
+            resets: 0,
+            starts: 0,
+            stops: 0,
+            most_holders: 0,
+        }
+    }
+
+    /// Adds an event and its report.
+    #[tactic(auto, unfolding(crate::specs::Soak::tallied))]
+    pub(crate) fn add(&mut self, event: &Event, report: &Report)
+        requires { IsWithin 8000000 self.old }
+        ensures tally { self.new ≡ tallied event.now report.now self.old }
+        ensures grows { GrowsBy 40 self.old self.new }
+    {
+        let outs = report.outs.as_slice();
+        self.boots += u64::from(is_boot(event));
+        self.crashes += u64::from(is_crash(event));
+        self.resets += count_resets(outs);
+        self.starts += count_starts(outs);
+        self.stops += count_stops(outs);
+        let holders = u64::from(report.holders.0.count_ones());
+        self.most_holders = self.most_holders.max(holders);
+    }
+}
+
+fn is_boot(event: &Event) -> bool
+    ensures { result ≡ is_boot event.now }
+{
+    matches!(event, Event::Boot(..))
+}
+
+fn is_crash(event: &Event) -> bool
+    ensures { result ≡ is_crash event.now }
+{
+    matches!(event, Event::Crash(_))
+}
+
+fn count_resets(outs: &[Out]) -> u64
+    ensures value { result ≡ count_by is_reset outs.now }
+    ensures few { result ≤ length outs.now }
+{
+    outs.iter()
+        .filter(|out| matches!(**out, Out::Disk(DiskOp::WriteReset(_))))
+        .count() as u64
+}
+
+fn count_starts(outs: &[Out]) -> u64
+    ensures value { result ≡ count_by is_start outs.now }
+    ensures few { result ≤ length outs.now }
+{
+    outs.iter()
+        .filter(|out| matches!(**out, Out::Start))
+        .count() as u64
+}
+
+fn count_stops(outs: &[Out]) -> u64
+    ensures value { result ≡ count_by is_stop outs.now }
+    ensures few { result ≤ length outs.now }
+{
+    outs.iter().filter(|out| matches!(**out, Out::Stop)).count() as u64
+}
