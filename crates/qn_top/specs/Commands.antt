@@ -1,5 +1,5 @@
 -- The words of the command line: this project's profile.
-use Rattle.std.specs.Prelude.{◌==◌, ℕ, ◌||◌, List, [], ◌∷◌, Option, Some, None, codes, IsTrue, length, nat_lt, not, option_map, if◌then◌else◌}
+use Rattle.std.specs.Prelude.{◌==◌, ◌≤◌, ℕ, ◌||◌, List, [], ◌∷◌, Option, Some, None, codes, IsTrue, length, nat_lt, not, option_map, if◌then◌else◌}
 use Rattle.std.specs.Option.{option_map_or}
 use Rattle.std.specs.Str.{bytes_eq}
 use Rattle.qn_base.specs.Decimal.{number_of}
@@ -78,6 +78,14 @@ unfoldable pub image_alone : List (List ℕ) → Option (List ℕ)
 image_alone options =
     if not (are_options (option.Image ∷ []) options) then None else value_of (option_text option.Image) options
 
+-- `soak`: two plain words
+unfoldable pub soak_of : List (List ℕ) → Option Command
+soak_of (seed ∷ events ∷ []) = do
+  first ← number_of seed
+  count ← number_in 1 200000 events
+  Some (command.Soak first count)
+soak_of words = None
+
 -- `create`
 unfoldable pub create_of : List (List ℕ) → Option Command
 create_of options =
@@ -102,10 +110,12 @@ abbrev pub command_named : List ℕ → List (List ℕ) → Option Command
 command_named name options =
     if bytes_eq name (codes "count") then (if are_options [] options then Some command.Count else None)
     else if bytes_eq name (codes "replay") then (if are_options [] options then Some command.Replay else None)
+    else if bytes_eq name (codes "soak") then soak_of options
     else if bytes_eq name (codes "create") then create_of options
     else if bytes_eq name (codes "dump") then option_map command.Dump (image_alone options)
     else if bytes_eq name (codes "list") then option_map command.List (image_alone options)
     else if bytes_eq name (codes "message") then message_of options
+    else if bytes_eq name (codes "help") then (if are_options [] options then Some command.Help else None)
     else None
 
 -- the command that the words are, where they are one
@@ -113,11 +123,13 @@ abbrev pub command_of : List (List ℕ) → Option Command
 command_of [] = None
 command_of (name ∷ options) = command_named name options
 
--- a message of the words is deadly
+-- a message of the words is deadly, and a soak has at most 200000 events
 abbrev pub IsProper : Command → Type 0
 IsProper command.Count = Unit {0}
 IsProper command.Replay = Unit {0}
+IsProper (command.Soak seed events) = events ≤ 200000
 IsProper (command.Create image timing) = Unit {0}
 IsProper (command.Dump image) = Unit {0}
 IsProper (command.List image) = Unit {0}
 IsProper (command.Message image id kind) = IsTrue (is_deadly kind)
+IsProper command.Help = Unit {0}

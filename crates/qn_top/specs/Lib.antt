@@ -7,6 +7,7 @@ pub mod ImageWorks
 pub mod Options
 pub mod Replaying
 pub mod Runs
+pub mod SoakRuns
 pub mod Statuses
 pub mod Works
 pub mod Writing

@@ -2,7 +2,7 @@ ghost use Rattle.std.specs.Prelude.{◌≡◌, ◌≤◌, ◌==◌, map, string_
 ghost use Rattle.std.specs.Option.{option_copied};
 ghost use Rattle.qn_model.specs.Sectors.{is_deadly};
 ghost use Rattle.qn_sched.specs.Words.{parts_left};
-ghost use Rattle.qn_top.specs.Commands.{IsProper, command_named, command_of, create_of, default_timing, id_of, image_alone, kind_of, message_of, next_time, number_in, timing_in, timing_of};
+ghost use Rattle.qn_top.specs.Commands.{IsProper, command_named, command_of, create_of, default_timing, id_of, image_alone, kind_of, message_of, next_time, number_in, soak_of, timing_in, timing_of};
 ghost use Rattle.qn_top.specs.Options.{value_of};
 
 use crate::options::{OptionName, Path, are_options, value_of};
@@ -17,6 +17,11 @@ pub enum Command<'words> {
     Count,
     /// `replay`: the trace of a schedule.
     Replay,
+    /// `soak SEED N`: what so many events, drawn from a seed, come to.
+    Soak {
+        seed: u64,
+        events: u64,
+    },
     /// `create --image P [--timing W,M,L,R,S]`: makes an image for the settings of the input.
     Create {
         image: Path<'words>,
@@ -36,6 +41,8 @@ pub enum Command<'words> {
         id: NodeId,
         kind: Message,
     },
+    /// `help`: the commands.
+    Help,
 }
 
 /// The times of an image where none are written, in milliseconds (sbd(8), and this project's profile).
@@ -67,6 +74,8 @@ fn command_named<'words>(name: &str, options: &'words [String]) -> Option<Comman
         are_options(&[], options).then_some(Command::Count)
     } else if name == "replay" {
         are_options(&[], options).then_some(Command::Replay)
+    } else if name == "soak" {
+        soak_of(options)
     } else if name == "create" {
         create_of(options)
     } else if name == "dump" {
@@ -77,8 +86,26 @@ fn command_named<'words>(name: &str, options: &'words [String]) -> Option<Comman
         Some(Command::List { image })
     } else if name == "message" {
         message_of(options)
+    } else if name == "help" {
+        are_options(&[], options).then_some(Command::Help)
     } else {
         None
+    }
+}
+
+/// `soak` with these words: any seed, and 1 to 200000 events.
+#[tactic(auto, unfolding(crate::specs::Commands::soak_of))]
+fn soak_of(words: &[String]) -> Option<Command<'_>>
+    ensures command { result ≡ soak_of (map string_bytes words.now) }
+    ensures proper { IfSome result IsProper }
+{
+    match words {
+        [seed, events] => {
+            let seed = read_decimal(seed.as_str().as_bytes())?;
+            let events = number_in(1, 200_000, events.as_str().as_bytes())?;
+            Some(Command::Soak { seed, events })
+        }
+        _ => None,
     }
 }
 

@@ -12,6 +12,7 @@ mod count;
 mod counter;
 mod creation;
 mod fault;
+mod helping;
 #[cfg(test)]
 mod image_tests;
 mod image_texts;
@@ -21,6 +22,7 @@ mod output;
 mod program;
 mod replaying;
 mod settings_text;
+mod soak_run;
 mod status;
 #[cfg(test)]
 mod tests;

@@ -10,6 +10,7 @@ ghost use Rattle.qn_top.specs.Commands.{command_of};
 ghost use Rattle.qn_top.specs.ImageWorks.{Creates, dump_work, input_settings, list_work, message_work, refusal};
 ghost use Rattle.qn_top.specs.Replaying.{RunsReplay, ShowsRun, replay_text};
 ghost use Rattle.qn_top.specs.Runs.{Answers, AnswersWhole, Completes, Runs};
+ghost use Rattle.qn_top.specs.SoakRuns.{RunsSoak, help_text};
 ghost use Rattle.qn_top.specs.Statuses.{code_of};
 ghost use Rattle.qn_top.specs.Works.{Works};
 ghost use Rattle.qn_top.specs.declared.fault.Fault.TheVariants.{UnsafeTiming};
@@ -18,14 +19,16 @@ use crate::command::{Command, command_of};
 use crate::count::count;
 use crate::creation::create;
 use crate::fault::Fault;
+use crate::helping::help;
 use crate::images::{dump, list, refuse, send};
 use crate::replaying::run_replay;
+use crate::soak_run::run_soak;
 use qn_io::{Env, Sink, Source};
 use std::alloc::Global;
 
 /// All that the program does: reads the words as a command, runs it on the input and on the outside of a node,
-/// writes to the output, and gives the exit status. Memory is taken by `replay`, and for the
-/// settings text of `create`.
+/// writes to the output, and gives the exit status. Memory is taken by `replay` and `soak`, and
+/// for the settings text of `create`.
 pub fn top<I: Source, O: Sink, E: Env>(
     alloc: Global,
     words: &[String],
@@ -69,6 +72,19 @@ pub fn top<I: Source, O: Sink, E: Env>(
 
     // Its lines are those of a run of the world, and each of them names one holder at most.
     ensures one_holder { command_of (map string_bytes words.now) ≡ Some Command.Replay → ShowsRun (O.written out.old) (O.written out.new) }
+
+    // `soak`: the defined summary of its events, or memory was wanted.
+    ensures soak_unread { (seed events : ℕ) → command_of (map string_bytes words.now) ≡ Some (Command.Soak seed events) → input.new ≡ input.old }
+    ensures soak_uncalled { (seed events : ℕ) → command_of (map string_bytes words.now) ≡ Some (Command.Soak seed events) → env.new ≡ env.old }
+    ensures soaked { (seed events : ℕ) → command_of (map string_bytes words.now) ≡ Some (Command.Soak seed events)
+        → RunsSoak seed events (O.written out.old) (O.written out.new) (HasRisen (O.faults out.old) (O.faults out.new)) result }
+
+    // `help`: the line of commands.
+    ensures help_unread { command_of (map string_bytes words.now) ≡ Some Command.Help → input.new ≡ input.old }
+    ensures help_uncalled { command_of (map string_bytes words.now) ≡ Some Command.Help → env.new ≡ env.old }
+    ensures helped { command_of (map string_bytes words.now) ≡ Some Command.Help
+        → Answers [] help_text 0 (O.written out.old) (O.written out.new) (HasRisen (O.faults out.old) (O.faults out.new)) result }
+    ensures help_complete { command_of (map string_bytes words.now) ≡ Some Command.Help → ¬ HasRisen (O.faults out.old) (O.faults out.new) → result ≡ 0 }
 
     // `create`: times that are not safe are refused before anything is read.
     ensures unsafe_unread { (image : List ℕ) (timing : Timing) → command_of (map string_bytes words.now) ≡ Some (Command.Create image timing) → is_safe timing ≡ false
@@ -116,6 +132,8 @@ pub fn top<I: Source, O: Sink, E: Env>(
         None => refuse(out, Fault::Usage).code(),
         Some(Command::Count) => count(input, out).code(),
         Some(Command::Replay) => run_replay(alloc, input, out).code(),
+        Some(Command::Soak { seed, events }) => run_soak(alloc, seed, events, out).code(),
+        Some(Command::Help) => help(out).code(),
         Some(Command::Create { image, timing }) => {
             create(alloc, image.as_str(), timing, input, out, env).code()
         }

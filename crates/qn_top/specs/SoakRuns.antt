@@ -1,0 +1,15 @@
+-- `soak` and `help`: this project's profile.
+use Rattle.std.specs.Prelude.{ℕ, List, [], Option, codes}
+use Rattle.qn_replay.specs.Soak.{soak_text}
+use Rattle.qn_top.specs.declared.fault.Fault.TheVariants.{NoMemory}
+use Rattle.qn_top.specs.Faults.{fault_line}
+use Rattle.qn_top.specs.Runs.{Answers}
+
+-- the commands
+abbrev pub help_text : List ℕ
+help_text = codes "commands count replay soak create dump list message help\n"
+
+-- the summary was written, or memory was wanted
+pub data RunsSoak (seed events : ℕ) (old new : Option (List ℕ)) (failed : Type 0) (status : ℕ) : Type 0 where
+  Soaked : Answers [] (soak_text seed events) 0 old new failed status → RunsSoak seed events old new failed status
+  Wanted : Answers [] (fault_line NoMemory) 11 old new failed status → RunsSoak seed events old new failed status
