@@ -129,9 +129,14 @@ fn heads_of_a_replay(rt: HostRuntime) -> Result<(), Fail> {
     for (lines, status, text) in [
         ("timing 5000 10000 1000 2000 1000\n", 0, "end 0\n"),
         (
-            "timing 5000 10000 1000 2000 1000\ntick 1\n",
+            "timing 5000 10000 1000 2000 1000\ntock 1\n",
             4,
             "fault BadSchedule line 8 UnknownWord\n",
+        ),
+        (
+            "timing 5000 10000 1000 2000 1000\ntick 1\n",
+            5,
+            "fault NotAllowed line 8 rule 3\n",
         ),
         (
             "timing 5000 8163 1000 2000 1000\n",
