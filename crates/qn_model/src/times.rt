@@ -13,17 +13,32 @@ pub struct Timing {
     pub feed_delay: u64,
 }
 
+impl Timing {
+    ghost use Rattle.std.specs.Prelude.{◌≡◌, ◌≤◌, IsTrue};
+    ghost use Rattle.qn_model.specs.Timing.{has_periods};
+
+    /// Whether each of the times is 1 to 3600000 milliseconds.
+    pub fn has_periods(&self) -> bool
+        ensures exact { result ≡ has_periods self.now }
+        ensures watchdog { IsTrue result → self.now.watchdog ≤ 3600000 }
+        ensures msgwait { IsTrue result → self.now.msgwait ≤ 3600000 }
+        ensures read_limit { IsTrue result → self.now.read_limit ≤ 3600000 }
+        ensures feed_delay { IsTrue result → self.now.feed_delay ≤ 3600000 }
+    {
+        is_period(self.watchdog)
+            && is_period(self.msgwait)
+            && is_period(self.loop_ms)
+            && is_period(self.read_limit)
+            && is_period(self.feed_delay)
+    }
+}
+
 /// Whether each time is 1 to 3600000 milliseconds, and a node that misses a reset written to its
 /// mailbox is down within msgwait, with clocks that may be one per cent off.
 pub fn timing_safe(timing: &Timing) -> bool
     ensures { result ≡ is_safe timing.now }
 {
-    is_period(timing.watchdog)
-        && is_period(timing.msgwait)
-        && is_period(timing.loop_ms)
-        && is_period(timing.read_limit)
-        && is_period(timing.feed_delay)
-        && outlasts_feeds(timing)
+    timing.has_periods() && outlasts_feeds(timing)
 }
 
 fn is_period(time: u64) -> bool

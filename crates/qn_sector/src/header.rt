@@ -1,6 +1,6 @@
 ghost use Rattle.std.specs.Prelude.{◌≡◌, ◌≤◌, ℕ, IsTrue, IfSome, IfNone};
 ghost use Rattle.qn_model.specs.Sectors.{header_bytes};
-ghost use Rattle.qn_model.specs.Timing.{has_periods, is_period};
+ghost use Rattle.qn_model.specs.Timing.{has_periods};
 ghost use Rattle.qn_model.specs.declared.times.Timing.{Timing};
 ghost use Rattle.qn_sector.specs.Reading.{header_of, is_header, timing_at, SpellsHeader};
 
@@ -77,17 +77,5 @@ fn is_header(nodes: u32, timing: &Timing) -> bool
     ensures few_nodes { IsTrue result → nodes ≤ 32 }
     ensures times { IsTrue result → IsTrue (has_periods timing.now) }
 {
-    nodes >= 1
-        && nodes <= 32
-        && is_period(timing.watchdog)
-        && is_period(timing.msgwait)
-        && is_period(timing.loop_ms)
-        && is_period(timing.read_limit)
-        && is_period(timing.feed_delay)
-}
-
-fn is_period(time: u64) -> bool
-    ensures { result ≡ is_period time }
-{
-    time >= 1 && time <= 3_600_000
+    nodes >= 1 && nodes <= 32 && timing.has_periods()
 }
