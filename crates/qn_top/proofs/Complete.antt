@@ -2,7 +2,7 @@
 use Rattle.std.proofs.Common.{◌≡◌, ◌⊎◌, inl, inr, ℕ, List, [], ◌++◌, Option, None, Some, Result, Ok, Err, IfOk, IfSome, sym, ap, ◌∙◌, subst, append_assoc, append-nil}
 use Rattle.std.specs.Io.KnownBytes.{append_known}
 use Rattle.qn_model.specs.Inputs.{Tells, Anyway, AtEnd, AtFailure}
-use Rattle.qn_model.specs.Lines.{Ending, Ended}
+use Rattle.qn_model.specs.Lines.{Ending, Ended, Outcome}
 use Rattle.qn_model.specs.declared.configuration.Settings.{Settings}
 use Rattle.qn_conf.specs.declared.faults.ConfFault.TheVariants as conf
 use Rattle.qn_top.specs.declared.fault.Fault.{Fault}
@@ -11,6 +11,9 @@ use Rattle.qn_top.specs.Faults.{status_of}
 use Rattle.qn_top.specs.ImageWorks.{IsWanted, Judges, input_settings}
 use Rattle.qn_top.specs.Replaying.{ReplayEnds, RunsReplay, Told, Wanted, replay_text}
 use Rattle.qn_top.specs.Runs.{Answers, AnswersWhole, Cut, EndsAs, Whole, WroteAll, WroteFront}
+use Rattle.qn_top.specs.SoakRuns.{RunsSoak, Soaked, Wanted as SoakWanted, soak_outcome}
+use Rattle.qn_top.specs.StatusRuns.{RunsStatus, StatusEnds, Told as StatusTold, Wanted as StatusWanted, status_answer}
+use Rattle.qn_top.specs.declared.command.Form.{Form}
 
 -- what the bytes that were taken tell holds of all that was there, where no read failed
 tells_all : {A : Type 0} (answer_of : Ending → List ℕ → A) (taken rest bytes : List ℕ) {at_end failed : Type 0} (answer : A)
@@ -21,16 +24,16 @@ tells_all answer_of taken rest bytes answer parts nothing_left no_failure (AtEnd
     ap (answer_of Ended) (parts ∙ ap (λ r. taken ++ r) (nothing_left ended) ∙ append-nil taken) ∙ same
 tells_all answer_of taken rest bytes answer parts nothing_left no_failure (AtFailure fails same) = absurd (no_failure fails)
 
-ends_complete : {taken waiting rest bytes : List ℕ} {failed write_failed : Type 0} {old new : Option (List ℕ)} {status : ℕ}
+ends_complete : (text_of : Ending → List ℕ → Outcome) {taken waiting rest bytes : List ℕ} {failed write_failed : Type 0} {old new : Option (List ℕ)} {status : ℕ}
     → bytes ≡ (taken ++ waiting) ++ rest → (failed → ⊥) → (write_failed → ⊥)
-    → EndsAs replay_text taken [] ((waiting ≡ []) × (rest ≡ [])) ((waiting ≡ []) × failed) old new write_failed status
-    → AnswersWhole (replay_text Ended bytes) old new status
-ends_complete {taken} {waiting} {rest} {bytes} {old} parts no_failure no_write_failure (WroteAll outcome tells is whole) =
-    let same : replay_text Ended bytes ≡ outcome =
-    tells_all replay_text taken (waiting ++ rest) bytes outcome (parts ∙ append_assoc taken waiting rest)
+    → EndsAs text_of taken [] ((waiting ≡ []) × (rest ≡ [])) ((waiting ≡ []) × failed) old new write_failed status
+    → AnswersWhole (text_of Ended bytes) old new status
+ends_complete text_of {taken} {waiting} {rest} {bytes} {old} parts no_failure no_write_failure (WroteAll outcome tells is whole) =
+    let same : text_of Ended bytes ≡ outcome =
+    tells_all text_of taken (waiting ++ rest) bytes outcome (parts ∙ append_assoc taken waiting rest)
     (λ ended. ap (λ w. w ++ rest) ended.0 ∙ ended.1) (λ fails. no_failure fails.1) tells in
     (is ∙ ap (λ o. o.status) (sym same), whole ∙ ap (λ o. append_known old o.text) (sym same))
-ends_complete parts no_failure no_write_failure (WroteFront text tells is fails front) = absurd (no_write_failure fails)
+ends_complete text_of parts no_failure no_write_failure (WroteFront text tells is fails front) = absurd (no_write_failure fails)
 
 wanted_status : {text : List ℕ} {old new : Option (List ℕ)} {write_failed : Type 0} {status : ℕ}
     → Answers [] text 11 old new write_failed status → (write_failed → ⊥) → status ≡ 11
@@ -41,7 +44,7 @@ replay_whole : {taken waiting rest bytes : List ℕ} {failed write_failed : Type
     → bytes ≡ (taken ++ waiting) ++ rest → (status ≡ 11 → ⊥) → (failed → ⊥) → (write_failed → ⊥)
     → ReplayEnds taken ((waiting ≡ []) × (rest ≡ [])) ((waiting ≡ []) × failed) old new write_failed status
     → AnswersWhole (replay_text Ended bytes) old new status
-replay_whole parts memory no_failure no_write_failure (Told ends) = ends_complete parts no_failure no_write_failure ends
+replay_whole parts memory no_failure no_write_failure (Told ends) = ends_complete replay_text parts no_failure no_write_failure ends
 replay_whole parts memory no_failure no_write_failure (Wanted trace middle tells whole why answers) =
     absurd (memory (wanted_status answers no_write_failure))
 
@@ -55,6 +58,32 @@ replay_complete (Some bytes) (Some rest) old new failed write_failed status run 
     let takes = run.takes in
     let parts : bytes ≡ (run.taken ++ run.waiting) ++ rest = cc in
     replay_whole parts memory no_failure no_write_failure run.ends
+
+status_whole : {form : Form} {taken waiting rest bytes : List ℕ} {failed write_failed : Type 0} {old new : Option (List ℕ)} {status : ℕ}
+    → bytes ≡ (taken ++ waiting) ++ rest → (status ≡ 11 → ⊥) → (failed → ⊥) → (write_failed → ⊥)
+    → StatusEnds form taken ((waiting ≡ []) × (rest ≡ [])) ((waiting ≡ []) × failed) old new write_failed status
+    → AnswersWhole (status_answer form Ended bytes) old new status
+status_whole {form} parts memory no_failure no_write_failure (StatusTold ends) =
+    ends_complete (status_answer form) parts no_failure no_write_failure ends
+status_whole parts memory no_failure no_write_failure (StatusWanted answers) = absurd (memory (wanted_status answers no_write_failure))
+
+-- the whole text of a status
+pub status_complete : (form : Form) (left_old left_new old new : Option (List ℕ)) (failed write_failed : Type 0) (status : ℕ)
+    → RunsStatus form left_old left_new failed old new write_failed status → (status ≡ 11 → ⊥) → (failed → ⊥) → (write_failed → ⊥)
+    → IfSome left_old (λ bytes. AnswersWhole (status_answer form Ended bytes) old new status)
+status_complete form None left_new old new failed write_failed status run memory no_failure no_write_failure = tt
+status_complete form (Some bytes) None old new failed write_failed status run memory no_failure no_write_failure = let never = run.takes in cc
+status_complete form (Some bytes) (Some rest) old new failed write_failed status run memory no_failure no_write_failure =
+    let takes = run.takes in
+    let parts : bytes ≡ (run.taken ++ run.waiting) ++ rest = cc in
+    status_whole parts memory no_failure no_write_failure run.ends
+
+-- the whole text of a soak
+pub soak_complete : (seed events : ℕ) (old new : Option (List ℕ)) (write_failed : Type 0) (status : ℕ)
+    → RunsSoak seed events old new write_failed status → (status ≡ 11 → ⊥) → (write_failed → ⊥) → AnswersWhole (soak_outcome seed events) old new status
+soak_complete seed events old new write_failed status (Soaked (Whole is whole)) memory no_write_failure = (is, whole)
+soak_complete seed events old new write_failed status (Soaked (Cut is fails front)) memory no_write_failure = absurd (no_write_failure fails)
+soak_complete seed events old new write_failed status (SoakWanted answers) memory no_write_failure = absurd (memory (wanted_status answers no_write_failure))
 
 -- good settings of all that was there, and a fact whatever they are
 if_ok_always : {A E : Type 0} {P : Type 0} (result : Result A E) → P → IfOk result (λ value. P)

@@ -8,5 +8,6 @@ mod ReadTexts
 mod Replayed
 mod RunEnds
 mod Shown
+mod Stated
 mod Turned
 mod Working

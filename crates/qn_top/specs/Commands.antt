@@ -11,6 +11,8 @@ use Rattle.qn_model.specs.Lines.{parts}
 use Rattle.qn_model.specs.Sectors.{is_deadly}
 use Rattle.qn_top.specs.declared.command.Command.{Command}
 use Rattle.qn_top.specs.declared.command.Command.TheVariants as command
+use Rattle.qn_top.specs.declared.command.Form.{Form}
+use Rattle.qn_top.specs.declared.command.Form.TheVariants as form
 use Rattle.qn_top.specs.declared.options.OptionName.TheVariants as option
 use Rattle.qn_top.specs.Options.{are_options, option_text, value_of}
 
@@ -78,6 +80,19 @@ unfoldable pub image_alone : List (List ℕ) → Option (List ℕ)
 image_alone options =
     if not (are_options (option.Image ∷ []) options) then None else value_of (option_text option.Image) options
 
+-- the forms of a status
+abbrev pub form_named : List ℕ → Option Form
+form_named word =
+    if bytes_eq word (codes "text") then Some form.Text
+    else if bytes_eq word (codes "json") then Some form.Json
+    else None
+
+-- the form, which is the only option; text where none is written
+unfoldable pub form_of : List (List ℕ) → Option Form
+form_of options =
+    if not (are_options (option.Form ∷ []) options) then None
+    else option_map_or form_named (value_of (option_text option.Form) options) (Some form.Text)
+
 -- `soak`: two plain words
 unfoldable pub soak_of : List (List ℕ) → Option Command
 soak_of (seed ∷ events ∷ []) = do
@@ -110,6 +125,7 @@ abbrev pub command_named : List ℕ → List (List ℕ) → Option Command
 command_named name options =
     if bytes_eq name (codes "count") then (if are_options [] options then Some command.Count else None)
     else if bytes_eq name (codes "replay") then (if are_options [] options then Some command.Replay else None)
+    else if bytes_eq name (codes "status") then option_map command.Status (form_of options)
     else if bytes_eq name (codes "soak") then soak_of options
     else if bytes_eq name (codes "create") then create_of options
     else if bytes_eq name (codes "dump") then option_map command.Dump (image_alone options)
@@ -127,6 +143,7 @@ command_of (name ∷ options) = command_named name options
 abbrev pub IsProper : Command → Type 0
 IsProper command.Count = Unit {0}
 IsProper command.Replay = Unit {0}
+IsProper (command.Status form) = Unit {0}
 IsProper (command.Soak seed events) = events ≤ 200000
 IsProper (command.Create image timing) = Unit {0}
 IsProper (command.Dump image) = Unit {0}

@@ -8,6 +8,7 @@ pub mod Options
 pub mod Replaying
 pub mod Runs
 pub mod SoakRuns
+pub mod StatusRuns
 pub mod Statuses
 pub mod Works
 pub mod Writing

@@ -2,7 +2,7 @@ ghost use Rattle.std.specs.Prelude.{◌≡◌, ◌≤◌, ◌==◌, map, string_
 ghost use Rattle.std.specs.Option.{option_copied};
 ghost use Rattle.qn_model.specs.Sectors.{is_deadly};
 ghost use Rattle.qn_sched.specs.Words.{parts_left};
-ghost use Rattle.qn_top.specs.Commands.{IsProper, command_named, command_of, create_of, default_timing, id_of, image_alone, kind_of, message_of, next_time, number_in, soak_of, timing_in, timing_of};
+ghost use Rattle.qn_top.specs.Commands.{IsProper, command_named, command_of, create_of, default_timing, form_named, form_of, id_of, image_alone, kind_of, message_of, next_time, number_in, soak_of, timing_in, timing_of};
 ghost use Rattle.qn_top.specs.Options.{value_of};
 
 use crate::options::{OptionName, Path, are_options, value_of};
@@ -17,6 +17,10 @@ pub enum Command<'words> {
     Count,
     /// `replay`: the trace of a schedule.
     Replay,
+    /// `status [--form FORM]`: the status of each node behind a schedule.
+    Status {
+        form: Form,
+    },
     /// `soak SEED N`: what so many events, drawn from a seed, come to.
     Soak {
         seed: u64,
@@ -43,6 +47,15 @@ pub enum Command<'words> {
     },
     /// `help`: the commands.
     Help,
+}
+
+/// The form of a status.
+#[derive(Clone, Copy, PartialEq, Eq, Debug)]
+pub enum Form {
+    /// A line for each node.
+    Text,
+    /// One line of JSON (RFC 8259): an array with an object for each node.
+    Json,
 }
 
 /// The times of an image where none are written, in milliseconds (sbd(8), and this project's profile).
@@ -74,6 +87,9 @@ fn command_named<'words>(name: &str, options: &'words [String]) -> Option<Comman
         are_options(&[], options).then_some(Command::Count)
     } else if name == "replay" {
         are_options(&[], options).then_some(Command::Replay)
+    } else if name == "status" {
+        let form = form_of(options)?;
+        Some(Command::Status { form })
     } else if name == "soak" {
         soak_of(options)
     } else if name == "create" {
@@ -88,6 +104,33 @@ fn command_named<'words>(name: &str, options: &'words [String]) -> Option<Comman
         message_of(options)
     } else if name == "help" {
         are_options(&[], options).then_some(Command::Help)
+    } else {
+        None
+    }
+}
+
+/// The form, which is the only option; text where none is written.
+#[tactic(auto, unfolding(crate::specs::Commands::form_of))]
+fn form_of(options: &[String]) -> Option<Form>
+    ensures { result ≡ form_of (map string_bytes options.now) }
+{
+    if !are_options(&[OptionName::Form], options) {
+        return None;
+    }
+    match value_of(options, OptionName::Form) {
+        None => Some(Form::Text),
+        Some(word) => form_named(word.as_str()),
+    }
+}
+
+/// The form of this name.
+fn form_named(word: &str) -> Option<Form>
+    ensures { result ≡ form_named word.now }
+{
+    if word == "text" {
+        Some(Form::Text)
+    } else if word == "json" {
+        Some(Form::Json)
     } else {
         None
     }

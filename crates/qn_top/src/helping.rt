@@ -17,6 +17,6 @@ pub(crate) fn help<O: Sink>(out: &mut O) -> Status
     ensures sink_faults { O.faults out.old ≤ O.faults out.new }
 {
     let mut text = TextLine::new();
-    text.add(b"commands count replay soak create dump list message help\n");
+    text.add(b"commands count replay status soak create dump list message help\n");
     say(out, &text)
 }

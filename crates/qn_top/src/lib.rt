@@ -4,7 +4,7 @@
 // definition gives for the words, the bytes read and the answers of the calls. Status 2 comes exactly for words
 // that are no command; 6, 7 and 8 only where the count of faults of the source, the sink or the outside rose,
 // and at 7 a front of the text was written. `create` takes memory for its settings text, and
-// `replay` for that and for its world. Input is read in pieces of at most 4096 bytes.
+// `replay`, `status` and `soak` for that and for their worlds. Input is read in pieces of at most 4096 bytes.
 #![tactic(auto)]
 
 mod command;
@@ -24,11 +24,12 @@ mod replaying;
 mod settings_text;
 mod soak_run;
 mod status;
+mod status_run;
 #[cfg(test)]
 mod tests;
 mod text_line;
 
-pub use command::{Command, command_of};
+pub use command::{Command, Form, command_of};
 pub use fault::Fault;
 pub use options::Path;
 pub use program::top;

@@ -41,6 +41,7 @@ pub(crate) enum OptionName {
     Timing,
     Id,
     Kind,
+    Form,
 }
 
 impl OptionName {
@@ -52,6 +53,7 @@ impl OptionName {
             OptionName::Timing => "--timing",
             OptionName::Id => "--id",
             OptionName::Kind => "--kind",
+            OptionName::Form => "--form",
         }
     }
 }

@@ -6,13 +6,16 @@ ghost use Rattle.qn_model.specs.declared.times.Timing.{Timing};
 ghost use Rattle.qn_model.specs.CountText.{count_of};
 ghost use Rattle.qn_model.specs.Lines.{Ended};
 ghost use Rattle.qn_model.specs.Timing.{is_safe};
+ghost use Rattle.qn_replay.specs.Soak.{soaked};
 ghost use Rattle.qn_top.specs.Commands.{command_of};
 ghost use Rattle.qn_top.specs.ImageWorks.{Creates, dump_work, input_settings, list_work, message_work, refusal};
 ghost use Rattle.qn_top.specs.Replaying.{RunsReplay, ShowsRun, replay_text};
 ghost use Rattle.qn_top.specs.Runs.{Answers, AnswersWhole, Completes, Runs};
-ghost use Rattle.qn_top.specs.SoakRuns.{RunsSoak, help_text};
+ghost use Rattle.qn_top.specs.SoakRuns.{RunsSoak, help_text, soak_outcome};
+ghost use Rattle.qn_top.specs.StatusRuns.{RunsStatus, status_answer};
 ghost use Rattle.qn_top.specs.Statuses.{code_of};
 ghost use Rattle.qn_top.specs.Works.{Works};
+ghost use Rattle.qn_top.specs.declared.command.Form.{Form};
 ghost use Rattle.qn_top.specs.declared.fault.Fault.TheVariants.{UnsafeTiming};
 
 use crate::command::{Command, command_of};
@@ -23,12 +26,13 @@ use crate::helping::help;
 use crate::images::{dump, list, refuse, send};
 use crate::replaying::run_replay;
 use crate::soak_run::run_soak;
+use crate::status_run::run_status;
 use qn_io::{Env, Sink, Source};
 use std::alloc::Global;
 
 /// All that the program does: reads the words as a command, runs it on the input and on the outside of a node,
-/// writes to the output, and gives the exit status. Memory is taken by `replay` and `soak`, and
-/// for the settings text of `create`.
+/// writes to the output, and gives the exit status. Memory is taken by `replay`, `status` and
+/// `soak`, and for the settings text of `create`.
 pub fn top<I: Source, O: Sink, E: Env>(
     alloc: Global,
     words: &[String],
@@ -73,11 +77,26 @@ pub fn top<I: Source, O: Sink, E: Env>(
     // Its lines are those of a run of the world, and each of them names one holder at most.
     ensures one_holder { command_of (map string_bytes words.now) ≡ Some Command.Replay → ShowsRun (O.written out.old) (O.written out.new) }
 
-    // `soak`: the defined summary of its events, or memory was wanted.
+    // `status`: the status of the world behind the schedule, or the fault line alone; or memory was wanted.
+    ensures status_uncalled { (form : Form) → command_of (map string_bytes words.now) ≡ Some (Command.Status form) → env.new ≡ env.old }
+    ensures stated { (form : Form) → command_of (map string_bytes words.now) ≡ Some (Command.Status form)
+        → RunsStatus form (I.left input.old) (I.left input.new) (HasRisen (I.faults input.old) (I.faults input.new))
+        (O.written out.old) (O.written out.new) (HasRisen (O.faults out.old) (O.faults out.new)) result }
+    ensures status_complete { (form : Form) → command_of (map string_bytes words.now) ≡ Some (Command.Status form) → result ≢ 11
+        → ¬ HasRisen (I.faults input.old) (I.faults input.new) → ¬ HasRisen (O.faults out.old) (O.faults out.new)
+        → IfSome (I.left input.old) (λ bytes. AnswersWhole (status_answer form Ended bytes) (O.written out.old) (O.written out.new) result) }
+
+    // `soak`: the defined summary of its events, or memory was wanted. After none of them more than one node holds.
     ensures soak_unread { (seed events : ℕ) → command_of (map string_bytes words.now) ≡ Some (Command.Soak seed events) → input.new ≡ input.old }
     ensures soak_uncalled { (seed events : ℕ) → command_of (map string_bytes words.now) ≡ Some (Command.Soak seed events) → env.new ≡ env.old }
     ensures soaked { (seed events : ℕ) → command_of (map string_bytes words.now) ≡ Some (Command.Soak seed events)
         → RunsSoak seed events (O.written out.old) (O.written out.new) (HasRisen (O.faults out.old) (O.faults out.new)) result }
+
+    ensures soak_complete { (seed events : ℕ) → command_of (map string_bytes words.now) ≡ Some (Command.Soak seed events) → result ≢ 11
+        → ¬ HasRisen (O.faults out.old) (O.faults out.new)
+        → AnswersWhole (soak_outcome seed events) (O.written out.old) (O.written out.new) result }
+    ensures soak_one_holder { (seed events : ℕ) → command_of (map string_bytes words.now) ≡ Some (Command.Soak seed events) → result ≡ 0
+        → (soaked seed events).tally.most_holders ≤ 1 }
 
     // `help`: the line of commands.
     ensures help_unread { command_of (map string_bytes words.now) ≡ Some Command.Help → input.new ≡ input.old }
@@ -132,6 +151,7 @@ pub fn top<I: Source, O: Sink, E: Env>(
         None => refuse(out, Fault::Usage).code(),
         Some(Command::Count) => count(input, out).code(),
         Some(Command::Replay) => run_replay(alloc, input, out).code(),
+        Some(Command::Status { form }) => run_status(alloc, form, input, out).code(),
         Some(Command::Soak { seed, events }) => run_soak(alloc, seed, events, out).code(),
         Some(Command::Help) => help(out).code(),
         Some(Command::Create { image, timing }) => {

@@ -36,7 +36,7 @@ pub(crate) fn run_replay<I: Source, O: Sink>(alloc: Global, input: &mut I, out: 
 }
 
 /// Writes the last line of a replay.
-fn finish_replay<O: Sink>(out: &mut O, end: ReplayEnd) -> Status
+pub(crate) fn finish_replay<O: Sink>(out: &mut O, end: ReplayEnd) -> Status
     requires { end ≢ ReplayEnd.WriteFault }
     ensures answers { Answers [] (end_outcome end).text (end_outcome end).status (O.written out.old) (O.written out.new)
         (HasRisen (O.faults out.old) (O.faults out.new)) (code_of result) }

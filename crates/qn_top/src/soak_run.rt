@@ -1,6 +1,8 @@
 ghost use Rattle.std.specs.Prelude.{◌≡◌, ◌≢◌, ◌≤◌, []};
 ghost use Rattle.qn_io.specs.Outside.{HasRisen};
-ghost use Rattle.qn_top.specs.SoakRuns.{RunsSoak};
+ghost use Rattle.qn_replay.specs.Soak.{soaked};
+ghost use Rattle.qn_top.specs.Runs.{AnswersWhole};
+ghost use Rattle.qn_top.specs.SoakRuns.{RunsSoak, soak_outcome};
 ghost use Rattle.qn_top.specs.Statuses.{code_of};
 
 use crate::fault::Fault;
@@ -15,6 +17,9 @@ use std::alloc::Global;
 pub(crate) fn run_soak<O: Sink>(alloc: Global, seed: u64, events: u64, out: &mut O) -> Status
     requires { events ≤ 200000 }
     ensures soaks { RunsSoak seed events (O.written out.old) (O.written out.new) (HasRisen (O.faults out.old) (O.faults out.new)) (code_of result) }
+    ensures complete { code_of result ≢ 11 → ¬ HasRisen (O.faults out.old) (O.faults out.new)
+        → AnswersWhole (soak_outcome seed events) (O.written out.old) (O.written out.new) (code_of result) }
+    ensures one_holder { code_of result ≡ 0 → (soaked seed events).tally.most_holders ≤ 1 }
     ensures no_usage { code_of result ≢ 2 }
     ensures no_read_fault { code_of result ≢ 6 }
     ensures no_env_fault { code_of result ≢ 8 }

@@ -4,7 +4,7 @@ use std::alloc::AllocError;
 use std::test::Fail;
 
 /// Words that are no command.
-const WRONG_WORDS: [&str; 18] = [
+const WRONG_WORDS: [&str; 20] = [
     "",
     "count x",
     "counts",
@@ -23,6 +23,8 @@ const WRONG_WORDS: [&str; 18] = [
     "message --image d --id 0 --kind off",
     "message --image d --id 4294967296 --kind off",
     "message --image d --id 1 --kind test",
+    "status text",
+    "status --form text --form text",
 ];
 
 /// The worked input of half and majority counts.
@@ -154,5 +156,34 @@ fn heads_of_a_replay(rt: HostRuntime) -> Result<(), Fail> {
     let (ended, written) = run(&rt, "replay", HEAD.as_bytes(), 7, &[3], 1000)?;
     assert_eq!(rt; written.as_slice(), b"fault ReadFault\n".as_slice());
     assert_eq!(rt; ended, 6);
+    Ok(())
+}
+
+/// A node that boots, is up, and starts the resource in a view of its own.
+const STARTS: &str =
+    "timing 5000 10000 1000 2000 1000\nboot 1 0\nland 1\ndone 1\nland 1\ndone 1\nland 1\ndone 1\nland 1\ndone 1\nview 1 1 1\n";
+
+/// Its status as JSON.
+const HOLDING: &str =
+    "[{\"expected\":1,\"holds\":true,\"id\":1,\"phase\":\"up\",\"quorate\":true,\"quorum\":1,\"released\":true,\"votes\":1,\"why\":\"holding\"}]\n";
+
+#[test]
+fn status_as_json(rt: HostRuntime) -> Result<(), Fail> {
+    for (words, lines, status, text) in [
+        ("status --form json", STARTS, 0, HOLDING),
+        (
+            "status",
+            "timing 5000 10000 1000 2000 1000\ntick 1\n",
+            5,
+            "fault NotAllowed line 8 rule 3\n",
+        ),
+        ("status --form xml", STARTS, 2, "fault Usage\n"),
+    ] {
+        let mut input = String::from_str(rt.alloc(), HEAD)?;
+        input.push_str(lines)?;
+        let (ended, written) = run(&rt, words, input.as_bytes(), 4096, &[], 1000)?;
+        assert_eq!(rt; written.as_slice(), text.as_bytes(), "for {words}");
+        assert_eq!(rt; ended, status, "for {words}");
+    }
     Ok(())
 }

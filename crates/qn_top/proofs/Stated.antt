@@ -1,0 +1,129 @@
+-- The last world of a schedule or its fault, and what `status` writes of it.
+use Rattle.std.proofs.Common.{◌≡◌, ◌⊎◌, inl, inr, ℕ, List, [], ◌++◌, Option, Result, Ok, Err, Some, refl, sym, ap, ◌∙◌, subst, append-nil}
+use Rattle.std.specs.Io.KnownBytes.{append_known}
+use Rattle.qn_io.specs.Writes.{AppendsFront}
+use Rattle.qn_model.specs.Inputs.{BeginsWith, Tells, Anyway, AtEnd, AtFailure}
+use Rattle.qn_model.specs.Lines.{Ended, ReadFailed, Outcome}
+use Rattle.qn_model.specs.World.{World}
+use Rattle.qn_replay.specs.Endings.{EndFits, ReplayFits}
+use Rattle.qn_replay.specs.Replay.{Progress, Replayed, replay_of}
+use Rattle.qn_replay.specs.Runs.{GivesWorld, IsFault, IsLast, Reaches}
+use Rattle.qn_sched.specs.declared.replay_end.ReplayEnd.{ReplayEnd}
+use Rattle.qn_sched.specs.declared.replay_end.ReplayEnd.TheVariants as end
+use Rattle.qn_world.specs.Standing.{WorldFor}
+use Rattle.qn_world.specs.Whole.{Whole as WorldKept}
+use Rattle.qn_top.specs.declared.command.Form.{Form}
+use Rattle.qn_top.specs.Replaying.{end_outcome}
+use Rattle.qn_top.specs.Runs.{Answers, Whole, Cut, EndsAs, WroteAll, WroteFront}
+use Rattle.qn_top.specs.StatusRuns.{RunsStatus, StatesWorld, Stated, Unstated, StatusEnds, Told, Wanted, status_answer, status_behind, status_in}
+
+-- an answer that the bytes tell of was written, or a front of it
+answered : {form : Form} {taken : List ℕ} {at_end failed write_failed : Type 0} {old new : Option (List ℕ)} {status : ℕ} (outcome : Outcome)
+    → Tells (status_answer form) taken at_end failed (λ o. o ≡ outcome) → Tells (status_answer form) taken at_end failed (λ o. BeginsWith o.text outcome.text)
+    → Answers [] outcome.text outcome.status old new write_failed status → StatusEnds form taken at_end failed old new write_failed status
+answered outcome tells begins (Whole is whole) = Told (WroteAll outcome tells is whole)
+answered outcome tells begins (Cut is fails front) = Told (WroteFront outcome.text begins is fails front)
+
+begins_same : (o outcome : Outcome) → o ≡ outcome → BeginsWith o.text outcome.text
+begins_same o outcome same = ([], ap (λ a. a.text) same ∙ sym (append-nil outcome.text))
+
+-- a schedule whose input could not be read to its end has no last world
+not_unread : (answer : Replayed) (world : WorldKept) → IsLast answer world → EndFits answer.end ReadFailed → ⊥
+not_unread answer world last fits = subst (λ (e : ReplayEnd). EndFits e ReadFailed) last.ends fits
+
+-- the answer for a last world
+world_answer : (form : Form) (taken : List ℕ) (world : WorldKept) (last : IsLast (replay_of Ended taken) world)
+    → status_answer form Ended taken ≡ record { text = status_in form world.settings last.so_far.world; status = 0 }
+world_answer form taken world last =
+    ap (λ (e : ReplayEnd). status_behind form e (replay_of Ended taken).last) last.ends
+    ∙ ap (λ (l : Option Progress). status_behind form (end.Done last.events) l) last.last
+    ∙ ap (λ s. record { text = status_in form s last.so_far.world; status = 0 }) (sym last.settings)
+
+-- a fault is answered by its line alone
+fault_alone : (form : Form) (ended : ReplayEnd) (last : Option Progress) → IsFault ended → status_behind form ended last ≡ end_outcome ended
+fault_alone form (end.Done events) last never = absurd never
+fault_alone form (end.BadConf fault) last is = refl
+fault_alone form (end.BadSettings fault) last is = refl
+fault_alone form (end.BadSchedule line fault) last is = refl
+fault_alone form (end.NotAllowed line rule) last is = refl
+fault_alone form end.ReadFault last is = refl
+fault_alone form end.WriteFault last never = absurd never
+fault_alone form (end.UnsafeTiming timing) last is = refl
+fault_alone form end.NoMemory last is = refl
+
+same_fault : (form : Form) (ended : ReplayEnd) (answer : Replayed) → GivesWorld (Err ended) answer
+    → status_behind form answer.end answer.last ≡ end_outcome ended
+same_fault form ended answer gives =
+    ap (λ (e : ReplayEnd). status_behind form e answer.last) gives.0 ∙ fault_alone form ended answer.last gives.1
+
+tells_fault : {taken : List ℕ} {at_end failed : Type 0} (form : Form) (ended : ReplayEnd) (Q : Outcome → Type 0) → ((o : Outcome) → o ≡ end_outcome ended → Q o)
+    → Tells replay_of taken at_end failed (GivesWorld (Err ended)) → Tells (status_answer form) taken at_end failed Q
+tells_fault {taken} form ended Q weaker (Anyway always) = Anyway (λ ending more. weaker (status_answer form ending (taken ++ more)) (same_fault form ended (replay_of ending (taken ++ more)) (always ending more)))
+tells_fault {taken} form ended Q weaker (AtEnd at holds) = AtEnd at (weaker (status_answer form Ended taken) (same_fault form ended (replay_of Ended taken) holds))
+tells_fault {taken} form ended Q weaker (AtFailure fails holds) = AtFailure fails (weaker (status_answer form ReadFailed taken) (same_fault form ended (replay_of ReadFailed taken) holds))
+
+-- memory was wanted
+abbrev WantedMemory : Result WorldKept ReplayEnd → Type 0
+WantedMemory result = result ≡ Err end.NoMemory
+
+module _ {taken : List ℕ} {at_end failed write_failed : Type 0} {old new : Option (List ℕ)} {status : ℕ} where
+  stated : (form : Form) (world : WorldKept) → at_end → (last : IsLast (replay_of Ended taken) world)
+      → StatesWorld form world.settings last.so_far.world old new write_failed status → StatusEnds form taken at_end failed old new write_failed status
+  stated form world ended last (Stated answers) =
+      answered (record { text = status_in form world.settings last.so_far.world; status = 0 })
+      (AtEnd ended (world_answer form taken world last))
+      (AtEnd ended (begins_same (status_answer form Ended taken) (record { text = status_in form world.settings last.so_far.world; status = 0 }) (world_answer form taken world last)))
+      answers
+  stated form world ended last (Unstated answers) = Wanted answers
+
+  told_world : (form : Form) (world : WorldKept) → ReplayFits → Tells replay_of taken at_end failed (λ answer. IsLast answer world)
+      → ((d : World) → WorldFor world d → StatesWorld form world.settings d old new write_failed status)
+      → StatusEnds form taken at_end failed old new write_failed status
+  told_world form world fits (Anyway always) states =
+      absurd (not_unread (replay_of ReadFailed (taken ++ [])) world (always ReadFailed []) (fits ReadFailed (taken ++ [])))
+  told_world form world fits (AtEnd ended last) states = stated form world ended last (states last.so_far.world last.stands)
+  told_world form world fits (AtFailure fails last) states =
+      absurd (not_unread (replay_of ReadFailed taken) world last (fits ReadFailed taken))
+
+  reached_world : (form : Form) (world : WorldKept) → ReplayFits
+      → WantedMemory (Ok world) ⊎ Tells replay_of taken at_end failed (GivesWorld (Ok world))
+      → ((d : World) → WorldFor world d → StatesWorld form world.settings d old new write_failed status)
+      → StatusEnds form taken at_end failed old new write_failed status
+  reached_world form world fits (inl never) states = cc
+  reached_world form world fits (inr tells) states = told_world form world fits tells states
+
+  reached_fault : (form : Form) (ended : ReplayEnd)
+      → WantedMemory (Err ended) ⊎ Tells replay_of taken at_end failed (GivesWorld (Err ended))
+      → Answers [] (end_outcome ended).text (end_outcome ended).status old new write_failed status
+      → StatusEnds form taken at_end failed old new write_failed status
+  reached_fault form ended (inl memory) answers =
+      let same : ended ≡ end.NoMemory = cc in
+      Wanted (subst (λ (e : ReplayEnd). Answers [] (end_outcome e).text (end_outcome e).status old new write_failed status) same answers)
+  reached_fault form ended (inr tells) answers =
+      answered (end_outcome ended)
+      (tells_fault form ended (λ o. o ≡ end_outcome ended) (λ o same. same) tells)
+      (tells_fault form ended (λ o. BeginsWith o.text (end_outcome ended).text) (λ o same. begins_same o (end_outcome ended) same) tells)
+      answers
+
+module _ {left_old left_new old new : Option (List ℕ)} {failed write_failed : Type 0} {status : ℕ} where
+  -- the status of a last world
+  pub world_stated : (form : Form) (world : WorldKept) → ReplayFits → Reaches left_old left_new failed (Ok world)
+      → ((d : World) → WorldFor world d → StatesWorld form world.settings d old new write_failed status)
+      → RunsStatus form left_old left_new failed old new write_failed status
+  world_stated form world fits reaches states = record {
+    taken = reaches.taken;
+    waiting = reaches.waiting;
+    takes = reaches.takes;
+    ends = reached_world form world fits reaches.ends states;
+  }
+
+  -- the line of a fault
+  pub fault_stated : (form : Form) (ended : ReplayEnd) → Reaches left_old left_new failed (Err ended)
+      → Answers [] (end_outcome ended).text (end_outcome ended).status old new write_failed status
+      → RunsStatus form left_old left_new failed old new write_failed status
+  fault_stated form ended reaches answers = record {
+    taken = reaches.taken;
+    waiting = reaches.waiting;
+    takes = reaches.takes;
+    ends = reached_fault form ended reaches.ends answers;
+  }
