@@ -1,6 +1,7 @@
 mod Complete
 mod CountLines
 mod Counted
+mod Done
 mod GivenOut
 mod Listing
 mod OptionWords

@@ -69,10 +69,12 @@ pub fn top<I: Source, O: Sink, E: Env>(
     ensures replayed { command_of (map string_bytes words.now) ≡ Some Command.Replay
         → RunsReplay (I.left input.old) (I.left input.new) (HasRisen (I.faults input.old) (I.faults input.new))
         (O.written out.old) (O.written out.new) (HasRisen (O.faults out.old) (O.faults out.new)) result }
-
     ensures replay_complete { command_of (map string_bytes words.now) ≡ Some Command.Replay → result ≢ 11
         → ¬ HasRisen (I.faults input.old) (I.faults input.new) → ¬ HasRisen (O.faults out.old) (O.faults out.new)
         → IfSome (I.left input.old) (λ bytes. AnswersWhole (replay_text Ended bytes) (O.written out.old) (O.written out.new) result) }
+
+    ensures replay_done { command_of (map string_bytes words.now) ≡ Some Command.Replay → result ≡ 0
+        → Completes replay_text (I.left input.old) (I.left input.new) (O.written out.old) (O.written out.new) }
 
     // Its lines are those of a run of the world, and each of them names one holder at most.
     ensures one_holder { command_of (map string_bytes words.now) ≡ Some Command.Replay → ShowsRun (O.written out.old) (O.written out.new) }
@@ -85,6 +87,9 @@ pub fn top<I: Source, O: Sink, E: Env>(
     ensures status_complete { (form : Form) → command_of (map string_bytes words.now) ≡ Some (Command.Status form) → result ≢ 11
         → ¬ HasRisen (I.faults input.old) (I.faults input.new) → ¬ HasRisen (O.faults out.old) (O.faults out.new)
         → IfSome (I.left input.old) (λ bytes. AnswersWhole (status_answer form Ended bytes) (O.written out.old) (O.written out.new) result) }
+
+    ensures status_done { (form : Form) → command_of (map string_bytes words.now) ≡ Some (Command.Status form) → result ≡ 0
+        → Completes (status_answer form) (I.left input.old) (I.left input.new) (O.written out.old) (O.written out.new) }
 
     // `soak`: the defined summary of its events, or memory was wanted. After none of them more than one node holds.
     ensures soak_unread { (seed events : ℕ) → command_of (map string_bytes words.now) ≡ Some (Command.Soak seed events) → input.new ≡ input.old }

@@ -2,7 +2,7 @@ ghost use Rattle.std.specs.Prelude.{◌≡◌, ◌≢◌, ◌≤◌, ◌⊎◌, 
 ghost use Rattle.qn_io.specs.Outside.{HasRisen};
 ghost use Rattle.qn_model.specs.Lines.{Ended};
 ghost use Rattle.qn_top.specs.Replaying.{RunsReplay, ShowsRun, end_outcome, replay_text};
-ghost use Rattle.qn_top.specs.Runs.{Answers, AnswersWhole};
+ghost use Rattle.qn_top.specs.Runs.{Answers, AnswersWhole, Completes};
 ghost use Rattle.qn_top.specs.Statuses.{code_of};
 
 use crate::fault::Fault;
@@ -10,7 +10,7 @@ use crate::images::{refuse, say};
 use crate::status::Status;
 use crate::text_line::TextLine;
 use qn_io::{Sink, Source};
-use qn_replay::{law_one_holder, replay};
+use qn_replay::{law_ending, law_one_holder, replay};
 use qn_sched::ReplayEnd;
 use std::alloc::Global;
 
@@ -20,6 +20,7 @@ pub(crate) fn run_replay<I: Source, O: Sink>(alloc: Global, input: &mut I, out: 
         (O.written out.old) (O.written out.new) (HasRisen (O.faults out.old) (O.faults out.new)) (code_of result) }
     ensures complete { code_of result ≢ 11 → ¬ HasRisen (I.faults input.old) (I.faults input.new) → ¬ HasRisen (O.faults out.old) (O.faults out.new)
         → IfSome (I.left input.old) (λ bytes. AnswersWhole (replay_text Ended bytes) (O.written out.old) (O.written out.new) (code_of result)) }
+    ensures done { code_of result ≡ 0 → Completes replay_text (I.left input.old) (I.left input.new) (O.written out.old) (O.written out.new) }
     ensures one_holder { ShowsRun (O.written out.old) (O.written out.new) }
     ensures no_usage { code_of result ≢ 2 }
     ensures no_env_fault { code_of result ≢ 8 }
@@ -28,6 +29,7 @@ pub(crate) fn run_replay<I: Source, O: Sink>(alloc: Global, input: &mut I, out: 
     ensures source_faults { I.faults input.old ≤ I.faults input.new }
     ensures sink_faults { O.faults out.old ≤ O.faults out.new }
 {
+    law_ending();
     law_one_holder();
     match replay(alloc, input, out) {
         ReplayEnd::WriteFault => Status::WriteFault,

@@ -2,7 +2,7 @@ ghost use Rattle.std.specs.Prelude.{◌≡◌, ◌≢◌, ◌≤◌, ◌⊎◌, 
 ghost use Rattle.qn_io.specs.Outside.{HasRisen};
 ghost use Rattle.qn_model.specs.Lines.{Ended};
 ghost use Rattle.qn_model.specs.World.{World as WorldBefore};
-ghost use Rattle.qn_top.specs.Runs.{AnswersWhole};
+ghost use Rattle.qn_top.specs.Runs.{AnswersWhole, Completes};
 ghost use Rattle.qn_top.specs.StatusRuns.{RunsStatus, StatesWorld, status_answer};
 ghost use Rattle.qn_top.specs.Statuses.{code_of};
 ghost use Rattle.qn_world.specs.Standing.{WorldFor};
@@ -30,6 +30,7 @@ pub(crate) fn run_status<I: Source, O: Sink>(
         (O.written out.old) (O.written out.new) (HasRisen (O.faults out.old) (O.faults out.new)) (code_of result) }
     ensures complete { code_of result ≢ 11 → ¬ HasRisen (I.faults input.old) (I.faults input.new) → ¬ HasRisen (O.faults out.old) (O.faults out.new)
         → IfSome (I.left input.old) (λ bytes. AnswersWhole (status_answer form Ended bytes) (O.written out.old) (O.written out.new) (code_of result)) }
+    ensures done { code_of result ≡ 0 → Completes (status_answer form) (I.left input.old) (I.left input.new) (O.written out.old) (O.written out.new) }
     ensures no_usage { code_of result ≢ 2 }
     ensures no_env_fault { code_of result ≢ 8 }
     ensures read_fault { code_of result ≡ 6 → HasRisen (I.faults input.old) (I.faults input.new) }

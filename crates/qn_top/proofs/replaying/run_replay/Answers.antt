@@ -1,5 +1,6 @@
 use Rattle.std.proofs.Common.{arith}
 use Rattle.qn_top.proofs.Complete.{replay_complete}
+use Rattle.qn_top.proofs.Done.{replay_done}
 use Rattle.qn_top.proofs.GivenOut.{risen_within}
 use Rattle.qn_top.proofs.Replayed.{replay_finished, replay_unwritten}
 use Rattle.qn_top.proofs.Shown.{shows_run}
@@ -21,6 +22,7 @@ returns-in_default g c =
     record {
       replays = run;
       complete = replay_complete _ _ _ _ _ _ _ run;
+      done = replay_done c.law_ending.ensures run;
       one_holder = shows_run c.law_one_holder.ensures run;
       no_usage = c.finish_replay.ensures.no_usage;
       no_env_fault = c.finish_replay.ensures.no_env_fault;

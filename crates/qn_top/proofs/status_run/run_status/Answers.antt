@@ -1,4 +1,5 @@
 use Rattle.qn_top.proofs.Complete.{status_complete}
+use Rattle.qn_top.proofs.Done.{status_done}
 use Rattle.qn_top.proofs.Stated.{fault_stated, world_stated}
 use Rattle.qn_top.proofs.status_run.run_status.Goals as goal
 
@@ -15,3 +16,11 @@ returns-in-Err-clause-states g c = fault_stated c.args.form c.in-Err.end c.in-Er
 pub returns-in-Err-clause-complete : goal.returns-in-Err-clause-complete
 returns-in-Err-clause-complete g c =
     status_complete _ _ _ _ _ _ _ _ (fault_stated c.args.form c.in-Err.end c.in-Err.ensures.reaches c.finish_replay.ensures.answers)
+
+pub returns-in-Ok-clause-done : goal.returns-in-Ok-clause-done
+returns-in-Ok-clause-done g c =
+    status_done c.args.form c.law_ending.ensures (world_stated c.args.form c.in-Ok.world c.law_ending.ensures c.in-Ok.ensures.reaches c.write_status.ensures.states)
+
+pub returns-in-Err-clause-done : goal.returns-in-Err-clause-done
+returns-in-Err-clause-done g c =
+    status_done c.args.form c.law_ending.ensures (fault_stated c.args.form c.in-Err.end c.in-Err.ensures.reaches c.finish_replay.ensures.answers)
