@@ -17,6 +17,9 @@ expect 3 'fault BadConf TwoNodeCount\n' replay < head
 
 printf 'nodelist {\nnode {\nnodeid: 1\n}\n}\n----\ntiming 5000 10000 1000 2000 1000\nboot 1 0\npass 5050\n' > schedule
 expect 0 '1 0 1 read-header holders=- quorate=no 0/1 why=down\n2 5050 - - holders=-\nend 2\n' replay < schedule
+expect 0 'node 1 booting holds=no quorate=no 0/1 expected=1 released=yes why=down\n' status < schedule
+expect 0 '[{"expected":1,"holds":false,"id":1,"phase":"booting","quorate":false,"quorum":1,"released":true,"votes":0,"why":"down"}]\n' \
+    status --form json < schedule
 
 expect 0 'created nodes 2\n' create --image disk < "$TOP/examples/two-node.conf"
 expect 0 'node 1 incarnation 0 clean mail empty\nnode 2 incarnation 0 clean mail empty\n' list --image disk

@@ -1,0 +1,83 @@
+# Completion of quorumd's commands, options and words for bash 4 or later. Source this file, or copy it as `quorumd` to
+# /usr/share/bash-completion/completions.
+
+# the commands, in the order of `quorumd help`
+_quorumd_commands='count replay status soak create dump list message help'
+
+# _quorumd_options COMMAND: the options that a command takes
+_quorumd_options() {
+    case $1 in
+    status) printf '%s' '--form' ;;
+    create) printf '%s' '--image --timing' ;;
+    dump | list) printf '%s' '--image' ;;
+    message) printf '%s' '--image --id --kind' ;;
+    esac
+}
+
+# _quorumd_offer WORD..: offers those of the words that begin as the present one
+_quorumd_offer() {
+    local word
+    for word; do
+        if [[ $word == "${COMP_WORDS[COMP_CWORD]}"* ]]; then
+            COMPREPLY+=("$word")
+        fi
+    done
+}
+
+# offers names of files
+_quorumd_files() {
+    mapfile -t COMPREPLY < <(compgen -f -- "${COMP_WORDS[COMP_CWORD]}")
+    # names are quoted, and folders get a slash; outside of a completion this fails
+    compopt -o filenames -o default 2> /dev/null || true
+}
+
+# _quorumd_value OPTION: offers values of an option
+_quorumd_value() {
+    case $1 in
+    --form) _quorumd_offer text json ;;
+    --kind) _quorumd_offer reset off crashdump ;;
+    --timing) _quorumd_offer 5000,10000,1000,2000,1000 ;;
+    --image) _quorumd_files ;;
+    esac
+}
+
+# _quorumd_left COMMAND: offers the options that do not stand in front of the present word, or the values of the one that does
+_quorumd_left() {
+    local at option word left options
+    read -r -a options <<< "$(_quorumd_options "$1")"
+    for ((at = 2; at < COMP_CWORD; at++)); do
+        word=${COMP_WORDS[at]}
+        left=()
+        for option in "${options[@]}"; do
+            if [[ $option == "$word" ]]; then
+                ((at += 1))
+            else
+                left+=("$option")
+            fi
+        done
+        if ((at == COMP_CWORD)); then
+            _quorumd_value "$word"
+            return
+        fi
+        options=("${left[@]}")
+    done
+    _quorumd_offer "${options[@]}"
+}
+
+_quorumd() {
+    COMPREPLY=()
+    case ${COMP_WORDS[COMP_CWORD - 1]} in
+    '<' | '>' | '>>' | '>|')
+        _quorumd_files
+        return
+        ;;
+    esac
+    if ((COMP_CWORD == 1)); then
+        # shellcheck disable=SC2086
+        _quorumd_offer $_quorumd_commands
+    else
+        _quorumd_left "${COMP_WORDS[1]}"
+    fi
+}
+
+complete -F _quorumd quorumd

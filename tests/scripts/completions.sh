@@ -1,0 +1,87 @@
+# completions/quorumd.bash in a bash of its own: what it offers behind which words. It names the commands that the program
+# names, and the program takes the words that it offers.
+. "$TOP/tests/expect.sh"
+
+# offers WANTED WORD..: what is offered for the last of these words behind the program's name
+cat > offers.bash <<'END'
+source "$1"
+shift
+COMP_WORDS=(quorumd "$@")
+COMP_CWORD=$#
+COMP_LINE="${COMP_WORDS[*]}"
+COMP_POINT=${#COMP_LINE}
+_quorumd quorumd "${COMP_WORDS[COMP_CWORD]}" "${COMP_WORDS[COMP_CWORD - 1]}"
+printf '%s\n' "${COMPREPLY[@]}"
+END
+offers() {
+    local wanted=$1
+    shift
+    same "quorumd $*: $(bash offers.bash "$TOP/completions/quorumd.bash" "$@" | xargs)" "quorumd $*: $wanted"
+}
+
+same "$(bash -c 'source "$1" && complete -p quorumd' - "$TOP/completions/quorumd.bash")" 'complete -F _quorumd quorumd'
+
+# commands
+commands='count replay status soak create dump list message help'
+offers "$commands" ''
+offers 'count create' c
+offers 'status soak' s
+offers status sta
+offers '' x
+expect 0 "commands $commands\\n" help
+
+# options: those of the command, and none twice
+for command in count replay soak help other; do
+    offers '' "$command" ''
+    offers '' "$command" --
+done
+offers --form status ''
+offers --form status --f
+offers '' status --i
+offers '' status --form text ''
+offers '--image --timing' create ''
+offers --timing create --image disk ''
+offers --image create --timing 5000,10000,1000,2000,1000 --
+offers '' create --timing 5000,10000,1000,2000,1000 --image disk ''
+offers --image dump ''
+offers --image list -
+offers '' list --image disk ''
+offers '--image --id --kind' message ''
+offers '--image --kind' message --id 2 --
+offers '--id' message --kind off --image disk ''
+offers '' message --kind off --image disk --id 2 ''
+
+# a word that looks like an option can be a value; a redirection is no option
+offers --id message --image --id --kind off ''
+offers '--id --kind' message --image --kind ''
+offers --form status '<' schedule --
+offers --timing create '<' settings --image disk ''
+
+# values
+offers 'text json' status --form ''
+offers json status --form j
+offers '' status --form x
+offers 'reset off crashdump' message --kind ''
+offers reset message --image disk --kind r
+offers 5000,10000,1000,2000,1000 create --timing ''
+offers 5000,10000,1000,2000,1000 create --image disk --timing 5
+offers '' create --timing 6
+offers '' message --id ''
+mkdir files files/folder
+touch files/disk files/disk.old files/other
+offers 'files/disk files/disk.old' dump --image files/di
+offers 'files/folder' create --timing 5000,10000,1000,2000,1000 --image files/f
+offers 'files/other' message --id 2 --image files/o
+offers '' list --image files/x
+offers 'files/other' status '<' files/o
+offers 'files/other' status --form json '>' files/o
+
+# the program takes the words that are offered
+{ cat "$TOP/examples/two-node.conf"; printf -- '----\ntiming 5000 10000 1000 2000 1000\n'; } > schedule
+for form in text json; do
+    "$QUORUMD" status --form "$form" < schedule > output
+done
+expect 0 'created nodes 2\n' create --image disk --timing 5000,10000,1000,2000,1000 < "$TOP/examples/two-node.conf"
+for kind in reset off crashdump; do
+    expect 0 "sent $kind to 2\\n" message --image disk --id 2 --kind "$kind"
+done

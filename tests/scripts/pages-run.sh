@@ -1,0 +1,29 @@
+# The examples of docs/FORMATS.md and docs/STATUS.md write what these pages say. The table of docs/STATUS.md and the schema have
+# each condition that a start can lack.
+. "$TOP/tests/expect.sh"
+
+mkdir bin
+ln -s "$QUORUMD" bin/quorumd
+ln -s "$TOP/examples" examples
+
+# of a block with a line `$ COMMAND`: the command into PAGE.N.command, and the lines behind it into PAGE.N.wanted
+for page in FORMATS STATUS; do
+    awk -v page="$page" '
+        /^```/ { inside = !inside; name = ""; next }
+        inside && /^\$ / { name = page "." ++number; print substr($0, 3) > (name ".command"); printf "" > (name ".wanted"); next }
+        inside && name { print > (name ".wanted") }' "$TOP/docs/$page.md"
+    [ -e "$page.8.command" ] || { printf 'the examples of %s were not found\n' "$page"; exit 1; }
+done
+
+for command in *.command; do
+    if ! command -v jq > /dev/null && grep -q 'jq ' "$command"; then
+        continue
+    fi
+    bash "$command" > got 2>&1 || true
+    same "$(cat "$command" got)" "$(cat "$command" "${command%.command}.wanted")"
+done
+
+for why in down holding no-view wait-for-all not-quorate not-chosen held-by unheard unfenced clear; do
+    grep -q "^| \`${why}[\`:]" "$TOP/docs/STATUS.md" || { printf 'the page has no row for %s\n' "$why"; exit 1; }
+    grep -q "[\"(|^]${why}[\"|):]" "$TOP/docs/status.schema.json" || { printf 'the schema has no %s\n' "$why"; exit 1; }
+done
