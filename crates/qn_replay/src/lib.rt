@@ -33,4 +33,6 @@ pub use run::replay;
 pub use soaking::soak;
 
 #[cfg(test)]
+mod soak_tests;
+#[cfg(test)]
 mod tests;
