@@ -9,12 +9,11 @@
 // It is there to be timed, by `bench/node`. Promises: nothing.
 #![tactic(auto)]
 
-mod reading;
 mod running;
 mod writing;
 
 use anyhow::{Context, Result, bail};
-use reading::{me_of, settings_of};
+use qn_history::{rank_word, read_rank, read_settings, settings_words};
 use std::env;
 use std::io::{BufRead, BufReader};
 
@@ -30,8 +29,10 @@ fn main(rt: HostRuntime) -> Result<()> {
         .context("no number")?
         .as_str()
         .parse::<usize>()?;
-    let settings = settings_of(lines.next().context("no settings")??.as_str())?;
-    let me = me_of(lines.next().context("no rank")??.as_str())?;
+    let line = lines.next().context("no settings")??;
+    let settings = read_settings(settings_words(line.as_str()).context("no settings")?)?;
+    let line = lines.next().context("no rank")??;
+    let me = read_rank(rank_word(line.as_str()).context("no rank")?)?;
     let history = running::history_of(rt.alloc(), lines)?;
     let outs = match mode.as_str() {
         "steps" => running::step_all(&settings, me, history.as_slice(), count)?,

@@ -1,7 +1,7 @@
-use crate::reading::{entry_of, me_of, settings_of};
 use crate::writing::outs_text;
 use anyhow::{Context, Result, bail};
 use qn_base::Rank;
+use qn_history::{rank_word, read_entry, read_rank, read_settings, settings_words};
 use qn_model::{Entry, Outs, Settings};
 use qn_node::Node;
 use qn_plain::outs;
@@ -17,13 +17,13 @@ pub fn show<R: BufRead + Drop>(
     let mut node = None;
     for line in lines {
         let line = line?;
-        if line.as_str().starts_with("settings ") {
-            settings = Some(settings_of(line.as_str())?);
-        } else if line.as_str().starts_with("me ") {
+        if let Some(words) = settings_words(line.as_str()) {
+            settings = Some(read_settings(words)?);
+        } else if let Some(word) = rank_word(line.as_str()) {
             let settings = settings.as_ref().context("no settings")?;
-            node = Some(node_of(settings, me_of(line.as_str())?)?);
+            node = Some(node_of(settings, read_rank(word)?)?);
         } else {
-            let entry = entry_of(rt.alloc(), line.as_str())?;
+            let entry = read_entry(rt.alloc(), line.as_str())?;
             let mut outs = Outs::new();
             step(node.as_mut().context("no rank")?, entry, &mut outs)?;
             let text = outs_text(rt.alloc(), outs.as_slice())?;
@@ -37,7 +37,7 @@ pub fn show<R: BufRead + Drop>(
 pub fn history_of<R: BufRead + Drop>(alloc: Global, lines: Lines<R, Global>) -> Result<Vec<Entry>> {
     let mut history = Vec::new(alloc);
     for line in lines {
-        history.push(entry_of(alloc, line?.as_str())?)?;
+        history.push(read_entry(alloc, line?.as_str())?)?;
     }
     Ok(history)
 }

@@ -1,5 +1,6 @@
-use crate::reading::{Wrong, answer_of, members_of, number, settings_of};
+use crate::wrong::Wrong;
 use qn_base::View;
+use qn_history::{read_members, read_number, read_settings, read_truth};
 use qn_model::{Answer, Settings, VoteEntry, VoteWhat};
 use qn_plain::vote_answer;
 use qn_quorum::Quorum;
@@ -9,9 +10,9 @@ use std::alloc::Global;
 pub fn check_count(alloc: Global, row: &str) -> Result<(), Wrong> {
     let mut columns = row.split('\t');
     let _name = columns.next().ok_or(Wrong::Form)?;
-    let settings = settings_of(columns.next().ok_or(Wrong::Form)?)?;
+    let settings = read_settings(columns.next().ok_or(Wrong::Form)?)?;
     let votes = votes_of(alloc, columns.next().ok_or(Wrong::Form)?)?;
-    let tick = number(columns.next().ok_or(Wrong::Form)?)?;
+    let tick = read_number(columns.next().ok_or(Wrong::Form)?)?;
     let answer = answer_of(columns.next().ok_or(Wrong::Form)?)?;
     if vote_answer(&settings, votes.as_slice(), tick) != answer {
         return Err(Wrong::Other("the count from the whole list"));
@@ -20,6 +21,18 @@ pub fn check_count(alloc: Global, row: &str) -> Result<(), Wrong> {
         return Err(Wrong::Other("the count in fixed memory"));
     }
     Ok(())
+}
+
+/// The five words of a count.
+pub fn answer_of(text: &str) -> Result<Answer, Wrong> {
+    let mut words = text.split(' ');
+    Ok(Answer {
+        quorate: read_truth(words.next().ok_or(Wrong::Form)?)?,
+        votes: read_number(words.next().ok_or(Wrong::Form)?)?,
+        quorum: read_number(words.next().ok_or(Wrong::Form)?)?,
+        expected: read_number(words.next().ok_or(Wrong::Form)?)?,
+        released: read_truth(words.next().ok_or(Wrong::Form)?)?,
+    })
 }
 
 /// The count in fixed memory.
@@ -44,7 +57,7 @@ fn votes_of(alloc: Global, text: &str) -> Result<Vec<VoteEntry>, Wrong> {
     for entry in text.split("; ") {
         let (tick, what) = entry.split_once(' ').ok_or(Wrong::Form)?;
         votes.push(VoteEntry {
-            tick: number(tick)?,
+            tick: read_number(tick)?,
             what: vote_of(what)?,
         })?;
     }
@@ -59,7 +72,7 @@ fn vote_of(text: &str) -> Result<VoteWhat, Wrong> {
         "device no" => VoteWhat::Device(false),
         _ => VoteWhat::View(View {
             id: 0,
-            members: members_of(text.strip_prefix("view ").ok_or(Wrong::Form)?)?,
+            members: read_members(text.strip_prefix("view ").ok_or(Wrong::Form)?)?,
         }),
     })
 }

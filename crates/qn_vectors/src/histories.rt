@@ -1,5 +1,5 @@
-use crate::reading::Wrong;
 use crate::rows::Row;
+use crate::wrong::Wrong;
 use qn_base::Rank;
 use qn_model::{Entry, Outs, Settings, What};
 use qn_node::Node;

@@ -7,15 +7,16 @@
 
 mod counts;
 mod histories;
-mod reading;
 mod rows;
+mod wrong;
 
 use counts::check_count;
 use histories::History;
+use qn_history::{rank_word, read_rank, read_settings, settings_words};
 use qn_model::Settings;
-use reading::Wrong;
 use std::alloc::Global;
 use std::io;
+use wrong::Wrong;
 
 /// How many rows there were of each kind, and from how many of them a form differs.
 #[derive(Clone, Copy, Default)]
@@ -43,7 +44,7 @@ fn main(rt: HostRuntime) -> io::Result<()> {
         let text = line.as_str();
         if let Err(wrong) = reader.check(rt.alloc(), text) {
             reader.totals.differ = reader.totals.differ.saturating_add(1);
-            println!(rt; "{} differs: {text}", wrong.name())?;
+            println!(rt; "{wrong}: {text}")?;
         }
     }
     let Totals {
@@ -65,15 +66,15 @@ impl Reader {
             self.totals.counts = self.totals.counts.saturating_add(1);
             return check_count(alloc, count);
         }
-        if let Some(settings) = line.strip_prefix("settings ") {
+        if let Some(words) = settings_words(line) {
             self.history = None;
-            self.settings = Some(reading::settings_of(settings)?);
+            self.settings = Some(read_settings(words)?);
             return Ok(());
         }
-        if let Some(rank) = line.strip_prefix("me ") {
+        if let Some(word) = rank_word(line) {
             let settings = self.settings.take().ok_or(Wrong::Form)?;
             self.totals.histories = self.totals.histories.saturating_add(1);
-            self.history = Some(History::new(alloc, settings, reading::rank(rank)?)?);
+            self.history = Some(History::new(alloc, settings, read_rank(word)?)?);
             return Ok(());
         }
         self.check_row(alloc, line)

@@ -1,8 +1,9 @@
-use crate::reading::{Wrong, answer_of, node, number, rank, truth, view_of};
-use qn_model::{
-    Answer, Ask, BootCause, DiskOp, HaltKind, HeaderSeen, MailSeen, Message, Out, Packet, Phase,
-    Slot, SlotSeen, Tell, Timing, What, Why,
+use crate::counts::answer_of;
+use crate::wrong::Wrong;
+use qn_history::{
+    read_ask, read_message, read_node_id, read_number, read_rank, read_tell, read_what,
 };
+use qn_model::{Answer, BootCause, DiskOp, HaltKind, Out, Packet, Phase, What, Why};
 use std::alloc::Global;
 
 /// A row of a history: an entry, or a look at a later tick, and what is then known of the node.
@@ -27,7 +28,7 @@ pub fn row_of(alloc: Global, line: &str) -> Result<Row, Wrong> {
         return Err(Wrong::Form);
     };
     Ok(Row {
-        tick: number(tick)?,
+        tick: read_number(tick)?,
         what: entry_of(alloc, what)?,
         outs: outs_of(alloc, outs)?,
         why: why_of(alloc, why)?,
@@ -43,114 +44,7 @@ fn entry_of(alloc: Global, text: &str) -> Result<Option<What>, Wrong> {
         return Ok(None);
     }
     let words: Vec<&str> = text.split(' ').collect(alloc)?;
-    Ok(Some(what_of(words.as_slice())?))
-}
-
-fn what_of(words: &[&str]) -> Result<What, Wrong> {
-    Ok(match words {
-        ["begin"] => What::Begin,
-        ["tick"] => What::Tick,
-        ["leave"] => What::Leave,
-        ["header", seen @ ..] => What::Header(header_of(seen)?),
-        ["slot", of, seen @ ..] => What::SlotRead(rank(of)?, slot_of(seen)?),
-        ["claimed", ok] => What::Claimed(truth(ok)?),
-        ["cleared", ok] => What::Cleared(truth(ok)?),
-        ["closed", ok] => What::Closed(truth(ok)?),
-        ["stopped", ok] => What::Stopped(truth(ok)?),
-        ["device", agrees] => What::Device(truth(agrees)?),
-        ["mail", seen] => What::MailRead(mail_of(seen)?),
-        ["written", to, ok] => What::MailWritten(rank(to)?, truth(ok)?),
-        ["view", id, members] => What::View(view_of(id, members)?),
-        ["ask", ask @ ..] => What::Ask(ask_of(ask)?),
-        ["tell", tell @ ..] => What::Tell(tell_of(tell)?),
-        _ => return Err(Wrong::Form),
-    })
-}
-
-fn header_of(words: &[&str]) -> Result<HeaderSeen, Wrong> {
-    Ok(match words {
-        ["failed"] => HeaderSeen::Failed,
-        ["not-image"] => HeaderSeen::NotImage,
-        [
-            "read",
-            nodes,
-            watchdog,
-            msgwait,
-            loop_ms,
-            read_limit,
-            feed_delay,
-        ] => HeaderSeen::Read {
-            nodes: nodes.parse::<u32>()?,
-            timing: Timing {
-                watchdog: number(watchdog)?,
-                msgwait: number(msgwait)?,
-                loop_ms: number(loop_ms)?,
-                read_limit: number(read_limit)?,
-                feed_delay: number(feed_delay)?,
-            },
-        },
-        _ => return Err(Wrong::Form),
-    })
-}
-
-fn slot_of(words: &[&str]) -> Result<SlotSeen, Wrong> {
-    Ok(match words {
-        ["failed"] => SlotSeen::Failed,
-        ["damaged"] => SlotSeen::Damaged,
-        ["read", incarnation, state] => SlotSeen::Read(Slot {
-            incarnation: number(incarnation)?,
-            clean: *state == "clean",
-        }),
-        _ => return Err(Wrong::Form),
-    })
-}
-
-fn mail_of(word: &str) -> Result<MailSeen, Wrong> {
-    Ok(match word {
-        "failed" => MailSeen::Failed,
-        "damaged" => MailSeen::Damaged,
-        _ => MailSeen::Read(message_of(word)?),
-    })
-}
-
-fn message_of(word: &str) -> Result<Message, Wrong> {
-    Ok(match word {
-        "empty" => Message::Empty,
-        "test" => Message::Test,
-        "reset" => Message::Reset,
-        "off" => Message::Off,
-        "exit" => Message::Exit,
-        "crashdump" => Message::Crashdump,
-        _ => return Err(Wrong::Form),
-    })
-}
-
-fn ask_of(words: &[&str]) -> Result<Ask, Wrong> {
-    let [from, to, incarnation, install, id, members] = words else {
-        return Err(Wrong::Form);
-    };
-    Ok(Ask {
-        from: rank(from)?,
-        to: rank(to)?,
-        incarnation: number(incarnation)?,
-        install: number(install)?,
-        view: view_of(id, members)?,
-    })
-}
-
-fn tell_of(words: &[&str]) -> Result<Tell, Wrong> {
-    let [from, to, incarnation, install, id, members, holds, released] = words else {
-        return Err(Wrong::Form);
-    };
-    Ok(Tell {
-        from: rank(from)?,
-        to: rank(to)?,
-        incarnation: number(incarnation)?,
-        install: number(install)?,
-        view: view_of(id, members)?,
-        holds: truth(holds)?,
-        released: truth(released)?,
-    })
+    Ok(Some(read_what(words.as_slice())?))
 }
 
 fn outs_of(alloc: Global, text: &str) -> Result<Vec<Out>, Wrong> {
@@ -172,15 +66,15 @@ fn out_of(words: &[&str]) -> Result<Out, Wrong> {
         ["feed"] => Out::Feed,
         ["disarm"] => Out::Disarm,
         ["ask", words @ ..] => {
-            let ask = ask_of(words)?;
+            let ask = read_ask(words)?;
             Out::Send(ask.to, Packet::Ask(ask))
         }
         ["tell", words @ ..] => {
-            let tell = tell_of(words)?;
+            let tell = read_tell(words)?;
             Out::Send(tell.to, Packet::Tell(tell))
         }
         ["halt", "boot", cause] => Out::Halt(HaltKind::Boot(cause_of(cause)?)),
-        ["halt", message] => Out::Halt(HaltKind::Deadly(message_of(message)?)),
+        ["halt", message] => Out::Halt(HaltKind::Deadly(read_message(message)?)),
         _ => Out::Disk(op_of(words)?),
     })
 }
@@ -188,12 +82,12 @@ fn out_of(words: &[&str]) -> Result<Out, Wrong> {
 fn op_of(words: &[&str]) -> Result<DiskOp, Wrong> {
     Ok(match words {
         ["read-header"] => DiskOp::ReadHeader,
-        ["read-slot", of] => DiskOp::ReadSlot(rank(of)?),
-        ["claim", incarnation] => DiskOp::WriteClaim(number(incarnation)?),
+        ["read-slot", of] => DiskOp::ReadSlot(read_rank(of)?),
+        ["claim", incarnation] => DiskOp::WriteClaim(read_number(incarnation)?),
         ["clear"] => DiskOp::WriteClear,
         ["read-mail"] => DiskOp::ReadMail,
-        ["reset", of] => DiskOp::WriteReset(rank(of)?),
-        ["close", incarnation] => DiskOp::WriteClose(number(incarnation)?),
+        ["reset", of] => DiskOp::WriteReset(read_rank(of)?),
+        ["close", incarnation] => DiskOp::WriteClose(read_number(incarnation)?),
         _ => return Err(Wrong::Form),
     })
 }
@@ -220,20 +114,26 @@ fn why_of(alloc: Global, text: &str) -> Result<Why, Wrong> {
         ["not-quorate", votes] => {
             let (votes, quorum) = votes.split_once('/').ok_or(Wrong::Form)?;
             Why::NotQuorate {
-                votes: number(votes)?,
-                quorum: number(quorum)?,
+                votes: read_number(votes)?,
+                quorum: read_number(quorum)?,
             }
         }
-        ["not-chosen", id] => Why::NotChosen { id: node(id)? },
-        ["held-by", id] => Why::HeldBy { id: node(id)? },
-        ["unheard", id] => Why::Unheard { id: node(id)? },
+        ["not-chosen", id] => Why::NotChosen {
+            id: read_node_id(id)?,
+        },
+        ["held-by", id] => Why::HeldBy {
+            id: read_node_id(id)?,
+        },
+        ["unheard", id] => Why::Unheard {
+            id: read_node_id(id)?,
+        },
         ["unfenced", id, left] => Why::Unfenced {
-            id: node(id)?,
+            id: read_node_id(id)?,
             written: *left != "unwritten",
             left: if *left == "unwritten" {
                 0
             } else {
-                number(left)?
+                read_number(left)?
             },
         },
         ["clear"] => Why::Clear,
@@ -256,6 +156,6 @@ fn incarnation_of(word: &str) -> Result<Option<Option<u64>>, Wrong> {
     Ok(match word {
         "*" => None,
         "-" => Some(None),
-        _ => Some(Some(number(word)?)),
+        _ => Some(Some(read_number(word)?)),
     })
 }

@@ -1,0 +1,32 @@
+-- Words of recorded histories: this project's profile.
+use Rattle.std.specs.Prelude.{ℕ, List, codes}
+use Rattle.qn_model.specs.declared.disk.Message.{Message}
+use Rattle.qn_model.specs.declared.disk.Message.TheVariants.{Empty, Test, Reset, Off, Exit, Crashdump}
+use Rattle.qn_model.specs.declared.entries.What.{What}
+use Rattle.qn_model.specs.declared.entries.What.TheVariants.{Begin, Header, SlotRead, Claimed, Cleared, MailRead, MailWritten, View, Ask, Tell, Device, Tick, Stopped, Leave, Closed}
+
+abbrev pub message_word : Message → List ℕ
+message_word Empty = codes "empty"
+message_word Test = codes "test"
+message_word Reset = codes "reset"
+message_word Off = codes "off"
+message_word Exit = codes "exit"
+message_word Crashdump = codes "crashdump"
+
+-- the first word of what a node is handed
+abbrev pub kind_word : What → List ℕ
+kind_word Begin = codes "begin"
+kind_word (Header seen) = codes "header"
+kind_word (SlotRead rank seen) = codes "slot"
+kind_word (Claimed ok) = codes "claimed"
+kind_word (Cleared ok) = codes "cleared"
+kind_word (MailRead seen) = codes "mail"
+kind_word (MailWritten rank ok) = codes "written"
+kind_word (View view) = codes "view"
+kind_word (Ask ask) = codes "ask"
+kind_word (Tell tell) = codes "tell"
+kind_word (Device agrees) = codes "device"
+kind_word Tick = codes "tick"
+kind_word (Stopped ok) = codes "stopped"
+kind_word Leave = codes "leave"
+kind_word (Closed ok) = codes "closed"
