@@ -1,5 +1,5 @@
 -- What a choice comes to, by what is seen of a world.
-use Rattle.std.proofs.Common.{◌≡◌, ◌≢◌, ℕ, ◌+◌, ◌-◌, ◌*◌, ◌%◌, ◌<◌, Bool, true, false, ◌==◌, List, Option, None, Some, refl, sym, ap, ap₂, ◌∙◌, arith, length, min, nat_lt, option_map}
+use Rattle.std.proofs.Common.{◌≡◌, ◌≢◌, ℕ, ◌-◌, ◌%◌, ◌<◌, true, false, ◌==◌, Option, refl, sym, ap, ap₂, ◌∙◌, arith, length, min, nat_lt, option_map}
 use Rattle.std.specs.Prelude.{slice_get, unwrap_or}
 use Rattle.std.proofs.lemmas.Bool.{ne_eqb}
 use Rattle.std.proofs.lemmas.Bool.Decides.{nat_tests}
@@ -15,7 +15,7 @@ use Rattle.qn_world.specs.Seen.{seen_of}
 use Rattle.qn_replay.specs.declared.choice.Choice.{Choice}
 use Rattle.qn_replay.specs.declared.choice.Choice.TheVariants as kind
 use Rattle.qn_replay.specs.Draws.{draw_at, next_state}
-use Rattle.qn_replay.specs.Generator.{Drawn, undrawn, soak_settings, seen_at, next_step, pass_at, view_at, receiver, number_at, delivery, incident_of, incident_at, chosen_event}
+use Rattle.qn_replay.specs.Generator.{Drawn, undrawn, soak_settings, seen_at, next_step, pass_at, view_at, receiver, number_at, delivery, incident_of, chosen_event}
 
 -- what is seen under equal settings
 pub seen_as : {s : Settings} (rank : ℕ) (d : World) (seen : NodeSeen) → s ≡ soak_settings → seen ≡ seen_of s rank d → seen ≡ seen_at rank d

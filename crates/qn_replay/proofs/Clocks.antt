@@ -1,12 +1,12 @@
 -- A pass that is drawn is well formed, and so is a view.
-use Rattle.std.proofs.Common.{◌≡◌, ℕ, zero, suc, ◌+◌, ◌*◌, ◌%◌, ◌^◌, ◌<◌, ◌≤◌, Bool, true, false, ◌&&◌, List, [], ◌∷◌, refl, sym, ap, ap₂, ◌∙◌, subst, arith, nat_le, nat_lt, lit<, lit≤}
+use Rattle.std.proofs.Common.{◌≡◌, ℕ, zero, suc, ◌+◌, ◌*◌, ◌%◌, ◌^◌, ◌<◌, ◌≤◌, Bool, true, false, List, [], refl, sym, ap, ap₂, ◌∙◌, subst, arith, nat_le, lit<, lit≤}
 use Rattle.std.specs.Prelude.{bit_or}
 use Rattle.std.proofs.lemmas.Bool.Decides.{nat_tests}
 use Rattle.qn_base.specs.declared.ids.Rank.{Rank}
 use Rattle.qn_model.specs.declared.events.Event.TheVariants.{Pass}
-use Rattle.qn_model.specs.Rules.{is_well_formed, is_clock, is_between}
+use Rattle.qn_model.specs.Rules.{is_well_formed, is_between}
 use Rattle.qn_replay.specs.Draws.{draw_at, next_state}
-use Rattle.qn_replay.specs.Generator.{DrawnClocks, Drawn, undrawn, soak_settings, pass_at, pass_with, clocks_of, with_clock, length_at, view_of, view_at}
+use Rattle.qn_replay.specs.Generator.{DrawnClocks, soak_settings, pass_at, pass_with, clocks_of, with_clock, length_at}
 
 advance_fits : (dt v : ℕ) → dt ≤ 400 → nat_le (99 * dt + v % (2 * dt + 1)) 1000000000000 ≡ true
 advance_fits dt v short =

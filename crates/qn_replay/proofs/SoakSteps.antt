@@ -1,5 +1,5 @@
 -- A soak, event by event.
-use Rattle.std.proofs.Common.{◌≡◌, ℕ, zero, suc, ◌+◌, ◌*◌, ◌<◌, ◌≤◌, Bool, true, false, List, [], ◌∷◌, length, refl, sym, ap, ap₂, ◌∙◌, subst, arith, add-one, cond, lit<, lit≤}
+use Rattle.std.proofs.Common.{◌≡◌, ℕ, ◌+◌, ◌*◌, ◌<◌, ◌≤◌, Bool, true, false, List, [], ◌∷◌, refl, sym, ap, ap₂, ◌∙◌, subst, arith, add-one, cond, lit<, lit≤}
 use lib.Count.{ones}
 use Rattle.std.specs.Prelude.{IsTrue, count_ones, filter, max}
 use Rattle.std.specs.List.{range_with_len}

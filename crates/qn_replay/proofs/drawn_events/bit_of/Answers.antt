@@ -1,4 +1,4 @@
-use Rattle.std.proofs.Common.{arith, ◌≤◌, ℕ, subst, sym}
+use Rattle.std.proofs.Common.{◌≤◌, ℕ, subst, sym}
 use Rattle.qn_replay.proofs.Clocks.{bit_is, bit_small}
 use Rattle.qn_replay.proofs.drawn_events.bit_of.Goals as goal
 

@@ -1,5 +1,4 @@
-use Rattle.std.proofs.Common.{◌≡◌, None, ap, ◌∙◌, sym, subst}
-use Rattle.qn_model.specs.declared.events.Event.{Event}
+use Rattle.std.proofs.Common.{ap, ◌∙◌, sym}
 use Rattle.qn_model.specs.Rules.{refusal}
 use Rattle.qn_replay.specs.Generator.{soak_settings, soak_timing}
 use Rattle.qn_replay.proofs.Forced.{along, forced_allowed, moment_stays, moment_refused, refused_as}

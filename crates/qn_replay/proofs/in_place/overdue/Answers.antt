@@ -1,4 +1,4 @@
-use Rattle.std.proofs.Common.{◌≡◌, ◌∙◌, true, false}
+use Rattle.std.proofs.Common.{◌∙◌, true, false}
 use Rattle.qn_replay.proofs.Forced.{tested, first_over, second_over, third_over, none_over}
 use Rattle.qn_replay.proofs.in_place.overdue.Goals as goal
 

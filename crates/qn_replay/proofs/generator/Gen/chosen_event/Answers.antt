@@ -1,4 +1,4 @@
-use Rattle.std.proofs.Common.{◌∙◌, arith}
+use Rattle.std.proofs.Common.{◌∙◌}
 use Rattle.qn_replay.proofs.Choices.{step_drawn, pass_chosen, view_drawn, delivery_drawn, device_drawn, incident_drawn, device_formed}
 use Rattle.qn_replay.proofs.generator.Gen.chosen_event.Goals as goal
 

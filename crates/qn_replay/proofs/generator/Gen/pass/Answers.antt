@@ -1,9 +1,7 @@
-use Rattle.std.proofs.Common.{◌≡◌, ℕ, true, refl, ap, ◌∙◌, ◌+◌, ◌%◌}
-use Rattle.qn_model.specs.declared.events.Event.{Event}
-use Rattle.qn_model.specs.declared.events.Event.TheVariants.{Pass}
+use Rattle.std.proofs.Common.{refl, ap, ◌∙◌, ◌+◌, ◌%◌}
 use Rattle.qn_model.specs.Rules.{is_well_formed}
 use Rattle.qn_replay.specs.Draws.{next_state}
-use Rattle.qn_replay.specs.Generator.{Drawn, undrawn, pass_at, soak_settings}
+use Rattle.qn_replay.specs.Generator.{soak_settings}
 use Rattle.qn_replay.proofs.Clocks.{pass_formed, pass_is}
 use Rattle.qn_replay.proofs.generator.Gen.pass.Goals as goal
 

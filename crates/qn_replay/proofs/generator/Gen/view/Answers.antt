@@ -1,5 +1,4 @@
-use Rattle.std.proofs.Common.{arith, ◌%◌, sym, ◌∙◌, ap}
-use Rattle.std.specs.Prelude.{bit_or}
+use Rattle.std.proofs.Common.{arith, ◌%◌}
 use Rattle.qn_replay.proofs.Clocks.{members_some, members_few}
 use Rattle.qn_replay.proofs.generator.Gen.view.Goals as goal
 
