@@ -1,6 +1,6 @@
 use anyhow::Result;
 use qn_base::{Mask, Rank, View};
-use qn_model::{Answer, Ask, BootCause, DiskOp, HaltKind, Message, Out, Packet, Phase, Tell, Why};
+use qn_model::{Ask, BootCause, DiskOp, HaltKind, Message, Out, Packet, Tell};
 use std::alloc::Global;
 
 /// The outputs, parted by `; `, or `-` where there are none.
