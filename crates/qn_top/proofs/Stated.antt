@@ -1,7 +1,5 @@
 -- The last world of a schedule or its fault, and what `status` writes of it.
-use Rattle.std.proofs.Common.{◌≡◌, ◌⊎◌, inl, inr, ℕ, List, [], ◌++◌, Option, Result, Ok, Err, Some, refl, sym, ap, ◌∙◌, subst, append-nil}
-use Rattle.std.specs.Io.KnownBytes.{append_known}
-use Rattle.qn_io.specs.Writes.{AppendsFront}
+use Rattle.std.proofs.Common.{◌≡◌, ◌⊎◌, inl, inr, ℕ, List, [], ◌++◌, Option, Result, Ok, Err, refl, sym, ap, ◌∙◌, subst, append-nil}
 use Rattle.qn_model.specs.Inputs.{BeginsWith, Tells, Anyway, AtEnd, AtFailure}
 use Rattle.qn_model.specs.Lines.{Ended, ReadFailed, Outcome}
 use Rattle.qn_model.specs.World.{World}
@@ -14,7 +12,7 @@ use Rattle.qn_world.specs.Standing.{WorldFor}
 use Rattle.qn_world.specs.Whole.{Whole as WorldKept}
 use Rattle.qn_top.specs.declared.command.Form.{Form}
 use Rattle.qn_top.specs.Replaying.{end_outcome}
-use Rattle.qn_top.specs.Runs.{Answers, Whole, Cut, EndsAs, WroteAll, WroteFront}
+use Rattle.qn_top.specs.Runs.{Answers, Whole, Cut, WroteAll, WroteFront}
 use Rattle.qn_top.specs.StatusRuns.{RunsStatus, StatesWorld, Stated, Unstated, StatusEnds, Told, Wanted, status_answer, status_behind, status_in}
 
 -- an answer that the bytes tell of was written, or a front of it
