@@ -144,15 +144,19 @@ impl Playback {
         self.bad_line(LineFault::Unended)
     }
 
-    /// Writes the trace line of the last event.
-    pub(crate) fn write<O: Sink>(&self, report: &Report, out: &mut O) -> Result<(), Failed>
+    /// Writes the trace line of the last event, which is put together in `text`.
+    pub(crate) fn write<O: Sink>(
+        &self,
+        report: &Report,
+        text: &mut ArrayVec<u8, LINE>,
+        out: &mut O,
+    ) -> Result<(), Failed>
         ensures whole { OnOk result (O.written out.new ≡ append_known (O.written out.old) (report_text self.now report.now)) }
         ensures front { OnErr result (AppendsFront (O.written out.old) (O.written out.new) (report_text self.now report.now)) }
         ensures never_falls { O.faults out.old ≤ O.faults out.new }
         ensures cause { OnErr result (HasRisen (O.faults out.old) (O.faults out.new)) }
     {
-        let mut text: ArrayVec<u8, LINE> = ArrayVec::new();
-        write_trace(self.events, report, self.world.settings(), &mut text);
+        write_trace(self.events, report, self.world.settings(), text);
         text.push(b'\n');
         put_all(out, text.as_slice())
     }

@@ -5,6 +5,7 @@ ghost use Rattle.qn_replay.specs.Replay.{replay_of};
 ghost use Rattle.qn_replay.specs.Runs.{AnswersWhole, Completes, IfDone, Replays, Wants};
 
 use crate::reader::Reader;
+use arrayvec::ArrayVec;
 use qn_io::{Sink, Source};
 use qn_sched::ReplayEnd;
 use std::alloc::Global;
@@ -48,12 +49,13 @@ fn run<I: Source, O: Sink>(alloc: Global, input: &mut I, out: &mut O) -> ReplayE
         Ok(playback) => playback,
         Err(end) => return end,
     };
+    let mut text = ArrayVec::new();
     'events: loop {
         let report = match reader.next(input, &mut playback) {
             Ok(report) => report,
             Err(end) => return end,
         };
-        let Ok(()) = playback.write(&report, out) else {
+        let Ok(()) = playback.write(&report, &mut text, out) else {
             return ReplayEnd::WriteFault;
         };
     }
