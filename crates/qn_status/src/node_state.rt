@@ -13,8 +13,16 @@ pub struct NodeState {
 }
 
 impl Default for NodeState {
-    /// A node that is off, without an id.
-    fn default() -> Self {
+    ghost use Rattle.std.specs.Prelude.{◌≡◌, false};
+
+    /// A node that is off, without an id and without votes.
+    fn default() -> Self
+        ensures id { result.id.0 ≡ 0 }
+        ensures phase { result.phase ≡ Phase.Gone }
+        ensures holds { result.holds ≡ false }
+        ensures answer { result.answer ≡ record { quorate = false; votes = 0; quorum = 0; expected = 0; released = false } }
+        ensures why { result.why ≡ Why.Down }
+    {
         NodeState {
             id: NodeId(0),
             phase: Phase::Gone,
