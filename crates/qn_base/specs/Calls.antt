@@ -7,7 +7,7 @@ use Rattle.qn_base.specs.declared.calls.Received.TheVariants.{Packet, Nothing, F
 -- this project's profile: the question of a call, which is the call with its answer wiped
 abbrev pub blank : Call → Call
 blank (OpenImage path ok) = OpenImage path true
-blank (OpenNode image watchdog resource port rank ok) = OpenNode image watchdog resource port rank true
+blank (OpenNode images image watchdog resource port rank ok) = OpenNode images image watchdog resource port rank true
 blank (Now tick) = Now 0
 blank (Receive got) = Receive Nothing
 blank (Read sector bytes ok) = Read sector [] true
@@ -28,7 +28,7 @@ is_receive_failed Failed = true
 -- this project's profile: whether the call answered Failed
 abbrev pub is_failed : Call → Bool
 is_failed (OpenImage path ok) = not ok
-is_failed (OpenNode image watchdog resource port rank ok) = not ok
+is_failed (OpenNode images image watchdog resource port rank ok) = not ok
 is_failed (Now tick) = false
 is_failed (Receive got) = is_receive_failed got
 is_failed (Read sector bytes ok) = not ok

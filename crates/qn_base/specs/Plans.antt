@@ -21,6 +21,16 @@ Follows (Ends end) calls value = (calls ≡ []) × (value ≡ end)
 Follows (Asks question left) [] value = ⊥
 Follows (Asks question left) (call ∷ calls) value = (blank call ≡ question) × Follows (left call) calls value
 
+-- the call that a plan makes next, with its answer wiped: none where the plan ends
+abbrev pub question : {A : Type 0} → Plan A → Option Call
+question (Ends value) = None
+question (Asks asked left_of) = Some asked
+
+-- what is left of a plan after a call
+abbrev pub left : {A : Type 0} → Plan A → Call → Plan A
+left (Ends value) call = Ends value
+left (Asks asked left_of) call = left_of call
+
 -- the list of calls that an outside tells grew by exactly these, where it is still told
 abbrev pub AddsAll : Option (List Call) → Option (List Call) → List Call → Type 0
 AddsAll old None more = Unit {0}

@@ -64,7 +64,9 @@ pub enum Call {
         path: Bytes,
         ok: bool,
     },
+    /// `images` is the number of images that `image` names.
     OpenNode {
+        images: u8,
         image: Bytes,
         watchdog: Bytes,
         resource: Bytes,

@@ -1,5 +1,4 @@
 pub mod ByRank
-pub mod LeastMembers
 pub mod Majority
 pub mod Release
 pub mod Resets

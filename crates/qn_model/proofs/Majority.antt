@@ -22,7 +22,7 @@ raised-ge s what.Tick before = omega arith
 lowered-same : (s : Settings) (past : List VoteEntry) (now before : ℕ) → s.last_man_standing ≡ false → lowered s past now before ≡ before
 lowered-same s past now before off = rw off refl
 
-expected_votes-ge : (s : Settings) (past : List VoteEntry) → s.last_man_standing ≡ false → s.expected ≤ expected_votes s past
+pub expected_votes-ge : (s : Settings) (past : List VoteEntry) → s.last_man_standing ≡ false → s.expected ≤ expected_votes s past
 unfolding expected_votes
 expected_votes-ge s [] off = omega arith
 expected_votes-ge s (entry ∷ past) off =
@@ -39,7 +39,7 @@ counted_once count false true apart = omega arith
 counted_once count false false apart = omega arith
 
 -- two disjoint views have at most all votes together
-disjoint_votes-le : (left right : View) → AreDisjoint left right → (rank : ℕ) (nodes : List NodeEntry)
+pub disjoint_votes-le : (left right : View) → AreDisjoint left right → (rank : ℕ) (nodes : List NodeEntry)
     → votes_from rank (node_votes nodes) left.members + votes_from rank (node_votes nodes) right.members ≤ all_votes nodes
 disjoint_votes-le left right apart rank [] = omega arith
 disjoint_votes-le left right apart rank (node ∷ nodes) =

@@ -1,6 +1,7 @@
 -- How the status of `count` and the way in which its input ended belong together.
 use Rattle.std.specs.Prelude.{◌≡◌, ◌⊎◌, ℕ, ◌+◌, Bool, true, false, cond, List, [], ◌∷◌, length, Result, Ok, Err, nat_lt}
 use Rattle.std.proofs.Common.{refl, inl, inr}
+use Rattle.qn_base.specs.declared.limits.TheConstants.{MOST_LINE_BYTES}
 use Rattle.qn_model.specs.declared.line_fault.LineFault.{LineFault}
 use Rattle.qn_model.specs.declared.line_fault.LineFault.TheVariants.{TooLong}
 use Rattle.qn_model.specs.declared.count_line.CountLine.{CountLine}
@@ -25,7 +26,7 @@ end_fits so_far Ended (byte ∷ rest) = inr refl
 last_line_fits : (so_far : Counted) (ending : Ending) (rest : List ℕ) → StatusFits ending (last_line so_far ending rest).status
 unfolding last_line
 last_line_fits so_far ending rest =
-    elim (nat_lt 4096 (length rest)) as (λ b. StatusFits ending (cond b (bad_line (so_far.lines + 1) TooLong) (end_of_input so_far ending rest)).status)
+    elim (nat_lt MOST_LINE_BYTES (length rest)) as (λ b. StatusFits ending (cond b (bad_line (so_far.lines + 1) TooLong) (end_of_input so_far ending rest)).status)
     [ true ↦ bad_line_fits ending (so_far.lines + 1) TooLong | false ↦ end_fits so_far ending rest ]
 
 go_on_fits : (so_far : Counted) (ending : Ending) (judged : Result CountLine LineFault) (next : CountLine → Outcome)

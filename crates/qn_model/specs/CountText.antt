@@ -4,6 +4,8 @@ use Rattle.std.specs.Prelude.{ℕ, ◌+◌, ◌-◌, ◌/◌, ◌^◌, Bool, tru
 use Rattle.std.specs.List.{list_any}
 use Rattle.std.specs.Str.{bytes_eq}
 use Rattle.qn_base.specs.declared.ids.Mask.{Mask}
+use Rattle.qn_base.specs.declared.limits.TheConstants.{MOST_EVENTS, MOST_LINE_BYTES}
+use Rattle.qn_base.specs.Text.{yes_no}
 use Rattle.qn_model.specs.declared.nodelist.NodeEntry.{NodeEntry}
 use Rattle.qn_model.specs.declared.line_fault.LineFault.{LineFault}
 use Rattle.qn_model.specs.declared.line_fault.LineFault.TheVariants.{UnknownWord, TooLong, Unended, TooMany, RepeatedNode}
@@ -50,8 +52,8 @@ line_of_words nodes (first ∷ words) =
 -- a whole line, without its end
 unfoldable pub line_of : Counted → List ℕ → Result CountLine LineFault
 line_of so_far line =
-    if nat_lt 4096 (length line) then Err TooLong
-    else (if so_far.lines == 200000 then Err TooMany else line_of_words so_far.nodes (words_of line))
+    if nat_lt MOST_LINE_BYTES (length line) then Err TooLong
+    else (if so_far.lines == MOST_EVENTS then Err TooMany else line_of_words so_far.nodes (words_of line))
 
 -- the sum of the votes of the node lines so far
 abbrev pub expected_of : List NodeEntry → ℕ
@@ -60,10 +62,6 @@ expected_of nodes = sum_by (λ n. n.votes) nodes
 -- votequorum(5): more than half of the expected votes
 abbrev pub majority_of : ℕ → ℕ
 majority_of expected = expected / 2 + 1
-
-abbrev pub yes_no : Bool → List ℕ
-yes_no true = codes "yes"
-yes_no false = codes "no"
 
 -- what a view line writes: its votes, and whether they are a majority
 unfoldable pub view_text : List NodeEntry → ℕ → Mask → List ℕ
@@ -95,7 +93,7 @@ end_of_input so_far Ended (byte ∷ rest) = bad_line (so_far.lines + 1) Unended
 
 -- the same, where too many bytes of a line come before everything else
 unfoldable pub last_line : Counted → Ending → List ℕ → Outcome
-last_line so_far ending rest = if nat_lt 4096 (length rest) then bad_line (so_far.lines + 1) TooLong else end_of_input so_far ending rest
+last_line so_far ending rest = if nat_lt MOST_LINE_BYTES (length rest) then bad_line (so_far.lines + 1) TooLong else end_of_input so_far ending rest
 
 -- go on with a good line, or end at the fault
 abbrev pub go_on : Counted → Result CountLine LineFault → (CountLine → Outcome) → Outcome

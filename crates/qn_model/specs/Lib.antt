@@ -5,10 +5,12 @@ pub mod Hearing
 pub mod Holding
 pub mod Inputs
 pub mod Laws
+pub mod LeastMembers
 pub mod Licences
 pub mod LineLaws
 pub mod Lines
 pub mod Log
+pub mod Messages
 pub mod Moments
 pub mod NodeOutputs
 pub mod NodeVotes

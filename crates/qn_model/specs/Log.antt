@@ -60,7 +60,14 @@ is_answer (what.Cleared ok) = true
 is_answer (what.MailRead seen) = true
 is_answer (what.MailWritten rank ok) = true
 is_answer (what.Closed ok) = true
-is_answer entry = false
+is_answer what.Begin = false
+is_answer (what.View view) = false
+is_answer (what.Ask ask) = false
+is_answer (what.Tell tell) = false
+is_answer (what.Device agrees) = false
+is_answer what.Tick = false
+is_answer (what.Stopped ok) = false
+is_answer what.Leave = false
 
 -- the disk operation that is out: the last one, where no answer came after it
 unfoldable pub op_out : List Line → Option DiskOp

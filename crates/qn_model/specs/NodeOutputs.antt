@@ -51,11 +51,33 @@ is_boot_step (what.Header seen) = true
 is_boot_step (what.SlotRead rank seen) = true
 is_boot_step (what.Claimed ok) = true
 is_boot_step (what.Cleared ok) = true
-is_boot_step entry = false
+is_boot_step (what.MailRead seen) = false
+is_boot_step (what.MailWritten rank ok) = false
+is_boot_step (what.View view) = false
+is_boot_step (what.Ask ask) = false
+is_boot_step (what.Tell tell) = false
+is_boot_step (what.Device agrees) = false
+is_boot_step what.Tick = false
+is_boot_step (what.Stopped ok) = false
+is_boot_step what.Leave = false
+is_boot_step (what.Closed ok) = false
 
 abbrev pub is_begin : What → Bool
 is_begin what.Begin = true
-is_begin entry = false
+is_begin (what.Header seen) = false
+is_begin (what.SlotRead rank seen) = false
+is_begin (what.Claimed ok) = false
+is_begin (what.Cleared ok) = false
+is_begin (what.MailRead seen) = false
+is_begin (what.MailWritten rank ok) = false
+is_begin (what.View view) = false
+is_begin (what.Ask ask) = false
+is_begin (what.Tell tell) = false
+is_begin (what.Device agrees) = false
+is_begin what.Tick = false
+is_begin (what.Stopped ok) = false
+is_begin what.Leave = false
+is_begin (what.Closed ok) = false
 
 -- sbd(8), `watch`: an entry of a node that takes part feeds the watchdog where it is a read of the mailbox
 -- in time that gave a message that is not deadly

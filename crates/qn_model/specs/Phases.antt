@@ -38,7 +38,17 @@ boot_halt s (what.Header seen) = header_halt s seen
 boot_halt s (what.SlotRead rank seen) = slot_halt seen
 boot_halt s (what.Claimed ok) = if ok then None else Some cause.ClaimFailed
 boot_halt s (what.Cleared ok) = if ok then None else Some cause.ClearFailed
-boot_halt s entry = None
+boot_halt s what.Begin = None
+boot_halt s (what.MailRead seen) = None
+boot_halt s (what.MailWritten rank ok) = None
+boot_halt s (what.View view) = None
+boot_halt s (what.Ask ask) = None
+boot_halt s (what.Tell tell) = None
+boot_halt s (what.Device agrees) = None
+boot_halt s what.Tick = None
+boot_halt s (what.Stopped ok) = None
+boot_halt s what.Leave = None
+boot_halt s (what.Closed ok) = None
 
 -- the message that a read of the mailbox gave
 abbrev pub message_of : What → Option Message
@@ -101,7 +111,13 @@ next_phase s (what.Cleared ok) timely before = if ok then Up else Gone
 next_phase s (what.MailRead seen) timely before = mail_phase (message_of (what.MailRead seen)) timely before
 next_phase s what.Leave timely before = Leaving
 next_phase s (what.Closed ok) timely before = Gone
-next_phase s entry timely before = before
+next_phase s (what.MailWritten rank ok) timely before = before
+next_phase s (what.View view) timely before = before
+next_phase s (what.Ask ask) timely before = before
+next_phase s (what.Tell tell) timely before = before
+next_phase s (what.Device agrees) timely before = before
+next_phase s what.Tick timely before = before
+next_phase s (what.Stopped ok) timely before = before
 
 -- the phase of a node
 unfoldable pub phase : Settings → List Line → Phase

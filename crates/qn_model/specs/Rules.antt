@@ -4,6 +4,7 @@ use Rattle.std.specs.Option.{option_or, option_map_or}
 use Rattle.std.specs.List.{list_all, range_with_len}
 use Rattle.qn_base.specs.declared.ids.Rank.{Rank}
 use Rattle.qn_base.specs.Members.{is_member}
+use Rattle.qn_base.specs.declared.limits.TheConstants.{MOST_EVENTS}
 use Rattle.qn_model.specs.declared.configuration.Settings.{Settings}
 use Rattle.qn_model.specs.declared.times.Timing.{Timing}
 use Rattle.qn_model.specs.declared.events.Event.{Event}
@@ -34,7 +35,7 @@ is_well_formed s (event.Crash rank) = is_configured s rank.0
 is_well_formed s (event.Land rank) = is_configured s rank.0
 is_well_formed s (event.Done rank) = is_configured s rank.0
 is_well_formed s (event.Fail rank) = is_configured s rank.0
-is_well_formed s (event.Late rank number) = is_configured s rank.0 && is_between 1 200000 number
+is_well_formed s (event.Late rank number) = is_configured s rank.0 && is_between 1 MOST_EVENTS number
 is_well_formed s (event.View rank view) =
     is_configured s rank.0 && nat_lt view.id (2 ^ 64) && is_between 1 (2 ^ length s.nodes - 1) view.members.0
 is_well_formed s (event.Deliver rank number) = is_configured s rank.0 && nat_lt number (2 ^ 64)

@@ -1,5 +1,6 @@
 use Rattle.std.specs.Prelude.{◌≡◌, ◌≤◌, ℕ, List, length, map, sum_by, All, IsTrue, IfSome, IsNone}
 use Rattle.std.specs.List.Sorted.{IsStrictlyIncreasing}
+use Rattle.qn_base.specs.declared.limits.TheConstants.{LONGEST_PERIOD}
 use Rattle.qn_model.specs.declared.nodelist.NodeEntry.{NodeEntry}
 use Rattle.qn_model.specs.declared.configuration.Settings.{Settings}
 
@@ -17,7 +18,7 @@ all_votes nodes = sum_by (λ n. n.votes) nodes
 
 -- a time in milliseconds that a settings text may give: up to one hour
 abbrev pub IsPeriod : ℕ → Type 0
-IsPeriod time = (1 ≤ time) × (time ≤ 3600000)
+IsPeriod time = (1 ≤ time) × (time ≤ LONGEST_PERIOD)
 
 -- every node has exactly one vote
 abbrev pub HasOneVoteEach : List NodeEntry → Type 0

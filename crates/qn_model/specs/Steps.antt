@@ -130,7 +130,16 @@ hands_nothing (event.Crash rank) = true
 hands_nothing (event.Land rank) = true
 hands_nothing (event.Late rank number) = true
 hands_nothing (event.Feed rank) = true
-hands_nothing event = false
+hands_nothing (event.Boot rank base) = false
+hands_nothing (event.Done rank) = false
+hands_nothing (event.Fail rank) = false
+hands_nothing (event.View rank view) = false
+hands_nothing (event.Deliver rank number) = false
+hands_nothing (event.Device rank agrees) = false
+hands_nothing (event.Tick rank) = false
+hands_nothing (event.Stopped rank) = false
+hands_nothing (event.Unstopped rank) = false
+hands_nothing (event.Leave rank) = false
 
 -- the outputs of the newest entry of a rank
 abbrev pub outs_at_rank : Settings → World → Rank → List Out

@@ -32,7 +32,16 @@ boot_op me (what.Header seen) = Some (disk.ReadSlot (rank_of me))
 boot_op me (what.SlotRead rank seen) = claim_after seen
 boot_op me (what.Claimed ok) = Some disk.WriteClear
 boot_op me (what.Cleared ok) = Some disk.ReadMail
-boot_op me entry = None
+boot_op me (what.MailRead seen) = None
+boot_op me (what.MailWritten rank ok) = None
+boot_op me (what.View view) = None
+boot_op me (what.Ask ask) = None
+boot_op me (what.Tell tell) = None
+boot_op me (what.Device agrees) = None
+boot_op me what.Tick = None
+boot_op me (what.Stopped ok) = None
+boot_op me what.Leave = None
+boot_op me (what.Closed ok) = None
 
 -- a read of the own mailbox is asked for
 abbrev pub asks_mail : Option DiskOp → Bool

@@ -52,13 +52,21 @@ op_at s rank w = op_out (node_at s rank w).log
 abbrev pub slots_with : ℕ → DiskOp → (ℕ → Slot) → ℕ → Slot
 slots_with rank (disk.WriteClaim number) slots = put slots rank (record { incarnation = number; clean = false })
 slots_with rank (disk.WriteClose number) slots = put slots rank (record { incarnation = number; clean = true })
-slots_with rank op slots = slots
+slots_with rank disk.ReadHeader slots = slots
+slots_with rank (disk.ReadSlot other) slots = slots
+slots_with rank disk.WriteClear slots = slots
+slots_with rank disk.ReadMail slots = slots
+slots_with rank (disk.WriteReset other) slots = slots
 
 -- the mailboxes after a write of a rank landed
 abbrev pub mailboxes_with : ℕ → DiskOp → (ℕ → Message) → ℕ → Message
 mailboxes_with rank disk.WriteClear mailboxes = put mailboxes rank message.Empty
 mailboxes_with rank (disk.WriteReset other) mailboxes = put mailboxes other.0 message.Reset
-mailboxes_with rank op mailboxes = mailboxes
+mailboxes_with rank disk.ReadHeader mailboxes = mailboxes
+mailboxes_with rank (disk.ReadSlot other) mailboxes = mailboxes
+mailboxes_with rank (disk.WriteClaim number) mailboxes = mailboxes
+mailboxes_with rank disk.ReadMail mailboxes = mailboxes
+mailboxes_with rank (disk.WriteClose number) mailboxes = mailboxes
 
 -- the entry that answers an operation of a rank that lands: a read takes the value of its sector
 unfoldable pub taken : Settings → Timing → ℕ → DiskOp → World → What
@@ -84,7 +92,10 @@ abbrev pub is_write : DiskOp → Bool
 is_write disk.ReadHeader = false
 is_write (disk.ReadSlot other) = false
 is_write disk.ReadMail = false
-is_write op = true
+is_write (disk.WriteClaim number) = true
+is_write disk.WriteClear = true
+is_write (disk.WriteReset other) = true
+is_write (disk.WriteClose number) = true
 
 -- a write that is given up before it landed, as a leftover
 abbrev pub given_up : Option DiskOp → Option What → List DiskOp

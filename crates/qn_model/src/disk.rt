@@ -18,13 +18,49 @@ pub enum Message {
 }
 
 impl Message {
-    ghost use Rattle.std.specs.Prelude.{◌≡◌};
+    ghost use Rattle.std.specs.Prelude.{◌≡◌, ◌≤◌, IfSome, Some, length};
+    ghost use Rattle.qn_model.specs.declared.disk.Message.{Message};
+    ghost use Rattle.qn_model.specs.Messages.{message_name};
     ghost use Rattle.qn_model.specs.Sectors.{is_deadly};
 
     /// Whether the node that reads the message is down afterwards: Reset, Off and Crashdump.
     pub fn is_deadly(self) -> bool
         ensures { result ≡ is_deadly self }
     {
-        matches!(self, Message::Reset | Message::Off | Message::Crashdump)
+        match self {
+            Message::Reset | Message::Off | Message::Crashdump => true,
+            Message::Empty | Message::Test | Message::Exit => false,
+        }
+    }
+
+    /// The name of the message: `empty`, `test`, `reset`, `off`, `exit` or `crashdump`.
+    pub fn name(self) -> &'static str
+        ensures text { result.now ≡ message_name self }
+        ensures len { length result.now ≤ 9 }
+    {
+        match self {
+            Message::Empty => "empty",
+            Message::Test => "test",
+            Message::Reset => "reset",
+            Message::Off => "off",
+            Message::Exit => "exit",
+            Message::Crashdump => "crashdump",
+        }
+    }
+
+    /// The message of that name, where there is one.
+    pub fn from_name(name: &str) -> Option<Message>
+        ensures named { IfSome result (λ message. name.now ≡ message_name message) }
+        ensures every { (message : Message) → name.now ≡ message_name message → result ≡ Some message }
+    {
+        match name {
+            "empty" => Some(Message::Empty),
+            "test" => Some(Message::Test),
+            "reset" => Some(Message::Reset),
+            "off" => Some(Message::Off),
+            "exit" => Some(Message::Exit),
+            "crashdump" => Some(Message::Crashdump),
+            _ => None,
+        }
     }
 }

@@ -1,3 +1,4 @@
+use crate::outputs::DiskOp;
 use crate::packets::{Ask, Tell};
 use crate::seen::{HeaderSeen, MailSeen, SlotSeen};
 use qn_base::{Rank, View};
@@ -43,4 +44,64 @@ pub enum What {
     Leave,
     /// The answer of the write that marks the own slot as clean: whether it succeeded.
     Closed(bool),
+}
+
+impl What {
+    ghost use Rattle.std.specs.Prelude.{◌≡◌};
+    ghost use Rattle.qn_model.specs.Fitting.{answers_op};
+    ghost use Rattle.qn_model.specs.Holding.{answers_stop};
+    ghost use Rattle.qn_model.specs.Log.{is_answer, is_view};
+
+    /// Whether the entry is the answer of a disk operation.
+    pub fn is_answer(self) -> bool
+        ensures { result ≡ is_answer self }
+    {
+        match self {
+            What::Header(_)
+            | What::SlotRead(..)
+            | What::Claimed(_)
+            | What::Cleared(_)
+            | What::MailRead(_)
+            | What::MailWritten(..)
+            | What::Closed(_) => true,
+            What::Begin
+            | What::View(_)
+            | What::Ask(_)
+            | What::Tell(_)
+            | What::Device(_)
+            | What::Tick
+            | What::Stopped(_)
+            | What::Leave => false,
+        }
+    }
+
+    /// Whether the entry answers this disk operation; no entry answers none.
+    pub fn answers(self, op: Option<DiskOp>) -> bool
+        ensures { result ≡ answers_op op self }
+    {
+        match op {
+            None => false,
+            Some(DiskOp::ReadHeader) => matches!(self, What::Header(_)),
+            Some(DiskOp::ReadSlot(rank)) => matches!(self, What::SlotRead(other, _) if rank.0 == other.0),
+            Some(DiskOp::WriteClaim(_)) => matches!(self, What::Claimed(_)),
+            Some(DiskOp::WriteClear) => matches!(self, What::Cleared(_)),
+            Some(DiskOp::ReadMail) => matches!(self, What::MailRead(_)),
+            Some(DiskOp::WriteReset(rank)) => matches!(self, What::MailWritten(other, _) if rank.0 == other.0),
+            Some(DiskOp::WriteClose(_)) => matches!(self, What::Closed(_)),
+        }
+    }
+
+    /// Whether the entry installs a view.
+    pub fn is_view(self) -> bool
+        ensures { result ≡ is_view self }
+    {
+        matches!(self, What::View(_))
+    }
+
+    /// Whether the entry answers a Stop of the resource.
+    pub fn answers_stop(self) -> bool
+        ensures { result ≡ answers_stop self }
+    {
+        matches!(self, What::Stopped(_))
+    }
 }

@@ -1,9 +1,11 @@
-ghost use Rattle.std.specs.Prelude.{◌≡◌, ℕ, List, Some, IsTrue, Any, Contains, false};
+ghost use Rattle.std.specs.Prelude.{◌≡◌, ◌≤◌, ◌+◌, ℕ, List, Some, IsTrue, Any, Contains, false};
 ghost use Rattle.qn_base.specs.declared.ids.View.{View};
 ghost use Rattle.qn_model.specs.declared.configuration.Settings.{Settings};
 ghost use Rattle.qn_model.specs.declared.votes.VoteEntry.{VoteEntry};
 ghost use Rattle.qn_model.specs.Laws.{AreDisjoint, IsPlainMajority};
-ghost use Rattle.qn_model.specs.Votes.{is_quorate, present_view, releases};
+ghost use Rattle.qn_model.specs.declared.nodelist.NodeEntry.{NodeEntry};
+ghost use Rattle.qn_model.specs.Settings.{all_votes};
+ghost use Rattle.qn_model.specs.Votes.{expected_votes, is_quorate, present_view, releases, votes_among};
 ghost use Rattle.qn_base.specs.declared.ids.Rank.{Rank};
 ghost use Rattle.qn_model.specs.declared.entries.Entry.{Entry};
 ghost use Rattle.qn_model.specs.NodeVotes.{is_in_view, quorate, view};
@@ -27,6 +29,17 @@ pub fn law_disjoint_views()
         → AreDisjoint left right
         → IsTrue (quorate s (log_of s me first) tick)
         → ¬ IsTrue (quorate s (log_of s other second) later) }
+{}
+
+/// Two views that have no node in common have at most the votes of all nodes together. Without
+/// last_man_standing the expected votes are never below those of the settings.
+pub fn law_disjoint_votes()
+    ensures together { (nodes : List NodeEntry) (left right : View)
+        → AreDisjoint left right
+        → votes_among nodes left.members + votes_among nodes right.members ≤ all_votes nodes }
+    ensures expected { (s : Settings) (votes : List VoteEntry)
+        → s.last_man_standing ≡ false
+        → s.expected ≤ expected_votes s votes }
 {}
 
 /// With wait_for_all on, a vote list is quorate only where one of its entries released: a view of all

@@ -33,7 +33,7 @@ pub use count_rows::{law_count_ending, law_empty_count, law_half_and_majority};
 pub use disk::{Message, Slot};
 pub use entries::{Entry, What};
 pub use events::Event;
-pub use laws::{law_disjoint_views, law_released_first, law_reset_outside};
+pub use laws::{law_disjoint_views, law_disjoint_votes, law_released_first, law_reset_outside};
 pub use life::{Phase, Why};
 pub use line_fault::LineFault;
 pub use nodelist::{NodeEntry, Nodes};

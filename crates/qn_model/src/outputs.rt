@@ -24,6 +24,24 @@ pub enum DiskOp {
     WriteClose(u64),
 }
 
+impl DiskOp {
+    ghost use Rattle.std.specs.Prelude.{◌≡◌};
+    ghost use Rattle.qn_model.specs.World.{is_write};
+
+    /// Whether the operation writes, so that it can be left over where its node ends before it landed.
+    pub fn is_write(self) -> bool
+        ensures { result ≡ is_write self }
+    {
+        match self {
+            DiskOp::ReadHeader | DiskOp::ReadSlot(_) | DiskOp::ReadMail => false,
+            DiskOp::WriteClaim(_)
+            | DiskOp::WriteClear
+            | DiskOp::WriteReset(_)
+            | DiskOp::WriteClose(_) => true,
+        }
+    }
+}
+
 /// Why a boot halts.
 #[derive(Clone, Copy, PartialEq, Eq, Debug)]
 pub enum BootCause {
@@ -81,6 +99,9 @@ impl Model for Outs {
 }
 
 impl Outs {
+    ghost use Rattle.qn_model.specs.Log.{disk_of, has_start, has_stop};
+    ghost use Rattle.qn_model.specs.Moments.{has_feed};
+
     /// No outputs.
     pub fn new() -> Self
         ensures { result ≡ [] }
@@ -143,5 +164,53 @@ impl Outs {
         ensures fits { length result.now ≤ 40 }
     {
         self.outs.as_slice()
+    }
+
+    /// The first disk operation among the outputs.
+    pub fn disk(&self) -> Option<DiskOp>
+        ensures { result ≡ disk_of self.now }
+    {
+        for out in self.as_slice() {
+            if let Out::Disk(op) = out {
+                return Some(*op);
+            }
+        }
+        None
+    }
+
+    /// Whether a Stop is among the outputs.
+    pub fn has_stop(&self) -> bool
+        ensures { result ≡ has_stop self.now }
+    {
+        for out in self.as_slice() {
+            if matches!(out, Out::Stop) {
+                return true;
+            }
+        }
+        false
+    }
+
+    /// Whether a Start is among the outputs.
+    pub fn has_start(&self) -> bool
+        ensures { result ≡ has_start self.now }
+    {
+        for out in self.as_slice() {
+            if matches!(out, Out::Start) {
+                return true;
+            }
+        }
+        false
+    }
+
+    /// Whether a Feed is among the outputs.
+    pub fn has_feed(&self) -> bool
+        ensures { result ≡ has_feed self.now }
+    {
+        for out in self.as_slice() {
+            if matches!(out, Out::Feed) {
+                return true;
+            }
+        }
+        false
     }
 }

@@ -1,6 +1,8 @@
 ghost use Rattle.std.specs.Prelude.{◌≡◌, ◌≤◌, IsTrue};
 ghost use Rattle.qn_model.specs.Timing.{is_period, is_safe, outlasts_feeds};
 
+use qn_base::LONGEST_PERIOD;
+
 /// The five times of an image, in milliseconds: the watchdog, how long a written message takes to be
 /// met (msgwait), the loop, the limit of a mailbox read, and the delay of a feed (sbd(8); read limit and
 /// feed delay are this project's profile).
@@ -15,15 +17,29 @@ pub struct Timing {
 
 impl Timing {
     ghost use Rattle.std.specs.Prelude.{◌≡◌, ◌≤◌, IsTrue};
-    ghost use Rattle.qn_model.specs.Timing.{has_periods};
+    ghost use Rattle.qn_model.specs.Timing.{has_periods, usual_times};
 
-    /// Whether each of the times is 1 to 3600000 milliseconds.
+    /// The times that an image gets where none are given: 5000, 10000, 1000, 2000 and 1000 (sbd(8); read limit
+    /// and feed delay are this project's profile).
+    pub fn usual() -> Timing
+        ensures { result ≡ usual_times }
+    {
+        Timing {
+            watchdog: 5000,
+            msgwait: 10000,
+            loop_ms: 1000,
+            read_limit: 2000,
+            feed_delay: 1000,
+        }
+    }
+
+    /// Whether each of the times is 1 to `LONGEST_PERIOD` milliseconds.
     pub fn has_periods(&self) -> bool
         ensures exact { result ≡ has_periods self.now }
-        ensures watchdog { IsTrue result → self.now.watchdog ≤ 3600000 }
-        ensures msgwait { IsTrue result → self.now.msgwait ≤ 3600000 }
-        ensures read_limit { IsTrue result → self.now.read_limit ≤ 3600000 }
-        ensures feed_delay { IsTrue result → self.now.feed_delay ≤ 3600000 }
+        ensures watchdog { IsTrue result → self.now.watchdog ≤ LONGEST_PERIOD }
+        ensures msgwait { IsTrue result → self.now.msgwait ≤ LONGEST_PERIOD }
+        ensures read_limit { IsTrue result → self.now.read_limit ≤ LONGEST_PERIOD }
+        ensures feed_delay { IsTrue result → self.now.feed_delay ≤ LONGEST_PERIOD }
     {
         is_period(self.watchdog)
             && is_period(self.msgwait)
@@ -33,7 +49,7 @@ impl Timing {
     }
 }
 
-/// Whether each time is 1 to 3600000 milliseconds, and a node that misses a reset written to its
+/// Whether each time is 1 to `LONGEST_PERIOD` milliseconds, and a node that misses a reset written to its
 /// mailbox is down within msgwait, with clocks that may be one per cent off.
 pub fn timing_safe(timing: &Timing) -> bool
     ensures { result ≡ is_safe timing.now }
@@ -43,16 +59,16 @@ pub fn timing_safe(timing: &Timing) -> bool
 
 fn is_period(time: u64) -> bool
     ensures exact { result ≡ is_period time }
-    ensures bounds { IsTrue result → (1 ≤ time) × (time ≤ 3600000) }
+    ensures bounds { IsTrue result → (1 ≤ time) × (time ≤ LONGEST_PERIOD) }
 {
-    time >= 1 && time <= 3_600_000
+    time >= 1 && time <= LONGEST_PERIOD
 }
 
 fn outlasts_feeds(timing: &Timing) -> bool
-    requires watchdog { timing.now.watchdog ≤ 3600000 }
-    requires msgwait { timing.now.msgwait ≤ 3600000 }
-    requires read_limit { timing.now.read_limit ≤ 3600000 }
-    requires feed_delay { timing.now.feed_delay ≤ 3600000 }
+    requires watchdog { timing.now.watchdog ≤ LONGEST_PERIOD }
+    requires msgwait { timing.now.msgwait ≤ LONGEST_PERIOD }
+    requires read_limit { timing.now.read_limit ≤ LONGEST_PERIOD }
+    requires feed_delay { timing.now.feed_delay ≤ LONGEST_PERIOD }
     ensures { result ≡ outlasts_feeds timing.now }
 {
     let silence = timing.read_limit + 1 + timing.watchdog + timing.feed_delay;

@@ -1,12 +1,13 @@
--- How the calls of one plan after another join: what `Did` and `At` say, step by step.
+-- Laws of plans: how the calls of one plan after another join, and what `Did` and `At` say, step by step. This project's
+-- profile.
 use Rattle.std.proofs.Common.{◌≡◌, ◌≤◌, ◌<◌, ℕ, Bool, true, false, ◌||◌, Option, None, Some, List, [], ◌∷◌, ◌++◌, refl, sym, ap, subst, ◌∙◌, append_assoc, arith}
 use Rattle.std.proofs.lemmas.List.{append-nil}
 use Rattle.std.proofs.Math.Bool.{or_assoc}
 use Rattle.qn_base.specs.declared.calls.Call.{Call}
 use Rattle.qn_base.specs.Calls.{blank, is_failed, some_failed}
 use Rattle.qn_base.specs.Faults.{HasRisen}
-use Rattle.qn_base.specs.Plans.{Plan, Ends, Asks, ◌>>=◌, Follows, AddsAll, Made, Did, At}
-use Rattle.qn_base.proofs.Rising.{HasRisen-within}
+use Rattle.qn_base.specs.Plans.{Plan, Ends, Asks, ◌>>=◌, Follows, AddsAll, Made, Did, At, question, left}
+use Rattle.qn_base.specs.Rising.{HasRisen-within}
 
 -- no call adds nothing
 AddsAll-none : (told : Option (List Call)) → AddsAll told told []
@@ -123,3 +124,29 @@ no_longer (Ends end) [] call more value other h k = cc
 no_longer (Ends end) (first ∷ calls) call more value other h k = cc
 no_longer (Asks question left) [] call more value other h k = absurd h
 no_longer (Asks question left) (first ∷ calls) call more value other h k = no_longer (left first) calls call more value other h.1 k.1
+
+-- one call further: the calls of what is left after a call, and that call before them
+pub follows_call : {A : Type 0} (plan : Plan A) (call : Call) (more : List Call) (value : A) → question plan ≡ Some (blank call) → Follows (left plan call) more value → Follows plan (call ∷ more) value
+follows_call (Ends end) call more value asked follows = absurd cc
+follows_call (Asks wanted left_of) call more value asked follows = (cc, follows)
+
+-- the call that comes next was made
+pub at_call : {A : Type 0} {f g h : ℕ} {a b c : Option (List Call)} {whole plan : Plan A} {call : Call} → At f g a b whole plan → question plan ≡ Some (blank call) → Made g h b c (call ∷ []) → At f h a c whole (left plan call)
+at_call {plan} {call} before asked made =
+    record {
+      calls = before.calls ++ call ∷ [];
+      made = made_then before.made made;
+      goes_on =
+          λ more value follows.
+          rw (append_assoc before.calls (call ∷ []) more) (before.goes_on (call ∷ more) value (follows_call plan call more value asked follows));
+    }
+
+-- no call is left
+pub at_over : {A : Type 0} {f g : ℕ} {a b : Option (List Call)} {whole plan : Plan A} {value : A} → At f g a b whole plan → plan ≡ Ends value → Did f g a b whole value
+at_over {whole} {plan} {value} before over =
+    let ended : Follows plan [] value = rw over (refl, refl) in
+    record {
+      calls = before.calls;
+      made = before.made;
+      follows = subst (λ (x : List Call). Follows whole x value) (append-nil before.calls) (before.goes_on [] value ended);
+    }

@@ -1,4 +1,4 @@
--- The least number that passes a test, by what is known of it, and read off a mask.
+-- Laws of the least number that passes a test: by what is known of it, and read off a mask. This project's profile.
 use Rattle.std.proofs.Common.{◌≡◌, ℕ, suc, zero, ◌+◌, ◌<◌, ◌≤◌, Bool, true, false, Some, None, refl, cond, ap, sym, ◌∙◌, arith, ◌⊎◌, inl, inr, subst}
 use Rattle.std.proofs.lemmas.Bool.{cases_lt}
 use Rattle.std.specs.Prelude.{Option, IfSome, IfNone}
