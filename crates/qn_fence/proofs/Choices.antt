@@ -13,7 +13,7 @@ use Rattle.qn_model.specs.NodeVotes.{is_in_view}
 use Rattle.qn_model.specs.Licences.{is_clean, is_fenced, is_licensed, is_slot_seen, is_written, left_to_wait, reset_tick}
 use Rattle.qn_model.specs.Unmet.{least_from, least_rank, unfenced}
 use Rattle.qn_model.specs.Wanted.{rank_of, to_read, to_reset}
-use Rattle.qn_model.proofs.LeastMembers.{first-least}
+use Rattle.qn_model.specs.LeastMembers.{first-least}
 use Rattle.qn_fence.specs.declared.fencing.Fence.{Fence}
 use Rattle.qn_fence.specs.Fence.{FenceFor, is_waited_for, left_at, unfenced_at}
 

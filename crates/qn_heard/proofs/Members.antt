@@ -16,7 +16,7 @@ use Rattle.qn_model.specs.Wanted.{rank_of}
 use Rattle.qn_model.specs.NodeVotes.{view, is_in_view}
 use Rattle.qn_model.specs.Hearing.{is_free, is_held}
 use Rattle.qn_model.specs.Unmet.{holder, least_from, least_rank, unheard}
-use Rattle.qn_model.proofs.LeastMembers.{first-least}
+use Rattle.qn_model.specs.LeastMembers.{first-least}
 use Rattle.qn_heard.specs.declared.listener.Heard.{Heard}
 use Rattle.qn_heard.specs.Heard.{Hears, is_told}
 

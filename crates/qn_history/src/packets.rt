@@ -1,6 +1,6 @@
 ghost use Rattle.std.specs.Prelude.{◌≡◌, [], ◌∷◌, length, map, take, slice_get, Some, OnOk, IfOk};
 ghost use Rattle.qn_base.specs.Decimal.{number_of};
-ghost use Rattle.qn_model.specs.CountText.{yes_no};
+ghost use Rattle.qn_base.specs.Text.{yes_no};
 
 use crate::faults::HistoryFault;
 use crate::words::{read_number, read_rank, read_truth, read_view};

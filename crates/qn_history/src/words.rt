@@ -1,6 +1,6 @@
 ghost use Rattle.std.specs.Prelude.{◌≡◌, ◌<◌, ◌^◌, ℕ, Bool, Some, Ok, IfOk, IfErr, IsOk, ok_or};
 ghost use Rattle.qn_base.specs.Decimal.{number_of};
-ghost use Rattle.qn_model.specs.CountText.{yes_no};
+ghost use Rattle.qn_base.specs.Text.{yes_no};
 ghost use Rattle.qn_model.specs.declared.disk.Message.{Message};
 ghost use Rattle.qn_history.specs.Words.{message_word};
 

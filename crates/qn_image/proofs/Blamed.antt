@@ -59,7 +59,7 @@ damaged_mailbox rank slot mail found is = (
 -- a call that asks for a read, and did not fail, read the bytes that it tells
 asked_read : (call : Call) (sector : ℕ) → blank call ≡ Read sector [] true → is_failed call ≡ false → call ≡ Read sector (bytes_read call) true
 asked_read (OpenImage path ok) sector asked done = cc
-asked_read (OpenNode image watchdog resource port rank ok) sector asked done = cc
+asked_read (OpenNode images image watchdog resource port rank ok) sector asked done = cc
 asked_read (Now tick) sector asked done = cc
 asked_read (Receive got) sector asked done = cc
 asked_read (Read place found true) sector asked done = cc

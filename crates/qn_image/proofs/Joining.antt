@@ -2,7 +2,7 @@
 use Rattle.std.proofs.Common.{◌≡◌, ℕ, Result, Ok, Err, Option, List, refl}
 use Rattle.qn_base.specs.declared.calls.Call.{Call}
 use Rattle.qn_base.specs.Plans.{Plan, Ends, ◌>>=◌, Did}
-use Rattle.qn_base.proofs.Steps.{did_then, did_map}
+use Rattle.qn_base.specs.PlanSteps.{did_then, did_map}
 use Rattle.qn_image.specs.declared.fault.ImageFault.{ImageFault}
 use Rattle.qn_image.specs.Plans.{or_fault}
 

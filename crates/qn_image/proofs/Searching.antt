@@ -3,7 +3,7 @@ use Rattle.std.proofs.Common.{◌≡◌, ◌<◌, ◌≤◌, ◌+◌, ◌-◌, �
 use Rattle.qn_base.specs.declared.calls.Call.{Call}
 use Rattle.qn_base.specs.declared.ids.NodeId.{NodeId}
 use Rattle.qn_base.specs.Plans.{Plan, Ends, ◌>>=◌, Did, At}
-use Rattle.qn_base.proofs.Steps.{did_none, at_then, at_end}
+use Rattle.qn_base.specs.PlanSteps.{did_none, at_then, at_end}
 use Rattle.qn_model.specs.declared.disk.Message.{Message}
 use Rattle.qn_model.specs.declared.disk.Slot.{Slot}
 use Rattle.qn_model.specs.Sectors.{mail_place, mail_bytes}

@@ -16,7 +16,7 @@ use Rattle.qn_image.specs.Writes.{SectorWrite, writes_plan, create_writes, creat
 -- a call that asks for a write is that write
 asked_write : (call : Call) (sector : ℕ) (bytes : List ℕ) → blank call ≡ Write sector bytes true → call ≡ Write sector bytes (not (is_failed call))
 asked_write (OpenImage path ok) sector bytes asked = cc
-asked_write (OpenNode image watchdog resource port rank ok) sector bytes asked = cc
+asked_write (OpenNode images image watchdog resource port rank ok) sector bytes asked = cc
 asked_write (Now tick) sector bytes asked = cc
 asked_write (Receive got) sector bytes asked = cc
 asked_write (Read place found ok) sector bytes asked = cc

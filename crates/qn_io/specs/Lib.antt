@@ -1,5 +1,6 @@
 pub mod Lines
 pub mod Memory
+pub mod Openings
 pub mod Outside
 pub mod Reads
 pub mod Receives

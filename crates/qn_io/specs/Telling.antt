@@ -15,7 +15,7 @@ is_told path = nat_le (length path) 256
 -- no path of the call is too long to be told
 abbrev pub is_tellable : Call → Bool
 is_tellable (call.OpenImage path ok) = is_told path
-is_tellable (call.OpenNode image watchdog resource port rank ok) = is_told image && is_told watchdog && is_told resource
+is_tellable (call.OpenNode images image watchdog resource port rank ok) = is_told image && is_told watchdog && is_told resource
 is_tellable _ = true
 
 -- the calls with one more, where there is room for it

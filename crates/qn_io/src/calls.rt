@@ -1,6 +1,6 @@
 ghost use Rattle.std.specs.Prelude.{◌≡◌, ℕ, ◌<◌, ◌≤◌, [], ◌∷◌, List, Option, true, false, OnOk, OnErr, is_ok, length};
 ghost use Rattle.qn_base.specs.declared.calls.Call.{Call};
-ghost use Rattle.qn_base.specs.declared.calls.Call.TheVariants.{OpenImage, OpenNode, Now, Receive, Read, Write, Feed, Start, Stop, Send, Disarm, Halt};
+ghost use Rattle.qn_base.specs.declared.calls.Call.TheVariants.{OpenImage, Now, Receive, Read, Write, Feed, Start, Stop, Send, Disarm, Halt};
 ghost use Rattle.qn_base.specs.Plans.{Made};
 ghost use Rattle.qn_io.specs.Receives.{FitsPacket, received};
 
@@ -18,10 +18,12 @@ pub const PACKET: usize = 129;
 /// The most bytes of a packet that is sent.
 pub const SENT_PACKET: usize = 128;
 
-/// What a running node opens: the paths of its image, of its watchdog and of its resource, and the
-/// first port of the cluster with its own rank, which together give the port that it listens at.
+/// What a running node opens: how many images it has, 1 for now, the path of its image, of its watchdog
+/// and of its resource, and the first port of the cluster with its own rank, which together give the port
+/// that it listens at.
 #[derive(Clone, Copy, Debug)]
 pub struct Opening<'a> {
+    pub images: u8,
     pub image: &'a str,
     pub watchdog: &'a str,
     pub resource: &'a str,
@@ -46,6 +48,8 @@ pub enum Got {
 /// is the list of all calls so far with their answers, of an outside that tells it. A call answers
 /// `Failed` only where the count of faults rose.
 pub trait Env {
+    ghost use Rattle.qn_io.specs.Openings.{node_opening};
+
     ghost faults: { Self → ℕ };
 
     ghost calls: { Self → Option (List Call) };
@@ -57,7 +61,7 @@ pub trait Env {
     /// Opens all that a running node uses.
     fn open_node(&mut self, opening: &Opening<'_>) -> Result<(), Failed>
         ensures { Made (faults self.old) (faults self.new) (calls self.old) (calls self.new)
-            (OpenNode opening.now.image.now opening.now.watchdog.now opening.now.resource.now opening.now.port opening.now.rank (is_ok result) ∷ []) };
+            (node_opening opening.now (is_ok result) ∷ []) };
 
     /// The time in milliseconds, from any start.
     fn now(&mut self) -> u64

@@ -74,9 +74,10 @@ impl MemEnv {
 
 impl Env for MemEnv {
     ghost use Rattle.std.specs.Prelude.{◌≡◌, ◌≢◌, ◌<◌, ◌≤◌, ◌↔◌, [], ◌∷◌, Some, true, false, IsErr, OnOk, OnErr, Contains, is_ok, length, drop, slice_get, slice_set};
-    ghost use Rattle.qn_base.specs.declared.calls.Call.TheVariants.{OpenImage, OpenNode, Now, Receive, Read, Write, Feed, Start, Stop, Send, Disarm, Halt};
+    ghost use Rattle.qn_base.specs.declared.calls.Call.TheVariants.{OpenImage, Now, Receive, Read, Write, Feed, Start, Stop, Send, Disarm, Halt};
     ghost use Rattle.qn_base.specs.declared.calls.Received.TheVariants as told;
     ghost use Rattle.qn_base.specs.Plans.{Made};
+    ghost use Rattle.qn_io.specs.Openings.{node_opening};
     ghost use Rattle.qn_io.specs.Receives.{FitsPacket, received};
     ghost use Rattle.qn_io.specs.Scripted.{after_call, first_packet, next_tick};
     ghost use Rattle.qn_io.specs.Telling.{telling_after};
@@ -96,9 +97,9 @@ impl Env for MemEnv {
     }
 
     fn open_node(&mut self, opening: &Opening<'_>) -> Result<(), Failed>
-        ensures made { Made self.old.counts.faults self.new.counts.faults self.old.telling.calls self.new.telling.calls (OpenNode opening.now.image.now opening.now.watchdog.now opening.now.resource.now opening.now.port opening.now.rank (is_ok result) ∷ []) }
+        ensures made { Made self.old.counts.faults self.new.counts.faults self.old.telling.calls self.new.telling.calls (node_opening opening.now (is_ok result) ∷ []) }
         ensures by_number { IsErr result ↔ Contains self.old.counts.fails self.new.counts.made }
-        ensures after { self.new ≡ after_call self.old (is_ok result) (OpenNode opening.now.image.now opening.now.watchdog.now opening.now.resource.now opening.now.port opening.now.rank (is_ok result)) }
+        ensures after { self.new ≡ after_call self.old (is_ok result) (node_opening opening.now (is_ok result)) }
     {
         let done = self.failures.done();
         self.told.add_open_node(opening, done.is_ok());

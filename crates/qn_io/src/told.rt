@@ -28,8 +28,9 @@ impl Model for Told {
 
 impl Told {
     ghost use Rattle.std.specs.Prelude.{◌≡◌, [], ◌∷◌, Some, None, IfOk, MatchOption, true};
-    ghost use Rattle.qn_base.specs.declared.calls.Call.TheVariants.{OpenImage, OpenNode};
+    ghost use Rattle.qn_base.specs.declared.calls.Call.TheVariants.{OpenImage};
     ghost use Rattle.qn_base.specs.Plans.{AddsAll};
+    ghost use Rattle.qn_io.specs.Openings.{node_opening};
     ghost use Rattle.qn_io.specs.Telling.{is_tellable, telling_after};
 
     /// A list with room for that many calls, for which memory is taken here.
@@ -76,14 +77,15 @@ impl Told {
 
     /// Adds the opening of a node, where its paths are not too long.
     pub(crate) fn add_open_node(&mut self, opening: &Opening<'_>, ok: bool)
-        ensures after { self.new ≡ telling_after self.old (OpenNode opening.now.image.now opening.now.watchdog.now opening.now.resource.now opening.now.port opening.now.rank ok) }
-        ensures adds { AddsAll self.old.calls self.new.calls (OpenNode opening.now.image.now opening.now.watchdog.now opening.now.resource.now opening.now.port opening.now.rank ok ∷ []) }
+        ensures after { self.new ≡ telling_after self.old (node_opening opening.now ok) }
+        ensures adds { AddsAll self.old.calls self.new.calls (node_opening opening.now ok ∷ []) }
     {
         if opening.image.len() <= PATH
             && opening.watchdog.len() <= PATH
             && opening.resource.len() <= PATH
         {
             self.add(Call::OpenNode {
+                images: opening.images,
                 image: Bytes::new(opening.image.as_bytes()),
                 watchdog: Bytes::new(opening.watchdog.as_bytes()),
                 resource: Bytes::new(opening.resource.as_bytes()),

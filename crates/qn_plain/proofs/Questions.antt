@@ -14,7 +14,7 @@ use Rattle.qn_model.specs.Licences.{is_clean, is_fenced, is_licensed, is_slot_se
 use Rattle.qn_model.specs.NodeVotes.{answer, is_in_view, quorate, released, view, votes}
 use Rattle.qn_model.specs.Unmet.{chosen, holder, id_of, is_clear, lacks_of_others, least_from, least_rank, or_else, other_chosen, unfenced, unheard, unmet}
 use Rattle.qn_model.specs.Wanted.{rank_of, to_read, to_reset}
-use Rattle.qn_model.proofs.LeastMembers.{least_from-same}
+use Rattle.qn_model.specs.LeastMembers.{least_from-same}
 use Rattle.qn_plain.specs.declared.past.Past.{Past}
 use Rattle.qn_plain.specs.declared.peer.Peer.{Peer}
 use Rattle.qn_plain.specs.declared.lack.Lack.{Lack}

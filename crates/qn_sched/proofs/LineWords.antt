@@ -9,7 +9,7 @@ use Rattle.std.proofs.lemmas.List.Elements.{All-append, All-cons}
 use Rattle.qn_base.specs.declared.ids.Mask.{Mask}
 use Rattle.qn_base.specs.declared.ids.Rank.{Rank}
 use Rattle.qn_base.specs.Members.{is_member}
-use Rattle.qn_model.specs.CountText.{yes_no}
+use Rattle.qn_base.specs.Text.{yes_no}
 use Rattle.qn_model.specs.declared.configuration.Settings.{Settings}
 use Rattle.qn_model.specs.declared.events.Event.{Event}
 use Rattle.qn_model.specs.declared.events.Event.TheVariants as event

@@ -4,7 +4,7 @@ use Rattle.std.specs.List.{join_with_byte}
 use Rattle.qn_base.specs.declared.ids.Mask.{Mask}
 use Rattle.qn_base.specs.declared.ids.Rank.{Rank}
 use Rattle.qn_base.specs.Members.{is_member}
-use Rattle.qn_model.specs.CountText.{yes_no}
+use Rattle.qn_base.specs.Text.{yes_no}
 use Rattle.qn_model.specs.declared.events.Event.{Event}
 use Rattle.qn_model.specs.declared.events.Event.TheVariants.{Pass, Boot, Crash, Land, Done, Fail, Late, View, Deliver, Device, Tick, Stopped, Unstopped, Leave, Feed}
 

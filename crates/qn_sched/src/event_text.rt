@@ -1,6 +1,6 @@
 ghost use Rattle.std.specs.Prelude.{◌≡◌, ◌≤◌, ◌+◌, ◌*◌, ◌++◌, ◌∷◌, length, map, decimal, codes};
 ghost use Rattle.std.specs.List.{join_with_byte};
-ghost use Rattle.qn_model.specs.CountText.{yes_no};
+ghost use Rattle.qn_base.specs.Text.{yes_no};
 ghost use Rattle.qn_model.specs.Settings.{ids};
 ghost use Rattle.qn_sched.specs.EventLines.{clock_word, event_line, id_word, member_word};
 

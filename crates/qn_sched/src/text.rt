@@ -1,5 +1,5 @@
 ghost use Rattle.std.specs.Prelude.{◌≡◌, ◌≤◌, ◌<◌, ◌+◌, ◌*◌, ◌++◌, [], ◌∷◌, length, map, decimal, slice_index};
-ghost use Rattle.qn_model.specs.CountText.{yes_no};
+ghost use Rattle.qn_base.specs.Text.{yes_no};
 ghost use Rattle.qn_model.specs.Settings.{ids};
 ghost use Rattle.qn_sched.specs.EventLines.{id_word, ids_from, joined};
 

@@ -4,7 +4,7 @@ use Rattle.qn_model.specs.declared.configuration.Settings.{Settings}
 use Rattle.qn_model.specs.declared.life.Phase.{Phase}
 use Rattle.qn_model.specs.declared.life.Phase.TheVariants.{Booting, Up, Leaving, Dying, Gone}
 use Rattle.qn_model.specs.declared.votes.Answer.{Answer}
-use Rattle.qn_model.specs.CountText.{yes_no}
+use Rattle.qn_base.specs.Text.{yes_no}
 use Rattle.qn_model.specs.World.{World}
 use Rattle.qn_sched.specs.TraceLines.{why_text}
 use Rattle.qn_status.specs.declared.node_state.NodeState.{NodeState}

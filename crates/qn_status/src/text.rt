@@ -2,7 +2,7 @@ ghost use Rattle.std.specs.Prelude.{◌≡◌, ◌≤◌, ◌+◌, ◌++◌, ℕ
 ghost use Rattle.std.specs.Io.KnownBytes.{append_known};
 ghost use Rattle.qn_io.specs.Outside.{HasRisen};
 ghost use Rattle.qn_io.specs.Writes.{AppendsFront};
-ghost use Rattle.qn_model.specs.CountText.{yes_no};
+ghost use Rattle.qn_base.specs.Text.{yes_no};
 ghost use Rattle.qn_sched.specs.TraceLines.{why_text};
 ghost use Rattle.qn_status.specs.StatusText.{answer_text, phase_name, state_line};
 

@@ -4,7 +4,7 @@ use Rattle.std.specs.Io.KnownBytes.{append_known}
 use Rattle.qn_base.specs.declared.calls.Call.{Call}
 use Rattle.qn_base.specs.Faults.{HasRisen}
 use Rattle.qn_base.specs.Plans.{Plan, Ends, Asks, Follows, Did}
-use Rattle.qn_base.proofs.Steps.{made_none, made_then}
+use Rattle.qn_base.specs.PlanSteps.{made_none, made_then}
 use Rattle.qn_io.specs.Outside.{append_known-nil}
 use Rattle.qn_io.specs.Writes.{AppendsFront}
 use Rattle.qn_top.specs.Runs.{Answers, Whole, Cut}

@@ -1,5 +1,5 @@
 use Rattle.std.proofs.lemmas.Result.{err_from_is_err_and}
-use Rattle.qn_base.proofs.Steps.{did_none}
+use Rattle.qn_base.specs.PlanSteps.{did_none}
 use Rattle.qn_image.specs.Writes.{writes_plan, node_writes}
 use Rattle.qn_image.proofs.Writing.{node_written, node_failed}
 use Rattle.qn_image.proofs.creating.write_nodes.Goals as goal

@@ -3,7 +3,7 @@ use Rattle.std.specs.Option.{option_map_or}
 use Rattle.qn_base.specs.Members.{is_member}
 use Rattle.qn_model.specs.NodeVotes.{is_in_view}
 use Rattle.qn_model.specs.Unmet.{least_from}
-use Rattle.qn_model.proofs.LeastMembers.{first-least, least_from-none}
+use Rattle.qn_model.specs.LeastMembers.{first-least, least_from-none}
 use Rattle.qn_node.proofs.live.Live.chosen.Goals as goal
 
 pub returns-in-Some : goal.returns-in-Some

@@ -1,7 +1,7 @@
 use Rattle.std.proofs.Common.{ap, sym, ◌∙◌, length, arith}
 use Rattle.std.specs.Option.{option_map}
 use Rattle.qn_model.specs.Wanted.{rank_of}
-use Rattle.qn_model.proofs.LeastMembers.{least_from-none, least_from-some}
+use Rattle.qn_model.specs.LeastMembers.{least_from-none, least_from-some}
 use Rattle.qn_plain.specs.Sought.{is_sought}
 use Rattle.qn_plain.proofs.past.Past.least.Goals as goal
 
