@@ -27,7 +27,7 @@ abbrev pub as_ask : Tell → Ask
 as_ask tell =
     record { from = tell.from; to = tell.to; incarnation = tell.incarnation; install = tell.install; view = tell.view }
 
--- the bytes of a packet
+-- the bytes of a packet; the last of a Tell is 1 for holds plus 2 for released
 unfoldable pub packet_bytes : Packet → List ℕ
 packet_bytes (packet.Ask ask) = head_bytes 1 ++ ask_fields ask
 packet_bytes (packet.Tell tell) =
@@ -44,11 +44,12 @@ is_rank rank = nat_lt rank.0 32
 abbrev pub is_view : View → Bool
 is_view view = nat_lt view.id (2 ^ 64) && nat_lt 0 view.members.0 && nat_lt view.members.0 (2 ^ 32)
 
+-- the fields of an Ask, which a Tell has too, are in their ranges
 abbrev pub is_ask : Ask → Bool
 is_ask ask =
     is_rank ask.from && is_rank ask.to && nat_lt ask.incarnation (2 ^ 64) && nat_lt ask.install (2 ^ 64) && is_view ask.view
 
--- a packet that may be sent: its ranks are ranks, and its view is one
+-- each field of the packet is in its range
 abbrev pub is_well_formed : Packet → Bool
 is_well_formed (packet.Ask ask) = is_ask ask
 is_well_formed (packet.Tell tell) = is_ask (as_ask tell)

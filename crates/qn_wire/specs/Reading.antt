@@ -11,6 +11,7 @@ use Rattle.qn_model.specs.declared.packets.Packet.{Packet}
 use Rattle.qn_model.specs.declared.packets.Packet.TheVariants as packet
 use Rattle.qn_wire.specs.Packets.{packet_bytes, is_well_formed}
 
+-- the rank that stands there
 abbrev pub rank_at : ℕ → List ℕ → Rank
 rank_at place bytes = record { 0 = slice_index bytes place }
 
@@ -30,7 +31,7 @@ ask_at bytes =
       view = view_at 21 bytes;
     }
 
--- the fields of a Tell; its last byte is 1 for holds plus 2 for released
+-- the fields of a Tell
 abbrev pub tell_at : List ℕ → Tell
 tell_at bytes =
     let shared = ask_at bytes in

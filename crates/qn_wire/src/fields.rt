@@ -7,7 +7,7 @@ use arrayvec::ArrayVec;
 use byteorder::{BigEndian, ByteOrder};
 use qn_base::View;
 
-/// The bytes of a packet that is being put together from its front.
+/// The bytes of a packet that is being put together.
 pub type Spelling = ArrayVec<u8, 128>;
 
 /// Empties the bytes, and begins a packet of that kind.

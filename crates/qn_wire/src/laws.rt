@@ -5,5 +5,6 @@ ghost use Rattle.qn_wire.specs.Reading.{packet_of};
 
 /// Law: a well formed packet that was put is read back.
 pub fn law_read_back()
-    ensures { (packet : Packet) → IsTrue (is_well_formed packet) → packet_of (packet_bytes packet) ≡ Some packet }
+    ensures { (packet : Packet) → IsTrue (is_well_formed packet)
+        → packet_of (packet_bytes packet) ≡ Some packet }
 {}
