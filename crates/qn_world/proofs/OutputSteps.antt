@@ -1,41 +1,12 @@
--- The outputs of an entry, one by one.
-use Rattle.std.proofs.Common.{◌≡◌, ℕ, suc, zero, ◌+◌, ◌<◌, List, [], ◌∷◌, ◌++◌, length, Some, None, refl, ◌||◌, sym, ◌∙◌, ap, arith, take, get_or, append_assoc}
+-- The packets among the outputs of an entry, one by one.
+use Rattle.std.proofs.Common.{◌≡◌, ℕ, suc, zero, ◌+◌, ◌<◌, List, [], ◌∷◌, ◌++◌, length, Some, None, refl, sym, ◌∙◌, ap, arith, take, get_or, append_assoc}
 use Rattle.std.specs.Prelude.{Option, option_to_list}
-use Rattle.std.specs.Option.{option_or}
 use Rattle.std.proofs.lemmas.List.{append-nil, take_more}
 use Rattle.qn_model.specs.declared.outputs.Out.{Out}
 use Rattle.qn_model.specs.declared.outputs.Out.TheVariants as out
 use Rattle.qn_model.specs.declared.packets.Sent.{Sent}
-use Rattle.qn_model.specs.Log.{disk_of, has_stop}
-use Rattle.qn_model.specs.Moments.{has_feed, packets_of}
-use Rattle.qn_world.specs.Outputs.{is_feed, is_stop, op_in, packet_in}
-
-pub has_stop-cons : (output : Out) (outs : List Out) → has_stop (output ∷ outs) ≡ (is_stop output || has_stop outs)
-has_stop-cons out.Stop outs = refl
-has_stop-cons out.Start outs = refl
-has_stop-cons out.Feed outs = refl
-has_stop-cons (out.Send to packet) outs = refl
-has_stop-cons (out.Disk op) outs = refl
-has_stop-cons out.Disarm outs = refl
-has_stop-cons (out.Halt kind) outs = refl
-
-pub has_feed-cons : (output : Out) (outs : List Out) → has_feed (output ∷ outs) ≡ (is_feed output || has_feed outs)
-has_feed-cons out.Stop outs = refl
-has_feed-cons out.Start outs = refl
-has_feed-cons out.Feed outs = refl
-has_feed-cons (out.Send to packet) outs = refl
-has_feed-cons (out.Disk op) outs = refl
-has_feed-cons out.Disarm outs = refl
-has_feed-cons (out.Halt kind) outs = refl
-
-pub disk_of-cons : (output : Out) (outs : List Out) → disk_of (output ∷ outs) ≡ option_or (op_in output) (disk_of outs)
-disk_of-cons out.Stop outs = refl
-disk_of-cons out.Start outs = refl
-disk_of-cons out.Feed outs = refl
-disk_of-cons (out.Send to packet) outs = refl
-disk_of-cons (out.Disk op) outs = refl
-disk_of-cons out.Disarm outs = refl
-disk_of-cons (out.Halt kind) outs = refl
+use Rattle.qn_model.specs.Moments.{packets_of}
+use Rattle.qn_world.specs.Outputs.{packet_in}
 
 pub packets_of-cons : (output : Out) (outs : List Out) → packets_of (output ∷ outs) ≡ option_to_list (packet_in output) ++ packets_of outs
 packets_of-cons out.Stop outs = refl

@@ -1,48 +1,9 @@
 ghost use Rattle.std.specs.Prelude.{◌≡◌, ◌≢◌, ◌++◌, [], None, OnOk, OnErr, option_to_list};
-ghost use Rattle.qn_model.specs.Log.{disk_of, has_stop, is_answer};
-ghost use Rattle.qn_model.specs.Holding.{answers_stop};
-ghost use Rattle.qn_model.specs.Moments.{has_feed, is_gone, packets_of};
-ghost use Rattle.qn_model.specs.World.{is_write};
-ghost use Rattle.qn_world.specs.Outputs.{is_feed, is_stop, op_in, packet_in};
+ghost use Rattle.qn_model.specs.Moments.{is_gone, packets_of};
+ghost use Rattle.qn_world.specs.Outputs.{packet_in};
 
 use qn_base::NoMemory;
-use qn_model::{DiskOp, Out, Phase, Sent, What};
-
-/// Whether a Stop is among the outputs.
-pub(crate) fn has_stop(outs: &[Out]) -> bool
-    ensures { result ≡ has_stop outs.now }
-{
-    for out in outs {
-        if is_stop(*out) {
-            return true;
-        }
-    }
-    false
-}
-
-/// Whether a Feed is among the outputs.
-pub(crate) fn has_feed(outs: &[Out]) -> bool
-    ensures { result ≡ has_feed outs.now }
-{
-    for out in outs {
-        if is_feed(*out) {
-            return true;
-        }
-    }
-    false
-}
-
-/// The disk operation among the outputs.
-pub(crate) fn disk_of(outs: &[Out]) -> Option<DiskOp>
-    ensures { result ≡ disk_of outs.now }
-{
-    for out in outs {
-        if let Some(op) = op_in(*out) {
-            return Some(op);
-        }
-    }
-    None
-}
+use qn_model::{Out, Phase, Sent};
 
 /// Adds the packets among the outputs, in order: all of them, or, where there is no memory, none.
 pub(crate) fn send_all(packets: &mut Vec<Sent>, outs: &[Out]) -> Result<(), NoMemory>
@@ -60,65 +21,11 @@ pub(crate) fn send_all(packets: &mut Vec<Sent>, outs: &[Out]) -> Result<(), NoMe
     Ok(())
 }
 
-/// Whether an entry answers a disk operation.
-pub(crate) fn is_answer(what: What) -> bool
-    ensures { result ≡ is_answer what }
-{
-    matches!(
-        what,
-        What::Header(_)
-            | What::SlotRead(..)
-            | What::Claimed(_)
-            | What::Cleared(_)
-            | What::MailRead(_)
-            | What::MailWritten(..)
-            | What::Closed(_)
-    )
-}
-
-/// Whether an entry answers a Stop.
-pub(crate) fn answers_stop(what: What) -> bool
-    ensures { result ≡ answers_stop what }
-{
-    matches!(what, What::Stopped(_))
-}
-
 /// Whether a node has ended.
 pub(crate) fn is_gone(phase: Phase) -> bool
     ensures { result ≡ is_gone phase }
 {
     matches!(phase, Phase::Gone)
-}
-
-/// Whether an operation of the disk writes.
-pub(crate) fn is_write(op: DiskOp) -> bool
-    ensures { result ≡ is_write op }
-{
-    !matches!(
-        op,
-        DiskOp::ReadHeader | DiskOp::ReadSlot(_) | DiskOp::ReadMail
-    )
-}
-
-fn is_stop(out: Out) -> bool
-    ensures { result ≡ is_stop out }
-{
-    matches!(out, Out::Stop)
-}
-
-fn is_feed(out: Out) -> bool
-    ensures { result ≡ is_feed out }
-{
-    matches!(out, Out::Feed)
-}
-
-fn op_in(out: Out) -> Option<DiskOp>
-    ensures { result ≡ op_in out }
-{
-    match out {
-        Out::Disk(op) => Some(op),
-        _ => None,
-    }
 }
 
 fn packet_in(out: Out) -> Option<Sent>

@@ -29,6 +29,7 @@ impl Model for World {
 impl World {
     ghost use Rattle.std.specs.Prelude.{◌≡◌, ◌<◌, ◌≤◌, ◌+◌, ℕ, true, None, Some, All, IfErr, IfOk, IfSome, IsTrue, MatchResult, OnErr, OnOk, length, slice_get};
     ghost use Rattle.std.specs.Option.{option_map};
+    ghost use Rattle.qn_base.specs.declared.limits.TheConstants.{LATEST_TIME};
     ghost use Rattle.qn_base.specs.Members.{is_member};
     ghost use Rattle.qn_model.specs.Moments.{packets};
     ghost use Rattle.qn_model.specs.Settings.{IsValid};
@@ -59,7 +60,7 @@ impl World {
     /// Whether an event is allowed, else the rule that refuses it: the first, where several do.
     pub fn allowed(&self, event: &Event) -> Result<(), Rule>
         requires formed { is_well_formed self.now.settings event.now ≡ true }
-        requires early { self.now.time ≤ 10000000000000000 }
+        requires early { self.now.time ≤ LATEST_TIME }
         ensures { (d : Cluster) → WorldFor self.now d → MatchResult result
             (λ _. refusal self.now.settings self.now.timing event.now d ≡ None)
             (λ rule. refusal self.now.settings self.now.timing event.now d ≡ Some rule.0) }
@@ -71,7 +72,7 @@ impl World {
     /// wanted only where the step appends a packet or a leftover. After a refusal the world is as it was.
     pub fn apply(&mut self, event: &Event) -> Result<Report, Refused>
         requires formed { is_well_formed self.old.settings event.now ≡ true }
-        requires early { self.old.time ≤ 10000000000000000 }
+        requires early { self.old.time ≤ LATEST_TIME }
         requires room { 0 < self.old.steps }
         ensures stands { OnOk result ((d : Cluster) → WorldFor self.old d → WorldFor self.new (step self.old.settings self.old.timing event.now d)) }
         ensures report { IfOk result (λ r. (d : Cluster) → WorldFor self.old d
