@@ -1,4 +1,5 @@
--- How a plan goes on behind a part that gave a value, and ends behind one that met a fault.
+-- Laws of plans with faults: how a plan goes on after a part that gave a value, and ends after one that met a fault.
+-- This project's profile.
 use Rattle.std.proofs.Common.{◌≡◌, ℕ, Result, Ok, Err, Option, List, refl}
 use Rattle.qn_base.specs.declared.calls.Call.{Call}
 use Rattle.qn_base.specs.Plans.{Plan, Ends, ◌>>=◌, Did}
