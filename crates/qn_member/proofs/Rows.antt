@@ -1,19 +1,19 @@
 -- Worked rows of the view maker, as theorems of its definitions.
-use Rattle.std.proofs.Common.{◌≡◌, ℕ, Bool, true, false, List, [], ◌∷◌, Some, None, refl}
+use Rattle.std.proofs.Common.{◌≡◌, ℕ, true, false, [], ◌∷◌, Some, None, refl}
 use Rattle.qn_base.specs.declared.ids.View.{View}
 use Rattle.qn_model.specs.declared.configuration.Settings.{Settings}
 use Rattle.qn_model.specs.Unmet.{least_from}
-use Rattle.qn_member.specs.Maker.{Maker, first_maker, ranks_that, after_announce, after_hello, after_hello_due, after_tick, is_hello_due, view_at, view_to_announce}
+use Rattle.qn_member.specs.Maker.{first_maker, ranks_that, after_announce, after_hello, after_hello_due, after_tick, is_hello_due, view_at, view_to_announce}
 
 -- three nodes of one vote each
 three : Settings
 three =
     record {
       nodes =
-        record { id = record { 0 = 1 }; votes = 1 }
-        ∷ record { id = record { 0 = 2 }; votes = 1 }
-        ∷ record { id = record { 0 = 3 }; votes = 1 }
-        ∷ [];
+          record { id = record { 0 = 1 }; votes = 1 }
+          ∷ record { id = record { 0 = 2 }; votes = 1 }
+          ∷ record { id = record { 0 = 3 }; votes = 1 }
+          ∷ [];
       two_node = false;
       wait_for_all = false;
       last_man_standing = false;

@@ -1,5 +1,5 @@
 -- The view maker of a running node: what it knows of the others, and what each call makes of it. This project's profile.
-use Rattle.std.specs.Prelude.{ℕ, suc, zero, Bool, true, false, List, Option, None, Some, ◌+◌, ◌*◌, ◌^◌, ◌==◌, ◌&&◌, ◌||◌, not, max, nat_le, nat_lt, bit_or, if◌then◌else◌, is_some, length, replicate, slice_get, slice_set, unwrap_or, option_and_then}
+use Rattle.std.specs.Prelude.{◌≡◌, ℕ, suc, zero, Bool, true, false, List, Option, None, Some, ◌+◌, ◌*◌, ◌^◌, ◌==◌, ◌&&◌, ◌||◌, not, max, nat_le, nat_lt, bit_or, if◌then◌else◌, is_some, length, replicate, slice_index_or, slice_set, option_and_then}
 use Rattle.std.specs.Option.{option_map_or, option_or}
 use Rattle.qn_base.specs.declared.ids.Mask.{Mask}
 use Rattle.qn_base.specs.declared.ids.View.{View}
@@ -13,15 +13,15 @@ use Rattle.qn_model.specs.Votes.{are_all_in}
 -- What a view maker knows. By rank: the tick of the last Hello of a node, and the view that it announced last. Ticks are
 -- milliseconds of the node's clock.
 pub record Maker : Type 0 where
-  pub nodes : List NodeEntry          -- the configured nodes
-  pub me : ℕ                          -- the node's own rank
-  pub loop_ms : ℕ                     -- the loop's time of its image
+  pub nodes : List NodeEntry  -- the configured nodes
+  pub me : ℕ  -- the node's own rank
+  pub loop_ms : ℕ  -- the loop's time of its image
   pub hellos : List (Option ℕ)
   pub announced : List (Option View)
-  pub view : Option View              -- the present view
-  pub greatest : ℕ                    -- the greatest id of a view that the node has had or was announced
-  pub first_look : Option ℕ           -- the tick of the first look
-  pub last_hello : Option ℕ           -- the tick at which a Hello was due last
+  pub view : Option View  -- the present view
+  pub greatest : ℕ  -- the greatest id of a view that the node has had or was announced
+  pub first_look : Option ℕ  -- the tick of the first look
+  pub last_hello : Option ℕ  -- the tick at which a Hello was due last
 
 -- at the beginning nothing is known of the others, and there is no view
 abbrev pub first_maker : Settings → ℕ → ℕ → Maker
@@ -40,14 +40,19 @@ first_maker s me loop_ms =
 
 -- what is known of a rank
 abbrev pub of_rank : {A : Type 0} → List (Option A) → ℕ → Option A
-of_rank items rank = unwrap_or (slice_get items rank) None
+of_rank items rank = slice_index_or items rank None
 
 abbrev pub is_configured : Maker → ℕ → Bool
 is_configured m rank = nat_lt rank (length m.nodes)
 
 -- every member is configured: a set of ranks below a number is a number below that power of two
-abbrev pub has_configured : Maker → Mask → Bool
-has_configured m members = nat_lt members.0 (2 ^ length m.nodes)
+abbrev pub has_configured : List NodeEntry → Mask → Bool
+has_configured nodes members = nat_lt members.0 (2 ^ length nodes)
+
+-- the views that are kept have configured members alone
+abbrev pub KeepsConfigured : List NodeEntry → List (Option View) → Type 0
+KeepsConfigured nodes kept =
+    (rank : ℕ) → option_map_or (λ view. has_configured nodes view.members) (of_rank kept rank) true ≡ true
 
 -- a Hello is kept until the next one of its sender
 abbrev pub after_hello : ℕ → ℕ → Maker → Maker
@@ -57,7 +62,7 @@ after_hello tick from m =
 -- an announcement is kept until the next one of its sender; one with a node that is not configured is passed over
 abbrev pub after_announce : ℕ → View → Maker → Maker
 after_announce from view m =
-    if is_configured m from && has_configured m view.members
+    if is_configured m from && has_configured m.nodes view.members
     then record m { announced = slice_set m.announced from (Some view); greatest = max m.greatest view.id }
     else m
 
