@@ -1,12 +1,13 @@
 -- Sets of ranks.
-use Rattle.std.proofs.Common.{◌≡◌, ◌≢◌, ℕ, suc, zero, ◌+◌, ◌^◌, ◌<◌, ◌≤◌, Bool, true, false, ◌||◌, refl, sym, ◌∙◌, ap, subst, arith, eq-eqb, max, cond, lit<, ◌⊎◌, inl, inr}
+use Rattle.std.proofs.Common.{◌≡◌, ◌≢◌, ℕ, suc, zero, ◌+◌, ◌*◌, ◌/◌, ◌%◌, ◌^◌, ◌&&◌, ◌<◌, ◌≤◌, Bool, true, false, ◌||◌, refl, sym, ◌∙◌, ap, subst, arith, eq-eqb, max, cond, lit<, ◌⊎◌, inl, inr}
 use Rattle.std.specs.Prelude.{◌==◌, nat_lt, bit_or}
 use Rattle.std.specs.Int.{bit_at}
 use Rattle.std.proofs.lemmas.Bool.{cases_lt, false≢true}
 use Rattle.std.proofs.lemmas.Bool.Decides.{nat_tests, Decides-eqb}
 use Rattle.std.proofs.lemmas.Nat.{or_lt}
-use Rattle.std.proofs.lemmas.Nat.Bits.{bit_at-lt, bit_at_or, bit_at-pow_same, bit_at-pow_other, bit_at_above, same_from_bits_below}
+use Rattle.std.proofs.lemmas.Nat.Bits.{bit_at-lt, bit_at_or, bit_at-zero, bit_at-pow_same, bit_at-pow_other, bit_at_above, bit_at_cat_low, same_from_bits, same_from_bits_below}
 use Rattle.std.proofs.Math.Pow.{pow-lt}
+use Rattle.std.proofs.lemmas.Nat.{pow_pos}
 use Rattle.qn_member.specs.Maker.{ranks_that}
 
 -- two bits of which the same test says the same are equal
@@ -91,3 +92,73 @@ member-lt members count rank few member = below (cases_lt rank count)
     below (inr over) =
         let fits : members < 2 ^ count = grind (arith, nat_tests) in
         absurd (false≢true (sym (ap (λ bit. bit == 1) (bit_at_above members count rank fits over)) ∙ member))
+
+-- and a number whose members are below an exponent is below that power of two
+no_bit : (members rank : ℕ) (b : Bool) → (bit_at members rank == 1) ≡ b → (b ≡ true → ⊥) → bit_at members rank ≡ 0
+no_bit members rank true is none = absurd (none refl)
+no_bit members rank false is none =
+    let low = bit_at-lt members rank in
+    let bit : bit_at members rank ≡ 0 = grind (arith, nat_tests) in bit
+
+bit_of_rest : (members count rest rank : ℕ) → rest < 2 ^ count → members / 2 ^ count * 2 ^ count + rest ≡ members
+    → ((rank : ℕ) → count ≤ rank → bit_at members rank ≡ 0) → (rank < count) ⊎ (count ≤ rank) → bit_at members rank ≡ bit_at rest rank
+bit_of_rest members count rest rank low whole none (inl under) =
+    ap (λ n. bit_at n rank) (sym whole) ∙ bit_at_cat_low (members / 2 ^ count) count rest rank under
+bit_of_rest members count rest rank low whole none (inr over) = none rank over ∙ sym (bit_at_above rest count rank low over)
+
+pub members-lt : (members count : ℕ) → ((rank : ℕ) → (bit_at members rank == 1) ≡ true → rank < count) → nat_lt members (2 ^ count) ≡ true
+members-lt members count few =
+    let rest = members % 2 ^ count in
+    let some : 0 < 2 ^ count = pow_pos count in
+    let low : rest < 2 ^ count = omega arith in
+    let whole : members / 2 ^ count * 2 ^ count + rest ≡ members = omega arith in
+    let none : (rank : ℕ) → count ≤ rank → bit_at members rank ≡ 0 =
+    λ rank over. no_bit members rank (bit_at members rank == 1) refl (λ is. let under : rank < count = few rank is in omega arith) in
+    let same : members ≡ rest = same_from_bits members rest (λ rank. bit_of_rest members count rest rank low whole none (cases_lt rank count)) in
+    let fits : members < 2 ^ count = omega arith in
+    grind (arith, nat_tests)
+
+added_bit : (set count rank : ℕ) (b : Bool)
+    → (bit_at (cond b (bit_or set (2 ^ count)) set) rank == 1) ≡ (b && count == rank || bit_at set rank == 1)
+added_bit set count rank true = bit_with set count rank
+added_bit set count rank false = refl
+
+-- a rank that is below a number or is it
+one_test_more : (test : ℕ → Bool) (count rank : ℕ) (b : Bool) → test count ≡ b → (rank < count) ⊎ (count ≤ rank)
+    → (b && count == rank || nat_lt rank count && test rank) ≡ (nat_lt rank (suc count) && test rank)
+one_test_more test count rank b is (inl under) =
+    let before : nat_lt rank count ≡ true = grind (arith, nat_tests) in
+    let within : nat_lt rank (suc count) ≡ true = grind (arith, nat_tests) in
+    let other : (count == rank) ≡ false = grind (arith, nat_tests) in
+    rw (before, within, other) (no_other b)
+  where
+    no_other : (b : Bool) → (b && false || test rank) ≡ test rank
+    no_other true = refl
+    no_other false = refl
+one_test_more test count rank b is (inr over) =
+    let past : nat_lt rank count ≡ false = grind (arith, nat_tests) in
+    let same : (count == rank) ≡ nat_lt rank (suc count) = grind (arith, nat_tests) in
+    rw (past, same) (at_count b (nat_lt rank (suc count)) refl is)
+  where
+    this_test : (b : Bool) → b ≡ test rank → (b && true || false) ≡ test rank
+    this_test true same = same
+    this_test false same = same
+
+    at_count : (b inside : Bool) → nat_lt rank (suc count) ≡ inside → test count ≡ b → (b && inside || false) ≡ (inside && test rank)
+    at_count b true last tested =
+        let here : count ≡ rank = grind (arith, nat_tests) in
+        this_test b (sym tested ∙ ap test here)
+    at_count true false last tested = refl
+    at_count false false last tested = refl
+
+-- a rank is in the set exactly where it is below the number and passes the test
+pub member_of-ranks_that : (test : ℕ → Bool) (count rank : ℕ)
+    → (bit_at (ranks_that test count) rank == 1) ≡ (nat_lt rank count && test rank)
+unfolding ranks_that
+member_of-ranks_that test zero rank =
+    let none : nat_lt rank 0 ≡ false = grind (arith, nat_tests) in
+    rw none (ap (λ bit. bit == 1) (bit_at-zero rank))
+member_of-ranks_that test (suc count) rank =
+    added_bit (ranks_that test count) count rank (test count)
+    ∙ (ap (λ b. test count && count == rank || b) (member_of-ranks_that test count rank)
+    ∙ one_test_more test count rank (test count) refl (cases_lt rank count))
