@@ -4,6 +4,7 @@ use super::*;
 use arrayvec::ArrayVec;
 use qn_base::Failed;
 use std::alloc::{AllocError, Global};
+use std::fmt::Display;
 use std::io;
 use std::io::{ErrorKind, Read, Write};
 use std::test::Fail;
@@ -183,22 +184,36 @@ impl Write for Interrupted {
     }
 }
 
+/// A standard error that is closed.
+#[derive(Drop)]
+struct NoErrors;
+
+impl Eprint for NoErrors {
+    fn eprint<D: Display + Drop>(&self, _value: D) -> io::Result<()> {
+        Err(io::Error::from(ErrorKind::Other))
+    }
+
+    fn eprintln<D: Display + Drop>(&self, _value: D) -> io::Result<()> {
+        Err(io::Error::from(ErrorKind::Other))
+    }
+}
+
 #[test]
 fn real_calls_are_made_again_999_times(rt: HostRuntime) {
     let rows = [(0, 1, Ok(1)), (999, 1, Ok(1)), (1000, 1, Err(Failed))];
     for (times, moves, want) in rows {
-        let mut input = StdSource::new(Interrupted { times, moves });
+        let mut input = StdSource::new(Interrupted { times, moves }, NoErrors);
         assert_eq!(rt; input.read(&mut [0u8; 4]), want);
-        let mut out = StdSink::new(Interrupted { times, moves });
+        let mut out = StdSink::new(Interrupted { times, moves }, NoErrors);
         assert_eq!(rt; out.write(b"abcd"), want);
     }
 }
 
 #[test]
 fn a_real_write_that_takes_nothing_is_a_fault(rt: HostRuntime) {
-    let mut out = StdSink::new(Interrupted { times: 0, moves: 0 });
+    let mut out = StdSink::new(Interrupted { times: 0, moves: 0 }, NoErrors);
     assert_eq!(rt; out.write(b"a"), Err(Failed));
     assert_eq!(rt; out.write(b""), Ok(0));
-    let mut input = StdSource::new(Interrupted { times: 0, moves: 0 });
+    let mut input = StdSource::new(Interrupted { times: 0, moves: 0 }, NoErrors);
     assert_eq!(rt; input.read(&mut [0u8; 4]), Ok(0));
 }
