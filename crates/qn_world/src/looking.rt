@@ -4,7 +4,7 @@ ghost use Rattle.qn_model.specs.Steps.{answer_off, holders, touched};
 ghost use Rattle.qn_model.specs.World.{World, node_at};
 ghost use Rattle.qn_world.specs.declared.seat.Seat.{Seat};
 ghost use Rattle.qn_world.specs.Seats.{SeatFor};
-ghost use Rattle.qn_world.specs.Seen.{seen_of};
+ghost use Rattle.qn_world.specs.Seen.{blank_report, seen_of};
 ghost use Rattle.qn_world.specs.Standing.{left_of};
 
 use crate::leftover::Leftover;
@@ -210,24 +210,21 @@ impl State {
         }
     }
 
-    /// What is reported of an event, which gave these outputs, once its step is made.
-    pub(crate) fn report(&self, event: &Event, outs: Outs) -> Report
+    /// Fills in what is reported of an event once its step is made, beside the outputs that it gave.
+    pub(crate) fn fill(&self, event: &Event, into: &mut Report)
         requires formed { is_well_formed self.now.settings event.now ≡ true }
         requires standing { IsStanding self.now }
         ensures { (d : World)
             → WorldFor self.now d
-            → outs ≡ outs_after self.now.settings event.now d
-            → result ≡ report self.now.settings event.now d }
+            → into.old.outs ≡ outs_after self.now.settings event.now d
+            → into.new ≡ report self.now.settings event.now d }
     {
         let touched = touched(event);
-        Report {
-            time: self.time,
-            touched,
-            outs,
-            holders: self.holders(),
-            answer: self.answer_of(touched),
-            why: self.why_of(touched),
-        }
+        into.time = self.time;
+        into.touched = touched;
+        into.holders = self.holders();
+        into.answer = self.answer_of(touched);
+        into.why = self.why_of(touched);
     }
 
     /// The count of votes of a node at its present tick; that of a node that is off where there is none.
@@ -256,6 +253,26 @@ impl State {
             Some(i) => self.seat(i).why(),
             None => Why::Down,
         }
+    }
+}
+
+/// A report of nothing, for the first call of `World::apply_into`.
+pub fn blank_report() -> Report
+    ensures { result ≡ blank_report }
+{
+    Report {
+        time: 0,
+        touched: None,
+        outs: Outs::new(),
+        holders: Mask(0),
+        answer: Answer {
+            quorate: false,
+            votes: 0,
+            quorum: 0,
+            expected: 0,
+            released: false,
+        },
+        why: Why::Down,
     }
 }
 
