@@ -12,7 +12,6 @@ use crate::seat::Seat;
 use crate::state::State;
 use qn_base::{Mask, Rank};
 use qn_model::{Answer, Event, Outs, Phase, Report, Settings, Why};
-use qn_node::Node;
 use qn_safety::law_no_two_holders;
 
 /// What a world shows of one node. Of a node that is off, running, out, landed, stop_due and holds are
@@ -62,16 +61,15 @@ impl Seat {
     }
 
     /// The count of votes at the node's present tick; that of the empty history where it is off.
-    pub(crate) fn answer(&self, settings: &Settings, me: Rank) -> Answer
-        requires { me.0 < length settings.now.nodes }
-        ensures { (node : Running) (took : Option What)
-            → SeatFor self.now settings.now me.0 node took
+    pub(crate) fn answer(&self, settings: &Settings) -> Answer
+        ensures { (me : ℕ) (node : Running) (took : Option What)
+            → SeatFor self.now settings.now me node took
             → result ≡ answer_now settings.now node }
     {
         if self.on {
             self.node.answer(self.tick())
         } else {
-            answer_off(settings, me)
+            answer_off(settings)
         }
     }
 
@@ -89,17 +87,16 @@ impl Seat {
     }
 
     /// What the seat shows of its node, of which so many writes are left over.
-    fn seen(&self, settings: &Settings, me: Rank, leftovers: u64) -> NodeSeen
-        requires { me.0 < length settings.now.nodes }
-        ensures { (d : World)
-            → SeatFor self.now settings.now me.0 (node_at settings.now me.0 d) (d.took me.0)
-            → leftovers ≡ length (d.left me.0)
-            → result ≡ seen_of settings.now me.0 d }
+    fn seen(&self, settings: &Settings, leftovers: u64) -> NodeSeen
+        ensures { (me : ℕ) (d : World)
+            → SeatFor self.now settings.now me (node_at settings.now me d) (d.took me)
+            → leftovers ≡ length (d.left me)
+            → result ≡ seen_of settings.now me d }
     {
         if self.on {
             self.seen_running(leftovers)
         } else {
-            seen_off(answer_off(settings, me), leftovers)
+            seen_off(answer_off(settings), leftovers)
         }
     }
 
@@ -180,12 +177,11 @@ impl State {
 
     /// What is shown of the node of a rank.
     pub(crate) fn seen(&self, i: Rank) -> NodeSeen
-        requires seated { i.0 < length self.now.seats }
-        requires configured { i.0 < length self.now.settings.nodes }
+        requires { i.0 < length self.now.seats }
         ensures { (d : World) → WorldFor self.now d → result ≡ seen_of self.now.settings i.0 d }
     {
         let leftovers = leftovers_of(self.left.as_slice(), i);
-        self.seat(i).seen(&self.settings, i, leftovers)
+        self.seat(i).seen(&self.settings, leftovers)
     }
 
     /// How many packets were ever sent.
@@ -236,8 +232,8 @@ impl State {
             → result ≡ option_map_or (λ rank. answer_now self.now.settings (node_at self.now.settings rank.0 d)) node (answer_off self.now.settings) }
     {
         match node {
-            Some(i) => self.seat(i).answer(&self.settings, i),
-            None => answer_off(&self.settings, Rank(0)),
+            Some(i) => self.seat(i).answer(&self.settings),
+            None => answer_off(&self.settings),
         }
     }
 
@@ -300,11 +296,17 @@ pub(crate) fn touched(event: &Event) -> Option<Rank>
 }
 
 /// The count of votes of the empty history.
-pub(crate) fn answer_off(settings: &Settings, me: Rank) -> Answer
-    requires { me.0 < length settings.now.nodes }
+#[tactic(auto, unfolding(qn_model::specs::Votes::answer_at, qn_model::specs::Votes::expected_votes, qn_model::specs::Votes::is_released, qn_model::specs::Votes::present_view, qn_model::specs::NodeVotes::votes))]
+fn answer_off(settings: &Settings) -> Answer
     ensures { result ≡ answer_off settings.now }
 {
-    Node::new(settings, me).answer(0)
+    Answer {
+        quorate: false,
+        votes: 0,
+        quorum: settings.quorum(settings.expected),
+        expected: settings.expected,
+        released: !settings.wait_for_all,
+    }
 }
 
 /// How many of the leftovers are those of a rank.
