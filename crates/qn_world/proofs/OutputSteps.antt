@@ -1,6 +1,6 @@
 -- The packets among the outputs of an entry, one by one.
 use Rattle.std.proofs.Common.{◌≡◌, ℕ, suc, zero, ◌+◌, ◌<◌, List, [], ◌∷◌, ◌++◌, length, Some, None, refl, sym, ◌∙◌, ap, arith, take, get_or, append_assoc}
-use Rattle.std.specs.Prelude.{Option, option_to_list}
+use Rattle.std.specs.Prelude.{Option, false, is_some, option_to_list, true}
 use Rattle.std.proofs.lemmas.List.{append-nil, take_more}
 use Rattle.qn_model.specs.declared.outputs.Out.{Out}
 use Rattle.qn_model.specs.declared.outputs.Out.TheVariants as out
@@ -52,3 +52,17 @@ sends_more old before new outs place d within so_far one =
     ∙ (ap (λ items. items ++ option_to_list (packet_in (get_or outs place d))) so_far
     ∙ (append_assoc old (packets_of (take place outs)) (option_to_list (packet_in (get_or outs place d)))
     ∙ ap (λ more. old ++ more) (sym (packets_of-take outs place d within))))
+
+-- one output more that sends nothing
+pub none_more : (outs : List Out) (place : ℕ) (d : Out) (sent : Option Sent) → place < length outs → packets_of (take place outs) ≡ []
+    → sent ≡ packet_in (get_or outs place d) → is_some sent ≡ false → packets_of (take (place + 1) outs) ≡ []
+none_more outs place d None within so_far is silent =
+    packets_of-take outs place d within
+    ∙ (ap (λ front. front ++ option_to_list (packet_in (get_or outs place d))) so_far ∙ ap option_to_list (sym is))
+none_more outs place d (Some sent) within so_far is silent = absurd (cc)
+
+-- an output that sends
+pub some_sends : (outs : List Out) (place : ℕ) (d : Out) (sent : Option Sent) → place < length outs
+    → sent ≡ packet_in (get_or outs place d) → is_some sent ≡ true → packets_of outs ≡ [] → ⊥
+some_sends outs place d None within is loud none = cc
+some_sends outs place d (Some sent) within is loud none = let e : Some sent ≡ None = is ∙ none_sends outs place d within none in cc

@@ -21,6 +21,3 @@ mod world;
 
 pub use looking::{NodeSeen, blank_report};
 pub use world::World;
-
-#[cfg(test)]
-mod tests;

@@ -1,24 +1,44 @@
-ghost use Rattle.std.specs.Prelude.{◌≡◌, ◌≢◌, ◌++◌, [], None, OnOk, OnErr, option_to_list};
+ghost use Rattle.std.specs.Prelude.{◌≡◌, ◌≤◌, ◌<◌, ◌+◌, ◌++◌, ◌↔◌, [], IsFalse, length, option_to_list, vec_capacity, vec_len};
 ghost use Rattle.qn_model.specs.Moments.{is_gone, packets_of};
 ghost use Rattle.qn_world.specs.Outputs.{packet_in};
 
-use qn_base::NoMemory;
 use qn_model::{Out, Phase, Sent};
 
-/// Adds the packets among the outputs, in order: all of them, or, where there is no memory, none.
-pub(crate) fn send_all(packets: &mut Vec<Sent>, outs: &[Out]) -> Result<(), NoMemory>
-    ensures ok { OnOk result (packets.new.items ≡ packets.old.items ++ packets_of outs.now) }
-    ensures err { OnErr result (packets.new.items ≡ packets.old.items) }
-    ensures cause { OnErr result (packets_of outs.now ≢ []) }
+/// The most outputs of one entry, and so the most packets that one sends.
+pub(crate) const MOST_OUTPUTS: usize = 40;
+
+/// Adds the packets among the outputs, in order, to a list that has room for them.
+pub(crate) fn send_all(packets: &mut Vec<Sent>, outs: &[Out])
+    requires { vec_len packets.old + length outs.now ≤ vec_capacity packets.old }
+    ensures { packets.new.items ≡ packets.old.items ++ packets_of outs.now }
 {
-    let before = packets.len();
     for out in outs {
-        if let Err(error) = send(packets, *out) {
-            packets.truncate(before);
-            return Err(error);
+        send(packets, *out);
+    }
+}
+
+/// Adds the packet that an output sends, if it sends one, to a list that has room for it.
+fn send(packets: &mut Vec<Sent>, out: Out)
+    requires { vec_len packets.old < vec_capacity packets.old }
+    ensures items { packets.new.items ≡ packets.old.items ++ option_to_list (packet_in out) }
+    ensures len { vec_len packets.new ≤ vec_len packets.old + 1 }
+    ensures capacity { vec_capacity packets.new ≡ vec_capacity packets.old }
+{
+    if let Some(sent) = packet_in(out) {
+        packets.push_reserved(sent);
+    }
+}
+
+/// Whether a packet is among the outputs.
+pub(crate) fn sends(outs: &[Out]) -> bool
+    ensures { IsFalse result ↔ (packets_of outs.now ≡ []) }
+{
+    for out in outs {
+        if packet_in(*out).is_some() {
+            return true;
         }
     }
-    Ok(())
+    false
 }
 
 /// Whether a node has ended.
@@ -34,20 +54,5 @@ fn packet_in(out: Out) -> Option<Sent>
     match out {
         Out::Send(to, packet) => Some(Sent { to, packet }),
         _ => None,
-    }
-}
-
-/// Adds the packet that an output sends, if it sends one.
-fn send(packets: &mut Vec<Sent>, out: Out) -> Result<(), NoMemory>
-    ensures ok { OnOk result (packets.new.items ≡ packets.old.items ++ option_to_list (packet_in out)) }
-    ensures err { OnErr result (packets.new.items ≡ packets.old.items) }
-    ensures cause { OnErr result (packet_in out ≢ None) }
-{
-    let Some(sent) = packet_in(out) else {
-        return Ok(());
-    };
-    match packets.push(sent) {
-        Ok(()) => Ok(()),
-        Err(_) => Err(NoMemory),
     }
 }

@@ -1,6 +1,11 @@
-use crate::outputs::is_gone;
+ghost use Rattle.std.specs.Prelude.{◌≡◌, ◌<◌, ◌≤◌, ◌+◌, ◌++◌, vec_capacity, vec_len};
+ghost use Rattle.qn_model.specs.Moments.{packets_of};
+ghost use Rattle.qn_node.specs.Node.{steps_of};
+ghost use Rattle.qn_world.specs.Seats.{HandedSeat};
+
+use crate::outputs::{MOST_OUTPUTS, is_gone, send_all};
 use qn_base::Rank;
-use qn_model::{DiskOp, Entry, Outs, Phase, Settings, What};
+use qn_model::{DiskOp, Entry, Outs, Phase, Sent, Settings, What};
 use qn_node::Node;
 
 /// A node of the world, running or off.
@@ -150,4 +155,22 @@ impl Seat {
             _ => None,
         }
     }
+}
+
+/// A running node is handed an entry at the present tick of its clock, and what it sends is added to the packets,
+/// which have room for it.
+pub(crate) fn hand_with_room(
+    seat: &mut Seat,
+    packets: &mut Vec<Sent>,
+    time: u64,
+    what: What,
+    outs: &mut Outs,
+)
+    requires steps { 0 < steps_of seat.old.node }
+    requires room { vec_len packets.old + MOST_OUTPUTS ≤ vec_capacity packets.old }
+    ensures hands { HandedSeat seat.old seat.new time what outs.new }
+    ensures sends { packets.new.items ≡ packets.old.items ++ packets_of outs.new }
+{
+    seat.hand(time, what, outs);
+    send_all(packets, outs.as_slice());
 }
