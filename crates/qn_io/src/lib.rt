@@ -36,8 +36,3 @@ pub use real::RealEnv;
 pub use scripted::Script;
 pub use standard::{StdSink, StdSource};
 pub use whole::put_all;
-
-#[cfg(test)]
-mod env_tests;
-#[cfg(test)]
-mod tests;
