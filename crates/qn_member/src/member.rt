@@ -12,9 +12,13 @@ pub struct Member {
     hellos: [Option<u64>; 32],
     /// By rank, the view that was announced last.
     announced: [Option<View>; 32],
+    /// The present view.
     view: Option<View>,
+    /// The greatest id of a view that the node has had or was announced.
     greatest: u64,
+    /// The tick of the first look.
     first_look: Option<u64>,
+    /// The tick at which a Hello was due last.
     last_hello: Option<u64>,
 }
 
