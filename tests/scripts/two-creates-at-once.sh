@@ -1,17 +1,19 @@
-# 60 pairs of `create` at random distances, on an image or on no file. Each ends well or with a fault of the outside, one of
-# them ends well, and the image is whole: that of a `create` that ended well.
+# 60 pairs of `create` at random distances, on an image or on no file: up to twice the time that one takes. Each ends well or with
+# a fault of the outside, one of them ends well, and the image is whole: that of a `create` that ended well.
 . "$TOP/tests/expect.sh"
 
-# settings FIRST: 32 nodes, so that making their image takes a while
+# settings FIRST: eight nodes, so that making their image takes a while
 settings() {
     printf 'nodelist {\n'
-    seq "$1" $(($1 + 31)) | sed 's/.*/node {\nnodeid: &\n}/'
+    seq "$1" $(($1 + 7)) | sed 's/.*/node {\nnodeid: &\n}/'
     printf '}\n'
 }
 settings 1 > 1.conf
 settings 1001 > 2.conf
-expect 0 'created nodes 32\n' create --image 1.image < 1.conf
-expect 0 'created nodes 32\n' create --image 2.image --timing 6000,12000,1000,2000,1000 < 2.conf
+began=${EPOCHREALTIME/./}
+expect 0 'created nodes 8\n' create --image 1.image < 1.conf
+took=$((${EPOCHREALTIME/./} - began))
+expect 0 'created nodes 8\n' create --image 2.image --timing 6000,12000,1000,2000,1000 < 2.conf
 
 make() {
     status=0
@@ -25,13 +27,13 @@ for pair in $(seq 60); do
     [ $((pair % 2)) = 0 ] || cp "$((pair % 4 / 2 + 1)).image" disk
     make 1 &
     first=$!
-    sleep "0.00$((RANDOM % 10))"
+    sleep "$(printf '0.%06d' $(((RANDOM << 15 | RANDOM) % (2 * took < 999999 ? 2 * took : 999999))))"
     make 2 --timing 6000,12000,1000,2000,1000
     wait "$first"
     case $(cat 1.answer)/$(cat 2.answer) in
-    '0 created nodes 32/0 created nodes 32') cmp -s disk 1.image || cmp disk 2.image ;;
-    '0 created nodes 32/8 fault EnvFault') cmp disk 1.image ;;
-    '8 fault EnvFault/0 created nodes 32') cmp disk 2.image ;;
+    '0 created nodes 8/0 created nodes 8') cmp -s disk 1.image || cmp disk 2.image ;;
+    '0 created nodes 8/8 fault EnvFault') cmp disk 1.image ;;
+    '8 fault EnvFault/0 created nodes 8') cmp disk 2.image ;;
     *)
         printf 'pair %s answered %s and %s\n' "$pair" "$(cat 1.answer)" "$(cat 2.answer)"
         exit 1

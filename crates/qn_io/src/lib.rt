@@ -4,8 +4,8 @@
 // Promises: whatever a source, a sink or an outside does, its count of faults never falls, and a call
 // answers `Failed` only where that count rose. Bytes that are told come and go whole and in order; calls
 // that are told are exactly the calls that were made, with their answers. The objects in memory do exactly
-// what their scripts say. `StdSource`, `StdSink` and `RealEnv` are the trusted edge: they tell nothing, and
-// no clause says what a file, a stream or a clock gives.
+// what their scripts say. No file is opened under the descriptor of a standard stream. `StdSource`, `StdSink` and
+// `RealEnv` are the trusted edge: they tell nothing, and no clause says what a file, a stream or a clock gives.
 #![tactic(auto)]
 
 mod buffered;
