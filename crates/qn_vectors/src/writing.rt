@@ -1,7 +1,8 @@
 use anyhow::Result;
-use qn_base::{Mask, Rank, View};
-use qn_model::{Ask, BootCause, DiskOp, HaltKind, Message, Out, Packet, Tell};
+use qn_base::{Mask, Rank, View, yes_no};
+use qn_model::{Ask, BootCause, DiskOp, HaltKind, Out, Packet, Tell};
 use std::alloc::Global;
+use std::str::from_utf8;
 
 /// The outputs, parted by `; `, or `-` where there are none.
 pub fn outs_text(alloc: Global, outs: &[Out]) -> Result<String> {
@@ -26,10 +27,7 @@ fn out_text(alloc: Global, out: Out) -> Result<String> {
         Out::Send(_, packet) => packet_text(alloc, packet)?,
         Out::Disk(op) => op_text(alloc, op)?,
         Out::Disarm => String::from_str(alloc, "disarm")?,
-        Out::Halt(HaltKind::Deadly(message)) => format!(in alloc;
-            "halt {}",
-            message_text(message)
-        )?,
+        Out::Halt(HaltKind::Deadly(message)) => format!(in alloc; "halt {}", message.name())?,
         Out::Halt(HaltKind::Boot(cause)) => format!(in alloc; "halt boot {}", cause_number(cause))?,
     })
 }
@@ -43,7 +41,7 @@ fn packet_text(alloc: Global, packet: Packet) -> Result<String> {
             let view = view_text(alloc, view)?;
             format!(in alloc; "announce {} {view}", from.0)?
         }
-        Packet::Vote { yes } => format!(in alloc; "vote {}", yes_no(yes))?,
+        Packet::Vote { yes } => format!(in alloc; "vote {}", truth_text(yes)?)?,
     })
 }
 
@@ -56,7 +54,7 @@ fn ask_text(alloc: Global, ask: Ask) -> Result<String> {
 fn tell_text(alloc: Global, tell: Tell) -> Result<String> {
     let view = view_text(alloc, tell.view)?;
     let ends = ends_text(alloc, tell.from, tell.to)?;
-    let (holds, released) = (yes_no(tell.holds), yes_no(tell.released));
+    let (holds, released) = (truth_text(tell.holds)?, truth_text(tell.released)?);
     Ok(format!(in alloc;
         "tell {ends} {} {} {view} {holds} {released}",
         tell.incarnation, tell.install
@@ -97,17 +95,6 @@ fn op_text(alloc: Global, op: DiskOp) -> Result<String> {
     })
 }
 
-fn message_text(message: Message) -> &'static str {
-    match message {
-        Message::Empty => "empty",
-        Message::Test => "test",
-        Message::Reset => "reset",
-        Message::Off => "off",
-        Message::Exit => "exit",
-        Message::Crashdump => "crashdump",
-    }
-}
-
 fn cause_number(cause: BootCause) -> u8 {
     match cause {
         BootCause::ReadFailed => 1,
@@ -120,6 +107,6 @@ fn cause_number(cause: BootCause) -> u8 {
 }
 
 /// `yes` or `no`.
-fn yes_no(truth: bool) -> &'static str {
-    if truth { "yes" } else { "no" }
+fn truth_text(truth: bool) -> Result<&'static str> {
+    Ok(from_utf8(yes_no(truth))?)
 }
