@@ -1,10 +1,10 @@
-use super::*;
 use qn_io::MemSink;
+use qn_replay::soak;
 use qn_sched::ReplayEnd;
 use std::alloc::Global;
 use std::test::Fail;
 
-/// A soak into an output with so much room: how it ends, and the output behind it.
+/// A soak into an output with so much room: how it ends, and the output after it.
 fn soak_into(
     alloc: Global,
     seed: u64,
@@ -17,7 +17,7 @@ fn soak_into(
 }
 
 #[test]
-fn a_soak_writes_its_summary_each_time(rt: HostRuntime) -> Result<(), Fail> {
+fn a_soak_writes_its_summary(rt: HostRuntime) -> Result<(), Fail> {
     let rows: [(u64, u8, &str); 7] = [
         (0, 0, "boots 0 crashes 0 resets 0 starts 0 stops 0"),
         (0, 1, "boots 0 crashes 0 resets 0 starts 0 stops 0"),
@@ -31,26 +31,24 @@ fn a_soak_writes_its_summary_each_time(rt: HostRuntime) -> Result<(), Fail> {
         let line = format!(in rt.alloc();
             "soak seed {seed} events {events} {counts} most_holders 0\n"
         )?;
-        for time in [1, 2] {
-            let (end, out) = soak_into(rt.alloc(), seed, events, 256)?;
-            let events = u64::from(events);
-            assert_eq!(rt; end, ReplayEnd::Done { events }, "{seed} {events}, {time}");
-            assert_eq!(rt; out.written(), line.as_bytes(), "{seed} {events}, {time}");
-        }
+        let (end, out) = soak_into(rt.alloc(), seed, events, 256)?;
+        let events = u64::from(events);
+        assert!(rt; end == ReplayEnd::Done { events });
+        assert!(rt; out.written() == line.as_bytes());
     }
     Ok(())
 }
 
-/// The summary of seed 7 and 20 events has this front.
-const FRONT: &str = "soak seed 7 events 20 boots ";
+/// The summary of seed 7 and 20 events begins so.
+const PREFIX: &str = "soak seed 7 events 20 boots ";
 
 #[test]
 fn a_write_that_fails_ends_the_soak(rt: HostRuntime) -> Result<(), Fail> {
     for room in [0, 1, 28] {
         let (end, out) = soak_into(rt.alloc(), 7, 20, room)?;
-        assert_eq!(rt; end, ReplayEnd::WriteFault, "with room for {room}");
-        assert_eq!(rt; out.written().len(), room);
-        assert_eq!(rt; FRONT.as_bytes().starts_with(out.written()), true);
+        assert!(rt; end == ReplayEnd::WriteFault);
+        assert!(rt; out.written().len() == room);
+        assert!(rt; PREFIX.as_bytes().starts_with(out.written()));
     }
     Ok(())
 }
