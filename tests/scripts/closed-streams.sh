@@ -45,8 +45,8 @@ due() {
     fi
     if [ -e errors ]; then
         case $wanted in
-        6 | 7) grep -q '^quorumd: standard ' errors ;;
-        *) cmp errors /dev/null ;;
+        6 | 7) same "$(head -c 18 errors)" 'quorumd: standard ' ;;
+        *) same "$(cat errors)" '' ;;
         esac
     fi
 }
