@@ -7,15 +7,18 @@ use Rattle.qn_model.specs.Inputs.{Tells, Anyway}
 use Rattle.qn_model.specs.Lines.{Ending, Ended}
 use Rattle.qn_sched.specs.declared.replay_end.ReplayEnd.{ReplayEnd}
 use Rattle.qn_sched.specs.declared.replay_end.ReplayEnd.TheVariants.{Done, NoMemory, ReadFault, WriteFault}
-use Rattle.qn_play.specs.Judging.{StandsAfter}
+use Rattle.qn_io.specs.declared.lines.LineRead.{LineRead}
+use Rattle.qn_io.specs.Lines.{IsDrainedLine, OnFailedLine, ReadsLine}
+use Rattle.qn_model.specs.LineLaws.{IsPartOfLine}
+use Rattle.qn_play.specs.Judging.{RefusesAt, StandsAfter, judged}
 use Rattle.qn_play.specs.Lines.{Play, Taken, Wants, last_line, rest_of}
 use Rattle.qn_play.specs.Played.{Played, ended, traced}
 use Rattle.qn_play.specs.Reading.{EndsWith, GoesOn, IsOpen, Rest, Stops}
 use Rattle.qn_play.specs.Reading as reading
-use Rattle.qn_play.specs.Runs.{EndsAs, Runs, Unwritten, Wanted, WantsAtLine, WroteAll}
+use Rattle.qn_play.specs.Runs.{Cut, EndsAs, Finishes, Runs, Unwritten, Wanted, WantsAtLine, Written, WroteAll}
 use Rattle.qn_play.specs.Steps.{goes_nowhere, goes_then, goes_traced, needed_after, needed_traced, takes_after, tells_after, tells_traced}
 use Rattle.qn_play.specs.Writing.{GivesOut, gives_later, gives_on, gives_then, prefix_of_more, prefix_then, written_all, written_prefix}
-use Rattle.qn_play.proofs.LineSteps.{WantsHere}
+use Rattle.qn_play.proofs.LineSteps.{WantsHere, read_goes, read_stops}
 
 -- The lines so far were taken, and their trace text was given out: the world stands after them, and what the whole input gives
 -- is that text and what the rest of the input gives.
@@ -56,7 +59,7 @@ stood play head earlier text goes =
 module _ {play : Play} {standing : Taken → Type 0} {head count : ℕ} {left between old now : Option (List ℕ)} {waiting : List ℕ}
     (run : IsRunning play standing head count left between old now waiting) where
   -- more of what waited was written
-  pub writes_on : {new : Option (List ℕ)} {less : List ℕ} → GivesOut now new less waiting → IsRunning play standing head count left between old new less
+  abbrev pub writes_on : {new : Option (List ℕ)} {less : List ℕ} → GivesOut now new less waiting → IsRunning play standing head count left between old new less
   writes_on gives = record { after = run.after; text = run.text; goes = run.goes; gives = gives_on run.gives gives }
 
   further : {after : Option (List ℕ)} (line text : List ℕ)
@@ -167,7 +170,48 @@ module _ {play : Play} {standing : Taken → Type 0} {head count : ℕ} {left be
         (Anyway (λ ending more. (
           (rest_of play head run.after.earlier ending (stop.taken ++ more)).trace,
           ap (λ bytes. (rest_of play head [] ending bytes).trace) (append_assoc run.goes.taken stop.taken more)
-          ∙ ap (λ (p : Played Taken). p.trace) (run.goes.rest ending (stop.taken ++ more)),
+              ∙ ap (λ (p : Played Taken). p.trace) (run.goes.rest ending (stop.taken ++ more)),
         )))
         refl fails (written_prefix run.gives prefix);
   }
+
+-- What was read of the next line, and what came of it. `play_now` and `head_now` are other names for the same.
+module _ {play play_now : Play} {standing : Taken → Type 0} {head head_now count : ℕ} {left between old now : Option (List ℕ)} {waiting : List ℕ}
+    (run : IsRunning play standing head count left between old now waiting) (same_play : play_now ≡ play) (same_head : head_now ≡ head)
+    (what : LineRead) {line : List ℕ} (given : List ℕ) (same_line : given ≡ line) (inside : IsPartOfLine line) (short : length given ≤ 4096) where
+  part_given : IsPartOfLine given
+  part_given = subst IsPartOfLine (sym same_line) inside
+
+  -- the world took it
+  pub goes_at : {after : Option (List ℕ)} (text : List ℕ) → ReadsLine what line between after
+      → ((earlier : Taken) → standing earlier → length earlier ≡ count → judged play_now head_now what earlier given ≡ Ok text)
+      → GoesOn (rest_of play head run.after.earlier) (λ ending more. traced text (rest_of play head (given ∷ run.after.earlier) ending more)) between after
+  goes_at {after} text reads is =
+      read_goes play head run.after.earlier what given text part_given short (subst (λ (xs : List ℕ). ReadsLine what xs between after) (sym same_line) reads)
+      (ap (λ (h : ℕ). judged play h what run.after.earlier given) (sym same_head)
+      ∙ ap (λ (p : Play). judged p head_now what run.after.earlier given) (sym same_play)
+      ∙ is run.after.earlier run.after.stands run.after.counted)
+
+  -- the run ends there
+  pub stops_here : {wants wants_now : Wants} {failed : Type 0} (pieces : List ℕ) (left_new : Option (List ℕ)) (end : ReplayEnd) → wants_now ≡ wants
+      → ReadsLine what line between (prepend_known pieces left_new) → IsDrainedLine what pieces → OnFailedLine what failed
+      → ((earlier : Taken) → standing earlier → length earlier ≡ count → RefusesAt (judged play_now head_now what) wants_now earlier given end)
+      → Stops (rest_of play head run.after.earlier) run.after.earlier (WantsHere play wants head run.after.earlier) between (prepend_known pieces left_new) ((pieces ≡ []) × IsAtEnd left_new) ((pieces ≡ []) × failed) end
+  stops_here {wants} {wants_now} pieces left_new end same_wants reads drained cause refuses =
+      read_stops play wants head run.after.earlier what given pieces left_new between end part_given short
+      (subst (λ (xs : List ℕ). ReadsLine what xs between (prepend_known pieces left_new)) (sym same_line) reads) drained cause
+      (subst (λ (h : ℕ). RefusesAt (judged play h what) wants run.after.earlier given end) same_head
+      (subst (λ (p : Play). RefusesAt (judged p head_now what) wants run.after.earlier given end) same_play
+      (subst (λ (w : Wants). RefusesAt (judged play_now head_now what) w run.after.earlier given end) same_wants
+      (refuses run.after.earlier run.after.stands run.after.counted))))
+
+-- the run ended, and what waited was written before, or a prefix of it
+pub finishes : {play : Play} {wants : Wants} {standing standing_new : Taken → Type 0} {head count : ℕ} {left between old now left_new new : Option (List ℕ)} {waiting : List ℕ} {failed write_failed write_failed_before : Type 0}
+    (run : IsRunning play standing head count left between old now waiting) (pieces : List ℕ) (end result : ReplayEnd) → standing_new run.after.earlier → (write_failed_before → write_failed)
+    → Stops (rest_of play head run.after.earlier) run.after.earlier (WantsHere play wants head run.after.earlier) between (prepend_known pieces left_new) ((pieces ≡ []) × IsAtEnd left_new) ((pieces ≡ []) × failed) end
+    → Finishes end waiting now new write_failed_before result
+    → Runs (rest_of play head []) standing_new (WantsAtLine play wants head) left left_new failed old new write_failed result
+finishes {play} {wants} {standing} {standing_new} {head} {count} {left} {between} {old} {now} {left_new} {new} {waiting} {failed} {write_failed} run pieces end result stands wider stop (Written is whole) =
+    subst (λ (e : ReplayEnd). Runs (rest_of play head []) standing_new (WantsAtLine play wants head) left left_new failed old new write_failed e) (sym is) (ends run pieces end stands stop whole)
+finishes {play} {wants} {standing} {standing_new} {head} {count} {left} {between} {old} {now} {left_new} {new} {waiting} {failed} {write_failed} run pieces end result stands wider stop (Cut is fails prefix) =
+    subst (λ (e : ReplayEnd). Runs (rest_of play head []) standing_new (WantsAtLine play wants head) left left_new failed old new write_failed e) (sym is) (ends_unwritten run pieces end stop (wider fails) prefix)

@@ -40,3 +40,8 @@ pub record Runs {Last : Type 0} (played_of : Rest Last) (standing : Last → Typ
   pub waiting : List ℕ
   pub takes : left_old ≡ prepend_known (taken ++ waiting) left_new
   pub ends : EndsAs played_of standing wanted taken ((waiting ≡ []) × IsAtEnd left_new) ((waiting ≡ []) × read_failed) old new write_failed end
+
+-- what waited was written, and then the run ended so; or the sink failed, and a prefix of it was written
+pub data Finishes (end : ReplayEnd) (waiting : List ℕ) (old new : Option (List ℕ)) (write_failed : Type 0) (result : ReplayEnd) : Type 0 where
+  Written : result ≡ end → new ≡ append_known old waiting → Finishes end waiting old new write_failed result
+  Cut : result ≡ WriteFault → write_failed → AppendsFront old new waiting → Finishes end waiting old new write_failed result

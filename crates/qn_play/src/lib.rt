@@ -4,6 +4,8 @@
 mod lines;
 mod output;
 mod plays;
+mod run;
 
 pub use output::Output;
 pub use plays::Plays;
+pub use run::play;
