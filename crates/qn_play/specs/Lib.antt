@@ -5,3 +5,4 @@ pub mod Steps
 pub mod Writing
 pub mod Judging
 pub mod Runs
+pub mod RunLaws

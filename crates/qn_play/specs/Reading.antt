@@ -5,11 +5,15 @@ use Rattle.qn_model.specs.Inputs.{Tells}
 use Rattle.qn_model.specs.Lines.{Ending, ReadFailed}
 use Rattle.qn_sched.specs.declared.replay_end.ReplayEnd.{ReplayEnd}
 use Rattle.qn_sched.specs.declared.replay_end.ReplayEnd.TheVariants.{NoMemory, ReadFault}
-use Rattle.qn_play.specs.Played.{Played, ended}
+use Rattle.qn_play.specs.Played.{Played, ended, standing_at}
 
 -- what is played of the bytes that are to come
 abbrev pub Rest : Type 0 → Type 0
 Rest Last = Ending → List ℕ → Played Last
+
+-- the same, with another account of where it stood
+abbrev pub placed : {A B : Type 0} → (A → B) → Rest A → Rest B
+placed place rest ending more = standing_at place (rest ending more)
 
 -- the bytes leave the end open: a failing read would end it
 abbrev pub IsOpen : {Last : Type 0} → Rest Last → List ℕ → Type 0

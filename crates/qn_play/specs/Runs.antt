@@ -45,3 +45,7 @@ pub record Runs {Last : Type 0} (played_of : Rest Last) (standing : Last → Typ
 pub data Finishes (end : ReplayEnd) (waiting : List ℕ) (old new : Option (List ℕ)) (write_failed : Type 0) (result : ReplayEnd) : Type 0 where
   Written : result ≡ end → new ≡ append_known old waiting → Finishes end waiting old new write_failed result
   Cut : result ≡ WriteFault → write_failed → AppendsFront old new waiting → Finishes end waiting old new write_failed result
+
+-- the trace and the end are those of the whole input
+abbrev pub AnswersWhole : {Last : Type 0} → Played Last → Option (List ℕ) → Option (List ℕ) → ReplayEnd → Type 0
+AnswersWhole played old new end = (end ≡ played.end) × (new ≡ append_known old played.trace)

@@ -35,7 +35,7 @@ impl Lines {
     /// The line that was read last, without its end.
     pub(crate) fn line(&self) -> &[u8]
         ensures value { result.now ≡ self.now.line.items }
-        ensures fits { length result.now ≤ 4096 }
+        ensures fits { length result.now ≤ LINE }
     {
         self.line.as_slice()
     }

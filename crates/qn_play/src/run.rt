@@ -1,8 +1,9 @@
-ghost use Rattle.std.specs.Prelude.{◌≡◌, ◌≤◌, ◌<◌, ◌+◌, ◌^◌, [], ◌∷◌, length, Ok, OnOk, OnErr, IfErr};
+ghost use Rattle.std.specs.Prelude.{◌≡◌, ◌≢◌, ◌≤◌, ◌<◌, ◌+◌, ◌^◌, [], ◌∷◌, length, Ok, OnOk, OnErr, IfErr, IfSome};
 ghost use Rattle.std.specs.Io.KnownBytes.{prepend_known};
 ghost use Rattle.qn_io.specs.Outside.{HasRisen};
 ghost use Rattle.qn_play.specs.Lines.{rest_of};
-ghost use Rattle.qn_play.specs.Runs.{Finishes, Runs, WantsAtLine};
+ghost use Rattle.qn_model.specs.Lines.{Ended};
+ghost use Rattle.qn_play.specs.Runs.{AnswersWhole, Finishes, Runs, WantsAtLine};
 
 use crate::lines::Lines;
 use crate::output::Output;
@@ -31,6 +32,13 @@ pub fn play<W: Plays, I: Source, O: Sink>(
     ensures runs { Runs (rest_of (W.play world.old) head []) (W.stands world.new) (WantsAtLine (W.play world.old) (W.wants world.old) head)
         (prepend_known pieces (I.left input.old)) (I.left input.new) (HasRisen (I.faults input.old) (I.faults input.new))
         (O.written out.old) (O.written out.new) (HasRisen (O.faults out.old) (O.faults out.new)) result }
+
+    // Where nothing failed, they are those of all the bytes that were there.
+    ensures complete { ¬ HasRisen (I.faults input.old) (I.faults input.new) → ¬ HasRisen (O.faults out.old) (O.faults out.new)
+        → result ≢ ReplayEnd.NoMemory
+        → IfSome (prepend_known pieces (I.left input.old)) (λ bytes.
+            AnswersWhole (rest_of (W.play world.old) head [] Ended bytes) (O.written out.old) (O.written out.new) result) }
+
     ensures source_faults { I.faults input.old ≤ I.faults input.new }
     ensures sink_faults { O.faults out.old ≤ O.faults out.new }
 {

@@ -1,6 +1,7 @@
 use Rattle.std.proofs.Common.{◌≡◌, ◌≤◌, ◌++◌, List, ℕ, Option, arith, ap, subst, sym, refl, ◌∙◌}
 use Rattle.std.specs.Io.KnownBytes.{prepend_known}
 use Rattle.qn_io.specs.Writes.{AppendsFront}
+use Rattle.qn_play.specs.RunLaws.{runs_complete}
 use Rattle.qn_play.specs.Writing.{GivesOut}
 use Rattle.qn_play.specs.Steps.{risen_within, stops_wider}
 use Rattle.qn_play.proofs.Running.{IsRunning, begins, finishes, goes_at, stops_here, takes_on, unwritten, unwritten_at, writes_on}
@@ -42,6 +43,9 @@ returns-in-Err-clause-runs g c =
     pieces (g.I.Source.left c.next.new.input) c.in-Err.end c.lines.invariant.same_wants c.in-Ok.ensures.reads c.in-Ok.ensures.drained c.in-Ok.ensures.read_failed c.in-Err.ensures.end))
     c.finish.ensures.finishes
 
+pub returns-in-Err-clause-complete : goal.returns-in-Err-clause-complete
+returns-in-Err-clause-complete g c = λ read_well wrote_well memory. runs_complete _ _ (returns-in-Err-clause-runs g c) read_well wrote_well memory
+
 pub lines-preserved : goal.lines-preserved
 lines-preserved g c =
     let run = c.lines.invariant.running in
@@ -53,7 +57,7 @@ lines-preserved g c =
     let wrote_text = c.put.ensures.never_falls in
     record {
       running =
-          takes_on (writes_on run c.in-Ok.ensures.given) line c.judge.new.text.items c.judge.new.self.events (c.in_default-judge.ensures.stands run.after.earlier run.after.stands)
+          takes_on (writes_on run c.in-Ok.ensures.given) {after = prepend_known c.next.new.self.pieces (g.I.Source.left c.next.new.input)} line c.judge.new.text.items c.judge.new.self.events (c.in_default-judge.ensures.stands run.after.earlier run.after.stands)
           c.in_default-judge.ensures.few c.in_default-judge.ensures.counted
           (goes_at run c.lines.invariant.same_play c.lines.invariant.head c.in-Ok.read line c.line.ensures.value c.in-Ok.ensures.unended c.line.ensures.fits
           c.judge.new.text.items c.in-Ok.ensures.reads c.in_default-judge.ensures.text)
