@@ -1,18 +1,15 @@
--- The operations of a node are about nodes that are outside its view.
-use Rattle.std.proofs.Common.{◌≡◌, ℕ, suc, zero, ◌+◌, Bool, true, false, List, Some, None, refl, cond, ◌&&◌, not, if◌then◌else◌, subst}
-use Rattle.std.specs.Prelude.{Option, is_some}
+-- The operations of the fencing are about nodes that are outside the view.
+use Rattle.std.proofs.Common.{◌≡◌, ℕ, suc, zero, ◌+◌, Bool, true, false, List, Some, None, refl, cond, ◌&&◌, not, subst}
+use Rattle.std.specs.Prelude.{Option}
 use Rattle.std.specs.Option.{option_or, option_map}
 use Rattle.std.proofs.lemmas.Bool.Decides.{Decides-eqb}
 use Rattle.qn_model.specs.declared.configuration.Settings.{Settings}
-use Rattle.qn_model.specs.declared.outputs.DiskOp.{DiskOp}
 use Rattle.qn_model.specs.declared.outputs.DiskOp.TheVariants as disk
-use Rattle.qn_model.specs.Log.{Line, incarnation, op_out}
-use Rattle.qn_model.specs.Phases.{is_leaving, phase}
-use Rattle.qn_model.specs.Holding.{holds}
+use Rattle.qn_model.specs.Log.{Line}
 use Rattle.qn_model.specs.NodeVotes.{is_in_view}
 use Rattle.qn_model.specs.Licences.{is_clean, is_slot_seen, is_written}
 use Rattle.qn_model.specs.Unmet.{least_from}
-use Rattle.qn_model.specs.Wanted.{close_op, fencing_op, is_mail_due, may_fence, rank_of, to_read, to_reset, wanted}
+use Rattle.qn_model.specs.Wanted.{fencing_op, rank_of, to_read, to_reset}
 use Rattle.qn_fence.specs.Fence.{IsOutside}
 
 -- the first of two numbers, where it passes, or else the later one
@@ -37,14 +34,6 @@ fails_first_of_three false b c e = refl
 fails_first_of_three true b c e = cc
 
 module _ (s : Settings) (log : List Line) where
-  if_outside : (b : Bool) (first second : Option DiskOp) → IsOutside log first → IsOutside log second → IsOutside log (if b then first else second)
-  if_outside true first second p q = p
-  if_outside false first second p q = q
-
-  close_outside : (number : Option ℕ) → IsOutside log (option_map (λ n. disk.WriteClose n) number)
-  close_outside None = λ rank about. absurd (cc)
-  close_outside (Some n) = λ rank about. absurd (cc)
-
   named : (read reset : Option ℕ) → ((rank : ℕ) → read ≡ Some rank → is_in_view log rank ≡ false) → ((rank : ℕ) → reset ≡ Some rank → is_in_view log rank ≡ false)
       → IsOutside log (option_or (option_map (λ rank. disk.ReadSlot (rank_of rank)) read) (option_map (λ rank. disk.WriteReset (rank_of rank)) reset))
   named (Some found) reset p q = λ rank about. subst (λ r. is_in_view log r ≡ false) ((Decides-eqb found rank).0 about) (p found refl)
@@ -56,11 +45,3 @@ module _ (s : Settings) (log : List Line) where
       named (to_read s log) (to_reset s log)
       (λ rank e. fails_first (is_in_view log rank) (not (is_slot_seen log rank)) (least_passes _ 0 _ rank e))
       (λ rank e. fails_first_of_three (is_in_view log rank) (not (is_clean log rank)) (not (is_written log rank)) (least_passes _ 0 _ rank e))
-
-  pub wanted_outside : (me : ℕ) → IsOutside log (wanted s me log)
-  unfolding wanted
-  wanted_outside me =
-      if_outside (is_some (op_out log)) None _ (λ rank about. absurd (cc))
-      (if_outside (is_mail_due log) (Some disk.ReadMail) _ (λ rank about. absurd (cc))
-      (if_outside (is_leaving (phase s log) && not (holds log)) (close_op log) _ (close_outside (incarnation log))
-      (if_outside (may_fence s me log) (fencing_op s log) None fencing_outside (λ rank about. absurd (cc)))))

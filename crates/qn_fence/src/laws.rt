@@ -4,7 +4,7 @@ ghost use Rattle.qn_model.specs.declared.entries.Entry.{Entry};
 ghost use Rattle.qn_model.specs.declared.entries.What.{What};
 ghost use Rattle.qn_model.specs.Log.{Line, disk_of, now};
 ghost use Rattle.qn_model.specs.NodeOutputs.{log_of, with_read};
-ghost use Rattle.qn_model.specs.Wanted.{fencing_op, wanted};
+ghost use Rattle.qn_model.specs.Wanted.{fencing_op};
 ghost use Rattle.qn_fence.specs.declared.fencing.Fence.{Fence};
 ghost use Rattle.qn_fence.specs.Fence.{FenceFor, IsAskedInside, IsOutside, bears_on_fencing};
 
@@ -18,10 +18,9 @@ pub fn law_other_lines()
         → FenceFor fence s (line ∷ log) }
 {}
 
-/// The operations of a node that takes part, and those of its fencing, are about no member of its view.
+/// The operations of the fencing are about no member of the node's view.
 pub fn law_outside()
-    ensures fencing { (s : Settings) (log : List Line) → IsOutside log (fencing_op s log) }
-    ensures wanted { (s : Settings) (me : ℕ) (log : List Line) → IsOutside log (wanted s me log) }
+    ensures { (s : Settings) (log : List Line) → IsOutside log (fencing_op s log) }
 {}
 
 /// Nothing in the log of a history was asked for behind the log's end.

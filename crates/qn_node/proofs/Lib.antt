@@ -4,6 +4,7 @@ pub mod LiveEntries
 pub mod LiveReads
 pub mod LiveSteps
 pub mod Ids
+pub mod Outside
 pub mod Ranks
 pub mod ResourceSteps
 pub mod RestSteps

@@ -14,11 +14,11 @@ use Rattle.qn_model.specs.declared.outputs.DiskOp.TheVariants as disk
 use Rattle.qn_model.specs.Log.{Line, claimed, is_answer, op_out}
 use Rattle.qn_model.specs.Phases.{boot_phase, deadly_of, gives_exit, is_booting, is_leaving, is_live, is_up, message_of, next_phase, slot_halt}
 use Rattle.qn_model.specs.Holding.{answers_stop, stop_due}
-use Rattle.qn_model.specs.Fitting.{answers_op, fits, is_first, read_as}
+use Rattle.qn_model.specs.Fitting.{answers_op, fits, is_closed, is_first, read_as}
 use Rattle.qn_model.specs.NodeOutputs.{acts, live_outs}
 use Rattle.qn_node.specs.declared.live.Live.{Live}
 use Rattle.qn_node.specs.declared.live.Course.TheVariants as course
-use Rattle.qn_node.specs.Live.{LiveFor, course_by, fits_live, is_boot_entry, is_closed, is_live_op, live_phase}
+use Rattle.qn_node.specs.Live.{LiveFor, course_by, fits_live, is_boot_entry, is_live_op, live_phase}
 use Rattle.qn_node.specs.Resource.{is_stopping}
 
 live_of : (leaving : Bool) → is_live (live_phase leaving) ≡ true

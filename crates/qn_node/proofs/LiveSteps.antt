@@ -23,7 +23,8 @@ use Rattle.qn_quorum.specs.Quorum.{QuorumFor}
 use Rattle.qn_quorum.specs.declared.counting.Quorum.{Quorum}
 use Rattle.qn_node.specs.declared.live.Live.{Live}
 use Rattle.qn_node.specs.declared.live.Course.TheVariants as course
-use Rattle.qn_node.specs.Live.{LiveFor, LiveTook, course_by, course_of, is_closed, live_phase, with_outs}
+use Rattle.qn_model.specs.Fitting.{is_closed}
+use Rattle.qn_node.specs.Live.{LiveFor, LiveTook, course_by, course_of, live_phase, with_outs}
 use Rattle.qn_node.specs.Resource.{after_entry}
 use Rattle.qn_node.specs.Rest.{RestFor}
 use Rattle.qn_node.proofs.Acting.{live_if}

@@ -14,7 +14,7 @@ use Rattle.qn_model.specs.declared.outputs.Out.{Out}
 use Rattle.qn_model.specs.declared.votes.Answer.{Answer}
 use Rattle.qn_model.specs.Log.{Line, ask_place, claim_of, claimed, disk_of, incarnation, is_answer, op_out, timing}
 use Rattle.qn_model.specs.Phases.{deadly_of, in_time, is_leaving, message_of, next_phase, phase}
-use Rattle.qn_model.specs.Fitting.{answers_op, is_for, is_own_view}
+use Rattle.qn_model.specs.Fitting.{answers_op, is_closed, is_for, is_own_view}
 use Rattle.qn_model.specs.NodeOutputs.{mail_feeds, taken_in}
 use Rattle.qn_model.specs.Unmet.{id_of, lacks_of_others, or_else, other_chosen}
 use Rattle.qn_fence.specs.Fence.{FenceFor}
@@ -31,10 +31,14 @@ live_phase leaving = if leaving then Leaving else Up
 
 -- an operation that is no step of a boot, or none
 abbrev pub is_live_op : Option DiskOp → Bool
+is_live_op None = true
 is_live_op (Some disk.ReadHeader) = false
+is_live_op (Some (disk.ReadSlot rank)) = true
 is_live_op (Some (disk.WriteClaim number)) = false
 is_live_op (Some disk.WriteClear) = false
-is_live_op op = true
+is_live_op (Some disk.ReadMail) = true
+is_live_op (Some (disk.WriteReset rank)) = true
+is_live_op (Some (disk.WriteClose number)) = true
 
 -- an entry that only a boot takes
 abbrev pub is_boot_entry : What → Bool
@@ -42,7 +46,17 @@ is_boot_entry what.Begin = true
 is_boot_entry (what.Header seen) = true
 is_boot_entry (what.Claimed ok) = true
 is_boot_entry (what.Cleared ok) = true
-is_boot_entry entry = false
+is_boot_entry (what.SlotRead rank seen) = false
+is_boot_entry (what.MailRead seen) = false
+is_boot_entry (what.MailWritten rank ok) = false
+is_boot_entry (what.View view) = false
+is_boot_entry (what.Ask ask) = false
+is_boot_entry (what.Tell tell) = false
+is_boot_entry (what.Device agrees) = false
+is_boot_entry what.Tick = false
+is_boot_entry (what.Stopped ok) = false
+is_boot_entry what.Leave = false
+is_boot_entry (what.Closed ok) = false
 
 -- whether an entry fits a node that takes part, by what it keeps
 abbrev pub fits_live : Settings → ℕ → Live → What → Bool
@@ -54,11 +68,13 @@ fits_live s me live (what.Device agrees) = true
 fits_live s me live what.Tick = true
 fits_live s me live (what.Stopped ok) = is_stopping live.resource
 fits_live s me live what.Leave = not live.leaving
-fits_live s me live answer = answers_op live.op answer
-
-abbrev pub is_closed : What → Bool
-is_closed (what.Closed ok) = true
-is_closed entry = false
+fits_live s me live (what.Header seen) = answers_op live.op (what.Header seen)
+fits_live s me live (what.SlotRead rank seen) = answers_op live.op (what.SlotRead rank seen)
+fits_live s me live (what.Claimed ok) = answers_op live.op (what.Claimed ok)
+fits_live s me live (what.Cleared ok) = answers_op live.op (what.Cleared ok)
+fits_live s me live (what.MailRead seen) = answers_op live.op (what.MailRead seen)
+fits_live s me live (what.MailWritten rank ok) = answers_op live.op (what.MailWritten rank ok)
+fits_live s me live (what.Closed ok) = answers_op live.op (what.Closed ok)
 
 -- how a step goes on, by the message that kills, if there is one
 abbrev pub course_by : Option Message → Bool → Bool → Bool → Course

@@ -11,7 +11,18 @@ use Rattle.qn_model.specs.declared.outputs.Out.TheVariants as out
 abbrev pub IsNodeOutput : Settings → Out → Type 0
 IsNodeOutput s (out.Send to (packet.Ask ask)) = to.0 < length s.nodes
 IsNodeOutput s (out.Send to (packet.Tell tell)) = to.0 < length s.nodes
-IsNodeOutput s (out.Send to packet) = ⊥
+IsNodeOutput s (out.Send to (packet.Hello from)) = ⊥
+IsNodeOutput s (out.Send to (packet.Announce from view)) = ⊥
+IsNodeOutput s (out.Send to (packet.Vote agrees)) = ⊥
 IsNodeOutput s (out.Disk (disk.ReadSlot rank)) = rank.0 < length s.nodes
 IsNodeOutput s (out.Disk (disk.WriteReset rank)) = rank.0 < length s.nodes
-IsNodeOutput s output = Unit {0}
+IsNodeOutput s (out.Disk disk.ReadHeader) = Unit {0}
+IsNodeOutput s (out.Disk (disk.WriteClaim number)) = Unit {0}
+IsNodeOutput s (out.Disk disk.WriteClear) = Unit {0}
+IsNodeOutput s (out.Disk disk.ReadMail) = Unit {0}
+IsNodeOutput s (out.Disk (disk.WriteClose number)) = Unit {0}
+IsNodeOutput s out.Stop = Unit {0}
+IsNodeOutput s out.Start = Unit {0}
+IsNodeOutput s out.Feed = Unit {0}
+IsNodeOutput s out.Disarm = Unit {0}
+IsNodeOutput s (out.Halt kind) = Unit {0}

@@ -36,7 +36,20 @@ pub fn begin(own: &Own, tick: u64, what: What, outs: &mut Outs) -> Stage
             outs.push(Out::Disk(DiskOp::ReadHeader));
             Stage::Header(Boot::begin(u32::from(own.count())))
         }
-        _ => Stage::Rest(Rest {
+        What::Header(_)
+        | What::SlotRead(..)
+        | What::Claimed(_)
+        | What::Cleared(_)
+        | What::MailRead(_)
+        | What::MailWritten(..)
+        | What::View(_)
+        | What::Ask(_)
+        | What::Tell(_)
+        | What::Device(_)
+        | What::Tick
+        | What::Stopped(_)
+        | What::Leave
+        | What::Closed(_) => Stage::Rest(Rest {
             phase: Phase::Booting,
             claims: None,
             resource: Resource::Free,

@@ -4,11 +4,12 @@
 // Promises: a `Node` stands for the log of what it was handed (`specs/Node`): after a step it stands for that
 // log with the entry added, and what came out are the defined outputs of the entry. `why`, `answer`, `holds`,
 // `phase` and `incarnation` are the definitions of `qn_model` over the log, in every phase. A copy stands for
-// the same. No call takes memory from an allocator.
+// the same. A node that takes part never resets, nor reads the slot of, a member of its view (`law_outside`). No
+// call takes memory from an allocator.
 #![tactic(auto)]
 
 mod booting;
-mod entries;
+mod laws;
 mod live;
 mod node;
 mod outputs;
@@ -16,8 +17,7 @@ mod own;
 mod resource;
 mod rest;
 mod stage;
-#[cfg(test)]
-mod tests;
 mod votes;
 
+pub use laws::law_outside;
 pub use node::Node;

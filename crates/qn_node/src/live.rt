@@ -1,8 +1,6 @@
-use crate::entries::{answers_op, is_answer};
 use crate::own::Own;
 use crate::resource::Resource;
 use crate::rest::Rest;
-use crate::stage::Stage;
 use crate::votes::count;
 use qn_boot::Ready;
 use qn_fence::Fence;
@@ -54,7 +52,7 @@ impl Live {
     ghost use Rattle.qn_quorum.specs.Quorum.{QuorumFor};
     ghost use Rattle.qn_watch.specs.Watch.{WatchFor};
     ghost use Rattle.qn_node.specs.Live.{LiveFor, course_of, fits_live, is_boot_entry, live_phase};
-    ghost use Rattle.qn_node.specs.Stage.{StageFor, installs_in};
+    ghost use Rattle.qn_node.specs.Stage.{StageFor, installs_in, stage_after};
     ghost use Rattle.qn_node.specs.Resource.{after_entry, is_held};
 
     /// A node whose boot has just ended well.
@@ -81,22 +79,29 @@ impl Live {
         }
     }
 
-    /// Takes an entry in, and gives its outputs.
-    pub fn step(mut self, own: &Own, quorum: &mut Quorum, entry: Entry, outs: &mut Outs) -> Stage
-        requires few { installs_of self.heard < u64.MAX }
+    /// Takes an entry in, and gives its outputs. Where nothing comes of the node from then on, that is handed out.
+    pub fn step(
+        &mut self,
+        own: &Own,
+        quorum: &mut Quorum,
+        entry: Entry,
+        outs: &mut Outs,
+    ) -> Option<Rest>
+        requires few { installs_of self.old.heard < u64.MAX }
         requires empty { outs.old ≡ [] }
-        ensures few { installs_in result ≤ installs_of self.heard + 1 }
+        ensures few { installs_in (stage_after self.new result) ≤ installs_of self.old.heard + 1 }
         ensures counts { (log : List Line)
-            → LiveFor self own.now.settings own.now.me.0 log
+            → LiveFor self.old own.now.settings own.now.me.0 log
             → QuorumFor quorum.old own.now.settings (votes log)
             → QuorumFor quorum.new own.now.settings (votes (with_entry own.now.settings own.now.me.0 log entry)) }
         ensures stands { (log : List Line)
-            → LiveFor self own.now.settings own.now.me.0 log
+            → LiveFor self.old own.now.settings own.now.me.0 log
             → QuorumFor quorum.old own.now.settings (votes log)
             → now log ≤ entry.tick
-            → StageFor result own.now.settings own.now.me.0 (with_entry own.now.settings own.now.me.0 log entry) }
+            → StageFor (stage_after self.new result) own.now.settings own.now.me.0
+            (with_entry own.now.settings own.now.me.0 log entry) }
         ensures outs { (log : List Line)
-            → LiveFor self own.now.settings own.now.me.0 log
+            → LiveFor self.old own.now.settings own.now.me.0 log
             → QuorumFor quorum.old own.now.settings (votes log)
             → now log ≤ entry.tick
             → outs.new ≡ newest_outs (with_entry own.now.settings own.now.me.0 log entry) }
@@ -110,16 +115,16 @@ impl Live {
         match course {
             Course::Halt(message) => {
                 outs.push(Out::Halt(HaltKind::Deadly(message)));
-                Stage::Rest(self.rest(Phase::Dying))
+                Some(self.rest(Phase::Dying))
             }
             Course::End => {
                 outs.push(Out::Disarm);
-                Stage::Rest(self.rest(Phase::Gone))
+                Some(self.rest(Phase::Gone))
             }
             Course::Act { feeds, leaving } => {
                 self.leaving = leaving;
                 self.act(own, tick, what, feeds, quorum.answer(tick), outs);
-                Stage::Live(self)
+                None
             }
         }
     }
@@ -146,7 +151,13 @@ impl Live {
             What::Device(_) | What::Tick => true,
             What::Stopped(_) => self.resource.is_stopping(),
             What::Leave => !self.leaving,
-            answer => answers_op(self.op, answer),
+            What::Header(_)
+            | What::SlotRead(..)
+            | What::Claimed(_)
+            | What::Cleared(_)
+            | What::MailRead(_)
+            | What::MailWritten(..)
+            | What::Closed(_) => what.answers(self.op),
         }
     }
 
@@ -257,7 +268,7 @@ impl Live {
         ensures { let op = if is_answer what then None else self.old.op in
             self.new ≡ record self.old { op = op; resource = after_entry tick what self.old.resource } }
     {
-        if is_answer(what) {
+        if what.is_answer() {
             self.op = None;
         }
         self.resource = self.resource.after_entry(tick, what);

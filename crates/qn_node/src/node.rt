@@ -6,7 +6,6 @@ use crate::stage::Stage;
 use qn_base::Rank;
 use qn_model::{Answer, Entry, Outs, Phase, Settings, Why};
 use qn_quorum::Quorum;
-use std::mem;
 
 /// One member of the cluster. Ticks are milliseconds of its clock.
 #[derive(Drop)]
@@ -70,10 +69,9 @@ impl Node {
     {
         qn_fence::law_asked_inside();
         outs.clear();
-        let stage = mem::replace(&mut self.stage, Stage::Idle);
-        self.incarnation = stage.claims();
+        self.incarnation = self.stage.claims();
         self.steps_left -= 1;
-        self.stage = stage.step(&self.own, &mut self.quorum, entry, outs);
+        self.stage.step(&self.own, &mut self.quorum, entry, outs);
     }
 
     /// The first condition that a start of the resource still lacks at this tick, which is not below that of

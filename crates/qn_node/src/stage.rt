@@ -5,6 +5,7 @@ use crate::rest::Rest;
 use qn_boot::{Boot, WantClaim, WantClear, WantHeader, WantSlot};
 use qn_model::{Answer, Entry, Outs, Phase, Why};
 use qn_quorum::Quorum;
+use std::mem;
 
 /// Where a node is in its life.
 #[derive(Drop)]
@@ -26,64 +27,74 @@ pub enum Stage {
 }
 
 impl Stage {
-    ghost use Rattle.std.specs.Prelude.{◌≡◌, ◌≤◌, ◌<◌, ◌+◌, List, [], true};
+    ghost use Rattle.std.specs.Prelude.{◌≡◌, ◌≤◌, ◌<◌, ◌+◌, List, [], true, false};
     ghost use Rattle.qn_model.specs.Log.{Line, now};
-    ghost use Rattle.qn_model.specs.NodeOutputs.{newest_outs, with_entry};
+    ghost use Rattle.qn_model.specs.Fitting.{read_as};
+    ghost use Rattle.qn_model.specs.NodeOutputs.{newest_outs, with_entry, with_read};
     ghost use Rattle.qn_model.specs.NodeVotes.{answer as answer_of, votes};
     ghost use Rattle.qn_model.specs.Phases.{is_live};
     ghost use Rattle.qn_model.specs.Unmet.{unmet};
     ghost use Rattle.qn_fence.specs.Fence.{IsAskedInside};
     ghost use Rattle.qn_quorum.specs.Quorum.{QuorumFor};
-    ghost use Rattle.qn_node.specs.Stage.{StageFor, claims_in, holds_in, installs_in, stage_phase};
+    ghost use Rattle.qn_node.specs.Stage.{StageFor, claims_in, holds_in, installs_in, is_part, stage_phase};
 
-    /// Takes an entry in, gives its outputs, and hands out the next stage.
-    pub fn step(self, own: &Own, quorum: &mut Quorum, entry: Entry, outs: &mut Outs) -> Stage
-        requires few { installs_in self < u64.MAX }
+    /// Takes an entry in, and gives its outputs.
+    pub fn step(&mut self, own: &Own, quorum: &mut Quorum, entry: Entry, outs: &mut Outs)
+        requires few { installs_in self.old < u64.MAX }
         requires empty { outs.old ≡ [] }
-        ensures few { installs_in result ≤ installs_in self + 1 }
+        ensures few { installs_in self.new ≤ installs_in self.old + 1 }
         ensures counts { (log : List Line)
-            → StageFor self own.now.settings own.now.me.0 log
+            → StageFor self.old own.now.settings own.now.me.0 log
             → QuorumFor quorum.old own.now.settings (votes log)
             → QuorumFor quorum.new own.now.settings (votes (with_entry own.now.settings own.now.me.0 log entry)) }
         ensures stands { (log : List Line)
-            → StageFor self own.now.settings own.now.me.0 log
+            → StageFor self.old own.now.settings own.now.me.0 log
             → QuorumFor quorum.old own.now.settings (votes log)
             → IsAskedInside log
             → now log ≤ entry.tick
-            → StageFor result own.now.settings own.now.me.0 (with_entry own.now.settings own.now.me.0 log entry) }
+            → StageFor self.new own.now.settings own.now.me.0
+            (with_entry own.now.settings own.now.me.0 log entry) }
         ensures outs { (log : List Line)
-            → StageFor self own.now.settings own.now.me.0 log
+            → StageFor self.old own.now.settings own.now.me.0 log
             → QuorumFor quorum.old own.now.settings (votes log)
             → now log ≤ entry.tick
             → outs.new ≡ newest_outs (with_entry own.now.settings own.now.me.0 log entry) }
     {
+        if let Stage::Live(live) = self {
+            if let Some(rest) = live.step(own, quorum, entry, outs) {
+                *self = Stage::Rest(rest);
+            }
+            return;
+        }
+        quorum.on_tick(entry.tick);
+        let quiet = mem::replace(self, Stage::Idle);
+        *self = quiet.next(own, entry, outs);
+    }
+
+    /// The next stage of a node that takes no part, after an entry, of which it gives the outputs.
+    fn next(self, own: &Own, entry: Entry, outs: &mut Outs) -> Stage
+        requires quiet { is_part self ≡ false }
+        requires empty { outs.old ≡ [] }
+        ensures few { installs_in result ≡ 0 }
+        ensures stands { (log : List Line)
+            → StageFor self own.now.settings own.now.me.0 log
+            → IsAskedInside log
+            → StageFor result own.now.settings own.now.me.0 (with_read own.now.settings own.now.me.0 log entry.tick
+            (read_as own.now.settings own.now.me.0 log entry.what)) }
+        ensures outs { (log : List Line)
+            → StageFor self own.now.settings own.now.me.0 log
+            → outs.new ≡ newest_outs (with_read own.now.settings own.now.me.0 log entry.tick
+            (read_as own.now.settings own.now.me.0 log entry.what)) }
+    {
         let Entry { tick, what } = entry;
         match self {
-            Stage::Live(live) => live.step(own, quorum, entry, outs),
-            Stage::Idle => {
-                quorum.on_tick(tick);
-                begin(own, tick, what, outs)
-            }
-            Stage::Header(boot) => {
-                quorum.on_tick(tick);
-                header(boot, own, tick, what, outs)
-            }
-            Stage::Slot(boot) => {
-                quorum.on_tick(tick);
-                slot(boot, own, tick, what, outs)
-            }
-            Stage::Claim(boot) => {
-                quorum.on_tick(tick);
-                claimed(boot, own, tick, what, outs)
-            }
-            Stage::Clear(boot) => {
-                quorum.on_tick(tick);
-                cleared(boot, own, tick, what, outs)
-            }
-            Stage::Rest(rest) => {
-                quorum.on_tick(tick);
-                Stage::Rest(rest.step(tick, what))
-            }
+            Stage::Idle => begin(own, tick, what, outs),
+            Stage::Header(boot) => header(boot, own, tick, what, outs),
+            Stage::Slot(boot) => slot(boot, own, tick, what, outs),
+            Stage::Claim(boot) => claimed(boot, own, tick, what, outs),
+            Stage::Clear(boot) => cleared(boot, own, tick, what, outs),
+            Stage::Live(_) => unreachable!(),
+            Stage::Rest(rest) => Stage::Rest(rest.step(tick, what)),
         }
     }
 
@@ -96,9 +107,10 @@ impl Stage {
             → answer ≡ answer_of own.now.settings log tick
             → result ≡ unmet own.now.settings own.now.me.0 log tick }
     {
-        match self {
-            Stage::Live(live) => live.why(own, tick, answer),
-            _ => Why::Down,
+        if let Stage::Live(live) = self {
+            live.why(own, tick, answer)
+        } else {
+            Why::Down
         }
     }
 
@@ -110,7 +122,8 @@ impl Stage {
         match self {
             Stage::Live(live) => Stage::Live(live.copy()),
             Stage::Rest(rest) => Stage::Rest(*rest),
-            _ => unreachable!(),
+            Stage::Idle | Stage::Header(_) | Stage::Slot(_) | Stage::Claim(_) | Stage::Clear(_) =>
+                unreachable!(),
         }
     }
 
@@ -134,7 +147,8 @@ impl Stage {
         match self {
             Stage::Live(live) => live.phase(),
             Stage::Rest(rest) => rest.phase,
-            _ => Phase::Booting,
+            Stage::Idle | Stage::Header(_) | Stage::Slot(_) | Stage::Claim(_) | Stage::Clear(_) =>
+                Phase::Booting,
         }
     }
 
@@ -145,7 +159,8 @@ impl Stage {
         match self {
             Stage::Live(live) => live.holds(),
             Stage::Rest(rest) => rest.resource.is_held(),
-            _ => false,
+            Stage::Idle | Stage::Header(_) | Stage::Slot(_) | Stage::Claim(_) | Stage::Clear(_) =>
+                false,
         }
     }
 }

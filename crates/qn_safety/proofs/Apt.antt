@@ -20,9 +20,9 @@ use Rattle.qn_model.specs.declared.outputs.DiskOp.TheVariants as disk
 use Rattle.qn_model.specs.Log.{Line, op_out, disk_of, is_answer}
 use Rattle.qn_model.specs.Phases.{phase, next_phase, boot_phase, mail_phase, header_halt, slot_halt, boot_halt, message_of, deadly_of, in_time, is_booting, is_live, is_up, is_leaving}
 use Rattle.qn_model.specs.Wanted.{boot_op, rank_of}
-use Rattle.qn_model.specs.Fitting.{fits, answers_op, is_first}
+use Rattle.qn_model.specs.Fitting.{fits, answers_op, is_closed, is_first}
 use Rattle.qn_safety.proofs.Tools.{some_same, none_some, some_none}
-use Rattle.qn_safety.proofs.Says.{Reason, LiveState, is_closed}
+use Rattle.qn_safety.proofs.Says.{Reason, LiveState}
 use Rattle.qn_safety.proofs.Logs.{Made, NoLine, OneMore, IsLine, before_outs, disk_reason}
 
 -- the operation that an entry answers
@@ -102,13 +102,18 @@ is_boot_op disk.ReadHeader = true
 is_boot_op (disk.ReadSlot rank) = true
 is_boot_op (disk.WriteClaim number) = true
 is_boot_op disk.WriteClear = true
-is_boot_op op = false
+is_boot_op disk.ReadMail = false
+is_boot_op (disk.WriteReset rank) = false
+is_boot_op (disk.WriteClose number) = false
 
 abbrev pub is_live_op : DiskOp → Bool
 is_live_op disk.ReadMail = true
 is_live_op (disk.ReadSlot rank) = true
 is_live_op (disk.WriteReset rank) = true
-is_live_op op = false
+is_live_op disk.ReadHeader = false
+is_live_op (disk.WriteClaim number) = false
+is_live_op disk.WriteClear = false
+is_live_op (disk.WriteClose number) = false
 
 abbrev pub is_close_op : DiskOp → Bool
 is_close_op (disk.WriteClose number) = true

@@ -16,6 +16,7 @@ use Rattle.qn_safety.proofs.Tools.{and_left_of}
 use Rattle.qn_model.specs.Moments.{is_holder}
 use Rattle.qn_model.specs.Rules.{passes}
 use Rattle.qn_safety.specs.Closing.{is_close, asked_close}
+use Rattle.qn_safety.specs.Reported.{OneReported}
 use Rattle.qn_safety.specs.Timed.{IsUp, IsSameBoot, AllRuled, NumbersRise}
 use Rattle.qn_model.specs.declared.events.Event.{Event}
 use Rattle.qn_model.specs.World.{World, node_at, op_at}
@@ -27,7 +28,6 @@ use Rattle.std.proofs.Common.{filter}
 use Rattle.std.proofs.lemmas.Bool.{cases_eq}
 use Rattle.std.proofs.lemmas.Nat.Bits.{bit_at_or, bit_at-zero, bit_at-pow_other, bit_at-lt}
 use Rattle.qn_model.specs.Steps.{AllAllowed, holders}
-use Rattle.qn_model.specs.Timing.{is_safe}
 use Rattle.qn_safety.specs.Closing.{has_landed_close}
 use Rattle.qn_safety.proofs.Apt.{is_apt, apt}
 use Rattle.qn_safety.proofs.Stays.{close_stays, closed_never}
@@ -149,7 +149,6 @@ reported_holder s w i member =
     by_bit (inr there) = in_filter (is_holder s w.moments) i (range_with_len 0 (length s.nodes)) there
 
 -- at most one holder is reported
-pub one_reported : (s : Settings) (t : Timing) (events : List Event) (i j : ℕ) → is_safe t ≡ true → AllAllowed s t events
-    → is_member (holders s (run s t events)) i ≡ true → is_member (holders s (run s t events)) j ≡ true → i ≡ j
+pub one_reported : OneReported
 one_reported s t events i j safe all first second =
     one_holder s t events i j safe all (reported_holder s (run s t events) i first) (reported_holder s (run s t events) j second)

@@ -14,11 +14,11 @@ use Rattle.qn_model.specs.declared.outputs.DiskOp.TheVariants as disk
 use Rattle.qn_model.specs.Log.{Line, op_out, claimed, claim_of, disk_of, is_answer}
 use Rattle.qn_model.specs.Phases.{phase, next_phase, boot_phase, header_halt, slot_halt, in_time, is_booting, is_up}
 use Rattle.qn_model.specs.NodeVotes.{answers}
-use Rattle.qn_model.specs.Fitting.{fits, read_as, answers_op}
+use Rattle.qn_model.specs.Fitting.{fits, read_as, answers_op, is_closed}
 use Rattle.qn_safety.proofs.Tools.{none_some, clash}
 use Rattle.qn_model.specs.Moments.{is_gone}
 use Rattle.qn_safety.specs.Closing.{is_close}
-use Rattle.qn_safety.proofs.Says.{Reason, is_closed}
+use Rattle.qn_safety.proofs.Says.{Reason}
 use Rattle.qn_safety.proofs.Logs.{Made, NoLine, OneMore, IsLine, before_outs, line_at, disk_reason, AskedBy, ask_line}
 use Rattle.qn_safety.proofs.Apt.{is_apt, apt, BootStep, BeginStep, HeaderStep, SlotStep, ClaimStep, ClearStep, boot_step_of, booting_is, up_is, mail_answers, cleared_answers}
 use Rattle.qn_safety.proofs.Stays.{boot_past_later}

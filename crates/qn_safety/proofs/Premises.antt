@@ -6,7 +6,6 @@ use Rattle.qn_base.specs.declared.ids.Rank.{Rank}
 use Rattle.qn_base.specs.declared.ids.View.{View}
 use Rattle.qn_model.specs.declared.configuration.Settings.{Settings}
 use Rattle.qn_model.specs.declared.nodelist.NodeEntry.{NodeEntry}
-use Rattle.qn_model.specs.declared.times.Timing.{Timing}
 use Rattle.qn_model.specs.declared.events.Event.{Event}
 use Rattle.qn_model.specs.declared.events.Event.TheVariants as event
 use Rattle.qn_model.specs.Log.{op_out, ask_place, ask_tick, claimed, timing}
@@ -17,6 +16,7 @@ use Rattle.qn_model.specs.Holding.{holds, stop_due, may_stop}
 use Rattle.qn_model.specs.Hearing.{told}
 use Rattle.qn_model.specs.Licences.{out_time, slot_read_since, reset_since}
 use Rattle.qn_model.specs.Settings.{IsValid, ids}
+use Rattle.qn_model.specs.Timing.{usual_times}
 use Rattle.qn_model.specs.Unmet.{least_from, unmet}
 use Rattle.qn_model.specs.Wanted.{mail_tick, wanted}
 use Rattle.qn_model.specs.NodeOutputs.{moment, acts, outs_at, with_entry}
@@ -25,10 +25,6 @@ use Rattle.qn_model.specs.World.{taken, failed}
 use Rattle.qn_model.specs.Rules.{is_well_formed, refusal}
 use Rattle.qn_model.specs.Steps.{step, run, AllAllowed}
 use Rattle.qn_safety.specs.Premises.{OneAfterAnother}
-
--- sbd(8)'s usual times, with a read limit of 2 s and a feed delay of 1 s
-abbrev usual : Timing
-usual = record { watchdog = 5000; msgwait = 10000; loop_ms = 1000; read_limit = 2000; feed_delay = 1000 }
 
 -- two nodes of one vote each with two_node and without wait_for_all
 abbrev two_nodes : Settings
@@ -61,15 +57,15 @@ start_alone = event.Done second ∷ event.Land second ∷ event.Done second ∷ 
 abbrev takes_over : List Event
 takes_over = event.Tick first ∷ event.Pass 2000 [] ∷ event.Feed first ∷ event.Done first ∷ event.Land first ∷ event.Tick first ∷ event.Pass 4000 [] ∷ event.Feed first ∷ event.Done first ∷ event.Land first ∷ event.Tick first ∷ event.Pass 4000 [] ∷ event.Done first ∷ event.Land first ∷ event.Done first ∷ event.Land first ∷ event.Done first ∷ event.Land first ∷ event.View first (sees 1) ∷ event.Done first ∷ event.Land first ∷ event.Done first ∷ event.Land first ∷ event.Done first ∷ event.Land first ∷ event.Done first ∷ event.Land first ∷ event.Boot first 0 ∷ event.Crash second ∷ start_alone
 
-start_alone_holds : is_holder two_nodes (run two_nodes usual start_alone).moments 1 ≡ true
+start_alone_holds : is_holder two_nodes (run two_nodes usual_times start_alone).moments 1 ≡ true
 unfolding op_out ask_place ask_tick claimed timing view install votes answer_at present_view view_tick is_released expected_votes device_yes phase holds stop_due may_stop told out_time slot_read_since reset_since least_from unmet mail_tick wanted moment acts outs_at with_entry logged handed booted time node given_out packets taken failed is_well_formed refusal step run AllAllowed
 start_alone_holds = refl
 
-takes_over_holds : is_holder two_nodes (run two_nodes usual takes_over).moments 0 ≡ true
+takes_over_holds : is_holder two_nodes (run two_nodes usual_times takes_over).moments 0 ≡ true
 unfolding op_out ask_place ask_tick claimed timing view install votes answer_at present_view view_tick is_released expected_votes device_yes phase holds stop_due may_stop told out_time slot_read_since reset_since least_from unmet mail_tick wanted moment acts outs_at with_entry logged handed booted time node given_out packets taken failed is_well_formed refusal step run AllAllowed
 takes_over_holds = refl
 
-takes_over_allowed : AllAllowed two_nodes usual takes_over
+takes_over_allowed : AllAllowed two_nodes usual_times takes_over
 unfolding op_out ask_place ask_tick claimed timing view install votes answer_at present_view view_tick is_released expected_votes device_yes phase holds stop_due may_stop told out_time slot_read_since reset_since least_from unmet mail_tick wanted moment acts outs_at with_entry logged handed booted time node given_out packets taken failed is_well_formed refusal step run AllAllowed
 takes_over_allowed = (refl, refl, (refl, refl, (refl, refl, (refl, refl, (refl, refl, (refl, refl, (refl, refl, (refl, refl, (refl, refl, (refl, refl, (refl, refl, (refl, refl, (refl, refl, (refl, refl, (refl, refl, (refl, refl, (refl, refl, (refl, refl, (refl, refl, (refl, refl, (refl, refl, (refl, refl, (refl, refl, (refl, refl, (refl, refl, (refl, refl, (refl, refl, (refl, refl, (refl, refl, (refl, refl, (refl, refl, (refl, refl, (refl, refl, (refl, refl, (refl, refl, (refl, refl, (refl, refl, (refl, refl, (refl, refl, (refl, refl, (refl, refl, (refl, refl, (refl, refl, tt)))))))))))))))))))))))))))))))))))))))))))
 
@@ -112,7 +108,7 @@ two_nodes_valid = record {
 pub one_after_another : OneAfterAnother
 one_after_another = record {
   settings = two_nodes;
-  timing = usual;
+  timing = usual_times;
   earlier = start_alone;
   events = takes_over;
   first_holder = 1;

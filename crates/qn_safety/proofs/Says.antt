@@ -22,6 +22,7 @@ use Rattle.qn_model.specs.declared.outputs.Out.TheVariants as out
 use Rattle.qn_model.specs.declared.outputs.HaltKind.TheVariants as halt
 use Rattle.qn_model.specs.Log.{Line, op_out, incarnation, now, disk_of, has_start}
 use Rattle.qn_model.specs.Phases.{phase, boot_halt, message_of, deadly_of, is_booting, is_live, is_up, is_leaving}
+use Rattle.qn_model.specs.Fitting.{is_closed}
 use Rattle.qn_model.specs.Holding.{holds}
 use Rattle.qn_model.specs.NodeVotes.{install, view, is_in_view, is_present, released, quorate}
 use Rattle.qn_model.specs.Unmet.{unmet, is_clear, is_chosen}
@@ -43,11 +44,6 @@ LiveState s log (disk.ReadSlot rank) = (is_up (phase s log) ≡ true) × (is_in_
 LiveState s log (disk.WriteReset rank) = (is_up (phase s log) ≡ true) × (is_in_view log rank.0 ≡ false)
 LiveState s log (disk.WriteClose number) = (is_leaving (phase s log) ≡ true) × (holds log ≡ false) × (incarnation log ≡ Some number)
 LiveState s log op = ⊥
-
--- the end of a close
-abbrev pub is_closed : What → Bool
-is_closed (what.Closed ok) = true
-is_closed entry = false
 
 pub record LiveReason (s : Settings) (past log : List Line) (entry : What) (op : DiskOp) : Type 0 where
   pub live : is_live (phase s past) ≡ true

@@ -1,5 +1,7 @@
+pub mod Clocks
 pub mod Closing
 pub mod Timed
 pub mod Releases
+pub mod Reported
 pub mod Lemmas
 pub mod Premises

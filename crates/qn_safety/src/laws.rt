@@ -1,4 +1,4 @@
-ghost use Rattle.std.specs.Prelude.{◌≡◌, ℕ, List, IsTrue, IsFalse, Some};
+ghost use Rattle.std.specs.Prelude.{◌≡◌, ◌≤◌, ◌+◌, ◌*◌, ℕ, List, IsTrue, IsFalse, Some};
 ghost use Rattle.qn_base.specs.Members.{is_member};
 ghost use Rattle.qn_model.specs.declared.configuration.Settings.{Settings};
 ghost use Rattle.qn_model.specs.declared.events.Event.{Event};
@@ -7,9 +7,10 @@ ghost use Rattle.qn_model.specs.Log.{incarnation};
 ghost use Rattle.qn_model.specs.NodeVotes.{quorate};
 ghost use Rattle.qn_model.specs.Phases.{is_leaving, phase};
 ghost use Rattle.qn_model.specs.Timing.{is_safe};
-ghost use Rattle.qn_model.specs.Moments.{Before, Moment, is_holder};
+ghost use Rattle.qn_model.specs.Moments.{Before, Moment, is_holder, time};
 ghost use Rattle.qn_model.specs.World.{node_at};
 ghost use Rattle.qn_model.specs.Steps.{AllAllowed, holders, run};
+ghost use Rattle.qn_safety.specs.Clocks.{RunsOn, clock};
 ghost use Rattle.qn_safety.specs.Closing.{asked_close, has_landed_close};
 ghost use Rattle.qn_safety.specs.Premises.{OneAfterAnother};
 ghost use Rattle.qn_safety.specs.Releases.{AllInView};
@@ -77,6 +78,19 @@ pub fn law_incarnations()
         → IsTrue (asked_close (node_at s rank (run s t earlier)).log)
         → IsSameBoot s rank (run s t earlier).moments (run s t events).moments
         → IsFalse (is_holder s (run s t events).moments rank) }
+{}
+
+/// The clock of a node that runs, against true time, in every timed run: between two moments of one boot it
+/// advances by at least 99 and at most 101 hundredths of a millisecond for each millisecond that passes.
+pub fn law_clocks()
+    ensures slow { (s : Settings) (t : Timing) (moments old new : List Moment) (rank : ℕ)
+        → IsTimedRun s t moments
+        → RunsOn s rank old new moments
+        → 99 * time new + clock s rank old ≤ clock s rank new + 99 * time old }
+    ensures fast { (s : Settings) (t : Timing) (moments old new : List Moment) (rank : ℕ)
+        → IsTimedRun s t moments
+        → RunsOn s rank old new moments
+        → clock s rank new + 101 * time old ≤ 101 * time new + clock s rank old }
 {}
 
 /// With wait_for_all on, a node is quorate at a tick only where one of the events handed a node a view of

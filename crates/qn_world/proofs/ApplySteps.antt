@@ -2,6 +2,7 @@
 use Rattle.std.proofs.Common.{◌≡◌, ℕ, suc, zero, ◌+◌, ◌-◌, ◌<◌, ◌≤◌, true, List, [], ◌∷◌, ◌++◌, length, Some, None, refl, sym, ◌∙◌, ap, subst, arith, length-append}
 use Rattle.std.specs.Prelude.{All, replicate, slice_get}
 use Rattle.std.proofs.lemmas.List.Elements.{All-nil}
+use Rattle.qn_base.specs.declared.limits.TheConstants.{LATEST_TIME}
 use Rattle.qn_model.specs.declared.disk.Message.TheVariants as message
 use Rattle.qn_model.specs.declared.disk.Slot.{Slot}
 use Rattle.qn_model.specs.declared.events.Event.{Event}
@@ -89,7 +90,7 @@ spent_world w d is =
       rooms = λ rank seat here. let r = is.rooms rank seat here in omega arith;
     }
 
-pub spent_ready : (w mid : Whole) (event : Event) → is_well_formed w.settings event ≡ true → (standing : IsStanding w) → w.time ≤ 10000000000000000 → 0 < w.steps
+pub spent_ready : (w mid : Whole) (event : Event) → is_well_formed w.settings event ≡ true → (standing : IsStanding w) → w.time ≤ LATEST_TIME → 0 < w.steps
     → mid ≡ spent w → mid.steps < 18446744073709551615 → refusal w.settings w.timing event standing.0 ≡ None → IsReady mid event
 spent_ready w mid event formed standing early some e few allowed =
     let few_spent : (spent w).steps < 18446744073709551615 = subst (λ m. m.steps < 18446744073709551615) e few in

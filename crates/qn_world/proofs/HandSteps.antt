@@ -249,6 +249,19 @@ unhanded_world w new i old after entry outs here hands e some =
       cause = λ d is on. sends_added w.settings d i entry (λ none. some (ap packets_of (gives_added w d i old after entry outs is here on hands) ∙ none));
     }
 
+-- where nothing is sent the packets stay
+unsent : (w new : Whole) (i : ℕ) (after : Seat) (outs : List Out) → packets_of outs ≡ [] → new ≡ record w { seats = slice_set w.seats i after }
+    → new ≡ seated w i after (packets_of outs)
+unsent w new i after outs none e =
+    e ∙ ap (λ packets. record w { seats = slice_set w.seats i after; packets = packets }) (sym (append-nil w.packets) ∙ ap (λ more. w.packets ++ more) (sym none))
+
+-- the world after its seat was handed an entry that sent nothing
+pub silent_world : (w new : Whole) (i : ℕ) (old after : Seat) (entry : What) (outs : List Out)
+    → slice_get w.seats i ≡ Some old → HasRoom w → HandedSeat old after w.time entry outs → packets_of outs ≡ []
+    → new ≡ record w { seats = slice_set w.seats i after }
+    → Handed w new i entry outs
+silent_world w new i old after entry outs here room hands none e = handed_world w new i old after entry outs here room hands (unsent w new i after outs none e)
+
 quiet_outs : (w : Whole) (d : World) (i : ℕ) (old new : Seat) (entry : What) (outs : List Out) → WorldFor w d → slice_get w.seats i ≡ Some old
     → (node_at w.settings i d).on ≡ true → is_live (phase w.settings (node_at w.settings i d).log) ≡ false → HandedSeat old new w.time entry outs
     → packets_of outs ≡ []
@@ -268,8 +281,7 @@ quiet_world w new i old after entry outs here room hands quiet e =
       frame = record { settings = ap (λ w. w.settings) e; timing = ap (λ w. w.timing) e; steps = ap (λ w. w.steps) e; count = ap (λ w. length w.seats) e ∙ length-set w.seats i after };
       stands = λ d is on due free.
           let none = quiet_outs w d i old after entry outs is here on (quiet w.settings i (node_at w.settings i d) (d.took i) (is.nodes i old here) on) hands in
-          let same : new ≡ seated w i after (packets_of outs) =
-          e ∙ ap (λ packets. record w { seats = slice_set w.seats i after; packets = packets }) (sym (append-nil w.packets) ∙ ap (λ more. w.packets ++ more) (sym none)) in
+          let same = unsent w new i after outs none e in
           subst (λ n. WorldFor n (happens (Adds i entry) d)) (sym same) (hand_world w d i old after entry outs is here room on due free hands);
       gives = λ d is on. gives_added w d i old after entry outs is here on hands;
       ranks = λ d is on. hands.ranks w.settings i (node_at w.settings i d) (d.took i) (is.nodes i old here) on;

@@ -1,41 +1,12 @@
--- The outputs of an entry, one by one.
-use Rattle.std.proofs.Common.{◌≡◌, ℕ, suc, zero, ◌+◌, ◌<◌, List, [], ◌∷◌, ◌++◌, length, Some, None, refl, ◌||◌, sym, ◌∙◌, ap, arith, take, get_or, append_assoc}
-use Rattle.std.specs.Prelude.{Option, option_to_list}
-use Rattle.std.specs.Option.{option_or}
+-- The packets among the outputs of an entry, one by one.
+use Rattle.std.proofs.Common.{◌≡◌, ℕ, suc, zero, ◌+◌, ◌<◌, List, [], ◌∷◌, ◌++◌, length, Some, None, refl, sym, ◌∙◌, ap, arith, take, get_or, append_assoc}
+use Rattle.std.specs.Prelude.{Option, false, is_some, option_to_list, true}
 use Rattle.std.proofs.lemmas.List.{append-nil, take_more}
 use Rattle.qn_model.specs.declared.outputs.Out.{Out}
 use Rattle.qn_model.specs.declared.outputs.Out.TheVariants as out
 use Rattle.qn_model.specs.declared.packets.Sent.{Sent}
-use Rattle.qn_model.specs.Log.{disk_of, has_stop}
-use Rattle.qn_model.specs.Moments.{has_feed, packets_of}
-use Rattle.qn_world.specs.Outputs.{is_feed, is_stop, op_in, packet_in}
-
-pub has_stop-cons : (output : Out) (outs : List Out) → has_stop (output ∷ outs) ≡ (is_stop output || has_stop outs)
-has_stop-cons out.Stop outs = refl
-has_stop-cons out.Start outs = refl
-has_stop-cons out.Feed outs = refl
-has_stop-cons (out.Send to packet) outs = refl
-has_stop-cons (out.Disk op) outs = refl
-has_stop-cons out.Disarm outs = refl
-has_stop-cons (out.Halt kind) outs = refl
-
-pub has_feed-cons : (output : Out) (outs : List Out) → has_feed (output ∷ outs) ≡ (is_feed output || has_feed outs)
-has_feed-cons out.Stop outs = refl
-has_feed-cons out.Start outs = refl
-has_feed-cons out.Feed outs = refl
-has_feed-cons (out.Send to packet) outs = refl
-has_feed-cons (out.Disk op) outs = refl
-has_feed-cons out.Disarm outs = refl
-has_feed-cons (out.Halt kind) outs = refl
-
-pub disk_of-cons : (output : Out) (outs : List Out) → disk_of (output ∷ outs) ≡ option_or (op_in output) (disk_of outs)
-disk_of-cons out.Stop outs = refl
-disk_of-cons out.Start outs = refl
-disk_of-cons out.Feed outs = refl
-disk_of-cons (out.Send to packet) outs = refl
-disk_of-cons (out.Disk op) outs = refl
-disk_of-cons out.Disarm outs = refl
-disk_of-cons (out.Halt kind) outs = refl
+use Rattle.qn_model.specs.Moments.{packets_of}
+use Rattle.qn_world.specs.Outputs.{packet_in}
 
 pub packets_of-cons : (output : Out) (outs : List Out) → packets_of (output ∷ outs) ≡ option_to_list (packet_in output) ++ packets_of outs
 packets_of-cons out.Stop outs = refl
@@ -81,3 +52,17 @@ sends_more old before new outs place d within so_far one =
     ∙ (ap (λ items. items ++ option_to_list (packet_in (get_or outs place d))) so_far
     ∙ (append_assoc old (packets_of (take place outs)) (option_to_list (packet_in (get_or outs place d)))
     ∙ ap (λ more. old ++ more) (sym (packets_of-take outs place d within))))
+
+-- one output more that sends nothing
+pub none_more : (outs : List Out) (place : ℕ) (d : Out) (sent : Option Sent) → place < length outs → packets_of (take place outs) ≡ []
+    → sent ≡ packet_in (get_or outs place d) → is_some sent ≡ false → packets_of (take (place + 1) outs) ≡ []
+none_more outs place d None within so_far is silent =
+    packets_of-take outs place d within
+    ∙ (ap (λ front. front ++ option_to_list (packet_in (get_or outs place d))) so_far ∙ ap option_to_list (sym is))
+none_more outs place d (Some sent) within so_far is silent = absurd (cc)
+
+-- an output that sends
+pub some_sends : (outs : List Out) (place : ℕ) (d : Out) (sent : Option Sent) → place < length outs
+    → sent ≡ packet_in (get_or outs place d) → is_some sent ≡ true → packets_of outs ≡ [] → ⊥
+some_sends outs place d None within is loud none = cc
+some_sends outs place d (Some sent) within is loud none = let e : Some sent ≡ None = is ∙ none_sends outs place d within none in cc

@@ -5,6 +5,7 @@ use Rattle.std.specs.List.{list_all, range_with_len}
 use Rattle.std.specs.Option.{option_map_or, option_or}
 use Rattle.std.proofs.lemmas.Bool.Decides.{nat_tests}
 use Rattle.qn_base.specs.declared.ids.Rank.{Rank}
+use Rattle.qn_base.specs.declared.limits.TheConstants.{LONGEST_PERIOD}
 use Rattle.qn_model.specs.declared.configuration.Settings.{Settings}
 use Rattle.qn_model.specs.declared.events.Event.{Event}
 use Rattle.qn_model.specs.declared.events.Event.TheVariants as event
@@ -243,10 +244,10 @@ pass_rule w d dt clocks is formed =
     cc
 
 -- the watchdog of safe timing
-pub short_watchdog : (w : Whole) → IsStanding w → w.timing.watchdog ≤ 3600000
+pub short_watchdog : (w : Whole) → IsStanding w → w.timing.watchdog ≤ LONGEST_PERIOD
 short_watchdog w standing =
     let safe = standing.1.safe in
-    le-true w.timing.watchdog 3600000 (second_true (nat_le 1 w.timing.watchdog) _ (first_true _ _ (first_true _ _ (first_true _ _ (first_true _ _ (first_true _ _ safe))))))
+    le-true w.timing.watchdog LONGEST_PERIOD (second_true (nat_le 1 w.timing.watchdog) _ (first_true _ _ (first_true _ _ (first_true _ _ (first_true _ _ (first_true _ _ safe))))))
 
 pub few_seats : (w : Whole) → IsStanding w → length w.seats ≤ 32
 few_seats w standing = subst (λ count. count ≤ 32) (sym standing.1.count) standing.1.valid.few_nodes

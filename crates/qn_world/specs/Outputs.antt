@@ -1,5 +1,5 @@
 -- What an entry and its outputs mean to the world that keeps a node: this project's profile.
-use Rattle.std.specs.Prelude.{Bool, true, false, List, Option, None, Some, ◌&&◌, ◌||◌, not, map, if◌then◌else◌}
+use Rattle.std.specs.Prelude.{Bool, List, Option, None, Some, ◌&&◌, ◌||◌, not, map, if◌then◌else◌}
 use Rattle.std.specs.Option.{option_or}
 use Rattle.qn_base.specs.declared.ids.Rank.{Rank}
 use Rattle.qn_model.specs.declared.entries.What.{What}
@@ -10,20 +10,6 @@ use Rattle.qn_model.specs.declared.outputs.Out.TheVariants as out
 use Rattle.qn_model.specs.Log.{disk_of, has_stop, is_answer}
 use Rattle.qn_world.specs.declared.leftover.Leftover.{Leftover}
 use Rattle.qn_model.specs.Holding.{answers_stop}
-
--- one output
-abbrev pub is_stop : Out → Bool
-is_stop out.Stop = true
-is_stop output = false
-
-abbrev pub is_feed : Out → Bool
-is_feed out.Feed = true
-is_feed output = false
-
--- the disk operation that an output is
-abbrev pub op_in : Out → Option DiskOp
-op_in (out.Disk op) = Some op
-op_in output = None
 
 -- the packet that an output sends
 abbrev pub packet_in : Out → Option Sent

@@ -1,9 +1,11 @@
 -- What a world shows of one node.
-use Rattle.std.specs.Prelude.{◌<◌, ℕ, Bool, Option, None, Some, length, ◌&&◌, is_some, if◌then◌else◌}
+use Rattle.std.specs.Prelude.{◌<◌, ℕ, Bool, false, [], Option, None, Some, length, ◌&&◌, is_some, if◌then◌else◌}
 use Rattle.qn_base.specs.declared.ids.Rank.{Rank}
 use Rattle.qn_model.specs.declared.configuration.Settings.{Settings}
 use Rattle.qn_model.specs.declared.life.Phase.{Phase}
 use Rattle.qn_model.specs.declared.life.Phase.TheVariants.{Gone}
+use Rattle.qn_model.specs.declared.life.Why.TheVariants.{Down}
+use Rattle.qn_model.specs.declared.reports.Report.{Report}
 use Rattle.qn_model.specs.Holding.{stop_due}
 use Rattle.qn_model.specs.Log.{op_out}
 use Rattle.qn_model.specs.Moments.{Running, is_holder}
@@ -36,6 +38,18 @@ seen_of s rank w =
       answer = answer_now s node;
       why = why_now s rank node;
       holds = is_holder s w.moments rank;
+    }
+
+-- a report of nothing
+abbrev pub blank_report : Report
+blank_report =
+    record {
+      time = 0;
+      touched = None;
+      outs = [];
+      holders = record { 0 = 0 };
+      answer = record { quorate = false; votes = 0; quorum = 0; expected = 0; released = false };
+      why = Down;
     }
 
 -- a rank, where there is one, is configured

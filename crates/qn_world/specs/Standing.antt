@@ -25,7 +25,11 @@ left_of rank (leftover ∷ others) = if leftover.of.0 == rank then leftover.op �
 abbrev pub IsWithin : ℕ → DiskOp → Type 0
 IsWithin count (disk.ReadSlot rank) = rank.0 < count
 IsWithin count (disk.WriteReset rank) = rank.0 < count
-IsWithin count op = Unit {0}
+IsWithin count disk.ReadHeader = Unit {0}
+IsWithin count (disk.WriteClaim number) = Unit {0}
+IsWithin count disk.WriteClear = Unit {0}
+IsWithin count disk.ReadMail = Unit {0}
+IsWithin count (disk.WriteClose number) = Unit {0}
 
 abbrev pub IsOpWithin : ℕ → Option DiskOp → Type 0
 IsOpWithin count None = Unit {0}

@@ -1,6 +1,7 @@
 -- What a call that steps the world promises.
 use Rattle.std.specs.Prelude.{◌≡◌, ◌<◌, ◌≤◌, ◌+◌, ℕ, true, false, List, Option, Some, None, All, length}
 use Rattle.qn_base.specs.declared.ids.Rank.{Rank}
+use Rattle.qn_base.specs.declared.limits.TheConstants.{LATEST_TIME}
 use Rattle.qn_model.specs.declared.entries.What.{What}
 use Rattle.qn_model.specs.declared.entries.What.TheVariants as what
 use Rattle.qn_model.specs.declared.events.Event.{Event}
@@ -32,7 +33,7 @@ pub record IsReady (w : Whole) (event : Event) : Type 0 where
   pub standing : IsStanding w
   pub room : HasRoom w
   pub few : w.steps < 18446744073709551615
-  pub early : w.time ≤ 10000000000000000
+  pub early : w.time ≤ LATEST_TIME
   pub allowed : refusal w.settings w.timing event standing.0 ≡ None
 
 -- the world made the step of an event, which gave these outputs
@@ -93,4 +94,12 @@ Hands (event.Tick rank) i entry = (rank ≡ i) × (entry ≡ what.Tick)
 Hands (event.Stopped rank) i entry = (rank ≡ i) × (entry ≡ what.Stopped true)
 Hands (event.Unstopped rank) i entry = (rank ≡ i) × (entry ≡ what.Stopped false)
 Hands (event.Leave rank) i entry = (rank ≡ i) × (entry ≡ what.Leave)
-Hands event i entry = ⊥
+Hands (event.Pass dt clocks) i entry = ⊥
+Hands (event.Boot rank base) i entry = ⊥
+Hands (event.Crash rank) i entry = ⊥
+Hands (event.Land rank) i entry = ⊥
+Hands (event.Done rank) i entry = ⊥
+Hands (event.Fail rank) i entry = ⊥
+Hands (event.Late rank number) i entry = ⊥
+Hands (event.Deliver rank number) i entry = ⊥
+Hands (event.Feed rank) i entry = ⊥

@@ -19,8 +19,5 @@ mod state;
 mod steps;
 mod world;
 
-pub use looking::NodeSeen;
+pub use looking::{NodeSeen, blank_report};
 pub use world::World;
-
-#[cfg(test)]
-mod tests;

@@ -4,7 +4,7 @@ ghost use Rattle.qn_model.specs.Steps.{answer_off, holders, touched};
 ghost use Rattle.qn_model.specs.World.{World, node_at};
 ghost use Rattle.qn_world.specs.declared.seat.Seat.{Seat};
 ghost use Rattle.qn_world.specs.Seats.{SeatFor};
-ghost use Rattle.qn_world.specs.Seen.{seen_of};
+ghost use Rattle.qn_world.specs.Seen.{blank_report, seen_of};
 ghost use Rattle.qn_world.specs.Standing.{left_of};
 
 use crate::leftover::Leftover;
@@ -12,7 +12,6 @@ use crate::seat::Seat;
 use crate::state::State;
 use qn_base::{Mask, Rank};
 use qn_model::{Answer, Event, Outs, Phase, Report, Settings, Why};
-use qn_node::Node;
 use qn_safety::law_no_two_holders;
 
 /// What a world shows of one node. Of a node that is off, running, out, landed, stop_due and holds are
@@ -62,16 +61,15 @@ impl Seat {
     }
 
     /// The count of votes at the node's present tick; that of the empty history where it is off.
-    pub(crate) fn answer(&self, settings: &Settings, me: Rank) -> Answer
-        requires { me.0 < length settings.now.nodes }
-        ensures { (node : Running) (took : Option What)
-            → SeatFor self.now settings.now me.0 node took
+    pub(crate) fn answer(&self, settings: &Settings) -> Answer
+        ensures { (me : ℕ) (node : Running) (took : Option What)
+            → SeatFor self.now settings.now me node took
             → result ≡ answer_now settings.now node }
     {
         if self.on {
             self.node.answer(self.tick())
         } else {
-            answer_off(settings, me)
+            answer_off(settings)
         }
     }
 
@@ -89,17 +87,16 @@ impl Seat {
     }
 
     /// What the seat shows of its node, of which so many writes are left over.
-    fn seen(&self, settings: &Settings, me: Rank, leftovers: u64) -> NodeSeen
-        requires { me.0 < length settings.now.nodes }
-        ensures { (d : World)
-            → SeatFor self.now settings.now me.0 (node_at settings.now me.0 d) (d.took me.0)
-            → leftovers ≡ length (d.left me.0)
-            → result ≡ seen_of settings.now me.0 d }
+    fn seen(&self, settings: &Settings, leftovers: u64) -> NodeSeen
+        ensures { (me : ℕ) (d : World)
+            → SeatFor self.now settings.now me (node_at settings.now me d) (d.took me)
+            → leftovers ≡ length (d.left me)
+            → result ≡ seen_of settings.now me d }
     {
         if self.on {
             self.seen_running(leftovers)
         } else {
-            seen_off(answer_off(settings, me), leftovers)
+            seen_off(answer_off(settings), leftovers)
         }
     }
 
@@ -180,12 +177,11 @@ impl State {
 
     /// What is shown of the node of a rank.
     pub(crate) fn seen(&self, i: Rank) -> NodeSeen
-        requires seated { i.0 < length self.now.seats }
-        requires configured { i.0 < length self.now.settings.nodes }
+        requires { i.0 < length self.now.seats }
         ensures { (d : World) → WorldFor self.now d → result ≡ seen_of self.now.settings i.0 d }
     {
         let leftovers = leftovers_of(self.left.as_slice(), i);
-        self.seat(i).seen(&self.settings, i, leftovers)
+        self.seat(i).seen(&self.settings, leftovers)
     }
 
     /// How many packets were ever sent.
@@ -210,24 +206,21 @@ impl State {
         }
     }
 
-    /// What is reported of an event, which gave these outputs, once its step is made.
-    pub(crate) fn report(&self, event: &Event, outs: Outs) -> Report
+    /// Fills in what is reported of an event once its step is made, beside the outputs that it gave.
+    pub(crate) fn fill(&self, event: &Event, into: &mut Report)
         requires formed { is_well_formed self.now.settings event.now ≡ true }
         requires standing { IsStanding self.now }
         ensures { (d : World)
             → WorldFor self.now d
-            → outs ≡ outs_after self.now.settings event.now d
-            → result ≡ report self.now.settings event.now d }
+            → into.old.outs ≡ outs_after self.now.settings event.now d
+            → into.new ≡ report self.now.settings event.now d }
     {
         let touched = touched(event);
-        Report {
-            time: self.time,
-            touched,
-            outs,
-            holders: self.holders(),
-            answer: self.answer_of(touched),
-            why: self.why_of(touched),
-        }
+        into.time = self.time;
+        into.touched = touched;
+        into.holders = self.holders();
+        into.answer = self.answer_of(touched);
+        into.why = self.why_of(touched);
     }
 
     /// The count of votes of a node at its present tick; that of a node that is off where there is none.
@@ -239,8 +232,8 @@ impl State {
             → result ≡ option_map_or (λ rank. answer_now self.now.settings (node_at self.now.settings rank.0 d)) node (answer_off self.now.settings) }
     {
         match node {
-            Some(i) => self.seat(i).answer(&self.settings, i),
-            None => answer_off(&self.settings, Rank(0)),
+            Some(i) => self.seat(i).answer(&self.settings),
+            None => answer_off(&self.settings),
         }
     }
 
@@ -256,6 +249,26 @@ impl State {
             Some(i) => self.seat(i).why(),
             None => Why::Down,
         }
+    }
+}
+
+/// A report of nothing, for the first call of `World::apply_into`.
+pub fn blank_report() -> Report
+    ensures { result ≡ blank_report }
+{
+    Report {
+        time: 0,
+        touched: None,
+        outs: Outs::new(),
+        holders: Mask(0),
+        answer: Answer {
+            quorate: false,
+            votes: 0,
+            quorum: 0,
+            expected: 0,
+            released: false,
+        },
+        why: Why::Down,
     }
 }
 
@@ -283,11 +296,17 @@ pub(crate) fn touched(event: &Event) -> Option<Rank>
 }
 
 /// The count of votes of the empty history.
-pub(crate) fn answer_off(settings: &Settings, me: Rank) -> Answer
-    requires { me.0 < length settings.now.nodes }
+#[tactic(auto, unfolding(qn_model::specs::Votes::answer_at, qn_model::specs::Votes::expected_votes, qn_model::specs::Votes::is_released, qn_model::specs::Votes::present_view, qn_model::specs::NodeVotes::votes))]
+fn answer_off(settings: &Settings) -> Answer
     ensures { result ≡ answer_off settings.now }
 {
-    Node::new(settings, me).answer(0)
+    Answer {
+        quorate: false,
+        votes: 0,
+        quorum: settings.quorum(settings.expected),
+        expected: settings.expected,
+        released: !settings.wait_for_all,
+    }
 }
 
 /// How many of the leftovers are those of a rank.

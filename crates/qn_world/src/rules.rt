@@ -25,6 +25,7 @@ fn is_within_bounds(dt: u64, advance: u64) -> bool
 impl Seat {
     ghost use Rattle.std.specs.Prelude.{◌≡◌, ◌<◌, ◌≤◌, ◌+◌, ◌*◌, ◌&&◌, ℕ, nat_le, is_some, not, if◌then◌else◌, true};
     ghost use Rattle.std.specs.Option.{option_map_or};
+    ghost use Rattle.qn_base.specs.declared.limits.TheConstants.{LATEST_TIME, LONGEST_PERIOD};
     ghost use Rattle.qn_model.specs.Rules.{is_within_bounds, outlives};
     ghost use Rattle.qn_world.specs.Tests.{decided_lately, lives_through};
 
@@ -62,8 +63,8 @@ impl Seat {
     /// Whether the node lives through a pass to that time: its clock keeps its bounds, and its watchdog does not end it.
     fn passes(&self, dt: u64, advance: u64, later: u64, watchdog: u64) -> bool
         requires short { dt ≤ 1000000000 }
-        requires early { later ≤ 10000001000000000 }
-        requires period { watchdog ≤ 3600000 }
+        requires early { later ≤ LATEST_TIME + 1000000000 }
+        requires period { watchdog ≤ LONGEST_PERIOD }
         ensures { result ≡ lives_through watchdog dt advance later self.now }
     {
         !self.on
@@ -75,6 +76,7 @@ impl Seat {
 impl State {
     ghost use Rattle.std.specs.Prelude.{◌≡◌, ◌<◌, ◌≤◌, ◌+◌, ◌∷◌, ℕ, true, not, None, Some, MatchResult, length, slice_get, is_some};
     ghost use Rattle.std.specs.Option.{option_map_or, option_or};
+    ghost use Rattle.qn_base.specs.declared.limits.TheConstants.{LATEST_TIME, LONGEST_PERIOD};
     ghost use Rattle.qn_base.specs.Members.{is_member};
     ghost use Rattle.qn_model.specs.Rules.{is_on, is_well_formed, may_be_done, may_be_late, may_be_stopped, may_deliver, may_fail, may_feed, may_land, may_pass, refusal, unless, unless_running};
     ghost use Rattle.std.specs.List.{list_all, range_with_len};
@@ -88,7 +90,7 @@ impl State {
     pub(crate) fn allowed(&self, event: &Event) -> Result<(), Rule>
         requires formed { is_well_formed self.now.settings event.now ≡ true }
         requires standing { IsStanding self.now }
-        requires early { self.now.time ≤ 10000000000000000 }
+        requires early { self.now.time ≤ LATEST_TIME }
         ensures { (d : World) → WorldFor self.now d → MatchResult result
             (λ _. refusal self.now.settings self.now.timing event.now d ≡ None)
             (λ rule. refusal self.now.settings self.now.timing event.now d ≡ Some rule.0) }
@@ -103,7 +105,7 @@ impl State {
     fn refusal(&self, event: &Event) -> Option<u8>
         requires formed { is_well_formed self.now.settings event.now ≡ true }
         requires standing { IsStanding self.now }
-        requires early { self.now.time ≤ 10000000000000000 }
+        requires early { self.now.time ≤ LATEST_TIME }
         ensures { (d : World) → WorldFor self.now d → result ≡ refusal self.now.settings self.now.timing event.now d }
     {
         match event {
@@ -137,7 +139,7 @@ impl State {
     fn refuses_pass(&self, dt: u64, clocks: &Clocks) -> Option<u8>
         requires formed { is_well_formed self.now.settings (Event.Pass dt clocks.now) ≡ true }
         requires standing { IsStanding self.now }
-        requires early { self.now.time ≤ 10000000000000000 }
+        requires early { self.now.time ≤ LATEST_TIME }
         ensures { (d : World) → WorldFor self.now d → result ≡ unless (may_pass self.now.settings self.now.timing dt clocks.now d) 1 }
     {
         unless(self.are_on(clocks) && self.all_pass(dt, clocks), 1)
@@ -167,8 +169,8 @@ impl State {
     /// Whether every running node lives through the pass.
     fn all_pass(&self, dt: u64, clocks: &Clocks) -> bool
         requires short { dt ≤ 1000000000 }
-        requires early { self.now.time ≤ 10000000000000000 }
-        requires period { self.now.timing.watchdog ≤ 3600000 }
+        requires early { self.now.time ≤ LATEST_TIME }
+        requires period { self.now.timing.watchdog ≤ LONGEST_PERIOD }
         requires few { length self.now.seats ≤ 32 }
         ensures { result ≡ list_all (passes_at self.now dt clocks.now) (range_with_len 0 (length self.now.seats)) }
     {
@@ -184,8 +186,8 @@ impl State {
     fn passes(&self, i: Rank, dt: u64, clocks: &Clocks) -> bool
         requires within { i.0 < length self.now.seats }
         requires short { dt ≤ 1000000000 }
-        requires early { self.now.time ≤ 10000000000000000 }
-        requires period { self.now.timing.watchdog ≤ 3600000 }
+        requires early { self.now.time ≤ LATEST_TIME }
+        requires period { self.now.timing.watchdog ≤ LONGEST_PERIOD }
         ensures { result ≡ passes_at self.now dt clocks.now i.0 }
     {
         let advance = advance_of(dt, clocks, i);

@@ -1,6 +1,11 @@
-use crate::outputs::{answers_stop, disk_of, has_feed, has_stop, is_answer, is_gone, is_write};
+ghost use Rattle.std.specs.Prelude.{◌≡◌, ◌<◌, ◌≤◌, ◌+◌, ◌++◌, vec_capacity, vec_len};
+ghost use Rattle.qn_model.specs.Moments.{packets_of};
+ghost use Rattle.qn_node.specs.Node.{steps_of};
+ghost use Rattle.qn_world.specs.Seats.{HandedSeat};
+
+use crate::outputs::{MOST_OUTPUTS, is_gone, send_all};
 use qn_base::Rank;
-use qn_model::{DiskOp, Entry, Out, Outs, Phase, Settings, What};
+use qn_model::{DiskOp, Entry, Outs, Phase, Sent, Settings, What};
 use qn_node::Node;
 
 /// A node of the world, running or off.
@@ -86,7 +91,7 @@ impl Seat {
         let tick = self.tick();
         self.node.step(Entry { tick, what }, outs);
         let gone = is_gone(self.node.phase());
-        self.note(gone, time, what, outs.as_slice());
+        self.note(gone, time, what, outs);
     }
 
     /// Whether the node takes part in the cluster.
@@ -123,7 +128,7 @@ impl Seat {
     }
 
     /// What an entry and its outputs come to, of which the node may be gone.
-    fn note(&mut self, gone: bool, time: u64, what: What, outs: &[Out])
+    fn note(&mut self, gone: bool, time: u64, what: What, outs: &Outs)
         ensures { self.new ≡ record self.old {
           on = not gone;
           decided = (if has_feed outs.now then Some time else self.old.decided);
@@ -132,11 +137,13 @@ impl Seat {
         } }
     {
         self.on = !gone;
-        if has_feed(outs) {
+        if outs.has_feed() {
             self.decided = Some(time);
         }
-        self.op = disk_of(outs).or(if is_answer(what) { None } else { self.op });
-        self.stop_due = has_stop(outs) || (self.stop_due && !answers_stop(what));
+        self.op = outs
+            .disk()
+            .or(if what.is_answer() { None } else { self.op });
+        self.stop_due = outs.has_stop() || (self.stop_due && !what.answers_stop());
     }
 
     /// What the node's operation leaves over where it is given up now: a write that did not land.
@@ -144,8 +151,26 @@ impl Seat {
         ensures { option_to_list result ≡ given_up self.now.op self.now.took }
     {
         match (self.op, self.took) {
-            (Some(op), None) if is_write(op) => Some(op),
+            (Some(op), None) if op.is_write() => Some(op),
             _ => None,
         }
     }
+}
+
+/// A running node is handed an entry at the present tick of its clock, and what it sends is added to the packets,
+/// which have room for it.
+pub(crate) fn hand_with_room(
+    seat: &mut Seat,
+    packets: &mut Vec<Sent>,
+    time: u64,
+    what: What,
+    outs: &mut Outs,
+)
+    requires steps { 0 < steps_of seat.old.node }
+    requires room { vec_len packets.old + MOST_OUTPUTS ≤ vec_capacity packets.old }
+    ensures hands { HandedSeat seat.old seat.new time what outs.new }
+    ensures sends { packets.new.items ≡ packets.old.items ++ packets_of outs.new }
+{
+    seat.hand(time, what, outs);
+    send_all(packets, outs.as_slice());
 }

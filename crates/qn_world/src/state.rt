@@ -1,11 +1,11 @@
 use crate::clocks::advance_all;
 use crate::leftover::{Leftover, drop_left, place_of};
-use crate::outputs::send_all;
-use crate::seat::Seat;
+use crate::outputs::{MOST_OUTPUTS, sends};
+use crate::seat::{Seat, hand_with_room};
 use qn_base::{NoMemory, Rank};
 use qn_model::{
-    Clocks, DiskOp, HeaderSeen, MailSeen, Message, Out, Outs, Sent, Settings, Slot, SlotSeen,
-    Timing, What,
+    Clocks, DiskOp, HeaderSeen, MailSeen, Message, Outs, Sent, Settings, Slot, SlotSeen, Timing,
+    What,
 };
 use std::marker::Model;
 
@@ -233,15 +233,6 @@ impl State {
         self.mailboxes[usize::from(i.0)] = message;
     }
 
-    /// Adds the packets among the outputs.
-    pub(crate) fn send(&mut self, outs: &[Out]) -> Result<(), NoMemory>
-        ensures ok { OnOk result (self.new ≡ record self.old { packets = self.old.packets ++ packets_of outs.now }) }
-        ensures err { OnErr result (self.new ≡ self.old) }
-        ensures cause { OnErr result (packets_of outs.now ≢ []) }
-    {
-        send_all(&mut self.packets, outs)
-    }
-
     /// The running node of a rank is handed an entry.
     pub(crate) fn hand(&mut self, i: Rank, what: What, outs: &mut Outs) -> Result<(), NoMemory>
         requires within { i.0 < length self.old.seats }
@@ -265,9 +256,29 @@ impl State {
         ensures ok { OnOk result (Handed self.old self.new i.0 what outs.new) }
         ensures err { OnErr result (Unhanded self.old self.new i.0 what) }
     {
+        if self.packets.reserve(MOST_OUTPUTS).is_err() {
+            return self.hand_copy(i, what, outs);
+        }
+        let time = self.time;
+        let seat = &mut self.seats[usize::from(i.0)];
+        hand_with_room(seat, &mut self.packets, time, what, outs);
+        Ok(())
+    }
+
+    /// The same, where there was no memory for the packets of an entry: a copy of the node is handed the entry,
+    /// and stands in its place where it sent nothing.
+    fn hand_copy(&mut self, i: Rank, what: What, outs: &mut Outs) -> Result<(), NoMemory>
+        requires within { i.0 < length self.old.seats }
+        requires room { HasRoom self.old }
+        requires live { (seat : Seat) → slice_get self.old.seats i.0 ≡ Some seat → is_live (phase_of seat.node) ≡ true }
+        ensures ok { OnOk result (Handed self.old self.new i.0 what outs.new) }
+        ensures err { OnErr result (Unhanded self.old self.new i.0 what) }
+    {
         let mut seat = self.seat(i).copy();
         seat.hand(self.time, what, outs);
-        self.send(outs.as_slice())?;
+        if sends(outs.as_slice()) {
+            return Err(NoMemory);
+        }
         self.reseat(i, seat);
         Ok(())
     }

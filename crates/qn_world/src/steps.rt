@@ -39,6 +39,7 @@ fn entry_of(packet: Packet) -> What
 
 impl State {
     ghost use Rattle.std.specs.Prelude.{◌≡◌, ◌≤◌, ◌<◌, [], true, IfErr, OnOk, OnErr, length};
+    ghost use Rattle.qn_base.specs.declared.limits.TheConstants.{LATEST_TIME};
     ghost use Rattle.qn_world.specs.Stepping.{Applied, Hands, IsReady, OutOfMemory, Refuses, Stepped};
     ghost use Rattle.qn_model.specs.Rules.{is_well_formed};
     ghost use Rattle.qn_world.specs.Standing.{IsStanding};
@@ -47,7 +48,7 @@ impl State {
     pub(crate) fn apply(&mut self, event: &Event, outs: &mut Outs) -> Result<(), Refused>
         requires formed { is_well_formed self.old.settings event.now ≡ true }
         requires standing { IsStanding self.old }
-        requires early { self.old.time ≤ 10000000000000000 }
+        requires early { self.old.time ≤ LATEST_TIME }
         requires room { 0 < self.old.steps }
         requires none { outs.old ≡ [] }
         ensures ok { OnOk result (Applied self.old self.new event.now outs.new) }

@@ -1,7 +1,7 @@
-use crate::looking::NodeSeen;
+use crate::looking::{NodeSeen, blank_report};
 use crate::state::State;
 use qn_base::{Mask, NoMemory, Rank};
-use qn_model::{Event, Outs, Refused, Report, Rule, Settings, Timing};
+use qn_model::{Event, Refused, Report, Rule, Settings, Timing};
 use qn_safety::law_no_two_holders;
 use std::alloc::Global;
 use std::marker::Model;
@@ -29,6 +29,7 @@ impl Model for World {
 impl World {
     ghost use Rattle.std.specs.Prelude.{◌≡◌, ◌<◌, ◌≤◌, ◌+◌, ℕ, true, None, Some, All, IfErr, IfOk, IfSome, IsTrue, MatchResult, OnErr, OnOk, length, slice_get};
     ghost use Rattle.std.specs.Option.{option_map};
+    ghost use Rattle.qn_base.specs.declared.limits.TheConstants.{LATEST_TIME};
     ghost use Rattle.qn_base.specs.Members.{is_member};
     ghost use Rattle.qn_model.specs.Moments.{packets};
     ghost use Rattle.qn_model.specs.Settings.{IsValid};
@@ -59,7 +60,7 @@ impl World {
     /// Whether an event is allowed, else the rule that refuses it: the first, where several do.
     pub fn allowed(&self, event: &Event) -> Result<(), Rule>
         requires formed { is_well_formed self.now.settings event.now ≡ true }
-        requires early { self.now.time ≤ 10000000000000000 }
+        requires early { self.now.time ≤ LATEST_TIME }
         ensures { (d : Cluster) → WorldFor self.now d → MatchResult result
             (λ _. refusal self.now.settings self.now.timing event.now d ≡ None)
             (λ rule. refusal self.now.settings self.now.timing event.now d ≡ Some rule.0) }
@@ -71,7 +72,7 @@ impl World {
     /// wanted only where the step appends a packet or a leftover. After a refusal the world is as it was.
     pub fn apply(&mut self, event: &Event) -> Result<Report, Refused>
         requires formed { is_well_formed self.old.settings event.now ≡ true }
-        requires early { self.old.time ≤ 10000000000000000 }
+        requires early { self.old.time ≤ LATEST_TIME }
         requires room { 0 < self.old.steps }
         ensures stands { OnOk result ((d : Cluster) → WorldFor self.old d → WorldFor self.new (step self.old.settings self.old.timing event.now d)) }
         ensures report { IfOk result (λ r. (d : Cluster) → WorldFor self.old d
@@ -89,10 +90,38 @@ impl World {
         ensures settings { self.new.settings ≡ self.old.settings }
         ensures timing { self.new.timing ≡ self.old.timing }
     {
+        let mut report = blank_report();
+        self.apply_into(event, &mut report)?;
+        Ok(report)
+    }
+
+    /// The same as `apply`, with the report written over one that is there. What it holds after a refusal is
+    /// not said.
+    pub fn apply_into(&mut self, event: &Event, into: &mut Report) -> Result<(), Refused>
+        requires formed { is_well_formed self.old.settings event.now ≡ true }
+        requires early { self.old.time ≤ LATEST_TIME }
+        requires room { 0 < self.old.steps }
+        ensures stands { OnOk result ((d : Cluster) → WorldFor self.old d → WorldFor self.new (step self.old.settings self.old.timing event.now d)) }
+        ensures report { OnOk result ((d : Cluster) → WorldFor self.old d
+            → into.new ≡ report self.old.settings event.now (step self.old.settings self.old.timing event.now d)) }
+        ensures outs { OnOk result (All (IsNodeOutput self.old.settings) into.new.outs) }
+        ensures one_holder { OnOk result ((i j : ℕ) → IsTrue (is_member into.new.holders i) → IsTrue (is_member into.new.holders j) → i ≡ j) }
+        ensures allowed { OnOk result ((d : Cluster) → WorldFor self.old d → refusal self.old.settings self.old.timing event.now d ≡ None) }
+        ensures steps { OnOk result (self.new.steps + 1 ≡ self.old.steps) }
+
+        // An event is refused by the first rule that refuses it, or for want of memory.
+        ensures refused { IfErr result (λ r. (d : Cluster) → WorldFor self.old d → RefusedBy (refusal self.old.settings self.old.timing event.now d) r) }
+        ensures memory { result ≡ Err Refused.NoMemory → (d : Cluster) → WorldFor self.old d → needs_memory self.old.settings self.old.timing event.now d ≡ true }
+        ensures err { OnErr result (self.new ≡ self.old) }
+
+        ensures settings { self.new.settings ≡ self.old.settings }
+        ensures timing { self.new.timing ≡ self.old.timing }
+    {
         law_no_two_holders();
-        let mut outs = Outs::new();
-        self.state.apply(event, &mut outs)?;
-        Ok(self.state.report(event, outs))
+        into.outs.clear();
+        self.state.apply(event, &mut into.outs)?;
+        self.state.fill(event, into);
+        Ok(())
     }
 
     /// The settings that were handed to `new`.

@@ -9,14 +9,14 @@ ghost use Rattle.qn_watch.specs.Watch.{WatchFor};
 ghost use Rattle.qn_model.specs.NodeOutputs.{acts, ask_to, asks, gives_start, gives_stop, is_asked, is_asking, replies, taken_in};
 ghost use Rattle.qn_model.specs.NodeVotes.{answer as answer_of, quorate, released as is_released, view};
 ghost use Rattle.qn_model.specs.Phases.{phase};
-ghost use Rattle.qn_model.specs.Unmet.{chosen, is_chosen, lacks_of_others, unmet};
-ghost use Rattle.qn_model.specs.Wanted.{may_fence, wanted};
+ghost use Rattle.qn_model.specs.Unmet.{chosen, is_chosen, is_clear, lacks_of_others, unmet};
+ghost use Rattle.qn_model.specs.Wanted.{asks_mail, may_fence, wanted};
 ghost use Rattle.qn_heard.specs.Heard.{HeardBefore, HeardFor, installs_of};
 ghost use Rattle.qn_node.specs.Live.{LiveFor, LiveTook, lacks, live_phase, with_outs};
 ghost use Rattle.qn_node.specs.Resource.{after_outs, is_held};
 
 use super::Live;
-use crate::entries::{asks_mail, is_clear};
+use crate::laws::law_outside;
 use crate::outputs::{push_if, push_op};
 use crate::own::Own;
 use qn_base::{Mask, Rank};
@@ -49,7 +49,7 @@ impl Live {
             → outs.new ≡ acts own.now.settings own.now.me.0 (taken_in past tick what) what feeds }
     {
         qn_watch::law_other_lines();
-        qn_fence::law_outside();
+        law_outside();
         let asked = self.asks(tick, answer.released);
         let stops = self.gives_stop(tick, answer);
         let starts = self.gives_start(own, tick, answer);
@@ -344,4 +344,18 @@ fn note_read(watch: &mut Watch, tick: u64, op: Option<DiskOp>)
         return;
     }
     watch.issued(tick);
+}
+
+/// Whether a disk operation is a read of the own mailbox.
+fn asks_mail(op: Option<DiskOp>) -> bool
+    ensures { result ≡ asks_mail op }
+{
+    matches!(op, Some(DiskOp::ReadMail))
+}
+
+/// Whether no condition of a start lacks.
+fn is_clear(why: Why) -> bool
+    ensures { result ≡ is_clear why }
+{
+    matches!(why, Why::Clear)
 }

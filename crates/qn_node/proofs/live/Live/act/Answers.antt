@@ -47,7 +47,7 @@ returns-clause-stands c = λ past took is.
     let heard = c.asks-asked.ensures.stands s me (with_outs past tick w outs) (took.hears _ refl refl (acts_claim s me log w fed)) refl (phase_same s past tick w outs ∙ took.phases) in
     let watches = c.give.ensures.watches past _ (subst (λ x. WatchFor x.watch past) (sym c.asks-asked.ensures.rest) took.watches) (no_times_of w took.plain) refl given in
     let fences = c.give.ensures.fences s past _ outs (subst (λ x. FenceFor x.fence s log) (sym c.asks-asked.ensures.rest) took.fences) (no_boot_end w took.plain) refl given
-    (subst (IsOutside log) (sym op) (c.law_outside.ensures.wanted s me log)) in
+    (subst (IsOutside log) (sym op) (c.law_outside.ensures s me log)) in
     subst (λ x. LiveFor x s me (with_outs past tick w outs)) (sym c.give.ensures.rest)
     (subst (λ x. LiveFor (record x {
       op = option_or c.wanted-op.result x.op;

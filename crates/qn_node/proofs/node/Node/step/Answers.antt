@@ -15,33 +15,31 @@ unfolding with_entry
 returns-clause-stands c = λ s me log h before.
     let old = c.args.self.now in
     let entry = c.args.entry in
-    let at = subst (λ stage. StageFor stage old.own.settings old.own.me.0 log) (sym c.replace-stage.ensures.value)
-    (subst (λ m. StageFor old.stage old.own.settings m log) (sym h.has_rank) (subst (λ x. StageFor old.stage x me log) (sym h.has_settings) h.stands)) in
+    let at = subst (λ m. StageFor old.stage old.own.settings m log) (sym h.has_rank) (subst (λ x. StageFor old.stage x me log) (sym h.has_settings) h.stands) in
     let counts = subst (λ x. QuorumFor old.quorum x (votes log)) (sym h.has_settings) h.counts in
     record {
       has_settings = h.has_settings;
       has_rank = h.has_rank;
       is_configured = h.is_configured;
-      knows = c.claims-self.ensures ∙ claims_at c.replace-stage.result old.own.settings old.own.me.0 log at;
+      knows = c.claims-self.ensures ∙ claims_at old.stage old.own.settings old.own.me.0 log at;
       is_inside = c.law_asked_inside.ensures.more s me log entry.tick (read_as s me log entry.what) h.is_inside;
       counts =
-          subst (λ x. QuorumFor c.step-self.new.quorum x (votes (with_entry x me log entry))) h.has_settings
-          (subst (λ m. QuorumFor c.step-self.new.quorum old.own.settings (votes (with_entry old.own.settings m log entry))) h.has_rank
-          (c.step-self.ensures.counts log at counts));
+          subst (λ x. QuorumFor c.step.new.quorum x (votes (with_entry x me log entry))) h.has_settings
+          (subst (λ m. QuorumFor c.step.new.quorum old.own.settings (votes (with_entry old.own.settings m log entry))) h.has_rank
+          (c.step.ensures.counts log at counts));
       stands =
-          subst (λ x. StageFor c.step-self.result x me (with_entry x me log entry)) h.has_settings
-          (subst (λ m. StageFor c.step-self.result old.own.settings m (with_entry old.own.settings m log entry)) h.has_rank
-          (c.step-self.ensures.stands log at counts h.is_inside before));
+          subst (λ x. StageFor c.step.new.self x me (with_entry x me log entry)) h.has_settings
+          (subst (λ m. StageFor c.step.new.self old.own.settings m (with_entry old.own.settings m log entry)) h.has_rank
+          (c.step.ensures.stands log at counts h.is_inside before));
     }
 
 pub returns-clause-ranks : goal.returns-clause-ranks
 returns-clause-ranks c = λ s me log h before.
     let old = c.args.self.now in
     let entry = c.args.entry in
-    let at = subst (λ stage. StageFor stage old.own.settings old.own.me.0 log) (sym c.replace-stage.ensures.value)
-    (subst (λ m. StageFor old.stage old.own.settings m log) (sym h.has_rank) (subst (λ x. StageFor old.stage x me log) (sym h.has_settings) h.stands)) in
+    let at = subst (λ m. StageFor old.stage old.own.settings m log) (sym h.has_rank) (subst (λ x. StageFor old.stage x me log) (sym h.has_settings) h.stands) in
     let counts = subst (λ x. QuorumFor old.quorum x (votes log)) (sym h.has_settings) h.counts in
-    let outs = subst (λ x. c.step-self.new.outs ≡ newest_outs (with_entry x me log entry)) h.has_settings
-    (subst (λ m. c.step-self.new.outs ≡ newest_outs (with_entry old.own.settings m log entry)) h.has_rank
-    (c.step-self.ensures.outs log at counts before)) in
+    let outs = subst (λ x. c.step.new.outs ≡ newest_outs (with_entry x me log entry)) h.has_settings
+    (subst (λ m. c.step.new.outs ≡ newest_outs (with_entry old.own.settings m log entry)) h.has_rank
+    (c.step.ensures.outs log at counts before)) in
     subst (All (IsNodeOutput s)) (sym outs) (entry_ranks s me log entry h.is_configured)

@@ -1,189 +1,29 @@
-use Rattle.std.proofs.Common.{◌≡◌, sym, subst, ◌∙◌}
-use Rattle.qn_model.specs.Fitting.{read_as}
+use Rattle.std.proofs.Common.{sym, subst, ◌∙◌, ap}
 use Rattle.qn_model.specs.NodeVotes.{votes}
-use Rattle.qn_model.specs.NodeOutputs.{newest_outs, with_entry, with_read}
-use Rattle.qn_node.specs.declared.stage.Stage.TheVariants as stage
-use Rattle.qn_node.specs.Stage.{StageFor}
-use Rattle.qn_node.proofs.RestSteps.{rest_outs}
-use Rattle.qn_node.proofs.Stages.{quiet_at, quiet_counted}
+use Rattle.qn_model.specs.NodeOutputs.{with_entry}
+use Rattle.qn_node.specs.Stage.{StageFor, is_part}
+use Rattle.qn_node.proofs.Stages.{apart_at, quiet_at, quiet_counted}
 use Rattle.qn_node.proofs.stage.Stage.step.Goals as goal
 
-pub returns-in-Idle-clause-counts : goal.returns-in-Idle-clause-counts
-unfolding with_entry
-returns-in-Idle-clause-counts c = λ log h counts.
-    let s = c.args.own.now.settings in
-    let me = c.args.own.now.me.0 in
-    let tick = c.args.entry.tick in
-    let w = c.args.entry.what in
-    let from = subst (λ at. StageFor at s me log) c.in-Idle.is h in
-    quiet_counted c.on_tick.new.self s me log tick w (c.on_tick.ensures s (votes log) counts) (quiet_at stage.Idle s me log from (λ live e. absurd (cc)))
+pub next-requires : goal.next-requires
+next-requires c =
+    record { quiet = ap is_part c.replace-quiet.ensures.value ∙ apart_at c.args.self.now c.in_default.not-Live; empty = c.requires.empty }
 
-pub returns-in-Idle-clause-stands : goal.returns-in-Idle-clause-stands
+pub returns-clause-counts : goal.returns-clause-counts
 unfolding with_entry
-returns-in-Idle-clause-stands c = λ log h counts inside before.
+returns-clause-counts c = λ log h counts.
     let s = c.args.own.now.settings in
     let me = c.args.own.now.me.0 in
-    let tick = c.args.entry.tick in
-    let w = c.args.entry.what in
-    let from = subst (λ at. StageFor at s me log) c.in-Idle.is h in
-    subst (λ past. StageFor c.begin.result s me (with_read s me past tick (read_as s me past w))) (sym from) c.begin.ensures.stands
+    quiet_counted c.on_tick.new.self s me log c.args.entry.tick c.args.entry.what (c.on_tick.ensures s (votes log) counts) (quiet_at c.args.self.now s me log h c.in_default.not-Live)
 
-pub returns-in-Idle-clause-outs : goal.returns-in-Idle-clause-outs
+pub returns-clause-stands : goal.returns-clause-stands
 unfolding with_entry
-returns-in-Idle-clause-outs c = λ log h counts before.
-    let s = c.args.own.now.settings in
-    let me = c.args.own.now.me.0 in
-    let tick = c.args.entry.tick in
-    let w = c.args.entry.what in
-    let from = subst (λ at. StageFor at s me log) c.in-Idle.is h in
-    subst (λ past. c.begin.new.outs ≡ newest_outs (with_read s me past tick (read_as s me past w))) (sym from) c.begin.ensures.outs
+returns-clause-stands c = λ log h counts inside before.
+    let at = subst (λ stage. StageFor stage c.args.own.now.settings c.args.own.now.me.0 log) (sym c.replace-quiet.ensures.value) h in
+    c.next.ensures.stands log at inside
 
-pub returns-in-Header-clause-counts : goal.returns-in-Header-clause-counts
+pub returns-clause-outs : goal.returns-clause-outs
 unfolding with_entry
-returns-in-Header-clause-counts c = λ log h counts.
-    let s = c.args.own.now.settings in
-    let me = c.args.own.now.me.0 in
-    let tick = c.args.entry.tick in
-    let w = c.args.entry.what in
-    let from = subst (λ at. StageFor at s me log) c.in-Header.is h in
-    quiet_counted c.on_tick-in-Header.new.self s me log tick w (c.on_tick-in-Header.ensures s (votes log) counts) (quiet_at (stage.Header c.in-Header.boot) s me log from (λ live e. absurd (cc)))
-
-pub returns-in-Header-clause-stands : goal.returns-in-Header-clause-stands
-unfolding with_entry
-returns-in-Header-clause-stands c = λ log h counts inside before.
-    let s = c.args.own.now.settings in
-    let me = c.args.own.now.me.0 in
-    let tick = c.args.entry.tick in
-    let w = c.args.entry.what in
-    let from = subst (λ at. StageFor at s me log) c.in-Header.is h in
-    c.header.ensures.stands log from
-
-pub returns-in-Header-clause-outs : goal.returns-in-Header-clause-outs
-unfolding with_entry
-returns-in-Header-clause-outs c = λ log h counts before.
-    let s = c.args.own.now.settings in
-    let me = c.args.own.now.me.0 in
-    let tick = c.args.entry.tick in
-    let w = c.args.entry.what in
-    let from = subst (λ at. StageFor at s me log) c.in-Header.is h in
-    c.header.ensures.outs log from
-
-pub returns-in-Slot-clause-counts : goal.returns-in-Slot-clause-counts
-unfolding with_entry
-returns-in-Slot-clause-counts c = λ log h counts.
-    let s = c.args.own.now.settings in
-    let me = c.args.own.now.me.0 in
-    let tick = c.args.entry.tick in
-    let w = c.args.entry.what in
-    let from = subst (λ at. StageFor at s me log) c.in-Slot.is h in
-    quiet_counted c.on_tick-in-Slot.new.self s me log tick w (c.on_tick-in-Slot.ensures s (votes log) counts) (quiet_at (stage.Slot c.in-Slot.boot) s me log from (λ live e. absurd (cc)))
-
-pub returns-in-Slot-clause-stands : goal.returns-in-Slot-clause-stands
-unfolding with_entry
-returns-in-Slot-clause-stands c = λ log h counts inside before.
-    let s = c.args.own.now.settings in
-    let me = c.args.own.now.me.0 in
-    let tick = c.args.entry.tick in
-    let w = c.args.entry.what in
-    let from = subst (λ at. StageFor at s me log) c.in-Slot.is h in
-    c.slot.ensures.stands log from
-
-pub returns-in-Slot-clause-outs : goal.returns-in-Slot-clause-outs
-unfolding with_entry
-returns-in-Slot-clause-outs c = λ log h counts before.
-    let s = c.args.own.now.settings in
-    let me = c.args.own.now.me.0 in
-    let tick = c.args.entry.tick in
-    let w = c.args.entry.what in
-    let from = subst (λ at. StageFor at s me log) c.in-Slot.is h in
-    c.slot.ensures.outs log from
-
-pub returns-in-Claim-clause-counts : goal.returns-in-Claim-clause-counts
-unfolding with_entry
-returns-in-Claim-clause-counts c = λ log h counts.
-    let s = c.args.own.now.settings in
-    let me = c.args.own.now.me.0 in
-    let tick = c.args.entry.tick in
-    let w = c.args.entry.what in
-    let from = subst (λ at. StageFor at s me log) c.in-Claim.is h in
-    quiet_counted c.on_tick-in-Claim.new.self s me log tick w (c.on_tick-in-Claim.ensures s (votes log) counts) (quiet_at (stage.Claim c.in-Claim.boot) s me log from (λ live e. absurd (cc)))
-
-pub returns-in-Claim-clause-stands : goal.returns-in-Claim-clause-stands
-unfolding with_entry
-returns-in-Claim-clause-stands c = λ log h counts inside before.
-    let s = c.args.own.now.settings in
-    let me = c.args.own.now.me.0 in
-    let tick = c.args.entry.tick in
-    let w = c.args.entry.what in
-    let from = subst (λ at. StageFor at s me log) c.in-Claim.is h in
-    c.claimed.ensures.stands log from
-
-pub returns-in-Claim-clause-outs : goal.returns-in-Claim-clause-outs
-unfolding with_entry
-returns-in-Claim-clause-outs c = λ log h counts before.
-    let s = c.args.own.now.settings in
-    let me = c.args.own.now.me.0 in
-    let tick = c.args.entry.tick in
-    let w = c.args.entry.what in
-    let from = subst (λ at. StageFor at s me log) c.in-Claim.is h in
-    c.claimed.ensures.outs log from
-
-pub returns-in-Clear-clause-counts : goal.returns-in-Clear-clause-counts
-unfolding with_entry
-returns-in-Clear-clause-counts c = λ log h counts.
-    let s = c.args.own.now.settings in
-    let me = c.args.own.now.me.0 in
-    let tick = c.args.entry.tick in
-    let w = c.args.entry.what in
-    let from = subst (λ at. StageFor at s me log) c.in-Clear.is h in
-    quiet_counted c.on_tick-in-Clear.new.self s me log tick w (c.on_tick-in-Clear.ensures s (votes log) counts) (quiet_at (stage.Clear c.in-Clear.boot) s me log from (λ live e. absurd (cc)))
-
-pub returns-in-Clear-clause-stands : goal.returns-in-Clear-clause-stands
-unfolding with_entry
-returns-in-Clear-clause-stands c = λ log h counts inside before.
-    let s = c.args.own.now.settings in
-    let me = c.args.own.now.me.0 in
-    let tick = c.args.entry.tick in
-    let w = c.args.entry.what in
-    let from = subst (λ at. StageFor at s me log) c.in-Clear.is h in
-    c.cleared.ensures.stands log from inside
-
-pub returns-in-Clear-clause-outs : goal.returns-in-Clear-clause-outs
-unfolding with_entry
-returns-in-Clear-clause-outs c = λ log h counts before.
-    let s = c.args.own.now.settings in
-    let me = c.args.own.now.me.0 in
-    let tick = c.args.entry.tick in
-    let w = c.args.entry.what in
-    let from = subst (λ at. StageFor at s me log) c.in-Clear.is h in
-    c.cleared.ensures.outs log from
-
-pub returns-in-Rest-clause-counts : goal.returns-in-Rest-clause-counts
-unfolding with_entry
-returns-in-Rest-clause-counts c = λ log h counts.
-    let s = c.args.own.now.settings in
-    let me = c.args.own.now.me.0 in
-    let tick = c.args.entry.tick in
-    let w = c.args.entry.what in
-    let from = subst (λ at. StageFor at s me log) c.in-Rest.is h in
-    quiet_counted c.on_tick-in-Rest.new.self s me log tick w (c.on_tick-in-Rest.ensures s (votes log) counts) (quiet_at (stage.Rest c.in-Rest.rest) s me log from (λ live e. absurd (cc)))
-
-pub returns-in-Rest-clause-stands : goal.returns-in-Rest-clause-stands
-unfolding with_entry
-returns-in-Rest-clause-stands c = λ log h counts inside before.
-    let s = c.args.own.now.settings in
-    let me = c.args.own.now.me.0 in
-    let tick = c.args.entry.tick in
-    let w = c.args.entry.what in
-    let from = subst (λ at. StageFor at s me log) c.in-Rest.is h in
-    c.step-in-Rest.ensures s me log from
-
-pub returns-in-Rest-clause-outs : goal.returns-in-Rest-clause-outs
-unfolding with_entry
-returns-in-Rest-clause-outs c = λ log h counts before.
-    let s = c.args.own.now.settings in
-    let me = c.args.own.now.me.0 in
-    let tick = c.args.entry.tick in
-    let w = c.args.entry.what in
-    let from = subst (λ at. StageFor at s me log) c.in-Rest.is h in
-    c.requires.empty ∙ sym (rest_outs c.in-Rest.rest s me log tick w from)
+returns-clause-outs c = λ log h counts before.
+    let at = subst (λ stage. StageFor stage c.args.own.now.settings c.args.own.now.me.0 log) (sym c.replace-quiet.ensures.value) h in
+    c.next.ensures.outs log at

@@ -1,7 +1,6 @@
 use Rattle.std.proofs.Common.{◌∙◌, ap, ◌+◌}
 use Rattle.qn_model.specs.Moments.{handed, logged}
 use Rattle.qn_node.specs.Node.{steps_of}
-use Rattle.qn_world.specs.Outputs.{op_with}
 use Rattle.qn_world.proofs.SeatSteps.{hand_outs, hand_ranks, hand_seat}
 use Rattle.qn_world.proofs.seat.Seat.hand.Goals as goal
 
@@ -10,12 +9,12 @@ unfolding handed logged
 returns c =
     record {
       room = ap (λ seat. steps_of seat.node + 1) c.note.ensures ∙ c.step.ensures.count;
-      op = ap (λ seat. seat.op) c.note.ensures ∙ ap (λ outs. op_with c.args.what outs c.args.self.now.op) c.as_slice.ensures.value;
+      op = ap (λ seat. seat.op) c.note.ensures;
       took = ap (λ seat. seat.took) c.note.ensures;
       stands = λ s me node took is on due.
           hand_seat c.args.self.now c.step.new.self c.note.new.self s me c.args.time c.tick-tick.result c.args.what node took c.step.new.outs c.phase.result
           c.is_gone-gone.result is on due c.tick-tick.ensures c.step.ensures.stands c.step.ensures.outs c.phase.ensures.exact c.is_gone-gone.ensures
-          (let h = c.note.ensures in let g = c.as_slice.ensures.value in cc);
+          (let h = c.note.ensures in cc);
       gives = λ s me node took is on.
           hand_outs c.args.self.now s me c.args.time c.tick-tick.result c.args.what node took c.step.new.outs is on c.tick-tick.ensures c.step.ensures.outs;
       ranks = λ s me node took is on.

@@ -11,5 +11,5 @@ returns c = λ d is.
     let seat = c.seat.result.now in
     let same = ap (λ w. w.settings) c.self.view_is in
     let left = c.leftovers_of-leftovers.ensures ∙ (ap (λ left. length (left_of rank left)) (c.as_slice.ensures.value ∙ ap (λ w. w.left) c.self.view_is) ∙ ap length (is.lefts rank)) in
-    c.seen.ensures d (subst (λ s. SeatFor seat s rank (node_at s rank d) (d.took rank)) (sym same) (is.nodes rank seat c.seat.ensures)) left
+    c.seen.ensures rank d (subst (λ s. SeatFor seat s rank (node_at s rank d) (d.took rank)) (sym same) (is.nodes rank seat c.seat.ensures)) left
     ∙ ap (λ s. seen_of s rank d) same

@@ -1,9 +1,9 @@
-use super::Node;
 use qn_base::{Mask, NodeId, Rank, View};
 use qn_model::{
     DiskOp, Entry, HeaderSeen, MailSeen, Message, NodeEntry, Nodes, Out, Outs, Phase, Settings,
     Slot, SlotSeen, Timing, What, Why,
 };
+use qn_node::Node;
 
 const TIMES: Timing = Timing {
     watchdog: 9,
@@ -89,14 +89,14 @@ fn boots_and_starts(rt: HostRuntime) {
     for (tick, what, want, why) in rows {
         assert!(rt; node.steps_left() > 0);
         node.step(Entry { tick, what }, &mut outs);
-        assert_eq!(rt; outs.as_slice(), want, "at {tick}");
-        assert_eq!(rt; node.why(tick), why, "at {tick}");
+        assert!(rt; outs.as_slice() == want);
+        assert!(rt; node.why(tick) == why);
     }
-    assert_eq!(rt; node.steps_left(), u64::MAX - 8);
-    assert_eq!(rt; node.incarnation(), Some(1));
+    assert!(rt; node.steps_left() == u64::MAX - 8);
+    assert!(rt; node.incarnation() == Some(1));
     assert!(rt; node.phase() == Phase::Up);
     let copy = node.copy();
-    assert_eq!(rt; copy.steps_left(), node.steps_left());
+    assert!(rt; copy.steps_left() == node.steps_left());
     assert!(rt; copy.holds());
-    assert_eq!(rt; copy.answer(7).votes, 1);
+    assert!(rt; copy.answer(7).votes == 1);
 }

@@ -1,6 +1,0 @@
-use Rattle.std.proofs.Common.{◌≡◌, drop}
-use Rattle.qn_model.specs.Moments.{has_feed}
-use Rattle.qn_world.proofs.outputs.has_feed.Given as goal
-
-abbrev pub invariant-loop-out : goal.invariant-loop-out
-invariant-loop-out l = has_feed l.outs ≡ has_feed (drop l.out-index l.outs)
