@@ -8,8 +8,6 @@
 mod faults;
 mod line;
 mod reader;
-#[cfg(test)]
-mod tests;
 mod tree;
 
 pub use faults::ConfFault;

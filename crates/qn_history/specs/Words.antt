@@ -1,17 +1,7 @@
 -- Words of recorded histories: this project's profile.
 use Rattle.std.specs.Prelude.{ℕ, List, codes}
-use Rattle.qn_model.specs.declared.disk.Message.{Message}
-use Rattle.qn_model.specs.declared.disk.Message.TheVariants.{Empty, Test, Reset, Off, Exit, Crashdump}
 use Rattle.qn_model.specs.declared.entries.What.{What}
 use Rattle.qn_model.specs.declared.entries.What.TheVariants.{Begin, Header, SlotRead, Claimed, Cleared, MailRead, MailWritten, View, Ask, Tell, Device, Tick, Stopped, Leave, Closed}
-
-abbrev pub message_word : Message → List ℕ
-message_word Empty = codes "empty"
-message_word Test = codes "test"
-message_word Reset = codes "reset"
-message_word Off = codes "off"
-message_word Exit = codes "exit"
-message_word Crashdump = codes "crashdump"
 
 -- the first word of what a node is handed
 abbrev pub kind_word : What → List ℕ

@@ -29,8 +29,6 @@ mod heads;
 mod keys;
 mod packets;
 mod settings;
-#[cfg(test)]
-mod tests;
 mod words;
 
 pub use entries::{read_entry, read_what};

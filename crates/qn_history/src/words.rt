@@ -2,7 +2,7 @@ ghost use Rattle.std.specs.Prelude.{◌≡◌, ◌<◌, ◌^◌, ℕ, Bool, Some
 ghost use Rattle.qn_base.specs.Decimal.{number_of};
 ghost use Rattle.qn_base.specs.Text.{yes_no};
 ghost use Rattle.qn_model.specs.declared.disk.Message.{Message};
-ghost use Rattle.qn_history.specs.Words.{message_word};
+ghost use Rattle.qn_model.specs.Messages.{message_name};
 
 use crate::faults::HistoryFault;
 use qn_base::{Mask, NodeId, Rank, View, read_decimal};
@@ -55,19 +55,11 @@ pub fn read_truth(word: &str) -> Result<bool, HistoryFault>
 
 /// What stands in a mailbox.
 pub fn read_message(word: &str) -> Result<Message, HistoryFault>
-    ensures value { IfOk result (λ message. word.now ≡ message_word message) }
-    ensures succeeds { (message : Message) → word.now ≡ message_word message → IsOk result }
+    ensures value { IfOk result (λ message. word.now ≡ message_name message) }
+    ensures succeeds { (message : Message) → word.now ≡ message_name message → IsOk result }
     ensures fault { IfErr result (λ fault. fault ≡ HistoryFault.UnknownMessage) }
 {
-    Ok(match word {
-        "empty" => Message::Empty,
-        "test" => Message::Test,
-        "reset" => Message::Reset,
-        "off" => Message::Off,
-        "exit" => Message::Exit,
-        "crashdump" => Message::Crashdump,
-        _ => return Err(HistoryFault::UnknownMessage),
-    })
+    Message::from_name(word).ok_or(HistoryFault::UnknownMessage)
 }
 
 /// A view: its number and its members.

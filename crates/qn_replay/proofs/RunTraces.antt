@@ -1,7 +1,7 @@
 -- The trace of a replay is that of a run of the world.
 use Rattle.std.proofs.Common.{◌≡◌, ◌+◌, ◌==◌, ℕ, Bool, true, false, cond, List, [], ◌∷◌, ◌++◌, Option, None, Some, Result, Ok, Err, IfOk, length, refl, sym, ap, subst, ◌∙◌, append_assoc, arith}
 use Rattle.std.proofs.lemmas.List.{append-nil}
-use Rattle.std.specs.Prelude.{nat_lt}
+use Rattle.std.specs.Prelude.{◌↔◌, IsTrue, nat_lt}
 use Rattle.std.specs.Str.{bytes_eq}
 use Rattle.qn_base.specs.Members.{is_member}
 use Rattle.qn_conf.specs.declared.faults.ConfFault.{ConfFault}
@@ -17,20 +17,25 @@ use Rattle.qn_model.specs.Settings.{IsValid, ids}
 use Rattle.qn_model.specs.Steps.{AllAllowed, report, run, step}
 use Rattle.qn_model.specs.Timing.{is_safe}
 use Rattle.qn_model.specs.World.{World}
-use Rattle.qn_safety.proofs.Incarnations.{one_reported}
+use Rattle.qn_safety.specs.Reported.{OneReported}
 use Rattle.qn_sched.specs.declared.replay_end.ReplayEnd.{ReplayEnd}
 use Rattle.qn_sched.specs.declared.replay_end.ReplayEnd.TheVariants.{UnsafeTiming}
+use Rattle.qn_sched.specs.EventLines.{event_line}
 use Rattle.qn_sched.specs.EventReading.{event_of}
 use Rattle.qn_sched.specs.Head.{dashes, or_bad_settings, safe_or_not, safe_timing_in, settings_in, settings_of_tree}
 use Rattle.qn_sched.specs.TimingLine.{timing_of}
 use Rattle.qn_sched.specs.TraceLines.{trace_line}
-use Rattle.qn_sched.proofs.EventSpelling.{event_spelled}
-use Rattle.qn_sched.proofs.RankSpelling.{length-ids, valid_ids}
 use Rattle.qn_settings.specs.declared.faults.SettingsFault.{SettingsFault}
 use Rattle.qn_settings.specs.Answer.{answer_of}
-use Rattle.qn_settings.proofs.Answering.{valid_when}
 use Rattle.qn_replay.specs.Replay.{Progress, Replayed, allowed_in, at_start, counted_bytes, cut_in, end_of_events, event_in, event_lines, event_text, go_on, last_event, last_of_text, last_timing, or_bad_line, replay_of, text_lines, timing_lines, unless_refused, with_event}
 use Rattle.qn_replay.specs.RunTrace.{Empty, IsRunTrace, Lines, trace_of}
+
+-- what the crates below say of a tree, of the line of an event, and of the holders after events
+pub record Laws : Type 0 where
+  pub valid : (tree : List Item) → IfOk (answer_of tree) IsValid
+  pub spelled : (s : Settings) (line : List ℕ) (event : Event) → IsValid s
+      → (event_of (ids s.nodes) line ≡ Ok event) ↔ (IsTrue (is_well_formed s event) × (line ≡ event_line (ids s.nodes) event))
+  pub one_holder : OneReported
 
 -- what is answered of the rest of an input goes on with a property of the value that was judged
 judged_goes : {A : Type 0} (Q : Replayed → Type 0) (P : A → Type 0) (last : Option Progress) (judged : Result A ReplayEnd) (next : A → Replayed)
@@ -98,8 +103,8 @@ unfolding allowed_in
 event_allowed so_far event formed =
     rule_good so_far.settings so_far.timing so_far.world (so_far.lines + 1) event (refusal so_far.settings so_far.timing event so_far.world) refl formed
 
-well_formed : (s : Settings) → IsValid s → (line : List ℕ) (event : Event) → event_of (ids s.nodes) line ≡ Ok event → is_well_formed s event ≡ true
-well_formed s valid line event is = ((event_spelled s (valid_ids s valid) (length-ids s.nodes) valid.few_nodes line event).0 is).0
+well_formed : Laws → (s : Settings) → IsValid s → (line : List ℕ) (event : Event) → event_of (ids s.nodes) line ≡ Ok event → is_well_formed s event ≡ true
+well_formed laws s valid line event is = ((laws.spelled s line event valid).0 is).0
 
 -- one event more
 module _ (so_far : Progress) (events : List Event) (reached : Reached so_far events) (event : Event) (may : MayHappen so_far.settings so_far.timing so_far.world event) where
@@ -138,20 +143,20 @@ nothing_more s t events rest allowed silent = record {
   lines = ap (λ r. trace_of s t events ++ r) silent ∙ append-nil (trace_of s t events);
 }
 
-events_go : (so_far : Progress) (events : List Event) → Reached so_far events → (ending : Ending) (lines : List (List ℕ))
+events_go : Laws → (so_far : Progress) (events : List Event) → Reached so_far events → (ending : Ending) (lines : List (List ℕ))
     → GoesOnWith so_far.settings so_far.timing events (event_lines so_far ending lines).trace
 unfolding with_event
-events_go so_far events reached ending [] = nothing_more _ _ events _ reached.allowed (last_silent so_far ending [])
-events_go so_far events reached ending (rest ∷ []) = nothing_more _ _ events _ reached.allowed (last_silent so_far ending rest)
-events_go so_far events reached ending (line ∷ next ∷ lines) =
+events_go laws so_far events reached ending [] = nothing_more _ _ events _ reached.allowed (last_silent so_far ending [])
+events_go laws so_far events reached ending (rest ∷ []) = nothing_more _ _ events _ reached.allowed (last_silent so_far ending rest)
+events_go laws so_far events reached ending (line ∷ next ∷ lines) =
     let Q : Replayed → Type 0 = λ answer. GoesOnWith so_far.settings so_far.timing events answer.trace in
     let silent : (end : ReplayEnd) → Q (record { trace = []; end = end; last = Some so_far }) = λ end. nothing_more _ _ events [] reached.allowed refl in
     judged_goes Q (λ event. event_of (ids so_far.settings.nodes) line ≡ Ok event) (Some so_far) (event_in so_far line) _ (event_read so_far line) silent
     (λ event is.
     judged_goes Q (MayHappen so_far.settings so_far.timing so_far.world) (Some so_far) (allowed_in so_far event) _
-    (event_allowed so_far event (well_formed so_far.settings reached.valid line event is)) silent
+    (event_allowed so_far event (well_formed laws so_far.settings reached.valid line event is)) silent
     (λ good may. one_more so_far events reached good may _
-    (events_go (with_event so_far good) (good ∷ events) (further so_far events reached good may) ending (next ∷ lines))))
+    (events_go laws (with_event so_far good) (good ∷ events) (further so_far events reached good may) ending (next ∷ lines))))
 
 -- events that are allowed were so up to each of them
 earlier_allowed : (s : Settings) (t : Timing) (later : List Event) (earlier : List Event) → AllAllowed s t (later ++ earlier) → AllAllowed s t earlier
@@ -159,23 +164,23 @@ unfolding AllAllowed
 earlier_allowed s t [] earlier all = all
 earlier_allowed s t (event ∷ later) earlier all = earlier_allowed s t later earlier all.2
 
-reports_one : (s : Settings) (t : Timing) (events : List Event) → is_safe t ≡ true → AllAllowed s t events
+reports_one : Laws → (s : Settings) (t : Timing) (events : List Event) → is_safe t ≡ true → AllAllowed s t events
     → (later : List Event) (event : Event) (earlier : List Event) (i j : ℕ) → events ≡ later ++ event ∷ earlier
     → is_member (report s event (run s t (event ∷ earlier))).holders i ≡ true
     → is_member (report s event (run s t (event ∷ earlier))).holders j ≡ true
     → i ≡ j
 unfolding report
-reports_one s t events safe all later event earlier i j is first second =
-    one_reported s t (event ∷ earlier) i j safe (earlier_allowed s t later (event ∷ earlier) (subst (AllAllowed s t) is all)) first second
+reports_one laws s t events safe all later event earlier i j is first second =
+    laws.one_holder s t (event ∷ earlier) i j safe (earlier_allowed s t later (event ∷ earlier) (subst (AllAllowed s t) is all)) first second
 
-whole : (settings : Settings) (timing : Timing) (before : ℕ) → IsValid settings → is_safe timing ≡ true → (ending : Ending) (lines : List (List ℕ))
+whole : Laws → (settings : Settings) (timing : Timing) (before : ℕ) → IsValid settings → is_safe timing ≡ true → (ending : Ending) (lines : List (List ℕ))
     → IsRunTrace (event_lines (at_start settings timing before) ending lines).trace
 unfolding run AllAllowed trace_of
-whole settings timing before valid safe ending lines =
+whole laws settings timing before valid safe ending lines =
     let start : Reached (at_start settings timing before) [] = record { valid = valid; safe = safe; allowed = tt; world = refl; counted = refl } in
-    let goes = events_go (at_start settings timing before) [] start ending lines in
+    let goes = events_go laws (at_start settings timing before) [] start ending lines in
     Lines settings timing goes.all
-    (record { valid = valid; safe = safe; allowed = goes.allowed; lines = goes.lines; one_holder = reports_one settings timing goes.all safe goes.allowed })
+    (record { valid = valid; safe = safe; allowed = goes.allowed; lines = goes.lines; one_holder = reports_one laws settings timing goes.all safe goes.allowed })
 
 safe_good : (timing : Timing) (safe : Bool) → is_safe timing ≡ safe → IfOk (cond safe (Ok timing) (Err (UnsafeTiming timing))) (λ t. is_safe t ≡ true)
 safe_good timing true is = is
@@ -193,41 +198,41 @@ tree_good : (answer : Result Settings SettingsFault) → IfOk answer IsValid →
 tree_good (Ok settings) valid = valid
 tree_good (Err fault) valid = tt
 
-conf_good : (conf : Result (List Item) ConfFault) → IfOk (settings_of_tree conf) IsValid
-conf_good (Ok tree) = tree_good (answer_of tree) (valid_when tree (answer_of tree) refl)
-conf_good (Err fault) = tt
+conf_good : Laws → (conf : Result (List Item) ConfFault) → IfOk (settings_of_tree conf) IsValid
+conf_good laws (Ok tree) = tree_good (answer_of tree) (laws.valid tree)
+conf_good laws (Err fault) = tt
 
-settings_good : (text : List ℕ) → IfOk (settings_in text) IsValid
+settings_good : Laws → (text : List ℕ) → IfOk (settings_in text) IsValid
 unfolding settings_in
-settings_good text = conf_good (conf_of text)
+settings_good laws text = conf_good laws (conf_of text)
 
 last_timing_tells : (before : ℕ) (ending : Ending) (rest : List ℕ) → IsRunTrace (last_timing before ending rest).trace
 unfolding last_timing
 last_timing_tells before ending rest =
     either_is (λ answer. IsRunTrace answer.trace) (nat_lt 4096 (length rest)) _ _ (Empty refl) (Empty (cut_silent None (before + 1) ending))
 
-timing_lines_tell : (settings : Settings) (before : ℕ) → IsValid settings → (ending : Ending) (lines : List (List ℕ)) → IsRunTrace (timing_lines settings before ending lines).trace
-timing_lines_tell settings before valid ending [] = last_timing_tells before ending []
-timing_lines_tell settings before valid ending (rest ∷ []) = last_timing_tells before ending rest
-timing_lines_tell settings before valid ending (line ∷ next ∷ lines) =
+timing_lines_tell : Laws → (settings : Settings) (before : ℕ) → IsValid settings → (ending : Ending) (lines : List (List ℕ)) → IsRunTrace (timing_lines settings before ending lines).trace
+timing_lines_tell laws settings before valid ending [] = last_timing_tells before ending []
+timing_lines_tell laws settings before valid ending (rest ∷ []) = last_timing_tells before ending rest
+timing_lines_tell laws settings before valid ending (line ∷ next ∷ lines) =
     judged_goes (λ answer. IsRunTrace answer.trace) (λ t. is_safe t ≡ true) None (safe_timing_in (before + 1) line) _ (timing_good (before + 1) line)
-    (λ end. Empty refl) (λ timing safe. whole settings timing (before + 1) valid safe ending (next ∷ lines))
+    (λ end. Empty refl) (λ timing safe. whole laws settings timing (before + 1) valid safe ending (next ∷ lines))
 
 last_of_text_tells : (text : List ℕ) (before : ℕ) (ending : Ending) (rest : List ℕ) → IsRunTrace (last_of_text text before ending rest).trace
 unfolding last_of_text
 last_of_text_tells text before ending rest =
     either_is (λ answer. IsRunTrace answer.trace) (nat_lt 1048576 (counted_bytes text rest)) _ _ (Empty refl) (Empty (cut_silent None (before + 1) ending))
 
-text_lines_tell : (text : List ℕ) (before : ℕ) (ending : Ending) (lines : List (List ℕ)) → IsRunTrace (text_lines text before ending lines).trace
-text_lines_tell text before ending [] = last_of_text_tells text before ending []
-text_lines_tell text before ending (rest ∷ []) = last_of_text_tells text before ending rest
-text_lines_tell text before ending (line ∷ next ∷ lines) =
+text_lines_tell : Laws → (text : List ℕ) (before : ℕ) (ending : Ending) (lines : List (List ℕ)) → IsRunTrace (text_lines text before ending lines).trace
+text_lines_tell laws text before ending [] = last_of_text_tells text before ending []
+text_lines_tell laws text before ending (rest ∷ []) = last_of_text_tells text before ending rest
+text_lines_tell laws text before ending (line ∷ next ∷ lines) =
     either_is (λ answer. IsRunTrace answer.trace) (bytes_eq line dashes) _ _
-    (judged_goes (λ answer. IsRunTrace answer.trace) IsValid None (settings_in text) _ (settings_good text) (λ end. Empty refl)
-    (λ settings valid. timing_lines_tell settings (before + 1) valid ending (next ∷ lines)))
+    (judged_goes (λ answer. IsRunTrace answer.trace) IsValid None (settings_in text) _ (settings_good laws text) (λ end. Empty refl)
+    (λ settings valid. timing_lines_tell laws settings (before + 1) valid ending (next ∷ lines)))
     (either_is (λ answer. IsRunTrace answer.trace) (nat_lt 1048576 (length (text ++ line ++ 10 ∷ []))) _ _ (Empty refl)
-    (text_lines_tell (text ++ line ++ 10 ∷ []) (before + 1) ending (next ∷ lines)))
+    (text_lines_tell laws (text ++ line ++ 10 ∷ []) (before + 1) ending (next ∷ lines)))
 
 -- the trace of each replay
-pub traces_are_runs : (ending : Ending) (bytes : List ℕ) → IsRunTrace (replay_of ending bytes).trace
-traces_are_runs ending bytes = text_lines_tell [] 0 ending (lines_of bytes)
+pub traces_are_runs : Laws → (ending : Ending) (bytes : List ℕ) → IsRunTrace (replay_of ending bytes).trace
+traces_are_runs laws ending bytes = text_lines_tell laws [] 0 ending (lines_of bytes)

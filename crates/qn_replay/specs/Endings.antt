@@ -1,6 +1,7 @@
 -- How the end of a replay and the way in which its input ended belong together.
 use Rattle.std.specs.Prelude.{ℕ, ◌+◌, ◌==◌, None, Some, Option, Bool, true, false, cond, List, [], ◌∷◌, ◌++◌, length, nat_lt, Result, Ok, Err, IfErr}
 use Rattle.std.specs.Str.{bytes_eq}
+use Rattle.qn_base.specs.declared.limits.TheConstants.{MOST_EVENTS, MOST_LINE_BYTES}
 use Rattle.qn_conf.specs.declared.faults.ConfFault.{ConfFault}
 use Rattle.qn_conf.specs.declared.tree.Item.{Item}
 use Rattle.qn_conf.specs.Conf.{conf_of}
@@ -82,7 +83,7 @@ end_of_events_fits so_far ReadFailed rest = tt
 
 last_event_fits : (so_far : Progress) (ending : Ending) (rest : List ℕ) → Fits ending (last_event so_far ending rest)
 unfolding last_event
-last_event_fits so_far ending rest = either_fits ending (nat_lt 4096 (length rest)) _ _ tt (end_of_events_fits so_far ending rest)
+last_event_fits so_far ending rest = either_fits ending (nat_lt MOST_LINE_BYTES (length rest)) _ _ tt (end_of_events_fits so_far ending rest)
 
 line_fits : (ending : Ending) (number : ℕ) (read : Result Event LineFault) → IfErr (or_bad_line number read) (λ end. EndFits end ending)
 line_fits ending number (Ok event) = tt
@@ -96,8 +97,8 @@ either_judged ending false first second fits others = others
 event_fits : (ending : Ending) (so_far : Progress) (line : List ℕ) → IfErr (event_in so_far line) (λ end. EndFits end ending)
 unfolding event_in
 event_fits ending so_far line =
-    either_judged ending (nat_lt 4096 (length line)) _ _ tt
-    (either_judged ending (so_far.events == 200000) _ _ tt (line_fits ending (so_far.lines + 1) (event_of (ids so_far.settings.nodes) line)))
+    either_judged ending (nat_lt MOST_LINE_BYTES (length line)) _ _ tt
+    (either_judged ending (so_far.events == MOST_EVENTS) _ _ tt (line_fits ending (so_far.lines + 1) (event_of (ids so_far.settings.nodes) line)))
 
 rule_fits : (ending : Ending) (number : ℕ) (event : Event) (rule : Option ℕ) → IfErr (unless_refused number event rule) (λ end. EndFits end ending)
 rule_fits ending number event None = tt
@@ -118,7 +119,7 @@ events_fit so_far ending (line ∷ next ∷ lines) =
 
 last_timing_fits : (before : ℕ) (ending : Ending) (rest : List ℕ) → Fits ending (last_timing before ending rest)
 unfolding last_timing
-last_timing_fits before ending rest = either_fits ending (nat_lt 4096 (length rest)) _ _ tt (cut_fits None (before + 1) ending)
+last_timing_fits before ending rest = either_fits ending (nat_lt MOST_LINE_BYTES (length rest)) _ _ tt (cut_fits None (before + 1) ending)
 
 timing_lines_fit : (settings : Settings) (before : ℕ) (ending : Ending) (lines : List (List ℕ)) → Fits ending (timing_lines settings before ending lines)
 timing_lines_fit settings before ending [] = last_timing_fits before ending []

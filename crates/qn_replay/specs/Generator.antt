@@ -9,6 +9,7 @@ use Rattle.qn_model.specs.declared.nodelist.NodeEntry.{NodeEntry}
 use Rattle.qn_model.specs.declared.times.Timing.{Timing}
 use Rattle.qn_model.specs.Moments.{packets, time}
 use Rattle.qn_model.specs.Rules.{refusal}
+use Rattle.qn_model.specs.Timing.{usual_times}
 use Rattle.qn_model.specs.Unmet.{least_from}
 use Rattle.qn_model.specs.World.{World}
 use Rattle.qn_world.specs.declared.looking.NodeSeen.{NodeSeen}
@@ -33,8 +34,9 @@ soak_settings =
       expected = 3;
     }
 
+-- the usual times
 abbrev pub soak_timing : Timing
-soak_timing = record { watchdog = 5000; msgwait = 10000; loop_ms = 1000; read_limit = 2000; feed_delay = 1000 }
+soak_timing = usual_times
 
 -- an event, and the state behind its draws
 pub record Drawn : Type 0 where

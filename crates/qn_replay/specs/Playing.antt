@@ -1,5 +1,6 @@
 -- A replay behind its head, event after event.
 use Rattle.std.specs.Prelude.{◌≡◌, ◌≤◌, ℕ, ◌+◌, ◌*◌, true, List, [], ◌∷◌, ◌++◌, Option, Ok, Err}
+use Rattle.qn_base.specs.declared.limits.TheConstants.{MOST_EVENTS}
 use Rattle.qn_model.specs.declared.events.Event.{Event}
 use Rattle.qn_model.specs.declared.reports.Refused.{Refused}
 use Rattle.qn_model.specs.declared.reports.Refused.TheVariants as refused
@@ -34,7 +35,7 @@ Stands playback P = (world : World) → WorldFor playback.world world → P worl
 -- the numbers of a playback fit: its events, its lines, the steps that its world has left, and its time, of which an event takes
 -- 1000000000 milliseconds at most
 pub record IsGoing (playback : Playback) : Type 0 where
-  pub few : playback.events ≤ 200000
+  pub few : playback.events ≤ MOST_EVENTS
   pub numbered : playback.lines ≤ 4294967296 + playback.events
   pub steps : playback.world.steps + playback.events ≡ 18446744073709551615
   pub early : playback.world.time ≤ 1000000000 * playback.events

@@ -2,6 +2,7 @@
 use Rattle.std.specs.Prelude.{ℕ, ◌+◌, ◌==◌, nat_eq, nat_lt, if◌then◌else◌, List, [], ◌∷◌, ◌++◌, length, Option, None, Some, Result, Ok, Err}
 use Rattle.std.specs.List.{starts_with}
 use Rattle.std.specs.Str.{bytes_eq}
+use Rattle.qn_base.specs.declared.limits.TheConstants.{MOST_EVENTS, MOST_LINE_BYTES}
 use Rattle.qn_conf.specs.declared.faults.ConfFault.TheVariants as conf
 use Rattle.qn_model.specs.declared.configuration.Settings.{Settings}
 use Rattle.qn_model.specs.declared.events.Event.{Event}
@@ -67,8 +68,8 @@ or_bad_line number (Err fault) = Err (BadSchedule number fault)
 -- the event of a whole line, without its end, or its first fault
 unfoldable pub event_in : Progress → List ℕ → Result Event ReplayEnd
 event_in so_far line =
-    if nat_lt 4096 (length line) then Err (BadSchedule (so_far.lines + 1) TooLong)
-    else if so_far.events == 200000 then Err (BadSchedule (so_far.lines + 1) TooMany)
+    if nat_lt MOST_LINE_BYTES (length line) then Err (BadSchedule (so_far.lines + 1) TooLong)
+    else if so_far.events == MOST_EVENTS then Err (BadSchedule (so_far.lines + 1) TooMany)
     else or_bad_line (so_far.lines + 1) (event_of (ids so_far.settings.nodes) line)
 
 abbrev pub unless_refused : ℕ → Event → Option ℕ → Result Event ReplayEnd
@@ -102,7 +103,7 @@ end_of_events so_far ReadFailed rest = cut_in (Some so_far) (so_far.lines + 1) R
 -- the same, where too many bytes of a line come before everything else
 unfoldable pub last_event : Progress → Ending → List ℕ → Replayed
 last_event so_far ending rest =
-    if nat_lt 4096 (length rest) then ended (Some so_far) (BadSchedule (so_far.lines + 1) TooLong) else end_of_events so_far ending rest
+    if nat_lt MOST_LINE_BYTES (length rest) then ended (Some so_far) (BadSchedule (so_far.lines + 1) TooLong) else end_of_events so_far ending rest
 
 -- an event, and what is answered behind it
 abbrev pub after_event : Progress → Result Event ReplayEnd → (Progress → Replayed) → Replayed
@@ -119,7 +120,7 @@ event_lines so_far ending (line ∷ next ∷ lines) =
 -- the input behind `before` lines, where the timing line is due and not ended
 unfoldable pub last_timing : ℕ → Ending → List ℕ → Replayed
 last_timing before ending rest =
-    if nat_lt 4096 (length rest) then ends (BadSchedule (before + 1) TooLong) else cut_in None (before + 1) ending
+    if nat_lt MOST_LINE_BYTES (length rest) then ends (BadSchedule (before + 1) TooLong) else cut_in None (before + 1) ending
 
 -- the timing line and the lines behind it
 abbrev pub timing_lines : Settings → ℕ → Ending → List (List ℕ) → Replayed

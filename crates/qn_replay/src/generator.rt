@@ -22,6 +22,7 @@ impl Model for Gen {
 
 impl Gen {
     ghost use Rattle.std.specs.Prelude.{◌≡◌, ◌<◌, ◌≤◌, ◌+◌, true, None, length};
+    ghost use Rattle.qn_base.specs.declared.limits.TheConstants.{LATEST_TIME};
     ghost use Rattle.qn_model.specs.World.{World as WorldBefore};
     ghost use Rattle.qn_model.specs.Moments.{packets};
     ghost use Rattle.qn_model.specs.Rules.{is_well_formed, refusal};
@@ -40,7 +41,7 @@ impl Gen {
     pub fn next(&mut self, world: &World) -> Event
         requires settings { world.now.settings ≡ soak_settings }
         requires timing { world.now.timing ≡ soak_timing }
-        requires early { world.now.time ≤ 10000000000000000 }
+        requires early { world.now.time ≤ LATEST_TIME }
         ensures drawn { (d : WorldBefore) → WorldFor world.now d
             → record { event = result; state = self.new } ≡ next_event d self.old }
         ensures formed { is_well_formed soak_settings result ≡ true }

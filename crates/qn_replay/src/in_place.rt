@@ -1,4 +1,5 @@
 ghost use Rattle.std.specs.Prelude.{◌≡◌, ◌<◌, ◌≤◌, true, None, IfSome, option_map, if◌then◌else◌};
+ghost use Rattle.qn_base.specs.declared.limits.TheConstants.{LATEST_TIME};
 ghost use Rattle.qn_model.specs.World.{World as WorldBefore};
 ghost use Rattle.qn_model.specs.Rules.{is_well_formed, refusal};
 ghost use Rattle.qn_world.specs.Standing.{WorldFor};
@@ -13,7 +14,7 @@ use qn_world::{NodeSeen, World};
 pub(crate) fn in_place_of(event: Event, world: &World) -> Event
     requires settings { world.now.settings ≡ soak_settings }
     requires timing { world.now.timing ≡ soak_timing }
-    requires early { world.now.time ≤ 10000000000000000 }
+    requires early { world.now.time ≤ LATEST_TIME }
     requires formed { is_well_formed soak_settings event ≡ true }
     ensures drawn { (d : WorldBefore) → WorldFor world.now d → result ≡ in_place d event }
     ensures formed { is_well_formed soak_settings result ≡ true }
@@ -29,7 +30,7 @@ pub(crate) fn in_place_of(event: Event, world: &World) -> Event
 fn moment_or_forced(world: &World) -> Event
     requires settings { world.now.settings ≡ soak_settings }
     requires timing { world.now.timing ≡ soak_timing }
-    requires early { world.now.time ≤ 10000000000000000 }
+    requires early { world.now.time ≤ LATEST_TIME }
     ensures drawn { (d : WorldBefore) → WorldFor world.now d
         → result ≡ (if may_happen moment d then moment else forced d) }
     ensures formed { is_well_formed soak_settings result ≡ true }
@@ -58,7 +59,7 @@ fn moment() -> Event
 #[tactic(auto, unfolding(qn_model::specs::Rules::is_well_formed))]
 fn forced(world: &World) -> Event
     requires settings { world.now.settings ≡ soak_settings }
-    requires early { world.now.time ≤ 10000000000000000 }
+    requires early { world.now.time ≤ LATEST_TIME }
     ensures drawn { (d : WorldBefore) → WorldFor world.now d → result ≡ forced d }
     ensures formed { is_well_formed soak_settings result ≡ true }
 {
@@ -71,7 +72,7 @@ fn forced(world: &World) -> Event
 /// The least node whose watchdog is over in one more millisecond.
 fn overdue(world: &World) -> Option<Rank>
     requires settings { world.now.settings ≡ soak_settings }
-    requires early { world.now.time ≤ 10000000000000000 }
+    requires early { world.now.time ≤ LATEST_TIME }
     ensures least { (d : WorldBefore) → WorldFor world.now d → option_map (λ rank. rank.0) result ≡ overdue d }
     ensures configured { IfSome result (λ rank. rank.0 < 3) }
 {
@@ -89,7 +90,7 @@ fn overdue(world: &World) -> Option<Rank>
 
 /// Whether a running node would be past its watchdog in one more millisecond.
 fn is_overdue(now: u64, seen: NodeSeen) -> bool
-    requires { now ≤ 10000000000000000 }
+    requires { now ≤ LATEST_TIME }
     ensures { result ≡ is_overdue now seen }
 {
     seen.running && 99 * (now + 1).saturating_sub(seen.fed) > 500_000

@@ -23,7 +23,6 @@ mod run;
 mod schedule;
 mod soak_settings;
 mod soaking;
-mod summary_line;
 mod tally;
 
 pub use generator::Gen;
@@ -31,8 +30,3 @@ pub use last::last_world;
 pub use rows::{law_ending, law_heads, law_one_holder, law_texts};
 pub use run::replay;
 pub use soaking::soak;
-
-#[cfg(test)]
-mod soak_tests;
-#[cfg(test)]
-mod tests;

@@ -1,17 +1,11 @@
 use crate::schedule::Schedule;
 use arrayvec::ArrayVec;
-use qn_base::Failed;
+use qn_base::{Failed, MOST_EVENTS, MOST_LINE_BYTES};
 use qn_io::{Sink, put_all};
 use qn_model::{Event, LineFault, Refused, Report};
 use qn_sched::{ReplayEnd, read_line, write_trace};
 use qn_world::World;
 use std::alloc::Global;
-
-/// The most events of a replay.
-const MAX_EVENTS: u64 = 200_000;
-
-/// The most bytes of a line, with its end.
-const LINE: usize = 4096;
 
 /// A replay behind its head: the world after the events so far, how many lines of the input there were, and
 /// how many of them were events.
@@ -89,13 +83,13 @@ impl Playback {
         requires { IsGoing self.now }
         ensures judged { Stands self.now (λ world. result ≡ event_in (progress_at self.now world) line.now) }
         ensures formed { IfOk result (λ event. is_well_formed self.now.world.settings event ≡ true) }
-        ensures few { OnOk result (self.now.events < 200000) }
+        ensures few { OnOk result (self.now.events < MOST_EVENTS) }
         ensures written { result ≢ Err ReplayEnd.WriteFault }
     {
-        if line.len() > LINE {
+        if line.len() > MOST_LINE_BYTES {
             return Err(self.bad_line(LineFault::TooLong));
         }
-        if self.events == MAX_EVENTS {
+        if self.events == MOST_EVENTS {
             return Err(self.bad_line(LineFault::TooMany));
         }
         match read_line(line, self.world.settings()) {
@@ -148,7 +142,7 @@ impl Playback {
     pub(crate) fn write<O: Sink>(
         &self,
         report: &Report,
-        text: &mut ArrayVec<u8, LINE>,
+        text: &mut ArrayVec<u8, 4096>,
         out: &mut O,
     ) -> Result<(), Failed>
         ensures whole { OnOk result (O.written out.new ≡ append_known (O.written out.old) (report_text self.now report.now)) }

@@ -8,6 +8,10 @@ ghost use Rattle.qn_replay.specs.RunTrace.{TracesAreRuns};
 ghost use Rattle.qn_sched.specs.declared.replay_end.ReplayEnd.TheVariants.{BadConf, BadSettings, BadSchedule, Done, ReadFault, UnsafeTiming};
 ghost use Rattle.qn_settings.specs.declared.faults.SettingsFault.TheVariants.{NoNodes};
 
+use qn_safety::law_no_two_holders;
+use qn_sched::law_event_lines;
+use qn_settings::law_valid_settings;
+
 /// The head of one node is good, and a line behind it begins no event. Where the timing line is due and
 /// the input ends, it is unended; where a read fails there, that is the end.
 pub fn law_heads()
@@ -44,4 +48,8 @@ pub fn law_ending()
 /// one holder is named in each.
 pub fn law_one_holder()
     ensures { TracesAreRuns }
-{}
+{
+    law_valid_settings();
+    law_event_lines();
+    law_no_two_holders();
+}

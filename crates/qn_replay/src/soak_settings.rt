@@ -35,16 +35,10 @@ fn node_of(id: u32) -> NodeEntry
     }
 }
 
-/// The times of a soak.
+/// The times of a soak: the usual ones.
 pub(crate) fn soak_timing() -> Timing
     ensures value { result ≡ soak_timing }
     ensures safe { is_safe result ≡ true }
 {
-    Timing {
-        watchdog: 5000,
-        msgwait: 10000,
-        loop_ms: 1000,
-        read_limit: 2000,
-        feed_delay: 1000,
-    }
+    Timing::usual()
 }

@@ -4,6 +4,7 @@ use Rattle.std.specs.Option.{ok_or}
 use Rattle.std.specs.List.{join_with_byte}
 use Rattle.std.specs.Str.{bytes_eq}
 use Rattle.qn_base.specs.declared.ids.Rank.{Rank}
+use Rattle.qn_base.specs.declared.limits.TheConstants.{MOST_EVENTS, MOST_LINE_BYTES}
 use Rattle.qn_model.specs.declared.events.Event.{Event}
 use Rattle.qn_model.specs.declared.events.Event.TheVariants as event
 use Rattle.qn_model.specs.declared.line_fault.LineFault.{LineFault}
@@ -43,7 +44,7 @@ boot_of ids words = do
 
 unfoldable pub late_of : List ℕ → List (List ℕ) → Result Event LineFault
 late_of ids words = do
-  numbered ← numbered_of ids 1 200000 words
+  numbered ← numbered_of ids 1 MOST_EVENTS words
   Ok (event.Late numbered.0 numbered.1)
 
 unfoldable pub deliver_of : List ℕ → List (List ℕ) → Result Event LineFault
@@ -127,4 +128,4 @@ event_of_words ids (first ∷ words) = do
 
 -- the event that a line says, or its first fault
 unfoldable pub event_of : List ℕ → List ℕ → Result Event LineFault
-event_of ids line = if nat_lt 4096 (length line) then Err TooLong else event_of_words ids (words_of line)
+event_of ids line = if nat_lt MOST_LINE_BYTES (length line) then Err TooLong else event_of_words ids (words_of line)

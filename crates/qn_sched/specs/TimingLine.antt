@@ -3,6 +3,7 @@
 use Rattle.std.specs.Prelude.{ℕ, nat_lt, if◌then◌else◌, List, [], ◌∷◌, length, Result, Ok, Err, codes, decimal}
 use Rattle.std.specs.List.{join_with_byte}
 use Rattle.std.specs.Str.{bytes_eq}
+use Rattle.qn_base.specs.declared.limits.TheConstants.{LONGEST_PERIOD, MOST_LINE_BYTES}
 use Rattle.qn_model.specs.declared.line_fault.LineFault.{LineFault}
 use Rattle.qn_model.specs.declared.line_fault.LineFault.TheVariants.{UnknownWord, BadCount, TooLong}
 use Rattle.qn_model.specs.declared.times.Timing.{Timing}
@@ -15,9 +16,9 @@ timing_line t =
     (codes "timing"
     ∷ decimal t.watchdog ∷ decimal t.msgwait ∷ decimal t.loop_ms ∷ decimal t.read_limit ∷ decimal t.feed_delay ∷ [])
 
--- a time, of 1 to 3600000 milliseconds
+-- a time, from one millisecond to one hour
 unfoldable pub time_of : List ℕ → Result ℕ LineFault
-time_of word = number_between 1 3600000 word
+time_of word = number_between 1 LONGEST_PERIOD word
 
 -- the five times, judged from left to right
 unfoldable pub times_of : List ℕ → List ℕ → List ℕ → List ℕ → List ℕ → Result Timing LineFault
@@ -41,4 +42,4 @@ timing_of_words (first ∷ words) = if bytes_eq first (codes "timing") then time
 
 -- the times that a line gives, or its first fault
 unfoldable pub timing_of : List ℕ → Result Timing LineFault
-timing_of line = if nat_lt 4096 (length line) then Err TooLong else timing_of_words (words_of line)
+timing_of line = if nat_lt MOST_LINE_BYTES (length line) then Err TooLong else timing_of_words (words_of line)

@@ -4,8 +4,6 @@ use Rattle.std.specs.List.{join_with_byte}
 use Rattle.qn_base.specs.declared.ids.Mask.{Mask}
 use Rattle.qn_base.specs.declared.ids.Rank.{Rank}
 use Rattle.qn_base.specs.Text.{yes_no}
-use Rattle.qn_model.specs.declared.disk.Message.{Message}
-use Rattle.qn_model.specs.declared.disk.Message.TheVariants as message
 use Rattle.qn_model.specs.declared.life.Why.{Why}
 use Rattle.qn_model.specs.declared.life.Why.TheVariants.{Down, Holding, NoView, WaitForAll, NotQuorate, NotChosen, HeldBy, Unheard, Unfenced, Clear}
 use Rattle.qn_model.specs.declared.outputs.BootCause.{BootCause}
@@ -20,6 +18,7 @@ use Rattle.qn_model.specs.declared.packets.Packet.{Packet}
 use Rattle.qn_model.specs.declared.packets.Packet.TheVariants as packet
 use Rattle.qn_model.specs.declared.reports.Report.{Report}
 use Rattle.qn_model.specs.declared.votes.Answer.{Answer}
+use Rattle.qn_model.specs.Messages.{message_name}
 use Rattle.qn_sched.specs.EventLines.{id_word, ids_from}
 
 -- the first condition that a start lacks
@@ -44,14 +43,6 @@ packet_word (packet.Hello from) = codes "hello"
 packet_word (packet.Announce from view) = codes "announce"
 packet_word (packet.Vote agrees) = codes "vote"
 
-abbrev pub message_word : Message → List ℕ
-message_word message.Empty = codes "empty"
-message_word message.Test = codes "test"
-message_word message.Reset = codes "reset"
-message_word message.Off = codes "off"
-message_word message.Exit = codes "exit"
-message_word message.Crashdump = codes "crashdump"
-
 -- the number of a cause
 abbrev pub cause_number : BootCause → ℕ
 cause_number cause.ReadFailed = 1
@@ -62,7 +53,7 @@ cause_number cause.ClearFailed = 5
 cause_number cause.IncarnationSpent = 6
 
 abbrev pub halt_word : HaltKind → List ℕ
-halt_word (halt.Deadly message) = codes "halt:" ++ message_word message
+halt_word (halt.Deadly message) = codes "halt:" ++ message_name message
 halt_word (halt.Boot cause) = codes "halt:boot-" ++ decimal (cause_number cause)
 
 abbrev pub disk_word : List ℕ → DiskOp → List ℕ

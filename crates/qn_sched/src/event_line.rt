@@ -12,16 +12,13 @@ use crate::event_name::{EventName, NodeEvent, event_name};
 use crate::members::{known_rank, read_members};
 use crate::numbers::number_between;
 use crate::words::{first_part, next_word, one_word, three_words, two_words};
-use qn_base::{Rank, View};
+use qn_base::{MOST_EVENTS, MOST_LINE_BYTES, Rank, View};
 use qn_model::{Event, LineFault, Nodes, Settings};
 
-/// The most bytes of a line, without its end.
-const MAX_LINE: usize = 4096;
-
-/// The event that a line says. The faults, in the order in which they are tried: TooLong above 4096 bytes,
-/// UnknownWord where the first word names no event, BadCount where the number of words is not that of the
-/// event, then the fault of the first word from left to right, and last BadCount where the clocks of a pass
-/// do not ascend strictly.
+/// The event that a line says. The faults, in the order in which they are tried: TooLong above
+/// `MOST_LINE_BYTES`, UnknownWord where the first word names no event, BadCount where the number of words is not
+/// that of the event, then the fault of the first word from left to right, and last BadCount where the clocks of
+/// a pass do not ascend strictly.
 pub fn read_line(line: &[u8], settings: &Settings) -> Result<Event, LineFault>
     requires { IsValid settings.now }
     ensures first_fault { result ≡ event_of (ids settings.now.nodes) line.now }
@@ -35,7 +32,7 @@ pub fn read_line(line: &[u8], settings: &Settings) -> Result<Event, LineFault>
 fn read_event(line: &[u8], nodes: &Nodes) -> Result<Event, LineFault>
     ensures { result ≡ event_of (ids nodes.now) line.now }
 {
-    if line.len() > MAX_LINE {
+    if line.len() > MOST_LINE_BYTES {
         return Err(LineFault::TooLong);
     }
     let (first, rest) = first_part(line, b' ');
@@ -84,7 +81,7 @@ fn read_boot(nodes: &Nodes, rest: Option<&[u8]>) -> Result<Event, LineFault>
 fn read_late(nodes: &Nodes, rest: Option<&[u8]>) -> Result<Event, LineFault>
     ensures { result ≡ late_of (ids nodes.now) (parts_left 32 (option_copied rest.entry)) }
 {
-    let (rank, number) = read_numbered(nodes, 1, 200_000, rest)?;
+    let (rank, number) = read_numbered(nodes, 1, MOST_EVENTS, rest)?;
     Ok(Event::Late(rank, number))
 }
 

@@ -4,9 +4,9 @@ ghost use Rattle.qn_base.specs.Text.{yes_no};
 ghost use Rattle.qn_model.specs.Settings.{ids};
 ghost use Rattle.qn_sched.specs.EventLines.{clock_word, event_line, id_word, member_word};
 
-use crate::text::{add, add_id, add_members, add_number, add_yes_or_no};
+use crate::text::{add_id, add_members};
 use arrayvec::ArrayVec;
-use qn_base::{Rank, View};
+use qn_base::{Rank, View, add, add_number, yes_no};
 use qn_model::{Clocks, Event, Nodes, Settings};
 
 /// Empties `into` and writes the line of an event, without its end. The id of a rank that is not configured
@@ -83,7 +83,7 @@ fn add_device(into: &mut ArrayVec<u8, 4096>, nodes: &Nodes, rank: Rank, agrees: 
 {
     add_node(into, b"device", nodes, rank);
     add(into, b" ");
-    add_yes_or_no(into, agrees);
+    add(into, yes_no(agrees));
 }
 
 /// Adds the line of a pass.

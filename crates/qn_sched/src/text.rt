@@ -1,44 +1,10 @@
 ghost use Rattle.std.specs.Prelude.{◌≡◌, ◌≤◌, ◌<◌, ◌+◌, ◌*◌, ◌++◌, [], ◌∷◌, length, map, decimal, slice_index};
-ghost use Rattle.qn_base.specs.Text.{yes_no};
 ghost use Rattle.qn_model.specs.Settings.{ids};
 ghost use Rattle.qn_sched.specs.EventLines.{id_word, ids_from, joined};
 
 use arrayvec::ArrayVec;
-use qn_base::{Mask, Rank, write_decimal};
+use qn_base::{Mask, Rank, add, add_number};
 use qn_model::Nodes;
-
-/// Adds a text at the end.
-pub(crate) fn add<const N: usize>(into: &mut ArrayVec<u8, N>, text: &[u8])
-    requires { length into.old.items + length text.now ≤ N }
-    ensures text { into.new.items ≡ into.old.items ++ text.now }
-    ensures len { length into.new.items ≡ length into.old.items + length text.now }
-{
-    let _ = into.try_extend_from_slice(text);
-}
-
-/// Adds a number at the end, in decimal digits.
-pub(crate) fn add_number<const N: usize>(into: &mut ArrayVec<u8, N>, number: u64)
-    requires { length into.old.items + 20 ≤ N }
-    ensures text { into.new.items ≡ into.old.items ++ decimal number }
-    ensures len { length into.new.items ≤ length into.old.items + 20 }
-{
-    let mut digits = ArrayVec::new();
-    write_decimal(number, &mut digits);
-    let _ = into.try_extend_from_slice(digits.as_slice());
-}
-
-/// Adds a yes or a no.
-pub(crate) fn add_yes_or_no(into: &mut ArrayVec<u8, 4096>, agrees: bool)
-    requires { length into.old.items + 3 ≤ 4096 }
-    ensures text { into.new.items ≡ into.old.items ++ yes_no agrees }
-    ensures len { length into.new.items ≤ length into.old.items + 3 }
-{
-    if agrees {
-        add(into, b"yes");
-    } else {
-        add(into, b"no");
-    }
-}
 
 /// Adds the id of the node of that rank, 0 where there is none.
 pub(crate) fn add_id(into: &mut ArrayVec<u8, 4096>, nodes: &Nodes, rank: Rank)

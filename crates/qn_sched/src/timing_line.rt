@@ -7,13 +7,11 @@ ghost use Rattle.qn_sched.specs.Words.{parts_left};
 
 use crate::numbers::number_between;
 use crate::words::{first_part, next_word, no_more_words};
+use qn_base::{LONGEST_PERIOD, MOST_LINE_BYTES};
 use qn_model::{LineFault, Timing};
 
-/// The most bytes of a line, without its end.
-const MAX_LINE: usize = 4096;
-
-/// The five times that a timing line gives, each from 1 to 3600000 milliseconds; whether they are safe is
-/// another question. The faults, in the order in which they are tried: TooLong above 4096 bytes,
+/// The five times that a timing line gives, each from 1 to `LONGEST_PERIOD` milliseconds; whether they are
+/// safe is another question. The faults, in the order in which they are tried: TooLong above `MOST_LINE_BYTES`,
 /// UnknownWord where the first word is not `timing`, BadCount where not five words follow, BadNumber
 /// where a time is no number in range.
 pub fn read_timing(line: &[u8]) -> Result<Timing, LineFault>
@@ -28,7 +26,7 @@ pub fn read_timing(line: &[u8]) -> Result<Timing, LineFault>
 fn read_line(line: &[u8]) -> Result<Timing, LineFault>
     ensures { result ≡ timing_of line.now }
 {
-    if line.len() > MAX_LINE {
+    if line.len() > MOST_LINE_BYTES {
         return Err(LineFault::TooLong);
     }
     let (first, rest) = first_part(line, b' ');
@@ -75,77 +73,5 @@ fn read_times(
 fn read_time(word: &[u8]) -> Result<u64, LineFault>
     ensures { result ≡ time_of word.now }
 {
-    number_between(1, 3_600_000, word)
-}
-
-#[cfg(test)]
-mod tests {
-    use super::*;
-    use std::process::Abort;
-
-    fn check_faults(rt: &impl Abort, fault: LineFault, lines: &[&str]) {
-        for line in lines {
-            assert_eq!(rt; read_timing(line.as_bytes()), Err(fault), "{line}");
-        }
-    }
-
-    #[test]
-    fn first_fault_is_named(rt: HostRuntime) {
-        check_faults(
-            &rt,
-            LineFault::UnknownWord,
-            &[
-                "",
-                "----",
-                "# timing",
-                "tick 1",
-                "Timing 1 2 3 4 5",
-                "timing5000 10000 1000 2000 1000",
-                " timing 5000 10000 1000 2000 1000",
-                "timing\t5000 10000 1000 2000 1000",
-            ],
-        );
-        check_faults(
-            &rt,
-            LineFault::BadCount,
-            &[
-                "timing",
-                "timing 5000 10000 1000 2000",
-                "timing 5000 10000 1000 2000 1000 1",
-                "timing 5000 10000 1000 2000 1000 ",
-                "timing  5000 10000 1000 2000 1000",
-            ],
-        );
-        check_faults(
-            &rt,
-            LineFault::BadNumber,
-            &[
-                "timing 05000 10000 1000 2000 1000",
-                "timing 3600001 10000 1000 2000 1000",
-                "timing 5000 x 1000 2000 1000",
-                "timing 5000 18446744073709551616 1000 2000 1000",
-                "timing 5000 10000 0 2000 1000",
-                "timing 5000 1 1000 2000 0",
-                "timing 5000 10000 1000 2000 -1",
-                "timing 5000 10000 1000 2000 3600001",
-                "timing 5000 10000 1000 2000 000000000000000001000",
-                "timing 5000 10000 1000 2000 1000\r",
-            ],
-        );
-    }
-
-    #[test]
-    fn times_in_their_order(rt: HostRuntime) {
-        let times = Timing {
-            watchdog: 1764351,
-            msgwait: 3600000,
-            loop_ms: 1,
-            read_limit: 1764358,
-            feed_delay: 2,
-        };
-        assert_eq!(rt;
-            read_timing(b"timing 1764351 3600000 1 1764358 2"),
-            Ok(times)
-        );
-    }
+    number_between(1, LONGEST_PERIOD, word)
 }

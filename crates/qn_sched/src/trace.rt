@@ -1,11 +1,12 @@
 ghost use Rattle.std.specs.Prelude.{◌≡◌, ◌≤◌, ◌+◌, ◌*◌, ◌++◌, [], Some, length, map, codes, decimal};
+ghost use Rattle.qn_model.specs.Messages.{message_name};
 ghost use Rattle.qn_model.specs.Settings.{ids};
 ghost use Rattle.qn_sched.specs.EventLines.{id_word};
-ghost use Rattle.qn_sched.specs.TraceLines.{answer_text, cause_number, disk_word, halt_word, holders_text, message_word, out_word, outs_text, packet_word, touched_text, trace_line, why_text};
+ghost use Rattle.qn_sched.specs.TraceLines.{answer_text, cause_number, disk_word, halt_word, holders_text, out_word, outs_text, packet_word, touched_text, trace_line, why_text};
 
-use crate::text::{add, add_id, add_joined, add_number, add_yes_or_no, member_ids};
+use crate::text::{add_id, add_joined, member_ids};
 use arrayvec::ArrayVec;
-use qn_base::{Mask, NodeId, Rank};
+use qn_base::{Mask, NodeId, Rank, add, add_number, yes_no};
 use qn_model::{
     Answer, BootCause, DiskOp, HaltKind, Message, Nodes, Out, Outs, Packet, Report, Settings, Why,
 };
@@ -118,7 +119,7 @@ fn add_answer(into: &mut ArrayVec<u8, 4096>, answer: &Answer)
     ensures len { length into.new.items ≤ length into.old.items + 60 }
 {
     add(into, b" quorate=");
-    add_yes_or_no(into, answer.quorate);
+    add(into, yes_no(answer.quorate));
     add(into, b" ");
     add_number(into, answer.votes);
     add(into, b"/");
@@ -257,25 +258,11 @@ fn add_halt(into: &mut ArrayVec<u8, 4096>, kind: HaltKind)
 
 fn add_message(into: &mut ArrayVec<u8, 4096>, message: Message)
     requires { length into.old.items ≤ 4000 }
-    ensures text { into.new.items ≡ into.old.items ++ (codes "halt:" ++ message_word message) }
+    ensures text { into.new.items ≡ into.old.items ++ (codes "halt:" ++ message_name message) }
     ensures len { length into.new.items ≤ length into.old.items + 40 }
 {
     add(into, b"halt:");
-    add(into, message_name(message).as_bytes());
-}
-
-fn message_name(message: Message) -> &'static str
-    ensures word { result.now ≡ message_word message }
-    ensures len { length result.now ≤ 9 }
-{
-    match message {
-        Message::Empty => "empty",
-        Message::Test => "test",
-        Message::Reset => "reset",
-        Message::Off => "off",
-        Message::Exit => "exit",
-        Message::Crashdump => "crashdump",
-    }
+    add(into, message.name().as_bytes());
 }
 
 fn cause_number(cause: BootCause) -> u64

@@ -1,5 +1,5 @@
 -- How many entries and node sections there are.
-use Rattle.std.proofs.Common.{◌≡◌, ℕ, ◌+◌, ◌≤◌, ◌<◌, List, [], ◌∷◌, ◌++◌, length, Option, Some, None, arith, length-append}
+use Rattle.std.proofs.Common.{◌≤◌, List, [], ◌∷◌, length, Option, Some, None, arith, length-append}
 use Rattle.std.specs.Prelude.{option_to_list}
 use Rattle.qn_conf.specs.declared.tree.Item.{Item}
 use Rattle.qn_settings.specs.declared.section.Section.{Section}

@@ -1,5 +1,5 @@
 -- Settings without a fault are valid.
-use Rattle.std.proofs.Common.{◌≡◌, ◌≢◌, ℕ, ◌+◌, ◌-◌, ◌≤◌, ◌<◌, ◌==◌, not, cond, ◌||◌, ◌&&◌, Bool, true, false, List, [], ◌∷◌, ◌++◌, map, fold, length, Option, Some, None, Result, Ok, Err, refl, sym, ap, subst, ◌∙◌, ⊎_elim, ◌⊎◌, inl, inr, arith, if◌then◌else◌}
+use Rattle.std.proofs.Common.{◌≡◌, ℕ, ◌≤◌, ◌==◌, not, cond, ◌&&◌, Bool, true, false, List, [], ◌∷◌, ◌++◌, map, length, Option, Some, None, refl, sym, arith, if◌then◌else◌}
 use Rattle.std.specs.Prelude.{All, IsTrue, IsNone, IfSome, nat_lt, option_map, is_some, find, unwrap_or}
 use Rattle.std.specs.Option.{option_map_or}
 use Rattle.std.specs.List.{list_all, position_from}
@@ -7,18 +7,16 @@ use Rattle.std.proofs.lemmas.Bool.{false≢true}
 use Rattle.std.proofs.lemmas.List.{length-map}
 use Rattle.std.proofs.lemmas.List.Elements.{All-cons}
 use borrow.Author.Tests.{ltb-false, eqb-false, eqb-true}
-use Rattle.qn_base.specs.declared.ids.NodeId.{NodeId}
 use Rattle.qn_model.specs.declared.nodelist.NodeEntry.{NodeEntry}
 use Rattle.qn_model.specs.declared.configuration.Device.{Device}
-use Rattle.qn_model.specs.declared.configuration.Settings.{Settings}
 use Rattle.qn_model.specs.Settings.{all_votes, IsPeriod, IsValid}
 use Rattle.qn_settings.specs.declared.key.Key.TheVariants as keys
 use Rattle.qn_settings.specs.declared.entries.Entry.{Entry}
 use Rattle.qn_settings.specs.declared.faults.SettingsFault.{SettingsFault}
 use Rattle.qn_settings.specs.declared.faults.SettingsFault.TheVariants.{ExpectedZero, LmsVotes, NoId, NoNodes, NoVotes, RepeatedId, TooManyNodes, TwoNodeCount, TwoNodeDevice, TwoNodeVotes}
 use Rattle.qn_settings.specs.Answer.{device_of, fault_in, filled, has_one_vote, value_faults, vote_faults}
-use Rattle.qn_settings.specs.Nodes.{lacks_id, node_faults, node_of, nodes_of, put_by_id, repeated_in, sections}
-use Rattle.qn_settings.specs.Values.{bad_number_in, first_some, flag, has_device, number, or_else}
+use Rattle.qn_settings.specs.Nodes.{lacks_id, node_faults, node_of, nodes_of, repeated_in, sections}
+use Rattle.qn_settings.specs.Values.{bad_number_in, first_some, flag, has_device, number}
 use Rattle.qn_settings.proofs.NodeLemmas.{All-fold, Ascends-fold, length-fold, strictly}
 use Rattle.qn_settings.proofs.ValueLemmas.{default-range, good_entries, ids_fit, ids_from_one, votes_fit, or_none}
 

@@ -1,20 +1,18 @@
 -- The numbers that stand in a text without a bad number.
-use Rattle.std.proofs.Common.{◌≡◌, ◌≢◌, ℕ, ◌+◌, ◌≤◌, ◌<◌, ◌==◌, not, cond, ◌||◌, ◌&&◌, Bool, true, false, List, [], ◌∷◌, map, length, Option, Some, None, refl, sym, ap, subst, ◌∙◌, ⊎_elim, ◌⊎◌, inl, inr, arith, if◌then◌else◌}
-use Rattle.std.specs.Prelude.{All, nat_lt, option_and_then, option_map, is_some, is_none, unwrap_or}
+use Rattle.std.proofs.Common.{◌≡◌, ℕ, ◌+◌, ◌≤◌, cond, ◌||◌, ◌&&◌, Bool, true, false, List, [], ◌∷◌, map, Option, Some, None, refl, sym, ap, subst, ◌∙◌, ⊎_elim, ◌⊎◌, inl, inr, arith, if◌then◌else◌}
+use Rattle.std.specs.Prelude.{All, nat_lt, option_and_then, is_none, unwrap_or}
 use Rattle.std.specs.List.{position_from}
 use Rattle.std.proofs.lemmas.List.Elements.{All-cons}
 use borrow.Author.Tests.{ltb-false}
 use Rattle.qn_base.specs.Decimal.{number_of}
-use Rattle.qn_model.specs.declared.nodelist.NodeEntry.{NodeEntry}
 use Rattle.qn_settings.specs.declared.key.Key.{Key}
 use Rattle.qn_settings.specs.declared.key.Key.TheVariants.{NodeId, QuorumVotes}
 use Rattle.qn_settings.specs.declared.entries.Entry.{Entry}
 use Rattle.qn_settings.specs.declared.entries.Entry.TheVariants.{NodeBegins, Written}
-use Rattle.qn_settings.specs.declared.faults.SettingsFault.{SettingsFault}
-use Rattle.qn_settings.specs.declared.faults.SettingsFault.TheVariants.{BadNumber, NoId}
-use Rattle.qn_settings.specs.Keys.{is_key, number_in, range_of, within_range}
+use Rattle.qn_settings.specs.declared.faults.SettingsFault.TheVariants.{BadNumber}
+use Rattle.qn_settings.specs.Keys.{number_in, range_of, within_range}
 use Rattle.qn_settings.specs.Nodes.{lacks_id, node_of, own_entries, sections}
-use Rattle.qn_settings.specs.Values.{bad_number_in, first_some, is_of_device, last_value, number, or_else, value_in}
+use Rattle.qn_settings.specs.Values.{bad_number_in, first_some, last_value, number, or_else, value_in}
 
 in_range_by :
     (below above : Bool) (range : ℕ × ℕ) (m n : ℕ)

@@ -1,5 +1,5 @@
 -- What a tree says of the keys that are read: each pair of them, and where each node section begins, in text order.
-use Rattle.std.specs.Prelude.{ℕ, Bool, true, false, if◌then◌else◌, List, [], ◌∷◌, ◌++◌, Option, Some, None, drop, option_map, option_to_list}
+use Rattle.std.specs.Prelude.{List, [], ◌∷◌, ◌++◌, Option, Some, None, drop, option_map, option_to_list}
 use Rattle.qn_conf.specs.declared.tree.Item.{Item}
 use Rattle.qn_conf.specs.declared.tree.Item.TheVariants.{Enter, Exit, Pair}
 use Rattle.qn_settings.specs.declared.section.Section.{Section}

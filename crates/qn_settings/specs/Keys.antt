@@ -1,7 +1,8 @@
 -- The keys of corosync.conf(5) and votequorum(5) that are read: their names, and the ranges of their numbers; the ranges
 -- are this project's profile.
-use Rattle.std.specs.Prelude.{ℕ, ◌==◌, ◌||◌, Bool, true, false, if◌then◌else◌, List, Option, Some, None, nat_lt, codes, option_and_then}
+use Rattle.std.specs.Prelude.{ℕ, ◌==◌, ◌||◌, Bool, if◌then◌else◌, List, Option, Some, None, nat_lt, codes, option_and_then}
 use Rattle.qn_base.specs.Decimal.{number_of}
+use Rattle.qn_base.specs.declared.limits.TheConstants.{LONGEST_PERIOD}
 use Rattle.qn_settings.specs.declared.key.Key.{Key}
 use Rattle.qn_settings.specs.declared.key.Key.TheVariants.{NodeId, QuorumVotes, Provider, ExpectedVotes, TwoNode, WaitForAll, LastManStanding, LastManStandingWindow, AutoTieBreaker, AllowDownscale, Model, Votes, Timeout}
 
@@ -30,12 +31,12 @@ range_of ExpectedVotes = Some (0, 1000000)
 range_of TwoNode = Some (0, 1)
 range_of WaitForAll = Some (0, 1)
 range_of LastManStanding = Some (0, 1)
-range_of LastManStandingWindow = Some (1, 3600000)
+range_of LastManStandingWindow = Some (1, LONGEST_PERIOD)
 range_of AutoTieBreaker = None
 range_of AllowDownscale = None
 range_of Model = None
 range_of Votes = Some (0, 65535)
-range_of Timeout = Some (1, 3600000)
+range_of Timeout = Some (1, LONGEST_PERIOD)
 
 -- the number, where it is in the range
 abbrev pub within_range : ℕ × ℕ → ℕ → Option ℕ

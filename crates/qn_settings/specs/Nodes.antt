@@ -1,5 +1,5 @@
 -- The nodes of the settings: corosync.conf(5), `nodelist`, `node`; the limit of 32 is this project's profile.
-use Rattle.std.specs.Prelude.{ℕ, ◌+◌, ◌==◌, not, Bool, true, false, if◌then◌else◌, List, [], ◌∷◌, ◌++◌, Option, Some, None, length, take, drop, map, find, fold, insert, is_none, nat_lt, option_map, position, unwrap_or}
+use Rattle.std.specs.Prelude.{◌==◌, Bool, false, if◌then◌else◌, List, [], ◌∷◌, Option, Some, None, length, map, fold, insert, is_none, nat_lt, option_map, position, unwrap_or}
 use Rattle.std.specs.List.{position_from}
 use Rattle.qn_base.specs.declared.ids.NodeId.{NodeId}
 use Rattle.qn_model.specs.declared.nodelist.NodeEntry.{NodeEntry}
@@ -9,7 +9,7 @@ use Rattle.qn_settings.specs.declared.entries.Entry.{Entry}
 use Rattle.qn_settings.specs.declared.entries.Entry.TheVariants.{NodeBegins, Written}
 use Rattle.qn_settings.specs.declared.faults.SettingsFault.{SettingsFault}
 use Rattle.qn_settings.specs.declared.faults.SettingsFault.TheVariants.{NoId, NoNodes, NoVotes, RepeatedId, TooManyNodes}
-use Rattle.qn_settings.specs.Values.{last_value, number, first_some}
+use Rattle.qn_settings.specs.Values.{last_value, number}
 
 -- the entries of one node section: those before the next node section begins
 abbrev pub own_entries : List Entry → List Entry

@@ -1,5 +1,5 @@
 -- The sections that corosync.conf(5) puts the keys in.
-use Rattle.std.specs.Prelude.{ℕ, Bool, true, false, if◌then◌else◌, List, [], ◌∷◌, Option, Some, None, codes, find}
+use Rattle.std.specs.Prelude.{ℕ, if◌then◌else◌, List, [], ◌∷◌, Option, codes, find}
 use Rattle.std.specs.Str.{bytes_eq}
 use Rattle.qn_settings.specs.declared.key.Key.{Key}
 use Rattle.qn_settings.specs.declared.key.Key.TheVariants.{NodeId, QuorumVotes, Provider, ExpectedVotes, TwoNode, WaitForAll, LastManStanding, LastManStandingWindow, AutoTieBreaker, AllowDownscale, Model, Votes, Timeout}

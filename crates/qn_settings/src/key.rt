@@ -1,7 +1,7 @@
 ghost use Rattle.std.specs.Prelude.{◌≡◌, ◌≤◌, IfSome, is_some};
 ghost use Rattle.qn_settings.specs.Keys.{key_name, number_in, range_of};
 
-use qn_base::read_decimal;
+use qn_base::{LONGEST_PERIOD, read_decimal};
 use std::fmt;
 
 /// The keys that are read, in the order of their sections `nodelist.node`, `quorum` and `quorum.device`
@@ -54,7 +54,7 @@ impl Key {
             Key::QuorumVotes | Key::Votes => Some((0, 65_535)),
             Key::ExpectedVotes => Some((0, 1_000_000)),
             Key::TwoNode | Key::WaitForAll | Key::LastManStanding => Some((0, 1)),
-            Key::LastManStandingWindow | Key::Timeout => Some((1, 3_600_000)),
+            Key::LastManStandingWindow | Key::Timeout => Some((1, LONGEST_PERIOD)),
             Key::Provider | Key::AutoTieBreaker | Key::AllowDownscale | Key::Model => None,
         }
     }

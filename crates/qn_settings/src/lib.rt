@@ -1,19 +1,19 @@
 // The settings that a tree of corosync.conf gives (corosync.conf(5), votequorum(5)).
 //
 // Promises: `settings` answers the settings of the tree exactly where no fault of the list applies, and they are
-// valid; else it answers the first fault in a fixed order. It takes no memory.
+// valid (`law_valid_settings`); else it answers the first fault in a fixed order. It takes no memory.
 #![tactic(auto)]
 
 mod entries;
 mod faults;
 mod key;
+mod laws;
 mod nodes;
 mod reading;
 mod section;
-#[cfg(test)]
-mod tests;
 mod values;
 
 pub use faults::SettingsFault;
 pub use key::Key;
+pub use laws::law_valid_settings;
 pub use reading::settings;

@@ -6,7 +6,6 @@
 #![tactic(auto)]
 
 mod as_json;
-mod line;
 mod node_state;
 mod status;
 mod text;

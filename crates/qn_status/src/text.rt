@@ -2,14 +2,12 @@ ghost use Rattle.std.specs.Prelude.{◌≡◌, ◌≤◌, ◌+◌, ◌++◌, ℕ
 ghost use Rattle.std.specs.Io.KnownBytes.{append_known};
 ghost use Rattle.qn_io.specs.Outside.{HasRisen};
 ghost use Rattle.qn_io.specs.Writes.{AppendsFront};
-ghost use Rattle.qn_base.specs.Text.{yes_no};
 ghost use Rattle.qn_sched.specs.TraceLines.{why_text};
 ghost use Rattle.qn_status.specs.StatusText.{answer_text, phase_name, state_line};
 
-use crate::line::Line;
 use crate::node_state::NodeState;
 use arrayvec::ArrayVec;
-use qn_base::Failed;
+use qn_base::{Failed, ShortText, yes_no};
 use qn_io::{Sink, put_all};
 use qn_model::{Answer, Phase, Why};
 use qn_sched::write_why;
@@ -30,10 +28,10 @@ pub(crate) fn write_lines<O: Sink>(nodes: &[NodeState], out: &mut O) -> Result<(
 
 /// The line of a node.
 #[tactic(auto, unfolding(crate::specs::StatusText::state_line))]
-fn state_line(node: NodeState) -> Line
+fn state_line(node: NodeState) -> ShortText
     ensures { result ≡ state_line node }
 {
-    let mut line = Line::new();
+    let mut line = ShortText::new();
     line.add(b"node ");
     line.add_number(u64::from(node.id.0));
     line.add(b" ");
@@ -47,7 +45,7 @@ fn state_line(node: NodeState) -> Line
 
 /// Adds the count of a node.
 #[tactic(auto, unfolding(crate::specs::StatusText::answer_text))]
-fn add_answer(line: &mut Line, answer: Answer)
+fn add_answer(line: &mut ShortText, answer: Answer)
     requires { length line.old ≤ 64 }
     ensures text { line.new ≡ line.old ++ answer_text answer }
     ensures len { length line.new ≤ length line.old + 100 }
@@ -65,7 +63,7 @@ fn add_answer(line: &mut Line, answer: Answer)
 }
 
 /// Adds the condition that a start of a node lacks, and ends the line.
-fn add_why(line: &mut Line, why: Why)
+fn add_why(line: &mut ShortText, why: Why)
     requires { length line.old ≤ 180 }
     ensures { line.new ≡ line.old ++ (codes " why=" ++ why_text why ++ codes "\n") }
 {
@@ -88,11 +86,4 @@ pub(crate) fn phase_name(phase: Phase) -> &'static str
         Phase::Dying => "dying",
         Phase::Gone => "off",
     }
-}
-
-fn yes_no(yes: bool) -> &'static [u8]
-    ensures text { result.now ≡ yes_no yes }
-    ensures len { length result.now ≤ 3 }
-{
-    if yes { b"yes" } else { b"no" }
 }

@@ -1,0 +1,97 @@
+use crate::counts::check_count;
+use crate::histories::History;
+use crate::rows::row_of;
+use crate::wrong::Wrong;
+use anyhow::Result;
+use qn_history::{rank_word, read_rank, read_settings, settings_words};
+use qn_model::Settings;
+use std::alloc::Global;
+use std::io::{BufRead, Lines};
+
+/// How many rows there were of each kind, and from how many of them a form differs.
+#[derive(Clone, Copy, Default)]
+struct Totals {
+    counts: u64,
+    histories: u64,
+    entries: u64,
+    looks: u64,
+    differ: u64,
+}
+
+/// What was read so far.
+#[derive(Default, Drop)]
+struct Reader {
+    totals: Totals,
+    /// The settings of the history that begins.
+    settings: Option<Settings>,
+    history: Option<History>,
+}
+
+/// Writes each row from which a form differs, and then how many rows there were.
+pub fn check_all<R: BufRead + Drop>(
+    rt: &(impl Print + AllocGlobal),
+    lines: Lines<R, Global>,
+) -> Result<()> {
+    let mut reader = Reader::default();
+    for line in lines {
+        let line = line?;
+        let text = line.as_str();
+        if let Err(wrong) = reader.check(rt.alloc(), text) {
+            reader.totals.differ = reader.totals.differ.saturating_add(1);
+            println!(rt; "{wrong}: {text}")?;
+        }
+    }
+    reader.totals.write(rt)
+}
+
+impl Totals {
+    fn write(self, rt: &impl Print) -> Result<()> {
+        let Totals {
+            counts,
+            histories,
+            entries,
+            looks,
+            differ,
+        } = self;
+        println!(rt; "counts {counts}")?;
+        println!(rt; "histories {histories} entries {entries} looks {looks}")?;
+        println!(rt; "differ {differ}")?;
+        Ok(())
+    }
+}
+
+impl Reader {
+    /// Checks a line: a count, the settings that begin a history, the rank of its node, or a row of it.
+    fn check(&mut self, alloc: Global, line: &str) -> Result<(), Wrong> {
+        if let Some(count) = line.strip_prefix("count\t") {
+            self.totals.counts = self.totals.counts.saturating_add(1);
+            return check_count(alloc, count);
+        }
+        if let Some(words) = settings_words(line) {
+            self.history = None;
+            self.settings = Some(read_settings(words)?);
+            return Ok(());
+        }
+        if let Some(word) = rank_word(line) {
+            let settings = self.settings.take().ok_or(Wrong::Form)?;
+            self.totals.histories = self.totals.histories.saturating_add(1);
+            self.history = Some(History::new(alloc, settings, read_rank(word)?)?);
+            return Ok(());
+        }
+        self.check_row(alloc, line)
+    }
+
+    /// Checks a row of a history.
+    fn check_row(&mut self, alloc: Global, line: &str) -> Result<(), Wrong> {
+        let row = row_of(alloc, line)?;
+        if row.what.is_some() {
+            self.totals.entries = self.totals.entries.saturating_add(1);
+        } else {
+            self.totals.looks = self.totals.looks.saturating_add(1);
+        }
+        match &mut self.history {
+            Some(history) => history.check(&row),
+            None => Err(Wrong::Form),
+        }
+    }
+}
