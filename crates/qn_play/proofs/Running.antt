@@ -121,7 +121,7 @@ module _ {play : Play} {standing : Taken → Type 0} {head count : ℕ} {left be
 
   all_written : {wants : Wants} {standing_new : Taken → Type 0} {taken : List ℕ} {at_end failed write_failed : Type 0} {new : Option (List ℕ)} (end : ReplayEnd) → standing_new run.after.earlier
       → EndsWith (rest_of play head run.after.earlier) run.after.earlier (WantsHere play wants head run.after.earlier) taken at_end failed end → new ≡ append_known now waiting
-      → EndsAs (rest_of play head []) standing_new (WantsAtLine play wants head) (run.goes.taken ++ taken) at_end failed old new write_failed end
+      → EndsAs (rest_of play head []) standing_new (WantsAtLine play wants standing_new head) (run.goes.taken ++ taken) at_end failed old new write_failed end
   all_written end stands (reading.Told tells needed) whole =
       let last = ended run.after.earlier end in
       WroteAll (traced run.text last) (tells_after run.goes (λ p. p ≡ traced run.text last) (tells_traced run.text last tells)) (needed_after run.goes (needed_traced run.text needed)) refl
@@ -135,6 +135,7 @@ module _ {play : Play} {standing : Taken → Type 0} {head count : ℕ} {left be
       memory (written_all run.gives whole)
       (record {
         earlier = run.after.earlier;
+        stands = stands;
         front = run.goes.taken;
         line = here.line;
         text = here.text;
@@ -148,7 +149,7 @@ module _ {play : Play} {standing : Taken → Type 0} {head count : ℕ} {left be
   pub ends : {wants : Wants} {standing_new : Taken → Type 0} {left_new new : Option (List ℕ)} {failed write_failed : Type 0} (pieces : List ℕ) (end : ReplayEnd) → standing_new run.after.earlier
       → Stops (rest_of play head run.after.earlier) run.after.earlier (WantsHere play wants head run.after.earlier) between (prepend_known pieces left_new) ((pieces ≡ []) × IsAtEnd left_new) ((pieces ≡ []) × failed) end
       → new ≡ append_known now waiting
-      → Runs (rest_of play head []) standing_new (WantsAtLine play wants head) left left_new failed old new write_failed end
+      → Runs (rest_of play head []) standing_new (WantsAtLine play wants standing_new head) left left_new failed old new write_failed end
   ends {left_new} pieces end stands stop whole = record {
     taken = run.goes.taken ++ stop.taken;
     waiting = pieces;
@@ -210,8 +211,8 @@ pub finishes : {play : Play} {wants : Wants} {standing standing_new : Taken → 
     (run : IsRunning play standing head count left between old now waiting) (pieces : List ℕ) (end result : ReplayEnd) → standing_new run.after.earlier → (write_failed_before → write_failed)
     → Stops (rest_of play head run.after.earlier) run.after.earlier (WantsHere play wants head run.after.earlier) between (prepend_known pieces left_new) ((pieces ≡ []) × IsAtEnd left_new) ((pieces ≡ []) × failed) end
     → Finishes end waiting now new write_failed_before result
-    → Runs (rest_of play head []) standing_new (WantsAtLine play wants head) left left_new failed old new write_failed result
+    → Runs (rest_of play head []) standing_new (WantsAtLine play wants standing_new head) left left_new failed old new write_failed result
 finishes {play} {wants} {standing} {standing_new} {head} {count} {left} {between} {old} {now} {left_new} {new} {waiting} {failed} {write_failed} run pieces end result stands wider stop (Written is whole) =
-    subst (λ (e : ReplayEnd). Runs (rest_of play head []) standing_new (WantsAtLine play wants head) left left_new failed old new write_failed e) (sym is) (ends run pieces end stands stop whole)
+    subst (λ (e : ReplayEnd). Runs (rest_of play head []) standing_new (WantsAtLine play wants standing_new head) left left_new failed old new write_failed e) (sym is) (ends run pieces end stands stop whole)
 finishes {play} {wants} {standing} {standing_new} {head} {count} {left} {between} {old} {now} {left_new} {new} {waiting} {failed} {write_failed} run pieces end result stands wider stop (Cut is fails prefix) =
-    subst (λ (e : ReplayEnd). Runs (rest_of play head []) standing_new (WantsAtLine play wants head) left left_new failed old new write_failed e) (sym is) (ends_unwritten run pieces end stop (wider fails) prefix)
+    subst (λ (e : ReplayEnd). Runs (rest_of play head []) standing_new (WantsAtLine play wants standing_new head) left left_new failed old new write_failed e) (sym is) (ends_unwritten run pieces end stop (wider fails) prefix)

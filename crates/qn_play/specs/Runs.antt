@@ -10,9 +10,11 @@ use Rattle.qn_play.specs.Lines.{Play, Taken, Wants, line_of, rest_of}
 use Rattle.qn_play.specs.Played.{Played}
 use Rattle.qn_play.specs.Reading.{IsNeeded, Rest}
 
--- memory was wanted for the last line that was taken, which is good; the trace is that of the lines before it
-pub record WantsAtLine (play : Play) (wants : Wants) (head : ℕ) (taken trace : List ℕ) : Type 0 where
+-- memory was wanted for the last line that was taken, which is good; the trace is that of the lines before it, after which the
+-- world stands
+pub record WantsAtLine (play : Play) (wants : Wants) (standing : Taken → Type 0) (head : ℕ) (taken trace : List ℕ) : Type 0 where
   pub earlier : Taken
+  pub stands : standing earlier
   pub front : List ℕ
   pub line : List ℕ
   pub text : List ℕ

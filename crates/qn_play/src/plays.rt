@@ -33,7 +33,7 @@ pub trait Plays {
         ensures stands { OnOk result ((earlier : List (List ℕ)) → stands self.old earlier → stands self.new (line.now ∷ earlier)) }
         ensures end { IfErr result (λ end. (earlier : List (List ℕ)) → stands self.old earlier
             → RefusesAt (play self.old) (wants self.old) earlier line.now end) }
-        ensures kept { OnErr result (self.new ≡ self.old) }
+        ensures kept { OnErr result ((earlier : List (List ℕ)) → stands self.old earlier → stands self.new earlier) }
         ensures same_play { play self.new ≡ play self.old }
         ensures same_wants { wants self.new ≡ wants self.old };
 }

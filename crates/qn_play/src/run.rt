@@ -29,7 +29,7 @@ pub fn play<W: Plays, I: Source, O: Sink>(
     requires numbered { head < 2 ^ 63 }
     requires nothing_waits { output ≡ [] }
     // The trace and the end are the defined ones of the bytes that were taken, or a prefix of the trace was written.
-    ensures runs { Runs (rest_of (W.play world.old) head []) (W.stands world.new) (WantsAtLine (W.play world.old) (W.wants world.old) head)
+    ensures runs { Runs (rest_of (W.play world.old) head []) (W.stands world.new) (WantsAtLine (W.play world.old) (W.wants world.old) (W.stands world.new) head)
         (prepend_known pieces (I.left input.old)) (I.left input.new) (HasRisen (I.faults input.old) (I.faults input.new))
         (O.written out.old) (O.written out.new) (HasRisen (O.faults out.old) (O.faults out.new)) result }
 
@@ -97,7 +97,7 @@ impl Place {
         ensures stands { OnOk result ((earlier : Taken) → W.stands world.old earlier → W.stands world.new (line.now ∷ earlier)) }
         ensures end { IfErr result (λ end. (earlier : Taken) → W.stands world.old earlier → length earlier ≡ self.old.events
             → RefusesAt (judged (W.play world.old) self.old.head read) (W.wants world.old) earlier line.now end) }
-        ensures kept { OnErr result (world.new ≡ world.old) }
+        ensures kept { OnErr result ((earlier : Taken) → W.stands world.old earlier → W.stands world.new earlier) }
         ensures counted { OnOk result (self.new.events ≡ self.old.events + 1) }
         ensures few { OnOk result (self.old.events < MOST_EVENTS) }
         ensures head { self.new.head ≡ self.old.head }
@@ -127,7 +127,7 @@ impl Place {
         ensures stands { OnOk result ((earlier : Taken) → W.stands world.old earlier → W.stands world.new (line.now ∷ earlier)) }
         ensures end { IfErr result (λ end. (earlier : Taken) → W.stands world.old earlier → length earlier ≡ self.old.events
             → RefusesAt (line_of (W.play world.old) self.old.head) (W.wants world.old) earlier line.now end) }
-        ensures kept { OnErr result (world.new ≡ world.old) }
+        ensures kept { OnErr result ((earlier : Taken) → W.stands world.old earlier → W.stands world.new earlier) }
         ensures counted { OnOk result (self.new.events ≡ self.old.events + 1) }
         ensures few { OnOk result (self.old.events < MOST_EVENTS) }
         ensures head { self.new.head ≡ self.old.head }

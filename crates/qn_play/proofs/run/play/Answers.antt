@@ -36,7 +36,7 @@ returns-in-Err-clause-runs g c =
     let sink = c.lines.invariant.sink in
     let wrote = c.next.ensures.sink_faults in
     finishes (writes_on run c.in-Ok.ensures.given) pieces c.in-Err.end c.finish.result
-    (subst (λ w. g.W.Plays.stands w run.after.earlier) (sym c.in-Err.ensures.kept) run.after.stands)
+    (c.in-Err.ensures.kept run.after.earlier run.after.stands)
     (λ rose. risen_within _ _ _ _ (omega (arith, sink, wrote)) c.finish.ensures.never_falls (omega arith) rose)
     (stops_wider (λ fails. (fails.0, risen_within _ _ _ _ c.lines.invariant.source c.next.ensures.source_faults (omega arith) fails.1))
     (stops_here run c.lines.invariant.same_play c.lines.invariant.head c.in-Ok.read c.line.result.now c.line.ensures.value c.in-Ok.ensures.unended c.line.ensures.fits
