@@ -176,35 +176,32 @@ module _ {play : Play} {standing : Taken → Type 0} {head count : ℕ} {left be
         refl fails (written_prefix run.gives prefix);
   }
 
--- What was read of the next line, and what came of it. `play_now` and `head_now` are other names for the same.
-module _ {play play_now : Play} {standing : Taken → Type 0} {head head_now count : ℕ} {left between old now : Option (List ℕ)} {waiting : List ℕ}
-    (run : IsRunning play standing head count left between old now waiting) (same_play : play_now ≡ play) (same_head : head_now ≡ head)
+-- What was read of the next line, and what came of it. `head_now` is another name for the same number.
+module _ {play : Play} {standing : Taken → Type 0} {head head_now count : ℕ} {left between old now : Option (List ℕ)} {waiting : List ℕ}
+    (run : IsRunning play standing head count left between old now waiting) (same_head : head_now ≡ head)
     (what : LineRead) {line : List ℕ} (given : List ℕ) (same_line : given ≡ line) (inside : IsPartOfLine line) (short : length given ≤ 4096) where
   part_given : IsPartOfLine given
   part_given = subst IsPartOfLine (sym same_line) inside
 
   -- the world took it
   pub goes_at : {after : Option (List ℕ)} (text : List ℕ) → ReadsLine what line between after
-      → ((earlier : Taken) → standing earlier → length earlier ≡ count → judged play_now head_now what earlier given ≡ Ok text)
+      → ((earlier : Taken) → standing earlier → length earlier ≡ count → judged play head_now what earlier given ≡ Ok text)
       → GoesOn (rest_of play head run.after.earlier) (λ ending more. traced text (rest_of play head (given ∷ run.after.earlier) ending more)) between after
   goes_at {after} text reads is =
       read_goes play head run.after.earlier what given text part_given short (subst (λ (xs : List ℕ). ReadsLine what xs between after) (sym same_line) reads)
       (ap (λ (h : ℕ). judged play h what run.after.earlier given) (sym same_head)
-      ∙ ap (λ (p : Play). judged p head_now what run.after.earlier given) (sym same_play)
       ∙ is run.after.earlier run.after.stands run.after.counted)
 
   -- the run ends there
-  pub stops_here : {wants wants_now : Wants} {failed : Type 0} (pieces : List ℕ) (left_new : Option (List ℕ)) (end : ReplayEnd) → wants_now ≡ wants
+  pub stops_here : {wants : Wants} {failed : Type 0} (pieces : List ℕ) (left_new : Option (List ℕ)) (end : ReplayEnd)
       → ReadsLine what line between (prepend_known pieces left_new) → IsDrainedLine what pieces → OnFailedLine what failed
-      → ((earlier : Taken) → standing earlier → length earlier ≡ count → RefusesAt (judged play_now head_now what) wants_now earlier given end)
+      → ((earlier : Taken) → standing earlier → length earlier ≡ count → RefusesAt (judged play head_now what) wants earlier given end)
       → Stops (rest_of play head run.after.earlier) run.after.earlier (WantsHere play wants head run.after.earlier) between (prepend_known pieces left_new) ((pieces ≡ []) × IsAtEnd left_new) ((pieces ≡ []) × failed) end
-  stops_here {wants} {wants_now} pieces left_new end same_wants reads drained cause refuses =
+  stops_here {wants} pieces left_new end reads drained cause refuses =
       read_stops play wants head run.after.earlier what given pieces left_new between end part_given short
       (subst (λ (xs : List ℕ). ReadsLine what xs between (prepend_known pieces left_new)) (sym same_line) reads) drained cause
       (subst (λ (h : ℕ). RefusesAt (judged play h what) wants run.after.earlier given end) same_head
-      (subst (λ (p : Play). RefusesAt (judged p head_now what) wants run.after.earlier given end) same_play
-      (subst (λ (w : Wants). RefusesAt (judged play_now head_now what) w run.after.earlier given end) same_wants
-      (refuses run.after.earlier run.after.stands run.after.counted))))
+      (refuses run.after.earlier run.after.stands run.after.counted))
 
 -- the run ended, and what waited was written before, or a prefix of it
 pub finishes : {play : Play} {wants : Wants} {standing standing_new : Taken → Type 0} {head count : ℕ} {left between old now left_new new : Option (List ℕ)} {waiting : List ℕ} {failed write_failed write_failed_before : Type 0}

@@ -4,10 +4,10 @@ use qn_sched::ReplayEnd;
 
 /// A world that takes the lines of a schedule after its head, one after the other.
 ///
-/// `play` is what a line comes to after the earlier ones, of which the newest stands first: its trace text, or
-/// how the run ends there. `wants` is whether a good line adds something that takes memory. `stands` says that
-/// the world is the one after these lines. No line changes what `play` and `wants` are. The bounds of every
-/// input, and its end, are those of `play` and not the world's.
+/// `play` is what a line comes to after the earlier ones, of which the newest stands first, in a run that a world
+/// began: its trace text, or how the run ends there. `wants` is whether a good line adds something that takes
+/// memory. `stands` says that the second world is what the first has become after these lines. The bounds of
+/// every input, and its end, are those of `play` in `run` and not the world's.
 pub trait Plays {
     ghost use Rattle.std.specs.Prelude.{◌≡◌, ℕ, ◌<◌, List, ◌∷◌, Bool, Result, length, OnOk, OnErr, IfErr};
     ghost use Rattle.qn_base.specs.declared.limits.TheConstants.{MOST_EVENTS};
@@ -18,7 +18,7 @@ pub trait Plays {
 
     ghost wants: { Self → List (List ℕ) → List ℕ → Bool };
 
-    ghost stands: { Self → List (List ℕ) → Type 0 };
+    ghost stands: { Self → Self → List (List ℕ) → Type 0 };
 
     /// Takes a whole line, without its end, and puts its trace text, with its end, in place of `text`.
     /// Otherwise nothing happens, and the run ends; what `text` is then is free.
@@ -27,13 +27,13 @@ pub trait Plays {
         line: &[u8],
         text: &mut ArrayVec<u8, MOST_LINE_BYTES>,
     ) -> Result<(), ReplayEnd>
-        requires { (earlier : List (List ℕ)) × stands self.old earlier × (length earlier < MOST_EVENTS) }
-        ensures text { OnOk result ((earlier : List (List ℕ)) → stands self.old earlier
-            → play self.old earlier line.now ≡ Ok text.new.items) }
-        ensures stands { OnOk result ((earlier : List (List ℕ)) → stands self.old earlier → stands self.new (line.now ∷ earlier)) }
-        ensures end { IfErr result (λ end. (earlier : List (List ℕ)) → stands self.old earlier
-            → RefusesAt (play self.old) (wants self.old) earlier line.now end) }
-        ensures kept { OnErr result ((earlier : List (List ℕ)) → stands self.old earlier → stands self.new earlier) }
-        ensures same_play { play self.new ≡ play self.old }
-        ensures same_wants { wants self.new ≡ wants self.old };
+        requires { (start : Self) × ((earlier : List (List ℕ)) × stands start self.old earlier × (length earlier < MOST_EVENTS)) }
+        ensures text { OnOk result ((start : Self) (earlier : List (List ℕ)) → stands start self.old earlier
+            → play start earlier line.now ≡ Ok text.new.items) }
+        ensures stands { OnOk result ((start : Self) (earlier : List (List ℕ)) → stands start self.old earlier
+            → stands start self.new (line.now ∷ earlier)) }
+        ensures end { IfErr result (λ end. (start : Self) (earlier : List (List ℕ)) → stands start self.old earlier
+            → RefusesAt (play start) (wants start) earlier line.now end) }
+        ensures kept { OnErr result ((start : Self) (earlier : List (List ℕ)) → stands start self.old earlier
+            → stands start self.new earlier) };
 }

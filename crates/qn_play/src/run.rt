@@ -25,11 +25,12 @@ pub fn play<W: Plays, I: Source, O: Sink>(
     input: &mut I,
     out: &mut O,
 ) -> ReplayEnd
-    requires stands { W.stands world.old [] }
+    requires stands { W.stands world.old world.old [] }
     requires numbered { head < 2 ^ 63 }
     requires nothing_waits { output ≡ [] }
     // The trace and the end are the defined ones of the bytes that were taken, or a prefix of the trace was written.
-    ensures runs { Runs (rest_of (W.play world.old) head []) (W.stands world.new) (WantsAtLine (W.play world.old) (W.wants world.old) (W.stands world.new) head)
+    ensures runs { Runs (rest_of (W.play world.old) head []) (W.stands world.old world.new)
+        (WantsAtLine (W.play world.old) (W.wants world.old) (W.stands world.old world.new) head)
         (prepend_known pieces (I.left input.old)) (I.left input.new) (HasRisen (I.faults input.old) (I.faults input.new))
         (O.written out.old) (O.written out.new) (HasRisen (O.faults out.old) (O.faults out.new)) result }
 
@@ -89,20 +90,19 @@ impl Place {
         world: &mut W,
         text: &mut ArrayVec<u8, MOST_LINE_BYTES>,
     ) -> Result<(), ReplayEnd>
-        requires stands { StandsAfter (W.stands world.old) self.old.events }
+        requires stands { (start : W) × StandsAfter (W.stands start world.old) self.old.events }
         requires numbered { self.old.head < 2 ^ 63 }
         requires short { length line.now ≤ MOST_LINE_BYTES }
-        ensures text { OnOk result ((earlier : Taken) → W.stands world.old earlier → length earlier ≡ self.old.events
-            → judged (W.play world.old) self.old.head read earlier line.now ≡ Ok text.new.items) }
-        ensures stands { OnOk result ((earlier : Taken) → W.stands world.old earlier → W.stands world.new (line.now ∷ earlier)) }
-        ensures end { IfErr result (λ end. (earlier : Taken) → W.stands world.old earlier → length earlier ≡ self.old.events
-            → RefusesAt (judged (W.play world.old) self.old.head read) (W.wants world.old) earlier line.now end) }
-        ensures kept { OnErr result ((earlier : Taken) → W.stands world.old earlier → W.stands world.new earlier) }
+        ensures text { OnOk result ((start : W) (earlier : Taken) → W.stands start world.old earlier
+            → length earlier ≡ self.old.events → judged (W.play start) self.old.head read earlier line.now ≡ Ok text.new.items) }
+        ensures stands { OnOk result ((start : W) (earlier : Taken) → W.stands start world.old earlier
+            → W.stands start world.new (line.now ∷ earlier)) }
+        ensures end { IfErr result (λ end. (start : W) (earlier : Taken) → W.stands start world.old earlier
+            → length earlier ≡ self.old.events → RefusesAt (judged (W.play start) self.old.head read) (W.wants start) earlier line.now end) }
+        ensures kept { OnErr result ((start : W) (earlier : Taken) → W.stands start world.old earlier → W.stands start world.new earlier) }
         ensures counted { OnOk result (self.new.events ≡ self.old.events + 1) }
         ensures few { OnOk result (self.old.events < MOST_EVENTS) }
         ensures head { self.new.head ≡ self.old.head }
-        ensures same_play { W.play world.new ≡ W.play world.old }
-        ensures same_wants { W.wants world.new ≡ W.wants world.old }
     {
         match read {
             LineRead::Line => self.take(line, world, text),
@@ -119,20 +119,19 @@ impl Place {
         world: &mut W,
         text: &mut ArrayVec<u8, MOST_LINE_BYTES>,
     ) -> Result<(), ReplayEnd>
-        requires stands { StandsAfter (W.stands world.old) self.old.events }
+        requires stands { (start : W) × StandsAfter (W.stands start world.old) self.old.events }
         requires numbered { self.old.head < 2 ^ 63 }
         requires short { length line.now ≤ MOST_LINE_BYTES }
-        ensures text { OnOk result ((earlier : Taken) → W.stands world.old earlier → length earlier ≡ self.old.events
-            → line_of (W.play world.old) self.old.head earlier line.now ≡ Ok text.new.items) }
-        ensures stands { OnOk result ((earlier : Taken) → W.stands world.old earlier → W.stands world.new (line.now ∷ earlier)) }
-        ensures end { IfErr result (λ end. (earlier : Taken) → W.stands world.old earlier → length earlier ≡ self.old.events
-            → RefusesAt (line_of (W.play world.old) self.old.head) (W.wants world.old) earlier line.now end) }
-        ensures kept { OnErr result ((earlier : Taken) → W.stands world.old earlier → W.stands world.new earlier) }
+        ensures text { OnOk result ((start : W) (earlier : Taken) → W.stands start world.old earlier
+            → length earlier ≡ self.old.events → line_of (W.play start) self.old.head earlier line.now ≡ Ok text.new.items) }
+        ensures stands { OnOk result ((start : W) (earlier : Taken) → W.stands start world.old earlier
+            → W.stands start world.new (line.now ∷ earlier)) }
+        ensures end { IfErr result (λ end. (start : W) (earlier : Taken) → W.stands start world.old earlier
+            → length earlier ≡ self.old.events → RefusesAt (line_of (W.play start) self.old.head) (W.wants start) earlier line.now end) }
+        ensures kept { OnErr result ((start : W) (earlier : Taken) → W.stands start world.old earlier → W.stands start world.new earlier) }
         ensures counted { OnOk result (self.new.events ≡ self.old.events + 1) }
         ensures few { OnOk result (self.old.events < MOST_EVENTS) }
         ensures head { self.new.head ≡ self.old.head }
-        ensures same_play { W.play world.new ≡ W.play world.old }
-        ensures same_wants { W.wants world.new ≡ W.wants world.old }
     {
         if self.events == MOST_EVENTS {
             return Err(self.bad_line(LineFault::TooMany));

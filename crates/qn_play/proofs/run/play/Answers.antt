@@ -12,12 +12,10 @@ lines-init g c =
     let left = prepend_known c.args.pieces (g.I.Source.left c.args.input.now) in
     record {
       running =
-          subst (λ (to_come : Option (List ℕ)). IsRunning (g.W.Plays.play c.args.world.now) (g.W.Plays.stands c.args.world.now) c.args.head 0 left to_come (g.O.Sink.written c.args.out.now) (g.O.Sink.written c.args.out.now) c.new-lines.result.output)
+          subst (λ (to_come : Option (List ℕ)). IsRunning (g.W.Plays.play c.args.world.now) (g.W.Plays.stands c.args.world.now c.args.world.now) c.args.head 0 left to_come (g.O.Sink.written c.args.out.now) (g.O.Sink.written c.args.out.now) c.new-lines.result.output)
           (ap (λ (p : List ℕ). prepend_known p (g.I.Source.left c.args.input.now)) (sym c.new-lines.ensures.pieces))
-          (begins (g.W.Plays.play c.args.world.now) (g.W.Plays.stands c.args.world.now) c.args.head left (g.O.Sink.written c.args.out.now) c.new-lines.result.output c.requires.stands
+          (begins (g.W.Plays.play c.args.world.now) (g.W.Plays.stands c.args.world.now c.args.world.now) c.args.head left (g.O.Sink.written c.args.out.now) c.new-lines.result.output c.requires.stands
           (c.new-lines.ensures.output ∙ c.requires.nothing_waits));
-      same_play = refl;
-      same_wants = refl;
       head = refl;
       source = omega arith;
       sink = omega arith;
@@ -36,11 +34,11 @@ returns-in-Err-clause-runs g c =
     let sink = c.lines.invariant.sink in
     let wrote = c.next.ensures.sink_faults in
     finishes (writes_on run c.in-Ok.ensures.given) pieces c.in-Err.end c.finish.result
-    (c.in-Err.ensures.kept run.after.earlier run.after.stands)
+    (c.in-Err.ensures.kept c.args.world.now run.after.earlier run.after.stands)
     (λ rose. risen_within _ _ _ _ (omega (arith, sink, wrote)) c.finish.ensures.never_falls (omega arith) rose)
     (stops_wider (λ fails. (fails.0, risen_within _ _ _ _ c.lines.invariant.source c.next.ensures.source_faults (omega arith) fails.1))
-    (stops_here run c.lines.invariant.same_play c.lines.invariant.head c.in-Ok.read c.line.result.now c.line.ensures.value c.in-Ok.ensures.unended c.line.ensures.fits
-    pieces (g.I.Source.left c.next.new.input) c.in-Err.end c.lines.invariant.same_wants c.in-Ok.ensures.reads c.in-Ok.ensures.drained c.in-Ok.ensures.read_failed c.in-Err.ensures.end))
+    (stops_here run c.lines.invariant.head c.in-Ok.read c.line.result.now c.line.ensures.value c.in-Ok.ensures.unended c.line.ensures.fits
+    pieces (g.I.Source.left c.next.new.input) c.in-Err.end c.in-Ok.ensures.reads c.in-Ok.ensures.drained c.in-Ok.ensures.read_failed (c.in-Err.ensures.end c.args.world.now)))
     c.finish.ensures.finishes
 
 pub returns-in-Err-clause-complete : goal.returns-in-Err-clause-complete
@@ -57,13 +55,11 @@ lines-preserved g c =
     let wrote_text = c.put.ensures.never_falls in
     record {
       running =
-          takes_on (writes_on run c.in-Ok.ensures.given) {after = prepend_known c.next.new.self.pieces (g.I.Source.left c.next.new.input)} line c.judge.new.text.items c.judge.new.self.events (c.in_default-judge.ensures.stands run.after.earlier run.after.stands)
+          takes_on (writes_on run c.in-Ok.ensures.given) {after = prepend_known c.next.new.self.pieces (g.I.Source.left c.next.new.input)} line c.judge.new.text.items c.judge.new.self.events (c.in_default-judge.ensures.stands c.args.world.now run.after.earlier run.after.stands)
           c.in_default-judge.ensures.few c.in_default-judge.ensures.counted
-          (goes_at run c.lines.invariant.same_play c.lines.invariant.head c.in-Ok.read line c.line.ensures.value c.in-Ok.ensures.unended c.line.ensures.fits
-          c.judge.new.text.items c.in-Ok.ensures.reads c.in_default-judge.ensures.text)
+          (goes_at run c.lines.invariant.head c.in-Ok.read line c.line.ensures.value c.in-Ok.ensures.unended c.line.ensures.fits
+          c.judge.new.text.items c.in-Ok.ensures.reads (c.in_default-judge.ensures.text c.args.world.now))
           (subst (λ (t : List ℕ). GivesOut (g.O.Sink.written c.next.new.out) (g.O.Sink.written c.put.new.out) c.put.new.self (c.next.new.self.output ++ t)) c.as_slice.ensures.value c.in-Ok-put.ensures.given);
-      same_play = c.judge.ensures.same_play ∙ c.lines.invariant.same_play;
-      same_wants = c.judge.ensures.same_wants ∙ c.lines.invariant.same_wants;
       head = c.judge.ensures.head ∙ c.lines.invariant.head;
       source = omega (arith, source, read);
       sink = omega (arith, sink, wrote, wrote_text);
@@ -76,7 +72,7 @@ returns-in_default-put-clause-runs g c =
     let sink = c.lines.invariant.sink in
     let wrote = c.next.ensures.sink_faults in
     unwritten_at (writes_on run c.in-Ok.ensures.given) c.next.new.self.pieces line c.judge.new.text.items
-    (goes_at run c.lines.invariant.same_play c.lines.invariant.head c.in-Ok.read line c.line.ensures.value c.in-Ok.ensures.unended c.line.ensures.fits
-    c.judge.new.text.items c.in-Ok.ensures.reads c.in_default-judge.ensures.text)
+    (goes_at run c.lines.invariant.head c.in-Ok.read line c.line.ensures.value c.in-Ok.ensures.unended c.line.ensures.fits
+    c.judge.new.text.items c.in-Ok.ensures.reads (c.in_default-judge.ensures.text c.args.world.now))
     (risen_within _ _ _ _ (omega (arith, sink, wrote)) c.put.ensures.never_falls (omega arith) c.in_default-put.ensures.cause)
     (subst (λ (t : List ℕ). AppendsFront (g.O.Sink.written c.next.new.out) (g.O.Sink.written c.put.new.out) (c.next.new.self.output ++ t)) c.as_slice.ensures.value c.in_default-put.ensures.prefix)

@@ -5,11 +5,9 @@ use Rattle.qn_play.proofs.run.play.Given as goal
 
 abbrev pub invariant-lines : goal.invariant-lines
 invariant-lines g l = record {
-  running : IsRunning (g.W.Plays.play l.fn.world) (g.W.Plays.stands l.world) l.fn.head l.place.events
+  running : IsRunning (g.W.Plays.play l.fn.world) (g.W.Plays.stands l.fn.world l.world) l.fn.head l.place.events
       (prepend_known l.fn.pieces (g.I.Source.left l.fn.input)) (prepend_known l.lines.pieces (g.I.Source.left l.input))
       (g.O.Sink.written l.fn.out) (g.O.Sink.written l.out) l.lines.output;
-  same_play : g.W.Plays.play l.world ≡ g.W.Plays.play l.fn.world;
-  same_wants : g.W.Plays.wants l.world ≡ g.W.Plays.wants l.fn.world;
   head : l.place.head ≡ l.fn.head;
   source : g.I.Source.faults l.fn.input ≤ g.I.Source.faults l.input;
   sink : g.O.Sink.faults l.fn.out ≤ g.O.Sink.faults l.out;
