@@ -1,7 +1,7 @@
 -- Laws of whole runs.
 use Rattle.std.proofs.Common.{◌≡◌, ℕ, List, [], ◌++◌, Option, None, Some, IfSome, refl, sym, ap, subst, ◌∙◌, append_assoc, append-nil}
 use Rattle.std.specs.Io.KnownBytes.{IsAtEnd, prepend_known, append_known}
-use Rattle.qn_io.specs.Outside.{append_known-nil, prepend_known-append}
+use Rattle.qn_io.specs.Outside.{append_known-nil, prepend_known-append, prepend_known-nil}
 use Rattle.qn_model.specs.Inputs.{BeginsWith, Tells, Anyway, AtEnd, AtFailure, tells_more}
 use Rattle.qn_model.specs.Lines.{Ending, Ended}
 use Rattle.qn_sched.specs.declared.replay_end.ReplayEnd.{ReplayEnd}
@@ -38,6 +38,16 @@ runs_wider widen writes run = record {
 }
 
 -- ---- a run that ends within the head
+
+-- there was no memory to begin
+pub runs_not_begun : {Last : Type 0} (played_of : Rest Last) (standing : Last → Type 0) (wanted : List ℕ → List ℕ → Type 0) (left old : Option (List ℕ)) (failed write_failed : Type 0)
+    → wanted [] [] → Runs played_of standing wanted left left failed old old write_failed NoMemory
+runs_not_begun played_of standing wanted left old failed write_failed why = record {
+  taken = [];
+  waiting = [];
+  takes = sym (prepend_known-nil left);
+  ends = Wanted [] (Anyway (λ ending more. ((played_of ending more).trace, refl))) refl (sym (append_known-nil old)) why;
+}
 
 head_ends : {Last : Type 0} {played_of : Rest Last} {standing : Last → Type 0} {wanted : List ℕ → List ℕ → Type 0} {taken : List ℕ} {at_end failed write_failed : Type 0} (last : Last) (old : Option (List ℕ)) (end : ReplayEnd)
     → standing last → ((taken : List ℕ) → wanted taken [])

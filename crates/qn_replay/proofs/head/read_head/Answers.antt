@@ -1,8 +1,8 @@
 use Rattle.std.proofs.Common.{arith}
 use Rattle.std.proofs.lemmas.Result.{err_from_is_err_and}
 use Rattle.qn_replay.proofs.SettingsSteps.{goes_to_timing, stops_at_settings}
-use Rattle.qn_replay.proofs.Steps.{goes_then, risen_within, stops_then, stops_wider}
-use Rattle.qn_replay.proofs.reader.Reader.read_head.Goals as goal
+use Rattle.qn_play.specs.Steps.{goes_then, risen_within, stops_then, stops_wider}
+use Rattle.qn_replay.proofs.head.read_head.Goals as goal
 
 pub returns-in_err-settings-clause-end : goal.returns-in_err-settings-clause-end
 returns-in_err-settings-clause-end g c =
@@ -17,6 +17,7 @@ returns-in_err-timing-clause-end g c =
     (stops_then
     (goes_to_timing c.in_ok-text.text.whole c.in_ok-text.text.lines c.whole.result.now c.next_line-lines.result c.in_ok-settings.settings c.whole.ensures c.next_line-lines.ensures
     c.in_ok-text.ensures.text c.in_ok-settings.ensures.settings)
+    (λ taken why. tt)
     (stops_wider
     (λ fails. (fails.0, risen_within _ _ _ _ (omega (arith, c.in_ok-text.ensures.never_falls)) (omega (arith, c.in_err-timing.ensures.never_falls)) (omega arith) fails.1))
     (c.in_err-timing.ensures.end c.in_ok-settings.settings)))

@@ -1,6 +1,6 @@
 use Rattle.std.proofs.lemmas.Result.{err_from_is_err_and}
 use Rattle.qn_replay.proofs.SettingsSteps.{judged_settings, judged_text, judged_tree}
-use Rattle.qn_replay.proofs.reader.read_settings.Goals as goal
+use Rattle.qn_replay.proofs.head.read_settings.Goals as goal
 
 pub returns-in_err-tree-clause-settings : goal.returns-in_err-tree-clause-settings
 returns-in_err-tree-clause-settings c =

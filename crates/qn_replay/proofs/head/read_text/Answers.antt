@@ -1,9 +1,9 @@
 use Rattle.std.proofs.Common.{ap, sym, subst, ◌∙◌, arith}
 use Rattle.std.specs.Io.KnownBytes.{IsAtEnd}
 use Rattle.qn_sched.specs.declared.replay_end.ReplayEnd.TheVariants.{BadSchedule}
-use Rattle.qn_replay.proofs.Steps.{left_at_end, risen_within}
+use Rattle.qn_play.specs.Steps.{left_at_end, risen_within}
 use Rattle.qn_replay.proofs.TextSteps.{text_begins, text_ends, text_fails, text_goes_on, text_is_too_long, text_is_whole, text_wants_memory}
-use Rattle.qn_replay.proofs.reader.Reader.read_text.Goals as goal
+use Rattle.qn_replay.proofs.head.read_text.Goals as goal
 
 pub bytes-init : goal.bytes-init
 bytes-init g c =

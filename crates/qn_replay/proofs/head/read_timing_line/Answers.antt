@@ -2,8 +2,8 @@ use Rattle.std.proofs.Common.{ℕ, ◌≤◌, length, List, [], ◌∷◌, ◌++
 use Rattle.std.specs.Io.KnownBytes.{prepend_known}
 use Rattle.qn_io.specs.Lines.{HasNoLineFeed}
 use Rattle.qn_replay.proofs.TimingSteps.{goes_behind_line, stops_at_end, stops_at_failure, stops_at_length, stops_at_line}
-use Rattle.qn_replay.proofs.Steps.{left_at_end}
-use Rattle.qn_replay.proofs.reader.Reader.read_timing.Goals as goal
+use Rattle.qn_play.specs.Steps.{left_at_end}
+use Rattle.qn_replay.proofs.head.read_timing_line.Goals as goal
 
 pub returns-in-Line-clause-timing : goal.returns-in-Line-clause-timing
 returns-in-Line-clause-timing g c = λ settings.
