@@ -2,7 +2,7 @@ ghost use Rattle.std.specs.Prelude.{◌≡◌, ℕ, ◌+◌, ◌++◌, ◌<◌, 
 ghost use Rattle.arrayvec.specs.ArrayVec.{array_vec_len};
 ghost use Rattle.std.specs.Io.KnownBytes.{prepend_known};
 ghost use Rattle.qn_io.specs.Outside.{HasRisen};
-ghost use Rattle.qn_io.specs.Lines.{HasNoLineFeed};
+ghost use Rattle.qn_io.specs.Lines.{HasLineFeed, HasNoLineFeed};
 
 use crate::outside::Source;
 use arrayvec::ArrayVec;
@@ -60,7 +60,7 @@ pub(crate) enum Refill {
 }
 
 impl Pieces {
-    ghost use Rattle.qn_io.specs.Lines.{HasNoLineFeed, Moves};
+    ghost use Rattle.qn_io.specs.Lines.{HasLineFeed, HasNoLineFeed, Moves};
     ghost use Rattle.qn_io.specs.Reads.{Gives, IsDrained, OnFailed, OnFailedRefill, Refills};
 
     /// Pieces of an input of which nothing was read yet.
@@ -96,6 +96,27 @@ impl Pieces {
         ensures { IsTrue result ↔ (length self.now ≡ 0) }
     {
         self.from == self.to
+    }
+
+    /// Whether a whole line waits, with its `\n`, so that the next line takes no read.
+    pub fn has_line(&self) -> bool
+        ensures { IsTrue result ↔ HasLineFeed self.now }
+    {
+        let waiting = self.waiting();
+        length_before_end(waiting) < waiting.len()
+    }
+
+    /// Empties `line` and moves the first line that waits into it. Its `\n` is taken too and left out, and
+    /// nothing is read.
+    pub fn take_line(&mut self, line: &mut ArrayVec<u8, LINE>)
+        requires { HasLineFeed self.old }
+        ensures takes { self.old ≡ line.new.items ++ 10 ∷ self.new }
+        ensures unended { HasNoLineFeed line.new.items }
+    {
+        line.clear();
+        let count = length_before_end(self.waiting());
+        self.move_front(count, line);
+        self.take_first();
     }
 
     /// Reads the next piece, where no byte is left of the last one.
@@ -153,7 +174,8 @@ impl Pieces {
 
     /// The bytes that were read and not yet handed out.
     fn waiting(&self) -> &[u8]
-        ensures { result.now ≡ self.now }
+        ensures value { result.now ≡ self.now }
+        ensures fits { length result.now ≤ 4096 }
     {
         self.buffer.split_at(self.to).0.split_at(self.from).1
     }

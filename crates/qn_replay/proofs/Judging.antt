@@ -29,26 +29,10 @@ use Rattle.qn_world.specs.Stepping.{RefusedBy}
 use Rattle.qn_world.specs.Whole.{Whole}
 use Rattle.qn_replay.specs.declared.playback.Playback.{Playback}
 use Rattle.qn_replay.specs.Playing.{IsGoing, NotAllowedHere, OutOfMemory, RefusesLine, progress_at, refused_end}
-use Rattle.qn_replay.specs.Replay.{Progress, allowed_in, at_start, event_in, or_bad_line, stepped, unless_refused, with_event}
+use Rattle.qn_replay.specs.Replay.{Progress, allowed_in, spelled_event, stepped, unless_refused, with_event}
 
 abbrev pub refused_with : ReplayEnd → Result Event ReplayEnd
 refused_with end = Err end
-
--- one event too many
-pub event_in-many : (so_far : Progress) (line : List ℕ) → length line ≤ 4096 → so_far.events ≡ 200000 → event_in so_far line ≡ Err (BadSchedule (so_far.lines + 1) TooMany)
-unfolding event_in
-event_in-many so_far line short many =
-    cond-false (nat_lt 4096 (length line)) _ _ (le-ltb 4096 (length line) short)
-    ∙ cond-true (so_far.events == 200000) _ _ (eq-eqb so_far.events 200000 many)
-
--- a line that is read
-pub event_in-read : (so_far : Progress) (line : List ℕ) (read : Result Event LineFault) → length line ≤ 4096 → so_far.events ≢ 200000 → event_of (ids so_far.settings.nodes) line ≡ read
-    → event_in so_far line ≡ or_bad_line (so_far.lines + 1) read
-unfolding event_in
-event_in-read so_far line read short few is =
-    cond-false (nat_lt 4096 (length line)) _ _ (le-ltb 4096 (length line) short)
-    ∙ cond-false (so_far.events == 200000) _ _ (ne_eqb so_far.events 200000 few)
-    ∙ ap (or_bad_line (so_far.lines + 1)) is
 
 -- the rules
 pub allowed_in-is : (so_far : Progress) (e : Event) (rule : Option ℕ) → refusal so_far.settings so_far.timing e so_far.world ≡ rule → allowed_in so_far e ≡ unless_refused (so_far.lines + 1) e rule
@@ -91,8 +75,8 @@ starts_early w stands = let same = stands.times in omega (arith, same)
 
 -- a playback with one more event
 pub going_on : (old new : Playback) (e : Event) (world : World) → IsGoing old → old.events < 200000 → is_well_formed old.world.settings e ≡ true → WorldFor old.world world
-    → WorldFor new.world (stepped (progress_at old world) e) → new.world.steps + 1 ≡ old.world.steps → new.lines ≡ old.lines + 1 → new.events ≡ old.events + 1 → IsGoing new
-going_on old new e world going few formed stands stood steps lines events =
+    → WorldFor new.world (stepped (progress_at old world) e) → new.world.steps + 1 ≡ old.world.steps → new.head ≡ old.head → new.events ≡ old.events + 1 → IsGoing new
+going_on old new e world going few formed stands stood steps head events =
     let before = stands.times in
     let after = stood.times in
     let later = time-step old.world.settings old.world.timing e world formed in
@@ -101,37 +85,29 @@ going_on old new e world going few formed stands stood steps lines events =
     let early = going.early in
     record {
       few = omega (arith, few, events);
-      numbered = omega (arith, numbered, lines, events);
+      numbered = omega (arith, numbered, head);
       steps = omega (arith, left, steps, events);
       early = omega (arith, early, before, after, later, events);
     }
 
-pub moved_on : (old new : Playback) (e : Event) (world : World) → new.world.settings ≡ old.world.settings → new.world.timing ≡ old.world.timing
-    → new.lines ≡ old.lines + 1 → new.events ≡ old.events + 1
+-- its place is that of one more event
+pub moved_to : (old new : Playback) (e : Event) (world : World) → new.world.settings ≡ old.world.settings → new.world.timing ≡ old.world.timing
+    → new.head ≡ old.head → new.events ≡ old.events + 1
     → progress_at new (stepped (progress_at old world) e) ≡ with_event (progress_at old world) e
 unfolding with_event
-moved_on old new e world settings timing lines events =
+moved_to old new e world settings timing head events =
     let next = stepped (progress_at old world) e in
     let made : Settings → Timing → ℕ → ℕ → Progress = λ s t l n. record { settings = s; timing = t; lines = l; events = n; world = next } in
-    ap (λ s. made s new.world.timing new.lines new.events) settings
-    ∙ ap (λ t. made old.world.settings t new.lines new.events) timing
+    let lines : new.head + new.events ≡ old.head + old.events + 1 = omega (arith, head, events) in
+    ap (λ s. made s new.world.timing (new.head + new.events) new.events) settings
+    ∙ ap (λ t. made old.world.settings t (new.head + new.events) new.events) timing
     ∙ ap (λ l. made old.world.settings old.world.timing l new.events) lines
-    ∙ ap (λ n. made old.world.settings old.world.timing (old.lines + 1) n) events
-
--- a playback that begins stands at the start
-pub begins_at : (playback : Playback) (settings : Settings) (timing : Timing) (lines : ℕ) → playback.world.settings ≡ settings → playback.world.timing ≡ timing
-    → playback.lines ≡ lines → playback.events ≡ 0 → progress_at playback first_world ≡ at_start settings timing lines
-begins_at playback s t n settings timing lines events =
-    let made : Settings → Timing → ℕ → ℕ → Progress = λ s t l n. record { settings = s; timing = t; lines = l; events = n; world = first_world } in
-    ap (λ x. made x playback.world.timing playback.lines playback.events) settings
-    ∙ ap (λ x. made s x playback.lines playback.events) timing
-    ∙ ap (λ x. made s t x playback.events) lines
-    ∙ ap (λ x. made s t n x) events
+    ∙ ap (λ n. made old.world.settings old.world.timing (old.head + old.events + 1) n) events
 
 -- an event that the world refused
-pub refuses : (old : Playback) (line : List ℕ) (e : Event) (world : World) (why : Refused) (end : ReplayEnd) → event_in (progress_at old world) line ≡ Ok e
+pub refuses : (old : Playback) (line : List ℕ) (e : Event) (world : World) (why : Refused) (end : ReplayEnd) → spelled_event (progress_at old world) line ≡ Ok e
     → RefusedBy (refusal old.world.settings old.world.timing e world) why
-    → (why ≡ refused.NoMemory → needs_memory old.world.settings old.world.timing e world ≡ true) → end ≡ refused_end (old.lines + 1) why → RefusesLine old line end world
+    → (why ≡ refused.NoMemory → needs_memory old.world.settings old.world.timing e world ≡ true) → end ≡ refused_end (old.head + old.events + 1) why → RefusesLine old line end world
 refuses old line e world (refused.NotAllowed rule) end is by memory ends =
     NotAllowedHere e is (allowed_in-is (progress_at old world) e (Some rule.0) by ∙ ap refused_with (sym ends))
 refuses old line e world refused.NoMemory end is by memory ends =

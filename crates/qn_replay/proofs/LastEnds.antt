@@ -1,20 +1,24 @@
 -- The last world of a replay, or its end.
-use Rattle.std.proofs.Common.{◌≡◌, ◌≢◌, ◌⊎◌, inl, inr, ℕ, List, [], ◌++◌, None, Option, Some, Result, Err, IfErr, IfSome, refl, sym, ap, ◌∙◌, subst, append_assoc, append-nil}
+use Rattle.std.proofs.Common.{◌≡◌, ◌≢◌, ◌⊎◌, inl, inr, ℕ, List, [], ◌++◌, None, Option, Some, Result, Err, IfErr, IfSome, refl, sym, ap, ◌∙◌, subst}
 use Rattle.std.specs.Io.KnownBytes.{IsAtEnd, prepend_known}
-use Rattle.qn_io.specs.Outside.{prepend_known-append}
+use Rattle.qn_io.specs.Outside.{prepend_known-append, prepend_known-nil}
 use Rattle.qn_model.specs.Inputs.{Tells, Anyway, AtEnd, AtFailure, tells_more}
 use Rattle.qn_model.specs.Lines.{Ended}
+use Rattle.qn_play.specs.Lines.{Taken}
+use Rattle.qn_play.specs.Reading.{Anywhere, EndsWith, Stops, Told}
+use Rattle.qn_play.specs.Reading as reading
+use Rattle.qn_play.specs.RunLaws.{tells_all}
+use Rattle.qn_play.specs.Runs as runs
 use Rattle.qn_sched.specs.declared.replay_end.ReplayEnd.{ReplayEnd}
 use Rattle.qn_sched.specs.declared.replay_end.ReplayEnd.TheVariants.{Done, NoMemory, ReadFault, WriteFault}
 use Rattle.qn_world.specs.Standing.{WorldFor}
 use Rattle.qn_world.specs.Whole.{Whole}
 use Rattle.qn_replay.specs.declared.playback.Playback.{Playback}
-use Rattle.qn_replay.specs.Playing.{Stands, progress_at}
-use Rattle.qn_replay.specs.Reading.{Anywhere, EndsWith, Stops, Told, Wanted, WantsAt, event_rest}
-use Rattle.qn_replay.specs.Replay.{Progress, Replayed, ended, ends, replay_of, traced}
-use Rattle.qn_replay.specs.Runs.{GivesWorld, IsFault, Reaches, last_of}
-use Rattle.qn_replay.proofs.RunEnds.{IsRunning, fits, tells_wider, to_come}
-use Rattle.qn_replay.proofs.Steps.{tells_behind, tells_traced}
+use Rattle.qn_replay.specs.Playing.{IsAfter, progress_at, start_of}
+use Rattle.qn_replay.specs.Replay.{Progress, Replayed, ends, replay_of}
+use Rattle.qn_replay.specs.Runs.{GivesWorld, IsFault, Reaches, Unwritten, Wanted, WantsMemory, WroteAll, last_of}
+use Rattle.qn_replay.proofs.RunEnds.{ends_unwritten, fits, tells_unwritten}
+use Rattle.qn_replay.proofs.SameReplay.{place_of}
 
 abbrev no_world : ReplayEnd → Result Whole ReplayEnd
 no_world end = Err end
@@ -22,76 +26,79 @@ no_world end = Err end
 head_gives : {taken : List ℕ} {at_end failed : Type 0} (end : ReplayEnd) → IsFault end → EndsWith replay_of None Anywhere taken at_end failed end
     → (no_world end ≡ no_world NoMemory) ⊎ Tells replay_of taken at_end failed (GivesWorld (no_world end))
 head_gives end fault (Told tells needed) = inr (tells_more (λ a. a ≡ ends end) (GivesWorld (no_world end)) (λ a is. (ap (λ (x : Replayed). x.end) is, fault)) tells)
-head_gives end fault (Wanted memory anywhere) = inl (ap no_world memory)
+head_gives end fault (reading.Wanted memory anywhere) = inl (ap no_world memory)
+
+-- there was no memory to begin
+pub reaches_nothing : (left : Option (List ℕ)) (failed : Type 0) → Reaches left left failed (no_world NoMemory)
+reaches_nothing left failed = record { taken = []; waiting = []; takes = sym (prepend_known-nil left); ends = inl refl }
 
 -- the head was not good
-pub reaches_in_head : {failed : Type 0} (left left_new : Option (List ℕ)) (pieces waiting : List ℕ) (end : ReplayEnd) → pieces ≡ [] → IsFault end
+pub reaches_in_head : {left left_new : Option (List ℕ)} {failed : Type 0} (pieces waiting : List ℕ) (end : ReplayEnd) → pieces ≡ [] → IsFault end
     → Stops replay_of None Anywhere (prepend_known pieces left) (prepend_known waiting left_new) ((waiting ≡ []) × IsAtEnd left_new) ((waiting ≡ []) × failed) end
     → Reaches left left_new failed (no_world end)
-reaches_in_head left left_new pieces waiting end none fault stop = record {
+reaches_in_head {left} {left_new} pieces waiting end none fault stop = record {
   taken = stop.taken;
   waiting = waiting;
-  takes = to_come left left_new pieces waiting stop.taken none stop.takes;
+  takes = sym (prepend_known-nil left) ∙ ap (λ p. prepend_known p left) (sym none) ∙ stop.takes ∙ sym (prepend_known-append stop.taken waiting left_new);
   ends = head_gives end fault stop.stops;
 }
 
-module _ {left between old now : Option (List ℕ)} (playback : Playback) (run : IsRunning playback left between old now) where
-  abbrev so_far : Progress
-  so_far = progress_at playback run.world
+-- where the world of a playback stands
+pub record IsPlaceOf (playback : Playback) (last : Option Progress) : Type 0 where
+  pub so_far : Progress
+  pub is : last ≡ Some so_far
+  pub settings : playback.world.settings ≡ so_far.settings
+  pub timing : playback.world.timing ≡ so_far.timing
+  pub stands : WorldFor playback.world so_far.world
 
-  gives : (text : List ℕ) (world : Whole) (end : ReplayEnd) → world ≡ playback.world → end ≢ WriteFault → (a : Replayed) → a ≡ traced text (ended (Some so_far) end) → GivesWorld (last_of world end) a
-  gives text world (Done events) same written a is = record {
+-- it stands where its lines lead
+pub place_after : (start playback : Playback) (earlier : Taken) → IsAfter start playback earlier → IsPlaceOf playback (place_of (start_of start) earlier)
+place_after start playback earlier after = record {
+  so_far = progress_at playback after.world;
+  is = ap (λ (p : Progress). Some p) after.place;
+  settings = refl;
+  timing = refl;
+  stands = after.stands;
+}
+
+module _ (playback : Playback) where
+  gives : {taken : List ℕ} {at_end failed : Type 0} (played a : Replayed) (end : ReplayEnd) → Tells replay_of taken at_end failed (λ p. p ≡ played) → end ≡ played.end → IsPlaceOf playback played.last → a ≡ played
+      → GivesWorld (last_of playback.world end) a
+  gives played a (Done events) tells is place same = record {
     events = events;
-    so_far = so_far;
-    ends = ap (λ (x : Replayed). x.end) is;
-    last = ap (λ (x : Replayed). x.last) is;
-    settings = ap (λ (w : Whole). w.settings) same;
-    timing = ap (λ (w : Whole). w.timing) same;
-    stands = subst (λ (w : Whole). WorldFor w run.world) (sym same) run.stands;
+    so_far = place.so_far;
+    ends = ap (λ (x : Replayed). x.end) same ∙ sym is;
+    last = ap (λ (x : Replayed). x.last) same ∙ place.is;
+    settings = place.settings;
+    timing = place.timing;
+    stands = place.stands;
   }
-  gives text world WriteFault same written a is = absurd (written refl)
-  gives text world _ same written a is = (ap (λ (x : Replayed). x.end) is, tt)
+  gives played a WriteFault tells is place same = absurd (tells_unwritten played tells (sym is))
+  gives played a _ tells is place same = (ap (λ (x : Replayed). x.end) same ∙ sym is, tt)
 
-  world_or_end : (world : Whole) (end : ReplayEnd) → end ≡ NoMemory → last_of world end ≡ Err NoMemory
-  world_or_end world end is = ap (last_of world) is
-
-  run_gives : {taken : List ℕ} {at_end failed : Type 0} (world : Whole) (end : ReplayEnd) → world ≡ playback.world → end ≢ WriteFault
-      → EndsWith (event_rest so_far) (Some so_far) (WantsAt so_far) taken at_end failed end
-      → (last_of world end ≡ Err NoMemory) ⊎ Tells replay_of (run.way.goes.taken ++ taken) at_end failed (GivesWorld (last_of world end))
-  run_gives world end same written (Told tells needed) =
-      inr (tells_more (λ a. a ≡ traced run.way.text (ended (Some so_far) end)) (GivesWorld (last_of world end)) (gives run.way.text world end same written)
-      (tells_behind run.way.goes (λ a. a ≡ traced run.way.text (ended (Some so_far) end)) (tells_traced run.way.text (ended (Some so_far) end) tells)))
-  run_gives world end same written (Wanted memory why) = inl (world_or_end world end memory)
+  run_gives : {taken : List ℕ} {at_end failed write_failed : Type 0} {old new : Option (List ℕ)} (end : ReplayEnd) → (write_failed → ⊥)
+      → runs.EndsAs replay_of (IsPlaceOf playback) WantsMemory taken at_end failed old new write_failed end
+      → (last_of playback.world end ≡ Err NoMemory) ⊎ Tells replay_of taken at_end failed (GivesWorld (last_of playback.world end))
+  run_gives end wrote (WroteAll played tells needed is whole place) =
+      inr (tells_more (λ p. p ≡ played) (GivesWorld (last_of playback.world end)) (λ a same. gives played a end tells is place same) tells)
+  run_gives end wrote (Unwritten trace tells is fails prefix) = absurd (wrote fails)
+  run_gives end wrote (Wanted trace tells is whole why) = inl (ap (last_of playback.world) is)
 
   -- the run ended
-  pub reaches_out : {left_new : Option (List ℕ)} {failed : Type 0} (waiting : List ℕ) (world : Whole) (end : ReplayEnd) → world ≡ playback.world → end ≢ WriteFault
-      → Stands playback (λ w. Stops (event_rest (progress_at playback w)) (Some (progress_at playback w)) (WantsAt (progress_at playback w)) between (prepend_known waiting left_new) ((waiting ≡ []) × IsAtEnd left_new) ((waiting ≡ []) × failed) end)
-      → Reaches left left_new failed (last_of world end)
-  reaches_out {left_new} waiting world end same written stop =
-      let stopped = stop run.world run.stands in
-      record {
-        taken = run.way.goes.taken ++ stopped.taken;
-        waiting = waiting;
-        takes =
-            run.way.goes.takes ∙ ap (prepend_known run.way.goes.taken) stopped.takes ∙ sym (prepend_known-append run.way.goes.taken stopped.taken (prepend_known waiting left_new))
-            ∙ sym (prepend_known-append (run.way.goes.taken ++ stopped.taken) waiting left_new);
-        ends = run_gives world end same written stopped.stops;
-      }
+  pub reaches_out : {left left_new old new : Option (List ℕ)} {failed write_failed : Type 0} (end : ReplayEnd) → (write_failed → ⊥)
+      → runs.Runs replay_of (IsPlaceOf playback) WantsMemory left left_new failed old new write_failed end → Reaches left left_new failed (last_of playback.world end)
+  reaches_out end wrote run = record { taken = run.taken; waiting = run.waiting; takes = run.takes; ends = run_gives end wrote run.ends }
+
+-- a run of which nothing is written does not fail to write
+pub is_written : {left left_new old new : Option (List ℕ)} {failed write_failed : Type 0} {end : ReplayEnd} (playback : Playback) → (write_failed → ⊥)
+    → runs.Runs replay_of (IsPlaceOf playback) WantsMemory left left_new failed old new write_failed end → end ≢ WriteFault
+is_written playback wrote run is = wrote (ends_unwritten run.ends is)
 
 -- the end of a run is a fault where it gives no world
 pub out_fault : (world : Whole) (end : ReplayEnd) → end ≢ WriteFault → IfErr (last_of world end) IsFault
 out_fault world (Done events) written = tt
 out_fault world WriteFault written = absurd (written refl)
 out_fault world _ written = tt
-
-tells_of_all : {taken waiting rest bytes : List ℕ} {failed : Type 0} (P : Replayed → Type 0) → bytes ≡ (taken ++ waiting) ++ rest → (failed → ⊥)
-    → Tells replay_of taken ((waiting ≡ []) × (rest ≡ [])) ((waiting ≡ []) × failed) P → P (replay_of Ended bytes)
-tells_of_all {taken} {waiting} {rest} P parts no_failure (Anyway always) =
-    subst (λ (b : List ℕ). P (replay_of Ended b)) (sym (parts ∙ append_assoc taken waiting rest)) (always Ended (waiting ++ rest))
-tells_of_all {taken} {waiting} {rest} P parts no_failure (AtEnd at_end holds) =
-    subst (λ (b : List ℕ). P (replay_of Ended b))
-    (sym (parts ∙ ap (λ r. (taken ++ waiting) ++ r) at_end.1 ∙ append-nil (taken ++ waiting) ∙ ap (λ w. taken ++ w) at_end.0 ∙ append-nil taken)) holds
-tells_of_all P parts no_failure (AtFailure fails holds) = absurd (no_failure fails.1)
 
 -- where no read failed and no memory was wanted, the world or the end is that of all that was there
 pub last_complete : (left_old left_new : Option (List ℕ)) (failed : Type 0) (result : Result Whole ReplayEnd) → Reaches left_old left_new failed result → (failed → ⊥) → (result ≡ Err NoMemory → ⊥)
@@ -101,7 +108,7 @@ last_complete (Some bytes) None failed result run no_failure memory = let never 
 last_complete (Some bytes) (Some rest) failed result run no_failure memory =
     let takes = run.takes in
     let parts : bytes ≡ (run.taken ++ run.waiting) ++ rest = cc in
-    elim run.ends [ inl wanted ↦ absurd (memory wanted) | inr tells ↦ tells_of_all (GivesWorld result) parts no_failure tells ]
+    elim run.ends [ inl wanted ↦ absurd (memory wanted) | inr tells ↦ tells_all (GivesWorld result) parts no_failure tells ]
 
 unread : {taken : List ℕ} {at_end failed : Type 0} → Tells replay_of taken at_end failed (GivesWorld (no_world ReadFault)) → failed
 unread {taken} (Anyway always) = absurd (fits Ended (taken ++ []) (replay_of Ended (taken ++ [])) ReadFault refl (always Ended []).0)
@@ -115,15 +122,3 @@ last_unread left_old left_new failed result run is =
       | inl wanted ↦ let never : no_world NoMemory ≡ no_world ReadFault = sym wanted ∙ is in cc
       | inr tells ↦ (unread (subst (λ (r : Result Whole ReplayEnd). Tells replay_of run.taken ((run.waiting ≡ []) × IsAtEnd left_new) ((run.waiting ≡ []) × failed) (GivesWorld r)) is tells)).1
     ]
-
-ends_wider : (taken waiting : List ℕ) (left_new : Option (List ℕ)) (failed wider : Type 0) (result : Result Whole ReplayEnd) → (failed → wider)
-    → (result ≡ Err NoMemory) ⊎ Tells replay_of taken ((waiting ≡ []) × IsAtEnd left_new) ((waiting ≡ []) × failed) (GivesWorld result)
-    → (result ≡ Err NoMemory) ⊎ Tells replay_of taken ((waiting ≡ []) × IsAtEnd left_new) ((waiting ≡ []) × wider) (GivesWorld result)
-ends_wider taken waiting left_new failed wider result widen (inl wanted) = inl wanted
-ends_wider taken waiting left_new failed wider result widen (inr tells) = inr (tells_wider (GivesWorld result) (λ fails. (fails.0, widen fails.1)) tells)
-
--- a count rose in a part of the run
-pub reaches_wider : (left left_new : Option (List ℕ)) (failed wider : Type 0) (given result : Result Whole ReplayEnd) → result ≡ given → (failed → wider)
-    → Reaches left left_new failed given → Reaches left left_new wider result
-reaches_wider left left_new failed wider given result is widen run =
-    subst (λ (r : Result Whole ReplayEnd). Reaches left left_new wider r) (sym is) (record { taken = run.taken; waiting = run.waiting; takes = run.takes; ends = ends_wider run.taken run.waiting left_new failed wider given widen run.ends })

@@ -11,9 +11,10 @@ use Rattle.qn_sched.specs.declared.replay_end.ReplayEnd.{ReplayEnd}
 use Rattle.qn_sched.specs.declared.replay_end.ReplayEnd.TheVariants.{BadSettings, NoMemory}
 use Rattle.qn_sched.specs.Ends.{end_of_conf}
 use Rattle.qn_sched.specs.Head.{or_bad_settings, settings_in, settings_of_tree}
-use Rattle.qn_replay.specs.Reading.{GoesOn, Stops, settings_rest, timing_rest, Anywhere}
+use Rattle.qn_play.specs.Reading.{Anywhere, GoesOn, Stops}
+use Rattle.qn_replay.specs.Reading.{settings_rest, timing_rest}
 use Rattle.qn_replay.specs.Replay.{replay_of}
-use Rattle.qn_replay.proofs.Steps.{goes_judged, stops_judged, stops_wanted}
+use Rattle.qn_play.specs.Steps.{goes_judged, stops_judged, stops_wanted}
 
 -- the defined answer, or want of memory
 abbrev pub IsJudged : Result Settings ReplayEnd → List ℕ → Type 0
@@ -39,13 +40,13 @@ judged_settings text tree settings good answer = inl (ap or_bad_settings answer 
 pub stops_at_settings : {a b : Option (List ℕ)} {at_end failed : Type 0} (whole : List ℕ) (lines : ℕ) (read : List ℕ) (end : ReplayEnd) → read ≡ whole
     → GoesOn replay_of (settings_rest whole lines) a b → IsJudged (Err end) read → Stops replay_of None Anywhere a b at_end failed end
 stops_at_settings whole lines read end is first (inl same) =
-    stops_judged (settings_in whole) end (timing_rest (lines + 1)) first (sym (same ∙ ap settings_in is))
-stops_at_settings whole lines read end is first (inr memory) = stops_wanted end first cc
+    stops_judged None (settings_in whole) end (timing_rest (lines + 1)) first (sym (same ∙ ap settings_in is))
+stops_at_settings whole lines read end is first (inr memory) = stops_wanted end first (cc) tt
 
 -- the settings are good, and the timing line is due
 pub goes_to_timing : {a b : Option (List ℕ)} (whole : List ℕ) (lines : ℕ) (read : List ℕ) (before : ℕ) (settings : Settings) → read ≡ whole → before ≡ lines + 1
     → GoesOn replay_of (settings_rest whole lines) a b → IsJudged (Ok settings) read → GoesOn replay_of (timing_rest before settings) a b
 goes_to_timing {a} {b} whole lines read before settings is number first (inl same) =
     subst (λ (n : ℕ). GoesOn replay_of (timing_rest n settings) a b) (sym number)
-    (goes_judged (settings_in whole) settings (timing_rest (lines + 1)) first (sym (same ∙ ap settings_in is)))
+    (goes_judged None (settings_in whole) settings (timing_rest (lines + 1)) first (sym (same ∙ ap settings_in is)))
 goes_to_timing whole lines read before settings is number first (inr memory) = absurd cc

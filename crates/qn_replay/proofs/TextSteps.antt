@@ -7,11 +7,15 @@ use Rattle.qn_model.specs.declared.line_fault.LineFault.TheVariants.{Unended}
 use Rattle.qn_model.specs.Lines.{Ending, Ended, ReadFailed}
 use Rattle.qn_sched.specs.declared.replay_end.ReplayEnd.{ReplayEnd}
 use Rattle.qn_sched.specs.declared.replay_end.ReplayEnd.TheVariants.{BadSchedule, NoMemory, ReadFault}
-use Rattle.qn_replay.specs.Reading.{GoesOn, IsOpen, LastDecides, MayGoOn, Stops, TextSoFar, Wanted, no_text, settings_rest, text_rest, Anywhere}
+use Rattle.qn_play.specs.Reading.{Anywhere, GoesOn, IsOpen, LastDecides, Stops, Wanted}
+use Rattle.qn_replay.specs.Reading.{MayGoOn, TextSoFar, no_text, settings_rest, text_rest}
 use Rattle.qn_replay.specs.Replay.{ends, replay_of}
 use Rattle.qn_replay.specs.Taking.{TakesEnd, TakesMore}
-use Rattle.qn_replay.proofs.Steps.{goes_nowhere, goes_then, stops_at, stops_ended, stops_failed, stops_then}
+use Rattle.qn_play.specs.Steps.{goes_nowhere, goes_then, stops_at, stops_ended, stops_failed, stops_then}
 use Rattle.qn_replay.proofs.TextLines.{text_rest-cut}
+
+anywhere : (taken : List ℕ) → Anywhere taken → Unit {0}
+anywhere taken why = tt
 
 none_may_go_on : MayGoOn no_text
 none_may_go_on = record { inside = All-nil (λ byte. (byte == 10) ≡ false); fits = omega arith; numbered = omega arith }
@@ -39,21 +43,21 @@ module _ {a b : Option (List ℕ)} (text : TextSoFar) (may : MayGoOn text) (firs
   -- the byte that is too many
   pub text_is_too_long : {c : Option (List ℕ)} {at_end failed : Type 0} (byte : ℕ) (end : ReplayEnd) → b ≡ prepend_known (byte ∷ []) c → ((ending : Ending) (more : List ℕ) → text_rest text ending (byte ∷ more) ≡ ends end)
       → Stops replay_of None Anywhere a c at_end failed end
-  text_is_too_long byte end takes long = stops_then first (stops_at [] byte end takes (text_open text may) long)
+  text_is_too_long byte end takes long = stops_then first anywhere (stops_at [] byte end takes (text_open text may) long)
 
   -- the byte for which there was no memory
   pub text_wants_memory : {c : Option (List ℕ)} {at_end failed : Type 0} (byte : ℕ) → b ≡ prepend_known (byte ∷ []) c → Stops replay_of None Anywhere a c at_end failed NoMemory
-  text_wants_memory byte takes = stops_then first (record { taken = byte ∷ []; takes = takes; stops = Wanted refl tt })
+  text_wants_memory byte takes = stops_then first anywhere (record { taken = byte ∷ []; takes = takes; stops = Wanted refl tt })
 
   -- the input ended
   pub text_ends : {c : Option (List ℕ)} {at_end failed : Type 0} (end : ReplayEnd) → c ≡ b → at_end → end ≡ BadSchedule (text.lines + 1) Unended → Stops replay_of None Anywhere a c at_end failed end
   text_ends {c} end kept ended is =
-      stops_then first
+      stops_then first anywhere
       (stops_ended [] end (sym kept ∙ sym (prepend_known-nil c)) ended (text_open text may)
       (text_rest-cut text Ended may.inside may.fits ∙ ap ends (sym is)))
 
   -- a read failed
   pub text_fails : {c : Option (List ℕ)} {at_end failed : Type 0} → c ≡ b → failed → Stops replay_of None Anywhere a c at_end failed ReadFault
   text_fails {c} kept fails =
-      stops_then first
+      stops_then first anywhere
       (stops_failed [] ReadFault (sym kept ∙ sym (prepend_known-nil c)) fails (text_open text may) (text_rest-cut text ReadFailed may.inside may.fits))

@@ -1,4 +1,4 @@
--- How a replay takes its input, up to the byte that decides its end.
+-- How a replay takes its input: inside the settings text, at the timing line and after the head.
 use Rattle.std.specs.Prelude.{◌≡◌, ◌≤◌, ℕ, ◌+◌, true, List, [], ◌∷◌, ◌++◌, length, None, Ok, Option}
 use Rattle.std.specs.Io.KnownBytes.{prepend_known}
 use Rattle.qn_model.specs.declared.configuration.Settings.{Settings}
@@ -11,6 +11,7 @@ use Rattle.qn_sched.specs.declared.replay_end.ReplayEnd.TheVariants.{NoMemory, R
 use Rattle.qn_sched.specs.Head.{settings_in}
 use Rattle.qn_replay.specs.Replay.{Progress, Replayed, allowed_in, counted_bytes, ended, event_in, event_lines, go_on, text_lines, timing_lines}
 use Rattle.qn_world.specs.Memory.{needs_memory}
+pub use Rattle.qn_play.specs.Reading.{Anywhere, EndsWith, GoesOn, IsNeeded, IsOpen, Stops}
 
 -- a settings text so far: its whole lines with their ends, how many they are, and what there is of the next line
 pub record TextSoFar : Type 0 where
@@ -50,37 +51,6 @@ settings_rest whole lines ending more = go_on None (settings_in whole) (λ setti
 -- behind the head
 abbrev pub event_rest : Progress → Ending → List ℕ → Replayed
 event_rest so_far ending more = event_lines so_far ending (lines_of more)
-
--- the bytes leave the end open: a failing read would end it
-abbrev pub IsOpen : (Ending → List ℕ → Replayed) → List ℕ → Type 0
-IsOpen answer_of taken = (answer_of ReadFailed taken).end ≡ ReadFault
-
--- no byte was taken that the end does not need: without the last one it is open
-pub data IsNeeded (answer_of : Ending → List ℕ → Replayed) (taken : List ℕ) : Type 0 where
-  StillOpen : IsOpen answer_of taken → IsNeeded answer_of taken
-  LastDecides : (front : List ℕ) (byte : ℕ) → taken ≡ front ++ byte ∷ [] → IsOpen answer_of front → IsNeeded answer_of taken
-
--- bytes were taken, and what the whole input gives is what the rest gives from here on
-pub record GoesOn (before after : Ending → List ℕ → Replayed) (to_come_old to_come_new : Option (List ℕ)) : Type 0 where
-  pub taken : List ℕ
-  pub takes : to_come_old ≡ prepend_known taken to_come_new
-  pub needed : IsNeeded before taken
-  pub rest : (ending : Ending) (more : List ℕ) → before ending (taken ++ more) ≡ after ending more
-
--- the end is the one that the taken bytes tell of, with nothing written; or memory was wanted
-pub data EndsWith (answer_of : Ending → List ℕ → Replayed) (last : Option Progress) (wanted : List ℕ → Type 0) (taken : List ℕ) (at_end failed : Type 0) (end : ReplayEnd) : Type 0 where
-  Told : Tells answer_of taken at_end failed (λ answer. answer ≡ ended last end) → IsNeeded answer_of taken → EndsWith answer_of last wanted taken at_end failed end
-  Wanted : end ≡ NoMemory → wanted taken → EndsWith answer_of last wanted taken at_end failed end
-
--- bytes were taken, and they decided the end; `last` is where the replay stood, and `wanted` says why memory was wanted
-pub record Stops (answer_of : Ending → List ℕ → Replayed) (last : Option Progress) (wanted : List ℕ → Type 0) (to_come_old to_come_new : Option (List ℕ)) (at_end failed : Type 0) (end : ReplayEnd) : Type 0 where
-  pub taken : List ℕ
-  pub takes : to_come_old ≡ prepend_known taken to_come_new
-  pub stops : EndsWith answer_of last wanted taken at_end failed end
-
--- within the head memory may be wanted anywhere
-abbrev pub Anywhere : List ℕ → Type 0
-Anywhere taken = Unit {0}
 
 -- memory was wanted for the event of the line that was taken, which the world adds something for
 pub record WantsAt (so_far : Progress) (taken : List ℕ) : Type 0 where

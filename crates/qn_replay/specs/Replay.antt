@@ -19,6 +19,7 @@ use Rattle.qn_sched.specs.declared.replay_end.ReplayEnd.TheVariants.{BadConf, Ba
 use Rattle.qn_sched.specs.EventReading.{event_of}
 use Rattle.qn_sched.specs.Head.{dashes, safe_timing_in, settings_in}
 use Rattle.qn_sched.specs.TraceLines.{trace_line}
+pub use Rattle.qn_play.specs.Played.{Played, ended, go_on, traced}
 
 -- where a replay stands behind its head: how many lines of the input there were so far, how many of them were events, and
 -- the world after these events
@@ -33,28 +34,13 @@ pub record Progress : Type 0 where
 abbrev pub at_start : Settings → Timing → ℕ → Progress
 at_start settings timing lines = record { settings = settings; timing = timing; lines = lines; events = 0; world = first_world }
 
--- the trace that a replay writes, how it ends, and where it stood behind its last good line, or none within the head
-pub record Replayed : Type 0 where
-  pub trace : List ℕ
-  pub end : ReplayEnd
-  pub last : Option Progress
+-- the trace that a replay writes, how it ends, and where it stood after its last good line, or none within the head
+abbrev pub Replayed : Type 0
+Replayed = Played (Option Progress)
 
--- nothing more is written
-abbrev pub ended : Option Progress → ReplayEnd → Replayed
-ended last end = record { trace = []; end = end; last = last }
-
--- the same within the head
+-- nothing is written within the head
 abbrev pub ends : ReplayEnd → Replayed
 ends end = ended None end
-
--- a text, and then what is answered behind it
-abbrev pub traced : List ℕ → Replayed → Replayed
-traced text answer = record { trace = text ++ answer.trace; end = answer.end; last = answer.last }
-
--- go on with the value, or end
-abbrev pub go_on : {A : Type 0} → Option Progress → Result A ReplayEnd → (A → Replayed) → Replayed
-go_on last (Ok value) next = next value
-go_on last (Err end) next = ended last end
 
 -- the input ended, or could not be read further, inside line `number` or where it was due
 abbrev pub cut_in : Option Progress → ℕ → Ending → Replayed
@@ -65,12 +51,16 @@ abbrev pub or_bad_line : ℕ → Result Event LineFault → Result Event ReplayE
 or_bad_line number (Ok event) = Ok event
 or_bad_line number (Err fault) = Err (BadSchedule number fault)
 
+-- the event that a line spells, or its first fault
+abbrev pub spelled_event : Progress → List ℕ → Result Event ReplayEnd
+spelled_event so_far line = or_bad_line (so_far.lines + 1) (event_of (ids so_far.settings.nodes) line)
+
 -- the event of a whole line, without its end, or its first fault
 unfoldable pub event_in : Progress → List ℕ → Result Event ReplayEnd
 event_in so_far line =
     if nat_lt MOST_LINE_BYTES (length line) then Err (BadSchedule (so_far.lines + 1) TooLong)
     else if so_far.events == MOST_EVENTS then Err (BadSchedule (so_far.lines + 1) TooMany)
-    else or_bad_line (so_far.lines + 1) (event_of (ids so_far.settings.nodes) line)
+    else spelled_event so_far line
 
 abbrev pub unless_refused : ℕ → Event → Option ℕ → Result Event ReplayEnd
 unless_refused number event None = Ok event

@@ -3,12 +3,13 @@ use Rattle.std.specs.Prelude.{◌≡◌, ◌⊎◌, ℕ, List, [], ◌++◌, Opt
 use Rattle.qn_world.specs.Standing.{WorldFor}
 use Rattle.qn_world.specs.Whole.{Whole}
 use Rattle.std.specs.Io.KnownBytes.{IsAtEnd, prepend_known, append_known}
-use Rattle.qn_io.specs.Writes.{AppendsFront}
-use Rattle.qn_model.specs.Inputs.{BeginsWith, Tells}
+use Rattle.qn_model.specs.Inputs.{Tells}
 use Rattle.qn_model.specs.Lines.{Ended}
 use Rattle.qn_sched.specs.declared.replay_end.ReplayEnd.{ReplayEnd}
 use Rattle.qn_sched.specs.declared.replay_end.ReplayEnd.TheVariants.{Done, NoMemory, WriteFault}
-use Rattle.qn_replay.specs.Reading.{IsNeeded, WantsAt}
+use Rattle.qn_play.specs.Runs as runs
+pub use Rattle.qn_play.specs.Runs.{AnswersWhole, Unwritten, Wanted, WroteAll}
+use Rattle.qn_replay.specs.Reading.{WantsAt}
 use Rattle.qn_replay.specs.Replay.{Progress, Replayed, replay_of}
 
 -- Why memory was wanted behind a trace: nothing was written yet; or the event behind those whose lines were written adds a packet or a
@@ -18,22 +19,18 @@ pub data WantsMemory (taken trace : List ℕ) : Type 0 where
   AtEvent : (so_far : Progress) (front line : List ℕ) → taken ≡ front ++ line
       → replay_of Ended front ≡ record { trace = trace; end = Done so_far.events; last = Some so_far } → WantsAt so_far line → WantsMemory taken trace
 
--- The trace that the taken bytes tell of was written whole, and the end is the one that they tell of; or a front of it was
--- written, because the sink failed or memory was wanted.
-pub data EndsAs (taken : List ℕ) (at_end read_failed : Type 0) (old new : Option (List ℕ)) (write_failed : Type 0) (end : ReplayEnd) : Type 0 where
-  WroteAll : (answer : Replayed) → Tells replay_of taken at_end read_failed (λ a. a ≡ answer) → IsNeeded replay_of taken → end ≡ answer.end
-      → new ≡ append_known old answer.trace → EndsAs taken at_end read_failed old new write_failed end
-  Unwritten : (trace : List ℕ) → Tells replay_of taken at_end read_failed (λ a. BeginsWith a.trace trace) → end ≡ WriteFault → write_failed
-      → AppendsFront old new trace → EndsAs taken at_end read_failed old new write_failed end
-  Wanted : (trace : List ℕ) → Tells replay_of taken at_end read_failed (λ a. BeginsWith a.trace trace) → end ≡ NoMemory
-      → new ≡ append_known old trace → WantsMemory taken trace → EndsAs taken at_end read_failed old new write_failed end
+-- wherever the replay stood
+abbrev pub AnyPlace : Option Progress → Type 0
+AnyPlace last = Unit {0}
 
--- Bytes were taken, and decided the end. What was read behind them waits, and was not looked at.
-pub record Replays (left_old left_new : Option (List ℕ)) (read_failed : Type 0) (old new : Option (List ℕ)) (write_failed : Type 0) (end : ReplayEnd) : Type 0 where
-  pub taken : List ℕ
-  pub waiting : List ℕ
-  pub takes : left_old ≡ prepend_known (taken ++ waiting) left_new
-  pub ends : EndsAs taken ((waiting ≡ []) × IsAtEnd left_new) ((waiting ≡ []) × read_failed) old new write_failed end
+-- The trace that the taken bytes tell of was written whole, and the end is the one that they tell of; or a prefix of it was
+-- written, because the sink failed or memory was wanted.
+abbrev pub EndsAs : List ℕ → Type 0 → Type 0 → Option (List ℕ) → Option (List ℕ) → Type 0 → ReplayEnd → Type 0
+EndsAs taken at_end read_failed old new write_failed end = runs.EndsAs replay_of AnyPlace WantsMemory taken at_end read_failed old new write_failed end
+
+-- Bytes were taken, and decided the end. What was read after them waits, and was not looked at.
+abbrev pub Replays : Option (List ℕ) → Option (List ℕ) → Type 0 → Option (List ℕ) → Option (List ℕ) → Type 0 → ReplayEnd → Type 0
+Replays left_old left_new read_failed old new write_failed end = runs.Runs replay_of AnyPlace WantsMemory left_old left_new read_failed old new write_failed end
 
 -- memory was wanted behind this trace, which is all that was written
 pub record Wants (left_old left_new old new : Option (List ℕ)) : Type 0 where
@@ -56,10 +53,6 @@ pub record Completes (left_old left_new old new : Option (List ℕ)) (end : Repl
 abbrev pub IfDone : ReplayEnd → Type 0 → Type 0
 IfDone (Done events) P = P
 IfDone _ P = Unit {0}
-
--- the trace and the end are those of the whole input
-abbrev pub AnswersWhole : Replayed → Option (List ℕ) → Option (List ℕ) → ReplayEnd → Type 0
-AnswersWhole answer old new end = (end ≡ answer.end) × (new ≡ append_known old answer.trace)
 
 -- an end that is a fault of the input, or want of memory
 abbrev pub IsFault : ReplayEnd → Type 0

@@ -4,8 +4,9 @@ ghost use Rattle.qn_model.specs.Lines.{Ended};
 ghost use Rattle.qn_replay.specs.Replay.{replay_of};
 ghost use Rattle.qn_replay.specs.Runs.{GivesWorld, IsFault, Reaches};
 
-use crate::reader::Reader;
-use qn_io::Source;
+use crate::head::start;
+use qn_io::{Pieces, Source};
+use qn_play::{NullSink, Output, play};
 use qn_sched::ReplayEnd;
 use qn_world::World;
 use std::alloc::Global;
@@ -30,15 +31,19 @@ fn run_silent<I: Source>(alloc: Global, input: &mut I) -> Result<World, ReplayEn
     ensures fault { IfErr result IsFault }
     ensures source_faults { I.faults input.old ≤ I.faults input.new }
 {
-    let mut reader = Reader::new();
-    let mut playback = match reader.start(alloc, input) {
-        Ok(playback) => playback,
-        Err(end) => return Err(end),
+    let Ok(output) = Output::new(alloc) else {
+        return Err(ReplayEnd::NoMemory);
     };
-    'events: loop {
-        match reader.next(input, &mut playback) {
-            Ok(_) => {}
-            Err(end) => return playback.last(end),
-        }
-    }
+    let mut pieces = Pieces::new();
+    let mut playback = start(alloc, &mut pieces, input)?;
+    let head = playback.head();
+    let end = play(
+        &mut playback,
+        head,
+        pieces,
+        output,
+        input,
+        &mut NullSink,
+    );
+    playback.last(end)
 }

@@ -13,11 +13,11 @@
 mod choice;
 mod drawn_events;
 mod generator;
+mod head;
 mod in_place;
 mod last;
 mod part_text;
 mod playback;
-mod reader;
 mod rows;
 mod run;
 mod schedule;

@@ -1,34 +1,31 @@
 use crate::schedule::Schedule;
 use arrayvec::ArrayVec;
-use qn_base::{Failed, MOST_EVENTS, MOST_LINE_BYTES};
-use qn_io::{Sink, put_all};
+use qn_base::MOST_LINE_BYTES;
 use qn_model::{Event, LineFault, Refused, Report};
+use qn_play::Plays;
 use qn_sched::{ReplayEnd, read_line, write_trace};
-use qn_world::World;
+use qn_world::{World, blank_report};
 use std::alloc::Global;
 
-/// A replay behind its head: the world after the events so far, how many lines of the input there were, and
-/// how many of them were events.
+/// A replay after its head: the world after the events so far, what the last of them came to, how many lines the
+/// head had, and how many events there were.
 #[derive(Drop)]
 pub(crate) struct Playback {
     world: World,
-    lines: u64,
+    report: Report,
+    head: u64,
     events: u64,
 }
 
 impl Playback {
-    ghost use Rattle.std.specs.Prelude.{◌≡◌, ◌≢◌, ◌<◌, ◌≤◌, ◌+◌, ◌^◌, true, Some, Err, OnOk, OnErr, IfOk, IfErr};
-    ghost use Rattle.std.specs.Io.KnownBytes.{append_known};
-    ghost use Rattle.qn_io.specs.Outside.{HasRisen};
-    ghost use Rattle.qn_io.specs.Writes.{AppendsFront};
-    ghost use Rattle.qn_model.specs.Lines.{Ended};
+    ghost use Rattle.std.specs.Prelude.{◌≡◌, ◌<◌, ◌≤◌, ◌+◌, ◌^◌, true, OnOk, OnErr, IfOk, IfErr};
+    ghost use Rattle.qn_base.specs.declared.limits.TheConstants.{MOST_EVENTS};
     ghost use Rattle.qn_model.specs.Rules.{is_well_formed};
     ghost use Rattle.qn_model.specs.Settings.{IsValid};
     ghost use Rattle.qn_model.specs.Timing.{is_safe};
     ghost use Rattle.qn_replay.specs.Playing.{Begins, IsGoing, RefusesLine, Stands, TakesLine, progress_at, refused_end, report_text};
-    ghost use Rattle.qn_replay.specs.Replay.{end_of_events, ended, event_in};
+    ghost use Rattle.qn_replay.specs.Replay.{spelled_event};
     ghost use Rattle.qn_replay.specs.Runs.{last_of};
-    ghost use Rattle.qn_world.specs.Standing.{WorldFor};
 
     /// A replay whose head was read: nothing has happened.
     pub(crate) fn new(alloc: Global, schedule: Schedule) -> Result<Playback, ReplayEnd>
@@ -38,7 +35,7 @@ impl Playback {
         ensures begins { IfOk result Begins }
         ensures settings { IfOk result (λ playback. playback.world.settings ≡ schedule.settings) }
         ensures timing { IfOk result (λ playback. playback.world.timing ≡ schedule.timing) }
-        ensures lines { IfOk result (λ playback. playback.lines ≡ schedule.lines) }
+        ensures lines { IfOk result (λ playback. playback.head ≡ schedule.lines) }
         ensures memory { IfErr result (λ end. end ≡ ReplayEnd.NoMemory) }
     {
         let Ok(world) = World::new(alloc, schedule.settings, schedule.timing) else {
@@ -46,52 +43,45 @@ impl Playback {
         };
         Ok(Playback {
             world,
-            lines: schedule.lines,
+            report: blank_report(),
+            head: schedule.lines,
             events: 0,
         })
     }
 
-    /// The number of the next line, from 1.
-    pub(crate) fn next_line(&self) -> u64
-        requires { IsGoing self.now }
-        ensures { result ≡ self.now.lines + 1 }
+    /// How many lines the head had.
+    pub(crate) fn head(&self) -> u64
+        ensures { result ≡ self.now.head }
     {
-        self.lines + 1
+        self.head
     }
 
-    /// Takes a whole line, without its end: its event happens. Otherwise nothing does, and the replay ends.
-    pub(crate) fn take(&mut self, line: &[u8]) -> Result<Report, ReplayEnd>
-        requires { IsGoing self.old }
-        ensures event { IfOk result (λ report. Stands self.old (TakesLine self.old self.new line.now report)) }
+    /// Takes a line, without its end: its event happens, and is reported. Otherwise nothing does.
+    fn happen(&mut self, line: &[u8]) -> Result<(), ReplayEnd>
+        requires going { IsGoing self.old }
+        requires few { self.old.events < MOST_EVENTS }
+        ensures event { OnOk result (Stands self.old (TakesLine self.old self.new line.now)) }
         ensures end { IfErr result (λ end. Stands self.old (RefusesLine self.old line.now end)) }
-        ensures kept { OnErr result (self.new ≡ self.old) }
-        ensures written { result ≢ Err ReplayEnd.WriteFault }
+        ensures kept { OnErr result (self.new.world ≡ self.old.world) }
+        ensures kept_head { self.new.head ≡ self.old.head }
+        ensures kept_events { OnErr result (self.new.events ≡ self.old.events) }
+        ensures settings { self.new.world.settings ≡ self.old.world.settings }
+        ensures timing { self.new.world.timing ≡ self.old.world.timing }
     {
         let event = self.judge(line)?;
-        match self.world.apply(&event) {
-            Ok(report) => {
-                self.lines += 1;
-                self.events += 1;
-                Ok(report)
-            }
-            Err(refused) => Err(self.refusal(refused)),
+        if let Err(refused) = self.world.apply_into(&event, &mut self.report) {
+            return Err(self.refusal(refused));
         }
+        self.events += 1;
+        Ok(())
     }
 
-    /// The event of a whole line, without its end.
+    /// The event of a line, without its end.
     fn judge(&self, line: &[u8]) -> Result<Event, ReplayEnd>
         requires { IsGoing self.now }
-        ensures judged { Stands self.now (λ world. result ≡ event_in (progress_at self.now world) line.now) }
+        ensures judged { Stands self.now (λ world. result ≡ spelled_event (progress_at self.now world) line.now) }
         ensures formed { IfOk result (λ event. is_well_formed self.now.world.settings event ≡ true) }
-        ensures few { OnOk result (self.now.events < MOST_EVENTS) }
-        ensures written { result ≢ Err ReplayEnd.WriteFault }
     {
-        if line.len() > MOST_LINE_BYTES {
-            return Err(self.bad_line(LineFault::TooLong));
-        }
-        if self.events == MOST_EVENTS {
-            return Err(self.bad_line(LineFault::TooMany));
-        }
         match read_line(line, self.world.settings()) {
             Ok(event) => Ok(event),
             Err(fault) => Err(self.bad_line(fault)),
@@ -99,60 +89,36 @@ impl Playback {
     }
 
     /// The end at a fault of the next line.
-    pub(crate) fn bad_line(&self, fault: LineFault) -> ReplayEnd
+    fn bad_line(&self, fault: LineFault) -> ReplayEnd
         requires { IsGoing self.now }
-        ensures { result ≡ ReplayEnd.BadSchedule (self.now.lines + 1) fault }
+        ensures { result ≡ ReplayEnd.BadSchedule (self.now.head + self.now.events + 1) fault }
     {
         ReplayEnd::BadSchedule {
-            line: self.lines + 1,
+            line: self.head + self.events + 1,
             fault,
         }
     }
 
     /// The end at an event of the next line that the world refused.
     fn refusal(&self, refused: Refused) -> ReplayEnd
-        requires { self.now.lines < 2 ^ 33 }
-        ensures end { result ≡ refused_end (self.now.lines + 1) refused }
-        ensures written { result ≢ ReplayEnd.WriteFault }
+        requires { self.now.head + self.now.events < 2 ^ 33 }
+        ensures { result ≡ refused_end (self.now.head + self.now.events + 1) refused }
     {
         match refused {
             Refused::NotAllowed(rule) => ReplayEnd::NotAllowed {
-                line: self.lines + 1,
+                line: self.head + self.events + 1,
                 rule,
             },
             Refused::NoMemory => ReplayEnd::NoMemory,
         }
     }
 
-    /// The end of an input behind whose last end of a line these bytes are.
-    pub(crate) fn end(&self, rest: &[u8]) -> ReplayEnd
-        requires { IsGoing self.now }
-        ensures end { Stands self.now (λ world. end_of_events (progress_at self.now world) Ended rest.now ≡ ended (Some (progress_at self.now world)) result) }
-        ensures written { result ≢ ReplayEnd.WriteFault }
+    /// Puts the trace line of the last event, with its end, in place of `text`.
+    fn write(&self, text: &mut ArrayVec<u8, MOST_LINE_BYTES>)
+        ensures { text.new.items ≡ report_text self.now }
     {
-        if rest.is_empty() {
-            return ReplayEnd::Done {
-                events: self.events,
-            };
-        }
-        self.bad_line(LineFault::Unended)
-    }
-
-    /// Writes the trace line of the last event, which is put together in `text`.
-    pub(crate) fn write<O: Sink>(
-        &self,
-        report: &Report,
-        text: &mut ArrayVec<u8, 4096>,
-        out: &mut O,
-    ) -> Result<(), Failed>
-        ensures whole { OnOk result (O.written out.new ≡ append_known (O.written out.old) (report_text self.now report.now)) }
-        ensures front { OnErr result (AppendsFront (O.written out.old) (O.written out.new) (report_text self.now report.now)) }
-        ensures never_falls { O.faults out.old ≤ O.faults out.new }
-        ensures cause { OnErr result (HasRisen (O.faults out.old) (O.faults out.new)) }
-    {
-        write_trace(self.events, report, self.world.settings(), text);
+        write_trace(self.events, &self.report, self.world.settings(), text);
         text.push(b'\n');
-        put_all(out, text.as_slice())
     }
 
     /// The world after the last event, where the replay ended well.
@@ -163,5 +129,25 @@ impl Playback {
             ReplayEnd::Done { .. } => Ok(self.world),
             end => Err(end),
         }
+    }
+}
+
+impl Plays for Playback {
+    ghost use Rattle.qn_replay.specs.Playing.{IsAfter, event_play, event_wants, start_of};
+
+    ghost play = { λ playback. event_play (start_of playback) };
+
+    ghost wants = { λ playback. event_wants (start_of playback) };
+
+    ghost stands = { IsAfter };
+
+    fn take(
+        &mut self,
+        line: &[u8],
+        text: &mut ArrayVec<u8, MOST_LINE_BYTES>,
+    ) -> Result<(), ReplayEnd> {
+        self.happen(line)?;
+        self.write(text);
+        Ok(())
     }
 }

@@ -4,9 +4,9 @@ ghost use Rattle.qn_model.specs.Lines.{Ended};
 ghost use Rattle.qn_replay.specs.Replay.{replay_of};
 ghost use Rattle.qn_replay.specs.Runs.{AnswersWhole, Completes, IfDone, Replays, Wants};
 
-use crate::reader::Reader;
-use arrayvec::ArrayVec;
-use qn_io::{Sink, Source};
+use crate::head::start;
+use qn_io::{Pieces, Sink, Source};
+use qn_play::{Output, play};
 use qn_sched::ReplayEnd;
 use std::alloc::Global;
 
@@ -44,19 +44,14 @@ fn run<I: Source, O: Sink>(alloc: Global, input: &mut I, out: &mut O) -> ReplayE
     ensures source_faults { I.faults input.old ≤ I.faults input.new }
     ensures sink_faults { O.faults out.old ≤ O.faults out.new }
 {
-    let mut reader = Reader::new();
-    let mut playback = match reader.start(alloc, input) {
+    let Ok(output) = Output::new(alloc) else {
+        return ReplayEnd::NoMemory;
+    };
+    let mut pieces = Pieces::new();
+    let mut playback = match start(alloc, &mut pieces, input) {
         Ok(playback) => playback,
         Err(end) => return end,
     };
-    let mut text = ArrayVec::new();
-    'events: loop {
-        let report = match reader.next(input, &mut playback) {
-            Ok(report) => report,
-            Err(end) => return end,
-        };
-        let Ok(()) = playback.write(&report, &mut text, out) else {
-            return ReplayEnd::WriteFault;
-        };
-    }
+    let head = playback.head();
+    play(&mut playback, head, pieces, output, input, out)
 }

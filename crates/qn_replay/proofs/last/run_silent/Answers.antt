@@ -1,50 +1,48 @@
-use Rattle.std.proofs.Common.{ap, arith, Err, IfErr, None, refl, Result, subst, sym}
-use Rattle.qn_model.specs.declared.reports.Report.{Report}
+use Rattle.std.proofs.Common.{◌<◌, arith, None, subst, sym, IfErr, Result}
+use Rattle.std.proofs.lemmas.Result.{err_from_is_err_and}
+use Rattle.qn_io.specs.Outside.{HasRisen}
+use Rattle.qn_play.specs.Runs.{Runs}
+use Rattle.qn_play.specs.Steps.{risen_within}
 use Rattle.qn_sched.specs.declared.replay_end.ReplayEnd.{ReplayEnd}
 use Rattle.qn_world.specs.Whole.{Whole}
-use Rattle.qn_replay.specs.declared.playback.Playback.{Playback}
-use Rattle.qn_replay.specs.Runs.{IsFault}
-use Rattle.qn_replay.proofs.LastEnds.{out_fault, reaches_in_head, reaches_out, reaches_wider}
-use Rattle.qn_replay.proofs.RunEnds.{begins_running, counts, runs_on}
-use Rattle.qn_replay.proofs.Steps.{risen_within}
+use Rattle.qn_replay.specs.Replay.{replay_of}
+use Rattle.qn_replay.specs.Runs.{IsFault, Reaches, WantsMemory}
+use Rattle.qn_replay.proofs.AfterHead.{replay_run}
+use Rattle.qn_replay.proofs.LastEnds.{IsPlaceOf, is_written, out_fault, place_after, reaches_in_head, reaches_nothing, reaches_out}
+use Rattle.qn_replay.proofs.Playbacks.{begins_after}
+use Rattle.qn_replay.proofs.last.run_silent.Given.{Over}
 use Rattle.qn_replay.proofs.last.run_silent.Goals as goal
 
-pub returns-in-Err-clause-reaches : goal.returns-in-Err-clause-reaches
-returns-in-Err-clause-reaches g c =
-    reaches_in_head (g.I.Source.left c.args.input.now) (g.I.Source.left c.start.new.input) c.new-reader.result.pieces c.start.new.self.pieces c.in-Err.end c.new-reader.ensures c.in-Err.ensures.fault c.in-Err.ensures.end
+-- the count of a sink that keeps nothing does not rise
+never_risen : HasRisen 0 0 → ⊥
+never_risen rose = let fewer : 0 < 0 = rose (omega arith) in absurd (omega arith)
 
-pub events-init : goal.events-init
-events-init g c = record {
-  running = begins_running (g.I.Source.left c.args.input.now) _ None c.new-reader.result.pieces c.in-Ok.playback c.new-reader.ensures c.in-Ok.ensures.begins c.in-Ok.ensures.head;
-  source = c.start.ensures.never_falls;
-}
+pub returns-in_default-clause-reaches : goal.returns-in_default-clause-reaches
+returns-in_default-clause-reaches g c = reaches_nothing _ _
 
-pub events-preserved : goal.events-preserved
-events-preserved g c =
-    let source = c.events.invariant.source in
-    let read = c.next.ensures.never_falls in
-    record {
-      running = runs_on c.events.playback c.events.invariant.running c.next.new.playback c.in-Ok-next.field-0 c.in-Ok-next.ensures.event refl;
-      source = omega (arith, source, read);
-    }
+pub returns-in_err-playback-clause-reaches : goal.returns-in_err-playback-clause-reaches
+returns-in_err-playback-clause-reaches g c =
+    let exit = err_from_is_err_and c.from_residual.result c.from_residual.ensures.1 in
+    rw (exit.1, exit.2)
+    (reaches_in_head c.new-pieces.result c.start.new.pieces c.in_err-playback.field-0.0 c.new-pieces.ensures c.in_err-playback.ensures.fault c.in_err-playback.ensures.end)
 
-pub events-smaller : goal.events-smaller
-events-smaller g c = counts c.events.playback c.events.invariant.running c.next.new.playback c.in-Ok-next.field-0 c.in-Ok-next.ensures.event
+pub play-end-requires-clause-stands : goal.play-end-requires-clause-stands
+play-end-requires-clause-stands g c = begins_after c.in_ok-playback.playback c.in_ok-playback.ensures.begins
 
-abbrev no_report : ReplayEnd → Result Report ReplayEnd
-no_report end = Err end
+run_of : (g : Over) (c : goal.After-last g)
+    → Runs replay_of (IsPlaceOf c.play-end.new.world) WantsMemory (g.I.Source.left c.args.input.now) (g.I.Source.left c.play-end.new.input)
+    (HasRisen (g.I.Source.faults c.args.input.now) (g.I.Source.faults c.play-end.new.input)) None None (HasRisen 0 0) c.play-end.result
+run_of g c =
+    replay_run c.in_ok-playback.playback c.play-end.new.world c.new-pieces.result c.head-head.result c.new-pieces.ensures c.head-head.ensures c.in_ok-playback.ensures.head
+    (place_after c.in_ok-playback.playback c.play-end.new.world)
+    (λ rose. risen_within _ _ _ _ c.start.ensures.never_falls c.play-end.ensures.source_faults (omega arith) rose) c.play-end.ensures.runs
 
-abbrev world_of : Playback → Whole
-world_of playback = playback.world
+pub returns-clause-reaches : goal.returns-clause-reaches
+returns-clause-reaches g c =
+    subst (λ (r : Result Whole ReplayEnd). Reaches (g.I.Source.left c.args.input.now) (g.I.Source.left c.play-end.new.input) (HasRisen (g.I.Source.faults c.args.input.now) (g.I.Source.faults c.play-end.new.input)) r)
+    (sym c.last.ensures) (reaches_out c.play-end.new.world c.play-end.result never_risen (run_of g c))
 
-pub returns-in-Err-next-clause-reaches : goal.returns-in-Err-next-clause-reaches
-returns-in-Err-next-clause-reaches g c =
-    reaches_wider (g.I.Source.left c.args.input.now) (g.I.Source.left c.next.new.input) _ _ _ c.last.result c.last.ensures
-    (λ rose. risen_within _ _ _ _ c.events.invariant.source c.next.ensures.never_falls (omega arith) rose)
-    (reaches_out c.events.playback c.events.invariant.running c.next.new.self.pieces c.next.new.playback.world c.in-Err-next.end (ap world_of c.in-Err-next.ensures.kept)
-    (λ same. c.in-Err-next.ensures.written (ap no_report same)) c.in-Err-next.ensures.end)
-
-pub returns-in-Err-next-clause-fault : goal.returns-in-Err-next-clause-fault
-returns-in-Err-next-clause-fault g c =
+pub returns-clause-fault : goal.returns-clause-fault
+returns-clause-fault g c =
     subst (λ (r : Result Whole ReplayEnd). IfErr r IsFault) (sym c.last.ensures)
-    (out_fault c.next.new.playback.world c.in-Err-next.end (λ same. c.in-Err-next.ensures.written (ap no_report same)))
+    (out_fault c.play-end.new.world.world c.play-end.result (is_written c.play-end.new.world never_risen (run_of g c)))

@@ -1,8 +1,9 @@
-use Rattle.qn_replay.proofs.RunEnds.{replay_complete, replay_done, replay_wanted, replay_unread, replay_unwritten}
+use Rattle.qn_play.specs.RunLaws.{runs_complete}
+use Rattle.qn_replay.proofs.RunEnds.{replay_done, replay_wanted, replay_unread, replay_unwritten}
 use Rattle.qn_replay.proofs.run.replay.Goals as goal
 
 pub returns-clause-complete : goal.returns-clause-complete
-returns-clause-complete g c = replay_complete _ _ _ _ _ _ _ c.run.ensures.replays
+returns-clause-complete g c = λ read wrote memory. runs_complete _ _ c.run.ensures.replays read wrote memory
 
 pub returns-clause-done : goal.returns-clause-done
 returns-clause-done g c = replay_done _ _ _ _ _ _ _ c.run.ensures.replays

@@ -1,41 +1,22 @@
-use Rattle.std.proofs.Common.{arith}
-use Rattle.qn_replay.proofs.RunEnds.{begins_running, counts, ends_in_head, replays_wider, runs_on, runs_out, runs_unwritten}
-use Rattle.qn_replay.proofs.Steps.{risen_within}
+use Rattle.std.proofs.Common.{arith, refl}
+use Rattle.qn_play.specs.RunLaws.{runs_not_begun}
+use Rattle.qn_play.specs.Steps.{risen_within}
+use Rattle.qn_replay.specs.Replay.{replay_of}
+use Rattle.qn_replay.specs.Runs.{AnyPlace, AtHead, WantsMemory}
+use Rattle.qn_replay.proofs.AfterHead.{replay_in_head, replay_run}
+use Rattle.qn_replay.proofs.Playbacks.{begins_after}
 use Rattle.qn_replay.proofs.run.run.Goals as goal
 
-pub returns-in-Err-clause-replays : goal.returns-in-Err-clause-replays
-returns-in-Err-clause-replays g c =
-    ends_in_head (g.I.Source.left c.args.input.now) (g.I.Source.left c.start.new.input) (g.O.Sink.written c.args.out.now) c.new-reader.result.pieces c.start.new.self.pieces c.in-Err.end c.new-reader.ensures c.in-Err.ensures.end
-
-pub events-init : goal.events-init
-events-init g c = record {
-  running = begins_running (g.I.Source.left c.args.input.now) _ (g.O.Sink.written c.args.out.now) c.new-reader.result.pieces c.in-Ok.playback c.new-reader.ensures c.in-Ok.ensures.begins c.in-Ok.ensures.head;
-  source = c.start.ensures.never_falls;
-  sink = omega arith;
-}
-
-pub events-preserved : goal.events-preserved
-events-preserved g c =
-    let source = c.events.invariant.source in
-    let sink = c.events.invariant.sink in
-    let read = c.next.ensures.never_falls in
-    let wrote = c.write.ensures.never_falls in
-    record {
-      running = runs_on c.events.playback c.events.invariant.running c.next.new.playback c.in-Ok-next.report c.in-Ok-next.ensures.event c.in-Ok-write.ensures.whole;
-      source = omega (arith, source, read);
-      sink = omega (arith, sink, wrote);
-    }
-
-pub events-smaller : goal.events-smaller
-events-smaller g c = counts c.events.playback c.events.invariant.running c.next.new.playback c.in-Ok-next.report c.in-Ok-next.ensures.event
-
-pub returns-in-Err-next-clause-replays : goal.returns-in-Err-next-clause-replays
-returns-in-Err-next-clause-replays g c =
-    replays_wider (λ rose. risen_within _ _ _ _ c.events.invariant.source c.next.ensures.never_falls (omega arith) rose) (λ rose. rose)
-    (runs_out c.events.playback c.events.invariant.running c.next.new.self.pieces c.in-Err-next.end c.in-Err-next.ensures.end)
-
 pub returns-in_default-clause-replays : goal.returns-in_default-clause-replays
-returns-in_default-clause-replays g c =
-    replays_wider (λ rose. risen_within _ _ _ _ c.events.invariant.source c.next.ensures.never_falls (omega arith) rose)
-    (λ rose. risen_within _ _ _ _ c.events.invariant.sink c.write.ensures.never_falls (omega arith) rose)
-    (runs_unwritten c.events.playback c.events.invariant.running c.next.new.self.pieces c.next.new.playback c.in-Ok-next.report c.in-Ok-next.ensures.event c.in_default.ensures.cause c.in_default.ensures.front)
+returns-in_default-clause-replays g c = runs_not_begun replay_of AnyPlace WantsMemory _ _ _ _ (AtHead refl)
+
+pub returns-in-Err-clause-replays : goal.returns-in-Err-clause-replays
+returns-in-Err-clause-replays g c = replay_in_head c.new-pieces.result c.start.new.pieces c.in-Err.end c.new-pieces.ensures tt c.in-Err.ensures.end
+
+pub play-requires-clause-stands : goal.play-requires-clause-stands
+play-requires-clause-stands g c = begins_after c.in-Ok-start.playback c.in-Ok-start.ensures.begins
+
+pub returns-clause-replays : goal.returns-clause-replays
+returns-clause-replays g c =
+    replay_run c.in-Ok-start.playback c.play.new.world c.new-pieces.result c.head-head.result c.new-pieces.ensures c.head-head.ensures c.in-Ok-start.ensures.head (λ earlier after. tt)
+    (λ rose. risen_within _ _ _ _ c.start.ensures.never_falls c.play.ensures.source_faults (omega arith) rose) c.play.ensures.runs

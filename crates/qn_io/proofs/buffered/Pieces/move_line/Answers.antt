@@ -8,8 +8,8 @@ returns-then-room-count-clause-moves c =
     let waiting = c.args.self.now in
     let count = c.length_before_end-count.result in
     short_moves c.args.line.now.items waiting c.move_front.new.line.items c.remaining_capacity-room.result count
-    (subst (λ (xs : List ℕ). HasNoLineFeed (take count xs)) c.waiting-waiting.ensures c.length_before_end-count.ensures.before)
-    (subst (λ (xs : List ℕ). count ≤ length xs) c.waiting-waiting.ensures c.length_before_end-count.ensures.within)
+    (subst (λ (xs : List ℕ). HasNoLineFeed (take count xs)) c.waiting-waiting.ensures.value c.length_before_end-count.ensures.before)
+    (subst (λ (xs : List ℕ). count ≤ length xs) c.waiting-waiting.ensures.value c.length_before_end-count.ensures.within)
     c.if-room-count.true c.move_front.ensures.line c.take_first.result c.take_first.new.self c.remaining_capacity-room.ensures
     (sym c.move_front.ensures.left ∙ c.take_first.ensures)
 
@@ -18,6 +18,6 @@ returns-then-room-count-clause-unended c =
     let waiting = c.args.self.now in
     let count = c.length_before_end-count.result in
     short_unended c.args.line.now.items waiting c.move_front.new.line.items c.remaining_capacity-room.result count
-    (subst (λ (xs : List ℕ). HasNoLineFeed (take count xs)) c.waiting-waiting.ensures c.length_before_end-count.ensures.before)
-    (subst (λ (xs : List ℕ). count ≤ length xs) c.waiting-waiting.ensures c.length_before_end-count.ensures.within)
+    (subst (λ (xs : List ℕ). HasNoLineFeed (take count xs)) c.waiting-waiting.ensures.value c.length_before_end-count.ensures.before)
+    (subst (λ (xs : List ℕ). count ≤ length xs) c.waiting-waiting.ensures.value c.length_before_end-count.ensures.within)
     c.if-room-count.true c.move_front.ensures.line

@@ -1,0 +1,78 @@
+use Rattle.std.proofs.Common.{◌≡◌, ◌≤◌, ◌++◌, List, ℕ, Option, arith, ap, subst, sym, refl, ◌∙◌}
+use Rattle.std.specs.Io.KnownBytes.{prepend_known}
+use Rattle.qn_io.specs.Writes.{AppendsFront}
+use Rattle.qn_play.specs.RunLaws.{runs_complete}
+use Rattle.qn_play.specs.Writing.{GivesOut}
+use Rattle.qn_play.specs.Steps.{risen_within, stops_wider}
+use Rattle.qn_play.proofs.Running.{IsRunning, begins, finishes, goes_at, stops_here, takes_on, unwritten, unwritten_at, writes_on}
+use Rattle.qn_play.proofs.run.play.Goals as goal
+
+pub lines-init : goal.lines-init
+lines-init g c =
+    let left = prepend_known c.args.pieces (g.I.Source.left c.args.input.now) in
+    record {
+      running =
+          subst (λ (to_come : Option (List ℕ)). IsRunning (g.W.Plays.play c.args.world.now) (g.W.Plays.stands c.args.world.now c.args.world.now) c.args.head 0 left to_come (g.O.Sink.written c.args.out.now) (g.O.Sink.written c.args.out.now) c.new-lines.result.output)
+          (ap (λ (p : List ℕ). prepend_known p (g.I.Source.left c.args.input.now)) (sym c.new-lines.ensures.pieces))
+          (begins (g.W.Plays.play c.args.world.now) (g.W.Plays.stands c.args.world.now c.args.world.now) c.args.head left (g.O.Sink.written c.args.out.now) c.new-lines.result.output c.requires.stands
+          (c.new-lines.ensures.output ∙ c.requires.nothing_waits));
+      head = refl;
+      source = omega arith;
+      sink = omega arith;
+    }
+
+pub returns-in_default-clause-runs : goal.returns-in_default-clause-runs
+returns-in_default-clause-runs g c =
+    unwritten c.lines.invariant.running c.next.new.self.pieces (sym c.in_default.ensures.kept)
+    (risen_within _ _ _ _ c.lines.invariant.sink c.next.ensures.sink_faults (omega arith) c.in_default.ensures.write_failed)
+    c.in_default.ensures.prefix
+
+pub returns-in-Err-clause-runs : goal.returns-in-Err-clause-runs
+returns-in-Err-clause-runs g c =
+    let run = c.lines.invariant.running in
+    let pieces = c.next.new.self.pieces in
+    let sink = c.lines.invariant.sink in
+    let wrote = c.next.ensures.sink_faults in
+    finishes (writes_on run c.in-Ok.ensures.given) pieces c.in-Err.end c.finish.result
+    (c.in-Err.ensures.kept c.args.world.now run.after.earlier run.after.stands)
+    (λ rose. risen_within _ _ _ _ (omega (arith, sink, wrote)) c.finish.ensures.never_falls (omega arith) rose)
+    (stops_wider (λ fails. (fails.0, risen_within _ _ _ _ c.lines.invariant.source c.next.ensures.source_faults (omega arith) fails.1))
+    (stops_here run c.lines.invariant.head c.in-Ok.read c.line.result.now c.line.ensures.value c.in-Ok.ensures.unended c.line.ensures.fits
+    pieces (g.I.Source.left c.next.new.input) c.in-Err.end c.in-Ok.ensures.reads c.in-Ok.ensures.drained c.in-Ok.ensures.read_failed (c.in-Err.ensures.end c.args.world.now)))
+    c.finish.ensures.finishes
+
+pub returns-in-Err-clause-complete : goal.returns-in-Err-clause-complete
+returns-in-Err-clause-complete g c = λ read_well wrote_well memory. runs_complete _ _ (returns-in-Err-clause-runs g c) read_well wrote_well memory
+
+pub lines-preserved : goal.lines-preserved
+lines-preserved g c =
+    let run = c.lines.invariant.running in
+    let line = c.line.result.now in
+    let sink = c.lines.invariant.sink in
+    let source = c.lines.invariant.source in
+    let read = c.next.ensures.source_faults in
+    let wrote = c.next.ensures.sink_faults in
+    let wrote_text = c.put.ensures.never_falls in
+    record {
+      running =
+          takes_on (writes_on run c.in-Ok.ensures.given) {after = prepend_known c.next.new.self.pieces (g.I.Source.left c.next.new.input)} line c.judge.new.text.items c.judge.new.self.events (c.in_default-judge.ensures.stands c.args.world.now run.after.earlier run.after.stands)
+          c.in_default-judge.ensures.few c.in_default-judge.ensures.counted
+          (goes_at run c.lines.invariant.head c.in-Ok.read line c.line.ensures.value c.in-Ok.ensures.unended c.line.ensures.fits
+          c.judge.new.text.items c.in-Ok.ensures.reads (c.in_default-judge.ensures.text c.args.world.now))
+          (subst (λ (t : List ℕ). GivesOut (g.O.Sink.written c.next.new.out) (g.O.Sink.written c.put.new.out) c.put.new.self (c.next.new.self.output ++ t)) c.as_slice.ensures.value c.in-Ok-put.ensures.given);
+      head = c.judge.ensures.head ∙ c.lines.invariant.head;
+      source = omega (arith, source, read);
+      sink = omega (arith, sink, wrote, wrote_text);
+    }
+
+pub returns-in_default-put-clause-runs : goal.returns-in_default-put-clause-runs
+returns-in_default-put-clause-runs g c =
+    let run = c.lines.invariant.running in
+    let line = c.line.result.now in
+    let sink = c.lines.invariant.sink in
+    let wrote = c.next.ensures.sink_faults in
+    unwritten_at (writes_on run c.in-Ok.ensures.given) c.next.new.self.pieces line c.judge.new.text.items
+    (goes_at run c.lines.invariant.head c.in-Ok.read line c.line.ensures.value c.in-Ok.ensures.unended c.line.ensures.fits
+    c.judge.new.text.items c.in-Ok.ensures.reads (c.in_default-judge.ensures.text c.args.world.now))
+    (risen_within _ _ _ _ (omega (arith, sink, wrote)) c.put.ensures.never_falls (omega arith) c.in_default-put.ensures.cause)
+    (subst (λ (t : List ℕ). AppendsFront (g.O.Sink.written c.next.new.out) (g.O.Sink.written c.put.new.out) (c.next.new.self.output ++ t)) c.as_slice.ensures.value c.in_default-put.ensures.prefix)

@@ -1,0 +1,16 @@
+use Rattle.std.proofs.Common.{◌+◌, ◌-◌, ◌≤◌, length}
+use Rattle.std.specs.Io.KnownBytes.{prepend_known}
+use Rattle.qn_replay.specs.Reading.{GoesOn, MayGoOn, text_rest}
+use Rattle.qn_replay.specs.Replay.{replay_of}
+use Rattle.qn_replay.proofs.head.read_text.Given as goal
+
+-- the text may go on, and what the whole input gives is what the rest gives behind it
+abbrev pub invariant-bytes : goal.invariant-bytes
+invariant-bytes g l = record {
+  may_go_on : MayGoOn l.text;
+  goes : GoesOn replay_of (text_rest l.text) (prepend_known l.fn.pieces (g.I.Source.left l.fn.input)) (prepend_known l.pieces (g.I.Source.left l.input));
+  never_falls : g.I.Source.faults l.fn.input ≤ g.I.Source.faults l.input;
+}
+
+abbrev pub decreases-bytes : goal.decreases-bytes
+decreases-bytes g l = 1048581 - (length l.text.whole + length l.text.rest)

@@ -1,0 +1,22 @@
+use Rattle.std.proofs.Common.{◌∙◌, List, ℕ, Ok, Result, sym, ap}
+use Rattle.std.proofs.lemmas.Result.{err_from_is_err_and}
+use Rattle.qn_sched.specs.declared.replay_end.ReplayEnd.{ReplayEnd}
+use Rattle.qn_replay.proofs.Playbacks.{plays, refuses_line, stands_on}
+use Rattle.qn_replay.proofs.playback.PlaybackPlays.take.Goals as goal
+
+abbrev text_is : List ℕ → Result (List ℕ) ReplayEnd
+text_is text = Ok text
+
+pub returns-in_err-happen-clause-end : goal.returns-in_err-happen-clause-end
+returns-in_err-happen-clause-end c =
+    let exit = err_from_is_err_and c.from_residual.result c.from_residual.ensures.1 in
+    rw (exit.1, exit.2)
+    (λ start earlier after. refuses_line start c.args.self.now c.args.line.now _ earlier after (c.in_err-happen.ensures.end after.world after.stands))
+
+pub returns-clause-text : goal.returns-clause-text
+returns-clause-text c = λ start earlier after.
+    plays start c.args.self.now c.happen.new.self c.args.line.now earlier after (c.in_ok-happen.ensures.event after.world after.stands) ∙ ap text_is (sym c.write.ensures)
+
+pub returns-clause-stands : goal.returns-clause-stands
+returns-clause-stands c = λ start earlier after.
+    stands_on start c.args.self.now c.happen.new.self c.args.line.now earlier after (c.in_ok-happen.ensures.event after.world after.stands)
