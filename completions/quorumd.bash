@@ -2,15 +2,16 @@
 # /usr/share/bash-completion/completions.
 
 # the commands, in the order of `quorumd help`
-_quorumd_commands='count replay status soak create dump list message help'
+_quorumd_commands=(count replay status soak create dump list message help)
 
-# _quorumd_options COMMAND: the options that a command takes
+# _quorumd_options COMMAND: leaves the options that a command takes in `options`
 _quorumd_options() {
+    options=()
     case $1 in
-    status) printf '%s' '--form' ;;
-    create) printf '%s' '--image --timing' ;;
-    dump | list) printf '%s' '--image' ;;
-    message) printf '%s' '--image --id --kind' ;;
+    status) options=(--form) ;;
+    create) options=(--image --timing) ;;
+    dump | list) options=(--image) ;;
+    message) options=(--image --id --kind) ;;
     esac
 }
 
@@ -44,7 +45,7 @@ _quorumd_value() {
 # _quorumd_left COMMAND: offers the options that do not stand in front of the present word, or the values of the one that does
 _quorumd_left() {
     local at option word left options
-    read -r -a options <<< "$(_quorumd_options "$1")"
+    _quorumd_options "$1"
     for ((at = 2; at < COMP_CWORD; at++)); do
         word=${COMP_WORDS[at]}
         left=()
@@ -73,8 +74,7 @@ _quorumd() {
         ;;
     esac
     if ((COMP_CWORD == 1)); then
-        # shellcheck disable=SC2086
-        _quorumd_offer $_quorumd_commands
+        _quorumd_offer "${_quorumd_commands[@]}"
     else
         _quorumd_left "${COMP_WORDS[1]}"
     fi

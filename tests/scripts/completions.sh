@@ -2,10 +2,11 @@
 # names, and the program takes the words that it offers.
 . "$TOP/tests/expect.sh"
 
-# offers WANTED WORD..: what is offered for the last of these words behind the program's name
+# offers WANTED WORD..: what is offered for the last of these words behind the program's name, whatever the shell's IFS
 cat > offers.bash <<'END'
+[ "$2" = usual ] || IFS=$2
 source "$1"
-shift
+shift 2
 COMP_WORDS=(quorumd "$@")
 COMP_CWORD=$#
 COMP_LINE="${COMP_WORDS[*]}"
@@ -14,9 +15,11 @@ _quorumd quorumd "${COMP_WORDS[COMP_CWORD]}" "${COMP_WORDS[COMP_CWORD - 1]}"
 printf '%s\n' "${COMPREPLY[@]}"
 END
 offers() {
-    local wanted=$1
+    local wanted=$1 separators
     shift
-    same "quorumd $*: $(bash offers.bash "$TOP/completions/quorumd.bash" "$@" | xargs)" "quorumd $*: $wanted"
+    for separators in usual $'\n' ''; do
+        same "quorumd $*: $(bash offers.bash "$TOP/completions/quorumd.bash" "$separators" "$@" | xargs)" "quorumd $*: $wanted"
+    done
 }
 
 same "$(bash -c 'source "$1" && complete -p quorumd' - "$TOP/completions/quorumd.bash")" 'complete -F _quorumd quorumd'

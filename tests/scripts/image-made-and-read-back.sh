@@ -30,3 +30,9 @@ expect 0 'created nodes 1\n' create --image disk --timing 5000,8164,1000,2000,10
 expect 0 'version 1\nnodes 1\nwatchdog 5000\nmsgwait 8164\nloop 1000\nread_limit 2000\nfeed_delay 1000\nsafe yes\n' \
     dump --image disk
 expect 0 'node 1 incarnation 0 clean mail empty\n' list --image disk
+
+# times that are not safe are refused before anything is read, and settings at fault before anything is opened
+expect 10 'fault UnsafeTiming 5000 8163 1000 2000 1000\n' create --image other --timing 5000,8163,1000,2000,1000 < .
+printf 'nodelist {\nnode {\nnodeid: 2\n}\nnode {\nnodeid: 2\n}\n}\n' > twice
+expect 3 'fault BadConf RepeatedId id 2\n' create --image other < twice
+[ ! -e other ]

@@ -1,14 +1,29 @@
-# A directory, a path through a file, and a file without the right to write: the env's fault, and nothing is written.
+# A directory, a path through a file, and a file without the right to write: the env's fault with the system's word for it, and
+# nothing is written.
 . "$TOP/tests/expect.sh"
+
+# refused PATH WORD..: this command on the image of that path is refused, and the system says so
+refused() {
+    local path=$1 word=$2
+    shift 2
+    expect 8 'fault EnvFault\n' "$@" --image "$path" < "$TOP/examples/one-node.conf"
+    same "$(cat .errors)" "quorumd: $path: $word"
+}
+
+# refused_all PATH WORD: every command is
+refused_all() {
+    refused "$1" "$2" create
+    refused "$1" "$2" dump
+    refused "$1" "$2" list
+    refused "$1" "$2" message --id 1 --kind off
+}
 
 mkdir folder
 touch file
-for path in folder file/disk folder/absent/disk ''; do
-    expect 8 'fault EnvFault\n' create --image "$path" < "$TOP/examples/one-node.conf"
-    expect 8 'fault EnvFault\n' dump --image "$path"
-    expect 8 'fault EnvFault\n' list --image "$path"
-    expect 8 'fault EnvFault\n' message --image "$path" --id 1 --kind off
-done
+refused_all folder 'Is a directory (os error 21)'
+refused_all file/disk 'Not a directory (os error 20)'
+refused_all folder/absent/disk 'No such file or directory (os error 2)'
+refused_all '' 'No such file or directory (os error 2)'
 same "$(ls -A folder)" ''
 
 expect 0 'created nodes 1\n' create --image disk < "$TOP/examples/one-node.conf"
@@ -21,6 +36,5 @@ if [ "$(id -u)" = 0 ]; then
     chmod 755 . program
     RUN_AS=(setpriv --reuid=65534 --regid=65534 --clear-groups)
 fi
-expect 8 'fault EnvFault\n' message --image "$PWD/disk" --id 1 --kind off
-expect 8 'fault EnvFault\n' create --image "$PWD/disk" < "$TOP/examples/one-node.conf"
+refused_all "$PWD/disk" 'Permission denied (os error 13)'
 cmp disk before

@@ -12,7 +12,7 @@ fi
 expect 0 'view 1 votes 2 quorum 3 quorate no\nview 2 votes 3 quorum 3 quorate yes\nend 2\n' count < "$TOP/examples/count.txt"
 
 printf 'nodelist {\nnode {\nnodeid: 1\n}\n}\nquorum {\ntwo_node: 1\n}\n' > corosync.conf
-{ cat corosync.conf; printf -- '----\ntiming 5000 10000 1000 2000 1000\n'; } > head
+{ cat corosync.conf; printf '\n----\ntiming 5000 10000 1000 2000 1000\n'; } > head
 expect 3 'fault BadConf TwoNodeCount\n' replay < head
 
 printf 'nodelist {\nnode {\nnodeid: 1\n}\n}\n----\ntiming 5000 10000 1000 2000 1000\nboot 1 0\npass 5050\n' > schedule

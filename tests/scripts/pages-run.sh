@@ -1,5 +1,5 @@
-# The examples of docs/FORMATS.md and docs/STATUS.md write what these pages say. The table of docs/STATUS.md and the schema have
-# each condition that a start can lack.
+# The examples of docs/FORMATS.md, docs/SCHEDULES.md and docs/STATUS.md write what these pages say. The table of docs/STATUS.md
+# and the schema have each condition that a start can lack.
 . "$TOP/tests/expect.sh"
 
 mkdir bin
@@ -7,12 +7,13 @@ ln -s "$QUORUMD" bin/quorumd
 ln -s "$TOP/examples" examples
 
 # of a block with a line `$ COMMAND`: the command into PAGE.N.command, and the lines behind it into PAGE.N.wanted
-for page in FORMATS STATUS; do
+for counted in FORMATS:8 SCHEDULES:2 STATUS:8; do
+    page=${counted%:*}
     awk -v page="$page" '
         /^```/ { inside = !inside; name = ""; next }
         inside && /^\$ / { name = page "." ++number; print substr($0, 3) > (name ".command"); printf "" > (name ".wanted"); next }
         inside && name { print > (name ".wanted") }' "$TOP/docs/$page.md"
-    [ -e "$page.8.command" ] || { printf 'the examples of %s were not found\n' "$page"; exit 1; }
+    [ -e "$page.${counted#*:}.command" ] || { printf 'the examples of %s were not found\n' "$page"; exit 1; }
 done
 
 for command in *.command; do

@@ -59,39 +59,3 @@ impl Mask {
         }
     }
 }
-
-#[cfg(test)]
-mod tests {
-    use super::*;
-
-    #[test]
-    fn joins_and_parts_masks(rt: HostRuntime) {
-        let some = Mask(0b1010);
-        assert_eq!(rt; some.has(Rank(3)), true);
-        assert_eq!(rt; some.has(Rank(2)), false);
-        assert_eq!(rt; some.has(Rank(32)), false);
-        assert_eq!(rt; some.with(Rank(0)), Mask(0b1011));
-        assert_eq!(rt; some.with(Rank(31)), Mask(0x8000_000a));
-        assert_eq!(rt; some.with(Rank(32)), some);
-        assert_eq!(rt; some.both(Mask(0b0110)), Mask(0b0010));
-        assert_eq!(rt; some.without(Mask(0b0110)), Mask(0b1000));
-        assert_eq!(rt; some.outside(), Mask(0xffff_fff5));
-    }
-
-    #[test]
-    fn finds_the_first_member(rt: HostRuntime) {
-        let rows = [
-            (0b1010u32, 32u8, Some(Rank(1))),
-            (0b1010, 2, Some(Rank(1))),
-            (0b1010, 1, None),
-            (0, 32, None),
-            (1 << 31, 32, Some(Rank(31))),
-            (1 << 31, 31, None),
-            (1, 1, Some(Rank(0))),
-            (1, 0, None),
-        ];
-        for (members, count, want) in rows {
-            assert_eq!(rt; Mask(members).first(count), want);
-        }
-    }
-}

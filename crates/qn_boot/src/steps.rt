@@ -230,6 +230,3 @@ fn halted<T>(cause: BootCause) -> Result<T, Halt>
 {
     Err(Halt { cause })
 }
-
-#[cfg(test)]
-mod tests;

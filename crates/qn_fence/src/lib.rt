@@ -9,8 +9,6 @@
 
 mod fencing;
 mod laws;
-#[cfg(test)]
-mod tests;
 
 pub use fencing::{Fence, Licence, Unfenced, Want};
 pub use laws::{law_asked_inside, law_other_lines, law_outside};

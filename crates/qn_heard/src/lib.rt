@@ -9,8 +9,6 @@
 
 mod laws;
 mod listener;
-#[cfg(test)]
-mod tests;
 
 pub use laws::{law_asks_by_members, law_few_installs, law_not_asking, law_other_lines};
 pub use listener::{Heard, Heardness};

@@ -1,6 +1,5 @@
 pub mod Blamed
 pub mod Created
-pub mod Joining
 pub mod Outcomes
 pub mod Searching
 pub mod Tried

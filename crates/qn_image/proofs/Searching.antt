@@ -10,7 +10,7 @@ use Rattle.qn_model.specs.Sectors.{mail_place, mail_bytes}
 use Rattle.qn_image.specs.declared.fault.ImageFault.{ImageFault}
 use Rattle.qn_image.specs.declared.fault.ImageFault.TheVariants.{UnknownNode}
 use Rattle.qn_image.specs.Plans.{or_fault, put_plan, slot_plan, search_plan}
-use Rattle.qn_image.proofs.Joining.{faulted}
+use Rattle.qn_image.specs.Joining.{faulted}
 
 module _ (id : NodeId) (message : Message) (rank nodes : ℕ) where
   -- what follows the slot of this rank

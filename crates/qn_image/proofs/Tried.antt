@@ -1,5 +1,5 @@
 -- The calls that follow a list of writes.
-use Rattle.std.proofs.Common.{◌≡◌, ℕ, suc, Bool, true, false, not, List, [], ◌∷◌, length, Result, Ok, Err, if◌then◌else◌, refl, arith}
+use Rattle.std.proofs.Common.{◌≡◌, ℕ, suc, Bool, true, false, not, List, [], ◌∷◌, length, Result, Err, refl, arith}
 use Rattle.std.proofs.Math.Dec.{eqb-suc-suc, eqb-zero-suc}
 use Rattle.qn_base.specs.declared.calls.Call.{Call}
 use Rattle.qn_base.specs.declared.calls.Call.TheVariants.{OpenImage, OpenNode, Now, Receive, Read, Write, Feed, Start, Stop, Send, Disarm, Halt}
@@ -9,9 +9,10 @@ use Rattle.qn_model.specs.declared.nodelist.NodeEntry.{NodeEntry}
 use Rattle.qn_model.specs.declared.times.Timing.{Timing}
 use Rattle.qn_model.specs.Timing.{is_safe}
 use Rattle.qn_image.specs.declared.fault.ImageFault.{ImageFault}
-use Rattle.qn_image.specs.declared.fault.ImageFault.TheVariants.{Disk, UnsafeTiming}
+use Rattle.qn_image.specs.declared.fault.ImageFault.TheVariants.{UnsafeTiming}
 use Rattle.qn_image.specs.Plans.{or_fault}
 use Rattle.qn_image.specs.Writes.{SectorWrite, writes_plan, create_writes, create_plan, IsTried}
+use Rattle.qn_image.proofs.Writing.{answer_of}
 
 -- a call that asks for a write is that write
 asked_write : (call : Call) (sector : ℕ) (bytes : List ℕ) → blank call ≡ Write sector bytes true → call ≡ Write sector bytes (not (is_failed call))
@@ -28,10 +29,6 @@ asked_write (Stop ok) sector bytes asked = cc
 asked_write (Send to given ok) sector bytes asked = cc
 asked_write (Disarm ok) sector bytes asked = cc
 asked_write (Halt code) sector bytes asked = cc
-
--- what a write answered
-abbrev answer_of : Bool → Result (Unit {0}) ImageFault
-answer_of failed = if failed then Err Disk else Ok tt
 
 -- the first write of a list, and then the others
 first_tried : (failed : Bool) (write : SectorWrite) (writes : List SectorWrite) (call : Call) (calls : List Call) (result : Result (Unit {0}) ImageFault) → call ≡ Write write.sector write.bytes (not failed) → (Follows (writes_plan writes) calls result → IsTried writes calls result) → Follows (or_fault (λ done. writes_plan writes) (answer_of failed)) calls result → IsTried (write ∷ writes) (call ∷ calls) result

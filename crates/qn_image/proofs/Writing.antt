@@ -12,10 +12,10 @@ use Rattle.qn_image.specs.Plans.{or_fault, put_plan}
 use Rattle.qn_model.specs.declared.times.Timing.{Timing}
 use Rattle.qn_model.specs.Sectors.{header_bytes, zeros}
 use Rattle.qn_image.specs.Writes.{SectorWrite, writes_plan, node_pair, node_writes, create_writes, erasing_write, header_write}
-use Rattle.qn_image.proofs.Joining.{faulted, ended}
+use Rattle.qn_image.specs.Joining.{faulted, ended}
 
 -- what a write answered
-abbrev answer_of : Bool → Result (Unit {0}) ImageFault
+abbrev pub answer_of : Bool → Result (Unit {0}) ImageFault
 answer_of failed = if failed then Err Disk else Ok tt
 
 after_write : (failed : Bool) (writes joined : List SectorWrite) (calls more : List Call) (result : Result (Unit {0}) ImageFault) → (Follows (writes_plan writes) calls (Ok tt) → Follows (writes_plan joined) more result) → Follows (or_fault (λ done. writes_plan writes) (answer_of failed)) calls (Ok tt) → Follows (or_fault (λ done. writes_plan joined) (answer_of failed)) more result

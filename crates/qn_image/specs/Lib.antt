@@ -1,3 +1,4 @@
 pub mod Causes
+pub mod Joining
 pub mod Plans
 pub mod Writes

@@ -12,8 +12,6 @@ mod fault;
 mod laws;
 mod messaging;
 mod reading;
-#[cfg(test)]
-mod tests;
 
 pub use creating::create;
 pub use fault::ImageFault;

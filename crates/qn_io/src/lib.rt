@@ -4,19 +4,21 @@
 // Promises: whatever a source, a sink or an outside does, its count of faults never falls, and a call
 // answers `Failed` only where that count rose. Bytes that are told come and go whole and in order; calls
 // that are told are exactly the calls that were made, with their answers. The objects in memory do exactly
-// what their scripts say. `StdSource`, `StdSink` and `RealEnv` are the trusted edge: they tell nothing, and
-// no clause says what a file, a stream or a clock gives.
+// what their scripts say. No file is opened under the descriptor of a standard stream. `StdSource`, `StdSink` and
+// `RealEnv` are the trusted edge: they tell nothing, and no clause says what a file, a stream or a clock gives.
 #![tactic(auto)]
 
 mod buffered;
 mod calls;
 mod env_memory;
 mod failing;
+mod image_file;
 mod lines;
 mod memory;
 mod outside;
 mod quiet;
 mod real;
+mod reported;
 mod scripted;
 mod sectors;
 mod standard;
@@ -34,8 +36,3 @@ pub use real::RealEnv;
 pub use scripted::Script;
 pub use standard::{StdSink, StdSource};
 pub use whole::put_all;
-
-#[cfg(test)]
-mod env_tests;
-#[cfg(test)]
-mod tests;

@@ -1,26 +1,27 @@
-ghost use Rattle.std.specs.Prelude.{◌≡◌, ◌*◌, ◌<◌, ◌≤◌, IfOk, length};
+ghost use Rattle.std.specs.Prelude.{◌≡◌};
 
 use crate::calls::{Env, Got, Opening, PACKET, SECTOR};
-use crate::standard::TRIES;
+use crate::image_file::ImageFile;
+use crate::reported::reported;
 use qn_base::{Failed, Rank};
-use std::fs::{File, OpenOptions};
-use std::io::ErrorKind;
+use std::fs::File;
+use std::io::{self, ErrorKind};
 use std::marker::Model;
-use std::os::unix::fs::FileExt;
 use std::rt::Files;
 use std::time::Clock;
 
 /// The outside of a node over the runtime: an image file and the monotonic clock in milliseconds. The
-/// calls of a running node fail. It does not tell its calls, and is seen as its count of faults.
+/// calls of a running node fail. It does not tell its calls, and is seen as its count of faults. Of each call
+/// that failed a line on standard error says why.
 #[derive(Drop)]
-pub struct RealEnv<R: Files<File = File> + Clock + Drop> {
+pub struct RealEnv<R: Files<File = File> + Clock + Eprint + Drop> {
     rt: R,
-    image: Option<File>,
+    image: Option<ImageFile>,
     last_tick: u64,
     faults: u64,
 }
 
-impl<R: Files<File = File> + Clock + Drop> Model for RealEnv<R> {
+impl<R: Files<File = File> + Clock + Eprint + Drop> Model for RealEnv<R> {
     ghost use Rattle.std.specs.Prelude.{ℕ};
 
     ghost Value = { ℕ };
@@ -28,8 +29,8 @@ impl<R: Files<File = File> + Clock + Drop> Model for RealEnv<R> {
     ghost view = { λ e. e.faults };
 }
 
-impl<R: Files<File = File> + Clock + Drop> RealEnv<R> {
-    ghost use Rattle.std.specs.Prelude.{◌≡◌, ◌≤◌, OnErr};
+impl<R: Files<File = File> + Clock + Eprint + Drop> RealEnv<R> {
+    ghost use Rattle.std.specs.Prelude.{◌≡◌, ◌≤◌, IsErr, OnErr};
     ghost use Rattle.qn_io.specs.Outside.{HasRisen};
 
     /// An outside over this runtime, with nothing opened and no fault so far.
@@ -56,23 +57,50 @@ impl<R: Files<File = File> + Clock + Drop> RealEnv<R> {
         done
     }
 
+    /// A call of a running node, which fails.
+    fn unsupported(&mut self, name: &str) -> Result<(), Failed>
+        ensures failed { IsErr result }
+        ensures never_falls { self.old ≤ self.new }
+        ensures cause { HasRisen self.old self.new }
+    {
+        let error = io::Error::from(ErrorKind::Unsupported);
+        let done = reported(&self.rt, name, Err(error));
+        self.counted(done)
+    }
+
+    /// Takes the exclusive lock of the image. Where it is not to be had the image is closed, since its shared
+    /// lock is lost.
+    fn lock_image(&mut self)
+        ensures { self.new ≡ self.old }
+    {
+        let is_locked = match &self.image {
+            Some(image) => reported(&self.rt, image.path(), image.lock()).is_ok(),
+            None => false,
+        };
+        if !is_locked {
+            self.image = None;
+        }
+    }
+
     /// The time of the monotonic clock in milliseconds, where it can be read.
     fn tick(&self) -> Option<u64> {
-        let time = self.rt.monotonic().ok()?;
+        let time = reported(&self.rt, "monotonic clock", self.rt.monotonic()).ok()?;
         u64::try_from(time.as_millis()).ok()
     }
 }
 
-impl<R: Files<File = File> + Clock + Drop> Env for RealEnv<R> {
+impl<R: Files<File = File> + Clock + Eprint + Drop> Env for RealEnv<R> {
     ghost use Rattle.std.specs.Prelude.{None};
 
     ghost faults = { λ e. e };
 
     ghost calls = { λ _. None };
 
-    /// Opens the file of that path for reading and writing, and makes it where it is absent.
+    /// Opens the file of that path for reading and writing, under a shared lock that is held while it is
+    /// open, and makes it where it is absent.
     fn open_image(&mut self, path: &str) -> Result<(), Failed> {
-        self.image = open_file(&self.rt, path).ok();
+        self.image = None;
+        self.image = reported(&self.rt, path, ImageFile::open(&self.rt, path)).ok();
         let done = if self.image.is_some() {
             Ok(())
         } else {
@@ -82,7 +110,7 @@ impl<R: Files<File = File> + Clock + Drop> Env for RealEnv<R> {
     }
 
     fn open_node(&mut self, _opening: &Opening<'_>) -> Result<(), Failed> {
-        self.counted(Err(Failed))
+        self.unsupported("node")
     }
 
     /// The time of the monotonic clock. Where it cannot be read, the last answer, and a fault.
@@ -95,135 +123,51 @@ impl<R: Files<File = File> + Clock + Drop> Env for RealEnv<R> {
     }
 
     fn receive(&mut self, _packet: &mut [u8; PACKET]) -> Got {
-        let _ = self.counted(Err(Failed));
+        let _ = self.unsupported("network");
         Got::Failed
     }
 
     /// Reads the sector; what lies past the end of the file reads as zeros.
     fn read(&mut self, sector: u32, into: &mut [u8; SECTOR]) -> Result<(), Failed> {
         let done = match &self.image {
-            Some(file) => read_sector(file, sector, into),
+            Some(image) => reported(&self.rt, image.path(), image.read(sector, into)),
             None => Err(Failed),
         };
         self.counted(done)
     }
 
-    /// Writes the sector and has it pushed to the disk.
+    /// Writes the sector and has it pushed to the disk. Sector 0 is written only under the exclusive lock,
+    /// which is then held while the image is open; where that lock is not to be had, the image is closed.
     fn write(&mut self, sector: u32, from: &[u8; SECTOR]) -> Result<(), Failed> {
+        if sector == 0 {
+            self.lock_image();
+        }
         let done = match &self.image {
-            Some(file) => write_sector(file, sector, from),
+            Some(image) => reported(&self.rt, image.path(), image.write(sector, from)),
             None => Err(Failed),
         };
         self.counted(done)
     }
 
     fn feed(&mut self) -> Result<(), Failed> {
-        self.counted(Err(Failed))
+        self.unsupported("watchdog")
     }
 
     fn start(&mut self) -> Result<(), Failed> {
-        self.counted(Err(Failed))
+        self.unsupported("resource")
     }
 
     fn stop(&mut self) -> Result<(), Failed> {
-        self.counted(Err(Failed))
+        self.unsupported("resource")
     }
 
     fn send(&mut self, _to: Rank, _bytes: &[u8]) -> Result<(), Failed> {
-        self.counted(Err(Failed))
+        self.unsupported("network")
     }
 
     fn disarm(&mut self) -> Result<(), Failed> {
-        self.counted(Err(Failed))
+        self.unsupported("watchdog")
     }
 
     fn halt(&mut self, _code: u8) {}
-}
-
-/// Opens a file for reading and writing, and makes it where it is absent.
-fn open_file<R: Files<File = File>>(rt: &R, path: &str) -> Result<File, Failed> {
-    let mut options = OpenOptions::new();
-    options.read(true).write(true).create(true);
-    'tries: for _ in 0..TRIES {
-        match options.open(rt, path) {
-            Ok(file) => return Ok(file),
-            Err(error) if error.kind() == ErrorKind::Interrupted => {}
-            Err(_) => return Err(Failed),
-        }
-    }
-    Err(Failed)
-}
-
-/// The place of a sector in the file.
-fn place_of(sector: u32) -> u64
-    ensures { result ≡ sector * 512 }
-{
-    u64::from(sector) * SECTOR as u64
-}
-
-/// Reads a sector, in as many reads as it needs.
-fn read_sector(file: &File, sector: u32, into: &mut [u8; SECTOR]) -> Result<(), Failed> {
-    let place = place_of(sector);
-    let mut at = 0;
-    'parts: while at < SECTOR {
-        let count = read_part(file, &mut into[at..], place + at as u64)?;
-        if count == 0 {
-            into[at..].fill(0);
-            return Ok(());
-        }
-        at += count;
-    }
-    Ok(())
-}
-
-/// Reads once, again after each interruption.
-fn read_part(file: &File, into: &mut [u8], place: u64) -> Result<usize, Failed>
-    ensures { IfOk result (λ n. n ≤ length into.new) }
-{
-    'tries: for _ in 0..TRIES {
-        match file.read_at(into, place) {
-            Ok(count) => return Ok(count),
-            Err(error) if error.kind() == ErrorKind::Interrupted => {}
-            Err(_) => return Err(Failed),
-        }
-    }
-    Err(Failed)
-}
-
-/// Writes a sector, in as many writes as it needs, and has it pushed to the disk.
-fn write_sector(file: &File, sector: u32, from: &[u8; SECTOR]) -> Result<(), Failed> {
-    let place = place_of(sector);
-    let mut at = 0;
-    'parts: while at < SECTOR {
-        at += write_part(file, &from[at..], place + at as u64)?;
-    }
-    push_to_disk(file)
-}
-
-/// Writes once, again after each interruption. A write that takes nothing has failed.
-fn write_part(file: &File, from: &[u8], place: u64) -> Result<usize, Failed>
-    ensures within { IfOk result (λ n. n ≤ length from.now) }
-    ensures some { IfOk result (λ n. 0 < n) }
-{
-    'tries: for _ in 0..TRIES {
-        match file.write_at(from, place) {
-            Ok(0) => return Err(Failed),
-            Ok(count) => return Ok(count),
-            Err(error) if error.kind() == ErrorKind::Interrupted => {}
-            Err(_) => return Err(Failed),
-        }
-    }
-    Err(Failed)
-}
-
-/// Waits until what was written to the file lasts.
-fn push_to_disk(file: &File) -> Result<(), Failed> {
-    'tries: for _ in 0..TRIES {
-        match file.sync_data() {
-            Ok(()) => return Ok(()),
-            Err(error) if error.kind() == ErrorKind::Interrupted => {}
-            Err(_) => return Err(Failed),
-        }
-    }
-    Err(Failed)
 }

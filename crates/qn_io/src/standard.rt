@@ -1,21 +1,24 @@
 ghost use Rattle.std.specs.Prelude.{◌<◌, ◌≤◌, IfOk, length};
 
 use crate::outside::{Sink, Source};
+use crate::reported::reported;
 use qn_base::Failed;
-use std::io::{ErrorKind, Read, Write};
+use std::io::{self, ErrorKind, Read, Write};
 use std::marker::Model;
 
 /// How often a real call is made that is interrupted each time; then it has failed.
 pub(crate) const TRIES: u32 = 1000;
 
-/// A source over a real reader. It tells nothing of its bytes, and is seen as its count of faults.
+/// A source over a real reader, which is standard input. It tells nothing of its bytes, and is seen as its
+/// count of faults. Of each call that failed a line on standard error says why.
 #[derive(Drop)]
-pub struct StdSource<R: Read + Drop> {
+pub struct StdSource<R: Read + Drop, E: Eprint + Drop> {
     reader: R,
+    errors: E,
     faults: u64,
 }
 
-impl<R: Read + Drop> Model for StdSource<R> {
+impl<R: Read + Drop, E: Eprint + Drop> Model for StdSource<R, E> {
     ghost use Rattle.std.specs.Prelude.{ℕ};
 
     ghost Value = { ℕ };
@@ -23,18 +26,23 @@ impl<R: Read + Drop> Model for StdSource<R> {
     ghost view = { λ s. s.faults };
 }
 
-impl<R: Read + Drop> StdSource<R> {
+impl<R: Read + Drop, E: Eprint + Drop> StdSource<R, E> {
     ghost use Rattle.std.specs.Prelude.{◌≡◌};
 
-    /// A source that reads from this reader, which no fault has met yet.
-    pub fn new(reader: R) -> StdSource<R>
+    /// A source that reads from this reader, which no fault has met yet, and says on these errors why a
+    /// call failed.
+    pub fn new(reader: R, errors: E) -> StdSource<R, E>
         ensures { result ≡ 0 }
     {
-        StdSource { reader, faults: 0 }
+        StdSource {
+            reader,
+            errors,
+            faults: 0,
+        }
     }
 }
 
-impl<R: Read + Drop> Source for StdSource<R> {
+impl<R: Read + Drop, E: Eprint + Drop> Source for StdSource<R, E> {
     ghost use Rattle.std.specs.Prelude.{None};
 
     ghost faults = { λ s. s };
@@ -43,7 +51,8 @@ impl<R: Read + Drop> Source for StdSource<R> {
 
     /// Reads once. A call that was interrupted is made again, up to 1000 times.
     fn read(&mut self, into: &mut [u8]) -> Result<usize, Failed> {
-        let done = read_again(&mut self.reader, into);
+        let moved = read_again(&mut self.reader, into);
+        let done = reported(&self.errors, "standard input", moved);
         if done.is_err() {
             self.faults = self.faults.saturating_add(1);
         }
@@ -51,14 +60,16 @@ impl<R: Read + Drop> Source for StdSource<R> {
     }
 }
 
-/// A sink over a real writer. It tells nothing of its bytes, and is seen as its count of faults.
+/// A sink over a real writer, which is standard output. It tells nothing of its bytes, and is seen as its
+/// count of faults. Of each call that failed a line on standard error says why.
 #[derive(Drop)]
-pub struct StdSink<W: Write + Drop> {
+pub struct StdSink<W: Write + Drop, E: Eprint + Drop> {
     writer: W,
+    errors: E,
     faults: u64,
 }
 
-impl<W: Write + Drop> Model for StdSink<W> {
+impl<W: Write + Drop, E: Eprint + Drop> Model for StdSink<W, E> {
     ghost use Rattle.std.specs.Prelude.{ℕ};
 
     ghost Value = { ℕ };
@@ -66,18 +77,23 @@ impl<W: Write + Drop> Model for StdSink<W> {
     ghost view = { λ s. s.faults };
 }
 
-impl<W: Write + Drop> StdSink<W> {
+impl<W: Write + Drop, E: Eprint + Drop> StdSink<W, E> {
     ghost use Rattle.std.specs.Prelude.{◌≡◌};
 
-    /// A sink that writes to this writer, which no fault has met yet.
-    pub fn new(writer: W) -> StdSink<W>
+    /// A sink that writes to this writer, which no fault has met yet, and says on these errors why a call
+    /// failed.
+    pub fn new(writer: W, errors: E) -> StdSink<W, E>
         ensures { result ≡ 0 }
     {
-        StdSink { writer, faults: 0 }
+        StdSink {
+            writer,
+            errors,
+            faults: 0,
+        }
     }
 }
 
-impl<W: Write + Drop> Sink for StdSink<W> {
+impl<W: Write + Drop, E: Eprint + Drop> Sink for StdSink<W, E> {
     ghost use Rattle.std.specs.Prelude.{None};
 
     ghost faults = { λ s. s };
@@ -87,7 +103,8 @@ impl<W: Write + Drop> Sink for StdSink<W> {
     /// Writes once. A call that was interrupted is made again, up to 1000 times; one that takes nothing
     /// of a piece that is not empty has failed.
     fn write(&mut self, from: &[u8]) -> Result<usize, Failed> {
-        let done = write_again(&mut self.writer, from);
+        let moved = write_again(&mut self.writer, from);
+        let done = reported(&self.errors, "standard output", moved);
         if done.is_err() {
             self.faults = self.faults.saturating_add(1);
         }
@@ -96,31 +113,31 @@ impl<W: Write + Drop> Sink for StdSink<W> {
 }
 
 /// Reads once, again after each interruption.
-fn read_again<R: Read>(reader: &mut R, into: &mut [u8]) -> Result<usize, Failed>
+fn read_again<R: Read>(reader: &mut R, into: &mut [u8]) -> io::Result<usize>
     ensures { IfOk result (λ n. n ≤ length into.new) }
 {
     'tries: for _ in 0..TRIES {
         match reader.read(into) {
             Ok(count) => return Ok(count),
             Err(error) if error.kind() == ErrorKind::Interrupted => {}
-            Err(_) => return Err(Failed),
+            Err(error) => return Err(error),
         }
     }
-    Err(Failed)
+    Err(io::Error::from(ErrorKind::Interrupted))
 }
 
 /// Writes once, again after each interruption. A write that takes nothing of bytes has failed.
-fn write_again<W: Write>(writer: &mut W, from: &[u8]) -> Result<usize, Failed>
+fn write_again<W: Write>(writer: &mut W, from: &[u8]) -> io::Result<usize>
     ensures within { IfOk result (λ n. n ≤ length from.now) }
     ensures some { IfOk result (λ n. 0 < length from.now → 0 < n) }
 {
     'tries: for _ in 0..TRIES {
         match writer.write(from) {
-            Ok(0) if !from.is_empty() => return Err(Failed),
+            Ok(0) if !from.is_empty() => return Err(io::Error::from(ErrorKind::WriteZero)),
             Ok(count) => return Ok(count),
             Err(error) if error.kind() == ErrorKind::Interrupted => {}
-            Err(_) => return Err(Failed),
+            Err(error) => return Err(error),
         }
     }
-    Err(Failed)
+    Err(io::Error::from(ErrorKind::Interrupted))
 }

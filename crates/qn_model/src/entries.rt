@@ -82,11 +82,13 @@ impl What {
         match op {
             None => false,
             Some(DiskOp::ReadHeader) => matches!(self, What::Header(_)),
-            Some(DiskOp::ReadSlot(rank)) => matches!(self, What::SlotRead(other, _) if rank.0 == other.0),
+            Some(DiskOp::ReadSlot(rank)) =>
+                matches!(self, What::SlotRead(other, _) if rank.0 == other.0),
             Some(DiskOp::WriteClaim(_)) => matches!(self, What::Claimed(_)),
             Some(DiskOp::WriteClear) => matches!(self, What::Cleared(_)),
             Some(DiskOp::ReadMail) => matches!(self, What::MailRead(_)),
-            Some(DiskOp::WriteReset(rank)) => matches!(self, What::MailWritten(other, _) if rank.0 == other.0),
+            Some(DiskOp::WriteReset(rank)) =>
+                matches!(self, What::MailWritten(other, _) if rank.0 == other.0),
             Some(DiskOp::WriteClose(_)) => matches!(self, What::Closed(_)),
         }
     }

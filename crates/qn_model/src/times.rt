@@ -74,35 +74,3 @@ fn outlasts_feeds(timing: &Timing) -> bool
     let silence = timing.read_limit + 1 + timing.watchdog + timing.feed_delay;
     99 * timing.msgwait.saturating_sub(1) >= 101 * silence
 }
-
-#[cfg(test)]
-mod tests {
-    use super::*;
-
-    #[test]
-    fn safe_and_unsafe_times(rt: HostRuntime) {
-        for ([watchdog, msgwait, loop_ms, read_limit, feed_delay], safe) in [
-            ([5000, 10000, 1000, 2000, 1000], true),
-            ([5000, 8164, 1000, 2000, 1000], true),
-            ([5000, 8163, 1000, 2000, 1000], false),
-            ([1, 6, 1, 1, 1], true),
-            ([1, 5, 1, 1, 1], false),
-            ([1, 1, 3600000, 1, 1], false),
-            ([1764351, 3600000, 1, 1764358, 1], true),
-            ([1764351, 3600000, 1, 1764359, 1], false),
-            ([1000000, 3600000, 3600000, 1000000, 1000000], true),
-            ([3600000, 3600000, 3600000, 3600000, 3600000], false),
-            ([5000, 10000, 0, 2000, 1000], false),
-            ([5000, 3600001, 1000, 2000, 1000], false),
-        ] {
-            let timing = Timing {
-                watchdog,
-                msgwait,
-                loop_ms,
-                read_limit,
-                feed_delay,
-            };
-            assert_eq!(rt; timing_safe(&timing), safe, "{timing:?}");
-        }
-    }
-}

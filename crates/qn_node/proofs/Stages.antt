@@ -20,7 +20,7 @@ use Rattle.qn_quorum.specs.declared.counting.Quorum.{Quorum}
 use Rattle.qn_node.specs.declared.live.Live.{Live}
 use Rattle.qn_node.specs.declared.stage.Stage.{Stage}
 use Rattle.qn_node.specs.declared.stage.Stage.TheVariants as stage
-use Rattle.qn_node.specs.Stage.{StageFor, claims_in, holds_in, is_part, stage_phase}
+use Rattle.qn_node.specs.Stage.{StageFor, claims_in, holds_in, takes_part, stage_phase}
 
 pub phase_at : (at : Stage) (s : Settings) (me : ℕ) (log : List Line) → StageFor at s me log → stage_phase at ≡ phase s log
 unfolding phase
@@ -60,14 +60,14 @@ not_up Dying e = refl
 not_up Gone e = refl
 
 -- a stage that takes no part
-pub apart_at : (at : Stage) → ((live : Live) → at ≡ stage.Live live → ⊥) → is_part at ≡ false
-apart_at stage.Idle never = refl
-apart_at (stage.Header boot) never = refl
-apart_at (stage.Slot boot) never = refl
-apart_at (stage.Claim boot) never = refl
-apart_at (stage.Clear boot) never = refl
-apart_at (stage.Live live) never = absurd (never live refl)
-apart_at (stage.Rest rest) never = refl
+pub no_part_at : (at : Stage) → ((live : Live) → at ≡ stage.Live live → ⊥) → takes_part at ≡ false
+no_part_at stage.Idle never = refl
+no_part_at (stage.Header boot) never = refl
+no_part_at (stage.Slot boot) never = refl
+no_part_at (stage.Claim boot) never = refl
+no_part_at (stage.Clear boot) never = refl
+no_part_at (stage.Live live) never = absurd (never live refl)
+no_part_at (stage.Rest rest) never = refl
 
 pub quiet_at : (at : Stage) (s : Settings) (me : ℕ) (log : List Line) → StageFor at s me log → ((live : Live) → at ≡ stage.Live live → ⊥) → is_live (phase s log) ≡ false
 unfolding phase

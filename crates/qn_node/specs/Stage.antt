@@ -50,14 +50,14 @@ stage_phase (stage.Claim boot) = Booting
 stage_phase (stage.Clear boot) = Booting
 
 -- whether a node at that stage takes part in the cluster
-abbrev pub is_part : Stage → Bool
-is_part stage.Idle = false
-is_part (stage.Header boot) = false
-is_part (stage.Slot boot) = false
-is_part (stage.Claim boot) = false
-is_part (stage.Clear boot) = false
-is_part (stage.Live live) = true
-is_part (stage.Rest rest) = false
+abbrev pub takes_part : Stage → Bool
+takes_part stage.Idle = false
+takes_part (stage.Header boot) = false
+takes_part (stage.Slot boot) = false
+takes_part (stage.Claim boot) = false
+takes_part (stage.Clear boot) = false
+takes_part (stage.Live live) = true
+takes_part (stage.Rest rest) = false
 
 -- whether a node at that stage holds the resource
 abbrev pub holds_in : Stage → Bool

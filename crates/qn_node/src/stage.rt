@@ -36,7 +36,7 @@ impl Stage {
     ghost use Rattle.qn_model.specs.Unmet.{unmet};
     ghost use Rattle.qn_fence.specs.Fence.{IsAskedInside};
     ghost use Rattle.qn_quorum.specs.Quorum.{QuorumFor};
-    ghost use Rattle.qn_node.specs.Stage.{StageFor, claims_in, holds_in, installs_in, is_part, stage_phase};
+    ghost use Rattle.qn_node.specs.Stage.{StageFor, claims_in, holds_in, installs_in, takes_part, stage_phase};
 
     /// Takes an entry in, and gives its outputs.
     pub fn step(&mut self, own: &Own, quorum: &mut Quorum, entry: Entry, outs: &mut Outs)
@@ -73,7 +73,7 @@ impl Stage {
 
     /// The next stage of a node that takes no part, after an entry, of which it gives the outputs.
     fn next(self, own: &Own, entry: Entry, outs: &mut Outs) -> Stage
-        requires quiet { is_part self ≡ false }
+        requires quiet { takes_part self ≡ false }
         requires empty { outs.old ≡ [] }
         ensures few { installs_in result ≡ 0 }
         ensures stands { (log : List Line)

@@ -61,7 +61,13 @@ fits_at s me place past (what.Device agrees) = is_live past.life.phase
 fits_at s me place past (what.Stopped ok) = past.life.stop_due
 fits_at s me place past what.Leave = is_up past.life.phase
 fits_at s me place past what.Tick = true
-fits_at s me place past answer = answers_op past.life.op answer
+fits_at s me place past (what.Header seen) = answers_op past.life.op (what.Header seen)
+fits_at s me place past (what.SlotRead rank seen) = answers_op past.life.op (what.SlotRead rank seen)
+fits_at s me place past (what.Claimed ok) = answers_op past.life.op (what.Claimed ok)
+fits_at s me place past (what.Cleared ok) = answers_op past.life.op (what.Cleared ok)
+fits_at s me place past (what.MailRead seen) = answers_op past.life.op (what.MailRead seen)
+fits_at s me place past (what.MailWritten rank ok) = answers_op past.life.op (what.MailWritten rank ok)
+fits_at s me place past (what.Closed ok) = answers_op past.life.op (what.Closed ok)
 
 -- an entry as it is read at a place: one that does not fit is a Tick
 abbrev pub read_at : Settings → ℕ → ℕ → Past → What → What

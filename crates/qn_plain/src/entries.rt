@@ -1,56 +1,52 @@
 ghost use Rattle.std.specs.Prelude.{◌≡◌};
-ghost use Rattle.qn_model.specs.Holding.{answers_stop, is_stopped};
-ghost use Rattle.qn_model.specs.Log.{is_answer, is_view, times_of};
+ghost use Rattle.qn_model.specs.Holding.{is_stopped};
+ghost use Rattle.qn_model.specs.Log.{times_of};
 ghost use Rattle.qn_model.specs.NodeOutputs.{feeds_on, is_begin, is_boot_step};
 ghost use Rattle.qn_model.specs.Phases.{deadly_of, gives_exit, message_of};
 
 use qn_model::{HeaderSeen, MailSeen, Message, Timing, What};
 
-/// Whether an entry is the answer of a disk operation.
-pub fn is_answer(what: What) -> bool
-    ensures { result ≡ is_answer what }
-{
-    matches!(
-        what,
-        What::Header(_)
-            | What::SlotRead(_, _)
-            | What::Claimed(_)
-            | What::Cleared(_)
-            | What::MailRead(_)
-            | What::MailWritten(_, _)
-            | What::Closed(_)
-    )
-}
-
-/// Whether an entry installs a view.
-pub fn is_view(what: What) -> bool
-    ensures { result ≡ is_view what }
-{
-    matches!(what, What::View(_))
-}
-
 /// Whether an entry begins the boot.
 pub fn is_begin(what: What) -> bool
     ensures { result ≡ is_begin what }
 {
-    matches!(what, What::Begin)
+    match what {
+        What::Begin => true,
+        What::Header(_)
+        | What::SlotRead(..)
+        | What::Claimed(_)
+        | What::Cleared(_)
+        | What::MailRead(_)
+        | What::MailWritten(..)
+        | What::View(_)
+        | What::Ask(_)
+        | What::Tell(_)
+        | What::Device(_)
+        | What::Tick
+        | What::Stopped(_)
+        | What::Leave
+        | What::Closed(_) => false,
+    }
 }
 
 /// Whether an entry is a step of the boot.
 pub fn is_boot_step(what: What) -> bool
     ensures { result ≡ is_boot_step what }
 {
-    matches!(
-        what,
-        What::Begin | What::Header(_) | What::SlotRead(_, _) | What::Claimed(_) | What::Cleared(_)
-    )
-}
-
-/// Whether an entry answers a Stop.
-pub fn answers_stop(what: What) -> bool
-    ensures { result ≡ answers_stop what }
-{
-    matches!(what, What::Stopped(_))
+    match what {
+        What::Begin | What::Header(_) | What::SlotRead(..) | What::Claimed(_) | What::Cleared(_) =>
+            true,
+        What::MailRead(_)
+        | What::MailWritten(..)
+        | What::View(_)
+        | What::Ask(_)
+        | What::Tell(_)
+        | What::Device(_)
+        | What::Tick
+        | What::Stopped(_)
+        | What::Leave
+        | What::Closed(_) => false,
+    }
 }
 
 /// Whether an entry is a stop that succeeded.

@@ -19,8 +19,6 @@ mod phases;
 mod sought;
 mod spans;
 mod tally;
-#[cfg(test)]
-mod tests;
 mod votes;
 mod wanted;
 

@@ -1,8 +1,8 @@
-use crate::entries::{answers_stop, is_answer, is_stopped, is_view, times_of};
-use crate::operations::{asks_mail, claim_of, disk_of, has_start, has_stop};
+use crate::entries::{is_stopped, times_of};
+use crate::operations::{asks_mail, claim_of};
 use crate::phases::{is_up, next_phase};
 use crate::spans::{has_passed, is_within};
-use qn_model::{DiskOp, Out, Phase, Settings, Timing, What};
+use qn_model::{DiskOp, Outs, Phase, Settings, Timing, What};
 
 /// How the last Stop of the resource stands.
 #[derive(Clone, Copy)]
@@ -82,13 +82,13 @@ impl Life {
         Life {
             phase,
             holds: self.holds && !is_stopped(what),
-            stop_due: self.stop_due && !answers_stop(what),
-            stopping: if answers_stop(what) {
+            stop_due: self.stop_due && !what.answers_stop(),
+            stopping: if what.answers_stop() {
                 Stopping::Answered(tick)
             } else {
                 self.stopping
             },
-            op: if is_answer(what) { None } else { self.op },
+            op: if what.is_answer() { None } else { self.op },
             timing: times_of(what).unwrap_or(self.timing),
             moment: if asks { Some(tick) } else { self.moment },
             asks,
@@ -97,14 +97,14 @@ impl Life {
     }
 
     /// The life with the outputs of the newest entry.
-    pub fn given(self, place: usize, tick: u64, outs: &[Out]) -> Self
+    pub fn given(self, place: usize, tick: u64, outs: &Outs) -> Self
         ensures { result ≡ life_given place tick outs.now self }
     {
-        let op = disk_of(outs);
+        let op = outs.disk();
         Life {
             claimed: claim_of(op).or(self.claimed),
-            holds: has_start(outs) || self.holds,
-            stop_due: has_stop(outs) || self.stop_due,
+            holds: outs.has_start() || self.holds,
+            stop_due: outs.has_stop() || self.stop_due,
             stopping: self.stopping_after(outs),
             op: op.or(self.op),
             ask_place: if op.is_some() { place } else { self.ask_place },
@@ -114,12 +114,12 @@ impl Life {
         }
     }
 
-    fn stopping_after(&self, outs: &[Out]) -> Stopping
+    fn stopping_after(&self, outs: &Outs) -> Stopping
         ensures { result ≡ stopping_given outs.now self.now.stopping }
     {
-        if has_start(outs) {
+        if outs.has_start() {
             Stopping::NotAsked
-        } else if has_stop(outs) {
+        } else if outs.has_stop() {
             Stopping::Asked
         } else {
             self.stopping
@@ -134,7 +134,7 @@ impl Life {
             Some(moment) => has_passed(moment, self.timing.loop_ms, tick),
             None => false,
         };
-        is_view(what) || is_due
+        what.is_view() || is_due
     }
 
     /// Whether an answer at this tick comes in time: at most the read limit after it was asked for.

@@ -58,7 +58,17 @@ fn boot_op(settings: &Settings, me: Rank, what: What) -> Option<DiskOp>
         What::SlotRead(_, SlotSeen::Read(own)) => Some(DiskOp::WriteClaim(own.incarnation + 1)),
         What::Claimed(_) => Some(DiskOp::WriteClear),
         What::Cleared(_) => Some(DiskOp::ReadMail),
-        _ => None,
+        What::SlotRead(_, SlotSeen::Damaged | SlotSeen::Failed)
+        | What::MailRead(_)
+        | What::MailWritten(..)
+        | What::View(_)
+        | What::Ask(_)
+        | What::Tell(_)
+        | What::Device(_)
+        | What::Tick
+        | What::Stopped(_)
+        | What::Leave
+        | What::Closed(_) => None,
     }
 }
 

@@ -1,15 +1,14 @@
 ghost use Rattle.std.specs.Prelude.{◌≡◌, ◌<◌, ℕ};
-ghost use Rattle.qn_model.specs.Fitting.{answers_op, is_for, is_own_view};
+ghost use Rattle.qn_model.specs.Fitting.{is_for, is_own_view};
 ghost use Rattle.qn_plain.specs.Past.{vote_said};
 ghost use Rattle.qn_plain.specs.Peer.{peer_after, peer_at};
 
-use crate::entries::{is_answer, is_view};
 use crate::life::Life;
 use crate::peer::{Peer, Reading};
 use crate::phases::{is_live, is_up};
 use crate::tally::Tally;
 use qn_base::{Rank, View};
-use qn_model::{DiskOp, Entry, Outs, Settings, Tell, VoteEntry, VoteWhat, What};
+use qn_model::{Entry, Outs, Settings, Tell, VoteEntry, VoteWhat, What};
 
 /// What a history comes to: of the node itself, of its votes, how many views were installed, and of each
 /// rank.
@@ -64,7 +63,7 @@ impl Past {
         let reading = self.reading(place, entry.tick, what);
         self.take_in(settings, &reading);
         let outs = self.outs(settings, me, before, timely, entry.tick, what);
-        self.life = self.life.given(place, entry.tick, outs.as_slice());
+        self.life = self.life.given(place, entry.tick, &outs);
         outs
     }
 
@@ -92,7 +91,13 @@ impl Past {
             What::Stopped(_) => self.life.stop_due,
             What::Leave => is_up(self.life.phase),
             What::Tick => true,
-            _ => answers_op(self.life.op, what),
+            What::Header(_)
+            | What::SlotRead(..)
+            | What::Claimed(_)
+            | What::Cleared(_)
+            | What::MailRead(_)
+            | What::MailWritten(..)
+            | What::Closed(_) => what.answers(self.life.op),
         }
     }
 
@@ -108,7 +113,7 @@ impl Past {
             place,
             tick,
             what,
-            asked: if is_answer(what) {
+            asked: if what.is_answer() {
                 self.life.ask_place
             } else {
                 0
@@ -122,7 +127,7 @@ impl Past {
         requires { self.old.installs < u64.MAX }
         ensures { TakesIn settings.now reading.now self.old self.new }
     {
-        if is_view(reading.what) {
+        if reading.what.is_view() {
             self.installs += 1;
         }
         let vote = VoteEntry {
@@ -198,20 +203,4 @@ fn is_for(settings: &Settings, me: Rank, from: Rank, to: Rank) -> bool
     ensures { result ≡ is_for settings.now me.0 from to }
 {
     to.0 == me.0 && usize::from(from.0) < settings.nodes.len() && from.0 != me.0
-}
-
-/// Whether an entry answers the disk operation.
-fn answers_op(op: Option<DiskOp>, what: What) -> bool
-    ensures { result ≡ answers_op op what }
-{
-    match (op, what) {
-        (Some(DiskOp::ReadSlot(rank)), What::SlotRead(other, _)) => rank.0 == other.0,
-        (Some(DiskOp::WriteReset(rank)), What::MailWritten(other, _)) => rank.0 == other.0,
-        (Some(DiskOp::ReadHeader), What::Header(_))
-        | (Some(DiskOp::WriteClaim(_)), What::Claimed(_))
-        | (Some(DiskOp::WriteClear), What::Cleared(_))
-        | (Some(DiskOp::ReadMail), What::MailRead(_))
-        | (Some(DiskOp::WriteClose(_)), What::Closed(_)) => true,
-        _ => false,
-    }
 }

@@ -41,7 +41,18 @@ pub fn boot_halt(settings: &Settings, what: What) -> Option<BootCause>
         What::SlotRead(_, seen) => slot_halt(seen),
         What::Claimed(false) => Some(BootCause::ClaimFailed),
         What::Cleared(false) => Some(BootCause::ClearFailed),
-        _ => None,
+        What::Claimed(true) | What::Cleared(true) => None,
+        What::Begin
+        | What::MailRead(_)
+        | What::MailWritten(..)
+        | What::View(_)
+        | What::Ask(_)
+        | What::Tell(_)
+        | What::Device(_)
+        | What::Tick
+        | What::Stopped(_)
+        | What::Leave
+        | What::Closed(_) => None,
     }
 }
 
@@ -89,7 +100,15 @@ pub fn next_phase(settings: &Settings, what: What, timely: bool, before: Phase) 
         What::MailRead(_) => mail_phase(message_of(what), timely, before),
         What::Leave => Phase::Leaving,
         What::Closed(_) => Phase::Gone,
-        _ => before,
+        What::SlotRead(..)
+        | What::Claimed(true)
+        | What::MailWritten(..)
+        | What::View(_)
+        | What::Ask(_)
+        | What::Tell(_)
+        | What::Device(_)
+        | What::Tick
+        | What::Stopped(_) => before,
     }
 }
 

@@ -217,6 +217,3 @@ fn votes_until(device: Device, agreed_until: Option<Deadline>, now: u64) -> u64
         _ => 0,
     }
 }
-
-#[cfg(test)]
-mod tests;

@@ -1,8 +1,8 @@
 -- The second clause of `law_no_two_holders`, as one word: after any allowed events at most one holder is reported.
 --
--- A crate above cites it by a call. A function whose proof needs it calls `law_no_two_holders()` in its body; in its
--- `Answers.antt` the clause is `c.law_no_two_holders.ensures.reported`, a value of `OneReported`. A lemma under that proof
--- takes it as a parameter, `(one_reported : OneReported)`, and applies it as
+-- A crate above cites it by a call. The function whose proof needs it, a law too, calls `law_no_two_holders();` in its
+-- body; in its `Answers.antt` the clause is then `c.law_no_two_holders.ensures.reported`, a value of `OneReported`. A lemma
+-- under that proof takes it as a parameter, `(one_reported : OneReported)`, and applies it as
 -- `one_reported settings timing events i j safe allowed first second`.
 use Rattle.std.specs.Prelude.{◌≡◌, ℕ, List, IsTrue}
 use Rattle.qn_base.specs.Members.{is_member}

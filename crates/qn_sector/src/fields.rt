@@ -1,20 +1,14 @@
-ghost use Rattle.std.specs.Prelude.{◌≡◌, ◌+◌, ◌≤◌, ◌++◌, length};
+ghost use Rattle.std.specs.Prelude.{◌≡◌, ◌+◌, ◌≤◌, ◌++◌};
 ghost use Rattle.qn_model.specs.Sectors.{zeros};
 ghost use Rattle.std.specs.Int.{bytes_high_first};
 ghost use Rattle.arrayvec.specs.ArrayVec.{array_vec_len};
 
 use arrayvec::ArrayVec;
 use byteorder::{BigEndian, ByteOrder};
+use qn_base::add;
 
-/// A sector that is being put together from its front.
+/// A sector that is being put together, from its first byte on.
 pub type Sector = ArrayVec<u8, 512>;
-
-pub fn add(sector: &mut Sector, bytes: &[u8])
-    requires { array_vec_len sector.old + length bytes.now ≤ 512 }
-    ensures { sector.new.items ≡ sector.old.items ++ bytes.now }
-{
-    let _ = sector.try_extend_from_slice(bytes);
-}
 
 pub fn add_u16(sector: &mut Sector, number: u16)
     requires { array_vec_len sector.old + 2 ≤ 512 }

@@ -6,10 +6,11 @@ ghost use Rattle.qn_sector.specs.Reading.{header_of, is_header, timing_at, Spell
 
 use crate::fields::{self, Sector};
 use byteorder::{BigEndian, ByteOrder};
+use qn_base::add;
 use qn_model::Timing;
 
-/// Writes the header of an image for that many nodes, 1 to 32, with times of 1 to 3600000 milliseconds,
-/// over all 512 bytes.
+/// Writes the header of an image for that many nodes, 1 to 32, with times of 1 to `LONGEST_PERIOD`
+/// milliseconds, over all 512 bytes.
 #[tactic(auto, unfolding(qn_model::specs::Sectors::header_bytes))]
 pub fn put_header(nodes: u32, timing: &Timing, into: &mut [u8; 512])
     requires some_nodes { 1 ≤ nodes }
@@ -18,7 +19,7 @@ pub fn put_header(nodes: u32, timing: &Timing, into: &mut [u8; 512])
     ensures { into.new ≡ header_bytes nodes timing.now }
 {
     let mut sector = Sector::new();
-    fields::add(&mut sector, b"QNSBD001");
+    add(&mut sector, b"QNSBD001");
     fields::add_u16(&mut sector, 1);
     fields::add_u16(&mut sector, nodes as u16);
     fields::add_zeros(&mut sector, 4);

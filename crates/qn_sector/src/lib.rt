@@ -12,8 +12,6 @@ mod laws;
 mod mailbox;
 mod places;
 mod slot;
-#[cfg(test)]
-mod tests;
 
 pub use header::{get_header, put_header};
 pub use laws::law_read_back;

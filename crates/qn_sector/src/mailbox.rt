@@ -4,6 +4,7 @@ ghost use Rattle.qn_model.specs.declared.disk.Message.{Message};
 ghost use Rattle.qn_sector.specs.Reading.{mail_of, message_of};
 
 use crate::fields::{self, Sector};
+use qn_base::add;
 use qn_model::Message;
 
 /// Writes a mailbox with that message, over all 512 bytes.
@@ -12,8 +13,8 @@ pub fn put_mail(message: Message, into: &mut [u8; 512])
     ensures { into.new ≡ mail_bytes message }
 {
     let mut sector = Sector::new();
-    fields::add(&mut sector, b"MAIL");
-    fields::add(&mut sector, &[code_of(message)]);
+    add(&mut sector, b"MAIL");
+    add(&mut sector, &[code_of(message)]);
     fields::add_zeros(&mut sector, 507);
     into.copy_from_slice(&sector);
 }

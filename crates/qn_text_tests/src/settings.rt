@@ -1,8 +1,9 @@
-use qn_base::NodeId;
+use qn_base::{NodeId, yes_no};
 use qn_conf::read_tree;
 use qn_model::Settings;
 use qn_settings::{Key, SettingsFault, settings};
 use std::alloc::Global;
+use std::str::from_utf8;
 use std::test::Fail;
 
 /// Settings texts that are configurations, each with its first fault.
@@ -489,9 +490,9 @@ fn words_of(alloc: Global, settings: &Settings) -> Result<String, Fail> {
         Some(device) => format!(in alloc; "{}:{}", device.votes, device.timeout)?,
         None => String::from_str(alloc, "none")?,
     };
-    let two_node = yes_or_no(settings.two_node);
-    let wait_for_all = yes_or_no(settings.wait_for_all);
-    let last_man_standing = yes_or_no(settings.last_man_standing);
+    let two_node = truth_text(settings.two_node)?;
+    let wait_for_all = truth_text(settings.wait_for_all)?;
+    let last_man_standing = truth_text(settings.last_man_standing)?;
     let window = settings.window;
     let expected = settings.expected;
     Ok(format!(in alloc;
@@ -499,6 +500,7 @@ fn words_of(alloc: Global, settings: &Settings) -> Result<String, Fail> {
     )?)
 }
 
-fn yes_or_no(flag: bool) -> &'static str {
-    if flag { "yes" } else { "no" }
+/// `yes` or `no`.
+fn truth_text(flag: bool) -> Result<&'static str, Fail> {
+    Ok(from_utf8(yes_no(flag))?)
 }

@@ -1,7 +1,7 @@
 -- What was given out, call after call.
-use Rattle.std.proofs.Common.{◌≡◌, ◌≤◌, arith, ℕ, List, [], ◌++◌, Option, sym, ap, ◌∙◌, append_assoc, append-nil}
+use Rattle.std.proofs.Common.{◌≡◌, ℕ, List, [], ◌++◌, Option, sym, ap, ◌∙◌, append_assoc, append-nil}
 use Rattle.std.specs.Io.KnownBytes.{append_known}
-use Rattle.qn_io.specs.Outside.{HasRisen, append_known-append}
+use Rattle.qn_io.specs.Outside.{append_known-append}
 use Rattle.qn_io.specs.Writes.{AppendsFront}
 use Rattle.qn_top.specs.Writing.{GivesOut}
 
@@ -84,7 +84,3 @@ front_same a b before given text same first = record {
   parts = ap (λ x. before ++ x) (sym same) ∙ first.parts;
   adds = first.adds;
 }
-
--- a count that rose in between rose over all
-pub risen_within : (a b c d : ℕ) → a ≤ b → b ≤ c → c ≤ d → HasRisen b c → HasRisen a d
-risen_within a b c d before between behind rose = grind (arith, rose)

@@ -1,6 +1,7 @@
 -- The end of a replay, and the last line behind its trace.
 use Rattle.std.proofs.Common.{◌≡◌, ◌≢◌, ◌≤◌, ℕ, List, [], ◌++◌, Option, refl, sym, ap, ◌∙◌, subst, append_assoc, append-nil, arith}
 use Rattle.std.specs.Io.KnownBytes.{append_known}
+use Rattle.qn_base.specs.Rising.{HasRisen-within}
 use Rattle.qn_base.specs.Faults.{HasRisen}
 use Rattle.qn_io.specs.Outside.{append_known-append, append_known-nil}
 use Rattle.qn_io.specs.Writes.{AppendsFront}
@@ -12,7 +13,7 @@ use Rattle.qn_sched.specs.declared.replay_end.ReplayEnd.{ReplayEnd}
 use Rattle.qn_sched.specs.declared.replay_end.ReplayEnd.TheVariants as end
 use Rattle.qn_top.specs.Replaying.{ReplayEnds, Told, Wanted as WantedBehind, RunsReplay, end_outcome, replay_text}
 use Rattle.qn_top.specs.Runs.{Answers, Whole, Cut, WroteAll as WroteText, WroteFront}
-use Rattle.qn_top.proofs.GivenOut.{front_then, gives_all, risen_within}
+use Rattle.qn_top.proofs.GivenOut.{front_then, gives_all}
 
 -- what an answer of the replay gives as a whole
 abbrev whole_of : Replayed → Outcome
@@ -84,7 +85,7 @@ replay_finished {x} {y} {z} ended other before behind run answers = record {
   taken = run.taken;
   waiting = run.waiting;
   takes = run.takes;
-  ends = finished ended other run.ends (answers_wider (risen_within x y z z before behind (omega arith)) answers);
+  ends = finished ended other run.ends (answers_wider (HasRisen-within x y z z before behind (omega arith)) answers);
 }
 
 -- the whole command, where the sink failed inside the trace

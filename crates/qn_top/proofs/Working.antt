@@ -1,6 +1,7 @@
 -- How a work goes on, step by step.
 use Rattle.std.proofs.Common.{◌≡◌, ◌≤◌, inl, inr, arith, ℕ, false, List, [], ◌∷◌, ◌++◌, Option, refl, sym, subst}
 use Rattle.std.specs.Io.KnownBytes.{append_known}
+use Rattle.qn_base.specs.Rising.{HasRisen-within}
 use Rattle.qn_base.specs.declared.calls.Call.{Call}
 use Rattle.qn_base.specs.Faults.{HasRisen}
 use Rattle.qn_base.specs.Plans.{Plan, Ends, Asks, Follows, Did}
@@ -13,7 +14,6 @@ use Rattle.qn_model.specs.declared.times.Timing.{Timing}
 use Rattle.qn_model.specs.Timing.{is_safe}
 use Rattle.qn_top.specs.declared.fault.Fault.TheVariants.{UnsafeTiming}
 use Rattle.qn_top.specs.ImageWorks.{refusal}
-use Rattle.qn_top.proofs.GivenOut.{risen_within}
 
 -- the calls of a plan, and then the work that follows from its value
 performs_after : {A : Type 0} (plan : Plan A) (next : A → Work) (calls more : List Call) (value : A) (old new : Option (List ℕ)) (failed : Type 0) (status : ℕ)
@@ -93,7 +93,7 @@ works_wider : (f g : ℕ) (a b : Option (List Call)) (v w : Option (List ℕ)) (
 works_wider f g a b v w x y z work status before behind works = record {
   calls = works.calls;
   made = works.made;
-  performs = performs_wider work works.calls v w (HasRisen y z) (HasRisen x z) status (risen_within x y z z before behind (omega arith)) works.performs;
+  performs = performs_wider work works.calls v w (HasRisen y z) (HasRisen x z) status (HasRisen-within x y z z before behind (omega arith)) works.performs;
 }
 
 works_written : (f g : ℕ) (a b : Option (List Call)) (v u w : Option (List ℕ)) (x z : ℕ) (text : List ℕ) (others : Work) (status : ℕ)

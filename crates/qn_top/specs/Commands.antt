@@ -4,11 +4,13 @@ use Rattle.std.specs.Option.{option_map_or}
 use Rattle.std.specs.Str.{bytes_eq}
 use Rattle.qn_base.specs.Decimal.{number_of}
 use Rattle.qn_base.specs.declared.ids.NodeId.{NodeId}
+use Rattle.qn_base.specs.declared.limits.TheConstants.{LONGEST_PERIOD, MOST_EVENTS}
 use Rattle.qn_model.specs.declared.disk.Message.{Message}
 use Rattle.qn_model.specs.declared.disk.Message.TheVariants.{Reset, Off, Crashdump}
 use Rattle.qn_model.specs.declared.times.Timing.{Timing}
 use Rattle.qn_model.specs.Lines.{parts}
 use Rattle.qn_model.specs.Sectors.{is_deadly}
+use Rattle.qn_model.specs.Timing.{usual_times}
 use Rattle.qn_top.specs.declared.command.Command.{Command}
 use Rattle.qn_top.specs.declared.command.Command.TheVariants as command
 use Rattle.qn_top.specs.declared.command.Form.{Form}
@@ -32,7 +34,7 @@ number_in least greatest word = do
 abbrev pub next_time : List (List ℕ) → Option (ℕ × List (List ℕ))
 next_time [] = None
 next_time (part ∷ parts) = do
-  time ← number_in 1 3600000 part
+  time ← number_in 1 LONGEST_PERIOD part
   Some (time, parts)
 
 -- five times, parted by commas
@@ -46,13 +48,9 @@ timing_in text = do
   if not (length fifth.1 == 0) then None
       else Some (record { watchdog = first.0; msgwait = second.0; loop_ms = third.0; read_limit = fourth.0; feed_delay = fifth.0 })
 
--- sbd(8): the times where none are written; the last two are this project's profile
-abbrev pub default_timing : Timing
-default_timing = record { watchdog = 5000; msgwait = 10000; loop_ms = 1000; read_limit = 2000; feed_delay = 1000 }
-
--- the times among the options
+-- the times among the options, or the usual ones
 unfoldable pub timing_of : List (List ℕ) → Option Timing
-timing_of options = option_map_or timing_in (value_of (option_text option.Timing) options) (Some default_timing)
+timing_of options = option_map_or timing_in (value_of (option_text option.Timing) options) (Some usual_times)
 
 -- the id among the options
 unfoldable pub id_of : List (List ℕ) → Option NodeId
@@ -97,7 +95,7 @@ form_of options =
 unfoldable pub soak_of : List (List ℕ) → Option Command
 soak_of (seed ∷ events ∷ []) = do
   first ← number_of seed
-  count ← number_in 1 200000 events
+  count ← number_in 1 MOST_EVENTS events
   Some (command.Soak first count)
 soak_of words = None
 
@@ -139,12 +137,12 @@ abbrev pub command_of : List (List ℕ) → Option Command
 command_of [] = None
 command_of (name ∷ options) = command_named name options
 
--- a message of the words is deadly, and a soak has at most 200000 events
+-- a message of the words is deadly, and a soak has at most MOST_EVENTS events
 abbrev pub IsProper : Command → Type 0
 IsProper command.Count = Unit {0}
 IsProper command.Replay = Unit {0}
 IsProper (command.Status form) = Unit {0}
-IsProper (command.Soak seed events) = events ≤ 200000
+IsProper (command.Soak seed events) = events ≤ MOST_EVENTS
 IsProper (command.Create image timing) = Unit {0}
 IsProper (command.Dump image) = Unit {0}
 IsProper (command.List image) = Unit {0}

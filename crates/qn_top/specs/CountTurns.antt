@@ -1,6 +1,7 @@
 -- One line of `count` after the other.
 use Rattle.std.specs.Prelude.{◌≡◌, ℕ, ◌+◌, ◌<◌, List, ◌++◌, Option, None, Some, Ok, Err}
 use Rattle.std.specs.Io.KnownBytes.{prepend_known}
+use Rattle.qn_base.specs.declared.limits.TheConstants.{MOST_EVENTS}
 use Rattle.qn_io.specs.Writes.{AppendsFront}
 use Rattle.qn_model.specs.declared.count_line.CountLine.{CountLine}
 use Rattle.qn_model.specs.declared.line_fault.LineFault.{LineFault}
@@ -15,7 +16,7 @@ use Rattle.qn_top.specs.Runs.{Answers, EndsAs, count_rest}
 pub record TakesLine (so_far more : Counted) (line waiting_old waiting_new : List ℕ) (old new : Option (List ℕ)) : Type 0 where
   pub good : CountLine
   pub judged : line_of so_far line ≡ Ok good
-  pub room : so_far.lines < 200000
+  pub room : so_far.lines < MOST_EVENTS
   pub counted : more ≡ with_line so_far good
   pub gives : GivesOut old new waiting_new (waiting_old ++ text_of_line so_far good)
 
@@ -39,7 +40,7 @@ pub record GoesOn (so_far more : Counted) (to_come_old to_come_new : Option (Lis
   pub takes : to_come_old ≡ prepend_known taken to_come_new
   pub rest : (ending : Ending) (further : List ℕ) → count_rest so_far ending (taken ++ further) ≡ after text (count_rest more ending further)
   pub gives : GivesOut old new waiting_new (waiting_old ++ text)
-  pub room : so_far.lines < 200000
+  pub room : so_far.lines < MOST_EVENTS
   pub counted : more.lines ≡ so_far.lines + 1
 
 -- bytes were taken, and the run ended as they tell

@@ -1,5 +1,6 @@
 -- What a counter can take in.
 use Rattle.std.specs.Prelude.{◌<◌, ◌≤◌, List, length}
+use Rattle.qn_base.specs.declared.limits.TheConstants.{MOST_EVENTS}
 use Rattle.qn_model.specs.declared.nodelist.NodeEntry.{NodeEntry}
 use Rattle.qn_model.specs.declared.count_line.CountLine.{CountLine}
 use Rattle.qn_model.specs.declared.count_line.CountLine.TheVariants.{Node, View}
@@ -10,6 +11,6 @@ abbrev pub HasRoomFor : List NodeEntry → CountLine → Type 0
 HasRoomFor nodes (Node entry) = (length nodes < 32) × (entry.votes ≤ 65535)
 HasRoomFor nodes (View view) = Unit {0}
 
--- the line is the 200000th at most
+-- the line is the last one at most that an input may have
 abbrev pub HasRoom : Counted → CountLine → Type 0
-HasRoom so_far line = (so_far.lines < 200000) × HasRoomFor so_far.nodes line
+HasRoom so_far line = (so_far.lines < MOST_EVENTS) × HasRoomFor so_far.nodes line

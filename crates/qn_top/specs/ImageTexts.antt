@@ -1,20 +1,12 @@
 -- What the commands of an image write: sbd(8), and this project's profile for the words.
-use Rattle.std.specs.Prelude.{ℕ, Bool, true, false, List, ◌++◌, codes, decimal, if◌then◌else◌}
+use Rattle.std.specs.Prelude.{ℕ, List, ◌++◌, codes, decimal, if◌then◌else◌}
 use Rattle.qn_base.specs.declared.ids.NodeId.{NodeId}
+use Rattle.qn_base.specs.Text.{yes_no}
 use Rattle.qn_model.specs.declared.disk.Message.{Message}
-use Rattle.qn_model.specs.declared.disk.Message.TheVariants.{Empty, Test, Reset, Off, Exit, Crashdump}
 use Rattle.qn_model.specs.declared.disk.Slot.{Slot}
 use Rattle.qn_model.specs.declared.times.Timing.{Timing}
+use Rattle.qn_model.specs.Messages.{message_name}
 use Rattle.qn_model.specs.Timing.{is_safe}
-
--- the name of a message
-abbrev pub message_name : Message → List ℕ
-message_name Empty = codes "empty"
-message_name Test = codes "test"
-message_name Reset = codes "reset"
-message_name Off = codes "off"
-message_name Exit = codes "exit"
-message_name Crashdump = codes "crashdump"
 
 -- `create`
 abbrev pub created_text : ℕ → List ℕ
@@ -25,10 +17,6 @@ unfoldable pub times_text : ℕ → Timing → List ℕ
 times_text nodes t =
     codes "version 1\nnodes " ++ decimal nodes ++ codes "\nwatchdog " ++ decimal t.watchdog ++ codes "\nmsgwait " ++ decimal t.msgwait
     ++ codes "\nloop " ++ decimal t.loop_ms ++ codes "\nread_limit " ++ decimal t.read_limit ++ codes "\nfeed_delay " ++ decimal t.feed_delay
-
-abbrev pub yes_no : Bool → List ℕ
-yes_no true = codes "yes"
-yes_no false = codes "no"
 
 -- `dump`: all of it
 unfoldable pub dump_text : ℕ → Timing → List ℕ

@@ -69,8 +69,11 @@ list_work path = after_plan (opened_plan path header_plan) list_end
 
 -- `message`
 abbrev pub message_fault : NodeId → ImageFault → Fault
+message_fault id image.Disk = disk_fault image.Disk
+message_fault id image.NotImage = disk_fault image.NotImage
+message_fault id image.UnsafeTiming = disk_fault image.UnsafeTiming
+message_fault id (image.DamagedSector sector) = disk_fault (image.DamagedSector sector)
 message_fault id image.UnknownNode = UnknownNode id
-message_fault id fault = disk_fault fault
 
 abbrev pub message_end : NodeId → Message → Result (Unit {0}) ImageFault → Work
 message_end id kind (Ok done) = Last (sent_text kind id) 0

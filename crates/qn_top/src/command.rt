@@ -2,11 +2,11 @@ ghost use Rattle.std.specs.Prelude.{◌≡◌, ◌≤◌, ◌==◌, map, string_
 ghost use Rattle.std.specs.Option.{option_copied};
 ghost use Rattle.qn_model.specs.Sectors.{is_deadly};
 ghost use Rattle.qn_sched.specs.Words.{parts_left};
-ghost use Rattle.qn_top.specs.Commands.{IsProper, command_named, command_of, create_of, default_timing, form_named, form_of, id_of, image_alone, kind_of, message_of, next_time, number_in, soak_of, timing_in, timing_of};
+ghost use Rattle.qn_top.specs.Commands.{IsProper, command_named, command_of, create_of, form_named, form_of, id_of, image_alone, kind_of, message_of, next_time, number_in, soak_of, timing_in, timing_of};
 ghost use Rattle.qn_top.specs.Options.{value_of};
 
 use crate::options::{OptionName, Path, are_options, value_of};
-use qn_base::{NodeId, read_decimal};
+use qn_base::{LONGEST_PERIOD, MOST_EVENTS, NodeId, read_decimal};
 use qn_model::{Message, Timing};
 use qn_sched::first_part;
 
@@ -57,15 +57,6 @@ pub enum Form {
     /// One line of JSON (RFC 8259): an array with an object for each node.
     Json,
 }
-
-/// The times of an image where none are written, in milliseconds (sbd(8), and this project's profile).
-const DEFAULT_TIMING: Timing = Timing {
-    watchdog: 5000,
-    msgwait: 10000,
-    loop_ms: 1000,
-    read_limit: 2000,
-    feed_delay: 1000,
-};
 
 /// The command that the words are, where they are one. The words are those behind the program's name.
 pub fn command_of(words: &[String]) -> Option<Command<'_>>
@@ -136,7 +127,7 @@ fn form_named(word: &str) -> Option<Form>
     }
 }
 
-/// `soak` with these words: any seed, and 1 to 200000 events.
+/// `soak` with these words: any seed, and 1 to `MOST_EVENTS` events.
 #[tactic(auto, unfolding(crate::specs::Commands::soak_of))]
 fn soak_of(words: &[String]) -> Option<Command<'_>>
     ensures command { result ≡ soak_of (map string_bytes words.now) }
@@ -145,7 +136,7 @@ fn soak_of(words: &[String]) -> Option<Command<'_>>
     match words {
         [seed, events] => {
             let seed = read_decimal(seed.as_str().as_bytes())?;
-            let events = number_in(1, 200_000, events.as_str().as_bytes())?;
+            let events = number_in(1, MOST_EVENTS, events.as_str().as_bytes())?;
             Some(Command::Soak { seed, events })
         }
         _ => None,
@@ -195,13 +186,13 @@ fn image_alone(options: &[String]) -> Option<Path<'_>>
     value_of(options, OptionName::Image)
 }
 
-/// The times among the options, or those that stand where none are written.
+/// The times among the options, or the usual ones.
 #[tactic(auto, unfolding(crate::specs::Commands::timing_of))]
 fn timing_of(options: &[String]) -> Option<Timing>
     ensures { result ≡ timing_of (map string_bytes options.now) }
 {
     match value_of(options, OptionName::Timing) {
-        None => Some(DEFAULT_TIMING),
+        None => Some(Timing::usual()),
         Some(times) => timing_in(times.as_str().as_bytes()),
     }
 }
@@ -253,13 +244,13 @@ fn timing_in(text: &[u8]) -> Option<Timing>
     })
 }
 
-/// The next of the times that are left, from 1 to 3600000 milliseconds, and what is left behind it.
+/// The next of the times that are left, from 1 to `LONGEST_PERIOD` milliseconds, and what is left after it.
 fn next_time(rest: Option<&[u8]>) -> Option<(u64, Option<&[u8]>)>
     ensures some { IfSome result (λ next. next_time (parts_left 44 (option_copied rest.entry)) ≡ Some (next.0, parts_left 44 (option_copied next.1))) }
     ensures none { IfNone result (next_time (parts_left 44 (option_copied rest.entry)) ≡ None) }
 {
     let (part, rest) = first_part(rest?, b',');
-    let time = number_in(1, 3_600_000, part)?;
+    let time = number_in(1, LONGEST_PERIOD, part)?;
     Some((time, rest))
 }
 

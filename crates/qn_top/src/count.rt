@@ -9,15 +9,14 @@ ghost use Rattle.qn_top.specs.Statuses.{code_of};
 use crate::counter::Counter;
 use crate::output::Output;
 use crate::status::Status;
-use crate::text_line::TextLine;
 use arrayvec::ArrayVec;
-use qn_base::Failed;
+use qn_base::{Failed, ShortText};
 use qn_io::{LINE, LineRead, Pieces, Sink, Source, read_line};
 use qn_model::LineFault;
 
 /// The end of a run: writes what waits and then this text, and answers the status, or WriteFault where the
 /// sink failed.
-pub fn finish<O: Sink>(output: &mut Output, out: &mut O, text: &TextLine, status: Status) -> Status
+pub fn finish<O: Sink>(output: &mut Output, out: &mut O, text: &ShortText, status: Status) -> Status
     ensures answers { Answers output.old text.now (code_of status) (O.written out.old) (O.written out.new)
         (HasRisen (O.faults out.old) (O.faults out.new)) (code_of result) }
     ensures never_falls { O.faults out.old ≤ O.faults out.new }
@@ -66,7 +65,7 @@ fn end_unread<O: Sink>(output: &mut Output, out: &mut O) -> Status
         (O.written out.old) (O.written out.new) (HasRisen (O.faults out.old) (O.faults out.new)) (code_of result) }
     ensures never_falls { O.faults out.old ≤ O.faults out.new }
 {
-    let mut text = TextLine::new();
+    let mut text = ShortText::new();
     text.add(b"fault ReadFault\n");
     finish(output, out, &text, Status::ReadFault)
 }

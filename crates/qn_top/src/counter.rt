@@ -6,17 +6,10 @@ ghost use Rattle.qn_model.specs.Settings.{ids};
 ghost use Rattle.qn_sched.specs.Words.{parts_left};
 ghost use Rattle.qn_top.specs.Counting.{HasRoom, HasRoomFor};
 
-use crate::text_line::TextLine;
-use qn_base::{NodeId, View};
+use qn_base::{MOST_EVENTS, MOST_LINE_BYTES, NodeId, ShortText, View, yes_no};
 use qn_model::{CountLine, LineFault, NodeEntry, Nodes};
 use qn_sched::{first_part, number_between, read_members, two_words};
 use std::marker::Model;
-
-/// The most bytes of a line, without its end.
-const MAX_LINE_BYTES: usize = 4096;
-
-/// The most lines of an input.
-const MAX_LINES: u64 = 200_000;
 
 /// What the good lines so far say: their nodes, and how many lines and views there were.
 #[derive(Drop)]
@@ -29,13 +22,14 @@ pub struct Counter {
 
 impl Model for Counter {
     ghost use Rattle.std.specs.Prelude.{◌≡◌, ◌≤◌, ◌*◌, length};
+    ghost use Rattle.qn_base.specs.declared.limits.TheConstants.{MOST_EVENTS};
     ghost use Rattle.qn_model.specs.CountText.{Counted, expected_of};
 
     ghost Value = { Counted };
 
     ghost view = { λ c. record { nodes = c.nodes; lines = c.lines; views = c.views } };
 
-    ghost invariant = { λ c. (c.expected ≡ expected_of c.nodes) × (c.expected ≤ 65535 * length c.nodes) × (c.lines ≤ 200000) × (c.views ≤ c.lines) };
+    ghost invariant = { λ c. (c.expected ≡ expected_of c.nodes) × (c.expected ≤ 65535 * length c.nodes) × (c.lines ≤ MOST_EVENTS) × (c.views ≤ c.lines) };
 }
 
 impl Counter {
@@ -57,10 +51,10 @@ impl Counter {
         ensures line { result ≡ line_of self.now line.now }
         ensures room { IfOk result (HasRoom self.now) }
     {
-        if line.len() > MAX_LINE_BYTES {
+        if line.len() > MOST_LINE_BYTES {
             return Err(LineFault::TooLong);
         }
-        if self.lines == MAX_LINES {
+        if self.lines == MOST_EVENTS {
             return Err(LineFault::TooMany);
         }
         line_of_words(&self.nodes, line)
@@ -86,23 +80,23 @@ impl Counter {
 impl Counter {
     /// What a good line writes.
     #[tactic(auto, unfolding(qn_model::specs::CountText::text_of_line))]
-    pub fn text_of(&self, line: &CountLine) -> TextLine
+    pub fn text_of(&self, line: &CountLine) -> ShortText
         ensures { result ≡ text_of_line self.now line.now }
     {
         match line {
-            CountLine::Node(_) => TextLine::new(),
+            CountLine::Node(_) => ShortText::new(),
             CountLine::View(view) => self.view_text(view),
         }
     }
 
     /// What a view line writes.
     #[tactic(auto, unfolding(qn_model::specs::CountText::view_text))]
-    fn view_text(&self, view: &View) -> TextLine
+    fn view_text(&self, view: &View) -> ShortText
         ensures { result ≡ view_text self.now.nodes view.now.id view.now.members }
     {
         let votes = self.nodes.votes_among(view.members);
         let quorum = self.expected / 2 + 1;
-        let mut text = TextLine::new();
+        let mut text = ShortText::new();
         text.add(b"view ");
         text.add_number(view.id);
         text.add(b" votes ");
@@ -110,20 +104,16 @@ impl Counter {
         text.add(b" quorum ");
         text.add_number(quorum);
         text.add(b" quorate ");
-        text.add(if quorum <= votes {
-            b"yes".as_slice()
-        } else {
-            b"no".as_slice()
-        });
+        text.add(yes_no(quorum <= votes));
         text.add(b"\n");
         text
     }
 
     /// What the end of an input writes in which every line was good.
-    pub fn end_text(&self) -> TextLine
+    pub fn end_text(&self) -> ShortText
         ensures { result ≡ (good_end self.now).text }
     {
-        let mut text = TextLine::new();
+        let mut text = ShortText::new();
         text.add(b"end ");
         text.add_number(self.views);
         text.add(b"\n");
@@ -131,10 +121,10 @@ impl Counter {
     }
 
     /// What a fault of the line behind the good ones writes.
-    pub fn fault_text(&self, fault: LineFault) -> TextLine
+    pub fn fault_text(&self, fault: LineFault) -> ShortText
         ensures { result ≡ (bad_line (self.now.lines + 1) fault).text }
     {
-        let mut text = TextLine::new();
+        let mut text = ShortText::new();
         text.add(b"fault BadSchedule line ");
         text.add_number(self.lines + 1);
         text.add(b" ");

@@ -4,8 +4,7 @@ ghost use Rattle.qn_top.specs.Faults.{conf_line, disk_fault, fault_line, refused
 ghost use Rattle.qn_top.specs.Statuses.{code_of};
 
 use crate::status::Status;
-use crate::text_line::TextLine;
-use qn_base::NodeId;
+use qn_base::{NodeId, ShortText};
 use qn_conf::ConfFault;
 use qn_image::ImageFault;
 use qn_model::{LineFault, Rule, Timing};
@@ -58,7 +57,7 @@ impl Fault {
     }
 
     /// The last line of the command.
-    pub fn line(self) -> TextLine
+    pub fn line(self) -> ShortText
         ensures { result ≡ fault_line self }
     {
         match self {
@@ -83,13 +82,15 @@ impl Fault {
         match fault {
             ImageFault::NotImage => Fault::BadImage { sector: 0 },
             ImageFault::DamagedSector { sector } => Fault::BadImage { sector },
-            _ => Fault::EnvFault,
+            ImageFault::Disk | ImageFault::UnsafeTiming | ImageFault::UnknownNode => {
+                Fault::EnvFault
+            }
         }
     }
 }
 
 /// The line of a fault of the settings text (corosync.conf(5)).
-fn conf_line(fault: ConfFault) -> TextLine
+fn conf_line(fault: ConfFault) -> ShortText
     ensures { result ≡ conf_line fault }
 {
     match fault {
@@ -104,7 +105,7 @@ fn conf_line(fault: ConfFault) -> TextLine
 }
 
 /// The line of a fault of the settings (votequorum(5)).
-fn settings_line(fault: SettingsFault) -> TextLine
+fn settings_line(fault: SettingsFault) -> ShortText
     ensures { result ≡ settings_line fault }
 {
     match fault {
@@ -127,10 +128,10 @@ fn settings_line(fault: SettingsFault) -> TextLine
 }
 
 /// The line of a line of a schedule that is at fault.
-fn schedule_line(line: u64, fault: LineFault) -> TextLine
+fn schedule_line(line: u64, fault: LineFault) -> ShortText
     ensures { result ≡ schedule_line line fault }
 {
-    let mut text = TextLine::new();
+    let mut text = ShortText::new();
     text.add(b"fault BadSchedule line ");
     text.add_number(line);
     text.add(b" ");
@@ -140,10 +141,10 @@ fn schedule_line(line: u64, fault: LineFault) -> TextLine
 }
 
 /// The line of an event that a rule refuses.
-fn refused_line(line: u64, rule: Rule) -> TextLine
+fn refused_line(line: u64, rule: Rule) -> ShortText
     ensures { result ≡ refused_line line rule }
 {
-    let mut text = TextLine::new();
+    let mut text = ShortText::new();
     text.add(b"fault NotAllowed line ");
     text.add_number(line);
     text.add(b" rule ");
@@ -153,10 +154,10 @@ fn refused_line(line: u64, rule: Rule) -> TextLine
 }
 
 /// The line of times that are not safe.
-fn timing_line(timing: &Timing) -> TextLine
+fn timing_line(timing: &Timing) -> ShortText
     ensures { result ≡ timing_line timing.now }
 {
-    let mut text = TextLine::new();
+    let mut text = ShortText::new();
     text.add(b"fault UnsafeTiming ");
     text.add_number(timing.watchdog);
     text.add(b" ");
@@ -172,21 +173,21 @@ fn timing_line(timing: &Timing) -> TextLine
 }
 
 /// A line that stands whole.
-fn whole(line: &[u8]) -> TextLine
+fn whole(line: &[u8]) -> ShortText
     requires { length line.now ≤ 100 }
     ensures { result ≡ line.now }
 {
-    let mut text = TextLine::new();
+    let mut text = ShortText::new();
     text.add(line);
     text
 }
 
 /// A line that ends in a number.
-fn numbered(front: &[u8], number: u64) -> TextLine
+fn numbered(front: &[u8], number: u64) -> ShortText
     requires { length front.now ≤ 100 }
     ensures { result ≡ front.now ++ decimal number ++ codes "\n" }
 {
-    let mut text = TextLine::new();
+    let mut text = ShortText::new();
     text.add(front);
     text.add_number(number);
     text.add(b"\n");
@@ -194,11 +195,11 @@ fn numbered(front: &[u8], number: u64) -> TextLine
 }
 
 /// A line that ends in the name of a key.
-fn keyed(front: &[u8], key: Key) -> TextLine
+fn keyed(front: &[u8], key: Key) -> ShortText
     requires { length front.now ≤ 100 }
     ensures { result ≡ front.now ++ key_name key ++ codes "\n" }
 {
-    let mut text = TextLine::new();
+    let mut text = ShortText::new();
     text.add(front);
     add_key(&mut text, key);
     text.add(b"\n");
@@ -206,7 +207,7 @@ fn keyed(front: &[u8], key: Key) -> TextLine
 }
 
 /// Adds the name of a key at the end.
-fn add_key(text: &mut TextLine, key: Key)
+fn add_key(text: &mut ShortText, key: Key)
     requires { length text.old ≤ 100 }
     ensures text { text.new ≡ text.old ++ key_name key }
     ensures len { length text.new ≤ 124 }

@@ -6,7 +6,7 @@ ghost use Rattle.qn_top.specs.Statuses.{code_of};
 
 use crate::images::say;
 use crate::status::Status;
-use crate::text_line::TextLine;
+use qn_base::ShortText;
 use qn_io::Sink;
 
 /// `help`: the commands.
@@ -16,7 +16,7 @@ pub(crate) fn help<O: Sink>(out: &mut O) -> Status
     ensures write_fault { code_of result ≡ 7 → HasRisen (O.faults out.old) (O.faults out.new) }
     ensures sink_faults { O.faults out.old ≤ O.faults out.new }
 {
-    let mut text = TextLine::new();
+    let mut text = ShortText::new();
     text.add(b"commands count replay status soak create dump list message help\n");
     say(out, &text)
 }

@@ -16,8 +16,7 @@ ghost use Rattle.qn_top.specs.Works.{Works, Work};
 use crate::fault::Fault;
 use crate::image_texts::{created_text, dump_text, list_line, sent_text};
 use crate::status::Status;
-use crate::text_line::TextLine;
-use qn_base::{Failed, NodeId, Rank};
+use qn_base::{Failed, NodeId, Rank, ShortText};
 use qn_image::{ImageFault, create, header, line_of, message};
 use qn_io::{Env, Sink, put_all};
 use qn_model::{Message, Settings, Timing};
@@ -226,12 +225,15 @@ fn message_fault(id: NodeId, fault: ImageFault) -> Fault
 {
     match fault {
         ImageFault::UnknownNode => Fault::UnknownNode { id },
-        fault => Fault::of_disk(fault),
+        ImageFault::Disk
+        | ImageFault::NotImage
+        | ImageFault::UnsafeTiming
+        | ImageFault::DamagedSector { .. } => Fault::of_disk(fault),
     }
 }
 
 /// The end of a command that did its whole work: writes its text.
-pub(crate) fn say<O: Sink>(out: &mut O, text: &TextLine) -> Status
+pub(crate) fn say<O: Sink>(out: &mut O, text: &ShortText) -> Status
     ensures answers { Answers [] text.now 0 (O.written out.old) (O.written out.new) (HasRisen (O.faults out.old) (O.faults out.new)) (code_of result) }
     ensures own { (code_of result ≡ 0) ⊎ (code_of result ≡ 7) }
     ensures write_fault { code_of result ≡ 7 → HasRisen (O.faults out.old) (O.faults out.new) }

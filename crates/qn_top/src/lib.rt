@@ -3,7 +3,7 @@
 // Promises, on `top`: what is written, the calls on the outside and the status are exactly those that the
 // definition gives for the words, the bytes read and the answers of the calls. Status 2 comes exactly for words
 // that are no command; 6, 7 and 8 only where the count of faults of the source, the sink or the outside rose,
-// and at 7 a front of the text was written. `create` takes memory for its settings text, and
+// and at 7 the first bytes of the text were written. `create` takes memory for its settings text, and
 // `replay`, `status` and `soak` for that and for their worlds. Input is read in pieces of at most 4096 bytes.
 #![tactic(auto)]
 
@@ -13,8 +13,6 @@ mod counter;
 mod creation;
 mod fault;
 mod helping;
-#[cfg(test)]
-mod image_tests;
 mod image_texts;
 mod images;
 mod options;
@@ -25,9 +23,6 @@ mod settings_text;
 mod soak_run;
 mod status;
 mod status_run;
-#[cfg(test)]
-mod tests;
-mod text_line;
 
 pub use command::{Command, Form, command_of};
 pub use fault::Fault;

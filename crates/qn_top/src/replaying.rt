@@ -8,7 +8,7 @@ ghost use Rattle.qn_top.specs.Statuses.{code_of};
 use crate::fault::Fault;
 use crate::images::{refuse, say};
 use crate::status::Status;
-use crate::text_line::TextLine;
+use qn_base::ShortText;
 use qn_io::{Sink, Source};
 use qn_replay::{law_ending, law_one_holder, replay};
 use qn_sched::ReplayEnd;
@@ -63,10 +63,10 @@ pub(crate) fn finish_replay<O: Sink>(out: &mut O, end: ReplayEnd) -> Status
 }
 
 /// The last line of a replay that was good to its end.
-fn end_text(events: u64) -> TextLine
+fn end_text(events: u64) -> ShortText
     ensures { result ≡ (end_outcome (ReplayEnd.Done events)).text }
 {
-    let mut text = TextLine::new();
+    let mut text = ShortText::new();
     text.add(b"end ");
     text.add_number(events);
     text.add(b"\n");

@@ -8,6 +8,7 @@ ghost use Rattle.qn_top.specs.Statuses.{code_of};
 use crate::fault::Fault;
 use crate::images::refuse;
 use crate::status::Status;
+use qn_base::MOST_EVENTS;
 use qn_io::Sink;
 use qn_replay::soak;
 use qn_sched::ReplayEnd;
@@ -15,7 +16,7 @@ use std::alloc::Global;
 
 /// `soak`: the summary of so many events that are drawn from a seed.
 pub(crate) fn run_soak<O: Sink>(alloc: Global, seed: u64, events: u64, out: &mut O) -> Status
-    requires { events ≤ 200000 }
+    requires { events ≤ MOST_EVENTS }
     ensures soaks { RunsSoak seed events (O.written out.old) (O.written out.new) (HasRisen (O.faults out.old) (O.faults out.new)) (code_of result) }
     ensures complete { code_of result ≢ 11 → ¬ HasRisen (O.faults out.old) (O.faults out.new)
         → AnswersWhole (soak_outcome seed events) (O.written out.old) (O.written out.new) (code_of result) }

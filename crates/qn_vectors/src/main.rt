@@ -1,15 +1,13 @@
 // Rows that were worked out elsewhere, run through each form of a count of votes and of a node that the
 // repository has: those from the whole list, and those in fixed memory.
 //
-//     qn_vectors             reads rows, writes each row from which a form differs, and then how many rows there
-//                            were
+//     qn_vectors             reads rows, and writes each from which a form differs, and how many there were
 //     qn_vectors show        reads histories, and writes what comes out of each entry
-//     qn_vectors steps N     reads one history, hands it N times to a new node, and writes how many outputs there
-//                            were
-//     qn_vectors plain N     evaluates each of the first N beginnings of one history from its whole list, and
-//                            writes how many outputs their last entries had
+//     qn_vectors steps N     reads one history, and hands it N times to a new node
+//     qn_vectors plain N     reads one history, and evaluates each of its first N beginnings from the whole list
 //
-// What it reads stands on standard input; the last two are there to be timed, by `bench/node`.
+// What it reads stands on standard input. The last two write how many outputs there were; they are there to be
+// timed, by `bench/node`.
 //
 // Promises: nothing. It is a test: what it is run on, and what it must write, stand beside it.
 #![tactic(auto)]

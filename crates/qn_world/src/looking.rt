@@ -296,7 +296,6 @@ pub(crate) fn touched(event: &Event) -> Option<Rank>
 }
 
 /// The count of votes of the empty history.
-#[tactic(auto, unfolding(qn_model::specs::Votes::answer_at, qn_model::specs::Votes::expected_votes, qn_model::specs::Votes::is_released, qn_model::specs::Votes::present_view, qn_model::specs::NodeVotes::votes))]
 fn answer_off(settings: &Settings) -> Answer
     ensures { result ≡ answer_off settings.now }
 {

@@ -101,17 +101,31 @@ impl World {
         requires formed { is_well_formed self.old.settings event.now ≡ true }
         requires early { self.old.time ≤ LATEST_TIME }
         requires room { 0 < self.old.steps }
-        ensures stands { OnOk result ((d : Cluster) → WorldFor self.old d → WorldFor self.new (step self.old.settings self.old.timing event.now d)) }
-        ensures report { OnOk result ((d : Cluster) → WorldFor self.old d
-            → into.new ≡ report self.old.settings event.now (step self.old.settings self.old.timing event.now d)) }
+        ensures stands { OnOk result ((d : Cluster)
+            → WorldFor self.old d
+            → WorldFor self.new (step self.old.settings self.old.timing event.now d)) }
+        ensures report { OnOk result ((d : Cluster)
+            → WorldFor self.old d
+            → into.new ≡ report self.old.settings event.now
+            (step self.old.settings self.old.timing event.now d)) }
         ensures outs { OnOk result (All (IsNodeOutput self.old.settings) into.new.outs) }
-        ensures one_holder { OnOk result ((i j : ℕ) → IsTrue (is_member into.new.holders i) → IsTrue (is_member into.new.holders j) → i ≡ j) }
-        ensures allowed { OnOk result ((d : Cluster) → WorldFor self.old d → refusal self.old.settings self.old.timing event.now d ≡ None) }
+        ensures one_holder { OnOk result ((i j : ℕ)
+            → IsTrue (is_member into.new.holders i)
+            → IsTrue (is_member into.new.holders j)
+            → i ≡ j) }
+        ensures allowed { OnOk result ((d : Cluster)
+            → WorldFor self.old d
+            → refusal self.old.settings self.old.timing event.now d ≡ None) }
         ensures steps { OnOk result (self.new.steps + 1 ≡ self.old.steps) }
 
         // An event is refused by the first rule that refuses it, or for want of memory.
-        ensures refused { IfErr result (λ r. (d : Cluster) → WorldFor self.old d → RefusedBy (refusal self.old.settings self.old.timing event.now d) r) }
-        ensures memory { result ≡ Err Refused.NoMemory → (d : Cluster) → WorldFor self.old d → needs_memory self.old.settings self.old.timing event.now d ≡ true }
+        ensures refused { IfErr result (λ r. (d : Cluster)
+            → WorldFor self.old d
+            → RefusedBy (refusal self.old.settings self.old.timing event.now d) r) }
+        ensures memory { result ≡ Err Refused.NoMemory
+            → (d : Cluster)
+            → WorldFor self.old d
+            → needs_memory self.old.settings self.old.timing event.now d ≡ true }
         ensures err { OnErr result (self.new ≡ self.old) }
 
         ensures settings { self.new.settings ≡ self.old.settings }

@@ -26,8 +26,8 @@ fn main(rt: HostRuntime) -> ExitCode {
     let Ok(outside) = rt.clone() else {
         return ExitCode::from(NO_MEMORY);
     };
-    let mut input = StdSource::new(rt.reader());
-    let mut out = StdSink::new(io::writer(&rt));
+    let mut input = StdSource::new(rt.reader(), &rt);
+    let mut out = StdSink::new(io::writer(&rt), &rt);
     let mut env = RealEnv::new(outside);
     let status = top(rt.alloc(), words.as_slice(), &mut input, &mut out, &mut env);
     ExitCode::from(status)

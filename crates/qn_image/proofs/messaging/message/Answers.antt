@@ -1,6 +1,6 @@
 use Rattle.std.proofs.lemmas.Result.{err_from_is_err_and}
 use Rattle.qn_image.specs.Plans.{header_plan, message_plan}
-use Rattle.qn_image.proofs.Joining.{went_on, faulted}
+use Rattle.qn_image.specs.Joining.{went_on, faulted}
 use Rattle.qn_image.proofs.Outcomes.{message_causes}
 use Rattle.qn_image.proofs.messaging.message.Goals as goal
 

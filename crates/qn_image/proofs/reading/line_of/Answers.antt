@@ -1,7 +1,7 @@
 use Rattle.std.proofs.Common.{refl}
 use Rattle.std.proofs.lemmas.Result.{err_from_is_err_and}
 use Rattle.qn_image.specs.Plans.{slot_plan, mail_plan, line_plan}
-use Rattle.qn_image.proofs.Joining.{went_on, faulted, ended}
+use Rattle.qn_image.specs.Joining.{went_on, faulted, ended}
 use Rattle.qn_image.proofs.Outcomes.{line_causes}
 use Rattle.qn_image.proofs.reading.line_of.Goals as goal
 

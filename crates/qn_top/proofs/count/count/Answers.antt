@@ -1,10 +1,10 @@
 use Rattle.std.proofs.Common.{ap, arith}
+use Rattle.qn_base.specs.Rising.{HasRisen-within}
 use Rattle.qn_io.specs.Outside.{HasRisen}
 use Rattle.qn_model.specs.CountText.{count_of}
 use Rattle.qn_top.specs.Runs.{Runs}
 use Rattle.qn_top.specs.Statuses.{code_of}
 use Rattle.qn_top.proofs.Counted.{counted_more, run_ends}
-use Rattle.qn_top.proofs.GivenOut.{risen_within}
 use Rattle.qn_top.proofs.RunEnds.{run_complete, run_done, run_uncalled, run_unread, run_unwritten, run_usage}
 use Rattle.qn_top.proofs.count.count.Given.{Over}
 use Rattle.qn_top.proofs.count.count.Goals as goal
@@ -16,8 +16,8 @@ run_of : (g : Over) (c : goal.In-Some g)
     (HasRisen (g.O.Sink.faults c.args.out.now) (g.O.Sink.faults c.turn.new.out)) (code_of c.in-Some.status)
 run_of g c =
     run_ends _ _ (g.I.Source.left c.turn.new.input) _ c.turn.new.self.pieces _ _ _ _ _ _ _ _ _
-    (risen_within _ _ _ _ c.turns.invariant.1 (omega arith) (omega arith))
-    (risen_within _ _ _ _ c.turns.invariant.2 (omega arith) (omega arith))
+    (HasRisen-within _ _ _ _ c.turns.invariant.1 (omega arith) (omega arith))
+    (HasRisen-within _ _ _ _ c.turns.invariant.2 (omega arith) (omega arith))
     c.turns.invariant.0 c.in-Some.ensures.turns
 
 pub returns-in-Some-clause-runs : goal.returns-in-Some-clause-runs

@@ -1,5 +1,5 @@
 use Rattle.qn_image.specs.Writes.{create_plan}
-use Rattle.qn_image.proofs.Joining.{faulted, went_on}
+use Rattle.qn_image.specs.Joining.{faulted, went_on}
 use Rattle.qn_top.specs.ImageWorks.{open_plan, opened_plan}
 use Rattle.qn_top.proofs.images.open_and_create.Goals as goal
 

@@ -1,7 +1,7 @@
 use Rattle.std.proofs.Common.{arith}
+use Rattle.qn_base.specs.Rising.{HasRisen-within}
 use Rattle.qn_top.proofs.Complete.{replay_complete}
 use Rattle.qn_top.proofs.Done.{replay_done}
-use Rattle.qn_top.proofs.GivenOut.{risen_within}
 use Rattle.qn_top.proofs.Replayed.{replay_finished, replay_unwritten}
 use Rattle.qn_top.proofs.Shown.{shows_run}
 use Rattle.qn_top.proofs.replaying.run_replay.Goals as goal
@@ -27,7 +27,7 @@ returns-in_default g c =
       no_usage = c.finish_replay.ensures.no_usage;
       no_env_fault = c.finish_replay.ensures.no_env_fault;
       read_fault = λ six. c.replay.ensures.read_fault (c.finish_replay.ensures.read_fault six);
-      write_fault = λ seven. risen_within _ _ _ _ c.replay.ensures.sink_faults c.finish_replay.ensures.sink_faults (omega arith) (c.finish_replay.ensures.write_fault seven);
+      write_fault = λ seven. HasRisen-within _ _ _ _ c.replay.ensures.sink_faults c.finish_replay.ensures.sink_faults (omega arith) (c.finish_replay.ensures.write_fault seven);
       source_faults = c.replay.ensures.source_faults;
       sink_faults = omega arith;
     }

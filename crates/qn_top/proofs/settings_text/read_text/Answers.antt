@@ -1,6 +1,6 @@
 use Rattle.std.proofs.Common.{take, ap, sym, ◌∙◌, arith}
 use Rattle.std.specs.Io.KnownBytes.{prepend_known}
-use Rattle.qn_top.proofs.GivenOut.{risen_within}
+use Rattle.qn_base.specs.Rising.{HasRisen-within}
 use Rattle.qn_top.proofs.ReadTexts.{text_ended, text_too_long, text_unread, text_wanted}
 use Rattle.qn_top.proofs.settings_text.read_text.Goals as goal
 
@@ -8,7 +8,7 @@ pub returns-in_default-clause-judges : goal.returns-in_default-clause-judges
 returns-in_default-clause-judges g c =
     text_unread c.pieces.bytes.items _ (g.I.Source.left c.pieces.input) (g.I.Source.left c.read.new.self) _ c.pieces.invariant.0 c.pieces.invariant.2
     c.in_default.ensures.kept
-    (risen_within _ _ _ _ c.pieces.invariant.1 c.in_default.ensures.never_falls (omega arith) c.in_default.ensures.cause)
+    (HasRisen-within _ _ _ _ c.pieces.invariant.1 c.in_default.ensures.never_falls (omega arith) c.in_default.ensures.cause)
 
 pub returns-then-count-eq0-clause-judges : goal.returns-then-count-eq0-clause-judges
 returns-then-count-eq0-clause-judges g c =

@@ -1,13 +1,13 @@
 use Rattle.std.proofs.Common.{sym, subst, ◌∙◌, ap}
 use Rattle.qn_model.specs.NodeVotes.{votes}
 use Rattle.qn_model.specs.NodeOutputs.{with_entry}
-use Rattle.qn_node.specs.Stage.{StageFor, is_part}
-use Rattle.qn_node.proofs.Stages.{apart_at, quiet_at, quiet_counted}
+use Rattle.qn_node.specs.Stage.{StageFor, takes_part}
+use Rattle.qn_node.proofs.Stages.{no_part_at, quiet_at, quiet_counted}
 use Rattle.qn_node.proofs.stage.Stage.step.Goals as goal
 
 pub next-requires : goal.next-requires
 next-requires c =
-    record { quiet = ap is_part c.replace-quiet.ensures.value ∙ apart_at c.args.self.now c.in_default.not-Live; empty = c.requires.empty }
+    record { quiet = ap takes_part c.replace-quiet.ensures.value ∙ no_part_at c.args.self.now c.in_default.not-Live; empty = c.requires.empty }
 
 pub returns-clause-counts : goal.returns-clause-counts
 unfolding with_entry

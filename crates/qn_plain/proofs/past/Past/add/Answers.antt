@@ -1,5 +1,4 @@
-use Rattle.std.proofs.Common.{ap, sym, ◌∙◌, ◌≤◌, subst}
-use Rattle.qn_plain.specs.Life.{life_given}
+use Rattle.std.proofs.Common.{ap, sym, ◌≤◌, subst}
 use Rattle.qn_plain.proofs.Steps.{adds, resets_more}
 use Rattle.qn_plain.proofs.past.Past.add.Goals as goal
 
@@ -8,7 +7,7 @@ returns-clause-stands c = λ log here h.
     (adds c.args.settings.now c.args.me.0 c.args.self.now c.take_in.new.self _ log c.args.place c.args.entry.now c.read-what.result
     c.reading-reading.result c.is_timely-timely.result c.outs-outs.result here c.read-what.ensures c.reading-reading.ensures c.is_timely-timely.ensures
     c.take_in.ensures c.outs-outs.ensures
-    (ap (λ l. record c.take_in.new.self { life = l }) (c.given-self.ensures ∙ ap (λ outs. life_given c.args.place c.args.entry.now.tick outs c.take_in.new.self.life) c.as_slice.ensures.value))
+    (ap (λ l. record c.take_in.new.self { life = l }) c.given-self.ensures)
     h).stands
 
 pub returns-clause-outs : goal.returns-clause-outs
@@ -16,7 +15,7 @@ returns-clause-outs c = λ log here h.
     (adds c.args.settings.now c.args.me.0 c.args.self.now c.take_in.new.self _ log c.args.place c.args.entry.now c.read-what.result
     c.reading-reading.result c.is_timely-timely.result c.outs-outs.result here c.read-what.ensures c.reading-reading.ensures c.is_timely-timely.ensures
     c.take_in.ensures c.outs-outs.ensures
-    (ap (λ l. record c.take_in.new.self { life = l }) (c.given-self.ensures ∙ ap (λ outs. life_given c.args.place c.args.entry.now.tick outs c.take_in.new.self.life) c.as_slice.ensures.value))
+    (ap (λ l. record c.take_in.new.self { life = l }) c.given-self.ensures)
     h).given
 
 pub returns-clause-resets : goal.returns-clause-resets

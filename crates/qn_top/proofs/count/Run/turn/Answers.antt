@@ -1,6 +1,6 @@
 use Rattle.std.proofs.Common.{ap, sym, arith}
 use Rattle.std.specs.Io.KnownBytes.{prepend_known}
-use Rattle.qn_top.proofs.GivenOut.{risen_within}
+use Rattle.qn_base.specs.Rising.{HasRisen-within}
 use Rattle.qn_top.proofs.Turned.{ends_same, turn_behind, turn_same, turn_unwritten}
 use Rattle.qn_top.proofs.count.Run.turn.Goals as goal
 
@@ -12,7 +12,7 @@ returns-in_default-clause-turns g c =
 pub returns-clause-turns : goal.returns-clause-turns
 returns-clause-turns g c =
     turn_behind c.next_line.result _ _ _ _ _ _ _ _ _ _ _ _ _ _
-    (risen_within _ _ _ _ c.in-Ok.ensures.never_falls (omega arith) (omega arith))
+    (HasRisen-within _ _ _ _ c.in-Ok.ensures.never_falls (omega arith) (omega arith))
     c.in-Ok.ensures.given
     (turn_same c.next_line.result _ _ _ _ _ _ _ _ _ _ _ _ _ c.in-Ok.ensures.counter
     (ap (λ p. prepend_known p (g.I.Source.left c.args.input.now)) c.in-Ok.ensures.pieces) c.next_line.ensures.turns)

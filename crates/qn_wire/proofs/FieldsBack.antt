@@ -1,0 +1,86 @@
+-- The fields of a well formed packet are read back from its bytes.
+use Rattle.std.proofs.Common.{◌≡◌, ◌<◌, ◌^◌, ℕ, Bool, true, false, ◌&&◌, ◌==◌, ◌+◌, ◌%◌, nat_lt, nat_le, slice_index, cond, List, [], ◌∷◌, ◌++◌, Some, refl, ap, arith}
+use Rattle.std.specs.Int.{bytes_high_first}
+use Rattle.std.proofs.lemmas.Bool.Decides.{nat_tests}
+use Rattle.byteorder.specs.Numbers.{big_number-reads_back}
+use Rattle.qn_base.specs.declared.ids.View.{View}
+use Rattle.qn_model.specs.declared.packets.Ask.{Ask}
+use Rattle.qn_model.specs.declared.packets.Tell.{Tell}
+use Rattle.qn_model.specs.declared.packets.Packet.{Packet}
+use Rattle.qn_model.specs.declared.packets.Packet.TheVariants as packet
+use Rattle.qn_wire.specs.Packets.{packet_bytes, head_bytes, view_bytes, ask_fields, as_ask, is_ask, is_view, is_well_formed}
+use Rattle.qn_wire.specs.Reading.{fields_of, ask_at, tell_at, view_at}
+
+-- both tests hold where their conjunction does
+pub and_both : (first second : Bool) → (first && second) ≡ true → (first ≡ true) × (second ≡ true)
+and_both true second holds = (refl, holds)
+and_both false second holds = cc
+
+below : (n m : ℕ) → nat_lt n m ≡ true → n < m
+below n m is = grind (arith, nat_tests)
+
+same_view : (first second : View) → first.id ≡ second.id → first.members.0 ≡ second.members.0 → first ≡ second
+same_view first second same_id same_members = rw (same_id, same_members) refl
+
+view_at-view_bytes : (view : View) (rest : List ℕ) → is_view view ≡ true → view_at 0 (view_bytes view ++ rest) ≡ view
+view_at-view_bytes view rest is =
+    let tests = and_both _ _ is in
+    let id_fits = below view.id (2 ^ 64) (and_both _ _ tests.0).0 in
+    let members_fit = below view.members.0 (2 ^ 32) tests.1 in
+    same_view (view_at 0 (view_bytes view ++ rest)) view
+    (big_number-reads_back 8 view.id (bytes_high_first 4 view.members.0 ++ rest) id_fits)
+    (big_number-reads_back 4 view.members.0 rest members_fit)
+
+same_ask : (first second : Ask) → first.from ≡ second.from → first.to ≡ second.to → first.incarnation ≡ second.incarnation → first.install ≡ second.install → first.view ≡ second.view → first ≡ second
+same_ask first second from to incarnation install view = rw (from, to, incarnation, install, view) refl
+
+ask_at-ask_fields : (kind : ℕ) (ask : Ask) (rest : List ℕ) → is_ask ask ≡ true → ask_at (head_bytes kind ++ ask_fields ask ++ rest) ≡ ask
+ask_at-ask_fields kind ask rest is =
+    let four = and_both _ _ is in
+    let three = and_both _ _ four.0 in
+    let two = and_both _ _ three.0 in
+    same_ask (ask_at (head_bytes kind ++ ask_fields ask ++ rest)) ask refl refl
+    (big_number-reads_back 8 ask.incarnation (bytes_high_first 8 ask.install ++ view_bytes ask.view ++ rest) (below ask.incarnation (2 ^ 64) two.1))
+    (big_number-reads_back 8 ask.install (view_bytes ask.view ++ rest) (below ask.install (2 ^ 64) three.1))
+    (view_at-view_bytes ask.view rest four.1)
+
+-- the byte of a Tell, of its two truths
+abbrev flags_of : Bool → Bool → ℕ
+flags_of holds released = cond holds 1 0 + cond released 2 0
+
+holds_back : (holds released : Bool) → (flags_of holds released % 2 == 1) ≡ holds
+holds_back true true = refl
+holds_back true false = refl
+holds_back false true = refl
+holds_back false false = refl
+
+released_back : (holds released : Bool) → nat_le 2 (flags_of holds released) ≡ released
+released_back true true = refl
+released_back true false = refl
+released_back false true = refl
+released_back false false = refl
+
+same_tell : (first second : Tell) → as_ask first ≡ as_ask second → first.holds ≡ second.holds → first.released ≡ second.released → first ≡ second
+same_tell first second same_ask holds released =
+    rw (ap (λ a. a.from) same_ask, ap (λ a. a.to) same_ask, ap (λ a. a.incarnation) same_ask, ap (λ a. a.install) same_ask, ap (λ a. a.view) same_ask, holds, released) refl
+
+tell_at-tell_bytes : (tell : Tell) → is_ask (as_ask tell) ≡ true → tell_at (packet_bytes (packet.Tell tell)) ≡ tell
+unfolding packet_bytes
+tell_at-tell_bytes tell is =
+    same_tell (tell_at (packet_bytes (packet.Tell tell))) tell
+    (ask_at-ask_fields 2 (as_ask tell) (flags_of tell.holds tell.released ∷ []) is)
+    (holds_back tell.holds tell.released)
+    (released_back tell.holds tell.released)
+
+truth_back : (truth : Bool) → (cond truth 1 0 == 1) ≡ truth
+truth_back true = refl
+truth_back false = refl
+
+pub fields_of-packet_bytes : (p : Packet) → is_well_formed p ≡ true → fields_of (slice_index (packet_bytes p) 2) (packet_bytes p) ≡ Some p
+unfolding packet_bytes
+fields_of-packet_bytes (packet.Ask ask) is = ap (λ x. Some (packet.Ask x)) (ask_at-ask_fields 1 ask [] is)
+fields_of-packet_bytes (packet.Tell tell) is = ap (λ x. Some (packet.Tell x)) (tell_at-tell_bytes tell is)
+fields_of-packet_bytes (packet.Hello from) is = refl
+fields_of-packet_bytes (packet.Announce from view) is =
+    ap (λ x. Some (packet.Announce from x)) (view_at-view_bytes view [] (and_both _ _ is).1)
+fields_of-packet_bytes (packet.Vote agrees) is = ap (λ x. Some (packet.Vote x)) (truth_back agrees)

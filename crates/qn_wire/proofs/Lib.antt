@@ -1,0 +1,2 @@
+pub mod FieldsBack
+pub mod Spelling

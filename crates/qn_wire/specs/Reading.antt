@@ -1,0 +1,64 @@
+-- How packets are read: the fields are taken from their places, and the packet counts only where it is well formed and
+-- the bytes are its spelling.
+use Rattle.std.specs.Prelude.{ℕ, ◌+◌, ◌%◌, ◌&&◌, ◌==◌, nat_le, List, length, drop, slice_index, Option, Some, None, option_and_then, if◌then◌else◌}
+use Rattle.std.specs.Str.{bytes_eq}
+use Rattle.byteorder.specs.Endian.{big_number}
+use Rattle.qn_base.specs.declared.ids.Rank.{Rank}
+use Rattle.qn_base.specs.declared.ids.View.{View}
+use Rattle.qn_model.specs.declared.packets.Ask.{Ask}
+use Rattle.qn_model.specs.declared.packets.Tell.{Tell}
+use Rattle.qn_model.specs.declared.packets.Packet.{Packet}
+use Rattle.qn_model.specs.declared.packets.Packet.TheVariants as packet
+use Rattle.qn_wire.specs.Packets.{packet_bytes, is_well_formed}
+
+-- the rank that stands there
+abbrev pub rank_at : ℕ → List ℕ → Rank
+rank_at place bytes = record { 0 = slice_index bytes place }
+
+-- the view that begins there
+abbrev pub view_at : ℕ → List ℕ → View
+view_at place bytes =
+    record { id = big_number 8 (drop place bytes); members = record { 0 = big_number 4 (drop (place + 8) bytes) } }
+
+-- the fields of an Ask, which a Tell has too
+abbrev pub ask_at : List ℕ → Ask
+ask_at bytes =
+    record {
+      from = rank_at 3 bytes;
+      to = rank_at 4 bytes;
+      incarnation = big_number 8 (drop 5 bytes);
+      install = big_number 8 (drop 13 bytes);
+      view = view_at 21 bytes;
+    }
+
+-- the fields of a Tell
+abbrev pub tell_at : List ℕ → Tell
+tell_at bytes =
+    let shared = ask_at bytes in
+    let flags = slice_index bytes 33 in
+    record {
+      from = shared.from;
+      to = shared.to;
+      incarnation = shared.incarnation;
+      install = shared.install;
+      view = shared.view;
+      holds = flags % 2 == 1;
+      released = nat_le 2 flags;
+    }
+
+-- the packet whose fields these bytes have, by their kind and their number
+abbrev pub fields_of : ℕ → List ℕ → Option Packet
+fields_of kind bytes =
+    if kind == 1 && length bytes == 33 then Some (packet.Ask (ask_at bytes))
+    else if kind == 2 && length bytes == 34 then Some (packet.Tell (tell_at bytes))
+    else if kind == 3 && length bytes == 4 then Some (packet.Hello (rank_at 3 bytes))
+    else if kind == 4 && length bytes == 16 then Some (packet.Announce (rank_at 3 bytes) (view_at 4 bytes))
+    else if kind == 5 && length bytes == 4 then Some (packet.Vote (slice_index bytes 3 == 1))
+    else None
+
+-- the packet that the bytes spell
+unfoldable pub packet_of : List ℕ → Option Packet
+packet_of bytes =
+    option_and_then
+    (λ p. if is_well_formed p && bytes_eq (packet_bytes p) bytes then Some p else None)
+    (fields_of (slice_index bytes 2) bytes)

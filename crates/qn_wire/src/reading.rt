@@ -1,0 +1,126 @@
+ghost use Rattle.std.specs.Prelude.{◌≡◌, ◌≤◌, ◌+◌, length, IfSome, IfNone};
+ghost use Rattle.qn_base.specs.declared.ids.Rank.{Rank};
+ghost use Rattle.qn_model.specs.declared.packets.Packet.{Packet};
+ghost use Rattle.qn_wire.specs.Packets.{is_rank, is_view, is_ask, is_well_formed, Spells};
+ghost use Rattle.qn_wire.specs.Reading.{packet_of, fields_of, view_at, ask_at, tell_at};
+
+use crate::kinds::{ANNOUNCE, ASK, HELLO, TELL, VOTE};
+use crate::writing::{as_ask, put_packet};
+use arrayvec::ArrayVec;
+use byteorder::{BigEndian, ByteOrder};
+use qn_base::{Mask, Rank, View};
+use qn_model::{Ask, Packet, Tell};
+
+/// The packet that these bytes spell: its ranks are below 32, and its view has members.
+pub fn get_packet(from: &[u8]) -> Option<Packet>
+    ensures some { IfSome result (Spells from.now) }
+    ensures none { IfNone result ((packet : Packet) → Spells from.now packet → ⊥) }
+    ensures gives { result ≡ packet_of from.now }
+{
+    read_packet(from)
+}
+
+#[tactic(auto, unfolding(crate::specs::Reading::packet_of))]
+fn read_packet(from: &[u8]) -> Option<Packet>
+    ensures { result ≡ packet_of from.now }
+{
+    let packet = read_fields(*from.get(2)?, from)?;
+    if !is_well_formed(&packet) {
+        return None;
+    }
+    let mut spelled = ArrayVec::new();
+    put_packet(&packet, &mut spelled);
+    if spelled.as_slice() == from {
+        Some(packet)
+    } else {
+        None
+    }
+}
+
+fn read_fields(kind: u8, from: &[u8]) -> Option<Packet>
+    ensures { result ≡ fields_of kind from.now }
+{
+    match (kind, from.len()) {
+        (ASK, 33) => Some(Packet::Ask(read_ask(from))),
+        (TELL, 34) => Some(Packet::Tell(read_tell(from))),
+        (HELLO, 4) => Some(Packet::Hello {
+            from: Rank(from[3]),
+        }),
+        (ANNOUNCE, 16) => Some(Packet::Announce {
+            from: Rank(from[3]),
+            view: read_view(4, from),
+        }),
+        (VOTE, 4) => Some(Packet::Vote { yes: from[3] == 1 }),
+        _ => None,
+    }
+}
+
+fn read_ask(from: &[u8]) -> Ask
+    requires { 33 ≤ length from.now }
+    ensures { result ≡ ask_at from.now }
+{
+    Ask {
+        from: Rank(from[3]),
+        to: Rank(from[4]),
+        incarnation: BigEndian::read_u64(from.split_at(5).1),
+        install: BigEndian::read_u64(from.split_at(13).1),
+        view: read_view(21, from),
+    }
+}
+
+fn read_tell(from: &[u8]) -> Tell
+    requires { 34 ≤ length from.now }
+    ensures { result ≡ tell_at from.now }
+{
+    let shared = read_ask(from);
+    let flags = from[33];
+    Tell {
+        from: shared.from,
+        to: shared.to,
+        incarnation: shared.incarnation,
+        install: shared.install,
+        view: shared.view,
+        holds: flags % 2 == 1,
+        released: flags >= 2,
+    }
+}
+
+fn read_view(place: usize, from: &[u8]) -> View
+    requires { place + 12 ≤ length from.now }
+    ensures { result ≡ view_at place from.now }
+{
+    View {
+        id: BigEndian::read_u64(from.split_at(place).1),
+        members: Mask(BigEndian::read_u32(from.split_at(place + 8).1)),
+    }
+}
+
+fn is_well_formed(packet: &Packet) -> bool
+    ensures { result ≡ is_well_formed packet.now }
+{
+    match packet {
+        Packet::Ask(ask) => is_ask(*ask),
+        Packet::Tell(tell) => is_ask(as_ask(tell)),
+        Packet::Hello { from } => is_rank(*from),
+        Packet::Announce { from, view } => is_rank(*from) && is_view(*view),
+        Packet::Vote { .. } => true,
+    }
+}
+
+fn is_ask(ask: Ask) -> bool
+    ensures { result ≡ is_ask ask }
+{
+    is_rank(ask.from) && is_rank(ask.to) && is_view(ask.view)
+}
+
+fn is_view(view: View) -> bool
+    ensures { result ≡ is_view view }
+{
+    view.members.0 > 0
+}
+
+fn is_rank(rank: Rank) -> bool
+    ensures { result ≡ is_rank rank }
+{
+    rank.0 < 32
+}

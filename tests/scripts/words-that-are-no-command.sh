@@ -1,0 +1,36 @@
+# Words that are no command: status 2 and the fault line, whatever the input is.
+. "$TOP/tests/expect.sh"
+
+while read -r words; do
+    # shellcheck disable=SC2086
+    expect 2 'fault Usage\n' $words < "$TOP/examples/one-node.conf"
+done <<'END'
+counts
+COUNT
+count x
+create
+replay --image d
+create --image
+create --image d --image d
+create --image d --timing 0,10000,1000,2000,1000
+create --image d --timing 5000,10000,1000,2000
+create --image d --timing 5000,10000,1000,2000,1000,1
+create --image d --timing 5000,3600001,1000,2000,1000
+dump d
+dump --image d --id 1
+list --images d
+message --image d --id 1
+message --image d --id 0 --kind off
+message --image d --id 4294967296 --kind off
+message --image d --id 1 --kind test
+status text
+status --form text --form text
+status --form xml
+soak 1
+soak 1 0
+soak 1 200001
+help me
+END
+expect 2 'fault Usage\n' < /dev/null
+expect 2 'fault Usage\n' '' < /dev/null
+same "$(ls)" ''
