@@ -12,10 +12,6 @@ pub record GivesOut (old new : Option (List ℕ)) (waiting text : List ℕ) : Ty
   pub parts : text ≡ front ++ waiting
   pub adds : new ≡ append_known old front
 
--- nothing was given out and nothing waits
-pub gives_nothing : (old : Option (List ℕ)) → GivesOut old old [] []
-gives_nothing old = record { front = []; parts = refl; adds = sym (append_known-nil old) }
-
 -- none of it was written
 pub gives_later : (old : Option (List ℕ)) (text : List ℕ) → GivesOut old old text text
 gives_later old text = record { front = []; parts = refl; adds = sym (append_known-nil old) }

@@ -38,7 +38,7 @@ pub fn play<W: Plays, I: Source, O: Sink>(
     ensures complete { ¬ HasRisen (I.faults input.old) (I.faults input.new) → ¬ HasRisen (O.faults out.old) (O.faults out.new)
         → result ≢ ReplayEnd.NoMemory
         → IfSome (prepend_known pieces (I.left input.old)) (λ bytes.
-            AnswersWhole (rest_of (W.play world.old) head [] Ended bytes) (O.written out.old) (O.written out.new) result) }
+        AnswersWhole (rest_of (W.play world.old) head [] Ended bytes) (O.written out.old) (O.written out.new) result) }
 
     ensures source_faults { I.faults input.old ≤ I.faults input.new }
     ensures sink_faults { O.faults out.old ≤ O.faults out.new }

@@ -47,10 +47,11 @@ good_line start earlier line text counted is =
     let here = after_lines start earlier in
     let long = nat_lt MOST_LINE_BYTES (length line) in
     let within = bounded long (length earlier == MOST_EVENTS) (bad_line start.lines earlier TooLong) (bad_line start.lines earlier TooMany)
-    (BadSchedule (here.lines + 1) TooLong) (BadSchedule (here.lines + 1) TooMany) text (event_play start earlier line) (spelled_event here line) is in
-    (within.0,
-    ap (λ (n : ℕ). cond long (Err (BadSchedule (here.lines + 1) TooLong)) (cond (n == MOST_EVENTS) (Err (BadSchedule (here.lines + 1) TooMany)) (spelled_event here line))) counted
-    ∙ within.1)
+    (BadSchedule (here.lines + 1) TooLong) (BadSchedule (here.lines + 1) TooMany) text (event_play start earlier line) (spelled_event here line) is in (
+      within.0,
+      ap (λ (n : ℕ). cond long (Err (BadSchedule (here.lines + 1) TooLong)) (cond (n == MOST_EVENTS) (Err (BadSchedule (here.lines + 1) TooMany)) (spelled_event here line))) counted
+          ∙ within.1,
+    )
 
 text_if-ok : (so_far : Progress) (event : Event) (allowed : Result Event ReplayEnd) (text : List ℕ) → allowed_in so_far event ≡ allowed → text_if so_far allowed ≡ Ok text → allowed_in so_far event ≡ Ok event
 text_if-ok so_far event (Ok other) text is plays = is ∙ ap (λ (e : Event). Ok e) (allowed_in-ok so_far event other is)

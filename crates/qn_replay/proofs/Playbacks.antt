@@ -9,7 +9,6 @@ use Rattle.qn_play.specs.Judging.{AtFault, OutOfMemory, RefusesAt}
 use Rattle.qn_play.specs.Lines.{Taken}
 use Rattle.qn_sched.specs.declared.replay_end.ReplayEnd.{ReplayEnd}
 use Rattle.qn_sched.specs.TraceLines.{trace_line}
-use Rattle.qn_world.specs.Whole.{Whole}
 use Rattle.qn_replay.specs.declared.playback.Playback.{Playback}
 use Rattle.qn_replay.specs.Playing as playing
 use Rattle.qn_replay.specs.Playing.{Begins, IsAfter, RefusesLine, TakesLine, adds, after_line, after_lines, event_play, event_wants, moved_on, progress_at, report_text, start_of, text_if, text_of}
@@ -84,19 +83,3 @@ refuses_line start old line end earlier after (playing.OutOfMemory event is may 
     ∙ text_of-ok (progress_at old after.world) line event is may)
     (ap (λ (so_far : Progress). adds so_far (spelled_event so_far line)) after.place ∙ ap (adds (progress_at old after.world)) is ∙ wants)
     memory
-
--- the same world is where it was, whatever was reported
-pub stays_after : (start old new : Playback) (earlier : Taken) → new.world ≡ old.world → new.head ≡ old.head → new.events ≡ old.events → IsAfter start old earlier → IsAfter start new earlier
-stays_after start old new earlier world head events after =
-    let made : Whole → ℕ → ℕ → Playback = λ w h n. record { world = w; report = new.report; head = h; events = n } in
-    let going = after.going in
-    subst (λ (w : Whole). IsAfter start (made w new.head new.events) earlier) (sym world)
-    (subst (λ (h : ℕ). IsAfter start (made old.world h new.events) earlier) (sym head)
-    (subst (λ (n : ℕ). IsAfter start (made old.world old.head n) earlier) (sym events)
-    (record {
-      world = after.world;
-      stands = after.stands;
-      going = record { few = going.few; numbered = going.numbered; steps = going.steps; early = going.early };
-      counted = after.counted;
-      place = after.place;
-    })))

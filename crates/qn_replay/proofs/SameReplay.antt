@@ -87,11 +87,13 @@ counted_more start line earlier event counted is =
     let so_far = after_lines start earlier in
     let moved : after_lines start (line ∷ earlier) ≡ with_event so_far event = ap (moved_on so_far) is in
     let lines = counted.lines in
-    let events = counted.events in
-    (sym moved, record {
-      lines = ap (λ (p : Progress). p.lines) moved ∙ omega (arith, lines);
-      events = ap (λ (p : Progress). p.events) moved ∙ omega (arith, events);
-    })
+    let events = counted.events in (
+      sym moved,
+      record {
+        lines = ap (λ (p : Progress). p.lines) moved ∙ omega (arith, lines);
+        events = ap (λ (p : Progress). p.events) moved ∙ omega (arith, events);
+      },
+    )
 
 -- where a replay stood after the lines that were taken
 abbrev pub place_of : Progress → Taken → Option Progress

@@ -37,13 +37,6 @@ fn run_silent<I: Source>(alloc: Global, input: &mut I) -> Result<World, ReplayEn
     let mut pieces = Pieces::new();
     let mut playback = start(alloc, &mut pieces, input)?;
     let head = playback.head();
-    let end = play(
-        &mut playback,
-        head,
-        pieces,
-        output,
-        input,
-        &mut NullSink,
-    );
+    let end = play(&mut playback, head, pieces, output, input, &mut NullSink);
     playback.last(end)
 }

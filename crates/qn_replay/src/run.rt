@@ -12,10 +12,11 @@ use std::alloc::Global;
 
 /// Replays a schedule: reads its input in pieces of at most 4096 bytes, up to the byte that decides the end,
 /// and keeps no more of it than the settings text, one line, one piece and the world. It writes the trace
-/// alone, each line before it judges the next one, and nothing of the end. Behind the first trace line,
-/// `NoMemory` comes only where the next event adds a packet or a leftover to the world.
+/// alone, and nothing of the end. The trace lines of one piece are written together, always before more of the
+/// input is read and before the replay ends. After the first trace line, `NoMemory` comes only where the next
+/// event adds a packet or a leftover to the world.
 pub fn replay<I: Source, O: Sink>(alloc: Global, input: &mut I, out: &mut O) -> ReplayEnd
-    // The end is the defined one of the bytes that were taken, and what was written is their trace, or a front
+    // The end is the defined one of the bytes that were taken, and what was written is their trace, or a prefix
     // of it at WriteFault and NoMemory.
     ensures replays { Replays (I.left input.old) (I.left input.new) (HasRisen (I.faults input.old) (I.faults input.new))
         (O.written out.old) (O.written out.new) (HasRisen (O.faults out.old) (O.faults out.new)) result }
@@ -25,7 +26,7 @@ pub fn replay<I: Source, O: Sink>(alloc: Global, input: &mut I, out: &mut O) -> 
         → IfSome (I.left input.old) (λ bytes. AnswersWhole (replay_of Ended bytes) (O.written out.old) (O.written out.new) result) }
     ensures done { IfDone result (Completes (I.left input.old) (I.left input.new) (O.written out.old) (O.written out.new) result) }
 
-    // Want of memory.
+    // Out of memory.
     ensures memory { result ≡ ReplayEnd.NoMemory → Wants (I.left input.old) (I.left input.new) (O.written out.old) (O.written out.new) }
 
     // The faults of the outside.
