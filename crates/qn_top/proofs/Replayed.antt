@@ -56,7 +56,7 @@ module _ {taken : List ℕ} {at_end failed : Type 0} {old : Option (List ℕ)} w
   finished : {middle new : Option (List ℕ)} {write_failed_before write_failed : Type 0} {status : ℕ} (ended : ReplayEnd) → ended ≢ end.WriteFault
       → EndsAs taken at_end failed old middle write_failed_before ended
       → Answers [] (end_outcome ended).text (end_outcome ended).status middle new write_failed status → ReplayEnds taken at_end failed old new write_failed status
-  finished {middle} {new} {write_failed} {status} ended other (WroteAll answer tells needed is whole) answers =
+  finished {middle} {new} {write_failed} {status} ended other (WroteAll answer tells needed is whole anywhere) answers =
       whole_trace answer tells whole (subst (λ (e : ReplayEnd). Answers [] (end_outcome e).text (end_outcome e).status middle new write_failed status) is answers)
   finished ended other (Unwritten trace tells is fails front) answers = absurd (other is)
   finished {middle} {new} {write_failed} {status} ended other (Wanted trace tells is whole why) answers =
@@ -65,7 +65,7 @@ module _ {taken : List ℕ} {at_end failed : Type 0} {old : Option (List ℕ)} w
 
   -- a replay whose sink failed
   unwritten : {new : Option (List ℕ)} {write_failed : Type 0} → EndsAs taken at_end failed old new write_failed end.WriteFault → ReplayEnds taken at_end failed old new write_failed 7
-  unwritten {new} {write_failed} (WroteAll answer tells needed is whole) =
+  unwritten {new} {write_failed} (WroteAll answer tells needed is whole anywhere) =
       whole_trace answer tells whole
       (subst (λ (e : ReplayEnd). Answers [] (end_outcome e).text (end_outcome e).status new new write_failed 7) is (Whole refl (sym (append_known-nil new))))
   unwritten (Unwritten trace tells is fails front) = cut_trace trace tells fails front
