@@ -104,7 +104,8 @@ struct Run {
 }
 
 impl Run {
-    ghost use Rattle.std.specs.Prelude.{[], OnErr, OnOk};
+    ghost use Rattle.std.specs.Prelude.{◌⊎◌, [], OnErr, OnOk};
+    ghost use Rattle.qn_io.specs.Lines.{HasLineFeed};
     ghost use Rattle.qn_io.specs.Writes.{AppendsFront};
     ghost use Rattle.std.specs.Io.KnownBytes.{IsAtEnd, prepend_known};
     ghost use Rattle.qn_model.specs.CountText.{nothing_counted};
@@ -142,22 +143,25 @@ impl Run {
         self.next_line(input, out)
     }
 
-    /// Writes what waits, where the next byte of the input has to be read first.
+    /// Writes what waits, where no whole line waits and more of the input has to be read first.
     fn flush_before_read<O: Sink>(&mut self, out: &mut O) -> Result<(), Failed>
         ensures given { OnOk result (GivesOut (O.written out.old) (O.written out.new) self.new.output self.old.output) }
         ensures front { OnErr result (AppendsFront (O.written out.old) (O.written out.new) self.old.output) }
         ensures counter { self.new.counter ≡ self.old.counter }
         ensures pieces { self.new.pieces ≡ self.old.pieces }
+        ensures written { OnOk result (HasLineFeed self.new.pieces ⊎ (self.new.output ≡ [])) }
         ensures never_falls { O.faults out.old ≤ O.faults out.new }
         ensures cause { OnErr result (HasRisen (O.faults out.old) (O.faults out.new)) }
     {
-        if self.pieces.is_empty() {
-            self.output.flush(out)?;
+        if self.pieces.has_line() {
+            return Ok(());
         }
-        Ok(())
+        self.output.flush(out)
     }
 
+    /// The same, where a whole line waits or nothing waits to be written, so that nothing does when more is read.
     fn next_line<I: Source, O: Sink>(&mut self, input: &mut I, out: &mut O) -> Option<Status>
+        requires { HasLineFeed self.old.pieces ⊎ (self.old.output ≡ []) }
         ensures turns { Turns result self.old.counter self.new.counter
             (prepend_known self.old.pieces (I.left input.old)) (prepend_known self.new.pieces (I.left input.new))
             self.old.output self.new.output
