@@ -18,6 +18,7 @@ done
 
 for command in *.command; do
     if ! command -v jq > /dev/null && grep -q 'jq ' "$command"; then
+        printf 'skipped: there is no jq (Debian: jq) for: %s\n' "$(cat "$command")"
         continue
     fi
     bash "$command" > got 2>&1 || true

@@ -93,7 +93,7 @@ def try_schema(schema):
 
 statuses = [try_forms(place) for place in sorted(pathlib.Path("good").glob("*.text"))]
 if Draft202012Validator is None:
-    print("the schema was not tried: this Python has no module jsonschema for draft 2020-12")
+    print("skipped: this Python has no module jsonschema for draft 2020-12 (Debian: python3-jsonschema), so the schema was not tried")
 else:
     judge = try_schema(json.loads(pathlib.Path(sys.argv[1]).read_text()))
     for nodes in statuses:
