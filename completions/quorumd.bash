@@ -2,7 +2,7 @@
 # /usr/share/bash-completion/completions.
 
 # the commands, in the order of `quorumd help`
-_quorumd_commands=(count replay status soak create dump list message help)
+_quorumd_commands=(count replay status soak create dump list message migrate help)
 
 # _quorumd_options COMMAND: leaves the options that a command takes in `options`
 _quorumd_options() {
@@ -10,7 +10,7 @@ _quorumd_options() {
     case $1 in
     status) options=(--form) ;;
     create) options=(--image --timing) ;;
-    dump | list) options=(--image) ;;
+    dump | list | migrate) options=(--image) ;;
     message) options=(--image --id --kind) ;;
     esac
 }
@@ -36,13 +36,13 @@ _quorumd_files() {
 _quorumd_value() {
     case $1 in
     --form) _quorumd_offer text json ;;
-    --kind) _quorumd_offer reset off crashdump ;;
+    --kind) _quorumd_offer clear test reset off exit crashdump ;;
     --timing) _quorumd_offer 5000,10000,1000,2000,1000 ;;
     --image) _quorumd_files ;;
     esac
 }
 
-# _quorumd_left COMMAND: offers the options that do not stand in front of the present word, or the values of the one that does
+# _quorumd_left COMMAND: offers the options that do not stand before the present word, or the values of the one that does
 _quorumd_left() {
     local at option word left options
     _quorumd_options "$1"

@@ -265,7 +265,7 @@ pub struct Count {
     pub quorum: u64,
 }
 
-/// The first condition that a start still lacks.
+/// The first condition that blocks a start.
 #[derive(Clone, Copy, Debug)]
 pub enum Why {
     Down,

@@ -319,7 +319,7 @@ impl Node {
         }
     }
 
-    /// The first condition that a start lacks at this tick, by the count of votes.
+    /// The first condition that blocks a start at this tick, by the count of votes.
     pub fn why(&self, settings: &Settings, tick: u64, count: Count) -> Why {
         if self.phase != Phase::Up {
             return Why::Down;
@@ -336,7 +336,7 @@ impl Node {
         self.lacks(settings, view, tick)
     }
 
-    /// What lacks of the other nodes, where the node is quorate.
+    /// What of the other nodes blocks a start, where the node is quorate.
     fn lacks(&self, settings: &Settings, view: View, tick: u64) -> Why {
         let others = self.others(view);
         if let Some(rank) = view.members.least().filter(|rank| *rank != self.me) {

@@ -9,7 +9,7 @@ cp fresh sent
 "$QUORUMD" dump --image fresh > dump.said
 "$QUORUMD" list --image fresh > list.said
 mv created create.said
-head -c 2560 /dev/zero | tr '\0' '\245' > none
+head -c 512 /dev/zero | tr '\0' '\245' > none
 printf 'fault ReadFault\n' > read-fault
 printf 'fault BadImage sector 0\n' > no-image
 

@@ -1,8 +1,8 @@
-# completions/quorumd.bash in a bash of its own: what it offers behind which words. It names the commands that the program
+# completions/quorumd.bash in a bash of its own: what it offers after which words. It names the commands that the program
 # names, and the program takes the words that it offers.
 . "$TOP/tests/expect.sh"
 
-# offers WANTED WORD..: what is offered for the last of these words behind the program's name, whatever the shell's IFS
+# offers WANTED WORD..: what is offered for the last of these words after the program's name, whatever the shell's IFS
 cat > offers.bash <<'END'
 [ "$2" = usual ] || IFS=$2
 source "$1"
@@ -25,7 +25,7 @@ offers() {
 same "$(bash -c 'source "$1" && complete -p quorumd' - "$TOP/completions/quorumd.bash")" 'complete -F _quorumd quorumd'
 
 # commands
-commands='count replay status soak create dump list message help'
+commands='count replay status soak create dump list message migrate help'
 offers "$commands" ''
 offers 'count create' c
 offers 'status soak' s
@@ -64,7 +64,7 @@ offers --timing create '<' settings --image disk ''
 offers 'text json' status --form ''
 offers json status --form j
 offers '' status --form x
-offers 'reset off crashdump' message --kind ''
+offers 'clear test reset off exit crashdump' message --kind ''
 offers reset message --image disk --kind r
 offers 5000,10000,1000,2000,1000 create --timing ''
 offers 5000,10000,1000,2000,1000 create --image disk --timing 5
@@ -85,6 +85,6 @@ for form in text json; do
     "$QUORUMD" status --form "$form" < schedule > output
 done
 expect 0 'created nodes 2\n' create --image disk --timing 5000,10000,1000,2000,1000 < "$TOP/examples/two-node.conf"
-for kind in reset off crashdump; do
+for kind in clear test exit reset off crashdump; do
     expect 0 "sent $kind to 2\\n" message --image disk --id 2 --kind "$kind"
 done

@@ -12,5 +12,3 @@ for settings in "$TOP"/examples/*.conf; do
     expect 0 "created nodes $(grep -c nodeid: "$settings")\\n" create --image disk < "$settings"
 done
 
-# those of the README that no page and no incident has
-expect 0 'soak seed 7 events 200000 boots 4386 crashes 1641 resets 419 starts 1 stops 1 most_holders 1\n' soak 7 200000

@@ -16,6 +16,7 @@ refused_all() {
     refused "$1" "$2" dump
     refused "$1" "$2" list
     refused "$1" "$2" message --id 1 --kind off
+    refused "$1" "$2" migrate
 }
 
 mkdir folder

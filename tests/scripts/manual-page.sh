@@ -4,11 +4,15 @@
 page=$TOP/man/quorumd.8
 if command -v mandoc > /dev/null; then
     mandoc -T lint -W warning "$page"
+else
+    echo 'skipped: not installed (Debian: mandoc), to look for warnings in the manual page'
 fi
-if ! command -v man > /dev/null; then
-    echo 'skipped: there is no man (Debian: man-db and groff) to show the manual page with'
-    exit 0
-fi
+for tool in man:man-db groff:groff-base col:bsdextrautils; do
+    if ! command -v "${tool%:*}" > /dev/null; then
+        echo "skipped: not installed (Debian: ${tool#*:}), to show the manual page and run its examples"
+        exit 0
+    fi
+done
 same "$(man --warnings -E UTF-8 -l "$page" 2>&1 > /dev/null)" ""
 
 mkdir bin

@@ -15,16 +15,17 @@ fault() {
 }
 
 fault TooLong "tick $(head -c 4092 /dev/zero | tr '\0' 1)"
-fault UnknownWord tock 'Tick 1' ' tick 1' '' '# tick 1' 'device 1 maybe' 'device 1 Yes'
-fault BadCount tick 'tick 1 2' 'tick  1' 'boot 1' pass 'pass 1 2=100 1=100' 'pass 1 1=100 1=100'
-fault BadNumber 'tick 01' 'tick x' 'pass 0' 'boot 1 1000000000000001' 'late 1 0' 'pass 1 1' 'view 1 1 1,x' 'boot x x' 'boot 1 x'
-fault UnknownNode 'tick 9' 'tick 0' 'pass 1 9=100' 'view 1 1 1,9' 'boot 9 x' 'view 1 1 2,1,9'
+fault UnknownWord tock 'Tick 1' ' tick 1' '' '# tick 1' 'device 1 maybe' 'device 1 Yes' 'operator 1 empty' 'operator 1 Off' 'operator 1 '
+fault BadCount operator 'operator 1' 'operator 1 off off' 'boot-clean 1' tick 'tick 1 2' 'tick  1' 'boot 1' pass 'pass 1 2=100 1=100' 'pass 1 1=100 1=100'
+fault BadNumber 'tick 01' 'tick x' 'pass 0' 'boot 1 1000000000000001' 'late 1 0' 'pass 1 1' 'view 1 1 1,x' 'boot x x' 'boot 1 x' \
+    'boot-clean 1 00' 'boot-clean 1 1000000000000001' 'operator x off'
+fault UnknownNode 'tick 9' 'tick 0' 'pass 1 9=100' 'view 1 1 1,9' 'boot 9 x' 'boot-clean 9 x' 'operator 9 off' 'operator 9 empty' 'view 1 1 2,1,9'
 fault BadView 'view 1 1 2,1' 'view 1 1 1,1' 'view 1 1 1,' 'view 1 1 ,'
 
 { printf "$HEAD"; printf 'tick 1'; } > schedule
 expect 4 'fault BadSchedule line 11 Unended\n' replay < schedule
 
-# refused RULE LINE..: the last of these events is refused by that rule, behind the trace of the others
+# refused RULE LINE..: the last of these events is refused by that rule, after the trace of the others
 refused() {
     local rule=$1 status=0
     shift
@@ -37,6 +38,7 @@ refused() {
 refused 1 'boot 1 0' 'pass 5051'
 refused 1 'boot 1 0' 'pass 1 1=98'
 refused 2 'boot 1 0' 'boot 1 0'
+refused 2 'boot 1 0' 'boot-clean 1 0'
 refused 3 'tick 1'
 refused 4 'boot 1 0' 'land 1' 'land 1'
 refused 5 'boot 1 0' 'done 1'
@@ -46,3 +48,5 @@ refused 6 'late 1 1'
 refused 7 'boot 1 0' 'view 1 1 2'
 refused 8 'boot 1 0' 'deliver 1 0'
 refused 9 'boot 1 0' 'land 1' 'done 1' 'pass 1001' 'feed 1'
+refused 10 'boot 1 0' 'operator 1 off' 'operator 1 clear'
+refused 10 'boot 1 0' 'operator 2 exit' 'boot 2 0' 'operator 1 reset' 'operator 1 exit'

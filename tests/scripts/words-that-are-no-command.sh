@@ -22,7 +22,10 @@ list --images d
 message --image d --id 1
 message --image d --id 0 --kind off
 message --image d --id 4294967296 --kind off
-message --image d --id 1 --kind test
+message --image d --id 1 --kind empty
+migrate
+migrate d
+migrate --image d --id 1
 status text
 status --form text --form text
 status --form xml

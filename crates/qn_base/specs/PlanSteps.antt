@@ -118,7 +118,7 @@ one_end (Ends end) calls value other h k = h.1 ∙ sym k.1
 one_end (Asks question left) [] value other h k = absurd h
 one_end (Asks question left) (call ∷ calls) value other h k = one_end (left call) calls value other h.1 k.1
 
--- a list of calls that follows a plan is no front of a longer one
+-- a list of calls that follows a plan is no prefix of a longer one
 pub no_longer : {A : Type 0} (plan : Plan A) (calls : List Call) (call : Call) (more : List Call) (value other : A) → Follows plan calls value → Follows plan (calls ++ call ∷ more) other → ⊥
 no_longer (Ends end) [] call more value other h k = cc
 no_longer (Ends end) (first ∷ calls) call more value other h k = cc

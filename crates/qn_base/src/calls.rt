@@ -1,3 +1,4 @@
+//! Calls on the outside of a node as values, with their arguments and answers, so that contracts can list them.
 ghost use Rattle.std.specs.Prelude.{◌≡◌, ◌≤◌, [], length};
 
 use crate::ids::Rank;

@@ -1,7 +1,9 @@
+//! The two faults that need no more words: a call on the outside that failed, and no memory.
+
 /// A call on the outside did not do what it was asked for.
 #[derive(Clone, Copy, PartialEq, Eq, Debug)]
 pub struct Failed;
 
-/// Memory was wanted and not there.
+/// Out of memory.
 #[derive(Clone, Copy, PartialEq, Eq, Debug)]
 pub struct NoMemory;

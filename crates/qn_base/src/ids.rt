@@ -1,3 +1,5 @@
+//! Node ids, ranks, masks of ranks and views.
+
 /// The id of a node in the settings text: 1 or more (corosync.conf(5), `nodeid`).
 #[derive(Clone, Copy, PartialEq, Eq, PartialOrd, Ord, Default, Debug)]
 pub struct NodeId(pub u32);

@@ -1,9 +1,9 @@
-// The words that the whole repository speaks: node ids, ranks, masks of ranks, views, decimal numbers, short
-// texts, limits, calls on the outside, and the sum of the votes of a view's members. No crate below this
-// one; nothing here knows of settings, histories or the outside.
-//
-// Promises: `read_decimal` and `write_decimal` are exact both ways, `votes` is the plain sum over the
-// members, and `chosen` is the member of least rank. `specs/PlanSteps` has the laws of plans of calls.
+//! The words that the whole repository speaks: node ids, ranks, masks of ranks, views, decimal numbers, short
+//! texts, limits, calls on the outside, and the sum of the votes of a view's members. No crate below this
+//! one; nothing here knows of settings, histories or the outside.
+//!
+//! Promises: `read_decimal` and `write_decimal` are exact both ways, `votes` is the plain sum over the
+//! members, and `chosen` is the member of least rank. `specs/PlanSteps` has the laws of plans of calls.
 #![tactic(auto)]
 
 mod calls;

@@ -1,3 +1,5 @@
+//! The limits that several crates share: bytes of a line, events, the longest period, the latest time.
+
 /// The most bytes of a line of an input, without its end (this project's profile).
 pub const MOST_LINE_BYTES: usize = 4_096;
 

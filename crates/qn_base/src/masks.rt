@@ -1,3 +1,4 @@
+//! Sets of ranks: who is in one, both of two, one without another, the first member.
 ghost use Rattle.std.specs.Prelude.{◌≡◌, ◌<◌, ◌==◌, ◌&&◌, ◌||◌, ℕ, not, true, false, IfSome, IfNone};
 ghost use Rattle.qn_base.specs.Members.{is_member};
 

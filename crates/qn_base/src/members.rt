@@ -1,3 +1,4 @@
+//! The sum of the votes of a view's members, and its chosen node.
 ghost use Rattle.std.specs.Prelude.{◌≡◌, ◌≤◌, ◌<◌, ℕ, ◌*◌, true, false};
 ghost use Rattle.qn_base.specs.Members.{is_member, votes_of};
 

@@ -1,3 +1,4 @@
+//! Short texts that are put together in place, without memory of an allocator.
 ghost use Rattle.std.specs.Prelude.{◌≡◌, ◌≤◌, ◌+◌, ◌++◌, [], length, decimal};
 ghost use Rattle.qn_base.specs.Text.{yes_no};
 

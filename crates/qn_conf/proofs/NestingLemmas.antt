@@ -21,7 +21,7 @@ pub count_by-push :
     (p : Item → Bool) (xs : List Item) (x : Item) → count_by p (xs ++ x ∷ []) ≡ count_by p xs + cond (p x) 1 0
 count_by-push p xs x = sum_by_push (λ y. cond (p y) 1 0) xs x
 
--- the whole list is one of its fronts
+-- the whole list is one of its prefixes
 pub nested_whole : (xs : List Item) → IsNested xs → (ends xs ≤ begins xs) × (begins xs ≤ ends xs + 4)
 nested_whole xs h =
     let whole : take (length xs) xs ≡ xs = take_all (length xs) xs (omega arith)

@@ -96,7 +96,7 @@ conf_of text =
     else if not (is_utf8 text) then Err NotText
     else option_map_or Err (first_fault [] (lines text)) (tree_of (lines text))
 
--- what is said of an answer that is not want of memory
+-- what is said of an answer that is not out of memory
 abbrev pub UnlessNoMemory : {T : Type 0} → Result T ConfFault → Type 0 → Type 0
 UnlessNoMemory (Ok tree) P = P
 UnlessNoMemory (Err NoMemory) P = Unit {0}

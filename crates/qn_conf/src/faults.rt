@@ -1,3 +1,4 @@
+//! Why a text is no settings text.
 ghost use Rattle.std.specs.Prelude.{◌≡◌};
 ghost use Rattle.qn_conf.specs.declared.faults.ConfFault.TheVariants.{NoMemory};
 
@@ -25,7 +26,7 @@ pub enum ConfFault {
     /// The text has more than 1,048,576 bytes.
     #[error("the text has more than 1048576 bytes")]
     TooLong,
-    /// Memory was wanted and not there.
+    /// Out of memory.
     #[error("out of memory")]
     NoMemory,
 }

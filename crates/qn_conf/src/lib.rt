@@ -1,8 +1,8 @@
-// The settings text as a tree: sections and pairs in text order (corosync.conf(5)), with no knowledge of
-// which names mean something.
-//
-// Promises: `read_tree` answers the tree exactly where the text is a configuration, and else the first fault
-// in a fixed order, with the line where it stands. Only want of memory is free.
+//! The settings text as a tree: sections and pairs in text order (corosync.conf(5)), with no knowledge of
+//! which names mean something.
+//!
+//! Promises: `read_tree` answers the tree exactly where the text is a configuration, and else the first fault
+//! in a fixed order, with the line where it stands. Only where it runs out of memory is left open.
 #![tactic(auto)]
 
 mod faults;

@@ -1,3 +1,4 @@
+//! What one line of a settings text says: a section, a pair, an end, or nothing.
 ghost use Rattle.std.specs.Prelude.{◌≡◌, ℕ, ◌+◌, ◌<◌, ◌≤◌, ◌==◌, length, position, take, drop, IfSome};
 ghost use Rattle.std.specs.List.{list_any};
 ghost use Rattle.qn_conf.specs.Line.{is_blank, is_name, meaning_of, pair_of, section_of, trim, trim_end, trim_start};

@@ -1,3 +1,4 @@
+//! Reads a settings text line by line into its tree, or names its first fault.
 ghost use Rattle.std.specs.Prelude.{◌≡◌, ℕ, ◌+◌, ◌<◌, ◌≤◌, ◌==◌, ◌^◌, [], ◌++◌, ◌∷◌, ◌↔◌, if◌then◌else◌, Ok, Err, None, Some, List, OnOk, IfErr, IfOk, length};
 ghost use Rattle.std.specs.Option.{option_map_or};
 ghost use Rattle.qn_conf.specs.Line.{meaning_of, item_in};
@@ -21,7 +22,7 @@ const MAX_DEPTH: usize = 4;
 
 /// Reads a settings text of at most 1,048,576 bytes: its tree, or its first fault. The order of the faults is
 /// TooLong, NotText, the first line that is BadLine, ExtraClose or TooDeep, and last Unclosed. NoMemory comes
-/// only where memory was wanted.
+/// only where it ran out of memory.
 pub fn read_tree(alloc: Global, text: &[u8]) -> Result<Tree<'_>, ConfFault>
     ensures tree { UnlessNoMemory result ((tree : List Item) → (result ≡ Ok tree) ↔ Conf text.now tree) }
     ensures fault { UnlessNoMemory result ((fault : ConfFault) → (result ≡ Err fault) ↔ IsFirstFault text.now fault) }

@@ -1,3 +1,4 @@
+//! The tree of a settings text: its sections and pairs in text order.
 ghost use Rattle.std.specs.Prelude.{◌≡◌, ℕ, List};
 
 use std::marker::Model;

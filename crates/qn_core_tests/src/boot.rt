@@ -1,14 +1,27 @@
-use qn_boot::{Boot, Halt, Ready};
-use qn_model::{BootCause, HeaderSeen, Slot, SlotSeen, Timing};
+//! Whole boots: the incarnation that they end with, and the cause that halts them.
+use qn_boot::{AfterSlot, Boot, Halt, Ready};
+use qn_model::{BootCause, HeaderSeen, MailSeen, Message, Slot, SlotSeen, Timing};
 use std::test::Fail;
 
 /// The whole boot of a node of two, whose mailbox is cleared at tick 40.
 fn ends(header: HeaderSeen, slot: SlotSeen, claimed: bool, cleared: bool) -> Result<Ready, Halt> {
-    Boot::begin(2)
-        .header(header)?
-        .slot(slot)?
-        .claimed(claimed)?
-        .cleared(40, cleared)
+    match Boot::begin(2, false).header(header)?.slot(slot)? {
+        AfterSlot::Check(boot) => boot.checked(MailSeen::Failed)?,
+        AfterSlot::Claim(boot) => boot,
+    }
+    .claimed(claimed)?
+    .cleared(40, cleared)
+}
+
+/// The first steps of a clean start of a node of two, whose slot says 4: the incarnation that it claims.
+fn checks(seen: MailSeen) -> Result<u64, Halt> {
+    match Boot::begin(2, true)
+        .header(header_of(2, 10000))?
+        .slot(slot_of(4))?
+    {
+        AfterSlot::Check(boot) => Ok(boot.checked(seen)?.claims()),
+        AfterSlot::Claim(_) => Ok(0),
+    }
 }
 
 fn header_of(nodes: u32, msgwait: u64) -> HeaderSeen {
@@ -62,5 +75,28 @@ fn halts_with_the_first_cause(rt: HostRuntime) {
     ] {
         let halt = ends(header, slot, claimed, false).err();
         assert!(rt; halt == Some(Halt { cause }));
+    }
+}
+
+#[test]
+fn a_clean_start_checks_the_mailbox(rt: HostRuntime) {
+    let not_clean = Err(Halt {
+        cause: BootCause::NotClean,
+    });
+    for (message, want) in [
+        (Message::Empty, Ok(5)),
+        (Message::Exit, Ok(5)),
+        (Message::Test, not_clean),
+        (Message::Reset, not_clean),
+        (Message::Off, not_clean),
+        (Message::Crashdump, not_clean),
+    ] {
+        assert!(rt; checks(MailSeen::Read(message)) == want);
+    }
+    for (seen, cause) in [
+        (MailSeen::Damaged, BootCause::NotImage),
+        (MailSeen::Failed, BootCause::ReadFailed),
+    ] {
+        assert!(rt; checks(seen) == Err(Halt { cause }));
     }
 }

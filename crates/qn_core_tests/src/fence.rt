@@ -1,3 +1,4 @@
+//! What the fencer asks for and when it gives a licence, step by step.
 use crate::samples::settings_of;
 use qn_base::{Mask, Rank, View};
 use qn_fence::{Fence, Licence, Unfenced, Want};

@@ -1,3 +1,4 @@
+//! What a node has heard of the others, step by step.
 use qn_base::{Mask, Rank, View};
 use qn_heard::{Heard, Heardness};
 use qn_model::{Ask, Tell};

@@ -1,6 +1,6 @@
-// Tests of the five cores of a node, each over its built library. What a core promises is proved against the
-// definitions of `qn_model`; these rows show that the definitions say what the manual pages and the worked examples
-// say.
+//! Tests of the six cores of a node, each over its built library. What a core promises is proved against the
+//! definitions of `qn_model`; these rows show that the definitions say what the manual pages and the worked examples
+//! say.
 #![tactic(auto)]
 
 #[cfg(test)]
@@ -13,5 +13,7 @@ mod heard;
 mod quorum;
 #[cfg(test)]
 mod samples;
+#[cfg(test)]
+mod tie;
 #[cfg(test)]
 mod watch;

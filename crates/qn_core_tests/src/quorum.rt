@@ -1,3 +1,4 @@
+//! Counts of votes after each of several steps, as votequorum(5) says.
 use crate::samples::settings_of;
 use qn_base::{Mask, View};
 use qn_model::{Answer, Device, Settings};

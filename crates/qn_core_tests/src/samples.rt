@@ -1,3 +1,4 @@
+//! Settings that several tests share.
 use qn_base::NodeId;
 use qn_model::{NodeEntry, Nodes, Settings};
 
@@ -9,6 +10,7 @@ pub fn settings_of(count: u32) -> Settings {
             nodes.push(NodeEntry {
                 id: NodeId(id),
                 votes: 1,
+                fence_delay: 0,
             });
         }
     }
@@ -20,5 +22,6 @@ pub fn settings_of(count: u32) -> Settings {
         window: 10000,
         device: None,
         expected: u64::from(count),
+        tie: None,
     }
 }

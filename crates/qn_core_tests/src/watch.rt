@@ -1,3 +1,4 @@
+//! What reads of the own mailbox come to, and when the next one is due.
 use qn_model::{MailSeen, Message, Timing};
 use qn_watch::{Verdict, Watch};
 

@@ -51,7 +51,7 @@ reset_since-other place rank log line e =
     ap (λ b. if nat_lt place line.asked && b then Some line.tick else reset_since place rank log) e
     ∙ ap (λ b. if b then Some line.tick else reset_since place rank log) (and_false (nat_lt place line.asked))
 
--- nothing is asked for behind the end of the empty log
+-- nothing is asked for after the end of the empty log
 pub inside-none : IsAskedInside []
 unfolding slot_read_since reset_since
 inside-none = record { reads = λ place rank test beyond. refl; resets = λ place rank beyond. refl }

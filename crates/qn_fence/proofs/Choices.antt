@@ -17,7 +17,7 @@ use Rattle.qn_model.specs.LeastMembers.{first-least}
 use Rattle.qn_fence.specs.declared.fencing.Fence.{Fence}
 use Rattle.qn_fence.specs.Fence.{FenceFor, is_waited_for, left_at, unfenced_at}
 
--- the ticks that lack, where no tick of the log is past the present one
+-- the ticks that remain, where no tick of the log is past the present one
 waited : (at msgwait tick : ℕ) → at ≤ tick → (msgwait - (tick - at) == 0) ≡ nat_le (at + msgwait) tick
 waited at msgwait tick before = grind (arith, nat_tests)
 

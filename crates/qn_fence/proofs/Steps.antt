@@ -151,8 +151,10 @@ record IsQuiet (w : What) : Type 0 where
 
 quiet : (w : What) → bears_on_fencing w ≡ false → IsQuiet w
 quiet what.Begin e = record { step = record { times = refl; views = refl; starts = λ rank. refl }; reads = λ rank test. refl; resets = λ rank. refl }
+quiet what.BeginClean e = record { step = record { times = refl; views = refl; starts = λ rank. refl }; reads = λ rank test. refl; resets = λ rank. refl }
 quiet (what.Header seen) e = absurd (cc)
 quiet (what.SlotRead rank seen) e = absurd (cc)
+quiet (what.MailChecked seen) e = record { step = record { times = refl; views = refl; starts = λ rank. refl }; reads = λ rank test. refl; resets = λ rank. refl }
 quiet (what.Claimed ok) e = record { step = record { times = refl; views = refl; starts = λ rank. refl }; reads = λ rank test. refl; resets = λ rank. refl }
 quiet (what.Cleared ok) e = absurd (cc)
 quiet (what.MailRead seen) e = record { step = record { times = refl; views = refl; starts = λ rank. refl }; reads = λ rank test. refl; resets = λ rank. refl }
@@ -184,6 +186,7 @@ slot_about : (op : Option DiskOp) (j : Rank) (seen : SlotSeen) → answers_op op
 slot_about None j seen e = absurd (cc)
 slot_about (Some disk.ReadHeader) j seen e = absurd (cc)
 slot_about (Some (disk.ReadSlot rank)) j seen e = e
+slot_about (Some disk.CheckMail) j seen e = absurd (cc)
 slot_about (Some (disk.WriteClaim number)) j seen e = absurd (cc)
 slot_about (Some disk.WriteClear) j seen e = absurd (cc)
 slot_about (Some disk.ReadMail) j seen e = absurd (cc)
@@ -194,6 +197,7 @@ mail_about : (op : Option DiskOp) (j : Rank) (ok : Bool) → answers_op op (what
 mail_about None j ok e = absurd (cc)
 mail_about (Some disk.ReadHeader) j ok e = absurd (cc)
 mail_about (Some (disk.ReadSlot rank)) j ok e = absurd (cc)
+mail_about (Some disk.CheckMail) j ok e = absurd (cc)
 mail_about (Some (disk.WriteClaim number)) j ok e = absurd (cc)
 mail_about (Some disk.WriteClear) j ok e = absurd (cc)
 mail_about (Some disk.ReadMail) j ok e = absurd (cc)
@@ -420,8 +424,10 @@ op_out-bare log line none = ap (λ asked. option_or asked (if is_answer line.wha
 -- an entry that ends no boot and leaves a rank outside the view starts no out-time of it
 no_start : (w : What) (before : Option View) (rank : ℕ) → is_boot_end w ≡ false → in_view (option_or (view_of w) before) rank ≡ false → starts_out_time rank w ≡ false
 no_start what.Begin before rank boot outside = refl
+no_start what.BeginClean before rank boot outside = refl
 no_start (what.Header seen) before rank boot outside = refl
 no_start (what.SlotRead other seen) before rank boot outside = refl
+no_start (what.MailChecked seen) before rank boot outside = refl
 no_start (what.Claimed ok) before rank boot outside = refl
 no_start (what.Cleared ok) before rank boot outside = absurd (cc)
 no_start (what.MailRead seen) before rank boot outside = refl
@@ -457,6 +463,7 @@ module _ (fence : Fence) (s : Settings) (log : List Line) (line : Line) (h : Fen
       h.freshes rank below (ap (is_about rank) (op_out-bare log line none) ∙ about) ∙ ap (nat_lt (out_time rank (line ∷ log))) (ask_place-bare log line none)
   issued_fresh (Some disk.ReadHeader) outside rank below about = absurd (cc)
   issued_fresh (Some (disk.ReadSlot other)) outside rank below about = about ∙ sym (asked_now log line rank boot (outside rank about))
+  issued_fresh (Some disk.CheckMail) outside rank below about = absurd (cc)
   issued_fresh (Some (disk.WriteClaim number)) outside rank below about = absurd (cc)
   issued_fresh (Some disk.WriteClear) outside rank below about = absurd (cc)
   issued_fresh (Some disk.ReadMail) outside rank below about = absurd (cc)

@@ -76,7 +76,7 @@ bears_on_fencing (what.Header seen) = true
 bears_on_fencing (what.Cleared ok) = true
 bears_on_fencing entry = false
 
--- no slot read and no reset of a log was asked for behind the log's end
+-- no slot read and no reset of a log was asked for after the log's end
 pub record IsAskedInside (log : List Line) : Type 0 where
   pub reads : (place rank : ℕ) (test : SlotSeen → Bool) → length log ≤ place → slot_read_since place test rank log ≡ false
   pub resets : (place rank : ℕ) → length log ≤ place → reset_since place rank log ≡ None
@@ -94,11 +94,11 @@ fresh_outside members (Some rank) = if is_member members rank.0 then None else S
 abbrev pub written_at : Fence → ℕ → Option ℕ
 written_at fence rank = if is_member fence.written rank then Some (slice_index fence.ticks rank) else None
 
--- the ticks that lack to msgwait after the reset that was written to a rank
+-- the ticks of msgwait that remain after the reset that was written to a rank
 abbrev pub left_at : Fence → ℕ → ℕ → Option ℕ
 left_at fence tick rank = option_map (λ at. fence.msgwait - (tick - at)) (written_at fence rank)
 
--- a reset was written to a rank, and nothing lacks to msgwait
+-- a reset was written to a rank, and nothing of msgwait remains
 abbrev pub is_waited_for : Fence → ℕ → ℕ → Bool
 is_waited_for fence tick rank = option_map_or (λ left. left == 0) (left_at fence tick rank) false
 

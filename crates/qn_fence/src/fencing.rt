@@ -1,3 +1,4 @@
+//! The fencer: what it keeps of each rank, its next operation, and the licences that it gives.
 ghost use Rattle.std.specs.Prelude.{◌≡◌};
 ghost use Rattle.qn_fence.specs.Fence.{fresh_outside};
 
@@ -15,7 +16,7 @@ pub enum Want {
     WriteReset(Rank),
 }
 
-/// Why a node outside the view is known not to hold the resource, or how much is lacking (sbd(8),
+/// Why a node outside the view is known not to hold the resource, or how much of it remains (sbd(8),
 /// `msgwait`; that a clean slot stands in place of a reset is this project's profile).
 #[derive(Clone, Copy, PartialEq, Eq, Debug)]
 pub enum Licence {
@@ -23,14 +24,14 @@ pub enum Licence {
     Clean,
     /// A reset was written to it at least msgwait ago.
     Fenced,
-    /// A reset was written to it, and that many ticks lack to msgwait.
+    /// A reset was written to it, and that many ticks of msgwait remain.
     Waiting { left: u64 },
     /// Neither was seen.
     Unknown,
 }
 
-/// A node outside the view that has no licence: whether a reset was written to it, and then how many ticks
-/// lack to msgwait, else 0.
+/// A node outside the view that has no licence: whether a reset was written to it, and then how many
+/// ticks of msgwait remain, else 0.
 #[derive(Clone, Copy, PartialEq, Eq, Debug)]
 pub struct Unfenced {
     pub rank: Rank,
@@ -303,7 +304,7 @@ impl Fence {
         }
     }
 
-    /// The ticks that lack to msgwait after the reset that was written to a node; None where none was.
+    /// The ticks of msgwait that remain after the reset that was written to a node; None where none was.
     fn left(&self, j: Rank, tick: u64) -> Option<u64>
         requires { j.0 < 32 }
         ensures { result ≡ left_at self.now tick j.0 }

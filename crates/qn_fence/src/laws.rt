@@ -1,3 +1,4 @@
+//! What leaves a fencer as it is, and whom its operations are about.
 ghost use Rattle.std.specs.Prelude.{◌≡◌, ◌≤◌, ◌∷◌, [], ℕ, None, List, false};
 ghost use Rattle.qn_model.specs.declared.configuration.Settings.{Settings};
 ghost use Rattle.qn_model.specs.declared.entries.Entry.{Entry};
@@ -23,7 +24,7 @@ pub fn law_outside()
     ensures { (s : Settings) (log : List Line) → IsOutside log (fencing_op s log) }
 {}
 
-/// Nothing in the log of a history was asked for behind the log's end.
+/// Nothing in the log of a history was asked for after the log's end.
 pub fn law_asked_inside()
     ensures none { IsAskedInside [] }
     ensures more { (s : Settings) (me : ℕ) (log : List Line) (tick : ℕ) (entry : What)

@@ -14,7 +14,7 @@ use Rattle.qn_model.specs.declared.life.Phase.{Phase}
 use Rattle.qn_model.specs.declared.life.Phase.TheVariants.{Leaving, Dying, Gone}
 use Rattle.qn_model.specs.declared.outputs.BootCause.{BootCause}
 use Rattle.qn_model.specs.Log.{Line, claim_of, claimed, disk_of, is_view, now, times_of, timing, view_of}
-use Rattle.qn_model.specs.Phases.{phase, next_phase, is_up, is_booting, in_time, boot_phase, slot_halt, deadly_of, gives_exit, message_of}
+use Rattle.qn_model.specs.Phases.{phase, next_phase, is_up, is_booting, in_time, boot_phase, check_halt, slot_halt, deadly_of, gives_exit, message_of}
 use Rattle.qn_model.specs.NodeVotes.{view, install, answers, is_present, is_same_view}
 use Rattle.qn_model.specs.Hearing.{told, tells, tell_of, is_free}
 use Rattle.qn_model.specs.NodeOutputs.{is_asking, is_moment, moment}
@@ -106,9 +106,11 @@ ends_no_boot entry = true
 pub up_before : (s : Settings) (w : What) (timely : Bool) (before : Phase) → ends_no_boot w ≡ true
     → is_up (next_phase s w timely before) ≡ true → is_up before ≡ true
 up_before s what.Begin timely before plain up = absurd (cc)
+up_before s what.BeginClean timely before plain up = absurd (cc)
 up_before s (what.Header seen) timely before plain up = absurd (cc)
 up_before s (what.SlotRead rank seen) timely before plain up =
     up_of_two (is_booting before) (boot_phase (slot_halt seen) before) before (up_of_halt (slot_halt seen) before (λ h. h)) (λ h. h) up
+up_before s (what.MailChecked seen) timely before plain up = up_of_halt (check_halt seen) before (λ h. h) up
 up_before s (what.Claimed ok) timely before plain up = up_of_two ok before Gone (λ h. h) (λ h. absurd (cc)) up
 up_before s (what.Cleared ok) timely before plain up = absurd (cc)
 up_before s (what.MailRead seen) timely before plain up =
@@ -154,8 +156,10 @@ record IsPlain (w : What) : Type 0 where
 
 plain : (w : What) → bears_on_hearing w ≡ false → IsPlain w
 plain what.Begin e = record { times = refl; views = refl; tellers = refl; boots = refl }
+plain what.BeginClean e = record { times = refl; views = refl; tellers = refl; boots = refl }
 plain (what.Header seen) e = absurd (cc)
 plain (what.SlotRead rank seen) e = record { times = refl; views = refl; tellers = refl; boots = refl }
+plain (what.MailChecked seen) e = record { times = refl; views = refl; tellers = refl; boots = refl }
 plain (what.Claimed ok) e = record { times = refl; views = refl; tellers = refl; boots = refl }
 plain (what.Cleared ok) e = absurd (cc)
 plain (what.MailRead seen) e = record { times = refl; views = refl; tellers = refl; boots = refl }

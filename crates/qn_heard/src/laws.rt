@@ -1,3 +1,4 @@
+//! What leaves a listener as it is, and whom the asks of an entry go to.
 ghost use Rattle.std.specs.Prelude.{◌≡◌, ◌<◌, ◌≤◌, ◌&&◌, ◌∷◌, [], ℕ, None, List, filter, length, map, true, false};
 ghost use Rattle.std.specs.List.{range_with_len};
 ghost use Rattle.std.specs.Option.{option_map_or};

@@ -1,3 +1,4 @@
+//! The listener: takes views, asks and tells, and says who is free, held or unheard.
 use qn_base::{Mask, Rank, View};
 use qn_model::{Ask, Tell};
 

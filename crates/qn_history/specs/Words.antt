@@ -1,13 +1,15 @@
 -- Words of recorded histories: this project's profile.
 use Rattle.std.specs.Prelude.{ℕ, List, codes}
 use Rattle.qn_model.specs.declared.entries.What.{What}
-use Rattle.qn_model.specs.declared.entries.What.TheVariants.{Begin, Header, SlotRead, Claimed, Cleared, MailRead, MailWritten, View, Ask, Tell, Device, Tick, Stopped, Leave, Closed}
+use Rattle.qn_model.specs.declared.entries.What.TheVariants.{Begin, BeginClean, Header, SlotRead, MailChecked, Claimed, Cleared, MailRead, MailWritten, View, Ask, Tell, Device, Tick, Stopped, Leave, Closed}
 
 -- the first word of what a node is handed
 abbrev pub kind_word : What → List ℕ
 kind_word Begin = codes "begin"
+kind_word BeginClean = codes "begin-clean"
 kind_word (Header seen) = codes "header"
 kind_word (SlotRead rank seen) = codes "slot"
+kind_word (MailChecked seen) = codes "checked"
 kind_word (Claimed ok) = codes "claimed"
 kind_word (Cleared ok) = codes "cleared"
 kind_word (MailRead seen) = codes "mail"

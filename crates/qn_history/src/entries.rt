@@ -1,3 +1,4 @@
+//! Reads one entry of a recorded history: its tick and what the node is handed.
 ghost use Rattle.std.specs.Prelude.{◌≡◌, [], ◌∷◌, map, take, IfOk};
 ghost use Rattle.qn_history.specs.Words.{kind_word};
 
@@ -9,7 +10,7 @@ use crate::words::{
 use qn_model::{Entry, HeaderSeen, MailSeen, Slot, SlotSeen, Timing, What};
 use std::alloc::Global;
 
-/// An entry: its tick and what the node is handed, parted by a tab.
+/// An entry: its tick and what the node is handed, separated by a tab.
 pub fn read_entry(alloc: Global, line: &str) -> Result<Entry, HistoryFault> {
     let (tick, what) = line.split_once('\t').ok_or(HistoryFault::NoEntry)?;
     let words: Vec<&str> = what.split(' ').collect(alloc)?;
@@ -25,10 +26,12 @@ pub fn read_what(words: &[&str]) -> Result<What, HistoryFault>
 {
     Ok(match words {
         ["begin"] => What::Begin,
+        ["begin-clean"] => What::BeginClean,
         ["tick"] => What::Tick,
         ["leave"] => What::Leave,
         ["header", seen @ ..] => What::Header(header_of(seen)?),
         ["slot", of, seen @ ..] => What::SlotRead(read_rank(of)?, slot_of(seen)?),
+        ["checked", seen] => What::MailChecked(mail_of(seen)?),
         ["claimed", ok] => What::Claimed(read_truth(ok)?),
         ["cleared", ok] => What::Cleared(read_truth(ok)?),
         ["closed", ok] => What::Closed(read_truth(ok)?),

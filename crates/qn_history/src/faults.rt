@@ -1,3 +1,4 @@
+//! Why a line of a recorded history was not read.
 ghost use Rattle.std.specs.Prelude.{◌≡◌};
 ghost use Rattle.qn_history.specs.declared.faults.HistoryFault.TheVariants.{NoMemory};
 
@@ -17,6 +18,8 @@ pub enum HistoryFault {
     BadMember,
     #[error("there is no such message")]
     UnknownMessage,
+    #[error("a word of the settings begins with no key that is known")]
+    UnknownKey,
     /// No word of the settings begins with this key.
     #[error("the settings have no `{key}`")]
     NoKey { key: Key },
@@ -24,6 +27,10 @@ pub enum HistoryFault {
     BadNode,
     #[error("there are more than 32 nodes")]
     TooManyNodes,
+    #[error("there are more than 32 fence delays")]
+    TooManyDelays,
+    #[error("the order of the tie breaker has more than 32 ranks")]
+    LongOrder,
     #[error("the device is neither `none` nor its votes and timeout, joined by a colon")]
     BadDevice,
     #[error("the line is not a tick and an entry, parted by a tab")]

@@ -1,3 +1,4 @@
+//! The two lines before the entries: that of the settings and that of the rank.
 ghost use Rattle.std.specs.Prelude.{◌≡◌, ◌++◌, ◌≢◌, ℕ, List, codes, IfSome, IfNone};
 
 /// The words of the settings, where the line is one of settings.

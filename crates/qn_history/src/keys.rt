@@ -1,3 +1,4 @@
+//! The keys of the settings in a recorded history.
 use std::fmt;
 
 /// The words of the settings, by their keys, in the order in which they are written.
@@ -10,11 +11,32 @@ pub enum Key {
     Window,
     Device,
     Expected,
+    Tie,
+    Delays,
 }
 
 impl Key {
-    /// What the word begins with; its value stands behind it.
-    pub fn name(self) -> &'static str {
+    ghost use Rattle.std.specs.Prelude.{◌≡◌};
+    ghost use Rattle.qn_history.specs.declared.keys.Key.{Key};
+    ghost use Rattle.qn_history.specs.Keys.{begins_with, key_name};
+
+    /// All keys, in the order in which they are written.
+    pub const ALL: [Key; 9] = [
+        Key::Nodes,
+        Key::TwoNode,
+        Key::WaitForAll,
+        Key::LastManStanding,
+        Key::Window,
+        Key::Device,
+        Key::Expected,
+        Key::Tie,
+        Key::Delays,
+    ];
+
+    /// What the word begins with; its value stands after it.
+    pub fn name(self) -> &'static str
+        ensures { result.now ≡ key_name self }
+    {
         match self {
             Key::Nodes => "nodes=",
             Key::TwoNode => "two_node=",
@@ -23,7 +45,16 @@ impl Key {
             Key::Window => "window=",
             Key::Device => "device=",
             Key::Expected => "expected=",
+            Key::Tie => "tie=",
+            Key::Delays => "delays=",
         }
+    }
+
+    /// Whether the word begins with the key.
+    pub fn begins(self, word: &str) -> bool
+        ensures { result ≡ begins_with self word.now }
+    {
+        word.as_bytes().starts_with(self.name().as_bytes())
     }
 }
 

@@ -1,3 +1,4 @@
+//! Reads the asks and tells of a recorded history.
 ghost use Rattle.std.specs.Prelude.{◌≡◌, [], ◌∷◌, length, map, take, slice_get, Some, OnOk, IfOk};
 ghost use Rattle.qn_base.specs.Decimal.{number_of};
 ghost use Rattle.qn_base.specs.Text.{yes_no};

@@ -1,3 +1,4 @@
+//! Reads single words: numbers, ids, ranks, truths, members and messages.
 ghost use Rattle.std.specs.Prelude.{◌≡◌, ◌<◌, ◌^◌, ℕ, Bool, Some, Ok, IfOk, IfErr, IsOk, ok_or};
 ghost use Rattle.qn_base.specs.Decimal.{number_of};
 ghost use Rattle.qn_base.specs.Text.{yes_no};

@@ -1,5 +1,9 @@
 pub mod Blamed
 pub mod Created
+pub mod Kept
+pub mod MailFaults
+pub mod Mailing
+pub mod Migrated
 pub mod Outcomes
 pub mod Searching
 pub mod Tried

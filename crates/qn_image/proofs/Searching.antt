@@ -6,17 +6,16 @@ use Rattle.qn_base.specs.Plans.{Plan, Ends, ◌>>=◌, Did, At}
 use Rattle.qn_base.specs.PlanSteps.{did_none, at_then, at_end}
 use Rattle.qn_model.specs.declared.disk.Message.{Message}
 use Rattle.qn_model.specs.declared.disk.Slot.{Slot}
-use Rattle.qn_model.specs.Sectors.{mail_place, mail_bytes}
 use Rattle.qn_image.specs.declared.fault.ImageFault.{ImageFault}
 use Rattle.qn_image.specs.declared.fault.ImageFault.TheVariants.{UnknownNode}
-use Rattle.qn_image.specs.Plans.{or_fault, put_plan, slot_plan, search_plan}
+use Rattle.qn_image.specs.Plans.{or_fault, slot_plan, send_plan, search_plan}
 use Rattle.qn_image.specs.Joining.{faulted}
 
 module _ (id : NodeId) (message : Message) (rank nodes : ℕ) where
   -- what follows the slot of this rank
   abbrev judge : NodeId × Slot → Plan (Result (Unit {0}) ImageFault)
   judge found =
-      if found.0.0 == id.0 then put_plan (mail_place rank) (mail_bytes message)
+      if found.0.0 == id.0 then send_plan rank message
       else search_plan id message (rank + 1) (nodes - (rank + 1))
 
   search_plan-more : rank < nodes → search_plan id message rank (nodes - rank) ≡ slot_plan rank >>= or_fault judge
@@ -38,8 +37,8 @@ module _ (id : NodeId) (message : Message) (rank nodes : ℕ) where
       pub another : (found : NodeId × Slot) → Did g h b c (slot_plan rank) (Ok found) → (found.0.0 == id.0) ≡ false → At f h a c whole (search_plan id message (rank + 1) (nodes - (rank + 1)))
       another found read differs = rw differs at (at_then (or_fault judge) (at_slot more) read)
 
-      -- the slot has the id, and the mailbox beside it was tried
-      pub reached : {i : ℕ} {d : Option (List Call)} {result : Result (Unit {0}) ImageFault} (found : NodeId × Slot) → Did g h b c (slot_plan rank) (Ok found) → (found.0.0 == id.0) ≡ true → Did h i c d (put_plan (mail_place rank) (mail_bytes message)) result → Did f i a d whole result
+      -- the slot has the id, and the message was left in its mailbox
+      pub reached : {i : ℕ} {d : Option (List Call)} {result : Result (Unit {0}) ImageFault} (found : NodeId × Slot) → Did g h b c (slot_plan rank) (Ok found) → (found.0.0 == id.0) ≡ true → Did h i c d (send_plan rank message) result → Did f i a d whole result
       reached found read same sent = at_end (rw same at (at_then (or_fault judge) (at_slot more) read)) sent
 
       -- the slot could not be read

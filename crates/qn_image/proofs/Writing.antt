@@ -71,6 +71,11 @@ module _ {f g : ℕ} {a b : Option (List Call)} where
         follows = follows_writes_fault writes others did.calls fault did.follows;
       }
 
+module _ {f g h : ℕ} {a b c : Option (List Call)} {result : Result (Unit {0}) ImageFault} where
+  -- the writes of one list, and then a last one
+  pub last_written : (writes : List SectorWrite) (sector : ℕ) (bytes : List ℕ) → Did f g a b (writes_plan writes) (Ok tt) → Did g h b c (put_plan sector bytes) result → Did f h a c (writes_plan (writes ++ record { sector = sector; bytes = bytes } ∷ [])) result
+  last_written writes sector bytes before last = did_writes writes _ before (one_write result sector bytes last)
+
 -- the writes of some nodes, and then those of the others
 pub node_writes-append : (rank : ℕ) (nodes others : List NodeEntry) → node_writes rank (nodes ++ others) ≡ node_writes rank nodes ++ node_writes (rank + length nodes) others
 unfolding node_writes
@@ -89,7 +94,7 @@ module _ (nodes : List NodeEntry) (n : ℕ) (d : NodeEntry) (more : n < length n
       ∙ node_writes-append 0 (take n nodes) (get_or nodes n d ∷ [])
       ∙ ap (λ rank. node_writes 0 (take n nodes) ++ node_pair rank (get_or nodes n d).id.0) count
 
-  -- the writes of that node and those of the nodes behind it
+  -- the writes of that node and those of the nodes after it
   node_writes-rest : (rest : List SectorWrite) × (node_writes 0 nodes ≡ node_writes 0 (take (n + 1) nodes) ++ rest)
   node_writes-rest = (
     _,
@@ -116,10 +121,10 @@ module _ (nodes : List NodeEntry) (timing : Timing) {f g : ℕ} {a b : Option (L
   pub filling_failed : {h : ℕ} {c : Option (List Call)} (fault : ImageFault) → Did f g a b (put_plan 0 (zeros 512)) (Ok tt) → Did g h b c (writes_plan (node_writes 0 nodes)) (Err fault) → Did f h a c (writes_plan (create_writes nodes timing)) (Err fault)
   unfolding create_writes
   filling_failed fault erased filled =
-      did_writes (erasing_write ∷ []) _ (one_write _ _ _ erased) (did_writes_fault _ (header_write nodes timing ∷ []) filled)
+      did_writes (erasing_write ∷ []) _ (one_write _ _ _ erased) (did_writes_fault _ (header_write (length nodes) timing ∷ []) filled)
 
   -- the first write failed
   pub erasing_failed : (fault : ImageFault) → Did f g a b (put_plan 0 (zeros 512)) (Err fault) → Did f g a b (writes_plan (create_writes nodes timing)) (Err fault)
   unfolding create_writes
   erasing_failed fault erased =
-      did_writes_fault (erasing_write ∷ []) (node_writes 0 nodes ++ header_write nodes timing ∷ []) (one_write _ _ _ erased)
+      did_writes_fault (erasing_write ∷ []) (node_writes 0 nodes ++ header_write (length nodes) timing ∷ []) (one_write _ _ _ erased)

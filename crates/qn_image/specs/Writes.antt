@@ -2,11 +2,12 @@ use Rattle.std.specs.Prelude.{◌≡◌, ◌≤◌, ℕ, zero, suc, ◌+◌, ◌
 use Rattle.qn_base.specs.declared.calls.Call.{Call}
 use Rattle.qn_base.specs.declared.calls.Call.TheVariants.{Write}
 use Rattle.qn_base.specs.Plans.{Plan, Ends, ◌>>=◌}
+use Rattle.qn_model.specs.declared.disk.Message.{Message}
 use Rattle.qn_model.specs.declared.disk.Message.TheVariants.{Empty}
 use Rattle.qn_model.specs.declared.disk.Slot.{Slot}
 use Rattle.qn_model.specs.declared.nodelist.NodeEntry.{NodeEntry}
 use Rattle.qn_model.specs.declared.times.Timing.{Timing}
-use Rattle.qn_model.specs.Sectors.{slot_place, mail_place, header_bytes, slot_bytes, mail_bytes, zeros}
+use Rattle.qn_model.specs.Sectors.{anonymous, slot_place, mail_place, header_bytes, slot_bytes, mail_bytes, zeros}
 use Rattle.qn_model.specs.Timing.{is_safe}
 use Rattle.qn_image.specs.declared.fault.ImageFault.{ImageFault}
 use Rattle.qn_image.specs.declared.fault.ImageFault.TheVariants.{Disk, UnsafeTiming}
@@ -21,12 +22,14 @@ pub record SectorWrite : Type 0 where
 abbrev pub fresh_slot : Slot
 fresh_slot = record { incarnation = 0; clean = true }
 
+-- a mailbox with a message of nobody
+abbrev pub mail_write : ℕ → Message → SectorWrite
+mail_write rank message = record { sector = mail_place rank; bytes = mail_bytes (anonymous message) }
+
 -- the slot and the mailbox of a node that was never started
 abbrev pub node_pair : ℕ → ℕ → List SectorWrite
 node_pair rank id =
-    record { sector = slot_place rank; bytes = slot_bytes id fresh_slot }
-    ∷ record { sector = mail_place rank; bytes = mail_bytes Empty }
-    ∷ []
+    record { sector = slot_place rank; bytes = slot_bytes id fresh_slot } ∷ mail_write rank Empty ∷ []
 
 -- the same for each node, the first of which has this rank
 unfoldable pub node_writes : ℕ → List NodeEntry → List SectorWrite
@@ -34,15 +37,15 @@ node_writes rank [] = []
 node_writes rank (node ∷ nodes) = node_pair rank node.id.0 ++ node_writes (rank + 1) nodes
 
 -- sector 0 with the header, and without
-abbrev pub header_write : List NodeEntry → Timing → SectorWrite
-header_write nodes timing = record { sector = 0; bytes = header_bytes (length nodes) timing }
+abbrev pub header_write : ℕ → Timing → SectorWrite
+header_write nodes timing = record { sector = 0; bytes = header_bytes nodes timing }
 
 abbrev pub erasing_write : SectorWrite
 erasing_write = record { sector = 0; bytes = zeros 512 }
 
 -- sbd(8), `create`: the header is erased first and written last
 unfoldable pub create_writes : List NodeEntry → Timing → List SectorWrite
-create_writes nodes timing = erasing_write ∷ node_writes 0 nodes ++ header_write nodes timing ∷ []
+create_writes nodes timing = erasing_write ∷ node_writes 0 nodes ++ header_write (length nodes) timing ∷ []
 
 -- the writes in order, up to the first that fails
 unfoldable pub writes_plan : List SectorWrite → Plan (Result (Unit {0}) ImageFault)

@@ -1,20 +1,21 @@
+//! Makes an image: erases sector 0, writes each slot and mailbox, and then the header.
 ghost use Rattle.std.specs.Prelude.{◌≡◌, ◌<◌, ◌≤◌, ◌↔◌, false, length, All, IsTrue, IfErr, IsErrOf};
 ghost use Rattle.qn_base.specs.Faults.{HasRisen};
 ghost use Rattle.qn_base.specs.Plans.{Did};
 ghost use Rattle.qn_model.specs.Settings.{IsValid};
-ghost use Rattle.qn_model.specs.Sectors.{slot_place, mail_place, header_bytes, slot_bytes, mail_bytes};
+ghost use Rattle.qn_model.specs.Sectors.{anonymous, slot_place, mail_place, header_bytes, slot_bytes, mail_bytes};
 ghost use Rattle.qn_model.specs.Timing.{has_periods, is_safe};
 ghost use Rattle.qn_image.specs.Causes.{IsCreateFault};
-ghost use Rattle.qn_image.specs.Plans.{put_plan};
+ghost use Rattle.qn_image.specs.Plans.{put_plan, write_plan};
 ghost use Rattle.qn_image.specs.Writes.{writes_plan, fresh_slot, node_pair, node_writes, create_writes, create_plan};
 
 use crate::fault::ImageFault;
 use qn_base::{NodeId, Rank};
 use qn_io::Env;
-use qn_model::{Message, NodeEntry, Settings, Slot, Timing, timing_safe};
+use qn_model::{Mail, Message, NodeEntry, Settings, Slot, Timing, timing_safe};
 use qn_sector::{mail_sector, put_header, put_mail, put_slot, slot_sector};
 
-/// Makes an image for the nodes of the settings: sector 0 is erased, then each rank gets the slot of a
+/// Makes an image of version 2 for the nodes of the settings: sector 0 is erased, then each rank gets the slot of a
 /// node that was never started and an empty mailbox, and the header comes last.
 #[tactic(auto, unfolding(crate::specs::Writes::create_plan))]
 pub fn create<E: Env>(env: &mut E, settings: &Settings, timing: Timing) -> Result<(), ImageFault>
@@ -41,7 +42,7 @@ fn write_image<E: Env>(env: &mut E, nodes: &[NodeEntry], timing: &Timing) -> Res
 {
     write(env, 0, &[0; 512])?;
     write_nodes(env, nodes)?;
-    write_header(env, nodes, timing)
+    write_header(env, nodes.len() as u32, timing)
 }
 
 fn write_nodes<E: Env>(env: &mut E, nodes: &[NodeEntry]) -> Result<(), ImageFault>
@@ -83,26 +84,27 @@ fn write_fresh_slot<E: Env>(env: &mut E, rank: Rank, id: NodeId) -> Result<(), I
     write(env, slot_sector(rank), &sector)
 }
 
-/// Writes the message into the mailbox of the rank.
+/// Writes the message into the mailbox of the rank, with nobody named.
 pub fn write_message<E: Env>(env: &mut E, rank: Rank, message: Message) -> Result<(), ImageFault>
     requires { rank.0 < 32 }
     ensures { Did (E.faults env.old) (E.faults env.new) (E.calls env.old) (E.calls env.new)
-        (put_plan (mail_place rank.0) (mail_bytes message)) result }
+        (write_plan rank.0 message) result }
 {
     let mut sector = [0; 512];
-    put_mail(message, &mut sector);
+    put_mail(&Mail::anonymous(message), &mut sector);
     write(env, mail_sector(rank), &sector)
 }
 
-fn write_header<E: Env>(env: &mut E, nodes: &[NodeEntry], timing: &Timing) -> Result<(), ImageFault>
-    requires some_node { 1 ≤ length nodes.now }
-    requires few_nodes { length nodes.now ≤ 32 }
+/// Writes the header, after which the image is one of version 2.
+pub fn write_header<E: Env>(env: &mut E, nodes: u32, timing: &Timing) -> Result<(), ImageFault>
+    requires some_node { 1 ≤ nodes }
+    requires few_nodes { nodes ≤ 32 }
     requires times { IsTrue (has_periods timing.now) }
     ensures { Did (E.faults env.old) (E.faults env.new) (E.calls env.old) (E.calls env.new)
-        (put_plan 0 (header_bytes (length nodes.now) timing.now)) result }
+        (put_plan 0 (header_bytes nodes timing.now)) result }
 {
     let mut sector = [0; 512];
-    put_header(nodes.len() as u32, timing, &mut sector);
+    put_header(nodes, timing, &mut sector);
     write(env, 0, &sector)
 }
 

@@ -1,4 +1,6 @@
+//! Why a call on an image did not do its work.
 use qn_base::Failed;
+use qn_model::Message;
 
 /// Why a call on an image did not do its work.
 #[derive(Clone, Copy, PartialEq, Eq, Debug)]
@@ -9,7 +11,9 @@ pub enum ImageFault {
     NotImage,
     /// The times are not safe; nothing was written.
     UnsafeTiming,
-    /// A slot or mailbox that was read is no spelling.
+    /// A test or an exit was to replace this deadly message; nothing was written.
+    DeadlyThere(Message),
+    /// A slot or mailbox that was read is no spelling; nothing was written.
     DamagedSector { sector: u32 },
     /// Every slot was read, and none has the id.
     UnknownNode,

@@ -1,3 +1,4 @@
+//! What the outsides in memory tell of their calls.
 use qn_base::{Bytes, Call, Failed, Rank, Received};
 use qn_io::{Env, Got, MemEnv, Opening, QuietEnv, Script};
 use std::test::Fail;

@@ -1,6 +1,10 @@
+//! Each sector of the table, read and written.
 use crate::rows::ROWS;
 use qn_base::NodeId;
-use qn_sector::{get_header, get_mail, get_slot, put_header, put_mail, put_slot};
+use qn_model::{Sender, Timing};
+use qn_sector::{
+    get_header, get_header_1, get_mail, get_mail_1, get_slot, put_header, put_mail, put_slot,
+};
 use std::alloc::{AllocError, Global};
 use std::process::Abort;
 use std::test::Fail;
@@ -8,7 +12,7 @@ use std::test::Fail;
 /// Each sector of the table is read as what it spells, and that is written as the same sector.
 #[test]
 fn reads_and_writes_each_sector_of_the_table(rt: HostRuntime) -> Result<(), Fail> {
-    assert!(rt; ROWS.lines().count() == 100);
+    assert!(rt; ROWS.lines().count() == 238);
     for row in ROWS.lines() {
         let mut columns = row.split('|');
         let kind = columns.next().unwrap_or("");
@@ -48,9 +52,11 @@ fn found_in(
     again: &mut [u8; 512],
 ) -> Result<String, AllocError> {
     match kind {
-        "header" => header_text(alloc, sector, again),
-        "slot" => slot_text(alloc, sector, again),
-        _ => mail_text(alloc, sector, again),
+        "header-1" => header_1_text(alloc, sector),
+        "header-2" => header_text(alloc, sector, again),
+        "mail-1" => mail_1_text(alloc, sector),
+        "mail-2" => mail_text(alloc, sector, again),
+        _ => slot_text(alloc, sector, again),
     }
 }
 
@@ -64,6 +70,17 @@ fn header_text(
     };
     *again = [0xff; 512];
     put_header(nodes, &t, again);
+    times_text(alloc, nodes, &t)
+}
+
+fn header_1_text(alloc: Global, sector: &[u8; 512]) -> Result<String, AllocError> {
+    match get_header_1(sector) {
+        None => String::from_str(alloc, "none"),
+        Some((nodes, t)) => times_text(alloc, nodes, &t),
+    }
+}
+
+fn times_text(alloc: Global, nodes: u32, t: &Timing) -> Result<String, AllocError> {
     format!(in alloc;
         "nodes {nodes} timing {} {} {} {} {}",
         t.watchdog, t.msgwait, t.loop_ms, t.read_limit, t.feed_delay
@@ -90,10 +107,24 @@ fn mail_text(
     sector: &[u8; 512],
     again: &mut [u8; 512],
 ) -> Result<String, AllocError> {
-    let Some(message) = get_mail(sector) else {
+    let Some(mail) = get_mail(sector) else {
         return String::from_str(alloc, "none");
     };
     *again = [0xff; 512];
-    put_mail(message, again);
-    String::from_str(alloc, message.name())
+    put_mail(&mail, again);
+    let message = mail.message.name();
+    match mail.by {
+        None => String::from_str(alloc, message),
+        Some(
+            Sender {
+                id: NodeId(id),
+                incarnation,
+            },
+        ) => format!(in alloc; "{message} by {id}:{incarnation}"),
+    }
+}
+
+fn mail_1_text(alloc: Global, sector: &[u8; 512]) -> Result<String, AllocError> {
+    let text = get_mail_1(sector).map_or("none", |message| message.name());
+    String::from_str(alloc, text)
 }

@@ -1,3 +1,4 @@
+//! Lines of inputs that come in pieces, outputs with little room, and interrupted calls.
 ghost use Rattle.std.specs.Prelude.{◌≤◌, IfOk};
 
 use arrayvec::ArrayVec;

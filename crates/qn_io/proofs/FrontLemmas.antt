@@ -1,4 +1,4 @@
--- A front of the bytes that wait, which goes behind a line.
+-- A prefix of the bytes that wait, which goes after a line.
 use Rattle.std.proofs.Common.{◌≡◌, ℕ, ◌+◌, ◌<◌, ◌≤◌, ◌==◌, false, List, ◌∷◌, ◌++◌, length, take, drop, get_or, sym, ap, subst, ◌∙◌, append_assoc, take-append-drop, length-append, add-zero, arith}
 use Rattle.std.proofs.lemmas.List.{get_or-drop, get_or-take, length-take-le}
 use Rattle.std.proofs.lemmas.List.Elements.{All-append, All-from_get_or, All-get_or}

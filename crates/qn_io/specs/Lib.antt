@@ -5,5 +5,6 @@ pub mod Outside
 pub mod Reads
 pub mod Receives
 pub mod Scripted
+pub mod Streams
 pub mod Telling
 pub mod Writes

@@ -14,12 +14,12 @@ pub prepend_known-append : (front back : List ℕ) (known : Option (List ℕ)) �
 prepend_known-append front back None = refl
 prepend_known-append front back (Some bytes) = ap Some (append_assoc front back bytes)
 
--- no bytes behind the known ones leave them as they are
+-- no bytes after the known ones leave them as they are
 pub append_known-nil : (known : Option (List ℕ)) → append_known known [] ≡ known
 append_known-nil None = refl
 append_known-nil (Some bytes) = ap Some (append-nil bytes)
 
--- bytes, and then others, behind the known ones
+-- bytes, and then others, after the known ones
 pub append_known-append : (known : Option (List ℕ)) (front back : List ℕ) → append_known known (front ++ back) ≡ append_known (append_known known front) back
 append_known-append None front back = refl
 append_known-append (Some bytes) front back = ap Some (sym (append_assoc bytes front back))

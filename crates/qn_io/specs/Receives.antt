@@ -11,7 +11,7 @@ FitsPacket (got.Packet length) = length ≤ 129
 FitsPacket got.Nothing = Unit {0}
 FitsPacket got.Failed = Unit {0}
 
--- what was received, as it is told: a packet is the front of the buffer
+-- what was received, as it is told: a packet is a prefix of the buffer
 abbrev pub received : Got → List ℕ → Received
 received (got.Packet length) buffer = told.Packet (take length buffer)
 received got.Nothing buffer = told.Nothing

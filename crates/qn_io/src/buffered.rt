@@ -1,3 +1,4 @@
+//! The bytes of one read, handed out up to the ends of lines.
 ghost use Rattle.std.specs.Prelude.{◌≡◌, ℕ, ◌+◌, ◌++◌, ◌<◌, ◌≤◌, ◌↔◌, List, [], ◌∷◌, Option, IsTrue, length, take, drop, slice_index};
 ghost use Rattle.arrayvec.specs.ArrayVec.{array_vec_len};
 ghost use Rattle.std.specs.Io.KnownBytes.{prepend_known};
@@ -78,6 +79,7 @@ impl Pieces {
     pub fn next<I: Source>(&mut self, source: &mut I) -> Next
         ensures gives { Gives result (prepend_known self.old (I.left source.old)) (prepend_known self.new (I.left source.new)) }
         ensures drained { IsDrained result self.new }
+        ensures within { length self.new ≤ PIECE }
         ensures never_falls { I.faults source.old ≤ I.faults source.new }
         ensures cause { OnFailed result (HasRisen (I.faults source.old) (I.faults source.new)) }
     {
@@ -100,7 +102,8 @@ impl Pieces {
 
     /// Whether a whole line waits, with its `\n`, so that the next line takes no read.
     pub fn has_line(&self) -> bool
-        ensures { IsTrue result ↔ HasLineFeed self.now }
+        ensures value { IsTrue result ↔ HasLineFeed self.now }
+        ensures within { length self.now ≤ PIECE }
     {
         let waiting = self.waiting();
         length_before_end(waiting) < waiting.len()
@@ -112,6 +115,7 @@ impl Pieces {
         requires { HasLineFeed self.old }
         ensures takes { self.old ≡ line.new.items ++ 10 ∷ self.new }
         ensures unended { HasNoLineFeed line.new.items }
+        ensures within { length self.new ≤ PIECE }
     {
         line.clear();
         let count = length_before_end(self.waiting());
@@ -123,6 +127,7 @@ impl Pieces {
     pub(crate) fn refill<I: Source>(&mut self, source: &mut I) -> Refill
         requires { length self.old ≡ 0 }
         ensures reads { Refills result self.new (I.left source.old) (I.left source.new) }
+        ensures within { length self.new ≤ PIECE }
         ensures never_falls { I.faults source.old ≤ I.faults source.new }
         ensures cause { OnFailedRefill result (HasRisen (I.faults source.old) (I.faults source.new)) }
     {
@@ -141,7 +146,8 @@ impl Pieces {
     /// The first byte that was not handed out yet, which then is.
     fn take_first(&mut self) -> u8
         requires { 0 < length self.old }
-        ensures { self.old ≡ result ∷ self.new }
+        ensures takes { self.old ≡ result ∷ self.new }
+        ensures within { length self.new ≤ PIECE }
     {
         let byte = self.buffer[self.from];
         self.from += 1;
@@ -153,6 +159,7 @@ impl Pieces {
         requires { 0 < length self.old }
         ensures moves { Moves result line.old.items self.old line.new.items self.new }
         ensures unended { HasNoLineFeed line.old.items → HasNoLineFeed line.new.items }
+        ensures within { length self.new ≤ PIECE }
         ensures fits { array_vec_len line.new ≤ 4096 }
     {
         let waiting = self.waiting();

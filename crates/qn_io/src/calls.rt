@@ -1,3 +1,4 @@
+//! The trait of a node's outside: disk, network, clock, watchdog and resource.
 ghost use Rattle.std.specs.Prelude.{◌≡◌, ℕ, ◌<◌, ◌≤◌, [], ◌∷◌, List, Option, true, false, OnOk, OnErr, is_ok, length};
 ghost use Rattle.qn_base.specs.declared.calls.Call.{Call};
 ghost use Rattle.qn_base.specs.declared.calls.Call.TheVariants.{OpenImage, Now, Receive, Read, Write, Feed, Start, Stop, Send, Disarm, Halt};
@@ -34,7 +35,7 @@ pub struct Opening<'a> {
 /// What [`Env::receive`] gave.
 #[derive(Clone, Copy, PartialEq, Eq, Debug)]
 pub enum Got {
-    /// A packet of that many bytes, 0 to 129, at the front of the buffer.
+    /// A packet of that many bytes, 0 to 129, at the beginning of the buffer.
     Packet(usize),
     /// No packet came.
     Nothing,
@@ -67,7 +68,7 @@ pub trait Env {
     fn now(&mut self) -> u64
         ensures { Made (faults self.old) (faults self.new) (calls self.old) (calls self.new) (Now result ∷ []) };
 
-    /// Takes a packet that came, if one does within a short while, and puts it at the front of
+    /// Takes a packet that came, if one does within a short while, and puts it at the beginning of
     /// `packet`. Of a longer packet the first 129 bytes are taken.
     fn receive(&mut self, packet: &mut [u8; PACKET]) -> Got
         ensures within { FitsPacket result }

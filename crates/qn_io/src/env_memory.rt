@@ -1,3 +1,4 @@
+//! An outside in memory that answers by a script and fails at chosen calls.
 ghost use Rattle.std.specs.Prelude.{◌≡◌, ◌≤◌};
 ghost use Rattle.qn_io.specs.Receives.{FitsPacket, received};
 

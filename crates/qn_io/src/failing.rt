@@ -1,3 +1,4 @@
+//! Which calls of an object in memory fail, and how many faults there were.
 ghost use Rattle.std.specs.Prelude.{◌≡◌, ℕ, ◌≤◌, ◌↔◌, IsTrue, IsErr, OnErr, Contains, is_ok};
 ghost use Rattle.qn_io.specs.Memory.{Counts, counts_after, one_more};
 ghost use Rattle.qn_io.specs.Outside.{HasRisen};

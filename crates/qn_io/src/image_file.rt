@@ -1,3 +1,4 @@
+//! An image file: how it is opened, locked, read and written.
 ghost use Rattle.std.specs.Prelude.{◌≡◌, ◌*◌, ◌<◌, ◌≤◌, IfOk, length, pos, ◌≤ℤ◌};
 ghost use Rattle.std.specs.Fd.{file_raw_fd};
 

@@ -1,11 +1,11 @@
-// The outside of the program: where bytes come from, where they go, the disk, the network and the clock of
-// a node, and the faults that were counted. Nothing here knows what the bytes mean.
-//
-// Promises: whatever a source, a sink or an outside does, its count of faults never falls, and a call
-// answers `Failed` only where that count rose. Bytes that are told come and go whole and in order; calls
-// that are told are exactly the calls that were made, with their answers. The objects in memory do exactly
-// what their scripts say. No file is opened under the descriptor of a standard stream. `StdSource`, `StdSink` and
-// `RealEnv` are the trusted edge: they tell nothing, and no clause says what a file, a stream or a clock gives.
+//! The outside of the program: where bytes come from, where they go, the disk, the network and the clock of
+//! a node, and the faults that were counted. Nothing here knows what the bytes mean.
+//!
+//! Promises: whatever a source, a sink or an outside does, its count of faults never falls, and a call
+//! answers `Failed` only where that count rose. Bytes that are told come and go whole and in order; calls
+//! that are told are exactly the calls that were made, with their answers. The objects in memory do exactly
+//! what their scripts say. No file is opened under the descriptor of a standard stream. `StdSource`, `StdSink` and
+//! `RealEnv` are the trusted edge: they tell nothing, and no clause says what a file, a stream or a clock gives.
 #![tactic(auto)]
 
 mod buffered;

@@ -1,9 +1,10 @@
-ghost use Rattle.std.specs.Prelude.{◌≡◌, ℕ, ◌≤◌};
+//! Reads the next line of an input.
+ghost use Rattle.std.specs.Prelude.{◌≡◌, ℕ, ◌≤◌, length};
 ghost use Rattle.std.specs.Io.KnownBytes.{prepend_known};
 ghost use Rattle.qn_io.specs.Lines.{HasNoLineFeed, IsDrainedLine, OnFailedLine, ReadsLine};
 ghost use Rattle.qn_io.specs.Outside.{HasRisen};
 
-use crate::buffered::{LINE, Moved, Pieces, Refill};
+use crate::buffered::{LINE, Moved, PIECE, Pieces, Refill};
 use crate::outside::Source;
 use arrayvec::ArrayVec;
 
@@ -12,11 +13,11 @@ use arrayvec::ArrayVec;
 pub enum LineRead {
     /// A whole line was read, and its `\n`, which is left out.
     Line,
-    /// The input has ended behind these bytes, which no `\n` follows.
+    /// The input has ended after these bytes, which no `\n` follows.
     Rest,
     /// The line has these 4096 bytes and at least one more.
     TooLong,
-    /// A read failed behind these bytes.
+    /// A read failed after these bytes.
     Failed,
 }
 
@@ -29,6 +30,7 @@ pub fn read_line<I: Source>(
     ensures reads { ReadsLine result line.new.items (prepend_known pieces.old (I.left input.old)) (prepend_known pieces.new (I.left input.new)) }
     ensures unended { HasNoLineFeed line.new.items }
     ensures drained { IsDrainedLine result pieces.new }
+    ensures within { length pieces.new ≤ PIECE }
     ensures never_falls { I.faults input.old ≤ I.faults input.new }
     ensures cause { OnFailedLine result (HasRisen (I.faults input.old) (I.faults input.new)) }
 {

@@ -1,3 +1,4 @@
+//! An input and an output in memory, which fail at chosen calls.
 ghost use Rattle.std.specs.Prelude.{◌≡◌, ℕ, ◌<◌, ◌≤◌, ◌+◌, ◌-◌, ◌↔◌, [], List, Option, Some, IsErr, IsOk, IfOk, OnErr, Contains, is_ok, ◌⊎◌, min, length, take, drop, vec_len, vec_capacity};
 ghost use Rattle.std.specs.Io.KnownBytes.{prepend_known, append_known, IsAtEnd};
 ghost use Rattle.qn_io.specs.Memory.{counts_after, Input, IsFull, Output};

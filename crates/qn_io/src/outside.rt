@@ -1,3 +1,4 @@
+//! The traits of an input and an output: bytes that come and go, and faults that are counted.
 ghost use Rattle.std.specs.Prelude.{◌≡◌, ℕ, ◌<◌, ◌≤◌, List, Option, length, take, IfOk, OnErr};
 ghost use Rattle.std.specs.Io.KnownBytes.{prepend_known, append_known, IsAtEnd};
 ghost use Rattle.qn_io.specs.Outside.{HasRisen};
@@ -13,7 +14,7 @@ pub trait Source {
 
     ghost left: { Self → Option (List ℕ) };
 
-    /// Reads the next bytes into the front of `into` and gives their number. For a buffer that is not
+    /// Reads the next bytes into the beginning of `into` and gives their number. For a buffer that is not
     /// empty, 0 is the end of the input. `Failed` comes only where the count of faults rose, and takes
     /// no bytes.
     fn read(&mut self, into: &mut [u8]) -> Result<usize, Failed>
@@ -34,7 +35,7 @@ pub trait Sink {
 
     ghost written: { Self → Option (List ℕ) };
 
-    /// Writes bytes from the front of `from` and gives their number: at least 1 where `from` is not
+    /// Writes bytes from the beginning of `from` and gives their number: at least 1 where `from` is not
     /// empty. `Failed` comes only where the count of faults rose, and writes nothing.
     fn write(&mut self, from: &[u8]) -> Result<usize, Failed>
         ensures within { IfOk result (λ n. n ≤ length from.now) }

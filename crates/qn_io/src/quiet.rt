@@ -1,3 +1,4 @@
+//! An outside in memory in which nothing fails and nobody sends.
 use crate::calls::{Env, Got, Opening, PACKET, SECTOR};
 use crate::sectors::Sectors;
 use qn_base::{Failed, NoMemory, Rank};

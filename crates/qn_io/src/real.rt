@@ -1,3 +1,4 @@
+//! The real outside: an image file and the monotonic clock.
 ghost use Rattle.std.specs.Prelude.{◌≡◌};
 
 use crate::calls::{Env, Got, Opening, PACKET, SECTOR};

@@ -1,3 +1,4 @@
+//! Says on standard error why a real call failed.
 ghost use Rattle.std.specs.Prelude.{◌≡◌, ◌↔◌, IfOk, IsErr};
 
 use qn_base::Failed;

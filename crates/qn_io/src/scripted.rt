@@ -1,3 +1,4 @@
+//! The scripts of an outside in memory: its ticks and the packets that come.
 ghost use Rattle.std.specs.Prelude.{◌≡◌, ◌≤◌, take};
 
 use crate::calls::{Got, PACKET};

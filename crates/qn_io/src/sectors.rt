@@ -1,3 +1,4 @@
+//! The sectors of an image in memory.
 ghost use Rattle.std.specs.Prelude.{◌≡◌};
 
 use crate::calls::{SECTOR, SECTORS};

@@ -1,4 +1,6 @@
+//! Standard input and standard output as an input and an output that count faults.
 ghost use Rattle.std.specs.Prelude.{◌<◌, ◌≤◌, IfOk, length};
+ghost use Rattle.std.specs.Io.KnownBytes.{ReadConsumes, WriteAppends};
 
 use crate::outside::{Sink, Source};
 use crate::reported::reported;
@@ -9,8 +11,9 @@ use std::marker::Model;
 /// How often a real call is made that is interrupted each time; then it has failed.
 pub(crate) const TRIES: u32 = 1000;
 
-/// A source over a real reader, which is standard input. It tells nothing of its bytes, and is seen as its
-/// count of faults. Of each call that failed a line on standard error says why.
+/// A source over a real reader, which is standard input. It is seen as what its reader tells that it has left, and
+/// as its count of faults; as a `Source` it tells nothing. Of each call that failed a line on standard error says
+/// why.
 #[derive(Drop)]
 pub struct StdSource<R: Read + Drop, E: Eprint + Drop> {
     reader: R,
@@ -19,11 +22,11 @@ pub struct StdSource<R: Read + Drop, E: Eprint + Drop> {
 }
 
 impl<R: Read + Drop, E: Eprint + Drop> Model for StdSource<R, E> {
-    ghost use Rattle.std.specs.Prelude.{ℕ};
+    ghost use Rattle.qn_io.specs.Streams.{RealInput};
 
-    ghost Value = { ℕ };
+    ghost Value = { RealInput };
 
-    ghost view = { λ s. s.faults };
+    ghost view = { λ s. record { left = R.remaining s.reader; faults = s.faults } };
 }
 
 impl<R: Read + Drop, E: Eprint + Drop> StdSource<R, E> {
@@ -32,7 +35,7 @@ impl<R: Read + Drop, E: Eprint + Drop> StdSource<R, E> {
     /// A source that reads from this reader, which no fault has met yet, and says on these errors why a
     /// call failed.
     pub fn new(reader: R, errors: E) -> StdSource<R, E>
-        ensures { result ≡ 0 }
+        ensures { result ≡ record { left = R.remaining reader; faults = 0 } }
     {
         StdSource {
             reader,
@@ -43,14 +46,21 @@ impl<R: Read + Drop, E: Eprint + Drop> StdSource<R, E> {
 }
 
 impl<R: Read + Drop, E: Eprint + Drop> Source for StdSource<R, E> {
-    ghost use Rattle.std.specs.Prelude.{None};
+    ghost use Rattle.std.specs.Prelude.{None, OnErr};
+    ghost use Rattle.qn_io.specs.Outside.{HasRisen};
 
-    ghost faults = { λ s. s };
+    ghost faults = { λ s. s.faults };
 
     ghost left = { λ _. None };
 
-    /// Reads once. A call that was interrupted is made again, up to 1000 times.
-    fn read(&mut self, into: &mut [u8]) -> Result<usize, Failed> {
+    /// Reads once. A call that was interrupted is made again, up to 1000 times. Of a reader that tells what it has
+    /// left, it gives the first bytes; for a buffer that is not empty, 0 is its end; and `Failed` takes nothing.
+    fn read(&mut self, into: &mut [u8]) -> Result<usize, Failed>
+        ensures within { IfOk result (λ n. n ≤ length into.new) }
+        ensures consumes { ReadConsumes self.old.left self.new.left result into.new }
+        ensures never_falls { self.old.faults ≤ self.new.faults }
+        ensures cause { OnErr result (HasRisen self.old.faults self.new.faults) }
+    {
         let moved = read_again(&mut self.reader, into);
         let done = reported(&self.errors, "standard input", moved);
         if done.is_err() {
@@ -60,8 +70,8 @@ impl<R: Read + Drop, E: Eprint + Drop> Source for StdSource<R, E> {
     }
 }
 
-/// A sink over a real writer, which is standard output. It tells nothing of its bytes, and is seen as its
-/// count of faults. Of each call that failed a line on standard error says why.
+/// A sink over a real writer, which is standard output. It is seen as what its writer tells that it holds, and as
+/// its count of faults; as a `Sink` it tells nothing. Of each call that failed a line on standard error says why.
 #[derive(Drop)]
 pub struct StdSink<W: Write + Drop, E: Eprint + Drop> {
     writer: W,
@@ -70,11 +80,11 @@ pub struct StdSink<W: Write + Drop, E: Eprint + Drop> {
 }
 
 impl<W: Write + Drop, E: Eprint + Drop> Model for StdSink<W, E> {
-    ghost use Rattle.std.specs.Prelude.{ℕ};
+    ghost use Rattle.qn_io.specs.Streams.{RealOutput};
 
-    ghost Value = { ℕ };
+    ghost Value = { RealOutput };
 
-    ghost view = { λ s. s.faults };
+    ghost view = { λ s. record { contents = W.contents s.writer; faults = s.faults } };
 }
 
 impl<W: Write + Drop, E: Eprint + Drop> StdSink<W, E> {
@@ -83,7 +93,7 @@ impl<W: Write + Drop, E: Eprint + Drop> StdSink<W, E> {
     /// A sink that writes to this writer, which no fault has met yet, and says on these errors why a call
     /// failed.
     pub fn new(writer: W, errors: E) -> StdSink<W, E>
-        ensures { result ≡ 0 }
+        ensures { result ≡ record { contents = W.contents writer; faults = 0 } }
     {
         StdSink {
             writer,
@@ -94,15 +104,23 @@ impl<W: Write + Drop, E: Eprint + Drop> StdSink<W, E> {
 }
 
 impl<W: Write + Drop, E: Eprint + Drop> Sink for StdSink<W, E> {
-    ghost use Rattle.std.specs.Prelude.{None};
+    ghost use Rattle.std.specs.Prelude.{None, OnErr};
+    ghost use Rattle.qn_io.specs.Outside.{HasRisen};
 
-    ghost faults = { λ s. s };
+    ghost faults = { λ s. s.faults };
 
     ghost written = { λ _. None };
 
     /// Writes once. A call that was interrupted is made again, up to 1000 times; one that takes nothing
-    /// of a piece that is not empty has failed.
-    fn write(&mut self, from: &[u8]) -> Result<usize, Failed> {
+    /// of a piece that is not empty has failed. What a writer that tells it holds grows by what was taken, and by
+    /// nothing at `Failed`.
+    fn write(&mut self, from: &[u8]) -> Result<usize, Failed>
+        ensures within { IfOk result (λ n. n ≤ length from.now) }
+        ensures some { IfOk result (λ n. 0 < length from.now → 0 < n) }
+        ensures appends { WriteAppends self.old.contents self.new.contents result from.now }
+        ensures never_falls { self.old.faults ≤ self.new.faults }
+        ensures cause { OnErr result (HasRisen self.old.faults self.new.faults) }
+    {
         let moved = write_again(&mut self.writer, from);
         let done = reported(&self.errors, "standard output", moved);
         if done.is_err() {
@@ -114,7 +132,8 @@ impl<W: Write + Drop, E: Eprint + Drop> Sink for StdSink<W, E> {
 
 /// Reads once, again after each interruption.
 fn read_again<R: Read>(reader: &mut R, into: &mut [u8]) -> io::Result<usize>
-    ensures { IfOk result (λ n. n ≤ length into.new) }
+    ensures within { IfOk result (λ n. n ≤ length into.new) }
+    ensures consumes { ReadConsumes (R.remaining reader.old) (R.remaining reader.new) result into.new }
 {
     'tries: for _ in 0..TRIES {
         match reader.read(into) {
@@ -130,6 +149,7 @@ fn read_again<R: Read>(reader: &mut R, into: &mut [u8]) -> io::Result<usize>
 fn write_again<W: Write>(writer: &mut W, from: &[u8]) -> io::Result<usize>
     ensures within { IfOk result (λ n. n ≤ length from.now) }
     ensures some { IfOk result (λ n. 0 < length from.now → 0 < n) }
+    ensures appends { WriteAppends (W.contents writer.old) (W.contents writer.new) result from.now }
 {
     'tries: for _ in 0..TRIES {
         match writer.write(from) {

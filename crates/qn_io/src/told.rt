@@ -1,3 +1,4 @@
+//! The list of the calls that were made, as an outside tells it.
 use crate::calls::Opening;
 use qn_base::{Bytes, Call, NoMemory};
 use std::alloc::Global;

@@ -1,3 +1,4 @@
+//! Writes all of some bytes, in as many writes as the output needs.
 ghost use Rattle.std.specs.Prelude.{◌≡◌, ℕ, ◌≤◌, OnOk, OnErr};
 ghost use Rattle.std.specs.Io.KnownBytes.{append_known};
 ghost use Rattle.qn_io.specs.Outside.{HasRisen};
@@ -6,7 +7,7 @@ ghost use Rattle.qn_io.specs.Writes.{AppendsFront};
 use crate::outside::Sink;
 use qn_base::Failed;
 
-/// Writes the whole of `from`, in as many writes as the sink needs. At `Failed` a front of it was
+/// Writes the whole of `from`, in as many writes as the sink needs. At `Failed` a prefix of it was
 /// written.
 pub fn put_all<O: Sink>(out: &mut O, from: &[u8]) -> Result<(), Failed>
     ensures whole { OnOk result (O.written out.new ≡ append_known (O.written out.old) from.now) }

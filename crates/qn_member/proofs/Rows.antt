@@ -10,9 +10,9 @@ three : Settings
 three =
     record {
       nodes =
-          record { id = record { 0 = 1 }; votes = 1 }
-          ∷ record { id = record { 0 = 2 }; votes = 1 }
-          ∷ record { id = record { 0 = 3 }; votes = 1 }
+          record { id = record { 0 = 1 }; votes = 1; fence_delay = 0 }
+          ∷ record { id = record { 0 = 2 }; votes = 1; fence_delay = 0 }
+          ∷ record { id = record { 0 = 3 }; votes = 1; fence_delay = 0 }
           ∷ [];
       two_node = false;
       wait_for_all = false;
@@ -20,6 +20,7 @@ three =
       window = 10000;
       device = None;
       expected = 3;
+      tie = None;
     }
 
 -- the view of a number and a set of members

@@ -1,3 +1,4 @@
+//! The laws of the visible nodes, and of the test of an announced view.
 ghost use Rattle.std.specs.Prelude.{◌≡◌, ◌<◌, ◌&&◌, ℕ, List, true, length};
 ghost use Rattle.qn_base.specs.declared.ids.Mask.{Mask};
 ghost use Rattle.qn_base.specs.Members.{is_member};

@@ -1,8 +1,8 @@
-// The view maker of a running node: it hears the Hellos and the announcements of the other nodes, and makes the
-// views that the node counts its votes under.
-//
-// Promises: a `Member` is seen as the record `Maker` of `specs/Maker`, and each call is an equation between the
-// record before and after it and its answer. Each view that is made contains the node, and its members are configured.
+//! The view maker of a running node: it hears the Hellos and the announcements of the other nodes, and makes the
+//! views that the node counts its votes under.
+//!
+//! Promises: a `Member` is seen as the record `Maker` of `specs/Maker`, and each call is an equation between the
+//! record before and after it and its answer. Each view that is made contains the node, and its members are configured.
 #![tactic(auto)]
 
 mod laws;

@@ -1,3 +1,4 @@
+//! The view maker and its calls.
 use qn_base::{Mask, Rank, View};
 use qn_model::{Nodes, Settings};
 use std::marker::Model;

@@ -1,3 +1,4 @@
+//! What a call of a view maker gives, as a row says it.
 use crate::wrong::Wrong;
 use qn_base::View;
 use qn_history::{read_truth, read_view};

@@ -1,16 +1,16 @@
-// Calls of view makers that were worked out elsewhere, each with its answer. It reads them from standard input, makes each
-// call, writes each line that gives another answer, and then how many there were.
-//
-//     new NODES ME LOOP                    a view maker of so many nodes, of that rank, with that loop's time
-//     on_hello TICK FROM
-//     on_announce TICK FROM ID MEMBERS
-//     on_tick TICK
-//     hello_due TICK
-//     announces
-//
-// The answer follows after a tab: `-` where the call gives nothing, `ID MEMBERS` or `none`, `yes` or `no`.
-//
-// Promises: nothing. It is a test: what it is run on, and what it must write, stand beside it.
+//! Calls of view makers that were worked out elsewhere, each with its answer. It reads them from standard input, makes each
+//! call, writes each line that gives another answer, and then how many there were.
+//!
+//!     new NODES ME LOOP                    a view maker of so many nodes, of that rank, with that loop's time
+//!     on_hello TICK FROM
+//!     on_announce TICK FROM ID MEMBERS
+//!     on_tick TICK
+//!     hello_due TICK
+//!     announces
+//!
+//! The answer follows after a tab: `-` where the call gives nothing, `ID MEMBERS` or `none`, `yes` or `no`.
+//!
+//! Promises: nothing. It is a test: what it is run on, and what it must write, stand beside it.
 #![tactic(auto)]
 
 mod answer;
@@ -109,6 +109,7 @@ fn settings_of(count: u8) -> Result<Settings, Wrong> {
         nodes.push(NodeEntry {
             id: NodeId(u32::from(id)),
             votes: 1,
+            fence_delay: 0,
         });
     }
     Ok(Settings {
@@ -119,5 +120,6 @@ fn settings_of(count: u8) -> Result<Settings, Wrong> {
         window: 10000,
         device: None,
         expected: u64::from(count),
+        tie: None,
     })
 }

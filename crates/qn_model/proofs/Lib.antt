@@ -3,6 +3,7 @@ pub mod Majority
 pub mod Release
 pub mod Resets
 mod SectorRows
+mod TieRows
 pub mod VoteLists
 mod WorldRows
 pub mod WorkedCounts

@@ -1,6 +1,6 @@
--- A reset is written only to a node that is outside the view and was not read as clean.
+-- A reset is written only to a node that is outside the view and was not read as clean, once its fence delay is over.
 use Rattle.std.proofs.Common.{◌≡◌, ℕ, suc, zero, ◌+◌, Bool, true, false, List, [], ◌∷◌, ◌++◌, Some, None, refl, cond, ◌&&◌, ◌||◌, not, if◌then◌else◌}
-use Rattle.std.specs.Prelude.{Option, All, is_some}
+use Rattle.std.specs.Prelude.{Option, All, is_some, option_and_then}
 use Rattle.std.specs.Option.{option_or, option_map, option_map_or}
 use Rattle.std.specs.List.{Contains}
 use Rattle.std.proofs.lemmas.List.Elements.{All-nil, All-cons, All-append, All-contains, All-map}
@@ -19,20 +19,25 @@ use Rattle.qn_model.specs.declared.outputs.DiskOp.TheVariants as disk
 use Rattle.qn_model.specs.declared.outputs.Out.{Out}
 use Rattle.qn_model.specs.declared.outputs.Out.TheVariants as out
 use Rattle.qn_model.specs.declared.outputs.HaltKind.TheVariants as halt
-use Rattle.qn_model.specs.Log.{Line, op_out, incarnation}
+use Rattle.qn_model.specs.Log.{Line, begins_clean, incarnation, op_out, slot_number}
 use Rattle.qn_model.specs.Phases.{phase, boot_halt, message_of, deadly_of, is_booting, is_live, is_leaving}
 use Rattle.qn_model.specs.Holding.{holds}
-use Rattle.qn_model.specs.NodeVotes.{view, is_in_view}
+use Rattle.qn_model.specs.Votes.{view_tick}
+use Rattle.qn_model.specs.NodeVotes.{view, is_in_view, votes}
 use Rattle.qn_model.specs.Licences.{out_time, slot_read_since, is_clean, is_written}
 use Rattle.qn_model.specs.Unmet.{least_from}
-use Rattle.qn_model.specs.Wanted.{wanted, fencing_op, to_read, to_reset, boot_op, claim_after, close_op, rank_of, is_mail_due, may_fence}
+use Rattle.qn_model.specs.Wanted.{wanted_with_delay, fencing_op_with_delay, is_delay_over, to_read, to_reset, to_reset_now, boot_op, claim_after, close_op, rank_of, is_mail_due, may_fence}
 use Rattle.qn_model.specs.Fitting.{read_as}
 use Rattle.qn_model.specs.NodeOutputs.{acts, outs_at, live_outs, boot_outs, boot_step_outs, is_boot_step, is_begin, disk_outs, when, replies, asks_under, ask_to, is_asking, gives_stop, gives_start, mail_feeds, taken_in, with_read, with_entry, log_from, log_of, newest_outs, outs_of}
 
--- an output that is a reset names a node that is outside the view and was not read as clean
-abbrev pub IsOutsider : List Line → Out → Type 0
-IsOutsider log (out.Disk (disk.WriteReset rank)) = (is_in_view log rank.0 ≡ false) × (is_clean log rank.0 ≡ false)
-IsOutsider log output = Unit {0}
+-- a rank is outside the view and was not read as clean, and its fence delay is over
+abbrev pub MayBeReset : Settings → List Line → ℕ → Type 0
+MayBeReset s log rank = (is_in_view log rank ≡ false) × (is_clean log rank ≡ false) × (is_delay_over s log rank ≡ true)
+
+-- an output that is a reset names a node that may be reset
+abbrev pub IsOutsider : Settings → List Line → Out → Type 0
+IsOutsider s log (out.Disk (disk.WriteReset rank)) = MayBeReset s log rank.0
+IsOutsider s log output = Unit {0}
 
 -- the first of two numbers, where it passes, or else the later one
 passes_here : (test : ℕ → Bool) (from found : ℕ) (later : Option ℕ) (b : Bool) → test from ≡ b
@@ -47,6 +52,16 @@ least_passes zero from test found e = cc
 least_passes (suc count) from test found e =
     passes_here test from found (least_from count (from + 1) test) (test from) refl (least_passes count (from + 1) test found) e
 
+-- a number that passes one more test is the one that there was
+passes_on : (found : Option ℕ) (test : ℕ → Bool) (rank : ℕ) → option_and_then (λ r. if test r then Some r else None) found ≡ Some rank
+    → (found ≡ Some rank) × (test rank ≡ true)
+passes_on None test rank e = cc
+passes_on (Some other) test rank e = by_test (test other) refl e
+  where
+    by_test : (b : Bool) → test other ≡ b → (if b then Some other else None) ≡ Some rank → (Some other ≡ Some rank) × (test rank ≡ true)
+    by_test true passes is = let same : other ≡ rank = cc in (is, rw (← same) passes)
+    by_test false refused is = (cc, cc)
+
 -- the three parts of a test that holds
 first_fails : (a b c : Bool) → (not a && not b && not c) ≡ true → (a ≡ false) × (b ≡ false)
 first_fails false false c e = (refl, refl)
@@ -55,20 +70,20 @@ first_fails true b c e = cc
 
 module _ (s : Settings) (log : List Line) where
   abbrev AllOutside : List Out → Type 0
-  AllOutside outs = All (IsOutsider log) outs
+  AllOutside outs = All (IsOutsider s log) outs
 
   none_outside : AllOutside []
-  none_outside = All-nil (IsOutsider log)
+  none_outside = All-nil (IsOutsider s log)
 
-  one_outside : (o : Out) → IsOutsider log o → AllOutside (o ∷ [])
-  one_outside o p = All-cons (IsOutsider log) o [] p none_outside
+  one_outside : (o : Out) → IsOutsider s log o → AllOutside (o ∷ [])
+  one_outside o p = All-cons (IsOutsider s log) o [] p none_outside
 
-  when_outside : (b : Bool) (o : Out) → IsOutsider log o → AllOutside (when b o)
+  when_outside : (b : Bool) (o : Out) → IsOutsider s log o → AllOutside (when b o)
   when_outside true o p = one_outside o p
   when_outside false o p = none_outside
 
   both_outside : (front back : List Out) → AllOutside front → AllOutside back → AllOutside (front ++ back)
-  both_outside front back p q = All-append (IsOutsider log) front back p q
+  both_outside front back p q = All-append (IsOutsider s log) front back p q
 
   if_outside : (b : Bool) (first second : Option DiskOp) → AllOutside (disk_outs first) → AllOutside (disk_outs second)
       → AllOutside (disk_outs (if b then first else second))
@@ -79,7 +94,7 @@ module _ (s : Settings) (log : List Line) where
   close_outside None = none_outside
   close_outside (Some n) = one_outside (out.Disk (disk.WriteClose n)) tt
 
-  fencing_outside : (read reset : Option ℕ) → ((rank : ℕ) → reset ≡ Some rank → (is_in_view log rank ≡ false) × (is_clean log rank ≡ false))
+  fencing_outside : (read reset : Option ℕ) → ((rank : ℕ) → reset ≡ Some rank → MayBeReset s log rank)
       → AllOutside (disk_outs (option_or (option_map (λ rank. disk.ReadSlot (rank_of rank)) read) (option_map (λ rank. disk.WriteReset (rank_of rank)) reset)))
   fencing_outside (Some rank) reset p = one_outside (out.Disk (disk.ReadSlot (rank_of rank))) tt
   fencing_outside None (Some rank) p = one_outside (out.Disk (disk.WriteReset (rank_of rank))) (p rank refl)
@@ -89,19 +104,27 @@ module _ (s : Settings) (log : List Line) where
   to_reset_outside rank e =
       first_fails (is_in_view log rank) (is_clean log rank) (is_written log rank) (least_passes _ 0 _ rank e)
 
-  wanted_outside : (me : ℕ) → AllOutside (disk_outs (wanted s me log))
-  unfolding wanted
+  to_reset_now_outside : (rank : ℕ) → to_reset_now s log ≡ Some rank → MayBeReset s log rank
+  to_reset_now_outside rank e =
+      let found = passes_on (to_reset s log) (is_delay_over s log) rank e in
+      let outside = to_reset_outside rank found.0 in
+      (outside.0, outside.1, found.1)
+
+  wanted_outside : (me : ℕ) → AllOutside (disk_outs (wanted_with_delay s me log))
+  unfolding wanted_with_delay
   wanted_outside me =
       if_outside (is_some (op_out log)) None _ none_outside
       (if_outside (is_mail_due log) (Some disk.ReadMail) _ (one_outside (out.Disk disk.ReadMail) tt)
       (if_outside (is_leaving (phase s log) && not (holds log)) (close_op log) _ (close_outside (incarnation log))
-      (if_outside (may_fence s me log) (fencing_op s log) None (fencing_outside (to_read s log) (to_reset s log) to_reset_outside) none_outside)))
+      (if_outside (may_fence s me log) (fencing_op_with_delay s log) None (fencing_outside (to_read s log) (to_reset_now s log) to_reset_now_outside) none_outside)))
 
   replies_outside : (me : ℕ) (held : Bool) (entry : What) → AllOutside (replies s me held log entry)
   replies_outside me held (what.Ask ask) = when_outside _ _ tt
   replies_outside me held what.Begin = none_outside
+  replies_outside me held what.BeginClean = none_outside
   replies_outside me held (what.Header seen) = none_outside
   replies_outside me held (what.SlotRead rank seen) = none_outside
+  replies_outside me held (what.MailChecked seen) = none_outside
   replies_outside me held (what.Claimed ok) = none_outside
   replies_outside me held (what.Cleared ok) = none_outside
   replies_outside me held (what.MailRead seen) = none_outside
@@ -116,7 +139,7 @@ module _ (s : Settings) (log : List Line) where
 
   under_outside : (me : ℕ) (present : Option View) → AllOutside (option_map_or (asks_under s me log) present [])
   under_outside me None = none_outside
-  under_outside me (Some present) = All-map (IsOutsider log) (ask_to me log present) _ (λ k d h. tt)
+  under_outside me (Some present) = All-map (IsOutsider s log) (ask_to me log present) _ (λ k d h. tt)
 
   asks_outside : (me : ℕ) (b : Bool) → AllOutside (if b then option_map_or (asks_under s me log) (view log) [] else [])
   asks_outside me true = under_outside me (view log)
@@ -139,8 +162,10 @@ module _ (s : Settings) (log : List Line) where
   live_outside me entry fed (Some message) = one_outside (out.Halt (halt.Deadly message)) tt
   live_outside me (what.Closed ok) fed None = one_outside out.Disarm tt
   live_outside me what.Begin fed None = acts_outside me what.Begin fed
+  live_outside me what.BeginClean fed None = acts_outside me what.BeginClean fed
   live_outside me (what.Header seen) fed None = acts_outside me (what.Header seen) fed
   live_outside me (what.SlotRead rank seen) fed None = acts_outside me (what.SlotRead rank seen) fed
+  live_outside me (what.MailChecked seen) fed None = acts_outside me (what.MailChecked seen) fed
   live_outside me (what.Claimed ok) fed None = acts_outside me (what.Claimed ok) fed
   live_outside me (what.Cleared ok) fed None = acts_outside me (what.Cleared ok) fed
   live_outside me (what.MailRead seen) fed None = acts_outside me (what.MailRead seen) fed
@@ -158,34 +183,40 @@ module _ (s : Settings) (log : List Line) where
   claim_outside slot.Damaged = none_outside
   claim_outside slot.Failed = none_outside
 
-  boot_op_outside : (me : ℕ) (entry : What) → AllOutside (disk_outs (boot_op me entry))
-  boot_op_outside me what.Begin = one_outside _ tt
-  boot_op_outside me (what.Header seen) = one_outside _ tt
-  boot_op_outside me (what.SlotRead rank seen) = claim_outside seen
-  boot_op_outside me (what.Claimed ok) = one_outside _ tt
-  boot_op_outside me (what.Cleared ok) = one_outside _ tt
-  boot_op_outside me (what.MailRead seen) = none_outside
-  boot_op_outside me (what.MailWritten rank ok) = none_outside
-  boot_op_outside me (what.View installed) = none_outside
-  boot_op_outside me (what.Ask ask) = none_outside
-  boot_op_outside me (what.Tell tell) = none_outside
-  boot_op_outside me (what.Device agrees) = none_outside
-  boot_op_outside me what.Tick = none_outside
-  boot_op_outside me (what.Stopped ok) = none_outside
-  boot_op_outside me what.Leave = none_outside
-  boot_op_outside me (what.Closed ok) = none_outside
+  boot_op_outside : (me : ℕ) (clean : Bool) (number : ℕ) (entry : What) → AllOutside (disk_outs (boot_op me clean number entry))
+  boot_op_outside me clean number what.Begin = one_outside _ tt
+  boot_op_outside me clean number what.BeginClean = one_outside _ tt
+  boot_op_outside me clean number (what.Header seen) = one_outside _ tt
+  boot_op_outside me clean number (what.SlotRead rank seen) =
+      if_outside clean (Some disk.CheckMail) (claim_after seen) (one_outside _ tt) (claim_outside seen)
+  boot_op_outside me clean number (what.MailChecked seen) = one_outside _ tt
+  boot_op_outside me clean number (what.Claimed ok) = one_outside _ tt
+  boot_op_outside me clean number (what.Cleared ok) = one_outside _ tt
+  boot_op_outside me clean number (what.MailRead seen) = none_outside
+  boot_op_outside me clean number (what.MailWritten rank ok) = none_outside
+  boot_op_outside me clean number (what.View installed) = none_outside
+  boot_op_outside me clean number (what.Ask ask) = none_outside
+  boot_op_outside me clean number (what.Tell tell) = none_outside
+  boot_op_outside me clean number (what.Device agrees) = none_outside
+  boot_op_outside me clean number what.Tick = none_outside
+  boot_op_outside me clean number (what.Stopped ok) = none_outside
+  boot_op_outside me clean number what.Leave = none_outside
+  boot_op_outside me clean number (what.Closed ok) = none_outside
 
-  boot_step_outside : (me : ℕ) (entry : What) (cause : Option BootCause) → AllOutside (boot_step_outs me entry cause)
-  boot_step_outside me entry None = both_outside _ _ (when_outside (not (is_begin entry)) out.Feed tt) (boot_op_outside me entry)
-  boot_step_outside me entry (Some cause) = one_outside _ tt
+  boot_step_outside : (me : ℕ) (clean : Bool) (number : ℕ) (entry : What) (cause : Option BootCause)
+      → AllOutside (boot_step_outs me clean number entry cause)
+  boot_step_outside me clean number entry None =
+      both_outside _ _ (when_outside (not (is_begin entry)) out.Feed tt) (boot_op_outside me clean number entry)
+  boot_step_outside me clean number entry (Some cause) = one_outside _ tt
 
-  boot_outside : (me : ℕ) (entry : What) (b : Bool) → AllOutside (if b then boot_step_outs me entry (boot_halt s entry) else [])
-  boot_outside me entry true = boot_step_outside me entry (boot_halt s entry)
-  boot_outside me entry false = none_outside
+  boot_outside : (me : ℕ) (clean : Bool) (number : ℕ) (entry : What) (b : Bool)
+      → AllOutside (if b then boot_step_outs me clean number entry (boot_halt s entry) else [])
+  boot_outside me clean number entry true = boot_step_outside me clean number entry (boot_halt s entry)
+  boot_outside me clean number entry false = none_outside
 
   phase_outside : (me tick : ℕ) (entry : What) (past : List Line) (booting live : Bool)
-      → AllOutside (if booting then boot_outs s me entry else (if live then live_outs s me log entry (mail_feeds tick past entry) (deadly_of (message_of entry)) else []))
-  phase_outside me tick entry past true live = boot_outside me entry (is_boot_step entry)
+      → AllOutside (if booting then boot_outs s me (begins_clean log) (slot_number log) entry else (if live then live_outs s me log entry (mail_feeds tick past entry) (deadly_of (message_of entry)) else []))
+  phase_outside me tick entry past true live = boot_outside me (begins_clean log) (slot_number log) entry (is_boot_step entry)
   phase_outside me tick entry past false true = live_outside me entry (mail_feeds tick past entry) (deadly_of (message_of entry))
   phase_outside me tick entry past false false = none_outside
 
@@ -194,22 +225,22 @@ module _ (s : Settings) (log : List Line) where
   outs_outside me past tick entry = phase_outside me tick entry past (is_booting (phase s past)) (is_live (phase s past))
 
 -- the newest entry of a log resets outsiders alone
-abbrev NewestIsOutside : List Line → Type 0
-NewestIsOutside log = All (IsOutsider log) (newest_outs log)
+abbrev NewestIsOutside : Settings → List Line → Type 0
+NewestIsOutside s log = All (IsOutsider s log) (newest_outs log)
 
-with_read_outside : (s : Settings) (me : ℕ) (past : List Line) (tick : ℕ) (entry : What) → NewestIsOutside (with_read s me past tick entry)
-unfolding view out_time slot_read_since
+with_read_outside : (s : Settings) (me : ℕ) (past : List Line) (tick : ℕ) (entry : What) → NewestIsOutside s (with_read s me past tick entry)
+unfolding view votes view_tick out_time slot_read_since begins_clean slot_number
 with_read_outside s me past tick entry = outs_outside s (taken_in past tick entry) me past tick entry
 
-log_from_outside : (s : Settings) (me : ℕ) (past : List Line) (history : List Entry) → NewestIsOutside past → NewestIsOutside (log_from s me past history)
+log_from_outside : (s : Settings) (me : ℕ) (past : List Line) (history : List Entry) → NewestIsOutside s past → NewestIsOutside s (log_from s me past history)
 unfolding log_from with_entry
 log_from_outside s me past [] p = p
 log_from_outside s me past (entry ∷ history) p =
     log_from_outside s me (with_entry s me past entry) history (with_read_outside s me past entry.tick (read_as s me past entry.what))
 
--- what comes out of a history resets only nodes that are outside its view and were not read as clean
+-- what comes out of a history resets only nodes that may be reset
 pub reset_outside : (s : Settings) (me : ℕ) (history : List Entry) (rank : Rank) → Contains (outs_of s me history) (out.Disk (disk.WriteReset rank))
-    → (is_in_view (log_of s me history) rank.0 ≡ false) × (is_clean (log_of s me history) rank.0 ≡ false)
+    → MayBeReset s (log_of s me history) rank.0
 reset_outside s me history rank there =
-    All-contains (IsOutsider (log_of s me history)) (outs_of s me history) (out.Disk (disk.WriteReset rank))
-    (log_from_outside s me [] history (All-nil (IsOutsider []))) there
+    All-contains (IsOutsider s (log_of s me history)) (outs_of s me history) (out.Disk (disk.WriteReset rank))
+    (log_from_outside s me [] history (All-nil (IsOutsider s []))) there

@@ -8,7 +8,7 @@ use Rattle.qn_model.specs.declared.votes.Answer.{Answer}
 use Rattle.qn_model.specs.Votes.{answer_at, present_view, view_tick, is_released, expected_votes, device_yes}
 
 -- a view of these members
-abbrev sees : ℕ → ℕ → VoteEntry
+abbrev pub sees : ℕ → ℕ → VoteEntry
 sees members tick = record { tick = tick; what = what.View (record { id = 0; members = record { 0 = members } }) }
 
 abbrev device_agrees : ℕ → VoteEntry
@@ -18,7 +18,7 @@ abbrev waits : ℕ → VoteEntry
 waits tick = record { tick = tick; what = what.Tick }
 
 -- quorate, votes, quorum, expected, released
-abbrev counts : Bool → ℕ → ℕ → ℕ → Bool → Answer
+abbrev pub counts : Bool → ℕ → ℕ → ℕ → Bool → Answer
 counts quorate votes quorum expected released =
     record { quorate = quorate; votes = votes; quorum = quorum; expected = expected; released = released }
 
@@ -26,13 +26,14 @@ counts quorate votes quorum expected released =
 abbrev last_man : Settings
 last_man =
     record {
-      nodes = replicate 8 (record { id = record { 0 = 1 }; votes = 1 });
+      nodes = replicate 8 (record { id = record { 0 = 1 }; votes = 1; fence_delay = 0 });
       two_node = false;
       wait_for_all = false;
       last_man_standing = true;
       window = 10000;
       device = None;
       expected = 8;
+      tie = None;
     }
 
 abbrev all_eight : List VoteEntry
@@ -79,13 +80,14 @@ last_man_alone = refl
 abbrev with_device : Settings
 with_device =
     record {
-      nodes = replicate 3 (record { id = record { 0 = 1 }; votes = 1 });
+      nodes = replicate 3 (record { id = record { 0 = 1 }; votes = 1; fence_delay = 0 });
       two_node = false;
       wait_for_all = false;
       last_man_standing = false;
       window = 10000;
       device = Some (record { votes = 1; timeout = 10000 });
       expected = 4;
+      tie = None;
     }
 
 abbrev two_and_device : List VoteEntry
@@ -103,13 +105,14 @@ device_expires = refl
 abbrev two_nodes : Settings
 two_nodes =
     record {
-      nodes = replicate 2 (record { id = record { 0 = 1 }; votes = 1 });
+      nodes = replicate 2 (record { id = record { 0 = 1 }; votes = 1; fence_delay = 0 });
       two_node = true;
       wait_for_all = true;
       last_man_standing = false;
       window = 10000;
       device = None;
       expected = 2;
+      tie = None;
     }
 
 two_nodes_alone : answer_at two_nodes (sees 1 0 ∷ []) 0 ≡ counts false 1 1 2 false

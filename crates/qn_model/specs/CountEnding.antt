@@ -1,5 +1,5 @@
 -- How the status of `count` and the way in which its input ended belong together.
-use Rattle.std.specs.Prelude.{◌≡◌, ◌⊎◌, ℕ, ◌+◌, Bool, true, false, cond, List, [], ◌∷◌, length, Result, Ok, Err, nat_lt}
+use Rattle.std.specs.Prelude.{◌≡◌, ◌⊎◌, ℕ, ◌+◌, true, false, cond, List, [], ◌∷◌, length, Result, Ok, Err, nat_lt}
 use Rattle.std.proofs.Common.{refl, inl, inr}
 use Rattle.qn_base.specs.declared.limits.TheConstants.{MOST_LINE_BYTES}
 use Rattle.qn_model.specs.declared.line_fault.LineFault.{LineFault}

@@ -1,6 +1,6 @@
 -- The text that `count` writes for its whole input: this project's profile, over the votes and the plain
 -- majority of votequorum(5).
-use Rattle.std.specs.Prelude.{ℕ, ◌+◌, ◌-◌, ◌/◌, ◌^◌, Bool, true, false, ◌==◌, nat_le, nat_lt, if◌then◌else◌, List, [], ◌∷◌, ◌++◌, length, map, sum_by, Result, Ok, Err, codes, decimal}
+use Rattle.std.specs.Prelude.{ℕ, ◌+◌, ◌-◌, ◌/◌, ◌^◌, ◌==◌, nat_le, nat_lt, if◌then◌else◌, List, [], ◌∷◌, ◌++◌, length, sum_by, Result, Ok, Err, codes, decimal}
 use Rattle.std.specs.List.{list_any}
 use Rattle.std.specs.Str.{bytes_eq}
 use Rattle.qn_base.specs.declared.ids.Mask.{Mask}
@@ -32,7 +32,7 @@ node_line nodes words = do
   votes ← number_between 0 65535 pair.1
   if list_any (λ node. node.id.0 == id) nodes
       then Err RepeatedNode
-      else (if length nodes == 32 then Err TooMany else Ok (Node (record { id = record { 0 = id }; votes = votes })))
+      else (if length nodes == 32 then Err TooMany else Ok (Node (record { id = record { 0 = id }; votes = votes; fence_delay = 0 })))
 
 -- `view VID MEMBERS`, with members among the nodes so far
 unfoldable pub view_line : List NodeEntry → List (List ℕ) → Result CountLine LineFault
@@ -85,7 +85,7 @@ with_line so_far (View view) = record { nodes = so_far.nodes; lines = so_far.lin
 abbrev pub good_end : Counted → Outcome
 good_end so_far = record { text = codes "end " ++ decimal so_far.views ++ codes "\n"; status = 0 }
 
--- the end of the input behind the last end of a line
+-- the end of the input after the last end of a line
 unfoldable pub end_of_input : Counted → Ending → List ℕ → Outcome
 end_of_input so_far ReadFailed rest = read_fault
 end_of_input so_far Ended [] = good_end so_far

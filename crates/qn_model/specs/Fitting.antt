@@ -29,6 +29,10 @@ abbrev pub is_slot_read : Rank → What → Bool
 is_slot_read rank (what.SlotRead other seen) = rank.0 == other.0
 is_slot_read rank entry = false
 
+abbrev pub is_mail_checked : What → Bool
+is_mail_checked (what.MailChecked seen) = true
+is_mail_checked entry = false
+
 abbrev pub is_claimed : What → Bool
 is_claimed (what.Claimed ok) = true
 is_claimed entry = false
@@ -54,6 +58,7 @@ abbrev pub answers_op : Option DiskOp → What → Bool
 answers_op None entry = false
 answers_op (Some disk.ReadHeader) entry = is_header_read entry
 answers_op (Some (disk.ReadSlot rank)) entry = is_slot_read rank entry
+answers_op (Some disk.CheckMail) entry = is_mail_checked entry
 answers_op (Some (disk.WriteClaim number)) entry = is_claimed entry
 answers_op (Some disk.WriteClear) entry = is_cleared entry
 answers_op (Some disk.ReadMail) entry = is_mail_read entry
@@ -67,6 +72,7 @@ is_first (line ∷ past) = false
 -- whether an entry fits after these entries
 abbrev pub fits : Settings → ℕ → List Line → What → Bool
 fits s me past what.Begin = is_first past
+fits s me past what.BeginClean = is_first past
 fits s me past (what.View view) = is_live (phase s past) && is_own_view s me view
 fits s me past (what.Ask ask) = is_live (phase s past) && is_for s me ask.from ask.to
 fits s me past (what.Tell tell) = is_live (phase s past) && is_for s me tell.from tell.to
@@ -76,6 +82,7 @@ fits s me past what.Leave = is_up (phase s past)
 fits s me past what.Tick = true
 fits s me past (what.Header seen) = answers_op (op_out past) (what.Header seen)
 fits s me past (what.SlotRead rank seen) = answers_op (op_out past) (what.SlotRead rank seen)
+fits s me past (what.MailChecked seen) = answers_op (op_out past) (what.MailChecked seen)
 fits s me past (what.Claimed ok) = answers_op (op_out past) (what.Claimed ok)
 fits s me past (what.Cleared ok) = answers_op (op_out past) (what.Cleared ok)
 fits s me past (what.MailRead seen) = answers_op (op_out past) (what.MailRead seen)

@@ -19,6 +19,7 @@ pub mod Rules
 pub mod Sectors
 pub mod Settings
 pub mod Steps
+pub mod Tie
 pub mod Timing
 pub mod Unmet
 pub mod Votes

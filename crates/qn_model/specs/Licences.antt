@@ -15,8 +15,8 @@ starts_out_time rank (what.View view) = is_member view.members rank
 starts_out_time rank (what.Cleared ok) = true
 starts_out_time rank entry = false
 
--- the out-time of a rank is the entries behind this place: behind the last View with that rank, or else
--- behind the end of the boot
+-- the out-time of a rank is the entries after this place: after the last View with that rank, or else
+-- after the end of the boot
 unfoldable pub out_time : ℕ → List Line → ℕ
 out_time rank [] = 0
 out_time rank (line ∷ past) = if starts_out_time rank line.what then suc (length past) else out_time rank past
@@ -43,13 +43,13 @@ abbrev pub writes_reset : ℕ → What → Bool
 writes_reset rank (what.MailWritten other ok) = other.0 == rank && ok
 writes_reset rank entry = false
 
--- a read of that rank's slot passed a test, and was asked for behind a place
+-- a read of that rank's slot passed a test, and was asked for after a place
 unfoldable pub slot_read_since : ℕ → (SlotSeen → Bool) → ℕ → List Line → Bool
 slot_read_since place test rank [] = false
 slot_read_since place test rank (line ∷ past) =
     (nat_lt place line.asked && reads_slot test rank line.what) || slot_read_since place test rank past
 
--- the tick of the last reset that was written to that rank's mailbox, and asked for behind a place
+-- the tick of the last reset that was written to that rank's mailbox, and asked for after a place
 unfoldable pub reset_since : ℕ → ℕ → List Line → Option ℕ
 reset_since place rank [] = None
 reset_since place rank (line ∷ past) =
@@ -78,6 +78,6 @@ is_fenced log rank tick = option_map_or (λ written. nat_le (written + (timing l
 abbrev pub is_licensed : List Line → ℕ → ℕ → Bool
 is_licensed log rank tick = is_clean log rank || is_fenced log rank tick
 
--- the ticks that still lack to msgwait where a reset was written, else 0
+-- the ticks of msgwait that remain where a reset was written, else 0
 abbrev pub left_to_wait : List Line → ℕ → ℕ → ℕ
 left_to_wait log rank tick = option_map_or (λ written. written + (timing log).msgwait - tick) (reset_tick log rank) 0

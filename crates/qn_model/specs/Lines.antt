@@ -1,6 +1,6 @@
 -- Texts by lines, words and members, the numbers in them, and how a command ends: this project's profile,
 -- shared by every command that reads lines.
-use Rattle.std.specs.Prelude.{ℕ, ◌+◌, ◌^◌, Bool, true, false, ◌&&◌, ◌||◌, ◌==◌, nat_lt, if◌then◌else◌, List, [], ◌∷◌, ◌++◌, ◌-◌, map, filter, fold, position, slice_index, Result, Ok, Err, codes, decimal, bit_or}
+use Rattle.std.specs.Prelude.{ℕ, ◌^◌, Bool, true, false, ◌&&◌, ◌||◌, ◌==◌, nat_lt, if◌then◌else◌, List, [], ◌∷◌, ◌++◌, ◌-◌, map, filter, fold, position, slice_index, Result, Ok, Err, codes, decimal, bit_or}
 use Rattle.std.specs.Option.{ok_or}
 use Rattle.std.specs.List.{slice_split, list_all}
 use Rattle.qn_base.specs.Decimal.{number_of}
@@ -30,7 +30,7 @@ parts byte text = slice_split (λ b. b == byte) text
 abbrev pub lines_of : List ℕ → List (List ℕ)
 lines_of text = parts 10 text
 
--- the words of a line, parted by exactly one space
+-- the words of a line, separated by exactly one space
 abbrev pub words_of : List ℕ → List (List ℕ)
 words_of line = parts 32 line
 

@@ -1,10 +1,11 @@
 -- The log of a node: its history as it was read, newest entry first, with what came out of each entry.
 -- This project's profile.
-use Rattle.std.specs.Prelude.{ℕ, suc, Bool, true, false, List, [], ◌∷◌, length, Option, None, Some, is_some, unwrap_or, if◌then◌else◌}
+use Rattle.std.specs.Prelude.{ℕ, suc, Bool, true, false, List, [], ◌∷◌, ◌||◌, length, Option, None, Some, is_some, unwrap_or, if◌then◌else◌}
 use Rattle.std.specs.Option.{option_or}
 use Rattle.qn_base.specs.declared.ids.View.{View}
 use Rattle.qn_model.specs.declared.times.Timing.{Timing}
 use Rattle.qn_model.specs.declared.seen.HeaderSeen.TheVariants as header
+use Rattle.qn_model.specs.declared.seen.SlotSeen.TheVariants as slot
 use Rattle.qn_model.specs.declared.entries.What.{What}
 use Rattle.qn_model.specs.declared.entries.What.TheVariants as what
 use Rattle.qn_model.specs.declared.outputs.DiskOp.{DiskOp}
@@ -55,12 +56,14 @@ has_start (other ∷ outs) = has_start outs
 abbrev pub is_answer : What → Bool
 is_answer (what.Header seen) = true
 is_answer (what.SlotRead rank seen) = true
+is_answer (what.MailChecked seen) = true
 is_answer (what.Claimed ok) = true
 is_answer (what.Cleared ok) = true
 is_answer (what.MailRead seen) = true
 is_answer (what.MailWritten rank ok) = true
 is_answer (what.Closed ok) = true
 is_answer what.Begin = false
+is_answer what.BeginClean = false
 is_answer (what.View view) = false
 is_answer (what.Ask ask) = false
 is_answer (what.Tell tell) = false
@@ -112,3 +115,22 @@ no_times = record { watchdog = 0; msgwait = 0; loop_ms = 0; read_limit = 0; feed
 unfoldable pub timing : List Line → Timing
 timing [] = no_times
 timing (line ∷ past) = unwrap_or (times_of line.what) (timing past)
+
+abbrev pub is_clean_begin : What → Bool
+is_clean_begin what.BeginClean = true
+is_clean_begin entry = false
+
+-- sbd(8), `-S`: whether the boot began as a clean start
+unfoldable pub begins_clean : List Line → Bool
+begins_clean [] = false
+begins_clean (line ∷ past) = is_clean_begin line.what || begins_clean past
+
+-- the incarnation that a read of a slot gives
+abbrev pub number_read : What → Option ℕ
+number_read (what.SlotRead rank (slot.Read read)) = Some read.incarnation
+number_read entry = None
+
+-- the incarnation that the last read of a slot gave, 0 where none gave one
+unfoldable pub slot_number : List Line → ℕ
+slot_number [] = 0
+slot_number (line ∷ past) = unwrap_or (number_read line.what) (slot_number past)

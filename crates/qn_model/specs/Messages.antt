@@ -11,3 +11,12 @@ message_name Reset = codes "reset"
 message_name Off = codes "off"
 message_name Exit = codes "exit"
 message_name Crashdump = codes "crashdump"
+
+-- the word by which an operator sends a message
+abbrev pub operator_word : Message → List ℕ
+operator_word Empty = codes "clear"
+operator_word Test = message_name Test
+operator_word Reset = message_name Reset
+operator_word Off = message_name Off
+operator_word Exit = message_name Exit
+operator_word Crashdump = message_name Crashdump

@@ -19,8 +19,8 @@ use Rattle.qn_model.specs.NodeOutputs.{with_entry, newest_outs}
 pub data Moment : Type 0 where
   -- so many milliseconds pass, and these clocks advance so far
   Passes : ℕ → List (Rank × ℕ) → Moment
-  -- a rank boots, and its clock stands at this base
-  Boots : ℕ → ℕ → Moment
+  -- a rank boots, its clock stands at this base, and it is a clean start or not
+  Boots : ℕ → ℕ → Bool → Moment
   -- an entry is added to the history of a rank
   Adds : ℕ → What → Moment
   -- a feed of a rank takes effect
@@ -75,16 +75,21 @@ logged s time log node =
 unfoldable pub handed : Settings → ℕ → ℕ → What → Running → Running
 handed s rank time entry node = logged s time (with_entry s rank node.log (record { tick = tick_of node.clock; what = entry })) node
 
--- a node that boots: a new log, which begins with Begin
-unfoldable pub booted : Settings → ℕ → ℕ → ℕ → Running → Running
-booted s rank time base node =
-    handed s rank time what.Begin (record { on = true; boots = suc node.boots; log = []; clock = base; fed = time; decided = None })
+-- the entry that begins a boot, by whether it is a clean start
+abbrev pub begin_of : Bool → What
+begin_of false = what.Begin
+begin_of true = what.BeginClean
+
+-- a node that boots: a new log, which begins with the entry that begins the boot
+unfoldable pub booted : Settings → ℕ → ℕ → ℕ → Bool → Running → Running
+booted s rank time base clean node =
+    handed s rank time (begin_of clean) (record { on = true; boots = suc node.boots; log = []; clock = base; fed = time; decided = None })
 
 -- the true time after the moments
 unfoldable pub time : List Moment → ℕ
 time [] = 0
 time (Passes dt clocks ∷ earlier) = time earlier + dt
-time (Boots rank base ∷ earlier) = time earlier
+time (Boots rank base clean ∷ earlier) = time earlier
 time (Adds rank entry ∷ earlier) = time earlier
 time (Feeds rank ∷ earlier) = time earlier
 time (Ends rank ∷ earlier) = time earlier
@@ -93,8 +98,8 @@ time (Ends rank ∷ earlier) = time earlier
 unfoldable pub node : Settings → ℕ → List Moment → Running
 node s rank [] = never_booted
 node s rank (Passes dt clocks ∷ earlier) = advanced (advance_of dt clocks rank) (node s rank earlier)
-node s rank (Boots other base ∷ earlier) =
-    if other == rank then booted s rank (time earlier) base (node s rank earlier) else node s rank earlier
+node s rank (Boots other base clean ∷ earlier) =
+    if other == rank then booted s rank (time earlier) base clean (node s rank earlier) else node s rank earlier
 node s rank (Adds other entry ∷ earlier) =
     if other == rank then handed s rank (time earlier) entry (node s rank earlier) else node s rank earlier
 node s rank (Feeds other ∷ earlier) =
@@ -104,7 +109,7 @@ node s rank (Ends other ∷ earlier) =
 
 -- what came out of the newest moment
 unfoldable pub given_out : Settings → List Moment → List Out
-given_out s (Boots rank base ∷ earlier) = newest_outs (node s rank (Boots rank base ∷ earlier)).log
+given_out s (Boots rank base clean ∷ earlier) = newest_outs (node s rank (Boots rank base clean ∷ earlier)).log
 given_out s (Adds rank entry ∷ earlier) = newest_outs (node s rank (Adds rank entry ∷ earlier)).log
 given_out s moments = []
 
@@ -123,7 +128,7 @@ packets s (moment ∷ earlier) = packets s earlier ++ packets_of (given_out s (m
 abbrev pub is_holder : Settings → List Moment → ℕ → Bool
 is_holder s moments rank = (node s rank moments).on && holds (node s rank moments).log
 
--- an earlier state of a list that only grows at its front
+-- an earlier state of a list that only grows at its head
 pub data Before {A : Type 0} (old : List A) : List A → Type 0 where
   Itself : Before old old
   Later : (newest : A) {new : List A} → Before old new → Before old (newest ∷ new)

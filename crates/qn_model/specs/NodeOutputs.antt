@@ -21,14 +21,14 @@ use Rattle.qn_model.specs.declared.outputs.Out.TheVariants as out
 use Rattle.qn_model.specs.declared.life.Why.{Why}
 use Rattle.qn_model.specs.declared.votes.Answer.{Answer}
 use Rattle.qn_model.specs.Sectors.{is_deadly}
-use Rattle.qn_model.specs.Log.{Line, is_answer, is_view, ask_place, incarnation, timing, now}
+use Rattle.qn_model.specs.Log.{Line, is_answer, is_view, ask_place, begins_clean, incarnation, slot_number, timing, now}
 use Rattle.qn_model.specs.Phases.{phase, boot_halt, message_of, deadly_of, in_time, is_live, is_up, is_leaving, is_booting}
 use Rattle.qn_model.specs.Holding.{holds, may_stop}
-use Rattle.qn_model.specs.NodeVotes.{view, install, released, quorate, answer, is_in_view, is_present}
+use Rattle.qn_model.specs.NodeVotes.{view, install, released, quorate_with_tie, answer_with_tie, is_in_view, is_present}
 use Rattle.qn_model.specs.Hearing.{is_free}
 use Rattle.qn_model.specs.Fitting.{read_as}
 use Rattle.qn_model.specs.Unmet.{unmet, is_clear}
-use Rattle.qn_model.specs.Wanted.{rank_of, boot_op, wanted}
+use Rattle.qn_model.specs.Wanted.{rank_of, boot_op, wanted_with_delay}
 
 -- the output where the test holds
 abbrev pub when : Bool → Out → List Out
@@ -47,8 +47,10 @@ resets rank = out.Disk (disk.WriteReset rank)
 -- whether an entry is a step of the boot
 abbrev pub is_boot_step : What → Bool
 is_boot_step what.Begin = true
+is_boot_step what.BeginClean = true
 is_boot_step (what.Header seen) = true
 is_boot_step (what.SlotRead rank seen) = true
+is_boot_step (what.MailChecked seen) = true
 is_boot_step (what.Claimed ok) = true
 is_boot_step (what.Cleared ok) = true
 is_boot_step (what.MailRead seen) = false
@@ -64,8 +66,10 @@ is_boot_step (what.Closed ok) = false
 
 abbrev pub is_begin : What → Bool
 is_begin what.Begin = true
+is_begin what.BeginClean = true
 is_begin (what.Header seen) = false
 is_begin (what.SlotRead rank seen) = false
+is_begin (what.MailChecked seen) = false
 is_begin (what.Claimed ok) = false
 is_begin (what.Cleared ok) = false
 is_begin (what.MailRead seen) = false
@@ -90,19 +94,21 @@ mail_feeds tick past entry = feeds_on (message_of entry) && in_time tick past
 
 -- what comes out of an entry while the node boots: of a step that goes on a feed, but at the begin, and
 -- the next operation; of one that halts the halt alone
-abbrev pub boot_step_outs : ℕ → What → Option BootCause → List Out
-boot_step_outs me entry None = when (not (is_begin entry)) out.Feed ++ disk_outs (boot_op me entry)
-boot_step_outs me entry (Some cause) = out.Halt (halt.Boot cause) ∷ []
+abbrev pub boot_step_outs : ℕ → Bool → ℕ → What → Option BootCause → List Out
+boot_step_outs me clean number entry None = when (not (is_begin entry)) out.Feed ++ disk_outs (boot_op me clean number entry)
+boot_step_outs me clean number entry (Some cause) = out.Halt (halt.Boot cause) ∷ []
 
-abbrev pub boot_outs : Settings → ℕ → What → List Out
-boot_outs s me entry = if is_boot_step entry then boot_step_outs me entry (boot_halt s entry) else []
+-- the same of any entry, by whether the boot is a clean start and by the incarnation that the last read of a slot gave
+abbrev pub boot_outs : Settings → ℕ → Bool → ℕ → What → List Out
+boot_outs s me clean number entry =
+    if is_boot_step entry then boot_step_outs me clean number entry (boot_halt s entry) else []
 
 -- a Stop: the node holds, it is leaving or not quorate, and no Stop is under way
 abbrev pub gives_stop : Settings → List Line → Bool
 gives_stop s log =
-    holds log && (is_leaving (phase s log) || not (quorate s log (now log))) && may_stop (timing log).loop_ms (now log) log
+    holds log && (is_leaving (phase s log) || not (quorate_with_tie s log (now log))) && may_stop (timing log).loop_ms (now log) log
 
--- a Start: no condition lacks
+-- a Start: no condition blocks it
 abbrev pub gives_start : Settings → ℕ → List Line → Bool
 gives_start s me log = is_clear (unmet s me log (now log))
 
@@ -171,7 +177,7 @@ asks s me log = if is_asking s log then option_map_or (asks_under s me log) (vie
 unfoldable pub acts : Settings → ℕ → List Line → What → Bool → List Out
 acts s me log entry fed =
     when (gives_stop s log) out.Stop ++ when (gives_start s me log) out.Start ++ when fed out.Feed
-    ++ replies s me (gives_start s me log || holds log) log entry ++ asks s me log ++ disk_outs (wanted s me log)
+    ++ replies s me (gives_start s me log || holds log) log entry ++ asks s me log ++ disk_outs (wanted_with_delay s me log)
 
 -- what comes out of an entry while the node takes part: a deadly message halts alone, the end of the close
 -- disarms alone
@@ -183,7 +189,7 @@ live_outs s me log entry fed None = acts s me log entry fed
 -- what comes out of an entry that was read at a tick; the log has the entry, without its outputs
 unfoldable pub outs_at : Settings → ℕ → List Line → ℕ → What → List Line → List Out
 outs_at s me past tick entry log =
-    if is_booting (phase s past) then boot_outs s me entry
+    if is_booting (phase s past) then boot_outs s me (begins_clean log) (slot_number log) entry
     else (if is_live (phase s past) then live_outs s me log entry (mail_feeds tick past entry) (deadly_of (message_of entry)) else [])
 
 -- the log with an entry as it was read, before its outputs
@@ -204,7 +210,7 @@ with_read s me past tick entry =
 unfoldable pub with_entry : Settings → ℕ → List Line → Entry → List Line
 with_entry s me past entry = with_read s me past entry.tick (read_as s me past entry.what)
 
--- the log of a history behind a log
+-- the log of a history after a log
 unfoldable pub log_from : Settings → ℕ → List Line → List Entry → List Line
 log_from s me past [] = past
 log_from s me past (entry ∷ history) = log_from s me (with_entry s me past entry) history
@@ -222,10 +228,10 @@ newest_outs (line ∷ past) = line.outs
 abbrev pub outs_of : Settings → ℕ → List Entry → List Out
 outs_of s me history = newest_outs (log_of s me history)
 
--- the first condition that lacks after a history, at a tick
+-- the first condition that blocks a start after a history, at a tick
 abbrev pub why_of : Settings → ℕ → List Entry → ℕ → Why
 why_of s me history tick = unmet s me (log_of s me history) tick
 
 -- the count after a history, at a tick
 abbrev pub answer_of : Settings → ℕ → List Entry → ℕ → Answer
-answer_of s me history tick = answer s (log_of s me history) tick
+answer_of s me history tick = answer_with_tie s (log_of s me history) tick

@@ -12,6 +12,7 @@ use Rattle.qn_model.specs.declared.votes.VoteWhat.{VoteWhat}
 use Rattle.qn_model.specs.declared.votes.VoteWhat.TheVariants as vote
 use Rattle.qn_model.specs.declared.configuration.Settings.{Settings}
 use Rattle.qn_model.specs.Votes.{answer_at, is_quorate, is_released}
+use Rattle.qn_model.specs.Tie.{answer_with_tie_at, is_quorate_with_tie}
 use Rattle.qn_model.specs.Log.{Line, view_of, is_view, claimed}
 
 -- the present view: that of the last View entry
@@ -55,13 +56,21 @@ votes (line ∷ past) = record { tick = line.tick; what = vote_of past line.what
 abbrev pub released : Settings → List Line → Bool
 released s log = is_released s (votes log)
 
--- votequorum(5), "OVERVIEW"
+-- votequorum(5), "OVERVIEW": by the votes alone
 abbrev pub quorate : Settings → List Line → ℕ → Bool
 quorate s log tick = is_quorate s (votes log) tick
 
--- the count of a node at a tick
+-- the count of a node at a tick, by the votes alone
 abbrev pub answer : Settings → List Line → ℕ → Answer
 answer s log tick = answer_at s (votes log) tick
+
+-- votequorum(5), `auto_tie_breaker`: by the votes or by the breaker
+abbrev pub quorate_with_tie : Settings → List Line → ℕ → Bool
+quorate_with_tie s log tick = is_quorate_with_tie s (votes log) tick
+
+-- the count of a node at a tick, with the breaker: what a node prints
+abbrev pub answer_with_tie : Settings → List Line → ℕ → Answer
+answer_with_tie s log tick = answer_with_tie_at s (votes log) tick
 
 -- whether a rank is a member of the present view
 abbrev pub is_in_view : List Line → ℕ → Bool

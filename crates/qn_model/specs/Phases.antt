@@ -6,6 +6,7 @@ use Rattle.qn_model.specs.declared.seen.HeaderSeen.{HeaderSeen}
 use Rattle.qn_model.specs.declared.seen.HeaderSeen.TheVariants as header
 use Rattle.qn_model.specs.declared.seen.SlotSeen.{SlotSeen}
 use Rattle.qn_model.specs.declared.seen.SlotSeen.TheVariants as slot
+use Rattle.qn_model.specs.declared.seen.MailSeen.{MailSeen}
 use Rattle.qn_model.specs.declared.seen.MailSeen.TheVariants as mail
 use Rattle.qn_model.specs.declared.configuration.Settings.{Settings}
 use Rattle.qn_model.specs.declared.entries.What.{What}
@@ -32,13 +33,30 @@ slot_halt slot.Failed = Some cause.ReadFailed
 slot_halt slot.Damaged = Some cause.NotImage
 slot_halt (slot.Read own) = if nat_lt own.incarnation (2 ^ 64 - 1) then None else Some cause.IncarnationSpent
 
+-- sbd(8), `-S`: a clean start goes on where the mailbox is empty or holds the request to exit
+abbrev pub starts_clean_on : Message → Bool
+starts_clean_on message.Empty = true
+starts_clean_on message.Test = false
+starts_clean_on message.Reset = false
+starts_clean_on message.Off = false
+starts_clean_on message.Exit = true
+starts_clean_on message.Crashdump = false
+
+-- why a check of the own mailbox halts the boot
+abbrev pub check_halt : MailSeen → Option BootCause
+check_halt mail.Failed = Some cause.ReadFailed
+check_halt mail.Damaged = Some cause.NotImage
+check_halt (mail.Read message) = if starts_clean_on message then None else Some cause.NotClean
+
 -- why a step of the boot halts it
 abbrev pub boot_halt : Settings → What → Option BootCause
 boot_halt s (what.Header seen) = header_halt s seen
 boot_halt s (what.SlotRead rank seen) = slot_halt seen
+boot_halt s (what.MailChecked seen) = check_halt seen
 boot_halt s (what.Claimed ok) = if ok then None else Some cause.ClaimFailed
 boot_halt s (what.Cleared ok) = if ok then None else Some cause.ClearFailed
 boot_halt s what.Begin = None
+boot_halt s what.BeginClean = None
 boot_halt s (what.MailRead seen) = None
 boot_halt s (what.MailWritten rank ok) = None
 boot_halt s (what.View view) = None
@@ -104,8 +122,10 @@ is_booting phase = false
 -- boot and later too
 abbrev pub next_phase : Settings → What → Bool → Phase → Phase
 next_phase s what.Begin timely before = Booting
+next_phase s what.BeginClean timely before = Booting
 next_phase s (what.Header seen) timely before = boot_phase (header_halt s seen) before
 next_phase s (what.SlotRead rank seen) timely before = if is_booting before then boot_phase (slot_halt seen) before else before
+next_phase s (what.MailChecked seen) timely before = boot_phase (check_halt seen) before
 next_phase s (what.Claimed ok) timely before = if ok then before else Gone
 next_phase s (what.Cleared ok) timely before = if ok then Up else Gone
 next_phase s (what.MailRead seen) timely before = mail_phase (message_of (what.MailRead seen)) timely before

@@ -1,15 +1,17 @@
 -- Which events of the world are well formed, and which a rule of the world refuses: this project's profile.
-use Rattle.std.specs.Prelude.{ℕ, Bool, true, false, List, Option, None, Some, ◌+◌, ◌-◌, ◌*◌, ◌^◌, ◌==◌, ◌&&◌, not, is_some, length, map, nat_le, nat_lt, if◌then◌else◌, slice_get}
+use Rattle.std.specs.Prelude.{ℕ, Bool, true, false, List, Option, None, Some, ◌+◌, ◌-◌, ◌*◌, ◌^◌, ◌==◌, ◌&&◌, ◌||◌, not, is_some, length, map, nat_le, nat_lt, if◌then◌else◌, slice_get}
 use Rattle.std.specs.Option.{option_or, option_map_or}
 use Rattle.std.specs.List.{list_all, range_with_len}
 use Rattle.qn_base.specs.declared.ids.Rank.{Rank}
 use Rattle.qn_base.specs.Members.{is_member}
 use Rattle.qn_base.specs.declared.limits.TheConstants.{MOST_EVENTS}
 use Rattle.qn_model.specs.declared.configuration.Settings.{Settings}
+use Rattle.qn_model.specs.declared.disk.Message.{Message}
 use Rattle.qn_model.specs.declared.times.Timing.{Timing}
 use Rattle.qn_model.specs.declared.events.Event.{Event}
 use Rattle.qn_model.specs.declared.events.Event.TheVariants as event
 use Rattle.qn_model.specs.Lines.{is_ascending}
+use Rattle.qn_model.specs.Sectors.{is_deadly}
 use Rattle.qn_model.specs.Holding.{stop_due}
 use Rattle.qn_model.specs.Moments.{Running, advance_of, packets, time}
 use Rattle.qn_model.specs.World.{World, node_at, op_at, numbered}
@@ -31,6 +33,7 @@ unfoldable pub is_well_formed : Settings → Event → Bool
 is_well_formed s (event.Pass dt clocks) =
     is_between 1 1000000000 dt && list_all (is_clock s) clocks && is_ascending (map (λ clock. clock.0.0) clocks)
 is_well_formed s (event.Boot rank base) = is_configured s rank.0 && nat_le base 1000000000000000
+is_well_formed s (event.BootClean rank base) = is_configured s rank.0 && nat_le base 1000000000000000
 is_well_formed s (event.Crash rank) = is_configured s rank.0
 is_well_formed s (event.Land rank) = is_configured s rank.0
 is_well_formed s (event.Done rank) = is_configured s rank.0
@@ -45,6 +48,7 @@ is_well_formed s (event.Stopped rank) = is_configured s rank.0
 is_well_formed s (event.Unstopped rank) = is_configured s rank.0
 is_well_formed s (event.Leave rank) = is_configured s rank.0
 is_well_formed s (event.Feed rank) = is_configured s rank.0
+is_well_formed s (event.Operator rank message) = is_configured s rank.0
 
 -- whether the node of a rank is running
 abbrev pub is_on : Settings → ℕ → World → Bool
@@ -95,6 +99,10 @@ may_deliver s rank number w = option_map_or (λ sent. sent.to.0 == rank) (slice_
 abbrev pub may_feed : Settings → Timing → ℕ → World → Bool
 may_feed s t rank w = option_map_or (λ decided. nat_le (time w.moments) (decided + t.feed_delay)) (node_at s rank w).decided false
 
+-- rule 10: the message is deadly, or the mailbox holds no deadly one, or the node is off
+abbrev pub may_operate : Settings → ℕ → Message → World → Bool
+may_operate s rank message w = is_deadly message || not (is_deadly (w.mailboxes rank)) || not (is_on s rank w)
+
 -- a rule refuses what fails its test
 abbrev pub unless : Bool → ℕ → Option ℕ
 unless allowed rule = if allowed then None else Some rule
@@ -108,6 +116,7 @@ unless_running s rank w other = option_or (unless (is_on s rank w) 3) other
 unfoldable pub refusal : Settings → Timing → Event → World → Option ℕ
 refusal s t (event.Pass dt clocks) w = unless (may_pass s t dt clocks w) 1
 refusal s t (event.Boot rank base) w = unless (not (is_on s rank.0 w)) 2
+refusal s t (event.BootClean rank base) w = unless (not (is_on s rank.0 w)) 2
 refusal s t (event.Crash rank) w = unless_running s rank.0 w None
 refusal s t (event.Land rank) w = unless_running s rank.0 w (unless (may_land s rank.0 w) 4)
 refusal s t (event.Done rank) w = unless_running s rank.0 w (unless (may_be_done s rank.0 w) 5)
@@ -121,3 +130,4 @@ refusal s t (event.Stopped rank) w = unless_running s rank.0 w (unless (may_be_s
 refusal s t (event.Unstopped rank) w = unless_running s rank.0 w (unless (may_be_stopped s rank.0 w) 5)
 refusal s t (event.Leave rank) w = unless_running s rank.0 w None
 refusal s t (event.Feed rank) w = unless_running s rank.0 w (unless (may_feed s t rank.0 w) 9)
+refusal s t (event.Operator rank message) w = unless (may_operate s rank.0 message w) 10

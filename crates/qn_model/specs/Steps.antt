@@ -6,6 +6,7 @@ use Rattle.qn_base.specs.declared.ids.Rank.{Rank}
 use Rattle.qn_base.specs.declared.ids.Mask.{Mask}
 use Rattle.qn_model.specs.declared.configuration.Settings.{Settings}
 use Rattle.qn_model.specs.declared.times.Timing.{Timing}
+use Rattle.qn_model.specs.declared.disk.Message.{Message}
 use Rattle.qn_model.specs.declared.packets.Packet.{Packet}
 use Rattle.qn_model.specs.declared.packets.Packet.TheVariants as packet
 use Rattle.qn_model.specs.declared.entries.What.{What}
@@ -19,7 +20,7 @@ use Rattle.qn_model.specs.declared.events.Event.{Event}
 use Rattle.qn_model.specs.declared.events.Event.TheVariants as event
 use Rattle.qn_model.specs.declared.reports.Report.{Report}
 use Rattle.qn_model.specs.Lines.{mask_of}
-use Rattle.qn_model.specs.NodeVotes.{answer}
+use Rattle.qn_model.specs.NodeVotes.{answer_with_tie}
 use Rattle.qn_model.specs.Unmet.{unmet}
 use Rattle.qn_model.specs.NodeOutputs.{newest_outs}
 use Rattle.qn_model.specs.Moments.{Moment, Passes, Boots, Adds, Feeds, Ends, Running, tick_of, time, packets, is_holder}
@@ -51,12 +52,16 @@ abbrev pub fails : Settings → ℕ → DiskOp → World → World
 fails s rank op w = happens (Adds rank (failed op)) (gives_up s rank w)
 
 -- a rank boots: its leftovers are dropped
-abbrev pub boots : ℕ → ℕ → World → World
-boots rank base w = record (happens (Boots rank base) w) { left = put w.left rank []; took = put w.took rank None }
+abbrev pub boots : ℕ → ℕ → Bool → World → World
+boots rank base clean w = record (happens (Boots rank base clean) w) { left = put w.left rank []; took = put w.took rank None }
 
 -- the leftover of a rank with that number lands and leaves the list
 abbrev pub lands_late : ℕ → ℕ → DiskOp → World → World
 lands_late rank number op w = record (written rank op w) { left = put w.left rank (without (w.left rank) number) }
+
+-- sbd(8), `message`: an operator replaces what the mailbox of a rank holds
+abbrev pub with_mail : ℕ → Message → World → World
+with_mail rank message w = record w { mailboxes = put w.mailboxes rank message }
 
 -- the entry that a packet is to its receiver
 abbrev pub entry_of : Packet → What
@@ -69,7 +74,8 @@ entry_of (packet.Vote agrees) = what.Device agrees
 -- the world after an event that is allowed
 unfoldable pub step : Settings → Timing → Event → World → World
 step s t (event.Pass dt clocks) w = happens (Passes dt clocks) w
-step s t (event.Boot rank base) w = boots rank.0 base w
+step s t (event.Boot rank base) w = boots rank.0 base false w
+step s t (event.BootClean rank base) w = boots rank.0 base true w
 step s t (event.Crash rank) w = happens (Ends rank.0) (gives_up s rank.0 w)
 step s t (event.Land rank) w = option_map_or (λ op. landed s t rank.0 op w) (op_at s rank.0 w) w
 step s t (event.Done rank) w = option_map_or (λ entry. answered rank.0 entry w) (w.took rank.0) w
@@ -84,6 +90,7 @@ step s t (event.Stopped rank) w = happens (Adds rank.0 (what.Stopped true)) w
 step s t (event.Unstopped rank) w = happens (Adds rank.0 (what.Stopped false)) w
 step s t (event.Leave rank) w = happens (Adds rank.0 what.Leave) w
 step s t (event.Feed rank) w = happens (Feeds rank.0) w
+step s t (event.Operator rank message) w = with_mail rank.0 message w
 
 -- the world after events, of which the newest stands first
 unfoldable pub run : Settings → Timing → List Event → World
@@ -109,6 +116,7 @@ holders s w = mask_of (filter (is_holder s w.moments) (range_with_len 0 (length 
 abbrev pub touched : Event → Option Rank
 touched (event.Pass dt clocks) = None
 touched (event.Boot rank base) = Some rank
+touched (event.BootClean rank base) = Some rank
 touched (event.Crash rank) = Some rank
 touched (event.Land rank) = Some rank
 touched (event.Done rank) = Some rank
@@ -122,6 +130,7 @@ touched (event.Stopped rank) = Some rank
 touched (event.Unstopped rank) = Some rank
 touched (event.Leave rank) = Some rank
 touched (event.Feed rank) = Some rank
+touched (event.Operator rank message) = Some rank
 
 -- an event hands its node no entry
 abbrev pub hands_nothing : Event → Bool
@@ -130,7 +139,9 @@ hands_nothing (event.Crash rank) = true
 hands_nothing (event.Land rank) = true
 hands_nothing (event.Late rank number) = true
 hands_nothing (event.Feed rank) = true
+hands_nothing (event.Operator rank message) = true
 hands_nothing (event.Boot rank base) = false
+hands_nothing (event.BootClean rank base) = false
 hands_nothing (event.Done rank) = false
 hands_nothing (event.Fail rank) = false
 hands_nothing (event.View rank view) = false
@@ -152,11 +163,11 @@ outs_after s event after =
 
 -- the count of a node that is off: that of the empty history
 abbrev pub answer_off : Settings → Answer
-answer_off s = answer s [] 0
+answer_off s = answer_with_tie s [] 0
 
--- the count of a node at its present tick, and the first condition that it lacks
+-- the count of a node at its present tick, and the first condition that blocks its start
 abbrev pub answer_now : Settings → Running → Answer
-answer_now s node = if node.on then answer s node.log (tick_of node.clock) else answer_off s
+answer_now s node = if node.on then answer_with_tie s node.log (tick_of node.clock) else answer_off s
 
 abbrev pub why_now : Settings → ℕ → Running → Why
 why_now s rank node = if node.on then unmet s rank node.log (tick_of node.clock) else Down

@@ -1,4 +1,4 @@
--- The first condition that a start of the resource still lacks: this project's profile.
+-- The first condition that blocks a start of the resource: this project's profile.
 use Rattle.std.specs.Prelude.{ℕ, suc, zero, Bool, true, false, List, [], ◌∷◌, length, Option, None, Some, ◌&&◌, ◌==◌, ◌+◌, not, is_none, if◌then◌else◌}
 use Rattle.std.specs.Option.{option_map_or}
 use Rattle.qn_base.specs.declared.ids.NodeId.{NodeId}
@@ -9,7 +9,7 @@ use Rattle.qn_model.specs.declared.life.Why.TheVariants as why
 use Rattle.qn_model.specs.Log.{Line}
 use Rattle.qn_model.specs.Phases.{phase, is_up}
 use Rattle.qn_model.specs.Holding.{holds}
-use Rattle.qn_model.specs.NodeVotes.{view, is_in_view, answer, released, quorate}
+use Rattle.qn_model.specs.NodeVotes.{view, is_in_view, answer_with_tie, released, quorate_with_tie}
 use Rattle.qn_model.specs.Hearing.{is_free, is_held}
 use Rattle.qn_model.specs.Licences.{is_licensed, is_written, left_to_wait}
 
@@ -57,7 +57,7 @@ abbrev pub or_else : Option ℕ → (ℕ → Why) → Why → Why
 or_else None said rest = rest
 or_else (Some rank) said rest = said rank
 
--- what lacks of the other nodes, once the node is quorate and chosen
+-- what of the other nodes blocks a start, once the node is quorate and chosen
 abbrev pub lacks_of_others : Settings → ℕ → List Line → ℕ → Why
 lacks_of_others s me log tick =
     or_else (holder s me log) (λ rank. why.HeldBy (id_of s rank))
@@ -69,14 +69,14 @@ lacks_of_others s me log tick =
 abbrev pub other_chosen : Settings → ℕ → List Line → Option ℕ
 other_chosen s me log = if is_chosen s me log then None else chosen s log
 
--- the first condition that lacks at a tick
+-- the first condition that blocks a start at a tick
 unfoldable pub unmet : Settings → ℕ → List Line → ℕ → Why
 unmet s me log tick =
     if not (is_up (phase s log)) then why.Down
     else (if holds log then why.Holding
     else (if is_none (view log) then why.NoView
     else (if not (released s log) then why.WaitForAll
-    else (if not (quorate s log tick) then why.NotQuorate ((answer s log tick).votes) ((answer s log tick).quorum)
+    else (if not (quorate_with_tie s log tick) then why.NotQuorate ((answer_with_tie s log tick).votes) ((answer_with_tie s log tick).quorum)
     else or_else (other_chosen s me log) (λ rank. why.NotChosen (id_of s rank)) (lacks_of_others s me log tick)))))
 
 abbrev pub is_clear : Why → Bool

@@ -54,6 +54,7 @@ slots_with rank (disk.WriteClaim number) slots = put slots rank (record { incarn
 slots_with rank (disk.WriteClose number) slots = put slots rank (record { incarnation = number; clean = true })
 slots_with rank disk.ReadHeader slots = slots
 slots_with rank (disk.ReadSlot other) slots = slots
+slots_with rank disk.CheckMail slots = slots
 slots_with rank disk.WriteClear slots = slots
 slots_with rank disk.ReadMail slots = slots
 slots_with rank (disk.WriteReset other) slots = slots
@@ -64,6 +65,7 @@ mailboxes_with rank disk.WriteClear mailboxes = put mailboxes rank message.Empty
 mailboxes_with rank (disk.WriteReset other) mailboxes = put mailboxes other.0 message.Reset
 mailboxes_with rank disk.ReadHeader mailboxes = mailboxes
 mailboxes_with rank (disk.ReadSlot other) mailboxes = mailboxes
+mailboxes_with rank disk.CheckMail mailboxes = mailboxes
 mailboxes_with rank (disk.WriteClaim number) mailboxes = mailboxes
 mailboxes_with rank disk.ReadMail mailboxes = mailboxes
 mailboxes_with rank (disk.WriteClose number) mailboxes = mailboxes
@@ -72,6 +74,7 @@ mailboxes_with rank (disk.WriteClose number) mailboxes = mailboxes
 unfoldable pub taken : Settings → Timing → ℕ → DiskOp → World → What
 taken s t rank disk.ReadHeader w = what.Header (header.Read (length s.nodes) t)
 taken s t rank (disk.ReadSlot other) w = what.SlotRead other (slot.Read (w.slots other.0))
+taken s t rank disk.CheckMail w = what.MailChecked (mail.Read (w.mailboxes rank))
 taken s t rank (disk.WriteClaim number) w = what.Claimed true
 taken s t rank disk.WriteClear w = what.Cleared true
 taken s t rank disk.ReadMail w = what.MailRead (mail.Read (w.mailboxes rank))
@@ -82,6 +85,7 @@ taken s t rank (disk.WriteClose number) w = what.Closed true
 unfoldable pub failed : DiskOp → What
 failed disk.ReadHeader = what.Header header.Failed
 failed (disk.ReadSlot other) = what.SlotRead other slot.Failed
+failed disk.CheckMail = what.MailChecked mail.Failed
 failed (disk.WriteClaim number) = what.Claimed false
 failed disk.WriteClear = what.Cleared false
 failed disk.ReadMail = what.MailRead mail.Failed
@@ -91,6 +95,7 @@ failed (disk.WriteClose number) = what.Closed false
 abbrev pub is_write : DiskOp → Bool
 is_write disk.ReadHeader = false
 is_write (disk.ReadSlot other) = false
+is_write disk.CheckMail = false
 is_write disk.ReadMail = false
 is_write (disk.WriteClaim number) = true
 is_write disk.WriteClear = true

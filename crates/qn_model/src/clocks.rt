@@ -1,3 +1,4 @@
+//! The clocks that a pass of time names, each with its advance.
 ghost use Rattle.std.specs.Prelude.{◌≡◌, ◌<◌, ◌≤◌, ◌==◌, [], ◌∷◌, ◌++◌, Some, length, slice_get};
 
 use arrayvec::ArrayVec;
@@ -63,7 +64,7 @@ impl Clocks {
         self.clocks[place]
     }
 
-    /// Adds a clock behind the others.
+    /// Adds a clock after the others.
     pub fn push(&mut self, item: (Rank, u64))
         requires { length self.old < 32 }
         ensures { self.new ≡ self.old ++ item ∷ [] }

@@ -1,4 +1,6 @@
+//! The settings of a cluster, and the quorum for a number of expected votes.
 use crate::nodelist::Nodes;
+use crate::order::Order;
 
 /// The quorum device: its votes, and for how many milliseconds a yes of it counts
 /// (corosync.conf(5), `quorum`, `device`).
@@ -9,8 +11,9 @@ pub struct Device {
 }
 
 /// The settings of a cluster, as corosync.conf gives them: the nodes in ascending id, the flags of
-/// votequorum(5), the window of last man standing in milliseconds, the device, and the expected votes
-/// at the start. `specs/Settings` says when they are valid.
+/// votequorum(5), the window of last man standing in milliseconds, the device, the expected votes at the
+/// start, and where `auto_tie_breaker` is on the nodes in order of preference. `specs/Settings` says when
+/// they are valid.
 #[derive(Drop)]
 pub struct Settings {
     pub nodes: Nodes,
@@ -20,6 +23,7 @@ pub struct Settings {
     pub window: u64,
     pub device: Option<Device>,
     pub expected: u64,
+    pub tie: Option<Order>,
 }
 
 impl Settings {
@@ -38,6 +42,7 @@ impl Settings {
             window: self.window,
             device: self.device,
             expected: self.expected,
+            tie: self.tie.as_ref().map(Order::copy),
         }
     }
 

@@ -1,3 +1,4 @@
+//! What a good line of the input of `count` says.
 use crate::nodelist::NodeEntry;
 use qn_base::View;
 

@@ -1,10 +1,11 @@
+//! The laws of the text of `count`.
 ghost use Rattle.std.specs.Prelude.{◌≡◌, ◌++◌, codes};
 ghost use Rattle.qn_model.specs.Lines.{Ended, ReadFailed};
 ghost use Rattle.qn_model.specs.CountEnding.{CountFits};
 ghost use Rattle.qn_model.specs.CountText.{count_of};
 
 /// The text of `count` for four nodes of one vote each, and views of two and of three of them: half of
-/// the votes are no majority. Where the read behind the last line fails, the lines before it stand.
+/// the votes are no majority. Where the read after the last line fails, the lines before it stand.
 pub fn law_half_and_majority()
     ensures ended { count_of Ended
         (codes "node 1 1\nnode 2 1\nnode 3 1\nnode 4 1\nview 1 1,2\nview 2 1,2,3\n")

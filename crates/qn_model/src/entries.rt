@@ -1,3 +1,4 @@
+//! The entries of a node's history: what a node is handed, and at which tick.
 use crate::outputs::DiskOp;
 use crate::packets::{Ask, Tell};
 use crate::seen::{HeaderSeen, MailSeen, SlotSeen};
@@ -14,12 +15,17 @@ pub struct Entry {
 /// What a node is handed (this project's profile).
 #[derive(Clone, Copy, PartialEq, Eq, Debug)]
 pub enum What {
-    /// The boot begins.
+    /// The boot begins, whatever the own mailbox holds (sbd(8), `-S 0`).
     Begin,
+    /// The boot begins as a clean start: it goes on only where the own mailbox is empty or holds Exit
+    /// (sbd(8), `-S 1`).
+    BeginClean,
     /// The answer of a read of the image's header.
     Header(HeaderSeen),
     /// The answer of a read of that node's slot.
     SlotRead(Rank, SlotSeen),
+    /// The answer of the check of the own mailbox in a clean start.
+    MailChecked(MailSeen),
     /// The answer of the write that claims an incarnation: whether it succeeded.
     Claimed(bool),
     /// The answer of the write that empties the own mailbox: whether it succeeded.
@@ -51,6 +57,14 @@ impl What {
     ghost use Rattle.qn_model.specs.Fitting.{answers_op};
     ghost use Rattle.qn_model.specs.Holding.{answers_stop};
     ghost use Rattle.qn_model.specs.Log.{is_answer, is_view};
+    ghost use Rattle.qn_model.specs.Moments.{begin_of};
+
+    /// The entry that begins a boot, by whether it is a clean start.
+    pub fn begin(clean: bool) -> What
+        ensures { result ≡ begin_of clean }
+    {
+        if clean { What::BeginClean } else { What::Begin }
+    }
 
     /// Whether the entry is the answer of a disk operation.
     pub fn is_answer(self) -> bool
@@ -59,12 +73,14 @@ impl What {
         match self {
             What::Header(_)
             | What::SlotRead(..)
+            | What::MailChecked(_)
             | What::Claimed(_)
             | What::Cleared(_)
             | What::MailRead(_)
             | What::MailWritten(..)
             | What::Closed(_) => true,
             What::Begin
+            | What::BeginClean
             | What::View(_)
             | What::Ask(_)
             | What::Tell(_)
@@ -84,6 +100,7 @@ impl What {
             Some(DiskOp::ReadHeader) => matches!(self, What::Header(_)),
             Some(DiskOp::ReadSlot(rank)) =>
                 matches!(self, What::SlotRead(other, _) if rank.0 == other.0),
+            Some(DiskOp::CheckMail) => matches!(self, What::MailChecked(_)),
             Some(DiskOp::WriteClaim(_)) => matches!(self, What::Claimed(_)),
             Some(DiskOp::WriteClear) => matches!(self, What::Cleared(_)),
             Some(DiskOp::ReadMail) => matches!(self, What::MailRead(_)),

@@ -1,4 +1,6 @@
+//! The events of a world.
 use crate::clocks::Clocks;
+use crate::disk::Message;
 use qn_base::{Rank, View};
 
 /// What happens in a world: one event, of one node or of the time that all nodes share (this project's
@@ -11,6 +13,8 @@ pub enum Event {
     /// The node boots, and its clock starts at this base, in hundredths of a millisecond: at most
     /// 1000000000000000.
     Boot(Rank, u64),
+    /// The node boots as a clean start; the base is as at Boot.
+    BootClean(Rank, u64),
     /// The node is off at once.
     Crash(Rank),
     /// The disk operation that is out takes effect.
@@ -37,4 +41,6 @@ pub enum Event {
     Leave(Rank),
     /// The last feed that the node decided takes effect.
     Feed(Rank),
+    /// An operator writes the message to the mailbox of that node, running or off.
+    Operator(Rank, Message),
 }

@@ -1,3 +1,4 @@
+//! The phases of a node, and the conditions that block a start.
 use qn_base::NodeId;
 
 /// Where a node is in its life (this project's profile).
@@ -15,7 +16,7 @@ pub enum Phase {
     Gone,
 }
 
-/// The first condition that a start of the resource still lacks.
+/// The first condition that blocks a start of the resource.
 #[derive(Clone, Copy, PartialEq, Eq, Debug)]
 pub enum Why {
     /// The node is not up.
@@ -43,12 +44,12 @@ pub enum Why {
         id: NodeId,
     },
     /// The least node outside the view that is neither cleanly stopped nor fenced; whether a reset was
-    /// written to it, and then the ticks that still lack to msgwait, else 0.
+    /// written to it, and then the ticks of msgwait that remain, else 0.
     Unfenced {
         id: NodeId,
         written: bool,
         left: u64,
     },
-    /// No condition lacks.
+    /// No condition blocks a start.
     Clear,
 }

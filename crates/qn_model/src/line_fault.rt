@@ -1,3 +1,4 @@
+//! What can be wrong with a line of a schedule or of the input of `count`.
 ghost use Rattle.std.specs.Prelude.{◌≡◌};
 ghost use Rattle.qn_model.specs.Lines.{name_of};
 

@@ -1,12 +1,15 @@
+//! The configured nodes in ascending id, each with its votes.
 use arrayvec::ArrayVec;
 use qn_base::{Mask, NodeId, Rank};
 use std::marker::Model;
 
-/// A configured node with its votes (corosync.conf(5), `nodelist`, `node`, `nodeid` and `quorum_votes`).
+/// A configured node with its votes (corosync.conf(5), `nodelist`, `node`, `nodeid` and `quorum_votes`), and
+/// how many milliseconds after the last view it may be reset (this project's profile).
 #[derive(Clone, Copy, PartialEq, Eq, Default, Debug)]
 pub struct NodeEntry {
     pub id: NodeId,
     pub votes: u32,
+    pub fence_delay: u64,
 }
 
 /// The configured nodes, at most 32. The rank of a node is its place in the list.
@@ -71,7 +74,7 @@ impl Nodes {
         self.entries[place]
     }
 
-    /// Adds a node behind the others.
+    /// Adds a node after the others.
     pub fn push(&mut self, item: NodeEntry)
         requires { length self.old < 32 }
         ensures { self.new ≡ self.old ++ item ∷ [] }

@@ -1,3 +1,4 @@
+//! What a node does at an entry: disk operations, halts, packets, and the resource.
 ghost use Rattle.std.specs.Prelude.{◌≡◌, ◌<◌, ◌≤◌, ◌==◌, [], ◌∷◌, ◌++◌, Some, length, slice_get};
 
 use crate::disk::Message;
@@ -12,6 +13,8 @@ pub enum DiskOp {
     ReadHeader,
     /// Read the slot of that node.
     ReadSlot(Rank),
+    /// Read the own mailbox before the claim, in a clean start.
+    CheckMail,
     /// Write the own slot with this incarnation, dirty.
     WriteClaim(u64),
     /// Write Empty to the own mailbox.
@@ -33,7 +36,8 @@ impl DiskOp {
         ensures { result ≡ is_write self }
     {
         match self {
-            DiskOp::ReadHeader | DiskOp::ReadSlot(_) | DiskOp::ReadMail => false,
+            DiskOp::ReadHeader | DiskOp::ReadSlot(_) | DiskOp::CheckMail | DiskOp::ReadMail =>
+                false,
             DiskOp::WriteClaim(_)
             | DiskOp::WriteClear
             | DiskOp::WriteReset(_)
@@ -51,6 +55,8 @@ pub enum BootCause {
     ClaimFailed = 4,
     ClearFailed = 5,
     IncarnationSpent = 6,
+    /// In a clean start the own mailbox was neither empty nor held Exit.
+    NotClean = 7,
 }
 
 /// Why a node halts: a deadly message was in its mailbox, or a step of its boot failed.
@@ -134,7 +140,7 @@ impl Outs {
         self.outs[place]
     }
 
-    /// Adds an output behind the others.
+    /// Adds an output after the others.
     pub fn push(&mut self, item: Out)
         requires { length self.old < 40 }
         ensures { self.new ≡ self.old ++ item ∷ [] }

@@ -1,3 +1,4 @@
+//! The packets that nodes send to one another.
 use qn_base::{Rank, View};
 
 /// A node asks another one, under its view, whether that one holds the resource. Incarnation and

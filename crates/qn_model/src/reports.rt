@@ -1,3 +1,4 @@
+//! What an event came to, and why it was refused.
 use crate::life::Why;
 use crate::outputs::Outs;
 use crate::rules::Rule;
@@ -18,7 +19,7 @@ pub struct Report {
     /// The count of that node at its present tick; that of a node that is off where it is off, and at a
     /// pass.
     pub answer: Answer,
-    /// The first condition that a start of that node lacks at its present tick; Down where it is off, and at
+    /// The first condition that blocks a start of that node at its present tick; Down where it is off, and at
     /// a pass.
     pub why: Why,
 }

@@ -1,3 +1,5 @@
-/// The number of a rule of the world, from 1 to 9, which refuses an event.
+//! The numbers of the rules of the world.
+
+/// The number of a rule of the world, from 1 to 10, which refuses an event.
 #[derive(Clone, Copy, PartialEq, Eq, Debug)]
 pub struct Rule(pub u8);

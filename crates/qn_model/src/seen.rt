@@ -1,3 +1,4 @@
+//! What a read of a header, a slot or a mailbox gave.
 use crate::disk::{Message, Slot};
 use crate::times::Timing;
 

@@ -1,3 +1,4 @@
+//! The five times of an image, and whether they are safe.
 ghost use Rattle.std.specs.Prelude.{◌≡◌, ◌≤◌, IsTrue};
 ghost use Rattle.qn_model.specs.Timing.{is_period, is_safe, outlasts_feeds};
 

@@ -1,3 +1,4 @@
+//! Vote lists: what bears on the votes of a node, and the answer of a count.
 use qn_base::View;
 
 /// An entry of a vote list: what a node heard that bears on its quorum, and at which tick, in

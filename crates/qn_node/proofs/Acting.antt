@@ -14,10 +14,10 @@ use Rattle.qn_model.specs.declared.outputs.Out.TheVariants as out
 use Rattle.qn_model.specs.Log.{Line, claim_of, claimed, disk_of, incarnation, is_answer, now, op_out, times_of, timing}
 use Rattle.qn_model.specs.Phases.{is_leaving, is_up, phase}
 use Rattle.qn_model.specs.Holding.{holds, may_stop}
-use Rattle.qn_model.specs.NodeVotes.{quorate}
+use Rattle.qn_model.specs.NodeVotes.{quorate_with_tie}
 use Rattle.qn_model.specs.NodeOutputs.{acts, asks, disk_outs, gives_start, gives_stop, replies, taken_in, when}
 use Rattle.qn_model.specs.Unmet.{is_clear, unmet}
-use Rattle.qn_model.specs.Wanted.{close_op, fencing_op, is_mail_due, may_fence, to_read, to_reset, rank_of, wanted}
+use Rattle.qn_model.specs.Wanted.{close_op, fencing_op_with_delay, is_mail_due, may_fence, to_read, to_reset_now, rank_of, wanted_with_delay}
 use Rattle.qn_fence.specs.Fence.{FenceFor, is_boot_end}
 use Rattle.qn_heard.specs.Heard.{HeardFor}
 use Rattle.qn_heard.specs.declared.listener.Heard.{Heard}
@@ -33,8 +33,10 @@ use Rattle.qn_node.proofs.ResourceSteps.{resource_given}
 -- an entry of a node that takes part gives no times and ends no boot
 pub no_times_of : (w : What) → is_boot_entry w ≡ false → times_of w ≡ None
 no_times_of what.Begin plain = absurd (cc)
+no_times_of what.BeginClean plain = absurd (cc)
 no_times_of (what.Header seen) plain = absurd (cc)
 no_times_of (what.SlotRead rank seen) plain = refl
+no_times_of (what.MailChecked seen) plain = absurd (cc)
 no_times_of (what.Claimed ok) plain = absurd (cc)
 no_times_of (what.Cleared ok) plain = absurd (cc)
 no_times_of (what.MailRead seen) plain = refl
@@ -50,8 +52,10 @@ no_times_of (what.Closed ok) plain = refl
 
 pub no_boot_end : (w : What) → is_boot_entry w ≡ false → is_boot_end w ≡ false
 no_boot_end what.Begin plain = refl
+no_boot_end what.BeginClean plain = refl
 no_boot_end (what.Header seen) plain = refl
 no_boot_end (what.SlotRead rank seen) plain = refl
+no_boot_end (what.MailChecked seen) plain = refl
 no_boot_end (what.Claimed ok) plain = refl
 no_boot_end (what.Cleared ok) plain = absurd (cc)
 no_boot_end (what.MailRead seen) plain = refl
@@ -80,18 +84,19 @@ live_fencing (Some rank) reset = refl
 live_fencing None (Some rank) = refl
 live_fencing None None = refl
 
-pub wanted_live : (s : Settings) (me : ℕ) (log : List Line) → is_live_op (wanted s me log) ≡ true
-unfolding wanted
+pub wanted_live : (s : Settings) (me : ℕ) (log : List Line) → is_live_op (wanted_with_delay s me log) ≡ true
+unfolding wanted_with_delay
 wanted_live s me log =
     live_if (is_some (op_out log)) None _ refl
     (live_if (is_mail_due log) (Some disk.ReadMail) _ refl
     (live_if (is_leaving (phase s log) && not (holds log)) (close_op log) _ (live_close (incarnation log))
-    (live_if (may_fence s me log) (fencing_op s log) None (live_fencing (to_read s log) (to_reset s log)) refl)))
+    (live_if (may_fence s me log) (fencing_op_with_delay s log) None (live_fencing (to_read s log) (to_reset_now s log)) refl)))
 
 no_claim : (op : Option DiskOp) → is_live_op op ≡ true → claim_of op ≡ None
 no_claim None live = refl
 no_claim (Some disk.ReadHeader) live = refl
 no_claim (Some (disk.ReadSlot rank)) live = refl
+no_claim (Some disk.CheckMail) live = refl
 no_claim (Some (disk.WriteClaim number)) live = absurd (cc)
 no_claim (Some disk.WriteClear) live = refl
 no_claim (Some disk.ReadMail) live = refl
@@ -100,7 +105,7 @@ no_claim (Some (disk.WriteClose number)) live = refl
 
 -- what a node that acts asks of the disk claims no incarnation
 pub acts_claim : (s : Settings) (me : ℕ) (log : List Line) (w : What) (fed : Bool) → claim_of (disk_of (acts s me log w fed)) ≡ None
-acts_claim s me log w fed = ap claim_of (acts_has s me log w fed).of_op ∙ no_claim (wanted s me log) (wanted_live s me log)
+acts_claim s me log w fed = ap claim_of (acts_has s me log w fed).of_op ∙ no_claim (wanted_with_delay s me log) (wanted_live s me log)
 
 -- the node that took an entry in stands for the log with it, before its outputs
 pub took_stands : (live : Live) (s : Settings) (me : ℕ) (past : List Line) (tick : ℕ) (w : What) (heard : Heard) → LiveTook live s me past tick w
@@ -131,7 +136,7 @@ stop_held false other last e = absurd (cc)
 
 gives_stop-held : (s : Settings) (log : List Line) → gives_stop s log ≡ true → holds log ≡ true
 gives_stop-held s log e =
-    stop_held (holds log) (is_leaving (phase s log) || not (quorate s log (now log))) (may_stop (timing log).loop_ms (now log) log) e
+    stop_held (holds log) (is_leaving (phase s log) || not (quorate_with_tie s log (now log))) (may_stop (timing log).loop_ms (now log) log) e
 
 start_free : (down held : Bool) (rest : Why) → is_clear (if down then why.Down else (if held then why.Holding else rest)) ≡ true → held ≡ false
 start_free true held rest e = absurd (cc)
@@ -151,7 +156,7 @@ phase_same s past tick w outs = refl
 pub acted_stands : (live : Live) (s : Settings) (me : ℕ) (past : List Line) (tick : ℕ) (w : What) (fed : Bool) (heard : Heard) (watch : Watch) (fence : Fence)
     (stops starts : Bool) (op : Option DiskOp)
     → LiveTook live s me past tick w
-    → stops ≡ gives_stop s (taken_in past tick w) → starts ≡ gives_start s me (taken_in past tick w) → op ≡ wanted s me (taken_in past tick w)
+    → stops ≡ gives_stop s (taken_in past tick w) → starts ≡ gives_start s me (taken_in past tick w) → op ≡ wanted_with_delay s me (taken_in past tick w)
     → HeardFor heard s me (with_outs past tick w (acts s me (taken_in past tick w) w fed))
     → WatchFor watch (with_outs past tick w (acts s me (taken_in past tick w) w fed))
     → FenceFor fence s (with_outs past tick w (acts s me (taken_in past tick w) w fed))
@@ -185,7 +190,7 @@ acted_stands live s me past tick w fed heard watch fence stops starts op took is
 pub acts_chain : (s : Settings) (me : ℕ) (log : List Line) (w : What) (fed stops starts held : Bool) (op : Option DiskOp) (one two three four five six : List Out)
     → one ≡ when stops out.Stop → two ≡ one ++ when starts out.Start → three ≡ two ++ when fed out.Feed
     → four ≡ three ++ replies s me (starts || held) log w → five ≡ four ++ asks s me log → six ≡ five ++ disk_outs op
-    → stops ≡ gives_stop s log → starts ≡ gives_start s me log → held ≡ holds log → op ≡ wanted s me log
+    → stops ≡ gives_stop s log → starts ≡ gives_start s me log → held ≡ holds log → op ≡ wanted_with_delay s me log
     → six ≡ acts s me log w fed
 unfolding acts
 acts_chain s me log w fed stops starts held op one two three four five six a b c d e f is_stop is_start is_held is_op =

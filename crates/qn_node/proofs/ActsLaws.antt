@@ -13,7 +13,7 @@ use Rattle.qn_model.specs.Log.{Line, disk_of, has_start, has_stop}
 use Rattle.qn_model.specs.Holding.{holds}
 use Rattle.qn_model.specs.NodeVotes.{view}
 use Rattle.qn_model.specs.NodeOutputs.{acts, ask_to, asks_under, disk_outs, gives_start, gives_stop, is_asking, replies, when}
-use Rattle.qn_model.specs.Wanted.{wanted}
+use Rattle.qn_model.specs.Wanted.{wanted_with_delay}
 
 disk_of-append : (first second : List Out) → disk_of (first ++ second) ≡ option_or (disk_of first) (disk_of second)
 disk_of-append [] second = refl
@@ -62,7 +62,7 @@ or_false : (b : Bool) → (b || false) ≡ b
 or_false true = refl
 or_false false = refl
 
--- outputs with more of another kind behind them
+-- outputs with more of another kind after them
 plain_behind : (outs more : List Out) (stops starts : Bool) (op : Option DiskOp) → Has outs stops starts op → IsPlain more → Has (outs ++ more) stops starts op
 plain_behind outs more stops starts op has plain = record {
   of_stop = has_stop-append outs more ∙ rw (has.of_stop, plain.of_stop) (or_false stops);
@@ -85,8 +85,10 @@ module _ (s : Settings) (me : ℕ) (log : List Line) where
   plain_replies : (held : Bool) (entry : What) → IsPlain (replies s me held log entry)
   plain_replies held (what.Ask ask) = plain_send _ _ _
   plain_replies held what.Begin = plain_nothing
+  plain_replies held what.BeginClean = plain_nothing
   plain_replies held (what.Header seen) = plain_nothing
   plain_replies held (what.SlotRead rank seen) = plain_nothing
+  plain_replies held (what.MailChecked seen) = plain_nothing
   plain_replies held (what.Claimed ok) = plain_nothing
   plain_replies held (what.Cleared ok) = plain_nothing
   plain_replies held (what.MailRead seen) = plain_nothing
@@ -127,12 +129,12 @@ module _ (s : Settings) (me : ℕ) (log : List Line) where
   }
 
   -- a node that acts gives a Stop, a Start and a disk operation exactly where the definitions say so
-  pub acts_has : (entry : What) (fed : Bool) → Has (acts s me log entry fed) (gives_stop s log) (gives_start s me log) (wanted s me log)
+  pub acts_has : (entry : What) (fed : Bool) → Has (acts s me log entry fed) (gives_stop s log) (gives_start s me log) (wanted_with_delay s me log)
   unfolding acts
   acts_has entry fed =
       let stops = gives_stop s log in
       let starts = gives_start s me log in
-      op_behind _ stops starts (wanted s me log)
+      op_behind _ stops starts (wanted_with_delay s me log)
       (plain_behind _ _ stops starts None
       (plain_behind _ _ stops starts None
       (plain_behind _ _ stops starts None (stop_and_start stops starts) (plain_feed fed))

@@ -9,7 +9,7 @@ use Rattle.qn_model.specs.declared.outputs.Out.{Out}
 abbrev picked : (ℕ → Out) → (ℕ → Bool) → ℕ → List Out
 picked f test rank = if test rank then f rank ∷ [] else []
 
--- one number in front
+-- one number before the others
 picked_front : (f : ℕ → Out) (test : ℕ → Bool) (rank : ℕ) (ranks : List ℕ) (b : Bool) → test rank ≡ b
     → map f (filter test (rank ∷ ranks)) ≡ picked f test rank ++ map f (filter test ranks)
 picked_front f test rank ranks true is = rw is

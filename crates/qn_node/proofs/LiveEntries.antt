@@ -20,8 +20,10 @@ use Rattle.qn_node.specs.Live.{is_boot_entry}
 pub no_hearing : (w : What) → is_boot_entry w ≡ false → ((view : View) → w ≡ what.View view → ⊥) → ((tell : Tell) → w ≡ what.Tell tell → ⊥)
     → bears_on_hearing w ≡ false
 no_hearing what.Begin plain view tell = refl
+no_hearing what.BeginClean plain view tell = refl
 no_hearing (what.Header seen) plain view tell = absurd (cc)
 no_hearing (what.SlotRead rank seen) plain view tell = refl
+no_hearing (what.MailChecked seen) plain view tell = refl
 no_hearing (what.Claimed ok) plain view tell = refl
 no_hearing (what.Cleared ok) plain view tell = absurd (cc)
 no_hearing (what.MailRead seen) plain view tell = refl
@@ -40,8 +42,10 @@ pub no_fencing : (w : What) → is_boot_entry w ≡ false → ((view : View) →
     → ((rank : Rank) (seen : SlotSeen) → w ≡ what.SlotRead rank seen → ⊥) → ((rank : Rank) (ok : Bool) → w ≡ what.MailWritten rank ok → ⊥)
     → bears_on_fencing w ≡ false
 no_fencing what.Begin plain view slot written = refl
+no_fencing what.BeginClean plain view slot written = refl
 no_fencing (what.Header seen) plain view slot written = absurd (cc)
 no_fencing (what.SlotRead other seen) plain view slot written = absurd (slot other seen refl)
+no_fencing (what.MailChecked seen) plain view slot written = refl
 no_fencing (what.Claimed ok) plain view slot written = refl
 no_fencing (what.Cleared ok) plain view slot written = absurd (cc)
 no_fencing (what.MailRead seen) plain view slot written = refl

@@ -4,6 +4,7 @@ use Rattle.std.specs.Prelude.{if◌then◌else◌, is_some}
 use Rattle.qn_model.specs.declared.configuration.Settings.{Settings}
 use Rattle.qn_model.specs.declared.disk.Message.{Message}
 use Rattle.qn_model.specs.declared.seen.HeaderSeen.{HeaderSeen}
+use Rattle.qn_model.specs.declared.seen.MailSeen.{MailSeen}
 use Rattle.qn_model.specs.declared.entries.What.{What}
 use Rattle.qn_model.specs.declared.entries.What.TheVariants as what
 use Rattle.qn_model.specs.declared.life.Phase.{Phase}
@@ -37,8 +38,10 @@ some_claimed number (line ∷ past) is = refl
 -- the entries that fit
 fits_same : (live : Live) (s : Settings) (me : ℕ) (log : List Line) (w : What) → LiveFor live s me log → fits s me log w ≡ fits_live s me live w
 fits_same live s me log what.Begin h = some_claimed live.incarnation log h.claims
+fits_same live s me log what.BeginClean h = some_claimed live.incarnation log h.claims
 fits_same live s me log (what.Header seen) h = ap (λ op. answers_op op (what.Header seen)) h.is_out
 fits_same live s me log (what.SlotRead rank seen) h = ap (λ op. answers_op op (what.SlotRead rank seen)) h.is_out
+fits_same live s me log (what.MailChecked seen) h = ap (λ op. answers_op op (what.MailChecked seen)) h.is_out
 fits_same live s me log (what.Claimed ok) h = ap (λ op. answers_op op (what.Claimed ok)) h.is_out
 fits_same live s me log (what.Cleared ok) h = ap (λ op. answers_op op (what.Cleared ok)) h.is_out
 fits_same live s me log (what.MailRead seen) h = ap (λ op. answers_op op (what.MailRead seen)) h.is_out
@@ -60,16 +63,29 @@ no_header : (op : Option DiskOp) (seen : HeaderSeen) → is_live_op op ≡ true 
 no_header None seen live = refl
 no_header (Some disk.ReadHeader) seen live = absurd (cc)
 no_header (Some (disk.ReadSlot rank)) seen live = refl
+no_header (Some disk.CheckMail) seen live = absurd (cc)
 no_header (Some (disk.WriteClaim number)) seen live = absurd (cc)
 no_header (Some disk.WriteClear) seen live = absurd (cc)
 no_header (Some disk.ReadMail) seen live = refl
 no_header (Some (disk.WriteReset rank)) seen live = refl
 no_header (Some (disk.WriteClose number)) seen live = refl
 
+no_checked : (op : Option DiskOp) (seen : MailSeen) → is_live_op op ≡ true → answers_op op (what.MailChecked seen) ≡ false
+no_checked None seen live = refl
+no_checked (Some disk.ReadHeader) seen live = absurd (cc)
+no_checked (Some (disk.ReadSlot rank)) seen live = refl
+no_checked (Some disk.CheckMail) seen live = absurd (cc)
+no_checked (Some (disk.WriteClaim number)) seen live = absurd (cc)
+no_checked (Some disk.WriteClear) seen live = absurd (cc)
+no_checked (Some disk.ReadMail) seen live = refl
+no_checked (Some (disk.WriteReset rank)) seen live = refl
+no_checked (Some (disk.WriteClose number)) seen live = refl
+
 no_claimed : (op : Option DiskOp) (ok : Bool) → is_live_op op ≡ true → answers_op op (what.Claimed ok) ≡ false
 no_claimed None ok live = refl
 no_claimed (Some disk.ReadHeader) ok live = absurd (cc)
 no_claimed (Some (disk.ReadSlot rank)) ok live = refl
+no_claimed (Some disk.CheckMail) ok live = absurd (cc)
 no_claimed (Some (disk.WriteClaim number)) ok live = absurd (cc)
 no_claimed (Some disk.WriteClear) ok live = absurd (cc)
 no_claimed (Some disk.ReadMail) ok live = refl
@@ -80,6 +96,7 @@ no_cleared : (op : Option DiskOp) (ok : Bool) → is_live_op op ≡ true → ans
 no_cleared None ok live = refl
 no_cleared (Some disk.ReadHeader) ok live = absurd (cc)
 no_cleared (Some (disk.ReadSlot rank)) ok live = refl
+no_cleared (Some disk.CheckMail) ok live = absurd (cc)
 no_cleared (Some (disk.WriteClaim number)) ok live = absurd (cc)
 no_cleared (Some disk.WriteClear) ok live = absurd (cc)
 no_cleared (Some disk.ReadMail) ok live = refl
@@ -119,8 +136,10 @@ reads_stopped log ok false due = reads_tick log
 
 pub reads_live : (live : Live) (s : Settings) (me : ℕ) (log : List Line) (w : What) → LiveFor live s me log → Reads log (if fits_live s me live w then w else what.Tick)
 reads_live live s me log what.Begin h = reads_no log what.Begin false refl
+reads_live live s me log what.BeginClean h = reads_no log what.BeginClean false refl
 reads_live live s me log (what.Header seen) h = reads_no log (what.Header seen) (answers_op live.op (what.Header seen)) (no_header live.op seen h.no_boot)
 reads_live live s me log (what.SlotRead rank seen) h = reads_answer log (what.SlotRead rank seen) (answers_op live.op (what.SlotRead rank seen)) (ap (λ op. answers_op op (what.SlotRead rank seen)) h.is_out) refl refl
+reads_live live s me log (what.MailChecked seen) h = reads_no log (what.MailChecked seen) (answers_op live.op (what.MailChecked seen)) (no_checked live.op seen h.no_boot)
 reads_live live s me log (what.Claimed ok) h = reads_no log (what.Claimed ok) (answers_op live.op (what.Claimed ok)) (no_claimed live.op ok h.no_boot)
 reads_live live s me log (what.Cleared ok) h = reads_no log (what.Cleared ok) (answers_op live.op (what.Cleared ok)) (no_cleared live.op ok h.no_boot)
 reads_live live s me log (what.MailRead seen) h = reads_answer log (what.MailRead seen) (answers_op live.op (what.MailRead seen)) (ap (λ op. answers_op op (what.MailRead seen)) h.is_out) refl refl
@@ -160,8 +179,10 @@ stays_slot halt false = refl
 next_live : (s : Settings) (w : What) (timely before : Bool) → is_boot_entry w ≡ false → deadly_of (message_of w) ≡ None → is_closed w ≡ false
     → next_phase s w timely (live_phase before) ≡ live_phase (is_leaving (next_phase s w timely (live_phase before)))
 next_live s what.Begin timely before plain alive still = absurd (cc)
+next_live s what.BeginClean timely before plain alive still = absurd (cc)
 next_live s (what.Header seen) timely before plain alive still = absurd (cc)
 next_live s (what.SlotRead rank seen) timely before plain alive still = stays_slot (slot_halt seen) before
+next_live s (what.MailChecked seen) timely before plain alive still = absurd (cc)
 next_live s (what.Claimed ok) timely before plain alive still = absurd (cc)
 next_live s (what.Cleared ok) timely before plain alive still = absurd (cc)
 next_live s (what.MailRead seen) timely before plain alive still = mail_stays (deadly_of (message_of (what.MailRead seen))) (gives_exit (message_of (what.MailRead seen)) && timely) before alive
@@ -209,8 +230,10 @@ feeds_part s w feeds leaving fed left e = (act_parts _ _ _ _ fed left e).2
 -- what comes out of a node that goes on
 pub live_acts : (s : Settings) (me : ℕ) (log : List Line) (w : What) (fed : Bool) → is_closed w ≡ false → live_outs s me log w fed None ≡ acts s me log w fed
 live_acts s me log what.Begin fed still = refl
+live_acts s me log what.BeginClean fed still = refl
 live_acts s me log (what.Header seen) fed still = refl
 live_acts s me log (what.SlotRead rank seen) fed still = refl
+live_acts s me log (what.MailChecked seen) fed still = refl
 live_acts s me log (what.Claimed ok) fed still = refl
 live_acts s me log (what.Cleared ok) fed still = refl
 live_acts s me log (what.MailRead seen) fed still = refl

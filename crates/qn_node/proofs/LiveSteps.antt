@@ -19,28 +19,28 @@ use Rattle.qn_fence.specs.Fence.{FenceFor}
 use Rattle.qn_fence.specs.declared.fencing.Fence.{Fence}
 use Rattle.qn_heard.specs.Heard.{HeardBefore}
 use Rattle.qn_heard.specs.declared.listener.Heard.{Heard}
-use Rattle.qn_quorum.specs.Quorum.{QuorumFor}
-use Rattle.qn_quorum.specs.declared.counting.Quorum.{Quorum}
 use Rattle.qn_node.specs.declared.live.Live.{Live}
 use Rattle.qn_node.specs.declared.live.Course.TheVariants as course
 use Rattle.qn_model.specs.Fitting.{is_closed}
 use Rattle.qn_node.specs.Live.{LiveFor, LiveTook, course_by, course_of, live_phase, with_outs}
 use Rattle.qn_node.specs.Resource.{after_entry}
 use Rattle.qn_node.specs.Rest.{RestFor}
+use Rattle.qn_node.specs.Tally.{TallyFor}
+use Rattle.qn_node.specs.declared.tally.Tally.{Tally}
 use Rattle.qn_node.proofs.Acting.{live_if}
 use Rattle.qn_node.proofs.LiveReads.{Reads, end_parts, feeds_part, goes_on, halt_part, live_acts}
 use Rattle.qn_node.proofs.ResourceSteps.{resource_taken}
 
 -- the votes with one entry more
-pub counted : (q : Quorum) (s : Settings) (me : ℕ) (log : List Line) (tick : ℕ) (vote : VoteWhat) (r : What)
-    → QuorumFor q s (record { tick = tick; what = vote } ∷ votes log) → vote ≡ vote_of log r → QuorumFor q s (votes (with_read s me log tick r))
+pub counted : (tally : Tally) (s : Settings) (me : ℕ) (log : List Line) (tick : ℕ) (vote : VoteWhat) (r : What)
+    → TallyFor tally s (record { tick = tick; what = vote } ∷ votes log) → vote ≡ vote_of log r → TallyFor tally s (votes (with_read s me log tick r))
 unfolding votes
-counted q s me log tick vote r h is = subst (λ v. QuorumFor q s (record { tick = tick; what = v } ∷ votes log)) is h
+counted tally s me log tick vote r h is = subst (λ v. TallyFor tally s (record { tick = tick; what = v } ∷ votes log)) is h
 
-pub counted_taken : (q : Quorum) (s : Settings) (log : List Line) (tick : ℕ) (vote : VoteWhat) (r : What)
-    → QuorumFor q s (record { tick = tick; what = vote } ∷ votes log) → vote ≡ vote_of log r → QuorumFor q s (votes (taken_in log tick r))
+pub counted_taken : (tally : Tally) (s : Settings) (log : List Line) (tick : ℕ) (vote : VoteWhat) (r : What)
+    → TallyFor tally s (record { tick = tick; what = vote } ∷ votes log) → vote ≡ vote_of log r → TallyFor tally s (votes (taken_in log tick r))
 unfolding votes
-counted_taken q s log tick vote r h is = subst (λ v. QuorumFor q s (record { tick = tick; what = v } ∷ votes log)) is h
+counted_taken tally s log tick vote r h is = subst (λ v. TallyFor tally s (record { tick = tick; what = v } ∷ votes log)) is h
 
 -- the node once it has taken the entry in
 pub took : (live : Live) (s : Settings) (me : ℕ) (log : List Line) (tick : ℕ) (r : What) (feeds leaving : Bool) (heard : Heard) (fence : Fence)
@@ -115,8 +115,10 @@ record IsDeadly (w : What) : Type 0 where
 
 deadly_mail : (w : What) (message : Message) → deadly_of (message_of w) ≡ Some message → IsDeadly w
 deadly_mail what.Begin message e = absurd (cc)
+deadly_mail what.BeginClean message e = absurd (cc)
 deadly_mail (what.Header seen) message e = absurd (cc)
 deadly_mail (what.SlotRead rank seen) message e = absurd (cc)
+deadly_mail (what.MailChecked seen) message e = absurd (cc)
 deadly_mail (what.Claimed ok) message e = absurd (cc)
 deadly_mail (what.Cleared ok) message e = absurd (cc)
 deadly_mail (what.MailRead seen) message e = record { answer = refl; dying = λ s timely before. rw e }
@@ -138,8 +140,10 @@ record IsEnd (w : What) : Type 0 where
 
 closed_end : (w : What) → is_closed w ≡ true → IsEnd w
 closed_end what.Begin e = absurd (cc)
+closed_end what.BeginClean e = absurd (cc)
 closed_end (what.Header seen) e = absurd (cc)
 closed_end (what.SlotRead rank seen) e = absurd (cc)
+closed_end (what.MailChecked seen) e = absurd (cc)
 closed_end (what.Claimed ok) e = absurd (cc)
 closed_end (what.Cleared ok) e = absurd (cc)
 closed_end (what.MailRead seen) e = absurd (cc)

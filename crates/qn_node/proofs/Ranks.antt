@@ -1,6 +1,6 @@
 -- The outputs of a node name configured nodes.
 use Rattle.std.proofs.Common.{◌≡◌, ℕ, suc, zero, ◌+◌, ◌<◌, ◌≤◌, Bool, true, false, List, [], ◌∷◌, ◌++◌, map, length, Some, None, refl, sym, subst, ◌∙◌, ◌&&◌, ◌||◌, not, arith}
-use Rattle.std.specs.Prelude.{Option, All, filter, is_some, nat_lt, ◌==◌, if◌then◌else◌}
+use Rattle.std.specs.Prelude.{Option, All, filter, is_some, nat_lt, option_and_then, ◌==◌, if◌then◌else◌}
 use Rattle.std.specs.Option.{option_map, option_map_or, option_or}
 use Rattle.std.specs.List.{range_with_len}
 use Rattle.std.proofs.lemmas.Bool.Decides.{nat_tests}
@@ -20,13 +20,13 @@ use Rattle.qn_model.specs.declared.outputs.DiskOp.TheVariants as disk
 use Rattle.qn_model.specs.declared.outputs.HaltKind.TheVariants as halt
 use Rattle.qn_model.specs.declared.outputs.Out.{Out}
 use Rattle.qn_model.specs.declared.outputs.Out.TheVariants as out
-use Rattle.qn_model.specs.Log.{Line, incarnation, op_out}
+use Rattle.qn_model.specs.Log.{Line, begins_clean, incarnation, op_out, slot_number}
 use Rattle.qn_model.specs.Phases.{boot_halt, deadly_of, is_booting, is_leaving, is_live, message_of, phase}
 use Rattle.qn_model.specs.Holding.{holds}
 use Rattle.qn_model.specs.NodeVotes.{view}
 use Rattle.qn_model.specs.Fitting.{fits, is_for, read_as}
 use Rattle.qn_model.specs.Unmet.{least_from}
-use Rattle.qn_model.specs.Wanted.{boot_op, claim_after, close_op, fencing_op, is_mail_due, may_fence, rank_of, to_read, to_reset, wanted}
+use Rattle.qn_model.specs.Wanted.{boot_op, claim_after, close_op, fencing_op_with_delay, is_delay_over, is_mail_due, may_fence, rank_of, to_read, to_reset, to_reset_now, wanted_with_delay}
 use Rattle.qn_model.specs.NodeOutputs.{acts, ask_to, asks_under, boot_outs, boot_step_outs, disk_outs, gives_start, gives_stop, is_asked, is_asking, is_begin, is_boot_step, live_outs, mail_feeds, newest_outs, outs_at, replies, taken_in, when, with_entry}
 use Rattle.qn_node.specs.Outputs.{IsNodeOutput}
 
@@ -77,8 +77,10 @@ none_below from bound h = absurd (omega arith)
 -- an Ask that is read as one is from a configured node
 read_asker : (s : Settings) (me : ℕ) (log : List Line) (w : What) (from : ℕ) → asker (read_as s me log w) ≡ Some from → from < length s.nodes
 read_asker s me log what.Begin from e = none_below from (length s.nodes) (no_asker what.Begin (fits s me log what.Begin) from refl e)
+read_asker s me log what.BeginClean from e = none_below from (length s.nodes) (no_asker what.BeginClean (fits s me log what.BeginClean) from refl e)
 read_asker s me log (what.Header seen) from e = none_below from (length s.nodes) (no_asker (what.Header seen) (fits s me log (what.Header seen)) from refl e)
 read_asker s me log (what.SlotRead rank seen) from e = none_below from (length s.nodes) (no_asker (what.SlotRead rank seen) (fits s me log (what.SlotRead rank seen)) from refl e)
+read_asker s me log (what.MailChecked seen) from e = none_below from (length s.nodes) (no_asker (what.MailChecked seen) (fits s me log (what.MailChecked seen)) from refl e)
 read_asker s me log (what.Claimed ok) from e = none_below from (length s.nodes) (no_asker (what.Claimed ok) (fits s me log (what.Claimed ok)) from refl e)
 read_asker s me log (what.Cleared ok) from e = none_below from (length s.nodes) (no_asker (what.Cleared ok) (fits s me log (what.Cleared ok)) from refl e)
 read_asker s me log (what.MailRead seen) from e = none_below from (length s.nodes) (no_asker (what.MailRead seen) (fits s me log (what.MailRead seen)) from refl e)
@@ -123,22 +125,33 @@ module _ (s : Settings) where
   proper_fencing None (Some rank) p q = proper_one (out.Disk (disk.WriteReset (rank_of rank))) (q rank refl)
   proper_fencing None None p q = proper_none
 
-  proper_wanted : (me : ℕ) (log : List Line) → Proper (disk_outs (wanted s me log))
-  unfolding wanted
+  -- a number that a test keeps was there before
+  kept_was : (test : ℕ → Bool) (found : Option ℕ) (rank : ℕ) → option_and_then (λ r. if test r then Some r else None) found ≡ Some rank → found ≡ Some rank
+  kept_was test None rank e = e
+  kept_was test (Some other) rank e = kept_if (test other) e
+    where
+      kept_if : (b : Bool) → (if b then Some other else None) ≡ Some rank → Some other ≡ Some rank
+      kept_if true is = is
+      kept_if false is = absurd (cc)
+
+  proper_wanted : (me : ℕ) (log : List Line) → Proper (disk_outs (wanted_with_delay s me log))
+  unfolding wanted_with_delay
   proper_wanted me log =
       proper_if (is_some (op_out log)) None _ proper_none
       (proper_if (is_mail_due log) (Some disk.ReadMail) _ (proper_one (out.Disk disk.ReadMail) tt)
       (proper_if (is_leaving (phase s log) && not (holds log)) (close_op log) _ (proper_close (incarnation log))
-      (proper_if (may_fence s me log) (fencing_op s log) None
-      (proper_fencing (to_read s log) (to_reset s log)
+      (proper_if (may_fence s me log) (fencing_op_with_delay s log) None
+      (proper_fencing (to_read s log) (to_reset_now s log)
       (λ rank e. least_below (length s.nodes) 0 (length s.nodes) _ rank (omega arith) e)
-      (λ rank e. least_below (length s.nodes) 0 (length s.nodes) _ rank (omega arith) e))
+      (λ rank e. least_below (length s.nodes) 0 (length s.nodes) _ rank (omega arith) (kept_was (is_delay_over s log) (to_reset s log) rank e)))
       proper_none)))
 
   proper_replies : (me : ℕ) (held : Bool) (log : List Line) (w : What) → ((from : ℕ) → asker w ≡ Some from → from < length s.nodes) → Proper (replies s me held log w)
   proper_replies me held log what.Begin from = proper_none
+  proper_replies me held log what.BeginClean from = proper_none
   proper_replies me held log (what.Header seen) from = proper_none
   proper_replies me held log (what.SlotRead rank seen) from = proper_none
+  proper_replies me held log (what.MailChecked seen) from = proper_none
   proper_replies me held log (what.Claimed ok) from = proper_none
   proper_replies me held log (what.Cleared ok) from = proper_none
   proper_replies me held log (what.MailRead seen) from = proper_none
@@ -189,8 +202,10 @@ module _ (s : Settings) where
       → Proper (live_outs s me log w fed message)
   proper_live me log w fed (Some message) from = proper_one (out.Halt (halt.Deadly message)) tt
   proper_live me log what.Begin fed None from = proper_acts me log what.Begin fed from
+  proper_live me log what.BeginClean fed None from = proper_acts me log what.BeginClean fed from
   proper_live me log (what.Header seen) fed None from = proper_acts me log (what.Header seen) fed from
   proper_live me log (what.SlotRead rank seen) fed None from = proper_acts me log (what.SlotRead rank seen) fed from
+  proper_live me log (what.MailChecked seen) fed None from = proper_acts me log (what.MailChecked seen) fed from
   proper_live me log (what.Claimed ok) fed None from = proper_acts me log (what.Claimed ok) fed from
   proper_live me log (what.Cleared ok) fed None from = proper_acts me log (what.Cleared ok) fed from
   proper_live me log (what.MailRead seen) fed None from = proper_acts me log (what.MailRead seen) fed from
@@ -209,35 +224,39 @@ module _ (s : Settings) where
   proper_claim slot.Damaged = proper_none
   proper_claim slot.Failed = proper_none
 
-  proper_boot_op : (me : ℕ) (w : What) → me < length s.nodes → Proper (disk_outs (boot_op me w))
-  proper_boot_op me what.Begin own = proper_one _ tt
-  proper_boot_op me (what.Header seen) own = proper_one (out.Disk (disk.ReadSlot (rank_of me))) own
-  proper_boot_op me (what.SlotRead rank seen) own = proper_claim seen
-  proper_boot_op me (what.Claimed ok) own = proper_one _ tt
-  proper_boot_op me (what.Cleared ok) own = proper_one _ tt
-  proper_boot_op me (what.MailRead seen) own = proper_none
-  proper_boot_op me (what.MailWritten rank ok) own = proper_none
-  proper_boot_op me (what.View view) own = proper_none
-  proper_boot_op me (what.Ask ask) own = proper_none
-  proper_boot_op me (what.Tell tell) own = proper_none
-  proper_boot_op me (what.Device agrees) own = proper_none
-  proper_boot_op me what.Tick own = proper_none
-  proper_boot_op me (what.Stopped ok) own = proper_none
-  proper_boot_op me what.Leave own = proper_none
-  proper_boot_op me (what.Closed ok) own = proper_none
+  proper_boot_op : (me : ℕ) (clean : Bool) (number : ℕ) (w : What) → me < length s.nodes → Proper (disk_outs (boot_op me clean number w))
+  proper_boot_op me clean number what.Begin own = proper_one _ tt
+  proper_boot_op me clean number what.BeginClean own = proper_one _ tt
+  proper_boot_op me clean number (what.Header seen) own = proper_one (out.Disk (disk.ReadSlot (rank_of me))) own
+  proper_boot_op me clean number (what.SlotRead rank seen) own = proper_if clean (Some disk.CheckMail) (claim_after seen) (proper_one _ tt) (proper_claim seen)
+  proper_boot_op me clean number (what.MailChecked seen) own = proper_one _ tt
+  proper_boot_op me clean number (what.Claimed ok) own = proper_one _ tt
+  proper_boot_op me clean number (what.Cleared ok) own = proper_one _ tt
+  proper_boot_op me clean number (what.MailRead seen) own = proper_none
+  proper_boot_op me clean number (what.MailWritten rank ok) own = proper_none
+  proper_boot_op me clean number (what.View view) own = proper_none
+  proper_boot_op me clean number (what.Ask ask) own = proper_none
+  proper_boot_op me clean number (what.Tell tell) own = proper_none
+  proper_boot_op me clean number (what.Device agrees) own = proper_none
+  proper_boot_op me clean number what.Tick own = proper_none
+  proper_boot_op me clean number (what.Stopped ok) own = proper_none
+  proper_boot_op me clean number what.Leave own = proper_none
+  proper_boot_op me clean number (what.Closed ok) own = proper_none
 
-  proper_boot_step : (me : ℕ) (w : What) (cause : Option BootCause) → me < length s.nodes → Proper (boot_step_outs me w cause)
-  proper_boot_step me w None own = proper_both _ _ (proper_when (not (is_begin w)) out.Feed tt) (proper_boot_op me w own)
-  proper_boot_step me w (Some cause) own = proper_one _ tt
+  proper_boot_step : (me : ℕ) (clean : Bool) (number : ℕ) (w : What) (cause : Option BootCause) → me < length s.nodes
+      → Proper (boot_step_outs me clean number w cause)
+  proper_boot_step me clean number w None own = proper_both _ _ (proper_when (not (is_begin w)) out.Feed tt) (proper_boot_op me clean number w own)
+  proper_boot_step me clean number w (Some cause) own = proper_one _ tt
 
-  proper_boot : (me : ℕ) (w : What) (b : Bool) → me < length s.nodes → Proper (if b then boot_step_outs me w (boot_halt s w) else [])
-  proper_boot me w true own = proper_boot_step me w (boot_halt s w) own
-  proper_boot me w false own = proper_none
+  proper_boot : (me : ℕ) (clean : Bool) (number : ℕ) (w : What) (b : Bool) → me < length s.nodes
+      → Proper (if b then boot_step_outs me clean number w (boot_halt s w) else [])
+  proper_boot me clean number w true own = proper_boot_step me clean number w (boot_halt s w) own
+  proper_boot me clean number w false own = proper_none
 
   proper_phase : (me tick : ℕ) (w : What) (past log : List Line) (booting live : Bool) → me < length s.nodes
       → ((from : ℕ) → asker w ≡ Some from → from < length s.nodes)
-      → Proper (if booting then boot_outs s me w else (if live then live_outs s me log w (mail_feeds tick past w) (deadly_of (message_of w)) else []))
-  proper_phase me tick w past log true live own from = proper_boot me w (is_boot_step w) own
+      → Proper (if booting then boot_outs s me (begins_clean log) (slot_number log) w else (if live then live_outs s me log w (mail_feeds tick past w) (deadly_of (message_of w)) else []))
+  proper_phase me tick w past log true live own from = proper_boot me (begins_clean log) (slot_number log) w (is_boot_step w) own
   proper_phase me tick w past log false true own from = proper_live me log w (mail_feeds tick past w) (deadly_of (message_of w)) from
   proper_phase me tick w past log false false own from = proper_none
 

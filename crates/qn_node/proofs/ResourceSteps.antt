@@ -18,8 +18,10 @@ record IsNoStop (w : What) : Type 0 where
 
 stop_cases : (w : What) → IsNoStop w ⊎ ((ok : Bool) × (w ≡ what.Stopped ok))
 stop_cases what.Begin = inl (record { unanswered = refl; unstopped = refl; keeps = λ tick r. refl })
+stop_cases what.BeginClean = inl (record { unanswered = refl; unstopped = refl; keeps = λ tick r. refl })
 stop_cases (what.Header seen) = inl (record { unanswered = refl; unstopped = refl; keeps = λ tick r. refl })
 stop_cases (what.SlotRead rank seen) = inl (record { unanswered = refl; unstopped = refl; keeps = λ tick r. refl })
+stop_cases (what.MailChecked seen) = inl (record { unanswered = refl; unstopped = refl; keeps = λ tick r. refl })
 stop_cases (what.Claimed ok) = inl (record { unanswered = refl; unstopped = refl; keeps = λ tick r. refl })
 stop_cases (what.Cleared ok) = inl (record { unanswered = refl; unstopped = refl; keeps = λ tick r. refl })
 stop_cases (what.MailRead seen) = inl (record { unanswered = refl; unstopped = refl; keeps = λ tick r. refl })

@@ -55,8 +55,10 @@ not_up Gone e = refl
 reads_quietly : (rest : Rest) (s : Settings) (me : ℕ) (log : List Line) (tick : ℕ) (w : What) → RestFor rest s log
     → ReadsQuietly rest log tick w (read_as s me log w)
 reads_quietly rest s me log tick what.Begin h = nothing_read rest log tick what.Begin (is_first log) h.not_first refl
+reads_quietly rest s me log tick what.BeginClean h = nothing_read rest log tick what.BeginClean (is_first log) h.not_first refl
 reads_quietly rest s me log tick (what.Header seen) h = nothing_read rest log tick (what.Header seen) (answers_op (op_out log) (what.Header seen)) (rw h.none_out) refl
 reads_quietly rest s me log tick (what.SlotRead rank seen) h = nothing_read rest log tick (what.SlotRead rank seen) (answers_op (op_out log) (what.SlotRead rank seen)) (rw h.none_out) refl
+reads_quietly rest s me log tick (what.MailChecked seen) h = nothing_read rest log tick (what.MailChecked seen) (answers_op (op_out log) (what.MailChecked seen)) (rw h.none_out) refl
 reads_quietly rest s me log tick (what.Claimed ok) h = nothing_read rest log tick (what.Claimed ok) (answers_op (op_out log) (what.Claimed ok)) (rw h.none_out) refl
 reads_quietly rest s me log tick (what.Cleared ok) h = nothing_read rest log tick (what.Cleared ok) (answers_op (op_out log) (what.Cleared ok)) (rw h.none_out) refl
 reads_quietly rest s me log tick (what.MailRead seen) h = nothing_read rest log tick (what.MailRead seen) (answers_op (op_out log) (what.MailRead seen)) (rw h.none_out) refl
@@ -71,16 +73,17 @@ reads_quietly rest s me log tick what.Leave h = nothing_read rest log tick what.
 reads_quietly rest s me log tick (what.Closed ok) h = nothing_read rest log tick (what.Closed ok) (answers_op (op_out log) (what.Closed ok)) (rw h.none_out) refl
 
 -- nothing comes out of a quiet entry
-quiet_outs : (s : Settings) (me tick : ℕ) (log : List Line) (w : What) (booting : Bool) (front : List Out) → is_boot_step w ≡ false → is_live (phase s log) ≡ false
-    → (if booting then boot_outs s me w else (if is_live (phase s log) then front else [])) ≡ []
-quiet_outs s me tick log w true front no_step not_live = rw no_step
-quiet_outs s me tick log w false front no_step not_live = rw not_live
+quiet_outs : (s : Settings) (me : ℕ) (clean : Bool) (number : ℕ) (log : List Line) (w : What) (booting : Bool) (front : List Out)
+    → is_boot_step w ≡ false → is_live (phase s log) ≡ false
+    → (if booting then boot_outs s me clean number w else (if is_live (phase s log) then front else [])) ≡ []
+quiet_outs s me clean number log w true front no_step not_live = rw no_step
+quiet_outs s me clean number log w false front no_step not_live = rw not_live
 
 pub rest_outs : (rest : Rest) (s : Settings) (me : ℕ) (log : List Line) (tick : ℕ) (w : What) → RestFor rest s log
     → outs_at s me log tick (read_as s me log w) (taken_in log tick (read_as s me log w)) ≡ []
 unfolding outs_at
 rest_outs rest s me log tick w h =
-    quiet_outs s me tick log (read_as s me log w) _ _ (reads_quietly rest s me log tick w h).quiet.no_step (ap is_live h.phases ∙ h.not_live)
+    quiet_outs s me _ _ log (read_as s me log w) _ _ (reads_quietly rest s me log tick w h).quiet.no_step (ap is_live h.phases ∙ h.not_live)
 
 pub rest_stands : (rest : Rest) (s : Settings) (me : ℕ) (log : List Line) (tick : ℕ) (w : What) → RestFor rest s log
     → RestFor (record rest { resource = after_entry tick w rest.resource }) s (with_read s me log tick (read_as s me log w))

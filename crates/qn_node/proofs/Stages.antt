@@ -15,18 +15,19 @@ use Rattle.qn_model.specs.NodeVotes.{vote_of, votes}
 use Rattle.qn_model.specs.Fitting.{fits, read_as}
 use Rattle.qn_model.specs.NodeOutputs.{with_read}
 use Rattle.qn_model.specs.Unmet.{unmet}
-use Rattle.qn_quorum.specs.Quorum.{QuorumFor}
-use Rattle.qn_quorum.specs.declared.counting.Quorum.{Quorum}
 use Rattle.qn_node.specs.declared.live.Live.{Live}
 use Rattle.qn_node.specs.declared.stage.Stage.{Stage}
 use Rattle.qn_node.specs.declared.stage.Stage.TheVariants as stage
 use Rattle.qn_node.specs.Stage.{StageFor, claims_in, holds_in, takes_part, stage_phase}
+use Rattle.qn_node.specs.Tally.{TallyFor}
+use Rattle.qn_node.specs.declared.tally.Tally.{Tally}
 
 pub phase_at : (at : Stage) (s : Settings) (me : ℕ) (log : List Line) → StageFor at s me log → stage_phase at ≡ phase s log
 unfolding phase
 phase_at stage.Idle s me log h = ap (phase s) (sym h)
 phase_at (stage.Header boot) s me log h = sym h.waits.is_booting
 phase_at (stage.Slot boot) s me log h = sym h.waits.is_booting
+phase_at (stage.Check boot) s me log h = sym h.waits.is_booting
 phase_at (stage.Claim boot) s me log h = sym h.waits.is_booting
 phase_at (stage.Clear boot) s me log h = sym h.waits.is_booting
 phase_at (stage.Live live) s me log h = sym h.phases
@@ -37,6 +38,7 @@ unfolding holds
 holds_at stage.Idle s me log h = ap holds (sym h)
 holds_at (stage.Header boot) s me log h = sym h.waits.holds_nothing
 holds_at (stage.Slot boot) s me log h = sym h.waits.holds_nothing
+holds_at (stage.Check boot) s me log h = sym h.waits.holds_nothing
 holds_at (stage.Claim boot) s me log h = sym h.waits.holds_nothing
 holds_at (stage.Clear boot) s me log h = sym h.waits.holds_nothing
 holds_at (stage.Live live) s me log h = sym h.has_resource.has
@@ -47,6 +49,7 @@ unfolding claimed
 claims_at stage.Idle s me log h = ap claimed (sym h)
 claims_at (stage.Header boot) s me log h = sym h.waits.has_claimed
 claims_at (stage.Slot boot) s me log h = sym h.waits.has_claimed
+claims_at (stage.Check boot) s me log h = sym h.waits.has_claimed
 claims_at (stage.Claim boot) s me log h = sym h.waits.has_claimed
 claims_at (stage.Clear boot) s me log h = sym h.waits.has_claimed
 claims_at (stage.Live live) s me log h = sym h.claims
@@ -64,6 +67,7 @@ pub no_part_at : (at : Stage) → ((live : Live) → at ≡ stage.Live live → 
 no_part_at stage.Idle never = refl
 no_part_at (stage.Header boot) never = refl
 no_part_at (stage.Slot boot) never = refl
+no_part_at (stage.Check boot) never = refl
 no_part_at (stage.Claim boot) never = refl
 no_part_at (stage.Clear boot) never = refl
 no_part_at (stage.Live live) never = absurd (never live refl)
@@ -74,6 +78,7 @@ unfolding phase
 quiet_at stage.Idle s me log h never = ap (λ past. is_live (phase s past)) h
 quiet_at (stage.Header boot) s me log h never = ap is_live h.waits.is_booting
 quiet_at (stage.Slot boot) s me log h never = ap is_live h.waits.is_booting
+quiet_at (stage.Check boot) s me log h never = ap is_live h.waits.is_booting
 quiet_at (stage.Claim boot) s me log h never = ap is_live h.waits.is_booting
 quiet_at (stage.Clear boot) s me log h never = ap is_live h.waits.is_booting
 quiet_at (stage.Live live) s me log h never = absurd (never live refl)
@@ -94,8 +99,10 @@ vote_never log w false e = refl
 
 quiet_vote : (s : Settings) (me : ℕ) (log : List Line) (w : What) → is_live (phase s log) ≡ false → vote_of log (read_as s me log w) ≡ vote.Tick
 quiet_vote s me log what.Begin quiet = vote_either log what.Begin (fits s me log what.Begin) refl
+quiet_vote s me log what.BeginClean quiet = vote_either log what.BeginClean (fits s me log what.BeginClean) refl
 quiet_vote s me log (what.Header seen) quiet = vote_either log (what.Header seen) (fits s me log (what.Header seen)) refl
 quiet_vote s me log (what.SlotRead other seen) quiet = vote_either log (what.SlotRead other seen) (fits s me log (what.SlotRead other seen)) refl
+quiet_vote s me log (what.MailChecked seen) quiet = vote_either log (what.MailChecked seen) (fits s me log (what.MailChecked seen)) refl
 quiet_vote s me log (what.Claimed ok) quiet = vote_either log (what.Claimed ok) (fits s me log (what.Claimed ok)) refl
 quiet_vote s me log (what.Cleared ok) quiet = vote_either log (what.Cleared ok) (fits s me log (what.Cleared ok)) refl
 quiet_vote s me log (what.MailRead seen) quiet = vote_either log (what.MailRead seen) (fits s me log (what.MailRead seen)) refl
@@ -109,8 +116,8 @@ quiet_vote s me log (what.Stopped ok) quiet = vote_either log (what.Stopped ok) 
 quiet_vote s me log what.Leave quiet = vote_either log what.Leave (fits s me log what.Leave) refl
 quiet_vote s me log (what.Closed ok) quiet = vote_either log (what.Closed ok) (fits s me log (what.Closed ok)) refl
 
-pub quiet_counted : (q : Quorum) (s : Settings) (me : ℕ) (log : List Line) (tick : ℕ) (w : What)
-    → QuorumFor q s (record { tick = tick; what = vote.Tick } ∷ votes log) → is_live (phase s log) ≡ false
-    → QuorumFor q s (votes (with_read s me log tick (read_as s me log w)))
+pub quiet_counted : (tally : Tally) (s : Settings) (me : ℕ) (log : List Line) (tick : ℕ) (w : What)
+    → TallyFor tally s (record { tick = tick; what = vote.Tick } ∷ votes log) → is_live (phase s log) ≡ false
+    → TallyFor tally s (votes (with_read s me log tick (read_as s me log w)))
 unfolding votes
-quiet_counted q s me log tick w h quiet = subst (λ v. QuorumFor q s (record { tick = tick; what = v } ∷ votes log)) (sym (quiet_vote s me log w quiet)) h
+quiet_counted tally s me log tick w h quiet = subst (λ v. TallyFor tally s (record { tick = tick; what = v } ∷ votes log)) (sym (quiet_vote s me log w quiet)) h

@@ -4,3 +4,4 @@ pub mod Outputs
 pub mod Resource
 pub mod Rest
 pub mod Stage
+pub mod Tally

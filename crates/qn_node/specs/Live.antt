@@ -17,6 +17,8 @@ use Rattle.qn_model.specs.Phases.{deadly_of, in_time, is_leaving, message_of, ne
 use Rattle.qn_model.specs.Fitting.{answers_op, is_closed, is_for, is_own_view}
 use Rattle.qn_model.specs.NodeOutputs.{mail_feeds, taken_in}
 use Rattle.qn_model.specs.Unmet.{id_of, lacks_of_others, or_else, other_chosen}
+use Rattle.qn_fence.specs.declared.fencing.Want.{Want}
+use Rattle.qn_fence.specs.declared.fencing.Want.TheVariants as want
 use Rattle.qn_fence.specs.Fence.{FenceFor}
 use Rattle.qn_heard.specs.Heard.{HeardBefore, HeardFor}
 use Rattle.qn_watch.specs.Watch.{WatchFor}
@@ -34,6 +36,7 @@ abbrev pub is_live_op : Option DiskOp → Bool
 is_live_op None = true
 is_live_op (Some disk.ReadHeader) = false
 is_live_op (Some (disk.ReadSlot rank)) = true
+is_live_op (Some disk.CheckMail) = false
 is_live_op (Some (disk.WriteClaim number)) = false
 is_live_op (Some disk.WriteClear) = false
 is_live_op (Some disk.ReadMail) = true
@@ -43,7 +46,9 @@ is_live_op (Some (disk.WriteClose number)) = true
 -- an entry that only a boot takes
 abbrev pub is_boot_entry : What → Bool
 is_boot_entry what.Begin = true
+is_boot_entry what.BeginClean = true
 is_boot_entry (what.Header seen) = true
+is_boot_entry (what.MailChecked seen) = true
 is_boot_entry (what.Claimed ok) = true
 is_boot_entry (what.Cleared ok) = true
 is_boot_entry (what.SlotRead rank seen) = false
@@ -61,6 +66,7 @@ is_boot_entry (what.Closed ok) = false
 -- whether an entry fits a node that takes part, by what it keeps
 abbrev pub fits_live : Settings → ℕ → Live → What → Bool
 fits_live s me live what.Begin = false
+fits_live s me live what.BeginClean = false
 fits_live s me live (what.View view) = is_own_view s me view
 fits_live s me live (what.Ask ask) = is_for s me ask.from ask.to
 fits_live s me live (what.Tell tell) = is_for s me tell.from tell.to
@@ -70,6 +76,7 @@ fits_live s me live (what.Stopped ok) = is_stopping live.resource
 fits_live s me live what.Leave = not live.leaving
 fits_live s me live (what.Header seen) = answers_op live.op (what.Header seen)
 fits_live s me live (what.SlotRead rank seen) = answers_op live.op (what.SlotRead rank seen)
+fits_live s me live (what.MailChecked seen) = answers_op live.op (what.MailChecked seen)
 fits_live s me live (what.Claimed ok) = answers_op live.op (what.Claimed ok)
 fits_live s me live (what.Cleared ok) = answers_op live.op (what.Cleared ok)
 fits_live s me live (what.MailRead seen) = answers_op live.op (what.MailRead seen)
@@ -87,8 +94,8 @@ course_of s past tick entry =
     course_by (deadly_of (message_of entry)) (is_closed entry) (mail_feeds tick past entry)
     (is_leaving (next_phase s entry (in_time tick past) (phase s past)))
 
--- the first condition that lacks of a node that is up, by whether it holds, whether it has no view, the
--- count, and what lacks once it is quorate
+-- the first condition that blocks a start of a node that is up, by whether it holds, whether it has no view, the
+-- count, and what blocks a start once it is quorate
 abbrev pub unmet_by : Bool → Bool → Answer → Why → Why
 unmet_by held viewless count rest =
     if held then why.Holding
@@ -104,7 +111,13 @@ wanted_by live due fences fencing =
     else (if live.leaving && not (is_held live.resource) then Some (disk.WriteClose live.incarnation)
     else (if fences then fencing else None)))
 
--- what lacks of a node that is up and quorate
+-- whether the fencing waits: it wants a reset of a rank whose fence delay is not over
+abbrev pub must_wait : (ℕ → Bool) → Want → Bool
+must_wait is_over want.None = false
+must_wait is_over (want.ReadSlot rank) = false
+must_wait is_over (want.WriteReset rank) = not (is_over rank.0)
+
+-- what blocks a start of a node that is up and quorate
 abbrev pub lacks : Settings → ℕ → List Line → ℕ → Why
 lacks s me log tick =
     or_else (other_chosen s me log) (λ rank. why.NotChosen (id_of s rank)) (lacks_of_others s me log tick)

@@ -5,9 +5,9 @@ use Rattle.qn_model.specs.declared.life.Phase.{Phase}
 use Rattle.qn_model.specs.Log.{Line, incarnation}
 use Rattle.qn_model.specs.NodeVotes.{votes}
 use Rattle.qn_fence.specs.Fence.{IsAskedInside}
-use Rattle.qn_quorum.specs.Quorum.{QuorumFor}
 use Rattle.qn_node.specs.declared.node.Node.{Node}
 use Rattle.qn_node.specs.Stage.{StageFor, stage_phase}
+use Rattle.qn_node.specs.Tally.{TallyFor}
 
 -- how many entries a node can still take
 abbrev pub steps_of : Node → ℕ
@@ -24,5 +24,5 @@ pub record NodeFor (node : Node) (s : Settings) (me : ℕ) (log : List Line) : T
   pub is_configured : me < length s.nodes
   pub knows : node.incarnation ≡ incarnation log
   pub is_inside : IsAskedInside log
-  pub counts : QuorumFor node.quorum s (votes log)
+  pub counts : TallyFor node.tally s (votes log)
   pub stands : StageFor node.stage s me log

@@ -17,6 +17,7 @@ IsNodeOutput s (out.Send to (packet.Vote agrees)) = ⊥
 IsNodeOutput s (out.Disk (disk.ReadSlot rank)) = rank.0 < length s.nodes
 IsNodeOutput s (out.Disk (disk.WriteReset rank)) = rank.0 < length s.nodes
 IsNodeOutput s (out.Disk disk.ReadHeader) = Unit {0}
+IsNodeOutput s (out.Disk disk.CheckMail) = Unit {0}
 IsNodeOutput s (out.Disk (disk.WriteClaim number)) = Unit {0}
 IsNodeOutput s (out.Disk disk.WriteClear) = Unit {0}
 IsNodeOutput s (out.Disk disk.ReadMail) = Unit {0}

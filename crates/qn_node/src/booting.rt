@@ -1,3 +1,4 @@
+//! The node while it boots: each answer of the disk, and what comes of it.
 ghost use Rattle.std.specs.Prelude.{◌≡◌, [], ◌∷◌, ℕ, List, Option, None, Some};
 ghost use Rattle.qn_model.specs.declared.outputs.HaltKind.{HaltKind};
 ghost use Rattle.qn_model.specs.declared.outputs.Out.{Out};
@@ -7,8 +8,9 @@ ghost use Rattle.qn_model.specs.declared.entries.What.{What};
 ghost use Rattle.qn_model.specs.Log.{Line};
 ghost use Rattle.qn_model.specs.Wanted.{rank_of};
 ghost use Rattle.qn_model.specs.Fitting.{read_as};
+ghost use Rattle.qn_model.specs.Moments.{begin_of};
 ghost use Rattle.qn_model.specs.NodeOutputs.{newest_outs, with_read};
-ghost use Rattle.qn_boot.specs.Boot.{WantClaimFor, WantClearFor, WantHeaderFor, WantSlotFor};
+ghost use Rattle.qn_boot.specs.Boot.{WantCheckFor, WantClaimFor, WantClearFor, WantHeaderFor, WantSlotFor};
 ghost use Rattle.qn_fence.specs.Fence.{IsAskedInside};
 ghost use Rattle.qn_node.specs.declared.resource.Resource.{Resource};
 ghost use Rattle.qn_node.specs.declared.stage.Stage.{Stage};
@@ -19,10 +21,10 @@ use crate::own::Own;
 use crate::resource::Resource;
 use crate::rest::Rest;
 use crate::stage::Stage;
-use qn_boot::{Boot, WantClaim, WantClear, WantHeader, WantSlot};
+use qn_boot::{AfterSlot, Boot, WantCheck, WantClaim, WantClear, WantHeader, WantSlot};
 use qn_model::{BootCause, DiskOp, HaltKind, Out, Outs, Phase, SlotSeen, What};
 
-/// The first entry. Where it is no Begin the boot never begins.
+/// The first entry. Where it is neither Begin nor BeginClean the boot never begins.
 pub fn begin(own: &Own, tick: u64, what: What, outs: &mut Outs) -> Stage
     requires { outs.old ≡ [] }
     ensures few { installs_in result ≡ 0 }
@@ -32,12 +34,11 @@ pub fn begin(own: &Own, tick: u64, what: What, outs: &mut Outs) -> Stage
         (with_read own.now.settings own.now.me.0 [] tick (read_as own.now.settings own.now.me.0 [] what)) }
 {
     match what {
-        What::Begin => {
-            outs.push(Out::Disk(DiskOp::ReadHeader));
-            Stage::Header(Boot::begin(u32::from(own.count())))
-        }
+        What::Begin => begun(own, false, outs),
+        What::BeginClean => begun(own, true, outs),
         What::Header(_)
         | What::SlotRead(..)
+        | What::MailChecked(_)
         | What::Claimed(_)
         | What::Cleared(_)
         | What::MailRead(_)
@@ -57,6 +58,18 @@ pub fn begin(own: &Own, tick: u64, what: What, outs: &mut Outs) -> Stage
     }
 }
 
+/// The boot begins, as a clean start or not.
+fn begun(own: &Own, clean: bool, outs: &mut Outs) -> Stage
+    requires { outs.old ≡ [] }
+    ensures few { installs_in result ≡ 0 }
+    ensures stands { (tick : ℕ) → StageFor result own.now.settings own.now.me.0
+        (with_read own.now.settings own.now.me.0 [] tick (begin_of clean)) }
+    ensures outs { outs.new ≡ Out.Disk DiskOp.ReadHeader ∷ [] }
+{
+    outs.push(Out::Disk(DiskOp::ReadHeader));
+    Stage::Header(Boot::begin(u32::from(own.count()), clean))
+}
+
 /// An entry while the header is awaited.
 pub fn header(boot: Boot<WantHeader>, own: &Own, tick: u64, what: What, outs: &mut Outs) -> Stage
     requires { outs.old ≡ [] }
@@ -71,15 +84,15 @@ pub fn header(boot: Boot<WantHeader>, own: &Own, tick: u64, what: What, outs: &m
         (with_read own.now.settings own.now.me.0 log tick (read_as own.now.settings own.now.me.0 log what)) }
 {
     qn_boot::law_boot_waits();
-    match what {
-        What::Header(seen) => match boot.header(seen) {
-            Ok(next) => {
-                go_on(DiskOp::ReadSlot(own.me), outs);
-                Stage::Slot(next)
-            }
-            Err(halt) => halted(halt.cause, None, outs),
-        },
-        _ => Stage::Header(boot),
+    let What::Header(seen) = what else {
+        return Stage::Header(boot);
+    };
+    match boot.header(seen) {
+        Ok(next) => {
+            go_on(DiskOp::ReadSlot(own.me), outs);
+            Stage::Slot(next)
+        }
+        Err(halt) => halted(halt.cause, None, outs),
     }
 }
 
@@ -97,15 +110,13 @@ pub fn slot(boot: Boot<WantSlot>, own: &Own, tick: u64, what: What, outs: &mut O
         (with_read own.now.settings own.now.me.0 log tick (read_as own.now.settings own.now.me.0 log what)) }
 {
     qn_boot::law_boot_waits();
-    match what {
-        What::SlotRead(rank, seen) => {
-            if rank.0 != own.me.0 {
-                return Stage::Slot(boot);
-            }
-            own_slot(boot, seen, outs)
-        }
-        _ => Stage::Slot(boot),
+    let What::SlotRead(rank, seen) = what else {
+        return Stage::Slot(boot);
+    };
+    if rank.0 != own.me.0 {
+        return Stage::Slot(boot);
     }
+    own_slot(boot, seen, outs)
 }
 
 /// The own slot was read.
@@ -120,6 +131,36 @@ fn own_slot(boot: Boot<WantSlot>, seen: SlotSeen, outs: &mut Outs) -> Stage
         → outs.new ≡ newest_outs (with_read s me log tick (What.SlotRead (rank_of me) seen)) }
 {
     match boot.slot(seen) {
+        Ok(AfterSlot::Check(next)) => {
+            go_on(DiskOp::CheckMail, outs);
+            Stage::Check(next)
+        }
+        Ok(AfterSlot::Claim(next)) => {
+            go_on(DiskOp::WriteClaim(next.claims()), outs);
+            Stage::Claim(next)
+        }
+        Err(halt) => halted(halt.cause, None, outs),
+    }
+}
+
+/// An entry while the check of the own mailbox is awaited.
+pub fn checked(boot: Boot<WantCheck>, own: &Own, tick: u64, what: What, outs: &mut Outs) -> Stage
+    requires { outs.old ≡ [] }
+    ensures few { installs_in result ≡ 0 }
+    ensures stands { (log : List Line)
+        → WantCheckFor own.now.settings boot log
+        → StageFor result own.now.settings own.now.me.0
+        (with_read own.now.settings own.now.me.0 log tick (read_as own.now.settings own.now.me.0 log what)) }
+    ensures outs { (log : List Line)
+        → WantCheckFor own.now.settings boot log
+        → outs.new ≡ newest_outs
+        (with_read own.now.settings own.now.me.0 log tick (read_as own.now.settings own.now.me.0 log what)) }
+{
+    qn_boot::law_boot_waits();
+    let What::MailChecked(seen) = what else {
+        return Stage::Check(boot);
+    };
+    match boot.checked(seen) {
         Ok(next) => {
             go_on(DiskOp::WriteClaim(next.claims()), outs);
             Stage::Claim(next)
@@ -143,15 +184,15 @@ pub fn claimed(boot: Boot<WantClaim>, own: &Own, tick: u64, what: What, outs: &m
 {
     qn_boot::law_boot_waits();
     let claims = boot.claims();
-    match what {
-        What::Claimed(ok) => match boot.claimed(ok) {
-            Ok(next) => {
-                go_on(DiskOp::WriteClear, outs);
-                Stage::Clear(next)
-            }
-            Err(halt) => halted(halt.cause, Some(claims), outs),
-        },
-        _ => Stage::Claim(boot),
+    let What::Claimed(ok) = what else {
+        return Stage::Claim(boot);
+    };
+    match boot.claimed(ok) {
+        Ok(next) => {
+            go_on(DiskOp::WriteClear, outs);
+            Stage::Clear(next)
+        }
+        Err(halt) => halted(halt.cause, Some(claims), outs),
     }
 }
 
@@ -171,15 +212,15 @@ pub fn cleared(boot: Boot<WantClear>, own: &Own, tick: u64, what: What, outs: &m
 {
     qn_boot::law_boot_waits();
     let claims = boot.claims();
-    match what {
-        What::Cleared(ok) => match boot.cleared(tick, ok) {
-            Ok(ready) => {
-                go_on(DiskOp::ReadMail, outs);
-                Stage::Live(Live::new(own, ready))
-            }
-            Err(halt) => halted(halt.cause, Some(claims), outs),
-        },
-        _ => Stage::Clear(boot),
+    let What::Cleared(ok) = what else {
+        return Stage::Clear(boot);
+    };
+    match boot.cleared(tick, ok) {
+        Ok(ready) => {
+            go_on(DiskOp::ReadMail, outs);
+            Stage::Live(Live::new(own, ready))
+        }
+        Err(halt) => halted(halt.cause, Some(claims), outs),
     }
 }
 

@@ -1,12 +1,12 @@
+//! A node that takes part: its parts, and how one entry is taken in by each.
 use crate::own::Own;
 use crate::resource::Resource;
 use crate::rest::Rest;
-use crate::votes::count;
+use crate::tally::Tally;
 use qn_boot::Ready;
 use qn_fence::Fence;
 use qn_heard::Heard;
 use qn_model::{DiskOp, Entry, HaltKind, MailSeen, Message, Out, Outs, Phase, VoteWhat, What};
-use qn_quorum::Quorum;
 use qn_watch::{Verdict, Watch};
 
 /// A node that takes part in the cluster. Ticks are milliseconds of the node's clock.
@@ -49,11 +49,11 @@ impl Live {
     ghost use Rattle.qn_boot.specs.Boot.{ReadyFor};
     ghost use Rattle.qn_fence.specs.Fence.{FenceFor, IsAskedInside};
     ghost use Rattle.qn_heard.specs.Heard.{HeardBefore, HeardFor, installs_of};
-    ghost use Rattle.qn_quorum.specs.Quorum.{QuorumFor};
     ghost use Rattle.qn_watch.specs.Watch.{WatchFor};
     ghost use Rattle.qn_node.specs.Live.{LiveFor, course_of, fits_live, is_boot_entry, live_phase};
     ghost use Rattle.qn_node.specs.Stage.{StageFor, installs_in, stage_after};
     ghost use Rattle.qn_node.specs.Resource.{after_entry, is_held};
+    ghost use Rattle.qn_node.specs.Tally.{TallyFor};
 
     /// A node whose boot has just ended well.
     pub fn new(own: &Own, ready: Ready) -> Self
@@ -83,7 +83,7 @@ impl Live {
     pub fn step(
         &mut self,
         own: &Own,
-        quorum: &mut Quorum,
+        tally: &mut Tally,
         entry: Entry,
         outs: &mut Outs,
     ) -> Option<Rest>
@@ -92,17 +92,17 @@ impl Live {
         ensures few { installs_in (stage_after self.new result) ≤ installs_of self.old.heard + 1 }
         ensures counts { (log : List Line)
             → LiveFor self.old own.now.settings own.now.me.0 log
-            → QuorumFor quorum.old own.now.settings (votes log)
-            → QuorumFor quorum.new own.now.settings (votes (with_entry own.now.settings own.now.me.0 log entry)) }
+            → TallyFor tally.old own.now.settings (votes log)
+            → TallyFor tally.new own.now.settings (votes (with_entry own.now.settings own.now.me.0 log entry)) }
         ensures stands { (log : List Line)
             → LiveFor self.old own.now.settings own.now.me.0 log
-            → QuorumFor quorum.old own.now.settings (votes log)
+            → TallyFor tally.old own.now.settings (votes log)
             → now log ≤ entry.tick
             → StageFor (stage_after self.new result) own.now.settings own.now.me.0
             (with_entry own.now.settings own.now.me.0 log entry) }
         ensures outs { (log : List Line)
             → LiveFor self.old own.now.settings own.now.me.0 log
-            → QuorumFor quorum.old own.now.settings (votes log)
+            → TallyFor tally.old own.now.settings (votes log)
             → now log ≤ entry.tick
             → outs.new ≡ newest_outs (with_entry own.now.settings own.now.me.0 log entry) }
     {
@@ -110,7 +110,7 @@ impl Live {
         let what = self.read(own, entry.what);
         let course = self.course(tick, what);
         let vote = self.hear(tick, what);
-        count(quorum, tick, vote);
+        tally.count(own, tick, vote);
         self.settle(tick, what);
         match course {
             Course::Halt(message) => {
@@ -123,7 +123,7 @@ impl Live {
             }
             Course::Act { feeds, leaving } => {
                 self.leaving = leaving;
-                self.act(own, tick, what, feeds, quorum.answer(tick), outs);
+                self.act(own, tally, tick, what, feeds, outs);
                 None
             }
         }
@@ -144,7 +144,7 @@ impl Live {
         ensures { result ≡ fits_live own.now.settings own.now.me.0 self.now what }
     {
         match what {
-            What::Begin => false,
+            What::Begin | What::BeginClean => false,
             What::View(view) => own.is_own_view(view),
             What::Ask(ask) => own.is_for(ask.from, ask.to),
             What::Tell(tell) => own.is_for(tell.from, tell.to),
@@ -153,6 +153,7 @@ impl Live {
             What::Leave => !self.leaving,
             What::Header(_)
             | What::SlotRead(..)
+            | What::MailChecked(_)
             | What::Claimed(_)
             | What::Cleared(_)
             | What::MailRead(_)

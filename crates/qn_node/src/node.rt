@@ -1,11 +1,12 @@
+//! A node and its calls: one step, the condition that blocks a start, votes, phase and incarnation.
 ghost use Rattle.std.specs.Prelude.{◌≤◌, ◌+◌};
 ghost use Rattle.qn_node.specs.Stage.{installs_in};
 
 use crate::own::Own;
 use crate::stage::Stage;
+use crate::tally::Tally;
 use qn_base::Rank;
 use qn_model::{Answer, Entry, Outs, Phase, Settings, Why};
-use qn_quorum::Quorum;
 
 /// One member of the cluster. Ticks are milliseconds of its clock.
 #[derive(Drop)]
@@ -13,7 +14,7 @@ pub struct Node {
     own: Own,
     steps_left: u64,
     incarnation: Option<u64>,
-    quorum: Quorum,
+    tally: Tally,
     stage: Stage,
     ghost few_views: { installs_in stage + steps_left ≤ 18446744073709551615 },
 }
@@ -24,7 +25,7 @@ impl Node {
     ghost use Rattle.qn_model.specs.Log.{Line, incarnation, now};
     ghost use Rattle.qn_model.specs.Phases.{is_live, phase};
     ghost use Rattle.qn_model.specs.Holding.{holds};
-    ghost use Rattle.qn_model.specs.NodeVotes.{answer};
+    ghost use Rattle.qn_model.specs.NodeVotes.{answer_with_tie};
     ghost use Rattle.qn_model.specs.NodeOutputs.{newest_outs, with_entry};
     ghost use Rattle.qn_model.specs.Unmet.{unmet};
     ghost use Rattle.qn_node.specs.Node.{NodeFor, phase_of, steps_of};
@@ -37,14 +38,16 @@ impl Node {
         ensures fresh { steps_of result ≡ u64.MAX }
     {
         qn_fence::law_asked_inside();
+        let own = Own {
+            settings: settings.copy(),
+            me,
+        };
+        let tally = Tally::new(&own);
         Node {
-            own: Own {
-                settings: settings.copy(),
-                me,
-            },
+            own,
             steps_left: u64::MAX,
             incarnation: None,
-            quorum: Quorum::new(settings),
+            tally,
             stage: Stage::Idle,
         }
     }
@@ -71,10 +74,10 @@ impl Node {
         outs.clear();
         self.incarnation = self.stage.claims();
         self.steps_left -= 1;
-        self.stage.step(&self.own, &mut self.quorum, entry, outs);
+        self.stage.step(&self.own, &mut self.tally, entry, outs);
     }
 
-    /// The first condition that a start of the resource still lacks at this tick, which is not below that of
+    /// The first condition that blocks a start of the resource at this tick, which is not below that of
     /// the last entry.
     pub fn why(&self, tick: u64) -> Why
         ensures { (s : Settings) (me : ℕ) (log : List Line)
@@ -82,14 +85,27 @@ impl Node {
             → now log ≤ tick
             → result ≡ unmet s me log tick }
     {
-        self.stage.why(&self.own, tick, self.quorum.answer(tick))
+        self.why_with(tick, self.answer(tick))
     }
 
-    /// The count of votes at this tick.
-    pub fn answer(&self, tick: u64) -> Answer
-        ensures { (s : Settings) (me : ℕ) (log : List Line) → NodeFor self.now s me log → result ≡ answer s log tick }
+    /// The same as `why`, where the count of votes at the tick is known.
+    pub fn why_with(&self, tick: u64, count: Answer) -> Why
+        ensures { (s : Settings) (me : ℕ) (log : List Line)
+            → NodeFor self.now s me log
+            → now log ≤ tick
+            → count ≡ answer_with_tie s log tick
+            → result ≡ unmet s me log tick }
     {
-        self.quorum.answer(tick)
+        self.stage.why(&self.own, tick, count)
+    }
+
+    /// The count of votes at this tick, with the tie breaker.
+    pub fn answer(&self, tick: u64) -> Answer
+        ensures { (s : Settings) (me : ℕ) (log : List Line)
+            → NodeFor self.now s me log
+            → result ≡ answer_with_tie s log tick }
+    {
+        self.tally.answer(&self.own, tick)
     }
 
     /// Whether the node holds the resource.
@@ -131,7 +147,7 @@ impl Node {
             own: self.own.copy(),
             steps_left: self.steps_left,
             incarnation: self.incarnation,
-            quorum: self.quorum.copy(),
+            tally: self.tally.copy(),
             stage: self.stage.copy(),
         }
     }

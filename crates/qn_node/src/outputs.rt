@@ -1,3 +1,4 @@
+//! Lists of outputs: adds one where a test holds.
 ghost use Rattle.std.specs.Prelude.{◌≡◌, ◌+◌, ◌<◌, ◌≤◌, ◌++◌, length};
 ghost use Rattle.qn_model.specs.NodeOutputs.{disk_outs, when};
 

@@ -1,3 +1,4 @@
+//! Which node this is: its rank and its settings.
 use qn_base::{NodeId, Rank, View};
 use qn_model::Settings;
 
@@ -9,9 +10,10 @@ pub struct Own {
 }
 
 impl Own {
-    ghost use Rattle.std.specs.Prelude.{◌≡◌, ◌<◌, ◌≤◌, length, nat_lt};
+    ghost use Rattle.std.specs.Prelude.{◌≡◌, ◌<◌, ◌≤◌, ◌+◌, length, nat_le, nat_lt};
     ghost use Rattle.qn_model.specs.Fitting.{is_for, is_own_view};
     ghost use Rattle.qn_model.specs.Unmet.{id_of};
+    ghost use Rattle.qn_model.specs.Wanted.{fence_delay};
 
     /// How many nodes are configured.
     pub fn count(&self) -> u8
@@ -37,6 +39,24 @@ impl Own {
         } else {
             NodeId(0)
         }
+    }
+
+    /// How many milliseconds after a view a rank may be reset, 0 where it is not configured.
+    pub fn fence_delay(&self, rank: Rank) -> u64
+        ensures { result ≡ fence_delay self.now.settings rank.0 }
+    {
+        if self.has(rank) {
+            self.settings.nodes.get(usize::from(rank.0)).fence_delay
+        } else {
+            0
+        }
+    }
+
+    /// Whether the fence delay of a rank is over at this tick, after a view at the tick `since`.
+    pub fn is_delay_over(&self, rank: Rank, since: u64, tick: u64) -> bool
+        ensures { result ≡ nat_le (since + fence_delay self.now.settings rank.0) tick }
+    {
+        tick >= since && tick - since >= self.fence_delay(rank)
     }
 
     /// Whether the members of a view are configured and contain this node.

@@ -1,3 +1,4 @@
+//! What a node does with the resource: free, held, stopping, or a stop that failed.
 use qn_model::What;
 
 /// What a node does with the resource. Ticks are milliseconds of the node's clock.

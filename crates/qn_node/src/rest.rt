@@ -1,3 +1,4 @@
+//! A node of which nothing comes any more.
 use crate::resource::Resource;
 use qn_model::{Phase, What};
 

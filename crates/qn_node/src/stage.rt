@@ -1,10 +1,11 @@
-use crate::booting::{begin, claimed, cleared, header, slot};
+//! The stages of a node's life, from before its first entry to its end.
+use crate::booting::{begin, checked, claimed, cleared, header, slot};
 use crate::live::Live;
 use crate::own::Own;
 use crate::rest::Rest;
-use qn_boot::{Boot, WantClaim, WantClear, WantHeader, WantSlot};
-use qn_model::{Answer, Entry, Outs, Phase, Why};
-use qn_quorum::Quorum;
+use crate::tally::Tally;
+use qn_boot::{Boot, WantCheck, WantClaim, WantClear, WantHeader, WantSlot};
+use qn_model::{Answer, Entry, Outs, Phase, VoteWhat, Why};
 use std::mem;
 
 /// Where a node is in its life.
@@ -16,6 +17,8 @@ pub enum Stage {
     Header(Boot<WantHeader>),
     /// The boot waits for the own slot.
     Slot(Boot<WantSlot>),
+    /// The boot, a clean start, waits for the check of the own mailbox.
+    Check(Boot<WantCheck>),
     /// The boot waits for its claim to be written.
     Claim(Boot<WantClaim>),
     /// The boot waits for the own mailbox to be cleared.
@@ -31,42 +34,42 @@ impl Stage {
     ghost use Rattle.qn_model.specs.Log.{Line, now};
     ghost use Rattle.qn_model.specs.Fitting.{read_as};
     ghost use Rattle.qn_model.specs.NodeOutputs.{newest_outs, with_entry, with_read};
-    ghost use Rattle.qn_model.specs.NodeVotes.{answer as answer_of, votes};
+    ghost use Rattle.qn_model.specs.NodeVotes.{answer_with_tie, votes};
     ghost use Rattle.qn_model.specs.Phases.{is_live};
     ghost use Rattle.qn_model.specs.Unmet.{unmet};
     ghost use Rattle.qn_fence.specs.Fence.{IsAskedInside};
-    ghost use Rattle.qn_quorum.specs.Quorum.{QuorumFor};
     ghost use Rattle.qn_node.specs.Stage.{StageFor, claims_in, holds_in, installs_in, takes_part, stage_phase};
+    ghost use Rattle.qn_node.specs.Tally.{TallyFor};
 
     /// Takes an entry in, and gives its outputs.
-    pub fn step(&mut self, own: &Own, quorum: &mut Quorum, entry: Entry, outs: &mut Outs)
+    pub fn step(&mut self, own: &Own, tally: &mut Tally, entry: Entry, outs: &mut Outs)
         requires few { installs_in self.old < u64.MAX }
         requires empty { outs.old ≡ [] }
         ensures few { installs_in self.new ≤ installs_in self.old + 1 }
         ensures counts { (log : List Line)
             → StageFor self.old own.now.settings own.now.me.0 log
-            → QuorumFor quorum.old own.now.settings (votes log)
-            → QuorumFor quorum.new own.now.settings (votes (with_entry own.now.settings own.now.me.0 log entry)) }
+            → TallyFor tally.old own.now.settings (votes log)
+            → TallyFor tally.new own.now.settings (votes (with_entry own.now.settings own.now.me.0 log entry)) }
         ensures stands { (log : List Line)
             → StageFor self.old own.now.settings own.now.me.0 log
-            → QuorumFor quorum.old own.now.settings (votes log)
+            → TallyFor tally.old own.now.settings (votes log)
             → IsAskedInside log
             → now log ≤ entry.tick
             → StageFor self.new own.now.settings own.now.me.0
             (with_entry own.now.settings own.now.me.0 log entry) }
         ensures outs { (log : List Line)
             → StageFor self.old own.now.settings own.now.me.0 log
-            → QuorumFor quorum.old own.now.settings (votes log)
+            → TallyFor tally.old own.now.settings (votes log)
             → now log ≤ entry.tick
             → outs.new ≡ newest_outs (with_entry own.now.settings own.now.me.0 log entry) }
     {
         if let Stage::Live(live) = self {
-            if let Some(rest) = live.step(own, quorum, entry, outs) {
+            if let Some(rest) = live.step(own, tally, entry, outs) {
                 *self = Stage::Rest(rest);
             }
             return;
         }
-        quorum.on_tick(entry.tick);
+        tally.count(own, entry.tick, VoteWhat::Tick);
         let quiet = mem::replace(self, Stage::Idle);
         *self = quiet.next(own, entry, outs);
     }
@@ -91,6 +94,7 @@ impl Stage {
             Stage::Idle => begin(own, tick, what, outs),
             Stage::Header(boot) => header(boot, own, tick, what, outs),
             Stage::Slot(boot) => slot(boot, own, tick, what, outs),
+            Stage::Check(boot) => checked(boot, own, tick, what, outs),
             Stage::Claim(boot) => claimed(boot, own, tick, what, outs),
             Stage::Clear(boot) => cleared(boot, own, tick, what, outs),
             Stage::Live(_) => unreachable!(),
@@ -98,13 +102,13 @@ impl Stage {
         }
     }
 
-    /// The first condition that a start of the resource still lacks at this tick, which is not below that of
-    /// the last entry. `answer` is the count of votes at the tick.
+    /// The first condition that blocks a start of the resource at this tick, which is not below that of
+    /// the last entry. `answer` is the count of votes at the tick, with the tie breaker.
     pub fn why(&self, own: &Own, tick: u64, answer: Answer) -> Why
         ensures { (log : List Line)
             → StageFor self.now own.now.settings own.now.me.0 log
             → now log ≤ tick
-            → answer ≡ answer_of own.now.settings log tick
+            → answer ≡ answer_with_tie own.now.settings log tick
             → result ≡ unmet own.now.settings own.now.me.0 log tick }
     {
         if let Stage::Live(live) = self {
@@ -122,8 +126,12 @@ impl Stage {
         match self {
             Stage::Live(live) => Stage::Live(live.copy()),
             Stage::Rest(rest) => Stage::Rest(*rest),
-            Stage::Idle | Stage::Header(_) | Stage::Slot(_) | Stage::Claim(_) | Stage::Clear(_) =>
-                unreachable!(),
+            Stage::Idle
+            | Stage::Header(_)
+            | Stage::Slot(_)
+            | Stage::Check(_)
+            | Stage::Claim(_)
+            | Stage::Clear(_) => unreachable!(),
         }
     }
 
@@ -132,7 +140,7 @@ impl Stage {
         ensures { result ≡ claims_in self.now }
     {
         match self {
-            Stage::Idle | Stage::Header(_) | Stage::Slot(_) => None,
+            Stage::Idle | Stage::Header(_) | Stage::Slot(_) | Stage::Check(_) => None,
             Stage::Claim(boot) => Some(boot.claims()),
             Stage::Clear(boot) => Some(boot.claims()),
             Stage::Live(live) => Some(live.incarnation()),
@@ -147,8 +155,12 @@ impl Stage {
         match self {
             Stage::Live(live) => live.phase(),
             Stage::Rest(rest) => rest.phase,
-            Stage::Idle | Stage::Header(_) | Stage::Slot(_) | Stage::Claim(_) | Stage::Clear(_) =>
-                Phase::Booting,
+            Stage::Idle
+            | Stage::Header(_)
+            | Stage::Slot(_)
+            | Stage::Check(_)
+            | Stage::Claim(_)
+            | Stage::Clear(_) => Phase::Booting,
         }
     }
 
@@ -159,8 +171,12 @@ impl Stage {
         match self {
             Stage::Live(live) => live.holds(),
             Stage::Rest(rest) => rest.resource.is_held(),
-            Stage::Idle | Stage::Header(_) | Stage::Slot(_) | Stage::Claim(_) | Stage::Clear(_) =>
-                false,
+            Stage::Idle
+            | Stage::Header(_)
+            | Stage::Slot(_)
+            | Stage::Check(_)
+            | Stage::Claim(_)
+            | Stage::Clear(_) => false,
         }
     }
 }

@@ -1,7 +1,8 @@
+//! A node of one that boots and starts.
 use qn_base::{Mask, NodeId, Rank, View};
 use qn_model::{
-    DiskOp, Entry, HeaderSeen, MailSeen, Message, NodeEntry, Nodes, Out, Outs, Phase, Settings,
-    Slot, SlotSeen, Timing, What, Why,
+    BootCause, DiskOp, Entry, HaltKind, HeaderSeen, MailSeen, Message, NodeEntry, Nodes, Out, Outs,
+    Phase, Settings, Slot, SlotSeen, Timing, What, Why,
 };
 use qn_node::Node;
 
@@ -23,6 +24,7 @@ fn one_node() -> Settings {
     nodes.push(NodeEntry {
         id: NodeId(1),
         votes: 1,
+        fence_delay: 0,
     });
     Settings {
         nodes,
@@ -32,6 +34,7 @@ fn one_node() -> Settings {
         window: 10000,
         device: None,
         expected: 1,
+        tie: None,
     }
 }
 
@@ -99,4 +102,60 @@ fn boots_and_starts(rt: HostRuntime) {
     assert!(rt; copy.steps_left() == node.steps_left());
     assert!(rt; copy.holds());
     assert!(rt; copy.answer(7).votes == 1);
+}
+
+// In a clean start the node checks its mailbox between its slot and its claim, later than its read limit
+// too; a second BeginClean is a Tick. A test in the mailbox ends the boot.
+#[test]
+fn a_clean_start_checks_the_mailbox(rt: HostRuntime) {
+    let slot = Slot {
+        incarnation: 6,
+        clean: true,
+    };
+    let header = HeaderSeen::Read {
+        nodes: 1,
+        timing: TIMES,
+    };
+    let begins: [(u64, What, &[Out]); 4] = [
+        (0, What::BeginClean, &[Out::Disk(DiskOp::ReadHeader)]),
+        (
+            0,
+            What::Header(header),
+            &[Out::Feed, Out::Disk(DiskOp::ReadSlot(Rank(0)))],
+        ),
+        (
+            0,
+            What::SlotRead(Rank(0), SlotSeen::Read(slot)),
+            &[Out::Feed, Out::Disk(DiskOp::CheckMail)],
+        ),
+        (1, What::BeginClean, &[]),
+    ];
+    let ends: [(Message, &[Out], Phase); 2] = [
+        (
+            Message::Exit,
+            &[Out::Feed, Out::Disk(DiskOp::WriteClaim(7))],
+            Phase::Booting,
+        ),
+        (
+            Message::Test,
+            &[Out::Halt(HaltKind::Boot(BootCause::NotClean))],
+            Phase::Gone,
+        ),
+    ];
+    let settings = one_node();
+    assert!(rt; settings.nodes.len() == 1);
+    let mut outs = Outs::new();
+    for (message, want, phase) in ends {
+        let mut node = Node::new(&settings, Rank(0));
+        for (tick, what, first) in begins {
+            assert!(rt; node.steps_left() > 0);
+            node.step(Entry { tick, what }, &mut outs);
+            assert!(rt; outs.as_slice() == first);
+        }
+        assert!(rt; node.steps_left() > 0);
+        let what = What::MailChecked(MailSeen::Read(message));
+        node.step(Entry { tick: 9, what }, &mut outs);
+        assert!(rt; outs.as_slice() == want);
+        assert!(rt; node.phase() == phase);
+    }
 }

@@ -1,3 +1,4 @@
+//! The evaluation over the whole list: reads that feed, stale tells, and the stop before a leave.
 use qn_base::{Mask, NodeId, Rank, View};
 use qn_model::{
     Answer, BootCause, DiskOp, Entry, HaltKind, HeaderSeen, MailSeen, Message, NodeEntry, Nodes,
@@ -31,6 +32,7 @@ fn settings_of(count: u32) -> Settings {
             nodes.push(NodeEntry {
                 id: NodeId(id),
                 votes: 1,
+                fence_delay: 0,
             });
         }
     }
@@ -42,6 +44,7 @@ fn settings_of(count: u32) -> Settings {
         window: 10000,
         device: None,
         expected: u64::from(count),
+        tie: None,
     }
 }
 

@@ -1,3 +1,4 @@
+//! A world of one node that boots, starts and crashes, and the events that it refuses.
 ghost use Rattle.std.specs.Prelude.{◌≡◌, ◌<◌, ◌≤◌, true, length};
 ghost use Rattle.qn_model.specs.Rules.{is_well_formed};
 ghost use Rattle.qn_model.specs.Settings.{IsValid};
@@ -5,7 +6,8 @@ ghost use Rattle.qn_model.specs.Timing.{is_safe};
 
 use qn_base::{LATEST_TIME, Mask, NodeId, Rank, View};
 use qn_model::{
-    DiskOp, Event, NodeEntry, Nodes, Out, Refused, Report, Rule, Settings, Timing, Why,
+    BootCause, DiskOp, Event, HaltKind, Message, NodeEntry, Nodes, Out, Refused, Report, Rule,
+    Settings, Timing, Why,
 };
 use qn_world::{NodeSeen, World, blank_report};
 use std::process::Abort;
@@ -25,6 +27,7 @@ fn one_node() -> Settings
     nodes.push(NodeEntry {
         id: NodeId(1),
         votes: 1,
+        fence_delay: 0,
     });
     Settings {
         nodes,
@@ -34,6 +37,7 @@ fn one_node() -> Settings
         window: 10000,
         device: None,
         expected: 1,
+        tie: None,
     }
 }
 
@@ -44,10 +48,13 @@ fn is_formed(settings: &Settings, event: &Event) -> bool
     ensures { result ≡ true → is_well_formed settings.now event.now ≡ true }
 {
     match event {
-        Event::Boot(i, base) => i.0 == 0 && *base <= 1000000000000000,
-        Event::Crash(i) | Event::Land(i) | Event::Done(i) | Event::Tick(i) | Event::Feed(i) => {
-            i.0 == 0
-        }
+        Event::Boot(i, base) | Event::BootClean(i, base) => i.0 == 0 && *base <= 1000000000000000,
+        Event::Crash(i)
+        | Event::Land(i)
+        | Event::Done(i)
+        | Event::Tick(i)
+        | Event::Feed(i)
+        | Event::Operator(i, _) => i.0 == 0,
         _ => false,
     }
 }
@@ -139,4 +146,46 @@ fn one_node_boots_starts_and_crashes(rt: HostRuntime) {
     assert!(rt; report.holders == Mask(0));
     assert!(rt; world.steps_left() == u64::MAX - 11);
     assert!(rt; world.time() == 0);
+}
+
+// An operator stops a node before it boots: its clean start is refused at the check of its mailbox. While the
+// node runs no message takes the deadly one back.
+#[test]
+fn a_clean_start_is_refused_after_off(rt: HostRuntime) {
+    let clear = Event::Operator(FIRST, Message::Empty);
+    let rows: [(Event, &[Out]); 8] = [
+        (Event::Operator(FIRST, Message::Off), &[]),
+        (Event::BootClean(FIRST, 0), &[Out::Disk(DiskOp::ReadHeader)]),
+        (Event::Land(FIRST), &[]),
+        (
+            Event::Done(FIRST),
+            &[Out::Feed, Out::Disk(DiskOp::ReadSlot(FIRST))],
+        ),
+        (Event::Land(FIRST), &[]),
+        (
+            Event::Done(FIRST),
+            &[Out::Feed, Out::Disk(DiskOp::CheckMail)],
+        ),
+        (Event::Land(FIRST), &[]),
+        (
+            Event::Done(FIRST),
+            &[Out::Halt(HaltKind::Boot(BootCause::NotClean))],
+        ),
+    ];
+    let Ok(mut world) = World::new(rt.alloc(), one_node(), Timing::usual()) else {
+        panic!(rt; "no memory");
+    };
+    let mut report = blank_report();
+    for (event, outs) in rows {
+        assert!(rt; apply(&rt, &mut world, &event, &mut report).is_ok());
+        assert!(rt; report.touched == Some(FIRST));
+        assert!(rt; report.outs.as_slice() == outs);
+        assert!(rt; report.why == Why::Down);
+        if seen(&rt, &world).running {
+            let refused = Err(Refused::NotAllowed(Rule(10)));
+            assert!(rt; apply(&rt, &mut world, &clear, &mut report) == refused);
+        }
+    }
+    assert!(rt; apply(&rt, &mut world, &clear, &mut report).is_ok());
+    assert!(rt; report.outs.is_empty());
 }

@@ -6,18 +6,23 @@ use Rattle.qn_model.specs.declared.votes.Answer.{Answer}
 use Rattle.qn_model.specs.declared.configuration.Settings.{Settings}
 use Rattle.qn_model.specs.declared.votes.VoteEntry.{VoteEntry}
 use Rattle.qn_model.specs.Votes.{present_view, view_tick, is_released, expected_votes, device_yes, answer_at}
-use Rattle.qn_plain.specs.Tally.{tally_of, tally_answer, with_entry, with_lowered}
+use Rattle.qn_model.specs.Tie.{answer_with_tie_at, majority_view}
+use Rattle.qn_plain.specs.Tally.{tally_after, tally_of, tally_answer, tally_with_tie}
 
 -- the tally of a list with one more entry
 pub tally_of-cons : (s : Settings) (entry : VoteEntry) (past : List VoteEntry)
-    → with_lowered s entry.tick (with_entry s entry (tally_of s past)) ≡ tally_of s (entry ∷ past)
-unfolding present_view view_tick is_released expected_votes device_yes
+    → tally_after s entry (tally_of s past) ≡ tally_of s (entry ∷ past)
+unfolding present_view view_tick is_released expected_votes device_yes majority_view
 tally_of-cons s entry past = refl
 
 -- the count is read off the tally
 pub tally_answer-tally_of : (s : Settings) (past : List VoteEntry) (now : ℕ) → tally_answer s (tally_of s past) now ≡ answer_at s past now
 unfolding answer_at
 tally_answer-tally_of s past now = refl
+
+pub tally_with_tie-tally_of : (s : Settings) (past : List VoteEntry) (now : ℕ) → tally_with_tie s (tally_of s past) now ≡ answer_with_tie_at s past now
+unfolding answer_at
+tally_with_tie-tally_of s past now = refl
 
 -- the entries up to one, newest first, are it and those before it
 reverse-take_more : (votes : List VoteEntry) (i : ℕ) (d : VoteEntry) → i < length votes

@@ -1,6 +1,6 @@
 -- What comes out of an entry, by what is kept, is what comes out of it by the log.
-use Rattle.std.proofs.Common.{◌≡◌, ℕ, zero, suc, ◌+◌, ◌<◌, ◌≤◌, Bool, false, List, [], ◌++◌, length, Option, None, Some, refl, ap, sym, ◌∙◌, arith}
-use Rattle.std.specs.Prelude.{◌&&◌, ◌||◌, ◌==◌, not, if◌then◌else◌, nat_le, is_some, unwrap_or, map, filter}
+use Rattle.std.proofs.Common.{◌≡◌, ℕ, zero, suc, ◌+◌, ◌<◌, ◌≤◌, Bool, true, false, List, [], ◌++◌, length, Option, None, Some, refl, ap, sym, ◌∙◌, arith}
+use Rattle.std.specs.Prelude.{◌&&◌, ◌||◌, ◌==◌, not, if◌then◌else◌, nat_le, is_some, option_and_then, unwrap_or, map, filter}
 use Rattle.std.specs.Option.{option_map, option_map_or, option_or}
 use Rattle.std.specs.List.{range_with_len}
 use Rattle.qn_base.specs.declared.ids.Rank.{Rank}
@@ -14,18 +14,19 @@ use Rattle.qn_model.specs.declared.outputs.Out.TheVariants as out
 use Rattle.qn_model.specs.declared.packets.Packet.TheVariants as packet
 use Rattle.qn_model.specs.declared.outputs.DiskOp.{DiskOp}
 use Rattle.qn_model.specs.declared.outputs.DiskOp.TheVariants as disk
-use Rattle.qn_model.specs.Log.{Line, claimed, incarnation, now, op_out, timing}
+use Rattle.qn_model.specs.Log.{Line, begins_clean, claimed, incarnation, now, op_out, slot_number, timing}
 use Rattle.qn_model.specs.Phases.{deadly_of, is_booting, is_leaving, is_live, is_up, message_of, phase}
 use Rattle.qn_model.specs.Holding.{holds, may_stop}
-use Rattle.qn_model.specs.NodeVotes.{view}
+use Rattle.qn_model.specs.NodeVotes.{view, votes}
+use Rattle.qn_model.specs.Votes.{view_tick}
 use Rattle.qn_model.specs.Unmet.{chosen, is_chosen, is_clear, unmet}
-use Rattle.qn_model.specs.Wanted.{close_op, fencing_op, is_mail_due, mail_tick, may_fence, rank_of, to_read, to_reset, wanted}
+use Rattle.qn_model.specs.Wanted.{close_op, fence_delay, fencing_op_with_delay, is_delay_over, is_mail_due, mail_tick, may_fence, rank_of, to_read, to_reset, to_reset_now, wanted_with_delay}
 use Rattle.qn_model.specs.NodeOutputs.{acts, ask_to, asks, asks_under, boot_outs, disk_outs, gives_start, gives_stop, is_asked, is_asking, live_outs, mail_feeds, outs_at, replies, taken_in, when}
 use Rattle.qn_plain.specs.declared.past.Past.{Past}
 use Rattle.qn_plain.specs.declared.sought.Sought.TheVariants as sought
 use Rattle.qn_plain.specs.Lack.{is_rank}
 use Rattle.qn_plain.specs.Life.{is_timely, stops_again}
-use Rattle.qn_plain.specs.Outputs.{acts_at, asks_at_entry, asks_from, close_op_of, fencing_op_at, gives_start_at, gives_stop_at, is_asked_of, is_mail_due_at, live_outs_at, may_fence_at, outs_after, replies_to, wanted_at}
+use Rattle.qn_plain.specs.Outputs.{acts_at, asks_at_entry, asks_from, close_op_of, fencing_op_at, gives_start_at, gives_stop_at, is_asked_of, is_delay_over_at, is_mail_due_at, live_outs_at, may_fence_at, outs_after, replies_to, to_reset_at, wanted_at}
 use Rattle.qn_plain.specs.Past.{PastFor, is_in}
 use Rattle.qn_plain.specs.Sought.{least_sought}
 use Rattle.qn_plain.proofs.Lives.{stops_again-stopping}
@@ -36,6 +37,19 @@ option_map-rank_of : (found : Option ℕ) (op : Rank → DiskOp)
     → option_map op (option_map rank_of found) ≡ option_map (λ rank. op (rank_of rank)) found
 option_map-rank_of None op = refl
 option_map-rank_of (Some rank) op = refl
+
+-- a number is kept where a test of it holds
+kept-rank_of : (found : Option ℕ) (first second : ℕ → Bool) → ((rank : ℕ) → first rank ≡ second rank)
+    → option_and_then (λ (rank : Rank). if first rank.0 then Some rank else None) (option_map rank_of found)
+    ≡ option_map rank_of (option_and_then (λ rank. if second rank then Some rank else None) found)
+kept-rank_of None first second same = refl
+kept-rank_of (Some rank) first second same = kept_if (first rank) (second rank) (same rank)
+  where
+    kept_if : (b kept : Bool) → b ≡ kept → (if b then Some (rank_of rank) else None) ≡ option_map rank_of (if kept then Some rank else None)
+    kept_if true true e = refl
+    kept_if true false e = absurd (cc)
+    kept_if false true e = absurd (cc)
+    kept_if false false e = refl
 
 is_rank-rank_of : (me : ℕ) (found : Option ℕ) → is_rank me (option_map rank_of found) ≡ option_map_or (λ rank. rank == me) found false
 is_rank-rank_of me None = refl
@@ -82,11 +96,20 @@ module _ (s : Settings) (past : Past) (log : List Line) (h : PastFor s past log)
   start_past : gives_start_at s me tick past ≡ gives_start s me log
   start_past = starts_past s past log h me tick ∙ ap (λ n. is_clear (unmet s me log n)) (sym t.at)
 
-  fencing_past : fencing_op_at s me tick past ≡ fencing_op s log
+  delay_past : (rank : ℕ) → is_delay_over_at s rank tick past ≡ is_delay_over s log rank
+  delay_past rank =
+      ap (λ t. nat_le (t.view_tick + fence_delay s rank) tick) h.tallies ∙ ap (nat_le (view_tick (votes log) + fence_delay s rank)) (sym t.at)
+
+  reset_past : to_reset_at s me tick past ≡ option_map rank_of (to_reset_now s log)
+  reset_past =
+      ap (option_and_then (λ rank. if is_delay_over_at s rank.0 tick past then Some rank else None)) (sought_unreset s past log h me tick)
+      ∙ kept-rank_of (to_reset s log) (λ rank. is_delay_over_at s rank tick past) (λ rank. is_delay_over s log rank) delay_past
+
+  fencing_past : fencing_op_at s me tick past ≡ fencing_op_with_delay s log
   fencing_past =
       let reads = ap (option_map (λ rank. disk.ReadSlot rank)) (sought_unread s past log h me tick) ∙ option_map-rank_of (to_read s log) (λ rank. disk.ReadSlot rank) in
-      let writes = ap (option_map (λ rank. disk.WriteReset rank)) (sought_unreset s past log h me tick) ∙ option_map-rank_of (to_reset s log) (λ rank. disk.WriteReset rank) in
-      ap (λ o. option_or o (option_map (λ rank. disk.WriteReset rank) (least_sought s sought.Unreset me tick past))) reads
+      let writes = ap (option_map (λ rank. disk.WriteReset rank)) reset_past ∙ option_map-rank_of (to_reset_now s log) (λ rank. disk.WriteReset rank) in
+      ap (λ o. option_or o (option_map (λ rank. disk.WriteReset rank) (to_reset_at s me tick past))) reads
       ∙ ap (option_or (option_map (λ rank. disk.ReadSlot (rank_of rank)) (to_read s log))) writes
 
   may_past : may_fence_at s me tick past ≡ may_fence s me log
@@ -98,8 +121,8 @@ module _ (s : Settings) (past : Past) (log : List Line) (h : PastFor s past log)
       = ap (is_rank me) (sought_chosen s past log h me tick) ∙ is_rank-rank_of me (chosen s log) in
       cc
 
-  wanted_past : wanted_at s me tick past ≡ wanted s me log
-  unfolding wanted
+  wanted_past : wanted_at s me tick past ≡ wanted_with_delay s me log
+  unfolding wanted_with_delay
   wanted_past =
       let out : is_some past.life.op ≡ is_some (op_out log) = ap (λ l. is_some l.op) h.lives in
       let due : is_mail_due_at tick past ≡ is_mail_due log = ap (λ l. nat_le (l.mail_tick + l.timing.loop_ms) tick) h.lives ∙ ap (λ n. nat_le (mail_tick log + (timing log).loop_ms) n) (sym t.at) in
@@ -161,6 +184,8 @@ pub outs_past : (s : Settings) (old new : Past) (log : List Line) (me tick : ℕ
     → outs_after s me old.life.phase (is_timely tick old.life) tick w new ≡ outs_at s me log tick w (taken_in log tick w)
 unfolding outs_at
 outs_past s old new log me tick w before h =
+    let live = live_outs_at s me tick new w (mail_feeds tick log w) (deadly_of (message_of w)) in
     let acts_too = live_past s new (taken_in log tick w) h me tick (taken log tick w) w (mail_feeds tick log w) (deadly_of (message_of w)) in
     ap (λ l. outs_after s me l.phase (is_timely tick l) tick w new) before.lives
-    ∙ ap (λ outs. if is_booting (phase s log) then boot_outs s me w else (if is_live (phase s log) then outs else [])) acts_too
+    ∙ (ap (λ l. if is_booting (phase s log) then boot_outs s me l.clean l.slot_number w else (if is_live (phase s log) then live else [])) h.lives
+    ∙ ap (λ outs. if is_booting (phase s log) then boot_outs s me (begins_clean (taken_in log tick w)) (slot_number (taken_in log tick w)) w else (if is_live (phase s log) then outs else [])) acts_too)

@@ -1,4 +1,5 @@
 pub mod Asking
+pub mod Claimable
 pub mod EntryByEntry
 pub mod Given
 pub mod Histories

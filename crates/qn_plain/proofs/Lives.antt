@@ -8,7 +8,7 @@ use Rattle.qn_model.specs.declared.entries.What.{What}
 use Rattle.qn_model.specs.declared.entries.What.TheVariants as what
 use Rattle.qn_model.specs.declared.outputs.Out.{Out}
 use Rattle.qn_model.specs.declared.votes.VoteWhat.TheVariants as vote
-use Rattle.qn_model.specs.Log.{Line, ask_place, ask_tick, claimed, is_answer, is_view, op_out, timing, view_of}
+use Rattle.qn_model.specs.Log.{Line, ask_place, ask_tick, begins_clean, claimed, is_answer, is_view, op_out, slot_number, timing, view_of}
 use Rattle.qn_model.specs.Phases.{phase}
 use Rattle.qn_model.specs.Holding.{holds, may_stop, stop_due}
 use Rattle.qn_model.specs.Hearing.{tell_of}
@@ -27,12 +27,12 @@ with_outs past tick entry outs =
 
 pub life_taken-life_of : (s : Settings) (log : List Line) (tick : ℕ) (entry : What)
     → life_taken s tick entry (life_of s log) ≡ life_of s (taken_in log tick entry)
-unfolding claimed op_out ask_place ask_tick timing phase holds stop_due mail_tick moment stopping
+unfolding begins_clean slot_number claimed op_out ask_place ask_tick timing phase holds stop_due mail_tick moment stopping
 life_taken-life_of s log tick entry = refl
 
 pub life_given-life_of : (s : Settings) (log : List Line) (tick : ℕ) (entry : What) (outs : List Out)
     → life_given (suc (length log)) tick outs (life_of s (taken_in log tick entry)) ≡ life_of s (with_outs log tick entry outs)
-unfolding claimed op_out ask_place ask_tick timing phase holds stop_due mail_tick moment stopping
+unfolding begins_clean slot_number claimed op_out ask_place ask_tick timing phase holds stop_due mail_tick moment stopping
 life_given-life_of s log tick entry outs = refl
 
 -- whether a Stop may be given is read off how the last one stands
@@ -51,8 +51,10 @@ stops_again-stopping wait tick (line ∷ past) =
 -- the present view of the vote list is that of the log
 view_said : (w : What) (said : Bool) (before : Option View) → newer_view (vote_said said w) before ≡ option_or (view_of w) before
 view_said what.Begin said before = refl
+view_said what.BeginClean said before = refl
 view_said (what.Header seen) said before = refl
 view_said (what.SlotRead rank seen) said before = refl
+view_said (what.MailChecked seen) said before = refl
 view_said (what.Claimed ok) said before = refl
 view_said (what.Cleared ok) said before = refl
 view_said (what.MailRead seen) said before = refl
@@ -73,8 +75,10 @@ view_said (what.Closed ok) said before = refl
 -- an entry says the same to the count of votes
 pub vote_said-vote_of : (log : List Line) (w : What) → vote_said (option_map_or (answers log) (tell_of w) false) w ≡ vote_of log w
 vote_said-vote_of log what.Begin = refl
+vote_said-vote_of log what.BeginClean = refl
 vote_said-vote_of log (what.Header seen) = refl
 vote_said-vote_of log (what.SlotRead rank seen) = refl
+vote_said-vote_of log (what.MailChecked seen) = refl
 vote_said-vote_of log (what.Claimed ok) = refl
 vote_said-vote_of log (what.Cleared ok) = refl
 vote_said-vote_of log (what.MailRead seen) = refl

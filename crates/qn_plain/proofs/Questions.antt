@@ -11,7 +11,7 @@ use Rattle.qn_model.specs.Phases.{is_up, phase}
 use Rattle.qn_model.specs.Hearing.{is_free, is_held}
 use Rattle.qn_model.specs.Holding.{holds}
 use Rattle.qn_model.specs.Licences.{is_clean, is_fenced, is_licensed, is_slot_seen, is_written, left_to_wait, out_time, reset_tick}
-use Rattle.qn_model.specs.NodeVotes.{answer, is_in_view, quorate, released, view, votes}
+use Rattle.qn_model.specs.NodeVotes.{answer_with_tie, is_in_view, quorate_with_tie, released, view, votes}
 use Rattle.qn_model.specs.Unmet.{chosen, holder, id_of, is_clear, lacks_of_others, least_from, least_rank, or_else, other_chosen, unfenced, unheard, unmet}
 use Rattle.qn_model.specs.Wanted.{rank_of, to_read, to_reset}
 use Rattle.qn_model.specs.LeastMembers.{least_from-same}
@@ -25,8 +25,8 @@ use Rattle.qn_plain.specs.Lack.{is_nothing, is_quorate_at, lack_at, or_lack, oth
 use Rattle.qn_plain.specs.Past.{PastFor, is_in}
 use Rattle.qn_plain.specs.Peer.{PeerFor, peer_at, peer_is_clean, peer_is_fenced, peer_is_held, peer_is_seen, peer_is_written, peer_left}
 use Rattle.qn_plain.specs.Sought.{is_sought, least_sought}
-use Rattle.qn_plain.specs.Tally.{tally_answer}
-use Rattle.qn_plain.proofs.EntryByEntry.{tally_answer-tally_of}
+use Rattle.qn_plain.specs.Tally.{tally_with_tie}
+use Rattle.qn_plain.proofs.EntryByEntry.{tally_with_tie-tally_of}
 use Rattle.qn_plain.proofs.Stands.{views}
 
 -- ---- one rank
@@ -126,16 +126,16 @@ module _ (s : Settings) (past : Past) (log : List Line) (h : PastFor s past log)
 
   -- ---- votes
 
-  pub quorate_past : (tick : ℕ) → is_quorate_at s tick past ≡ quorate s log tick
-  quorate_past tick = ap (λ t. (tally_answer s t tick).quorate) h.tallies
+  pub quorate_past : (tick : ℕ) → is_quorate_at s tick past ≡ quorate_with_tie s log tick
+  quorate_past tick = ap (λ t. (tally_with_tie s t tick).quorate) h.tallies
 
   pub released_past : past.votes.released ≡ released s log
   released_past = ap (λ t. t.released) h.tallies
 
-  pub answer_past : (tick : ℕ) → tally_answer s past.votes tick ≡ answer s log tick
-  answer_past tick = ap (λ t. tally_answer s t tick) h.tallies ∙ tally_answer-tally_of s (votes log) tick
+  pub answer_past : (tick : ℕ) → tally_with_tie s past.votes tick ≡ answer_with_tie s log tick
+  answer_past tick = ap (λ t. tally_with_tie s t tick) h.tallies ∙ tally_with_tie-tally_of s (votes log) tick
 
--- ---- the first condition that lacks
+-- ---- the first condition that blocks a start
 
 -- the conditions by the log, in the form of the code
 abbrev fencing_of_log : Settings → List Line → ℕ → Lack
@@ -157,7 +157,7 @@ lack_of_log s me log tick =
     else (if holds log then lack.Holding
     else (if is_none (view log) then lack.NoView
     else (if not (released s log) then lack.WaitForAll
-    else (if not (quorate s log tick) then lack.NotQuorate else choice_of_log s me log tick))))
+    else (if not (quorate_with_tie s log tick) then lack.NotQuorate else choice_of_log s me log tick))))
 
 lack_same : (s : Settings) (past : Past) (log : List Line) (h : PastFor s past log) (me tick : ℕ)
     → lack_at s me tick past ≡ lack_of_log s me log tick
@@ -241,16 +241,16 @@ module _ (s : Settings) (past : Past) (log : List Line) (h : PastFor s past log)
   unfolding unmet
   unmet_past =
       let count = answer_past s past log h tick in
-      let not_quorate : why_by s tick past lack.NotQuorate ≡ why.NotQuorate ((answer s log tick).votes) ((answer s log tick).quorum)
+      let not_quorate : why_by s tick past lack.NotQuorate ≡ why.NotQuorate ((answer_with_tie s log tick).votes) ((answer_with_tie s log tick).quorum)
       = ap (λ a. why.NotQuorate a.votes a.quorum) count in
       ap (why_by s tick past) (lack_same s past log h me tick)
       ∙ why_if s past me tick (not (is_up (phase s log))) _ _ _ _ refl
       (why_if s past me tick (holds log) _ _ _ _ refl
       (why_if s past me tick (is_none (view log)) _ _ _ _ refl
       (why_if s past me tick (not (released s log)) _ _ _ _ refl
-      (why_if s past me tick (not (quorate s log tick)) lack.NotQuorate (choice_of_log s me log tick) _ _ not_quorate why_choice))))
+      (why_if s past me tick (not (quorate_with_tie s log tick)) lack.NotQuorate (choice_of_log s me log tick) _ _ not_quorate why_choice))))
 
--- nothing lacks exactly where the condition is that nothing does
+-- nothing blocks a start exactly where the condition is that nothing does
 is_nothing-why_by : (s : Settings) (tick : ℕ) (past : Past) (l : Lack) → is_nothing l ≡ is_clear (why_by s tick past l)
 is_nothing-why_by s tick past lack.Down = refl
 is_nothing-why_by s tick past lack.Holding = refl

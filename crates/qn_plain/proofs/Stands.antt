@@ -1,6 +1,6 @@
 -- What is kept of a history stands for its log: entry by entry, and each question that is asked of it.
-use Rattle.std.proofs.Common.{◌≡◌, ℕ, suc, ◌+◌, Bool, false, List, [], ◌∷◌, length, Option, None, Some, refl, ap, sym, ◌∙◌, arith, subst}
-use Rattle.std.specs.Prelude.{◌&&◌, ◌==◌, if◌then◌else◌}
+use Rattle.std.proofs.Common.{◌≡◌, ℕ, suc, ◌+◌, ◌-◌, ◌^◌, ◌<◌, Bool, false, List, [], ◌∷◌, length, Option, None, Some, refl, ap, sym, ◌∙◌, arith, subst}
+use Rattle.std.specs.Prelude.{IsTrue, ◌&&◌, ◌==◌, if◌then◌else◌}
 use Rattle.std.specs.Option.{option_map_or}
 use Rattle.std.proofs.lemmas.Bool.Decides.{nat_tests}
 use Rattle.qn_model.specs.declared.configuration.Settings.{Settings}
@@ -8,18 +8,19 @@ use Rattle.qn_model.specs.declared.packets.Tell.{Tell}
 use Rattle.qn_model.specs.declared.entries.What.{What}
 use Rattle.qn_model.specs.declared.entries.What.TheVariants as what
 use Rattle.qn_model.specs.declared.outputs.Out.{Out}
-use Rattle.qn_model.specs.Log.{Line, claimed, is_view}
+use Rattle.qn_model.specs.Log.{Line, claimed, is_view, slot_number}
 use Rattle.qn_model.specs.Phases.{is_live, is_up}
 use Rattle.qn_model.specs.Fitting.{answers_op, fits, is_first, is_for, is_own_view, read_as}
 use Rattle.qn_model.specs.Hearing.{tell_of}
 use Rattle.qn_model.specs.NodeVotes.{answers, install, view, vote_of, votes}
-use Rattle.qn_model.specs.NodeOutputs.{taken_in}
+use Rattle.qn_model.specs.NodeOutputs.{is_begin, taken_in}
 use Rattle.qn_plain.specs.declared.past.Past.{Past}
 use Rattle.qn_plain.specs.declared.peer.Reading.{Reading}
-use Rattle.qn_plain.specs.Life.{life_given, life_taken}
+use Rattle.qn_plain.specs.Life.{IsClaimable, life_given, life_taken}
 use Rattle.qn_plain.specs.Past.{PastFor, TakesIn, fits_at, past_answers, read_at, reading_of, vote_said}
 use Rattle.qn_plain.specs.Peer.{PeerFor, peer_after, peer_at}
 use Rattle.qn_plain.specs.Tally.{tally_after, tally_of}
+use Rattle.qn_plain.proofs.Claimable.{claimable_taken}
 use Rattle.qn_plain.proofs.EntryByEntry.{tally_of-cons}
 use Rattle.qn_plain.proofs.Lives.{install-next, life_given-life_of, life_taken-life_of, present_view-votes, vote_said-vote_of, with_outs}
 use Rattle.qn_plain.proofs.Peers.{peer_given, peer_taken, read_after}
@@ -52,8 +53,10 @@ module _ (s : Settings) (past : Past) (log : List Line) (h : PastFor s past log)
 
   pub fits-past : (me place : ℕ) (w : What) → place ≡ suc (length log) → fits_at s me place past w ≡ fits s me log w
   fits-past me place what.Begin here = first_at log place here
+  fits-past me place what.BeginClean here = first_at log place here
   fits-past me place (what.Header seen) here = ap (λ l. answers_op l.op (what.Header seen)) h.lives
   fits-past me place (what.SlotRead rank seen) here = ap (λ l. answers_op l.op (what.SlotRead rank seen)) h.lives
+  fits-past me place (what.MailChecked seen) here = ap (λ l. answers_op l.op (what.MailChecked seen)) h.lives
   fits-past me place (what.Claimed ok) here = ap (λ l. answers_op l.op (what.Claimed ok)) h.lives
   fits-past me place (what.Cleared ok) here = ap (λ l. answers_op l.op (what.Cleared ok)) h.lives
   fits-past me place (what.MailRead seen) here = ap (λ l. answers_op l.op (what.MailRead seen)) h.lives
@@ -77,13 +80,17 @@ votes_taken s log tick w = tally_of-cons s (record { tick = tick; what = vote_of
 
 -- an entry was taken in
 pub past_taken : (s : Settings) (old new : Past) (log : List Line) (place tick : ℕ) (w : What) (reading : Reading)
-    → place ≡ suc (length log) → reading ≡ reading_of place tick w old → PastFor s old log → TakesIn s reading old new
-    → PastFor s new (taken_in log tick w)
-past_taken s old new log place tick w reading here is h takes =
+    → place ≡ suc (length log) → reading ≡ reading_of place tick w old → (IsTrue (is_begin w) → slot_number log < 2 ^ 64 - 1)
+    → PastFor s old log → TakesIn s reading old new → PastFor s new (taken_in log tick w)
+past_taken s old new log place tick w reading here is first h takes =
     let known : reading ≡ read_after log place tick w = is ∙ reading-after s old log h place tick w in
+    let life : new.life ≡ life_taken s tick w old.life = takes.life ∙ ap (λ r. life_taken s r.tick r.what old.life) known in
     record {
       few = h.few;
-      lives = takes.life ∙ (ap (λ r. life_taken s r.tick r.what old.life) known ∙ (ap (life_taken s tick w) h.lives ∙ life_taken-life_of s log tick w));
+      lives = life ∙ (ap (life_taken s tick w) h.lives ∙ life_taken-life_of s log tick w);
+      claimable =
+          subst IsClaimable (sym life)
+          (claimable_taken s tick w old.life (λ begins. subst (λ l. l.slot_number < 2 ^ 64 - 1) (sym h.lives) (first begins)) h.claimable);
       tallies =
           takes.tally ∙ (ap (λ r. tally_after s (record { tick = r.tick; what = vote_said r.answers r.what }) old.votes) known
           ∙ (ap (tally_after s (record { tick = tick; what = vote_said (option_map_or (answers log) (tell_of w) false) w })) h.tallies
@@ -115,6 +122,7 @@ past_given s old new log place tick w outs here is h =
     subst (λ p. PastFor s p (with_outs log tick w outs)) (sym is)
     (record {
       few = h.few;
+      claimable = h.claimable;
       lives = ap (λ p. life_given p tick outs old.life) here ∙ (ap (life_given (suc (length log)) tick outs) h.lives ∙ life_given-life_of s log tick w outs);
       tallies = h.tallies ∙ votes_given s log tick w outs;
       installed = h.installed ∙ install_given log tick w outs;

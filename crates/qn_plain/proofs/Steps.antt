@@ -1,20 +1,21 @@
 -- One entry more, as a whole, and the whole history.
-use Rattle.std.proofs.Common.{◌≡◌, ℕ, suc, ◌≤◌, Bool, true, false, List, length, ap, sym, ◌∙◌, subst}
-use Rattle.std.specs.Prelude.{if◌then◌else◌}
+use Rattle.std.proofs.Common.{◌≡◌, ℕ, suc, ◌-◌, ◌^◌, ◌<◌, ◌≤◌, Bool, true, false, List, length, ap, sym, ◌∙◌, subst}
+use Rattle.std.specs.Prelude.{IsTrue, if◌then◌else◌}
 use Rattle.qn_model.specs.declared.configuration.Settings.{Settings}
 use Rattle.qn_model.specs.declared.entries.Entry.{Entry}
 use Rattle.qn_model.specs.declared.entries.What.{What}
 use Rattle.qn_model.specs.declared.outputs.Out.{Out}
-use Rattle.qn_model.specs.Log.{Line}
+use Rattle.qn_model.specs.Log.{Line, slot_number}
 use Rattle.qn_model.specs.Fitting.{read_as}
 use Rattle.qn_model.specs.Licences.{writes_reset}
-use Rattle.qn_model.specs.NodeOutputs.{newest_outs, outs_at, taken_in, with_entry, with_read}
+use Rattle.qn_model.specs.NodeOutputs.{is_begin, newest_outs, outs_at, taken_in, with_entry, with_read}
 use Rattle.qn_plain.specs.declared.past.Past.{Past}
 use Rattle.qn_plain.specs.declared.peer.Reading.{Reading}
 use Rattle.qn_plain.specs.Life.{is_timely, life_given}
 use Rattle.qn_plain.specs.Outputs.{outs_after}
 use Rattle.qn_plain.specs.Past.{PastFor, ResetsBy, TakesIn, read_at, reading_of}
 use Rattle.qn_plain.specs.Peer.{peer_at}
+use Rattle.qn_plain.proofs.Claimable.{begins_first}
 use Rattle.qn_plain.proofs.Lives.{with_outs}
 use Rattle.qn_plain.proofs.Stands.{past_given, past_taken, read-past}
 use Rattle.qn_plain.proofs.Given.{outs_past}
@@ -30,11 +31,12 @@ record AddsRead (s : Settings) (me : ℕ) (log : List Line) (tick : ℕ) (w : Wh
   given : outs ≡ newest_outs (with_read s me log tick w)
 
 adds_read : (s : Settings) (me : ℕ) (old mid new : Past) (log : List Line) (place tick : ℕ) (w : What) (reading : Reading) (timely : Bool) (outs : List Out)
-    → place ≡ suc (length log) → reading ≡ reading_of place tick w old → timely ≡ is_timely tick old.life → TakesIn s reading old mid
+    → place ≡ suc (length log) → (IsTrue (is_begin w) → slot_number log < 2 ^ 64 - 1)
+    → reading ≡ reading_of place tick w old → timely ≡ is_timely tick old.life → TakesIn s reading old mid
     → outs ≡ outs_after s me old.life.phase timely tick w mid → new ≡ record mid { life = life_given place tick outs mid.life }
     → PastFor s old log → AddsRead s me log tick w new outs
-adds_read s me old mid new log place tick w reading timely outs here known in_time takes comes gives h =
-    let mid_for = past_taken s old mid log place tick w reading here known h takes in
+adds_read s me old mid new log place tick w reading timely outs here first known in_time takes comes gives h =
+    let mid_for = past_taken s old mid log place tick w reading here known first h takes in
     let is : outs ≡ outs_at s me log tick w (taken_in log tick w)
     = comes ∙ (ap (λ b. outs_after s me old.life.phase b tick w mid) in_time ∙ outs_past s old mid log me tick w h mid_for) in
     record {
@@ -49,13 +51,15 @@ pub adds : (s : Settings) (me : ℕ) (old mid new : Past) (log : List Line) (pla
 unfolding with_entry
 adds s me old mid new log place entry w reading timely outs here read known in_time takes comes gives h =
     let is : w ≡ read_as s me log entry.what = read ∙ read-past s old log h me place entry.what here in
-    let added = adds_read s me old mid new log place entry.tick w reading timely outs here known in_time takes comes gives h in
+    let first : IsTrue (is_begin w) → slot_number log < 2 ^ 64 - 1
+    = λ begins. begins_first s me log entry.what (subst (λ v. IsTrue (is_begin v)) is begins) in
+    let added = adds_read s me old mid new log place entry.tick w reading timely outs here first known in_time takes comes gives h in
     record {
       stands = subst (λ v. PastFor s new (with_read s me log entry.tick v)) is added.stands;
       given = subst (λ v. outs ≡ newest_outs (with_read s me log entry.tick v)) is added.given;
     }
 
--- no reset was written behind a tick
+-- no reset was written after a tick
 later_by : (b : Bool) (first second tick : ℕ) → first ≤ tick → second ≤ tick → (if b then first else second) ≤ tick
 later_by true first second tick p q = p
 later_by false first second tick p q = q

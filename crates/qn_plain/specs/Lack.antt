@@ -1,4 +1,4 @@
--- The first condition that lacks, by what a history comes to.
+-- The first condition that blocks a start, by what a history comes to.
 use Rattle.std.specs.Prelude.{◌<◌, ℕ, Bool, true, false, Option, None, Some, ◌==◌, length, not, is_none, if◌then◌else◌}
 use Rattle.std.specs.Option.{option_map_or}
 use Rattle.qn_base.specs.declared.ids.Rank.{Rank}
@@ -13,11 +13,11 @@ use Rattle.qn_plain.specs.declared.lack.Lack.TheVariants as lack
 use Rattle.qn_plain.specs.declared.sought.Sought.TheVariants as sought
 use Rattle.qn_plain.specs.Peer.{peer_at, peer_is_written, peer_left}
 use Rattle.qn_plain.specs.Sought.{least_sought}
-use Rattle.qn_plain.specs.Tally.{tally_answer}
+use Rattle.qn_plain.specs.Tally.{tally_with_tie}
 
--- whether the node is quorate at a tick
+-- whether the node is quorate at a tick, by the votes or by the tie breaker
 abbrev pub is_quorate_at : Settings → ℕ → Past → Bool
-is_quorate_at s tick past = (tally_answer s past.votes tick).quorate
+is_quorate_at s tick past = (tally_with_tie s past.votes tick).quorate
 
 -- what is said of the rank where there is one, else the rest
 abbrev pub or_lack : Option Rank → (Rank → Lack) → Lack → Lack
@@ -32,7 +32,7 @@ is_rank me found = option_map_or (λ rank. rank.0 == me) found false
 abbrev pub other_than : ℕ → Option Rank → Option Rank
 other_than me found = if is_rank me found then None else found
 
--- what lacks of the other nodes
+-- what of the other nodes blocks a start
 abbrev pub lack_of_others : Settings → ℕ → ℕ → Past → Lack
 lack_of_others s me tick past =
     or_lack (least_sought s sought.Holder me tick past) (λ rank. lack.HeldBy rank)
@@ -40,7 +40,7 @@ lack_of_others s me tick past =
     (or_lack (least_sought s sought.Unfenced me tick past) (λ rank. lack.Unfenced rank)
     lack.Clear))
 
--- the first condition that lacks at a tick
+-- the first condition that blocks a start at a tick
 abbrev pub lack_at : Settings → ℕ → ℕ → Past → Lack
 lack_at s me tick past =
     if not (is_up past.life.phase) then lack.Down
@@ -50,7 +50,7 @@ lack_at s me tick past =
     else (if not (is_quorate_at s tick past) then lack.NotQuorate
     else or_lack (other_than me (least_sought s sought.Member me tick past)) (λ rank. lack.NotChosen rank) (lack_of_others s me tick past)))))
 
--- the rank that lacks is configured
+-- the rank that blocks a start is configured
 abbrev pub HasRank : Settings → Lack → Type 0
 HasRank s (lack.NotChosen rank) = rank.0 < length s.nodes
 HasRank s (lack.HeldBy rank) = rank.0 < length s.nodes
@@ -58,7 +58,7 @@ HasRank s (lack.Unheard rank) = rank.0 < length s.nodes
 HasRank s (lack.Unfenced rank) = rank.0 < length s.nodes
 HasRank s other = Unit {0}
 
--- nothing lacks
+-- nothing blocks a start
 abbrev pub is_nothing : Lack → Bool
 is_nothing lack.Clear = true
 is_nothing other = false
@@ -69,7 +69,7 @@ why_by s tick past lack.Down = why.Down
 why_by s tick past lack.Holding = why.Holding
 why_by s tick past lack.NoView = why.NoView
 why_by s tick past lack.WaitForAll = why.WaitForAll
-why_by s tick past lack.NotQuorate = why.NotQuorate ((tally_answer s past.votes tick).votes) ((tally_answer s past.votes tick).quorum)
+why_by s tick past lack.NotQuorate = why.NotQuorate ((tally_with_tie s past.votes tick).votes) ((tally_with_tie s past.votes tick).quorum)
 why_by s tick past (lack.NotChosen rank) = why.NotChosen (id_of s rank.0)
 why_by s tick past (lack.HeldBy rank) = why.HeldBy (id_of s rank.0)
 why_by s tick past (lack.Unheard rank) = why.Unheard (id_of s rank.0)

@@ -1,12 +1,12 @@
 -- What a history says of the node itself, entry by entry.
-use Rattle.std.specs.Prelude.{ℕ, Bool, true, false, List, [], ◌∷◌, None, Some, ◌||◌, ◌&&◌, ◌+◌, not, nat_le, is_some, unwrap_or, if◌then◌else◌}
+use Rattle.std.specs.Prelude.{◌<◌, ◌^◌, ◌-◌, IsTrue, ℕ, Bool, true, false, List, [], ◌∷◌, None, Some, ◌||◌, ◌&&◌, ◌+◌, not, nat_le, is_some, unwrap_or, if◌then◌else◌}
 use Rattle.std.specs.Option.{option_or}
 use Rattle.qn_model.specs.declared.configuration.Settings.{Settings}
 use Rattle.qn_model.specs.declared.entries.What.{What}
 use Rattle.qn_model.specs.declared.outputs.Out.{Out}
 use Rattle.qn_model.specs.declared.life.Phase.{Phase}
-use Rattle.qn_model.specs.Log.{Line, ask_place, ask_tick, claim_of, claimed, disk_of, has_start, has_stop, is_answer, op_out, times_of, timing}
-use Rattle.qn_model.specs.Phases.{is_up, next_phase, phase}
+use Rattle.qn_model.specs.Log.{Line, ask_place, ask_tick, begins_clean, claim_of, claimed, disk_of, has_start, has_stop, is_answer, is_clean_begin, number_read, op_out, slot_number, times_of, timing}
+use Rattle.qn_model.specs.Phases.{is_booting, is_up, next_phase, phase}
 use Rattle.qn_model.specs.Holding.{answers_stop, holds, is_stopped, stop_due}
 use Rattle.qn_model.specs.Wanted.{asks_mail, mail_tick}
 use Rattle.qn_model.specs.NodeOutputs.{is_asking, is_moment, moment}
@@ -33,6 +33,8 @@ abbrev pub life_of : Settings → List Line → Life
 life_of s log =
     record {
       phase = phase s log;
+      clean = begins_clean log;
+      slot_number = slot_number log;
       claimed = claimed log;
       holds = holds log;
       stop_due = stop_due log;
@@ -63,6 +65,8 @@ abbrev pub life_taken : Settings → ℕ → What → Life → Life
 life_taken s tick entry life =
     record {
       phase = life_phase s tick entry life;
+      clean = is_clean_begin entry || life.clean;
+      slot_number = unwrap_or (number_read entry) life.slot_number;
       claimed = life.claimed;
       holds = life.holds && not (is_stopped entry);
       stop_due = life.stop_due && not (answers_stop entry);
@@ -93,3 +97,7 @@ life_given place tick outs life =
       ask_tick = if is_some (disk_of outs) then tick else life.ask_tick;
       mail_tick = if asks_mail (disk_of outs) then tick else life.mail_tick;
     }
+
+-- while the node boots, one more than the incarnation that was read can be claimed
+abbrev pub IsClaimable : Life → Type 0
+IsClaimable life = IsTrue (is_booting life.phase) → life.slot_number < 2 ^ 64 - 1

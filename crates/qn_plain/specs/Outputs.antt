@@ -1,7 +1,8 @@
 -- What comes out of an entry, by what the history comes to with it.
-use Rattle.std.specs.Prelude.{ℕ, Bool, List, [], ◌∷◌, ◌++◌, map, filter, length, Option, None, Some, ◌||◌, ◌&&◌, ◌==◌, ◌+◌, not, nat_le, is_some, unwrap_or, if◌then◌else◌}
+use Rattle.std.specs.Prelude.{ℕ, Bool, List, [], ◌∷◌, ◌++◌, map, filter, length, Option, None, Some, ◌||◌, ◌&&◌, ◌==◌, ◌+◌, not, nat_le, is_some, option_and_then, unwrap_or, if◌then◌else◌}
 use Rattle.std.specs.Option.{option_map, option_map_or, option_or}
 use Rattle.std.specs.List.{range_with_len}
+use Rattle.qn_base.specs.declared.ids.Rank.{Rank}
 use Rattle.qn_base.specs.declared.ids.View.{View}
 use Rattle.qn_base.specs.Members.{is_member}
 use Rattle.qn_model.specs.declared.configuration.Settings.{Settings}
@@ -17,7 +18,7 @@ use Rattle.qn_model.specs.declared.outputs.DiskOp.TheVariants as disk
 use Rattle.qn_model.specs.declared.outputs.Out.{Out}
 use Rattle.qn_model.specs.declared.outputs.Out.TheVariants as out
 use Rattle.qn_model.specs.Phases.{deadly_of, is_booting, is_leaving, is_live, is_up, message_of}
-use Rattle.qn_model.specs.Wanted.{rank_of}
+use Rattle.qn_model.specs.Wanted.{fence_delay, rank_of}
 use Rattle.qn_model.specs.NodeOutputs.{boot_outs, disk_outs, feeds_on, when}
 use Rattle.qn_plain.specs.declared.past.Past.{Past}
 use Rattle.qn_plain.specs.declared.sought.Sought.TheVariants as sought
@@ -36,10 +37,19 @@ abbrev pub may_fence_at : Settings → ℕ → ℕ → Past → Bool
 may_fence_at s me tick past =
     is_up past.life.phase && is_quorate_at s tick past && is_rank me (least_sought s sought.Member me tick past)
 
+-- whether the fence delay of a rank has passed since the last view
+abbrev pub is_delay_over_at : Settings → ℕ → ℕ → Past → Bool
+is_delay_over_at s rank tick past = nat_le (past.votes.view_tick + fence_delay s rank) tick
+
+-- the least rank that is left to reset, once its fence delay is over
+abbrev pub to_reset_at : Settings → ℕ → ℕ → Past → Option Rank
+to_reset_at s me tick past =
+    option_and_then (λ rank. if is_delay_over_at s rank.0 tick past then Some rank else None) (least_sought s sought.Unreset me tick past)
+
 -- the next operation of the fencing
 abbrev pub fencing_op_at : Settings → ℕ → ℕ → Past → Option DiskOp
 fencing_op_at s me tick past =
-    option_or (option_map (λ rank. disk.ReadSlot rank) (least_sought s sought.Unread me tick past)) (option_map (λ rank. disk.WriteReset rank) (least_sought s sought.Unreset me tick past))
+    option_or (option_map (λ rank. disk.ReadSlot rank) (least_sought s sought.Unread me tick past)) (option_map (λ rank. disk.WriteReset rank) (to_reset_at s me tick past))
 
 -- the operation that marks the own slot as clean
 abbrev pub close_op_of : Past → Option DiskOp
@@ -122,5 +132,5 @@ live_outs_at s me tick past entry fed None = acts_at s me tick past entry fed
 -- what comes out of an entry as it was read, by the phase before it and whether it is in time
 abbrev pub outs_after : Settings → ℕ → Phase → Bool → ℕ → What → Past → List Out
 outs_after s me before timely tick entry past =
-    if is_booting before then boot_outs s me entry
+    if is_booting before then boot_outs s me past.life.clean past.life.slot_number entry
     else (if is_live before then live_outs_at s me tick past entry (feeds_on (message_of entry) && timely) (deadly_of (message_of entry)) else [])

@@ -16,7 +16,7 @@ use Rattle.qn_model.specs.Hearing.{tell_of}
 use Rattle.qn_model.specs.Fitting.{answers_op, is_for, is_own_view}
 use Rattle.qn_plain.specs.declared.peer.Reading.{Reading}
 use Rattle.qn_plain.specs.declared.past.Past.{Past}
-use Rattle.qn_plain.specs.Life.{life_of, life_taken}
+use Rattle.qn_plain.specs.Life.{IsClaimable, life_of, life_taken}
 use Rattle.qn_plain.specs.Peer.{PeerFor, peer_after, peer_at}
 use Rattle.qn_plain.specs.Tally.{tally_after, tally_of}
 
@@ -49,11 +49,25 @@ abbrev pub vote_said : Bool → What → VoteWhat
 vote_said answers (what.View view) = vote.View view
 vote_said answers (what.Device agrees) = vote.Device agrees
 vote_said answers (what.Tell tell) = if answers && tell.released then vote.Released else vote.Tick
-vote_said answers entry = vote.Tick
+vote_said answers what.Begin = vote.Tick
+vote_said answers what.BeginClean = vote.Tick
+vote_said answers (what.Header seen) = vote.Tick
+vote_said answers (what.SlotRead rank seen) = vote.Tick
+vote_said answers (what.MailChecked seen) = vote.Tick
+vote_said answers (what.Claimed ok) = vote.Tick
+vote_said answers (what.Cleared ok) = vote.Tick
+vote_said answers (what.MailRead seen) = vote.Tick
+vote_said answers (what.MailWritten rank ok) = vote.Tick
+vote_said answers (what.Ask ask) = vote.Tick
+vote_said answers what.Tick = vote.Tick
+vote_said answers (what.Stopped ok) = vote.Tick
+vote_said answers what.Leave = vote.Tick
+vote_said answers (what.Closed ok) = vote.Tick
 
 -- whether an entry fits at a place
 abbrev pub fits_at : Settings → ℕ → ℕ → Past → What → Bool
 fits_at s me place past what.Begin = place == 1
+fits_at s me place past what.BeginClean = place == 1
 fits_at s me place past (what.View view) = is_live past.life.phase && is_own_view s me view
 fits_at s me place past (what.Ask ask) = is_live past.life.phase && is_for s me ask.from ask.to
 fits_at s me place past (what.Tell tell) = is_live past.life.phase && is_for s me tell.from tell.to
@@ -63,6 +77,7 @@ fits_at s me place past what.Leave = is_up past.life.phase
 fits_at s me place past what.Tick = true
 fits_at s me place past (what.Header seen) = answers_op past.life.op (what.Header seen)
 fits_at s me place past (what.SlotRead rank seen) = answers_op past.life.op (what.SlotRead rank seen)
+fits_at s me place past (what.MailChecked seen) = answers_op past.life.op (what.MailChecked seen)
 fits_at s me place past (what.Claimed ok) = answers_op past.life.op (what.Claimed ok)
 fits_at s me place past (what.Cleared ok) = answers_op past.life.op (what.Cleared ok)
 fits_at s me place past (what.MailRead seen) = answers_op past.life.op (what.MailRead seen)
@@ -84,10 +99,11 @@ pub record TakesIn (s : Settings) (reading : Reading) (old new : Past) : Type 0 
 pub record PastFor (s : Settings) (past : Past) (log : List Line) : Type 0 where
   pub few : length s.nodes ≤ 32
   pub lives : past.life ≡ life_of s log
+  pub claimable : IsClaimable past.life
   pub tallies : past.votes ≡ tally_of s (votes log)
   pub installed : past.installs ≡ install log
   pub peers : (rank : ℕ) → rank < 32 → PeerFor (peer_at past.peers rank) log rank
 
--- no reset was written behind a tick
+-- no reset was written after a tick
 abbrev pub ResetsBy : Past → ℕ → Type 0
 ResetsBy past tick = (rank : ℕ) → rank < 32 → (peer_at past.peers rank).reset_tick ≤ tick

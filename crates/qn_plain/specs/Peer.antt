@@ -34,6 +34,10 @@ peer_read seen asked peer =
       seen_asked = later_if (is_seen_slot seen) peer.seen_asked asked;
     }
 
+-- what a view says that has the rank, or not
+abbrev pub peer_viewed : Bool → ℕ → Peer → Peer
+peer_viewed has place peer = record peer { out_since = if has then place else peer.out_since; free = false; told = false }
+
 -- what one more entry says of a rank
 abbrev pub peer_after : ℕ → Reading → Peer → Peer
 peer_after rank reading peer =
@@ -63,7 +67,7 @@ peer_is_written peer = nat_lt peer.out_since peer.reset_asked
 abbrev pub peer_is_fenced : Peer → ℕ → ℕ → Bool
 peer_is_fenced peer msgwait tick = peer_is_written peer && nat_le (peer.reset_tick + msgwait) tick
 
--- the ticks that still lack to msgwait where a reset was written, else 0
+-- the ticks of msgwait that remain where a reset was written, else 0
 abbrev pub peer_left : Peer → ℕ → ℕ → ℕ
 peer_left peer msgwait tick = if peer_is_written peer then peer.reset_tick + msgwait - tick else 0
 
@@ -71,8 +75,8 @@ peer_left peer msgwait tick = if peer_is_written peer then peer.reset_tick + msg
 abbrev pub peer_is_held : Peer → Bool
 peer_is_held peer = peer.told && not peer.free
 
--- what is kept of a rank stands for a log: a read or a reset counts behind a place exactly where the last
--- one was asked for behind it
+-- what is kept of a rank stands for a log: a read or a reset counts after a place exactly where the last
+-- one was asked for after it
 pub record PeerFor (peer : Peer) (log : List Line) (rank : ℕ) : Type 0 where
   pub outs : out_time rank log ≡ peer.out_since
   pub cleans : (place : ℕ) → slot_read_since place is_clean_slot rank log ≡ nat_lt place peer.clean_asked

@@ -1,10 +1,14 @@
 -- What a vote list comes to, entry by entry. Lists stand newest entry first.
-use Rattle.std.specs.Prelude.{ℕ, Bool, List, ◌+◌, ◌&&◌, ◌||◌, nat_le, nat_lt, if◌then◌else◌, is_some}
-use Rattle.std.specs.Option.{option_map_or}
+use Rattle.std.specs.Prelude.{ℕ, Bool, false, List, Option, ◌+◌, ◌*◌, ◌==◌, ◌&&◌, ◌||◌, find, length, nat_le, nat_lt, option_and_then, if◌then◌else◌, is_some}
+use Rattle.std.specs.Option.{option_map_or, option_or}
+use Rattle.qn_base.specs.declared.ids.Rank.{Rank}
+use Rattle.qn_base.specs.Members.{is_member}
 use Rattle.qn_model.specs.declared.configuration.Settings.{Settings}
 use Rattle.qn_model.specs.declared.votes.VoteEntry.{VoteEntry}
 use Rattle.qn_model.specs.declared.votes.Answer.{Answer}
+use Rattle.qn_model.specs.declared.votes.VoteWhat.{VoteWhat}
 use Rattle.qn_model.specs.Votes.{present_view, view_tick, is_released, expected_votes, device_yes, newer_view, newer_view_tick, newer_yes, releases, raised, quorum_of, votes_among, votes_of_device}
+use Rattle.qn_model.specs.Tie.{majority_of, majority_view}
 use Rattle.qn_plain.specs.declared.tally.Tally.{Tally}
 
 -- the tally of a vote list
@@ -16,6 +20,7 @@ tally_of s past =
       released = is_released s past;
       expected = expected_votes s past;
       device_yes = device_yes past;
+      majority = majority_view s past;
     }
 
 -- the votes of the tally's view
@@ -31,6 +36,7 @@ with_entry s entry tally =
       released = releases s entry.what || tally.released;
       expected = raised s entry.what tally.expected;
       device_yes = newer_yes entry.tick entry.what tally.device_yes;
+      majority = tally.majority;
     }
 
 -- whether last man standing lowers the expected votes
@@ -43,9 +49,14 @@ abbrev pub with_lowered : Settings → ℕ → Tally → Tally
 with_lowered s now tally =
     record tally { expected = if tally_lowers s tally now then tally_votes s tally else tally.expected }
 
+-- a tally that keeps the view of an entry where it is one of a majority
+abbrev pub with_majority : Settings → VoteWhat → Tally → Tally
+with_majority s what tally =
+    record tally { majority = option_or (majority_of s tally.expected what) tally.majority }
+
 -- a tally with one more entry
 abbrev pub tally_after : Settings → VoteEntry → Tally → Tally
-tally_after s entry tally = with_lowered s entry.tick (with_entry s entry tally)
+tally_after s entry tally = with_majority s entry.what (with_lowered s entry.tick (with_entry s entry tally))
 
 -- the device's votes at a tick
 abbrev pub tally_device : Settings → Tally → ℕ → ℕ
@@ -57,7 +68,7 @@ abbrev pub tally_counted : Settings → Tally → ℕ → ℕ
 tally_counted s tally now =
     if is_some tally.view then tally_votes s tally + tally_device s tally now else 0
 
--- the count at a tick
+-- the count at a tick, by the votes alone
 abbrev pub tally_answer : Settings → Tally → ℕ → Answer
 tally_answer s tally now =
     record {
@@ -67,3 +78,27 @@ tally_answer s tally now =
       expected = tally.expected;
       released = tally.released;
     }
+
+-- whether a rank was in the last view of a majority
+abbrev pub was_in_majority_of : Settings → Tally → ℕ → Bool
+was_in_majority_of s tally rank =
+    option_map_or (λ view. is_member view.members rank) tally.majority (nat_lt rank (length s.nodes))
+
+-- the tie node
+abbrev pub tally_tie_node : Settings → Tally → Option Rank
+tally_tie_node s tally = option_and_then (λ order. find (λ rank. was_in_majority_of s tally rank.0) order) s.tie
+
+-- whether a rank is a member of the tally's view
+abbrev pub is_seen_in : Tally → ℕ → Bool
+is_seen_in tally rank = option_map_or (λ view. is_member view.members rank) tally.view false
+
+-- whether the tally's view has exactly half of the expected votes, and the tie node
+abbrev pub tally_breaks : Settings → Tally → Bool
+tally_breaks s tally =
+    2 * tally_votes s tally == tally.expected && option_map_or (λ rank. is_seen_in tally rank.0) (tally_tie_node s tally) false
+
+-- the count at a tick, with the tie breaker
+abbrev pub tally_with_tie : Settings → Tally → ℕ → Answer
+tally_with_tie s tally now =
+    let votes = tally_answer s tally now in
+    record votes { quorate = votes.quorate || (tally.released && tally_breaks s tally) }

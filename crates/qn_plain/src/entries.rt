@@ -1,19 +1,21 @@
+//! What a single entry is: a begin, a step of the boot, a read, an answer.
 ghost use Rattle.std.specs.Prelude.{◌≡◌};
 ghost use Rattle.qn_model.specs.Holding.{is_stopped};
-ghost use Rattle.qn_model.specs.Log.{times_of};
+ghost use Rattle.qn_model.specs.Log.{is_clean_begin, number_read, times_of};
 ghost use Rattle.qn_model.specs.NodeOutputs.{feeds_on, is_begin, is_boot_step};
 ghost use Rattle.qn_model.specs.Phases.{deadly_of, gives_exit, message_of};
 
-use qn_model::{HeaderSeen, MailSeen, Message, Timing, What};
+use qn_model::{HeaderSeen, MailSeen, Message, SlotSeen, Timing, What};
 
 /// Whether an entry begins the boot.
 pub fn is_begin(what: What) -> bool
     ensures { result ≡ is_begin what }
 {
     match what {
-        What::Begin => true,
+        What::Begin | What::BeginClean => true,
         What::Header(_)
         | What::SlotRead(..)
+        | What::MailChecked(_)
         | What::Claimed(_)
         | What::Cleared(_)
         | What::MailRead(_)
@@ -34,8 +36,13 @@ pub fn is_boot_step(what: What) -> bool
     ensures { result ≡ is_boot_step what }
 {
     match what {
-        What::Begin | What::Header(_) | What::SlotRead(..) | What::Claimed(_) | What::Cleared(_) =>
-            true,
+        What::Begin
+        | What::BeginClean
+        | What::Header(_)
+        | What::SlotRead(..)
+        | What::MailChecked(_)
+        | What::Claimed(_)
+        | What::Cleared(_) => true,
         What::MailRead(_)
         | What::MailWritten(..)
         | What::View(_)
@@ -54,6 +61,23 @@ pub fn is_stopped(what: What) -> bool
     ensures { result ≡ is_stopped what }
 {
     matches!(what, What::Stopped(true))
+}
+
+/// Whether an entry begins a clean start.
+pub fn is_clean_begin(what: What) -> bool
+    ensures { result ≡ is_clean_begin what }
+{
+    matches!(what, What::BeginClean)
+}
+
+/// The incarnation that an entry read in a slot.
+pub fn number_read(what: What) -> Option<u64>
+    ensures { result ≡ number_read what }
+{
+    match what {
+        What::SlotRead(_, SlotSeen::Read(slot)) => Some(slot.incarnation),
+        _ => None,
+    }
 }
 
 /// The times of the header that an entry is a read of.

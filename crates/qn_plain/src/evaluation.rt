@@ -1,3 +1,4 @@
+//! The public calls: outputs, the condition that blocks a start, and the count, of a whole history.
 ghost use Rattle.std.specs.Prelude.{◌≡◌, ◌≤◌, ℕ, All};
 ghost use Rattle.qn_model.specs.NodeOutputs.{answer_of, log_of, outs_of, why_of};
 ghost use Rattle.qn_plain.specs.Past.{PastFor, ResetsBy};
@@ -6,7 +7,7 @@ use crate::past::Past;
 use qn_base::Rank;
 use qn_model::{Answer, Entry, Outs, Settings, Why};
 
-/// The first condition that a start of the resource still lacks at `tick`, in milliseconds of the node's
+/// The first condition that blocks a start of the resource at `tick`, in milliseconds of the node's
 /// clock, after a history of the node of rank `me`, oldest entry first. The tick is no earlier than that of
 /// any entry.
 pub fn why(settings: &Settings, me: Rank, history: &[Entry], tick: u64) -> Why
@@ -17,12 +18,12 @@ pub fn why(settings: &Settings, me: Rank, history: &[Entry], tick: u64) -> Why
     past.why(settings, tick, past.lack(settings, me, tick))
 }
 
-/// The count of votes at `tick`, after a history of the node of rank `me`, oldest entry first.
+/// The count of votes at `tick`, with the tie breaker, after a history of the node of rank `me`, oldest entry first.
 pub fn answer(settings: &Settings, me: Rank, history: &[Entry], tick: u64) -> Answer
     ensures { result ≡ answer_of settings.now me.0 history.now tick }
 {
     let past = evaluate(settings, me, history).past;
-    past.votes.answer(settings, tick)
+    past.votes.answer_with_tie(settings, tick)
 }
 
 /// What comes out of the last entry of a history of the node of rank `me`, oldest entry first.

@@ -1,3 +1,4 @@
+//! The first condition that blocks a start, by ranks.
 ghost use Rattle.std.specs.Prelude.{◌≡◌, ◌<◌, length};
 ghost use Rattle.qn_model.specs.Unmet.{id_of};
 ghost use Rattle.qn_plain.specs.Lack.{is_nothing, is_rank};
@@ -8,7 +9,7 @@ use crate::sought::Sought;
 use qn_base::{NodeId, Rank};
 use qn_model::{Settings, Why};
 
-/// The first condition that a start of the resource still lacks, by ranks.
+/// The first condition that blocks a start of the resource, by ranks.
 #[derive(Clone, Copy)]
 pub enum Lack {
     Down,
@@ -24,7 +25,7 @@ pub enum Lack {
 }
 
 impl Lack {
-    /// Whether nothing lacks.
+    /// Whether nothing blocks a start.
     pub fn is_nothing(self) -> bool
         ensures { result ≡ is_nothing self }
     {
@@ -40,14 +41,14 @@ impl Past {
     ghost use Rattle.qn_plain.specs.declared.sought.Sought.TheVariants as sought;
     ghost use Rattle.qn_plain.specs.Sought.{least_sought};
 
-    /// Whether the node is quorate at a tick.
+    /// Whether the node is quorate at a tick, by the votes or by the tie breaker.
     pub fn is_quorate(&self, settings: &Settings, tick: u64) -> bool
         ensures { result ≡ is_quorate_at settings.now tick self.now }
     {
-        self.votes.answer(settings, tick).quorate
+        self.votes.answer_with_tie(settings, tick).quorate
     }
 
-    /// The first condition that lacks at a tick, by ranks that are configured.
+    /// The first condition that blocks a start at a tick, by ranks that are configured.
     pub fn lack(&self, settings: &Settings, me: Rank, tick: u64) -> Lack
         ensures value { result ≡ lack_at settings.now me.0 tick self.now }
         ensures within { HasRank settings.now result }
@@ -79,7 +80,7 @@ impl Past {
         if is_rank(me, chosen) { None } else { chosen }
     }
 
-    /// What lacks of the other nodes.
+    /// What of the other nodes blocks a start.
     fn lack_of_others(&self, settings: &Settings, me: Rank, tick: u64) -> Lack
         ensures value { result ≡ lack_of_others settings.now me.0 tick self.now }
         ensures within { HasRank settings.now result }
@@ -96,7 +97,7 @@ impl Past {
         Lack::Clear
     }
 
-    /// The condition with the numbers that it names. No reset may have been written behind the tick.
+    /// The condition with the numbers that it names. No reset may have been written after the tick.
     pub fn why(&self, settings: &Settings, tick: u64, lack: Lack) -> Why
         requires resets { ResetsBy self.now tick }
         requires within { HasRank settings.now lack }
@@ -108,7 +109,7 @@ impl Past {
             Lack::NoView => Why::NoView,
             Lack::WaitForAll => Why::WaitForAll,
             Lack::NotQuorate => {
-                let answer = self.votes.answer(settings, tick);
+                let answer = self.votes.answer_with_tie(settings, tick);
                 Why::NotQuorate {
                     votes: answer.votes,
                     quorum: answer.quorum,
@@ -128,7 +129,7 @@ impl Past {
         }
     }
 
-    /// That a rank has no licence, with the ticks that still lack to msgwait.
+    /// That a rank has no licence, with the ticks of msgwait that remain.
     fn why_unfenced(&self, settings: &Settings, tick: u64, rank: Rank) -> Why
         requires resets { ResetsBy self.now tick }
         requires within { rank.0 < length settings.now.nodes }

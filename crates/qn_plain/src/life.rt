@@ -1,4 +1,5 @@
-use crate::entries::{is_stopped, times_of};
+//! What a history says of the node itself: boot, phase, times, resource and operations.
+use crate::entries::{is_clean_begin, is_stopped, number_read, times_of};
 use crate::operations::{asks_mail, claim_of};
 use crate::phases::{is_up, next_phase};
 use crate::spans::{has_passed, is_within};
@@ -19,6 +20,10 @@ pub enum Stopping {
 #[derive(Clone, Copy)]
 pub struct Life {
     pub phase: Phase,
+    /// Whether the boot began as a clean start.
+    pub clean: bool,
+    /// The incarnation that the last read of a slot gave, 0 where none gave one.
+    pub slot_number: u64,
     /// The incarnation that was claimed.
     pub claimed: Option<u64>,
     pub holds: bool,
@@ -53,12 +58,14 @@ impl Life {
     ghost use Rattle.qn_plain.specs.Life.{is_timely, life_given, life_of, life_taken, stopping_given, stops_again};
 
     /// What no entries say.
-    #[tactic(auto, unfolding(qn_model::specs::Log::claimed, qn_model::specs::Log::op_out, qn_model::specs::Log::ask_place, qn_model::specs::Log::ask_tick, qn_model::specs::Log::timing, qn_model::specs::Phases::phase, qn_model::specs::Holding::holds, qn_model::specs::Holding::stop_due, qn_model::specs::Wanted::mail_tick, qn_model::specs::NodeOutputs::moment, crate::specs::Life::stopping))]
+    #[tactic(auto, unfolding(qn_model::specs::Log::begins_clean, qn_model::specs::Log::slot_number, qn_model::specs::Log::claimed, qn_model::specs::Log::op_out, qn_model::specs::Log::ask_place, qn_model::specs::Log::ask_tick, qn_model::specs::Log::timing, qn_model::specs::Phases::phase, qn_model::specs::Holding::holds, qn_model::specs::Holding::stop_due, qn_model::specs::Wanted::mail_tick, qn_model::specs::NodeOutputs::moment, crate::specs::Life::stopping))]
     pub fn new(settings: &Settings) -> Self
         ensures { result ≡ life_of settings.now [] }
     {
         Life {
             phase: Phase::Booting,
+            clean: false,
+            slot_number: 0,
             claimed: None,
             holds: false,
             stop_due: false,
@@ -81,6 +88,8 @@ impl Life {
         let asks = is_up(phase) && self.is_moment(tick, what);
         Life {
             phase,
+            clean: is_clean_begin(what) || self.clean,
+            slot_number: number_read(what).unwrap_or(self.slot_number),
             holds: self.holds && !is_stopped(what),
             stop_due: self.stop_due && !what.answers_stop(),
             stopping: if what.answers_stop() {

@@ -1,3 +1,4 @@
+//! What a disk operation is: a claim, a read of the own mailbox.
 ghost use Rattle.std.specs.Prelude.{◌≡◌};
 ghost use Rattle.qn_model.specs.Log.{claim_of};
 ghost use Rattle.qn_model.specs.Wanted.{asks_mail};

@@ -1,9 +1,11 @@
+//! The outputs of an entry that was taken in.
 ghost use Rattle.std.specs.Prelude.{◌≡◌, ◌<◌, ◌≤◌, ◌+◌, ◌++◌, length, None};
 ghost use Rattle.qn_model.specs.NodeOutputs.{boot_outs, disk_outs, when};
 ghost use Rattle.qn_model.specs.Phases.{boot_halt};
 ghost use Rattle.qn_model.specs.Wanted.{boot_op};
 
 use crate::entries::{deadly_of, feeds_on, is_begin, is_boot_step, message_of};
+use crate::life::Life;
 use crate::past::Past;
 use crate::phases::{boot_halt, is_booting, is_leaving, is_live};
 use qn_base::{Rank, View};
@@ -30,9 +32,10 @@ fn push_op(outs: &mut Outs, op: Option<DiskOp>)
     }
 }
 
-/// What comes out of an entry while the node boots.
-fn boot_outs(settings: &Settings, me: Rank, what: What) -> Outs
-    ensures { result ≡ boot_outs settings.now me.0 what }
+/// What comes out of an entry that was taken in while the node boots.
+fn boot_outs(settings: &Settings, me: Rank, life: &Life, what: What) -> Outs
+    requires { boot_halt settings.now what ≡ None → life.now.slot_number < u64.MAX }
+    ensures { result ≡ boot_outs settings.now me.0 life.now.clean life.now.slot_number what }
 {
     let mut outs = Outs::new();
     if is_boot_step(what) {
@@ -40,7 +43,7 @@ fn boot_outs(settings: &Settings, me: Rank, what: What) -> Outs
             Some(cause) => outs.push(Out::Halt(HaltKind::Boot(cause))),
             None => {
                 push_if(&mut outs, !is_begin(what), Out::Feed);
-                push_op(&mut outs, boot_op(settings, me, what));
+                push_op(&mut outs, boot_op(settings, me, life, what));
             }
         }
     }
@@ -48,13 +51,16 @@ fn boot_outs(settings: &Settings, me: Rank, what: What) -> Outs
 }
 
 /// The operation after a step of the boot that goes on.
-fn boot_op(settings: &Settings, me: Rank, what: What) -> Option<DiskOp>
-    requires { boot_halt settings.now what ≡ None }
-    ensures { result ≡ boot_op me.0 what }
+fn boot_op(settings: &Settings, me: Rank, life: &Life, what: What) -> Option<DiskOp>
+    requires goes_on { boot_halt settings.now what ≡ None }
+    requires claimable { life.now.slot_number < u64.MAX }
+    ensures { result ≡ boot_op me.0 life.now.clean life.now.slot_number what }
 {
     match what {
-        What::Begin => Some(DiskOp::ReadHeader),
+        What::Begin | What::BeginClean => Some(DiskOp::ReadHeader),
         What::Header(_) => Some(DiskOp::ReadSlot(me)),
+        What::SlotRead(..) if life.clean => Some(DiskOp::CheckMail),
+        What::MailChecked(_) => Some(DiskOp::WriteClaim(life.slot_number + 1)),
         What::SlotRead(_, SlotSeen::Read(own)) => Some(DiskOp::WriteClaim(own.incarnation + 1)),
         What::Claimed(_) => Some(DiskOp::WriteClear),
         What::Cleared(_) => Some(DiskOp::ReadMail),
@@ -73,10 +79,10 @@ fn boot_op(settings: &Settings, me: Rank, what: What) -> Option<DiskOp>
 }
 
 impl Past {
-    ghost use Rattle.std.specs.Prelude.{◌≡◌, ◌<◌, ◌≤◌, ◌+◌, ◌++◌, ◌&&◌, length};
+    ghost use Rattle.std.specs.Prelude.{◌≡◌, ◌<◌, ◌≤◌, ◌+◌, ◌++◌, ◌&&◌, length, IsTrue, None};
     ghost use Rattle.qn_plain.specs.Outputs.{acts_at, ask_of, asks_at_entry, asks_from, gives_stop_at, is_asked_of, live_outs_at, outs_after, replies_to, tell_to};
     ghost use Rattle.qn_model.specs.NodeOutputs.{feeds_on};
-    ghost use Rattle.qn_model.specs.Phases.{deadly_of, message_of};
+    ghost use Rattle.qn_model.specs.Phases.{boot_halt, deadly_of, is_booting, message_of};
 
     /// What comes out of an entry that was taken in, by the phase before it and whether it is in time.
     pub fn outs(
@@ -88,10 +94,13 @@ impl Past {
         tick: u64,
         what: What,
     ) -> Outs
+        requires { IsTrue (is_booting before)
+            → boot_halt settings.now what ≡ None
+            → self.now.life.slot_number < u64.MAX }
         ensures { result ≡ outs_after settings.now me.0 before timely tick what self.now }
     {
         if is_booting(before) {
-            boot_outs(settings, me, what)
+            boot_outs(settings, me, &self.life, what)
         } else if is_live(before) {
             self.live_outs(settings, me, timely, tick, what)
         } else {

@@ -1,3 +1,4 @@
+//! What a whole history comes to, one entry after the other.
 ghost use Rattle.std.specs.Prelude.{◌≡◌, ◌<◌, ℕ};
 ghost use Rattle.qn_model.specs.Fitting.{is_for, is_own_view};
 ghost use Rattle.qn_plain.specs.Past.{vote_said};
@@ -25,6 +26,7 @@ impl Past {
     ghost use Rattle.qn_model.specs.Log.{Line};
     ghost use Rattle.qn_model.specs.NodeOutputs.{newest_outs, with_entry};
     ghost use Rattle.qn_model.specs.Fitting.{is_for, is_own_view};
+    ghost use Rattle.qn_plain.specs.Life.{IsClaimable};
     ghost use Rattle.qn_plain.specs.Past.{PastFor, ResetsBy, TakesIn, fits_at, is_in, is_shown, past_answers, read_at, reading_of};
     ghost use Rattle.qn_plain.specs.Peer.{peer_after, peer_at};
 
@@ -46,7 +48,8 @@ impl Past {
 
     /// Takes in the next entry of a history, at its place, and says what comes out of it.
     pub fn add(&mut self, settings: &Settings, me: Rank, place: usize, entry: &Entry) -> Outs
-        requires { self.old.installs < u64.MAX }
+        requires installs { self.old.installs < u64.MAX }
+        requires claimable { IsClaimable self.old.life }
         ensures stands { (log : List Line)
             → place ≡ suc (length log)
             → PastFor settings.now self.old log
@@ -82,7 +85,7 @@ impl Past {
         ensures { result ≡ fits_at settings.now me.0 place self.now what }
     {
         match what {
-            What::Begin => place == 1,
+            What::Begin | What::BeginClean => place == 1,
             What::View(view) => is_live(self.life.phase) && is_own_view(settings, me, view),
             What::Ask(ask) => is_live(self.life.phase) && is_for(settings, me, ask.from, ask.to),
             What::Tell(tell) => is_live(self.life.phase)
@@ -93,6 +96,7 @@ impl Past {
             What::Tick => true,
             What::Header(_)
             | What::SlotRead(..)
+            | What::MailChecked(_)
             | What::Claimed(_)
             | What::Cleared(_)
             | What::MailRead(_)
@@ -177,7 +181,21 @@ fn vote_said(answers: bool, what: What) -> VoteWhat
         What::View(view) => VoteWhat::View(view),
         What::Device(agrees) => VoteWhat::Device(agrees),
         What::Tell(tell) if answers && tell.released => VoteWhat::Released,
-        _ => VoteWhat::Tick,
+        What::Begin
+        | What::BeginClean
+        | What::Header(_)
+        | What::SlotRead(..)
+        | What::MailChecked(_)
+        | What::Claimed(_)
+        | What::Cleared(_)
+        | What::MailRead(_)
+        | What::MailWritten(..)
+        | What::Ask(_)
+        | What::Tell(_)
+        | What::Tick
+        | What::Stopped(_)
+        | What::Leave
+        | What::Closed(_) => VoteWhat::Tick,
     }
 }
 

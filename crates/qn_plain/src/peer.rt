@@ -1,3 +1,4 @@
+//! What a history says of one other rank.
 use crate::spans::has_passed;
 use qn_base::Rank;
 use qn_model::{SlotSeen, What};
@@ -18,7 +19,7 @@ pub struct Reading {
 /// What a history says of one rank. Places are 0 where there was no such entry.
 #[derive(Clone, Copy)]
 pub struct Peer {
-    /// The place behind which the rank's out-time begins.
+    /// The place after which the rank's out-time begins.
     pub out_since: usize,
     /// Where the last read that gave a clean slot was asked for.
     pub clean_asked: usize,
@@ -35,7 +36,7 @@ pub struct Peer {
 
 impl Peer {
     ghost use Rattle.std.specs.Prelude.{◌≡◌, ◌≤◌};
-    ghost use Rattle.qn_plain.specs.Peer.{no_peer, peer_after, peer_is_clean, peer_is_fenced, peer_is_held, peer_is_seen, peer_is_written, peer_left, peer_read};
+    ghost use Rattle.qn_plain.specs.Peer.{no_peer, peer_after, peer_is_clean, peer_is_fenced, peer_is_held, peer_is_seen, peer_is_written, peer_left, peer_read, peer_viewed};
 
     /// What no entries say.
     pub fn new() -> Self
@@ -57,16 +58,7 @@ impl Peer {
         ensures { result ≡ peer_after rank.0 reading.now self }
     {
         match reading.what {
-            What::View(view) => Peer {
-                out_since: if view.members.has(rank) {
-                    reading.place
-                } else {
-                    self.out_since
-                },
-                free: false,
-                told: false,
-                ..self
-            },
+            What::View(view) => self.after_view(view.members.has(rank), reading.place),
             What::Cleared(_) => Peer {
                 out_since: reading.place,
                 ..self
@@ -85,7 +77,33 @@ impl Peer {
                 told: true,
                 ..self
             },
-            _ => self,
+            What::Begin
+            | What::BeginClean
+            | What::Header(_)
+            | What::SlotRead(..)
+            | What::MailChecked(_)
+            | What::Claimed(_)
+            | What::MailRead(_)
+            | What::MailWritten(..)
+            | What::Ask(_)
+            | What::Tell(_)
+            | What::Device(_)
+            | What::Tick
+            | What::Stopped(_)
+            | What::Leave
+            | What::Closed(_) => self,
+        }
+    }
+
+    /// What a view says that has the rank, or not.
+    fn after_view(self, has: bool, place: usize) -> Self
+        ensures { result ≡ peer_viewed has place self }
+    {
+        Peer {
+            out_since: if has { place } else { self.out_since },
+            free: false,
+            told: false,
+            ..self
         }
     }
 
@@ -135,7 +153,7 @@ impl Peer {
         self.is_written() && has_passed(self.reset_tick, msgwait, tick)
     }
 
-    /// The ticks that still lack to the span where a reset was written in the out-time, else 0.
+    /// The ticks of the span that remain where a reset was written in the out-time, else 0.
     pub fn left(&self, msgwait: u64, tick: u64) -> u64
         requires { self.now.reset_tick ≤ tick }
         ensures { result ≡ peer_left self.now msgwait tick }

@@ -1,8 +1,11 @@
+//! The phases of a node and the causes that halt its boot.
 ghost use Rattle.std.specs.Prelude.{◌≡◌};
-ghost use Rattle.qn_model.specs.Phases.{boot_halt, boot_phase, header_halt, is_booting, is_leaving, is_live, is_up, mail_phase, next_phase, slot_halt};
+ghost use Rattle.qn_model.specs.Phases.{boot_halt, boot_phase, check_halt, header_halt, is_booting, is_leaving, is_live, is_up, mail_phase, next_phase, slot_halt, starts_clean_on};
 
 use crate::entries::{deadly_of, gives_exit, message_of};
-use qn_model::{BootCause, HeaderSeen, Message, Phase, Settings, SlotSeen, What, timing_safe};
+use qn_model::{
+    BootCause, HeaderSeen, MailSeen, Message, Phase, Settings, SlotSeen, What, timing_safe,
+};
 
 /// Whether the node counts votes, fences, and may start the resource.
 pub fn is_up(phase: Phase) -> bool
@@ -39,10 +42,12 @@ pub fn boot_halt(settings: &Settings, what: What) -> Option<BootCause>
     match what {
         What::Header(seen) => header_halt(settings, seen),
         What::SlotRead(_, seen) => slot_halt(seen),
+        What::MailChecked(seen) => check_halt(seen),
         What::Claimed(false) => Some(BootCause::ClaimFailed),
         What::Cleared(false) => Some(BootCause::ClearFailed),
         What::Claimed(true) | What::Cleared(true) => None,
         What::Begin
+        | What::BeginClean
         | What::MailRead(_)
         | What::MailWritten(..)
         | What::View(_)
@@ -87,14 +92,37 @@ fn slot_halt(seen: SlotSeen) -> Option<BootCause>
     }
 }
 
+/// Why a check of the own mailbox halts the boot.
+fn check_halt(seen: MailSeen) -> Option<BootCause>
+    ensures { result ≡ check_halt seen }
+{
+    match seen {
+        MailSeen::Failed => Some(BootCause::ReadFailed),
+        MailSeen::Damaged => Some(BootCause::NotImage),
+        MailSeen::Read(message) if starts_clean_on(message) => None,
+        MailSeen::Read(_) => Some(BootCause::NotClean),
+    }
+}
+
+/// Whether a clean start goes on where the own mailbox holds that message (sbd(8), `-S`).
+fn starts_clean_on(message: Message) -> bool
+    ensures { result ≡ starts_clean_on message }
+{
+    match message {
+        Message::Empty | Message::Exit => true,
+        Message::Test | Message::Reset | Message::Off | Message::Crashdump => false,
+    }
+}
+
 /// The phase after an entry, by the phase before it and whether the entry is in time.
 pub fn next_phase(settings: &Settings, what: What, timely: bool, before: Phase) -> Phase
     ensures { result ≡ next_phase settings.now what timely before }
 {
     match what {
-        What::Begin => Phase::Booting,
+        What::Begin | What::BeginClean => Phase::Booting,
         What::Header(seen) => boot_phase(header_halt(settings, seen), before),
         What::SlotRead(_, seen) if is_booting(before) => boot_phase(slot_halt(seen), before),
+        What::MailChecked(seen) => boot_phase(check_halt(seen), before),
         What::Claimed(false) | What::Cleared(false) => Phase::Gone,
         What::Cleared(true) => Phase::Up,
         What::MailRead(_) => mail_phase(message_of(what), timely, before),

@@ -1,3 +1,4 @@
+//! The least rank that is a member, a holder, unheard, unfenced, or due for a read or a reset.
 use crate::past::Past;
 use qn_base::Rank;
 use qn_model::Settings;

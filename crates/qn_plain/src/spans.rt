@@ -1,3 +1,4 @@
+//! Whether a span of time has passed between two ticks.
 ghost use Rattle.std.specs.Prelude.{◌≡◌, ◌+◌, nat_le};
 
 /// Whether at least this span of milliseconds lies between the two ticks.

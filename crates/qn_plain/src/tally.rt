@@ -1,3 +1,4 @@
+//! What a vote list comes to, one entry after the other.
 ghost use Rattle.std.specs.Prelude.{◌≡◌, ◌≤◌, ◌+◌, nat_le};
 ghost use Rattle.qn_model.specs.Votes.{votes_of_device};
 
@@ -6,7 +7,7 @@ use qn_base::View;
 use qn_model::{Answer, Device, Settings, VoteEntry, VoteWhat};
 
 /// What a vote list comes to: the present view and its tick, whether the node is released, the expected
-/// votes, and the tick of the device's standing yes.
+/// votes, the tick of the device's standing yes, and the last view of a majority.
 #[derive(Clone, Copy)]
 pub struct Tally {
     pub view: Option<View>,
@@ -14,15 +15,17 @@ pub struct Tally {
     pub released: bool,
     pub expected: u64,
     pub device_yes: Option<u64>,
+    pub majority: Option<View>,
 }
 
 impl Tally {
     ghost use Rattle.std.specs.Prelude.{◌≡◌, ◌≤◌, ◌+◌, ◌*◌, [], ◌∷◌, List};
+    ghost use Rattle.qn_model.specs.Tie.{majority_of};
     ghost use Rattle.qn_model.specs.declared.votes.VoteEntry.{VoteEntry};
-    ghost use Rattle.qn_plain.specs.Tally.{tally_after, tally_answer, tally_counted, tally_device, tally_lowers, tally_of, tally_votes, with_entry, with_lowered};
+    ghost use Rattle.qn_plain.specs.Tally.{tally_after, tally_answer, tally_counted, tally_device, tally_lowers, tally_of, tally_votes, tally_with_tie, with_entry, with_lowered, with_majority};
 
     /// The tally of no entries.
-    #[tactic(auto, unfolding(qn_model::specs::Votes::present_view, qn_model::specs::Votes::view_tick, qn_model::specs::Votes::is_released, qn_model::specs::Votes::expected_votes, qn_model::specs::Votes::device_yes))]
+    #[tactic(auto, unfolding(qn_model::specs::Votes::present_view, qn_model::specs::Votes::view_tick, qn_model::specs::Votes::is_released, qn_model::specs::Votes::expected_votes, qn_model::specs::Votes::device_yes, qn_model::specs::Tie::majority_view))]
     pub fn new(settings: &Settings) -> Self
         ensures { result ≡ tally_of settings.now [] }
     {
@@ -32,6 +35,7 @@ impl Tally {
             released: !settings.wait_for_all,
             expected: settings.expected,
             device_yes: None,
+            majority: None,
         }
     }
 
@@ -44,9 +48,10 @@ impl Tally {
     {
         self.take_in(settings, entry);
         self.lower(settings, entry.tick);
+        self.note_majority(settings, entry.what);
     }
 
-    /// The count at a tick.
+    /// The count at a tick, by the votes alone.
     pub fn answer(&self, settings: &Settings, now: u64) -> Answer
         ensures { result ≡ tally_answer settings.now self.now now }
     {
@@ -59,6 +64,15 @@ impl Tally {
             expected: self.expected,
             released: self.released,
         }
+    }
+
+    /// The count at a tick, with the tie breaker.
+    pub fn answer_with_tie(&self, settings: &Settings, now: u64) -> Answer
+        ensures { result ≡ tally_with_tie settings.now self.now now }
+    {
+        let mut answer = self.answer(settings, now);
+        answer.quorate = answer.quorate || self.released && self.breaks_tie(settings);
+        answer
     }
 
     fn take_in(&mut self, settings: &Settings, entry: &VoteEntry)
@@ -86,6 +100,29 @@ impl Tally {
         }
     }
 
+    /// Keeps the view of an entry that was taken in, where it has more than half of the expected votes.
+    fn note_majority(&mut self, settings: &Settings, what: VoteWhat)
+        ensures { self.new ≡ with_majority settings.now what self.old }
+    {
+        self.majority = self.majority_of(settings, what).or(self.majority);
+    }
+
+    fn majority_of(&self, settings: &Settings, what: VoteWhat) -> Option<View>
+        ensures { result ≡ majority_of settings.now self.now.expected what }
+    {
+        match what {
+            VoteWhat::View(view) => {
+                let votes = settings.nodes.votes_among(view.members);
+                if 2 * votes > self.expected {
+                    Some(view)
+                } else {
+                    None
+                }
+            }
+            VoteWhat::Device(_) | VoteWhat::Released | VoteWhat::Tick => None,
+        }
+    }
+
     /// Whether last man standing makes the present view's votes the expected ones.
     fn lowers(&self, settings: &Settings, now: u64) -> bool
         ensures { result ≡ tally_lowers settings.now self.now now }
@@ -99,7 +136,8 @@ impl Tally {
             && votes < self.expected
     }
 
-    fn view_votes(&self, settings: &Settings) -> u64
+    /// The votes of the present view, 0 without one.
+    pub fn view_votes(&self, settings: &Settings) -> u64
         ensures sum { result ≡ tally_votes settings.now self.now }
         ensures fits { result ≤ 32 * 4294967295 }
     {

@@ -1,3 +1,4 @@
+//! The next disk operation of a node that has none out.
 use crate::lack::is_rank;
 use crate::past::Past;
 use crate::phases::{is_leaving, is_up};
@@ -7,8 +8,8 @@ use qn_base::Rank;
 use qn_model::{DiskOp, Settings};
 
 impl Past {
-    ghost use Rattle.std.specs.Prelude.{◌≡◌};
-    ghost use Rattle.qn_plain.specs.Outputs.{fencing_op_at, is_mail_due_at, may_fence_at, wanted_at};
+    ghost use Rattle.std.specs.Prelude.{◌≡◌, ◌<◌, length};
+    ghost use Rattle.qn_plain.specs.Outputs.{fencing_op_at, is_delay_over_at, is_mail_due_at, may_fence_at, to_reset_at, wanted_at};
 
     /// The next disk operation at a tick, where none is out.
     pub fn wanted(&self, settings: &Settings, me: Rank, tick: u64) -> Option<DiskOp>
@@ -49,10 +50,29 @@ impl Past {
     {
         match self.least(settings, Sought::Unread, me, tick) {
             Some(rank) => Some(DiskOp::ReadSlot(rank)),
-            None => match self.least(settings, Sought::Unreset, me, tick) {
+            None => match self.to_reset(settings, me, tick) {
                 Some(rank) => Some(DiskOp::WriteReset(rank)),
                 None => None,
             },
         }
+    }
+
+    /// The least rank that is left to reset, once its fence delay is over; until then none.
+    fn to_reset(&self, settings: &Settings, me: Rank, tick: u64) -> Option<Rank>
+        ensures { result ≡ to_reset_at settings.now me.0 tick self.now }
+    {
+        match self.least(settings, Sought::Unreset, me, tick) {
+            Some(rank) if self.is_delay_over(settings, rank, tick) => Some(rank),
+            _ => None,
+        }
+    }
+
+    /// Whether the fence delay of a rank has passed since the last view.
+    fn is_delay_over(&self, settings: &Settings, rank: Rank, tick: u64) -> bool
+        requires { rank.0 < length settings.now.nodes }
+        ensures { result ≡ is_delay_over_at settings.now rank.0 tick self.now }
+    {
+        let node = settings.nodes.get(usize::from(rank.0));
+        has_passed(self.votes.view_tick, node.fence_delay, tick)
     }
 }

@@ -1,15 +1,14 @@
 -- The next line of an input: the world takes it, or the run ends.
-use Rattle.std.proofs.Common.{◌≡◌, ◌+◌, ◌≤◌, ◌==◌, true, false, ℕ, List, [], ◌∷◌, ◌++◌, Option, Result, Ok, Err, length, refl, sym, ap, ◌∙◌, arith}
+use Rattle.std.proofs.Common.{◌≡◌, ◌≤◌, ◌==◌, true, false, ℕ, List, [], ◌∷◌, ◌++◌, Option, Result, Ok, Err, length, refl, ap, ◌∙◌, arith}
 use Rattle.std.specs.Io.KnownBytes.{IsAtEnd, prepend_known}
 use Rattle.std.proofs.lemmas.List.{length-append}
 use Rattle.std.proofs.lemmas.List.Elements.{All-push}
 use Rattle.qn_io.specs.declared.lines.LineRead.{LineRead}
 use Rattle.qn_io.specs.declared.lines.LineRead.TheVariants as read
-use Rattle.qn_io.specs.Lines.{IsDrainedLine, IsTooLong, OnFailedLine, ReadsLine}
+use Rattle.qn_io.specs.Lines.{IsDrainedLine, OnFailedLine, ReadsLine}
 use Rattle.qn_model.specs.LineLaws.{IsPartOfLine}
 use Rattle.qn_model.specs.Lines.{Ending, Ended, ReadFailed}
 use Rattle.qn_sched.specs.declared.replay_end.ReplayEnd.{ReplayEnd}
-use Rattle.qn_sched.specs.declared.replay_end.ReplayEnd.TheVariants.{NoMemory, ReadFault}
 use Rattle.qn_play.specs.Judging.{AtFault, OutOfMemory, RefusesAt, judged}
 use Rattle.qn_play.specs.Lines.{Play, Taken, Wants, line_of, rest_of}
 use Rattle.qn_play.specs.Played.{Played, ended, go_on, traced}
@@ -17,7 +16,7 @@ use Rattle.qn_play.specs.Reading.{GoesOn, IsOpen, LastDecides, Stops, Wanted}
 use Rattle.qn_play.specs.Steps.{left_at_end, stops_at, stops_ended, stops_failed}
 use Rattle.qn_play.proofs.LineLaws.{rest_of-last, rest_of-line, rest_of-long}
 
--- memory was wanted for the line that was taken
+-- out of memory for the line that was taken
 pub record WantsHere (play : Play) (wants : Wants) (head : ℕ) (earlier : Taken) (taken : List ℕ) : Type 0 where
   pub line : List ℕ
   pub text : List ℕ
@@ -52,6 +51,7 @@ module _ (play : Play) (head : ℕ) (earlier : Taken) (line : List ℕ) (inside 
   refused takes (OutOfMemory text is wants memory) = record {
     taken = line ++ 10 ∷ [];
     takes = takes;
+    needed = LastDecides line 10 refl stays_open;
     stops = Wanted memory (record { line = line; text = text; parts = refl; good = is; wants_more = wants });
   }
 

@@ -1,12 +1,13 @@
 -- A run of a world, line after line, up to its end.
-use Rattle.std.proofs.Common.{◌≡◌, ◌+◌, ◌-◌, ◌<◌, ◌≤◌, arith, ℕ, List, [], ◌∷◌, ◌++◌, Option, length, Ok, refl, sym, ap, ◌∙◌, subst, append_assoc, append-nil}
+use Rattle.std.proofs.Common.{◌≡◌, ◌+◌, ◌<◌, ◌≤◌, arith, ℕ, List, [], ◌∷◌, ◌++◌, Option, length, Ok, refl, sym, ap, ◌∙◌, subst, append_assoc, append-nil}
 use Rattle.std.specs.Io.KnownBytes.{IsAtEnd, prepend_known, append_known}
-use Rattle.qn_io.specs.Outside.{prepend_known-append, prepend_known-nil}
+use Rattle.qn_io.specs.Outside.{prepend_known-append}
+use Rattle.qn_io.specs.declared.buffered.TheConstants.{PIECE}
 use Rattle.qn_io.specs.Writes.{AppendsFront}
-use Rattle.qn_model.specs.Inputs.{Tells, Anyway}
+use Rattle.qn_model.specs.Inputs.{Anyway}
 use Rattle.qn_model.specs.Lines.{Ending, Ended}
 use Rattle.qn_sched.specs.declared.replay_end.ReplayEnd.{ReplayEnd}
-use Rattle.qn_sched.specs.declared.replay_end.ReplayEnd.TheVariants.{Done, NoMemory, ReadFault, WriteFault}
+use Rattle.qn_sched.specs.declared.replay_end.ReplayEnd.TheVariants.{Done, WriteFault}
 use Rattle.qn_io.specs.declared.lines.LineRead.{LineRead}
 use Rattle.qn_io.specs.Lines.{IsDrainedLine, OnFailedLine, ReadsLine}
 use Rattle.qn_model.specs.LineLaws.{IsPartOfLine}
@@ -17,7 +18,7 @@ use Rattle.qn_play.specs.Reading.{EndsWith, GoesOn, IsOpen, Rest, Stops}
 use Rattle.qn_play.specs.Reading as reading
 use Rattle.qn_play.specs.Runs.{Cut, EndsAs, Finishes, Runs, Unwritten, Wanted, WantsAtLine, Written, WroteAll}
 use Rattle.qn_play.specs.Steps.{goes_nowhere, goes_then, goes_traced, needed_after, needed_traced, takes_after, tells_after, tells_traced}
-use Rattle.qn_play.specs.Writing.{GivesOut, gives_later, gives_on, gives_then, prefix_of_more, prefix_then, written_all, written_prefix}
+use Rattle.qn_play.specs.Writing.{GivesOut, gives_later, gives_on, gives_then, prefix_then, written_all, written_prefix}
 use Rattle.qn_play.proofs.LineSteps.{WantsHere, read_goes, read_stops}
 
 -- The lines so far were taken, and their trace text was given out: the world stands after them, and what the whole input gives
@@ -95,36 +96,40 @@ module _ {play : Play} {standing : Taken → Type 0} {head count : ℕ} {left be
       Unwritten text (Anyway (λ ending more. ((rest ending more).trace, ap (λ (p : Played Taken). p.trace) (is ending more)))) refl fails prefix
 
   -- what waited was not written whole
-  pub unwritten : {standing_new : Taken → Type 0} {wanted : List ℕ → List ℕ → Type 0} {left_new new : Option (List ℕ)} {failed write_failed : Type 0} (pieces : List ℕ)
+  pub unwritten : {standing_new : Taken → Type 0} {wanted : List ℕ → List ℕ → Type 0} {left_new new : Option (List ℕ)} {failed write_failed : Type 0} (pieces : List ℕ) → length pieces ≤ PIECE
       → between ≡ prepend_known pieces left_new → write_failed → AppendsFront now new waiting
       → Runs (rest_of play head []) standing_new wanted left left_new failed old new write_failed WriteFault
-  unwritten {left_new} pieces is fails prefix = record {
+  unwritten {left_new} pieces within is fails prefix = record {
     taken = run.goes.taken;
     waiting = pieces;
     takes = run.goes.takes ∙ ap (prepend_known run.goes.taken) is ∙ sym (prepend_known-append run.goes.taken pieces left_new);
+    needed = run.goes.needed;
+    within = within;
     ends = cut run.goes.taken run.text (λ ending more. rest_of play head run.after.earlier ending more) run.goes.rest fails (written_prefix run.gives prefix);
   }
 
   -- the world took one more line, whose text was not written whole
-  pub unwritten_at : {standing_new : Taken → Type 0} {wanted : List ℕ → List ℕ → Type 0} {left_new new : Option (List ℕ)} {failed write_failed : Type 0} (pieces line text : List ℕ)
+  pub unwritten_at : {standing_new : Taken → Type 0} {wanted : List ℕ → List ℕ → Type 0} {left_new new : Option (List ℕ)} {failed write_failed : Type 0} (pieces line text : List ℕ) → length pieces ≤ PIECE
       → GoesOn (rest_of play head run.after.earlier) (λ ending more. traced text (rest_of play head (line ∷ run.after.earlier) ending more)) between (prepend_known pieces left_new)
       → write_failed → AppendsFront now new (waiting ++ text)
       → Runs (rest_of play head []) standing_new wanted left left_new failed old new write_failed WriteFault
-  unwritten_at {left_new} pieces line text goes fails prefix =
+  unwritten_at {left_new} pieces line text within goes fails prefix =
       let whole = further line text goes in
       record {
         taken = whole.taken;
         waiting = pieces;
         takes = whole.takes ∙ sym (prepend_known-append whole.taken pieces left_new);
+        needed = whole.needed;
+        within = within;
         ends = cut whole.taken (run.text ++ text) (λ ending more. rest_of play head (line ∷ run.after.earlier) ending more) whole.rest fails (prefix_then run.gives text prefix);
       }
 
   all_written : {wants : Wants} {standing_new : Taken → Type 0} {taken : List ℕ} {at_end failed write_failed : Type 0} {new : Option (List ℕ)} (end : ReplayEnd) → standing_new run.after.earlier
       → EndsWith (rest_of play head run.after.earlier) run.after.earlier (WantsHere play wants head run.after.earlier) taken at_end failed end → new ≡ append_known now waiting
       → EndsAs (rest_of play head []) standing_new (WantsAtLine play wants standing_new head) (run.goes.taken ++ taken) at_end failed old new write_failed end
-  all_written end stands (reading.Told tells needed) whole =
+  all_written end stands (reading.Told tells) whole =
       let last = ended run.after.earlier end in
-      WroteAll (traced run.text last) (tells_after run.goes (λ p. p ≡ traced run.text last) (tells_traced run.text last tells)) (needed_after run.goes (needed_traced run.text needed)) refl
+      WroteAll (traced run.text last) (tells_after run.goes (λ p. p ≡ traced run.text last) (tells_traced run.text last tells)) refl
       (written_all run.gives whole ∙ ap (append_known old) (sym (append-nil run.text))) stands
   all_written {taken} end stands (reading.Wanted memory here) whole =
       Wanted run.text
@@ -146,26 +151,30 @@ module _ {play : Play} {standing : Taken → Type 0} {head count : ℕ} {left be
       })
 
   -- the run ended, and all was written
-  pub ends : {wants : Wants} {standing_new : Taken → Type 0} {left_new new : Option (List ℕ)} {failed write_failed : Type 0} (pieces : List ℕ) (end : ReplayEnd) → standing_new run.after.earlier
+  pub ends : {wants : Wants} {standing_new : Taken → Type 0} {left_new new : Option (List ℕ)} {failed write_failed : Type 0} (pieces : List ℕ) (end : ReplayEnd) → length pieces ≤ PIECE → standing_new run.after.earlier
       → Stops (rest_of play head run.after.earlier) run.after.earlier (WantsHere play wants head run.after.earlier) between (prepend_known pieces left_new) ((pieces ≡ []) × IsAtEnd left_new) ((pieces ≡ []) × failed) end
       → new ≡ append_known now waiting
       → Runs (rest_of play head []) standing_new (WantsAtLine play wants standing_new head) left left_new failed old new write_failed end
-  ends {left_new} pieces end stands stop whole = record {
+  ends {left_new} pieces end within stands stop whole = record {
     taken = run.goes.taken ++ stop.taken;
     waiting = pieces;
     takes = takes_after run.goes stop.taken (prepend_known pieces left_new) stop.takes ∙ sym (prepend_known-append (run.goes.taken ++ stop.taken) pieces left_new);
+    needed = needed_after run.goes (needed_traced run.text stop.needed);
+    within = within;
     ends = all_written end stands stop.stops whole;
   }
 
   -- the run ended, and not all was written
-  pub ends_unwritten : {wants : Wants} {standing_new : Taken → Type 0} {wanted : List ℕ → List ℕ → Type 0} {left_new new : Option (List ℕ)} {at_end failed read_failed write_failed : Type 0} (pieces : List ℕ) (end : ReplayEnd)
+  pub ends_unwritten : {wants : Wants} {standing_new : Taken → Type 0} {wanted : List ℕ → List ℕ → Type 0} {left_new new : Option (List ℕ)} {at_end failed read_failed write_failed : Type 0} (pieces : List ℕ) (end : ReplayEnd) → length pieces ≤ PIECE
       → Stops (rest_of play head run.after.earlier) run.after.earlier (WantsHere play wants head run.after.earlier) between (prepend_known pieces left_new) at_end failed end
       → write_failed → AppendsFront now new waiting
       → Runs (rest_of play head []) standing_new wanted left left_new read_failed old new write_failed WriteFault
-  ends_unwritten {left_new} pieces end stop fails prefix = record {
+  ends_unwritten {left_new} pieces end within stop fails prefix = record {
     taken = run.goes.taken ++ stop.taken;
     waiting = pieces;
     takes = takes_after run.goes stop.taken (prepend_known pieces left_new) stop.takes ∙ sym (prepend_known-append (run.goes.taken ++ stop.taken) pieces left_new);
+    needed = needed_after run.goes (needed_traced run.text stop.needed);
+    within = within;
     ends =
         Unwritten run.text
         (Anyway (λ ending more. (
@@ -205,11 +214,11 @@ module _ {play : Play} {standing : Taken → Type 0} {head head_now count : ℕ}
 
 -- the run ended, and what waited was written before, or a prefix of it
 pub finishes : {play : Play} {wants : Wants} {standing standing_new : Taken → Type 0} {head count : ℕ} {left between old now left_new new : Option (List ℕ)} {waiting : List ℕ} {failed write_failed write_failed_before : Type 0}
-    (run : IsRunning play standing head count left between old now waiting) (pieces : List ℕ) (end result : ReplayEnd) → standing_new run.after.earlier → (write_failed_before → write_failed)
+    (run : IsRunning play standing head count left between old now waiting) (pieces : List ℕ) (end result : ReplayEnd) → length pieces ≤ PIECE → standing_new run.after.earlier → (write_failed_before → write_failed)
     → Stops (rest_of play head run.after.earlier) run.after.earlier (WantsHere play wants head run.after.earlier) between (prepend_known pieces left_new) ((pieces ≡ []) × IsAtEnd left_new) ((pieces ≡ []) × failed) end
     → Finishes end waiting now new write_failed_before result
     → Runs (rest_of play head []) standing_new (WantsAtLine play wants standing_new head) left left_new failed old new write_failed result
-finishes {play} {wants} {standing} {standing_new} {head} {count} {left} {between} {old} {now} {left_new} {new} {waiting} {failed} {write_failed} run pieces end result stands wider stop (Written is whole) =
-    subst (λ (e : ReplayEnd). Runs (rest_of play head []) standing_new (WantsAtLine play wants standing_new head) left left_new failed old new write_failed e) (sym is) (ends run pieces end stands stop whole)
-finishes {play} {wants} {standing} {standing_new} {head} {count} {left} {between} {old} {now} {left_new} {new} {waiting} {failed} {write_failed} run pieces end result stands wider stop (Cut is fails prefix) =
-    subst (λ (e : ReplayEnd). Runs (rest_of play head []) standing_new (WantsAtLine play wants standing_new head) left left_new failed old new write_failed e) (sym is) (ends_unwritten run pieces end stop (wider fails) prefix)
+finishes {play} {wants} {standing} {standing_new} {head} {count} {left} {between} {old} {now} {left_new} {new} {waiting} {failed} {write_failed} run pieces end result within stands wider stop (Written is whole) =
+    subst (λ (e : ReplayEnd). Runs (rest_of play head []) standing_new (WantsAtLine play wants standing_new head) left left_new failed old new write_failed e) (sym is) (ends run pieces end within stands stop whole)
+finishes {play} {wants} {standing} {standing_new} {head} {count} {left} {between} {old} {now} {left_new} {new} {waiting} {failed} {write_failed} run pieces end result within stands wider stop (Cut is fails prefix) =
+    subst (λ (e : ReplayEnd). Runs (rest_of play head []) standing_new (WantsAtLine play wants standing_new head) left left_new failed old new write_failed e) (sym is) (ends_unwritten run pieces end within stop (wider fails) prefix)

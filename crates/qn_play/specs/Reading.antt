@@ -31,18 +31,19 @@ pub record GoesOn {Last : Type 0} (before after : Rest Last) (to_come_old to_com
   pub needed : IsNeeded before taken
   pub rest : (ending : Ending) (more : List ℕ) → before ending (taken ++ more) ≡ after ending more
 
--- the end is the one that the taken bytes tell of, with nothing written; or memory was wanted
+-- the end is the one that the taken bytes tell of, with nothing written; or it ran out of memory
 pub data EndsWith {Last : Type 0} (played_of : Rest Last) (last : Last) (wanted : List ℕ → Type 0) (taken : List ℕ)
     (at_end failed : Type 0) (end : ReplayEnd) : Type 0 where
-  Told : Tells played_of taken at_end failed (λ played. played ≡ ended last end) → IsNeeded played_of taken
-      → EndsWith played_of last wanted taken at_end failed end
+  Told : Tells played_of taken at_end failed (λ played. played ≡ ended last end) → EndsWith played_of last wanted taken at_end failed end
   Wanted : end ≡ NoMemory → wanted taken → EndsWith played_of last wanted taken at_end failed end
 
--- bytes were taken, and they decided the end; `last` is where the run stood, and `wanted` says why memory was wanted
+-- bytes were taken, none more than the end needs, and they decided it; `last` is where the run stood, and `wanted` says why
+-- out of memory
 pub record Stops {Last : Type 0} (played_of : Rest Last) (last : Last) (wanted : List ℕ → Type 0)
     (to_come_old to_come_new : Option (List ℕ)) (at_end failed : Type 0) (end : ReplayEnd) : Type 0 where
   pub taken : List ℕ
   pub takes : to_come_old ≡ prepend_known taken to_come_new
+  pub needed : IsNeeded played_of taken
   pub stops : EndsWith played_of last wanted taken at_end failed end
 
 -- memory may be wanted anywhere

@@ -1,6 +1,7 @@
 -- A whole run of a world: what it took from its input, what it wrote, how it ended, and where the world stands.
-use Rattle.std.specs.Prelude.{◌≡◌, ℕ, true, List, [], ◌∷◌, ◌++◌, length, Option, Ok}
+use Rattle.std.specs.Prelude.{◌≡◌, ◌≤◌, ℕ, true, List, [], ◌∷◌, ◌++◌, length, Option, Ok}
 use Rattle.std.specs.Io.KnownBytes.{IsAtEnd, prepend_known, append_known}
+use Rattle.qn_io.specs.declared.buffered.TheConstants.{PIECE}
 use Rattle.qn_io.specs.Writes.{AppendsFront}
 use Rattle.qn_model.specs.Inputs.{BeginsWith, Tells}
 use Rattle.qn_model.specs.Lines.{Ended}
@@ -10,7 +11,7 @@ use Rattle.qn_play.specs.Lines.{Play, Taken, Wants, line_of, rest_of}
 use Rattle.qn_play.specs.Played.{Played}
 use Rattle.qn_play.specs.Reading.{IsNeeded, Rest}
 
--- memory was wanted for the last line that was taken, which is good; the trace is that of the lines before it, after which the
+-- out of memory for the last line that was taken, which is good; the trace is that of the lines before it, after which the
 -- world stands
 pub record WantsAtLine (play : Play) (wants : Wants) (standing : Taken → Type 0) (head : ℕ) (taken trace : List ℕ) : Type 0 where
   pub earlier : Taken
@@ -24,10 +25,10 @@ pub record WantsAtLine (play : Play) (wants : Wants) (standing : Taken → Type 
   pub wants_more : wants earlier line ≡ true
 
 -- The trace that the taken bytes tell of was written whole, the end is the one that they tell of, and so is where the run
--- stood; or a prefix of it was written, because the sink failed or memory was wanted.
+-- stood; or a prefix of it was written, because the sink failed or it ran out of memory.
 pub data EndsAs {Last : Type 0} (played_of : Rest Last) (standing : Last → Type 0) (wanted : List ℕ → List ℕ → Type 0) (taken : List ℕ)
     (at_end read_failed : Type 0) (old new : Option (List ℕ)) (write_failed : Type 0) (end : ReplayEnd) : Type 0 where
-  WroteAll : (played : Played Last) → Tells played_of taken at_end read_failed (λ p. p ≡ played) → IsNeeded played_of taken → end ≡ played.end
+  WroteAll : (played : Played Last) → Tells played_of taken at_end read_failed (λ p. p ≡ played) → end ≡ played.end
       → new ≡ append_known old played.trace → standing played.last
       → EndsAs played_of standing wanted taken at_end read_failed old new write_failed end
   Unwritten : (trace : List ℕ) → Tells played_of taken at_end read_failed (λ p. BeginsWith p.trace trace) → end ≡ WriteFault → write_failed
@@ -35,12 +36,14 @@ pub data EndsAs {Last : Type 0} (played_of : Rest Last) (standing : Last → Typ
   Wanted : (trace : List ℕ) → Tells played_of taken at_end read_failed (λ p. BeginsWith p.trace trace) → end ≡ NoMemory
       → new ≡ append_known old trace → wanted taken trace → EndsAs played_of standing wanted taken at_end read_failed old new write_failed end
 
--- Bytes were taken, and decided the end. What was read after them waits, and was not looked at.
+-- Bytes were taken, none more than the end needs. What was read after them is of one piece, waits, and was not looked at.
 pub record Runs {Last : Type 0} (played_of : Rest Last) (standing : Last → Type 0) (wanted : List ℕ → List ℕ → Type 0)
     (left_old left_new : Option (List ℕ)) (read_failed : Type 0) (old new : Option (List ℕ)) (write_failed : Type 0) (end : ReplayEnd) : Type 0 where
   pub taken : List ℕ
   pub waiting : List ℕ
   pub takes : left_old ≡ prepend_known (taken ++ waiting) left_new
+  pub needed : IsNeeded played_of taken
+  pub within : length waiting ≤ PIECE
   pub ends : EndsAs played_of standing wanted taken ((waiting ≡ []) × IsAtEnd left_new) ((waiting ≡ []) × read_failed) old new write_failed end
 
 -- what waited was written, and then the run ended so; or the sink failed, and a prefix of it was written

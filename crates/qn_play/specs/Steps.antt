@@ -62,7 +62,7 @@ module _ {Last : Type 0} {before between : Rest Last} {a b : Option (List ℕ)} 
   ends_after : {taken : List ℕ} {at_end failed : Type 0} {last : Last} {wanted wanted_after : List ℕ → Type 0} {end : ReplayEnd}
       → ((taken : List ℕ) → wanted_after taken → wanted (first.taken ++ taken))
       → EndsWith between last wanted_after taken at_end failed end → EndsWith before last wanted (first.taken ++ taken) at_end failed end
-  ends_after {last} {end} wants (Told tells needed) = Told (tells_after (λ answer. answer ≡ ended last end) tells) (needed_after needed)
+  ends_after {last} {end} wants (Told tells) = Told (tells_after (λ answer. answer ≡ ended last end) tells)
   ends_after {taken} wants (Wanted memory why) = Wanted memory (wants taken why)
 
   -- a step, and then the end
@@ -72,6 +72,7 @@ module _ {Last : Type 0} {before between : Rest Last} {a b : Option (List ℕ)} 
   stops_then {c} wants second = record {
     taken = first.taken ++ second.taken;
     takes = takes_after second.taken c second.takes;
+    needed = needed_after second.needed;
     stops = ends_after wants second.stops;
   }
 
@@ -101,25 +102,26 @@ pub stops_judged : {A Last : Type 0} {before : Rest Last} {wanted : List ℕ →
 stops_judged last judged end next first is = record {
   taken = first.taken;
   takes = first.takes;
-  stops = Told (Anyway (λ ending more. first.rest ending more ∙ ap (λ j. go_on last j (λ v. next v ending more)) is)) first.needed;
+  needed = first.needed;
+  stops = Told (Anyway (λ ending more. first.rest ending more ∙ ap (λ j. go_on last j (λ v. next v ending more)) is));
 }
 
--- memory was wanted
+-- out of memory
 pub stops_wanted : {Last : Type 0} {before after : Rest Last} {last : Last} {wanted : List ℕ → Type 0} {a b : Option (List ℕ)} {at_end failed : Type 0} (end : ReplayEnd)
     (first : GoesOn before after a b) → end ≡ NoMemory → wanted first.taken → Stops before last wanted a b at_end failed end
-stops_wanted end first is why = record { taken = first.taken; takes = first.takes; stops = Wanted is why }
+stops_wanted end first is why = record { taken = first.taken; takes = first.takes; needed = first.needed; stops = Wanted is why }
 
 ends_wider : {Last : Type 0} {played_of : Rest Last} {last : Last} {wanted : List ℕ → Type 0} {taken : List ℕ} {at_end failed failed_before : Type 0} {end : ReplayEnd} → (failed_before → failed)
     → EndsWith played_of last wanted taken at_end failed_before end → EndsWith played_of last wanted taken at_end failed end
-ends_wider wider (Told (Anyway always) needed) = Told (Anyway always) needed
-ends_wider wider (Told (AtEnd ended holds) needed) = Told (AtEnd ended holds) needed
-ends_wider wider (Told (AtFailure fails holds) needed) = Told (AtFailure (wider fails) holds) needed
+ends_wider wider (Told (Anyway always)) = Told (Anyway always)
+ends_wider wider (Told (AtEnd ended holds)) = Told (AtEnd ended holds)
+ends_wider wider (Told (AtFailure fails holds)) = Told (AtFailure (wider fails) holds)
 ends_wider wider (Wanted memory why) = Wanted memory why
 
 -- the count rose in a part of the call
 pub stops_wider : {Last : Type 0} {played_of : Rest Last} {last : Last} {wanted : List ℕ → Type 0} {a b : Option (List ℕ)} {at_end failed failed_before : Type 0} {end : ReplayEnd} → (failed_before → failed)
     → Stops played_of last wanted a b at_end failed_before end → Stops played_of last wanted a b at_end failed end
-stops_wider wider stop = record { taken = stop.taken; takes = stop.takes; stops = ends_wider wider stop.stops }
+stops_wider wider stop = record { taken = stop.taken; takes = stop.takes; needed = stop.needed; stops = ends_wider wider stop.stops }
 
 -- the bytes end what is open without the last of them
 pub stops_at : {Last : Type 0} {played_of : Rest Last} {last : Last} {wanted : List ℕ → Type 0} {a b : Option (List ℕ)} {at_end failed : Type 0} (front : List ℕ) (byte : ℕ) (end : ReplayEnd)
@@ -128,18 +130,19 @@ pub stops_at : {Last : Type 0} {played_of : Rest Last} {last : Last} {wanted : L
 stops_at front byte end takes may always = record {
   taken = front ++ byte ∷ [];
   takes = takes;
-  stops = Told (Anyway always) (LastDecides front byte refl may);
+  needed = LastDecides front byte refl may;
+  stops = Told (Anyway always);
 }
 
 -- the input ended after these bytes
 pub stops_ended : {Last : Type 0} {played_of : Rest Last} {last : Last} {wanted : List ℕ → Type 0} {a b : Option (List ℕ)} {at_end failed : Type 0} (taken : List ℕ) (end : ReplayEnd)
     → a ≡ prepend_known taken b → at_end → IsOpen played_of taken → played_of Ended taken ≡ ended last end → Stops played_of last wanted a b at_end failed end
-stops_ended taken end takes at_end may is = record { taken = taken; takes = takes; stops = Told (AtEnd at_end is) (StillOpen may) }
+stops_ended taken end takes at_end may is = record { taken = taken; takes = takes; needed = StillOpen may; stops = Told (AtEnd at_end is) }
 
 -- a read failed after these bytes
 pub stops_failed : {Last : Type 0} {played_of : Rest Last} {last : Last} {wanted : List ℕ → Type 0} {a b : Option (List ℕ)} {at_end failed : Type 0} (taken : List ℕ) (end : ReplayEnd)
     → a ≡ prepend_known taken b → failed → IsOpen played_of taken → played_of ReadFailed taken ≡ ended last end → Stops played_of last wanted a b at_end failed end
-stops_failed taken end takes fails may is = record { taken = taken; takes = takes; stops = Told (AtFailure fails is) (StillOpen may) }
+stops_failed taken end takes fails may is = record { taken = taken; takes = takes; needed = StillOpen may; stops = Told (AtFailure fails is) }
 
 -- nothing is left after the pieces that were handed out
 pub left_at_end : (waiting : List ℕ) (left : Option (List ℕ)) → waiting ≡ [] → IsAtEnd (prepend_known waiting left) → IsAtEnd left

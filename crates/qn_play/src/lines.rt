@@ -1,3 +1,4 @@
+//! The lines of an input, read on only after what waits to be written was written.
 ghost use Rattle.std.specs.Prelude.{◌≡◌, ◌≤◌, [], ◌∷◌, ◌++◌, length, OnOk, OnErr, IfOk};
 ghost use Rattle.std.specs.Io.KnownBytes.{append_known, prepend_known};
 ghost use Rattle.qn_io.specs.Lines.{HasNoLineFeed, IsDrainedLine, OnFailedLine, ReadsLine};
@@ -8,7 +9,7 @@ ghost use Rattle.qn_play.specs.Writing.{GivesOut};
 use crate::output::Output;
 use arrayvec::ArrayVec;
 use qn_base::Failed;
-use qn_io::{LINE, LineRead, Pieces, Sink, Source, read_line};
+use qn_io::{LINE, LineRead, PIECE, Pieces, Sink, Source, read_line};
 
 /// The lines of an input, one after the other: the bytes that were read and not yet handed out, the line that was
 /// read last, and the text that waits to be written until more is read.
@@ -58,6 +59,7 @@ impl Lines {
         ensures prefix { OnErr result (AppendsFront (O.written out.old) (O.written out.new) self.old.output) }
         ensures write_failed { OnErr result (HasRisen (O.faults out.old) (O.faults out.new)) }
 
+        ensures within { length self.new.pieces ≤ PIECE }
         ensures source_faults { I.faults input.old ≤ I.faults input.new }
         ensures sink_faults { O.faults out.old ≤ O.faults out.new }
     {
@@ -76,6 +78,7 @@ impl Lines {
             (prepend_known self.old.pieces (I.left input.old)) (prepend_known self.new.pieces (I.left input.new)) }
         ensures unended { HasNoLineFeed self.new.line.items }
         ensures drained { IsDrainedLine result self.new.pieces }
+        ensures within { length self.new.pieces ≤ PIECE }
         ensures read_failed { OnFailedLine result (HasRisen (I.faults input.old) (I.faults input.new)) }
         ensures never_falls { I.faults input.old ≤ I.faults input.new }
         ensures output { self.new.output ≡ [] }

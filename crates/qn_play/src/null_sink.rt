@@ -1,3 +1,4 @@
+//! An output that takes all bytes and keeps none.
 use qn_base::Failed;
 use qn_io::Sink;
 

@@ -1,3 +1,4 @@
+//! Text that waits to be written, so that many lines make one write.
 ghost use Rattle.std.specs.Prelude.{◌≡◌, ◌≤◌, ◌+◌, ◌++◌, [], List, ℕ, length, IfOk, OnOk, OnErr};
 ghost use Rattle.std.specs.Io.KnownBytes.{append_known};
 ghost use Rattle.qn_base.specs.declared.limits.TheConstants.{MOST_LINE_BYTES};

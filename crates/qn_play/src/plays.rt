@@ -1,3 +1,4 @@
+//! The trait of a world that takes the lines of a schedule.
 use arrayvec::ArrayVec;
 use qn_base::MOST_LINE_BYTES;
 use qn_sched::ReplayEnd;

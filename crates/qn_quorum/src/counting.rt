@@ -1,3 +1,4 @@
+//! The count of votes and the entries that change it.
 ghost use Rattle.std.specs.Prelude.{◌≡◌, ◌≤◌};
 ghost use Rattle.qn_quorum.specs.Agreed.{votes_until};
 

@@ -1,4 +1,6 @@
-/// The end of a span of time that begins at a tick. A span can end behind the last tick that there is.
+//! Ends of spans of time, which can lie after the last tick that there is.
+
+/// The end of a span of time that begins at a tick. A span can end after the last tick that there is.
 #[derive(Clone, Copy)]
 pub enum Deadline {
     At(u64),

@@ -1,24 +1,24 @@
 -- The joining of a head and the run after it.
-use Rattle.std.proofs.Common.{◌≡◌, ◌≢◌, ◌+◌, ◌==◌, ◌⊎◌, inl, inr, ℕ, Bool, true, false, cond, List, [], ◌∷◌, ◌++◌, length, None, Option, Some, IfErr, IfSome, Result, Ok, Err, refl, sym, ap, ◌∙◌, subst, append_assoc, nat_lt}
+use Rattle.std.proofs.Common.{◌≡◌, ◌≤◌, ◌+◌, ◌==◌, ℕ, Bool, true, false, cond, List, [], ◌∷◌, ◌++◌, length, None, Option, Some, Result, Ok, Err, refl, sym, ap, ◌∙◌, subst, append_assoc, nat_lt}
 use Rattle.std.specs.Io.KnownBytes.{IsAtEnd, prepend_known}
+use Rattle.qn_io.specs.declared.buffered.TheConstants.{PIECE}
 use Rattle.qn_io.specs.Outside.{prepend_known-nil}
 use Rattle.qn_base.specs.declared.limits.TheConstants.{MOST_EVENTS, MOST_LINE_BYTES}
 use Rattle.qn_model.specs.declared.events.Event.{Event}
 use Rattle.qn_model.specs.declared.line_fault.LineFault.TheVariants.{TooLong, TooMany}
-use Rattle.qn_model.specs.Lines.{Ending, Ended}
+use Rattle.qn_model.specs.Lines.{Ended}
 use Rattle.qn_play.specs.Lines.{Taken, bad_line, line_of, rest_of}
-use Rattle.qn_play.specs.Played.{Played, standing_at}
+use Rattle.qn_play.specs.Played.{standing_at}
 use Rattle.qn_play.specs.Reading.{Anywhere, GoesOn, Stops, placed}
 use Rattle.qn_play.specs.RunLaws.{runs_after_head, runs_in_head, runs_wider}
 use Rattle.qn_play.specs.Runs.{Runs, WantsAtLine}
 use Rattle.qn_sched.specs.declared.replay_end.ReplayEnd.{ReplayEnd}
 use Rattle.qn_sched.specs.declared.replay_end.ReplayEnd.TheVariants.{BadSchedule, Done}
-use Rattle.qn_world.specs.Memory.{needs_memory}
 use Rattle.qn_replay.specs.declared.playback.Playback.{Playback}
-use Rattle.qn_replay.specs.Playing.{IsAfter, adds, after_lines, event_play, event_wants, progress_at, start_of, text_if, text_of}
+use Rattle.qn_replay.specs.Playing.{IsAfter, adds, after_lines, event_play, event_wants, start_of, text_if, text_of}
 use Rattle.qn_replay.specs.Reading.{WantsAt, event_rest}
 use Rattle.qn_replay.specs.Replay.{Progress, Replayed, allowed_in, event_in, replay_of, spelled_event}
-use Rattle.qn_replay.specs.Runs.{AnyPlace, AtEvent, AtHead, WantsMemory}
+use Rattle.qn_replay.specs.Runs.{AtEvent, AtHead, WantsMemory}
 use Rattle.qn_replay.proofs.SameReplay.{allowed_in-ok, place_of, same_replay}
 
 -- the head was good, and the lines after it are played
@@ -31,7 +31,7 @@ goes_to_lines start none goes = record {
   rest = λ ending more. goes.rest ending more ∙ same_replay start none ending more;
 }
 
--- ---- memory was wanted for a line
+-- ---- out of memory for a line
 
 -- within the bounds a line is what it spells
 bounded : (long many : Bool) (too_long too_many long_end many_end : ReplayEnd) (text : List ℕ) (played : Result (List ℕ) ReplayEnd) (spelled : Result Event ReplayEnd)
@@ -93,11 +93,11 @@ module _ {a b : Option (List ℕ)} (start now : Playback) (first : GoesOn replay
 -- ---- a whole replay
 
 -- it ended within the head, and nothing was written
-pub replay_in_head : {standing : Option Progress → Type 0} {left left_new old : Option (List ℕ)} {failed write_failed : Type 0} (pieces waiting : List ℕ) (end : ReplayEnd) → pieces ≡ [] → standing None
+pub replay_in_head : {standing : Option Progress → Type 0} {left left_new old : Option (List ℕ)} {failed write_failed : Type 0} (pieces waiting : List ℕ) (end : ReplayEnd) → pieces ≡ [] → standing None → length waiting ≤ PIECE
     → Stops replay_of None Anywhere (prepend_known pieces left) (prepend_known waiting left_new) ((waiting ≡ []) × IsAtEnd left_new) ((waiting ≡ []) × failed) end
     → Runs replay_of standing WantsMemory left left_new failed old old write_failed end
-replay_in_head {left} {left_new} {old} {failed} pieces waiting end none stands stop =
-    runs_in_head None left left_new old waiting end stands (λ taken. AtHead refl)
+replay_in_head {left} {left_new} {old} {failed} pieces waiting end none stands within stop =
+    runs_in_head None left left_new old waiting end stands (λ taken. AtHead refl) within
     (subst (λ (l : Option (List ℕ)). Stops replay_of None Anywhere l (prepend_known waiting left_new) ((waiting ≡ []) × IsAtEnd left_new) ((waiting ≡ []) × failed) end)
     (ap (λ p. prepend_known p left) none ∙ prepend_known-nil left) stop)
 

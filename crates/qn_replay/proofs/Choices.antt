@@ -1,4 +1,4 @@
--- What a choice comes to, by what is seen of a world.
+-- What a choice comes to, by what is pending in a world.
 use Rattle.std.proofs.Common.{◌≡◌, ◌≢◌, ℕ, ◌-◌, ◌%◌, ◌<◌, true, false, ◌==◌, Option, refl, sym, ap, ap₂, ◌∙◌, arith, length, min, nat_lt, option_map}
 use Rattle.std.specs.Prelude.{slice_get, unwrap_or}
 use Rattle.std.proofs.lemmas.Bool.{ne_eqb}
@@ -10,31 +10,31 @@ use Rattle.qn_model.specs.declared.events.Event.TheVariants.{Deliver, Device, Ti
 use Rattle.qn_model.specs.Moments.{packets, time}
 use Rattle.qn_model.specs.Rules.{is_well_formed}
 use Rattle.qn_model.specs.World.{World}
-use Rattle.qn_world.specs.declared.looking.NodeSeen.{NodeSeen}
-use Rattle.qn_world.specs.Seen.{seen_of}
+use Rattle.qn_world.specs.declared.pending.Pending.{Pending}
+use Rattle.qn_world.specs.Pending.{pending_of}
 use Rattle.qn_replay.specs.declared.choice.Choice.{Choice}
 use Rattle.qn_replay.specs.declared.choice.Choice.TheVariants as kind
 use Rattle.qn_replay.specs.Draws.{draw_at, next_state}
-use Rattle.qn_replay.specs.Generator.{Drawn, undrawn, soak_settings, seen_at, next_step, pass_at, view_at, receiver, number_at, delivery, incident_of, chosen_event}
+use Rattle.qn_replay.specs.Generator.{Drawn, undrawn, soak_settings, pending_at, next_step, pass_at, view_at, receiver, number_at, delivery, incident_of, chosen_event}
 
--- what is seen under equal settings
-pub seen_as : {s : Settings} (rank : ℕ) (d : World) (seen : NodeSeen) → s ≡ soak_settings → seen ≡ seen_of s rank d → seen ≡ seen_at rank d
-seen_as rank d seen settings is = is ∙ ap (λ s. seen_of s rank d) settings
+-- what is pending under equal settings
+pub pending_as : {s : Settings} (rank : ℕ) (d : World) (pending : Pending) → s ≡ soak_settings → pending ≡ pending_of s rank d → pending ≡ pending_at rank d
+pending_as rank d pending settings is = is ∙ ap (λ s. pending_of s rank d) settings
 
 module _ (d : World) (choice : Choice) (rank : Rank) (state : ℕ) (drawn : Drawn) where
-  pub step_drawn : {s : Settings} (seen : NodeSeen) (now : ℕ) → choice ≡ kind.Step → s ≡ soak_settings → seen ≡ seen_of s rank.0 d → now ≡ time d.moments
-      → drawn ≡ next_step seen now rank state → drawn ≡ chosen_event d choice rank state
+  pub step_drawn : {s : Settings} (pending : Pending) (now : ℕ) → choice ≡ kind.Step → s ≡ soak_settings → pending ≡ pending_of s rank.0 d → now ≡ time d.moments
+      → drawn ≡ next_step pending now rank state → drawn ≡ chosen_event d choice rank state
   unfolding chosen_event
-  step_drawn seen now chosen settings seen_is now_is is =
-      is ∙ ap₂ (λ x y. next_step x y rank state) (seen_as rank.0 d seen settings seen_is) now_is ∙ ap (λ c. chosen_event d c rank state) (sym chosen)
+  step_drawn pending now chosen settings pending_is now_is is =
+      is ∙ ap₂ (λ x y. next_step x y rank state) (pending_as rank.0 d pending settings pending_is) now_is ∙ ap (λ c. chosen_event d c rank state) (sym chosen)
 
-  pub pass_drawn : {s : Settings} (first second third : NodeSeen) → s ≡ soak_settings → first ≡ seen_of s 0 d → second ≡ seen_of s 1 d → third ≡ seen_of s 2 d
+  pub pass_drawn : {s : Settings} (first second third : Pending) → s ≡ soak_settings → first ≡ pending_of s 0 d → second ≡ pending_of s 1 d → third ≡ pending_of s 2 d
       → drawn ≡ pass_at first.running second.running third.running (next_state state) → drawn ≡ chosen_event d kind.Pass rank state
   unfolding chosen_event
   pass_drawn first second third settings a b c is =
-      is ∙ ap (λ n. pass_at n.running second.running third.running (next_state state)) (seen_as 0 d first settings a)
-      ∙ ap (λ n. pass_at (seen_at 0 d).running n.running third.running (next_state state)) (seen_as 1 d second settings b)
-      ∙ ap (λ n. pass_at (seen_at 0 d).running (seen_at 1 d).running n.running (next_state state)) (seen_as 2 d third settings c)
+      is ∙ ap (λ n. pass_at n.running second.running third.running (next_state state)) (pending_as 0 d first settings a)
+      ∙ ap (λ n. pass_at (pending_at 0 d).running n.running third.running (next_state state)) (pending_as 1 d second settings b)
+      ∙ ap (λ n. pass_at (pending_at 0 d).running (pending_at 1 d).running n.running (next_state state)) (pending_as 2 d third settings c)
 
   pub pass_chosen : choice ≡ kind.Pass → drawn ≡ chosen_event d kind.Pass (record { 0 = 0 }) state → drawn ≡ chosen_event d choice rank state
   unfolding chosen_event

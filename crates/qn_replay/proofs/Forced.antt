@@ -13,12 +13,12 @@ use Rattle.qn_model.specs.Unmet.{least_from}
 use Rattle.qn_model.specs.World.{World, node_at}
 use Rattle.std.specs.Option.{option_map_or}
 use Rattle.qn_base.specs.declared.ids.Rank.{Rank}
-use Rattle.qn_world.specs.declared.looking.NodeSeen.{NodeSeen}
-use Rattle.qn_world.specs.Seen.{seen_of}
+use Rattle.qn_world.specs.declared.pending.Pending.{Pending}
+use Rattle.qn_world.specs.Pending.{pending_of}
 use Rattle.qn_replay.specs.declared.choice.Choice.{Choice}
 use Rattle.qn_replay.specs.Draws.{draw_at, next_state}
-use Rattle.qn_replay.specs.Generator.{undrawn, soak_settings, soak_timing, seen_at, is_overdue, overdue, forced, may_happen, moment, in_place, candidate, chosen_event, choice_of, next_event}
-use Rattle.qn_replay.proofs.Choices.{seen_as}
+use Rattle.qn_replay.specs.Generator.{undrawn, soak_settings, soak_timing, pending_at, is_overdue, overdue, forced, may_happen, moment, in_place, candidate, chosen_event, choice_of, next_event}
+use Rattle.qn_replay.proofs.Choices.{pending_as}
 
 not_above : (x y : ℕ) → nat_lt y x ≡ false → nat_le x y ≡ true
 not_above x y not_more = grind (arith, nat_tests)
@@ -33,8 +33,8 @@ all_true : (x y z : Bool) → x ≡ true → y ≡ true → z ≡ true → (x &&
 all_true x y z first second third = rw (first, second, third) refl
 
 -- the world after which no node is overdue
-moment_allowed : (d : World) → is_overdue (time d.moments) (seen_at 0 d) ≡ false → is_overdue (time d.moments) (seen_at 1 d) ≡ false
-    → is_overdue (time d.moments) (seen_at 2 d) ≡ false → refusal soak_settings soak_timing moment d ≡ None
+moment_allowed : (d : World) → is_overdue (time d.moments) (pending_at 0 d) ≡ false → is_overdue (time d.moments) (pending_at 1 d) ≡ false
+    → is_overdue (time d.moments) (pending_at 2 d) ≡ false → refusal soak_settings soak_timing moment d ≡ None
 unfolding refusal
 moment_allowed d first second third =
     let now = time d.moments in
@@ -56,23 +56,23 @@ picked false true third = Crash (record { 0 = 1 })
 picked false false true = Crash (record { 0 = 2 })
 picked false false false = moment
 
-forced_is : (d : World) (first second third : Bool) → is_overdue (time d.moments) (seen_at 0 d) ≡ first
-    → is_overdue (time d.moments) (seen_at 1 d) ≡ second → is_overdue (time d.moments) (seen_at 2 d) ≡ third → forced d ≡ picked first second third
+forced_is : (d : World) (first second third : Bool) → is_overdue (time d.moments) (pending_at 0 d) ≡ first
+    → is_overdue (time d.moments) (pending_at 1 d) ≡ second → is_overdue (time d.moments) (pending_at 2 d) ≡ third → forced d ≡ picked first second third
 unfolding forced overdue least_from
 forced_is d true second third a b c = rw a refl
 forced_is d false true third a b c = rw (a, b) refl
 forced_is d false false true a b c = rw (a, b, c) refl
 forced_is d false false false a b c = rw (a, b, c) refl
 
-runs : (d : World) (rank : ℕ) → is_overdue (time d.moments) (seen_at rank d) ≡ true → (node_at soak_settings rank d).on ≡ true
-runs d rank over = (and_parts (node_at soak_settings rank d).on (nat_lt 500000 (99 * (time d.moments + 1 - (seen_at rank d).fed))) over).0
+runs : (d : World) (rank : ℕ) → is_overdue (time d.moments) (pending_at rank d) ≡ true → (node_at soak_settings rank d).on ≡ true
+runs d rank over = (and_parts (node_at soak_settings rank d).on (nat_lt 500000 (99 * (time d.moments + 1 - (pending_at rank d).fed))) over).0
 
 -- one event in place of another
 pub along : (d : World) (event other : Event) → event ≡ other → refusal soak_settings soak_timing other d ≡ None → refusal soak_settings soak_timing event d ≡ None
 along d event other same none = ap (λ e. refusal soak_settings soak_timing e d) same ∙ none
 
-forced_allowed_at : (d : World) (first second third : Bool) → is_overdue (time d.moments) (seen_at 0 d) ≡ first
-    → is_overdue (time d.moments) (seen_at 1 d) ≡ second → is_overdue (time d.moments) (seen_at 2 d) ≡ third
+forced_allowed_at : (d : World) (first second third : Bool) → is_overdue (time d.moments) (pending_at 0 d) ≡ first
+    → is_overdue (time d.moments) (pending_at 1 d) ≡ second → is_overdue (time d.moments) (pending_at 2 d) ≡ third
     → refusal soak_settings soak_timing (forced d) d ≡ None
 forced_allowed_at d true second third a b c = along d (forced d) (Crash (record { 0 = 0 })) (forced_is d true second third a b c) (crash_allowed d 0 (runs d 0 a))
 forced_allowed_at d false true third a b c = along d (forced d) (Crash (record { 0 = 1 })) (forced_is d false true third a b c) (crash_allowed d 1 (runs d 1 b))
@@ -82,7 +82,7 @@ forced_allowed_at d false false false a b c = along d (forced d) moment (forced_
 -- a crash of an overdue node, or a moment that no node would outlive, is allowed
 pub forced_allowed : (d : World) → refusal soak_settings soak_timing (forced d) d ≡ None
 forced_allowed d =
-    forced_allowed_at d (is_overdue (time d.moments) (seen_at 0 d)) (is_overdue (time d.moments) (seen_at 1 d)) (is_overdue (time d.moments) (seen_at 2 d)) refl refl refl
+    forced_allowed_at d (is_overdue (time d.moments) (pending_at 0 d)) (is_overdue (time d.moments) (pending_at 1 d)) (is_overdue (time d.moments) (pending_at 2 d)) refl refl refl
 
 -- the refusal under equal settings and times
 pub refused_as : {s : Settings} {t : Timing} {said : Option ℕ} (event : Event) (d : World) → s ≡ soak_settings → t ≡ soak_timing
@@ -106,40 +106,40 @@ moment_stays d none = rw none refl
 pub moment_refused : (d : World) (rule : ℕ) → refusal soak_settings soak_timing moment d ≡ Some rule → forced d ≡ (if may_happen moment d then moment else forced d)
 moment_refused d rule refused = rw refused refl
 
--- the least overdue rank, by what is seen
+-- the least overdue rank, by what is pending
 abbrev pub least_of : Bool → Bool → Bool → Option ℕ
 least_of true second third = Some 0
 least_of false true third = Some 1
 least_of false false true = Some 2
 least_of false false false = None
 
-overdue_is : (d : World) (first second third : Bool) → is_overdue (time d.moments) (seen_at 0 d) ≡ first
-    → is_overdue (time d.moments) (seen_at 1 d) ≡ second → is_overdue (time d.moments) (seen_at 2 d) ≡ third → overdue d ≡ least_of first second third
+overdue_is : (d : World) (first second third : Bool) → is_overdue (time d.moments) (pending_at 0 d) ≡ first
+    → is_overdue (time d.moments) (pending_at 1 d) ≡ second → is_overdue (time d.moments) (pending_at 2 d) ≡ third → overdue d ≡ least_of first second third
 unfolding overdue least_from
 overdue_is d true second third a b c = rw a refl
 overdue_is d false true third a b c = rw (a, b) refl
 overdue_is d false false true a b c = rw (a, b, c) refl
 overdue_is d false false false a b c = rw (a, b, c) refl
 
--- the test of a rank, by what is seen of it
-pub tested : {s : Settings} (d : World) (rank now : ℕ) (seen : NodeSeen) (test said : Bool) → s ≡ soak_settings → now ≡ time d.moments → seen ≡ seen_of s rank d
-    → test ≡ is_overdue now seen → test ≡ said → is_overdue (time d.moments) (seen_at rank d) ≡ said
-tested d rank now seen test said settings now_is seen_is is said_is =
-    sym (is ∙ ap₂ (λ n x. is_overdue n x) now_is (seen_as rank d seen settings seen_is)) ∙ said_is
+-- the test of a rank, by what is pending there
+pub tested : {s : Settings} (d : World) (rank now : ℕ) (pending : Pending) (test said : Bool) → s ≡ soak_settings → now ≡ time d.moments → pending ≡ pending_of s rank d
+    → test ≡ is_overdue now pending → test ≡ said → is_overdue (time d.moments) (pending_at rank d) ≡ said
+tested d rank now pending test said settings now_is pending_is is said_is =
+    sym (is ∙ ap₂ (λ n x. is_overdue n x) now_is (pending_as rank d pending settings pending_is)) ∙ said_is
 
 -- the first test that holds tells the least overdue rank
-pub first_over : (d : World) → is_overdue (time d.moments) (seen_at 0 d) ≡ true → Some 0 ≡ overdue d
-first_over d a = sym (overdue_is d true (is_overdue (time d.moments) (seen_at 1 d)) (is_overdue (time d.moments) (seen_at 2 d)) a refl refl)
+pub first_over : (d : World) → is_overdue (time d.moments) (pending_at 0 d) ≡ true → Some 0 ≡ overdue d
+first_over d a = sym (overdue_is d true (is_overdue (time d.moments) (pending_at 1 d)) (is_overdue (time d.moments) (pending_at 2 d)) a refl refl)
 
-pub second_over : (d : World) → is_overdue (time d.moments) (seen_at 0 d) ≡ false → is_overdue (time d.moments) (seen_at 1 d) ≡ true → Some 1 ≡ overdue d
-second_over d a b = sym (overdue_is d false true (is_overdue (time d.moments) (seen_at 2 d)) a b refl)
+pub second_over : (d : World) → is_overdue (time d.moments) (pending_at 0 d) ≡ false → is_overdue (time d.moments) (pending_at 1 d) ≡ true → Some 1 ≡ overdue d
+second_over d a b = sym (overdue_is d false true (is_overdue (time d.moments) (pending_at 2 d)) a b refl)
 
-pub third_over : (d : World) → is_overdue (time d.moments) (seen_at 0 d) ≡ false → is_overdue (time d.moments) (seen_at 1 d) ≡ false
-    → is_overdue (time d.moments) (seen_at 2 d) ≡ true → Some 2 ≡ overdue d
+pub third_over : (d : World) → is_overdue (time d.moments) (pending_at 0 d) ≡ false → is_overdue (time d.moments) (pending_at 1 d) ≡ false
+    → is_overdue (time d.moments) (pending_at 2 d) ≡ true → Some 2 ≡ overdue d
 third_over d a b c = sym (overdue_is d false false true a b c)
 
-pub none_over : (d : World) → is_overdue (time d.moments) (seen_at 0 d) ≡ false → is_overdue (time d.moments) (seen_at 1 d) ≡ false
-    → is_overdue (time d.moments) (seen_at 2 d) ≡ false → None ≡ overdue d
+pub none_over : (d : World) → is_overdue (time d.moments) (pending_at 0 d) ≡ false → is_overdue (time d.moments) (pending_at 1 d) ≡ false
+    → is_overdue (time d.moments) (pending_at 2 d) ≡ false → None ≡ overdue d
 none_over d a b c = sym (overdue_is d false false false a b c)
 
 -- what the least overdue rank comes to

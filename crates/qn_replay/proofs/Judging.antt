@@ -1,14 +1,12 @@
 -- The event of a whole line, the rules, and the numbers of a playback.
-use Rattle.std.proofs.Common.{◌≡◌, ◌≢◌, ◌+◌, ◌<◌, ◌≤◌, ◌==◌, ℕ, true, ◌&&◌, List, length, Option, None, Some, Result, Ok, Err, refl, sym, ap, ◌∙◌, arith, nat_lt, nat_le, le-ltb, eq-eqb, ne_eqb}
+use Rattle.std.proofs.Common.{◌≡◌, ◌+◌, ◌<◌, ◌≤◌, ℕ, true, ◌&&◌, List, Option, None, Some, Result, Ok, Err, refl, sym, ap, ◌∙◌, arith, nat_le}
 use Rattle.std.specs.Prelude.{map, slice_get}
 use Rattle.std.specs.List.{list_all}
 use Rattle.std.specs.Option.{option_map_or}
-use Rattle.std.proofs.lemmas.Bool.{and_parts, cond-false, cond-true, leb-true}
+use Rattle.std.proofs.lemmas.Bool.{and_parts, leb-true}
 use Rattle.qn_model.specs.declared.configuration.Settings.{Settings}
 use Rattle.qn_model.specs.declared.events.Event.{Event}
 use Rattle.qn_model.specs.declared.events.Event.TheVariants as event
-use Rattle.qn_model.specs.declared.line_fault.LineFault.{LineFault}
-use Rattle.qn_model.specs.declared.line_fault.LineFault.TheVariants.{TooMany}
 use Rattle.qn_model.specs.declared.times.Timing.{Timing}
 use Rattle.qn_model.specs.Lines.{is_ascending}
 use Rattle.qn_model.specs.declared.packets.Sent.{Sent}
@@ -17,12 +15,9 @@ use Rattle.qn_model.specs.declared.reports.Refused.TheVariants as refused
 use Rattle.qn_base.specs.declared.ids.Rank.{Rank}
 use Rattle.qn_model.specs.Moments.{Adds, packets, time}
 use Rattle.qn_model.specs.Rules.{is_between, is_clock, is_well_formed, refusal}
-use Rattle.qn_model.specs.Settings.{ids}
 use Rattle.qn_model.specs.Steps.{answered, entry_of, fails, happens, landed, lands_late, step}
 use Rattle.qn_model.specs.World.{World, first_world, numbered, op_at}
 use Rattle.qn_sched.specs.declared.replay_end.ReplayEnd.{ReplayEnd}
-use Rattle.qn_sched.specs.declared.replay_end.ReplayEnd.TheVariants.{BadSchedule}
-use Rattle.qn_sched.specs.EventReading.{event_of}
 use Rattle.qn_world.specs.Memory.{needs_memory}
 use Rattle.qn_world.specs.Standing.{WorldFor}
 use Rattle.qn_world.specs.Stepping.{RefusedBy}
@@ -52,6 +47,7 @@ time-step s t (event.Pass dt clocks) w formed =
     let below = leb-true dt 1000000000 (and_parts (nat_le 1 dt) (nat_le dt 1000000000) first.0).1 in
     omega (arith, below)
 time-step s t (event.Boot rank base) w formed = omega arith
+time-step s t (event.BootClean rank base) w formed = omega arith
 time-step s t (event.Crash rank) w formed = omega arith
 time-step s t (event.Land rank) w formed = let same = same_moments (op_at s rank.0 w) (λ op. landed s t rank.0 op w) w (λ op. refl) in omega (arith, same)
 time-step s t (event.Done rank) w formed = let same = same_moments (w.took rank.0) (λ entry. answered rank.0 entry w) w (λ entry. refl) in omega (arith, same)
@@ -67,6 +63,7 @@ time-step s t (event.Stopped rank) w formed = omega arith
 time-step s t (event.Unstopped rank) w formed = omega arith
 time-step s t (event.Leave rank) w formed = omega arith
 time-step s t (event.Feed rank) w formed = omega arith
+time-step s t (event.Operator rank message) w formed = omega arith
 
 -- a playback begins early
 pub starts_early : (w : Whole) → WorldFor w first_world → w.time ≤ 0

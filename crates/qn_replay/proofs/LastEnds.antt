@@ -1,11 +1,12 @@
 -- The last world of a replay, or its end.
-use Rattle.std.proofs.Common.{◌≡◌, ◌≢◌, ◌⊎◌, inl, inr, ℕ, List, [], ◌++◌, None, Option, Some, Result, Err, IfErr, IfSome, refl, sym, ap, ◌∙◌, subst}
+use Rattle.std.proofs.Common.{◌≡◌, ◌≤◌, ◌≢◌, arith, length, ◌⊎◌, inl, inr, ℕ, List, [], ◌++◌, None, Option, Some, Result, Err, IfErr, IfSome, refl, sym, ap, ◌∙◌, subst}
 use Rattle.std.specs.Io.KnownBytes.{IsAtEnd, prepend_known}
+use Rattle.qn_io.specs.declared.buffered.TheConstants.{PIECE}
 use Rattle.qn_io.specs.Outside.{prepend_known-append, prepend_known-nil}
 use Rattle.qn_model.specs.Inputs.{Tells, Anyway, AtEnd, AtFailure, tells_more}
 use Rattle.qn_model.specs.Lines.{Ended}
 use Rattle.qn_play.specs.Lines.{Taken}
-use Rattle.qn_play.specs.Reading.{Anywhere, EndsWith, Stops, Told}
+use Rattle.qn_play.specs.Reading.{Anywhere, EndsWith, StillOpen, Stops, Told}
 use Rattle.qn_play.specs.Reading as reading
 use Rattle.qn_play.specs.RunLaws.{tells_all}
 use Rattle.qn_play.specs.Runs as runs
@@ -19,27 +20,37 @@ use Rattle.qn_replay.specs.Replay.{Progress, Replayed, ends, replay_of}
 use Rattle.qn_replay.specs.Runs.{GivesWorld, IsFault, Reaches, Unwritten, Wanted, WantsMemory, WroteAll, last_of}
 use Rattle.qn_replay.proofs.RunEnds.{ends_unwritten, fits, tells_unwritten}
 use Rattle.qn_replay.proofs.SameReplay.{place_of}
+use Rattle.qn_replay.proofs.TextSteps.{nothing_decides}
 
 abbrev no_world : ReplayEnd → Result Whole ReplayEnd
 no_world end = Err end
 
 head_gives : {taken : List ℕ} {at_end failed : Type 0} (end : ReplayEnd) → IsFault end → EndsWith replay_of None Anywhere taken at_end failed end
     → (no_world end ≡ no_world NoMemory) ⊎ Tells replay_of taken at_end failed (GivesWorld (no_world end))
-head_gives end fault (Told tells needed) = inr (tells_more (λ a. a ≡ ends end) (GivesWorld (no_world end)) (λ a is. (ap (λ (x : Replayed). x.end) is, fault)) tells)
+head_gives end fault (Told tells) = inr (tells_more (λ a. a ≡ ends end) (GivesWorld (no_world end)) (λ a is. (ap (λ (x : Replayed). x.end) is, fault)) tells)
 head_gives end fault (reading.Wanted memory anywhere) = inl (ap no_world memory)
 
 -- there was no memory to begin
 pub reaches_nothing : (left : Option (List ℕ)) (failed : Type 0) → Reaches left left failed (no_world NoMemory)
-reaches_nothing left failed = record { taken = []; waiting = []; takes = sym (prepend_known-nil left); ends = inl refl }
+reaches_nothing left failed = record {
+  taken = [];
+  waiting = [];
+  takes = sym (prepend_known-nil left);
+  needed = StillOpen nothing_decides;
+  within = omega arith;
+  ends = inl refl;
+}
 
 -- the head was not good
-pub reaches_in_head : {left left_new : Option (List ℕ)} {failed : Type 0} (pieces waiting : List ℕ) (end : ReplayEnd) → pieces ≡ [] → IsFault end
+pub reaches_in_head : {left left_new : Option (List ℕ)} {failed : Type 0} (pieces waiting : List ℕ) (end : ReplayEnd) → pieces ≡ [] → IsFault end → length waiting ≤ PIECE
     → Stops replay_of None Anywhere (prepend_known pieces left) (prepend_known waiting left_new) ((waiting ≡ []) × IsAtEnd left_new) ((waiting ≡ []) × failed) end
     → Reaches left left_new failed (no_world end)
-reaches_in_head {left} {left_new} pieces waiting end none fault stop = record {
+reaches_in_head {left} {left_new} pieces waiting end none fault within stop = record {
   taken = stop.taken;
   waiting = waiting;
   takes = sym (prepend_known-nil left) ∙ ap (λ p. prepend_known p left) (sym none) ∙ stop.takes ∙ sym (prepend_known-append stop.taken waiting left_new);
+  needed = stop.needed;
+  within = within;
   ends = head_gives end fault stop.stops;
 }
 
@@ -79,7 +90,7 @@ module _ (playback : Playback) where
   run_gives : {taken : List ℕ} {at_end failed write_failed : Type 0} {old new : Option (List ℕ)} (end : ReplayEnd) → (write_failed → ⊥)
       → runs.EndsAs replay_of (IsPlaceOf playback) WantsMemory taken at_end failed old new write_failed end
       → (last_of playback.world end ≡ Err NoMemory) ⊎ Tells replay_of taken at_end failed (GivesWorld (last_of playback.world end))
-  run_gives end wrote (WroteAll played tells needed is whole place) =
+  run_gives end wrote (WroteAll played tells is whole place) =
       inr (tells_more (λ p. p ≡ played) (GivesWorld (last_of playback.world end)) (λ a same. gives played a end tells is place same) tells)
   run_gives end wrote (Unwritten trace tells is fails prefix) = absurd (wrote fails)
   run_gives end wrote (Wanted trace tells is whole why) = inl (ap (last_of playback.world) is)
@@ -87,7 +98,14 @@ module _ (playback : Playback) where
   -- the run ended
   pub reaches_out : {left left_new old new : Option (List ℕ)} {failed write_failed : Type 0} (end : ReplayEnd) → (write_failed → ⊥)
       → runs.Runs replay_of (IsPlaceOf playback) WantsMemory left left_new failed old new write_failed end → Reaches left left_new failed (last_of playback.world end)
-  reaches_out end wrote run = record { taken = run.taken; waiting = run.waiting; takes = run.takes; ends = run_gives end wrote run.ends }
+  reaches_out end wrote run = record {
+    taken = run.taken;
+    waiting = run.waiting;
+    takes = run.takes;
+    needed = run.needed;
+    within = run.within;
+    ends = run_gives end wrote run.ends;
+  }
 
 -- a run of which nothing is written does not fail to write
 pub is_written : {left left_new old new : Option (List ℕ)} {failed write_failed : Type 0} {end : ReplayEnd} (playback : Playback) → (write_failed → ⊥)
@@ -100,7 +118,7 @@ out_fault world (Done events) written = tt
 out_fault world WriteFault written = absurd (written refl)
 out_fault world _ written = tt
 
--- where no read failed and no memory was wanted, the world or the end is that of all that was there
+-- where no read failed and it did not run out of memory, the world or the end is that of all that was there
 pub last_complete : (left_old left_new : Option (List ℕ)) (failed : Type 0) (result : Result Whole ReplayEnd) → Reaches left_old left_new failed result → (failed → ⊥) → (result ≡ Err NoMemory → ⊥)
     → IfSome left_old (λ bytes. GivesWorld result (replay_of Ended bytes))
 last_complete None left_new failed result run no_failure memory = tt

@@ -1,5 +1,5 @@
 -- A playback takes lines as they are played.
-use Rattle.std.proofs.Common.{◌≡◌, ◌+◌, ◌++◌, ℕ, true, List, [], ◌∷◌, length, Ok, Err, refl, sym, ap, ◌∙◌, subst, arith}
+use Rattle.std.proofs.Common.{◌≡◌, ◌+◌, ◌++◌, ℕ, List, [], ◌∷◌, Ok, sym, ap, ◌∙◌, subst, arith}
 use Rattle.qn_model.specs.declared.events.Event.{Event}
 use Rattle.qn_model.specs.declared.reports.Report.{Report}
 use Rattle.qn_model.specs.Settings.{ids}
@@ -9,6 +9,8 @@ use Rattle.qn_play.specs.Judging.{AtFault, OutOfMemory, RefusesAt}
 use Rattle.qn_play.specs.Lines.{Taken}
 use Rattle.qn_sched.specs.declared.replay_end.ReplayEnd.{ReplayEnd}
 use Rattle.qn_sched.specs.TraceLines.{trace_line}
+use Rattle.qn_world.specs.Standing.{WorldFor}
+use Rattle.qn_world.specs.Whole.{Whole}
 use Rattle.qn_replay.specs.declared.playback.Playback.{Playback}
 use Rattle.qn_replay.specs.Playing as playing
 use Rattle.qn_replay.specs.Playing.{Begins, IsAfter, RefusesLine, TakesLine, adds, after_line, after_lines, event_play, event_wants, moved_on, progress_at, report_text, start_of, text_if, text_of}
@@ -27,6 +29,34 @@ begins_after playback begins =
       going = begins.going;
       counted = sym none;
       place = ap (λ (l : ℕ). made l 0) lines ∙ ap (made (playback.head + playback.events)) (sym none);
+    }
+
+-- a playback whose world, head and number of events are as they were stands where it stood
+pub stays : (start old new : Playback) (earlier : Taken) → new.world ≡ old.world → new.head ≡ old.head → new.events ≡ old.events
+    → IsAfter start old earlier → IsAfter start new earlier
+stays start old new earlier same_world same_head same_events after =
+    let few = after.going.few in
+    let numbered = after.going.numbered in
+    let steps = after.going.steps in
+    let early = after.going.early in
+    let same_steps = ap (λ (w : Whole). w.steps) same_world in
+    let same_time = ap (λ (w : Whole). w.time) same_world in
+    let at : Whole → ℕ → ℕ → Progress = λ whole head events. record { settings = whole.settings; timing = whole.timing; lines = head + events; events = events; world = after.world } in
+    record {
+      world = after.world;
+      stands = subst (λ (w : Whole). WorldFor w after.world) (sym same_world) after.stands;
+      going = record {
+        few = omega (arith, few, same_events);
+        numbered = omega (arith, numbered, same_head);
+        steps = omega (arith, steps, same_steps, same_events);
+        early = omega (arith, early, same_time, same_events);
+      };
+      counted = after.counted ∙ sym same_events;
+      place =
+          after.place
+          ∙ ap (λ (w : Whole). at w old.head old.events) (sym same_world)
+          ∙ ap (λ (head : ℕ). at new.world head old.events) (sym same_head)
+          ∙ ap (λ (events : ℕ). at new.world new.head events) (sym same_events);
     }
 
 -- an event and its rules give its trace line

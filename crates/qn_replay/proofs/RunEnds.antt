@@ -1,8 +1,6 @@
 -- What the end of a replay says of its input and of what was written.
-use Rattle.std.proofs.Common.{◌≡◌, ◌+◌, ◌==◌, ℕ, Bool, true, false, cond, List, [], ◌∷◌, ◌++◌, length, Option, Some, Result, Ok, Err, refl, sym, ap, ◌∙◌, subst, append_assoc, append-nil, nat_lt}
+use Rattle.std.proofs.Common.{◌≡◌, ℕ, List, [], ◌++◌, Option, refl, sym, ap, ◌∙◌, subst, append-nil}
 use Rattle.std.specs.Io.KnownBytes.{prepend_known, append_known}
-use Rattle.qn_base.specs.declared.limits.TheConstants.{MOST_EVENTS, MOST_LINE_BYTES}
-use Rattle.qn_model.specs.declared.events.Event.{Event}
 use Rattle.qn_model.specs.Inputs.{Tells, Anyway, AtEnd, AtFailure}
 use Rattle.qn_model.specs.Lines.{Ending, Ended, ReadFailed}
 use Rattle.qn_sched.specs.declared.replay_end.ReplayEnd.{ReplayEnd}
@@ -34,13 +32,13 @@ tells_unwritten {taken} answer (AtFailure fails same) is = fits ReadFailed taken
 
 ends_unread : {taken : List ℕ} {at_end failed write_failed : Type 0} {old new : Option (List ℕ)} {end : ReplayEnd}
     → EndsAs taken at_end failed old new write_failed end → end ≡ ReadFault → failed
-ends_unread (WroteAll answer tells needed is whole anywhere) fault = tells_unread answer tells (sym is ∙ fault)
+ends_unread (WroteAll answer tells is whole anywhere) fault = tells_unread answer tells (sym is ∙ fault)
 ends_unread (Unwritten trace tells is fails front) fault = let never : WriteFault ≡ ReadFault = sym is ∙ fault in cc
 ends_unread (Wanted trace tells is whole why) fault = let never : NoMemory ≡ ReadFault = sym is ∙ fault in cc
 
 pub ends_unwritten : {standing : Option Progress → Type 0} {taken : List ℕ} {at_end failed write_failed : Type 0} {old new : Option (List ℕ)} {end : ReplayEnd}
     → runs.EndsAs replay_of standing WantsMemory taken at_end failed old new write_failed end → end ≡ WriteFault → write_failed
-ends_unwritten (WroteAll answer tells needed is whole anywhere) fault = absurd (tells_unwritten answer tells (sym is ∙ fault))
+ends_unwritten (WroteAll answer tells is whole anywhere) fault = absurd (tells_unwritten answer tells (sym is ∙ fault))
 ends_unwritten (Unwritten trace tells is fails front) fault = fails
 ends_unwritten (Wanted trace tells is whole why) fault = let never : NoMemory ≡ WriteFault = sym is ∙ fault in cc
 
@@ -52,7 +50,7 @@ record IsWhole (taken : List ℕ) (at_end : Type 0) (old new : Option (List ℕ)
 
 ends_done : {taken : List ℕ} {at_end failed write_failed : Type 0} {old new : Option (List ℕ)} {end : ReplayEnd} (events : ℕ)
     → EndsAs taken at_end failed old new write_failed end → end ≡ Done events → IsWhole taken at_end old new end
-ends_done {old} events (WroteAll answer tells needed is whole anywhere) done =
+ends_done {old} events (WroteAll answer tells is whole anywhere) done =
     let whole_input = tells_done answer events tells (sym is ∙ done) in
     record {
       ended = whole_input.0;
@@ -79,16 +77,25 @@ tells_memory {taken} answer (AtFailure fails same) is = fits ReadFailed taken an
 
 ends_wanted : {taken : List ℕ} {at_end failed write_failed : Type 0} {old new : Option (List ℕ)} {end : ReplayEnd}
     → EndsAs taken at_end failed old new write_failed end → end ≡ NoMemory → (trace : List ℕ) × (new ≡ append_known old trace) × WantsMemory taken trace
-ends_wanted (WroteAll answer tells needed is whole anywhere) memory = absurd (tells_memory answer tells (sym is ∙ memory))
+ends_wanted (WroteAll answer tells is whole anywhere) memory = absurd (tells_memory answer tells (sym is ∙ memory))
 ends_wanted (Unwritten trace tells is fails front) memory = let never : WriteFault ≡ NoMemory = sym is ∙ memory in cc
 ends_wanted (Wanted trace tells is whole why) memory = (trace, whole, why)
 
--- why memory was wanted
+-- why it ran out of memory
 pub replay_wanted : (left_old left_new old new : Option (List ℕ)) (failed write_failed : Type 0) (end : ReplayEnd)
     → Replays left_old left_new failed old new write_failed end → end ≡ NoMemory → Wants left_old left_new old new
 replay_wanted left_old left_new old new failed write_failed end run memory =
     let wanted = ends_wanted run.ends memory in
-    record { taken = run.taken; waiting = run.waiting; trace = wanted.0; takes = run.takes; writes = wanted.1; why = wanted.2 }
+    record {
+      taken = run.taken;
+      waiting = run.waiting;
+      trace = wanted.0;
+      takes = run.takes;
+      needed = run.needed;
+      within = run.within;
+      writes = wanted.1;
+      why = wanted.2;
+    }
 
 -- at a good end the whole input was read
 pub replay_done : (left_old left_new old new : Option (List ℕ)) (failed write_failed : Type 0) (end : ReplayEnd)

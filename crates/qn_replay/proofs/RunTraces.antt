@@ -60,7 +60,7 @@ last_silent : (so_far : Progress) (ending : Ending) (rest : List ℕ) → (last_
 unfolding last_event
 last_silent so_far ending rest = either_is (λ answer. answer.trace ≡ []) (nat_lt 4096 (length rest)) _ _ refl (end_silent so_far ending rest)
 
--- events behind which a replay stands
+-- events after which a replay stands
 record Reached (so_far : Progress) (events : List Event) : Type 0 where
   valid : IsValid so_far.settings
   safe : is_safe so_far.timing ≡ true
@@ -68,7 +68,7 @@ record Reached (so_far : Progress) (events : List Event) : Type 0 where
   world : so_far.world ≡ run so_far.settings so_far.timing events
   counted : so_far.events ≡ length events
 
--- a rest of a trace, behind events, that goes on to further events
+-- a rest of a trace, after events, that goes on to further events
 record GoesOnWith (s : Settings) (t : Timing) (events : List Event) (rest : List ℕ) : Type 0 where
   all : List Event
   allowed : AllAllowed s t all

@@ -8,7 +8,7 @@ use Rattle.qn_model.specs.Rules.{refusal}
 use Rattle.qn_play.specs.Lines.{Taken, end_of_input, last_line, line_of, played, rest_of}
 use Rattle.qn_play.specs.Played.{Played, ended, go_on, standing_at, traced}
 use Rattle.qn_sched.specs.declared.replay_end.ReplayEnd.{ReplayEnd}
-use Rattle.qn_sched.specs.declared.replay_end.ReplayEnd.TheVariants.{BadSchedule, Done, ReadFault}
+use Rattle.qn_sched.specs.declared.replay_end.ReplayEnd.TheVariants.{BadSchedule, Done}
 use Rattle.qn_replay.specs.Playing.{after_lines, event_play, moved_on, text_if, text_of}
 use Rattle.qn_replay.specs.Reading.{event_rest}
 use Rattle.qn_replay.specs.Replay.{Progress, Replayed, after_event, allowed_in, end_of_events, event_in, event_lines, event_text, last_event, spelled_event, unless_refused, with_event}

@@ -1,5 +1,5 @@
 -- The settings of a whole text: they are good, or the text ends the replay.
-use Rattle.std.proofs.Common.{◌≡◌, ◌⊎◌, ◌+◌, ℕ, List, Option, Result, Ok, Err, refl, sym, ap, ◌∙◌, subst, inl, inr, None}
+use Rattle.std.proofs.Common.{◌≡◌, ◌⊎◌, ◌+◌, ℕ, List, Option, Result, Ok, Err, IfErr, refl, sym, ap, ◌∙◌, subst, inl, inr, None}
 use Rattle.qn_conf.specs.declared.faults.ConfFault.{ConfFault}
 use Rattle.qn_conf.specs.declared.faults.ConfFault.TheVariants as conf
 use Rattle.qn_conf.specs.declared.tree.Item.{Item}
@@ -11,12 +11,12 @@ use Rattle.qn_sched.specs.declared.replay_end.ReplayEnd.{ReplayEnd}
 use Rattle.qn_sched.specs.declared.replay_end.ReplayEnd.TheVariants.{BadSettings, NoMemory}
 use Rattle.qn_sched.specs.Ends.{end_of_conf}
 use Rattle.qn_sched.specs.Head.{or_bad_settings, settings_in, settings_of_tree}
-use Rattle.qn_play.specs.Reading.{Anywhere, GoesOn, Stops}
+use Rattle.qn_play.specs.Reading.{Anywhere, GoesOn, Rest, Stops}
 use Rattle.qn_replay.specs.Reading.{settings_rest, timing_rest}
-use Rattle.qn_replay.specs.Replay.{replay_of}
+use Rattle.qn_replay.specs.Replay.{Progress, replay_of}
 use Rattle.qn_play.specs.Steps.{goes_judged, stops_judged, stops_wanted}
 
--- the defined answer, or want of memory
+-- the defined answer, or out of memory
 abbrev pub IsJudged : Result Settings ReplayEnd → List ℕ → Type 0
 IsJudged result text = (result ≡ settings_in text) ⊎ (result ≡ Err NoMemory)
 
@@ -50,3 +50,9 @@ goes_to_timing {a} {b} whole lines read before settings is number first (inl sam
     subst (λ (n : ℕ). GoesOn replay_of (timing_rest n settings) a b) (sym number)
     (goes_judged None (settings_in whole) settings (timing_rest (lines + 1)) first (sym (same ∙ ap settings_in is)))
 goes_to_timing whole lines read before settings is number first (inr memory) = absurd cc
+
+-- there was no memory for the world of a good head
+pub stops_without_memory : {A : Type 0} {after : Rest (Option Progress)} {a b : Option (List ℕ)} (at_end failed : Type 0) (made : Result A ReplayEnd)
+    → GoesOn replay_of after a b → IfErr made (λ end. end ≡ NoMemory) → IfErr made (Stops replay_of None Anywhere a b at_end failed)
+stops_without_memory at_end failed (Ok world) first memory = tt
+stops_without_memory at_end failed (Err end) first memory = stops_wanted end first memory tt

@@ -57,7 +57,7 @@ pub counted-whole : (text rest : List ℕ) → length text ≤ counted_bytes tex
 counted-whole text rest =
     elim (starts_with nat_eq dashes rest) as (λ b. length text ≤ cond b (length text) (length text + length rest)) [ true ↦ omega arith | false ↦ omega arith ]
 
--- a rest that may become `----` is one of its fronts
+-- a rest that may become `----` is one of its prefixes
 rest_of_dashes : (rest : List ℕ) → starts_with nat_eq dashes rest ≡ true → dashes ≡ rest ++ drop (length rest) dashes
 rest_of_dashes rest may = (starts_is Decides-eqb dashes rest (starts_with nat_eq dashes rest) refl).0 may
 

@@ -23,11 +23,15 @@ none_may_go_on = record { inside = All-nil (λ byte. (byte == 10) ≡ false); fi
 text_open : (text : TextSoFar) → MayGoOn text → IsOpen (text_rest text) []
 text_open text may = ap (λ answer. answer.end) (text_rest-cut text ReadFailed may.inside may.fits)
 
+-- no byte was taken, and the end is open
+pub nothing_decides : IsOpen replay_of []
+nothing_decides = text_open no_text none_may_go_on
+
 -- no byte of the text was taken
 pub text_begins : (text : TextSoFar) → text ≡ no_text → MayGoOn text × ((to_come : Option (List ℕ)) → GoesOn replay_of (text_rest text) to_come to_come)
 text_begins text is =
     subst (λ (t : TextSoFar). MayGoOn t × ((to_come : Option (List ℕ)) → GoesOn replay_of (text_rest t) to_come to_come)) (sym is)
-    (none_may_go_on, λ to_come. goes_nowhere replay_of to_come (text_open no_text none_may_go_on))
+    (none_may_go_on, λ to_come. goes_nowhere replay_of to_come nothing_decides)
 
 module _ {a b : Option (List ℕ)} (text : TextSoFar) (may : MayGoOn text) (first : GoesOn replay_of (text_rest text) a b) where
   -- one byte more
@@ -35,7 +39,7 @@ module _ {a b : Option (List ℕ)} (text : TextSoFar) (may : MayGoOn text) (firs
   text_goes_on byte new takes more =
       goes_then first (record { taken = byte ∷ []; takes = takes; needed = LastDecides [] byte refl (text_open text may); rest = more.rest })
 
-  -- the byte behind `----`
+  -- the byte after `----`
   pub text_is_whole : {c : Option (List ℕ)} (byte : ℕ) (new : TextSoFar) → b ≡ prepend_known (byte ∷ []) c → TakesEnd byte text new → GoesOn replay_of (settings_rest new.whole new.lines) a c
   text_is_whole byte new takes end =
       goes_then first (record { taken = byte ∷ []; takes = takes; needed = LastDecides [] byte refl (text_open text may); rest = end.rest })
@@ -47,7 +51,7 @@ module _ {a b : Option (List ℕ)} (text : TextSoFar) (may : MayGoOn text) (firs
 
   -- the byte for which there was no memory
   pub text_wants_memory : {c : Option (List ℕ)} {at_end failed : Type 0} (byte : ℕ) → b ≡ prepend_known (byte ∷ []) c → Stops replay_of None Anywhere a c at_end failed NoMemory
-  text_wants_memory byte takes = stops_then first anywhere (record { taken = byte ∷ []; takes = takes; stops = Wanted refl tt })
+  text_wants_memory byte takes = stops_then first anywhere (record { taken = byte ∷ []; takes = takes; needed = LastDecides [] byte refl (text_open text may); stops = Wanted refl tt })
 
   -- the input ended
   pub text_ends : {c : Option (List ℕ)} {at_end failed : Type 0} (end : ReplayEnd) → c ≡ b → at_end → end ≡ BadSchedule (text.lines + 1) Unended → Stops replay_of None Anywhere a c at_end failed end

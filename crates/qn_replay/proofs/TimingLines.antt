@@ -1,4 +1,4 @@
--- The input behind the settings text, where the timing line is due.
+-- The input after the settings text, where the timing line is due.
 use Rattle.std.proofs.Common.{◌≡◌, ◌+◌, ◌<◌, ◌≤◌, ℕ, List, [], ◌∷◌, ◌++◌, length, refl, ap, ◌∙◌, arith, Err, nat_lt, append_assoc, lt-ltb, le-ltb, None}
 use Rattle.std.proofs.lemmas.Bool.{cond-false, cond-true}
 use Rattle.std.proofs.lemmas.List.{length-append}

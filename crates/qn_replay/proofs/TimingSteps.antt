@@ -22,7 +22,7 @@ module _ (before : ℕ) (settings : Settings) (line : List ℕ) (inside : IsPart
   stays_open : IsOpen (timing_rest before settings) line
   stays_open = ap (λ answer. answer.end) (timing_rest-cut before settings ReadFailed line inside short)
 
-  -- what stands behind the line with these times
+  -- what stands after the line with these times
   abbrev behind : Timing → Rest (Option Progress)
   behind timing = event_rest (at_start settings timing (before + 1))
 

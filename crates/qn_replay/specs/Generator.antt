@@ -12,15 +12,15 @@ use Rattle.qn_model.specs.Rules.{refusal}
 use Rattle.qn_model.specs.Timing.{usual_times}
 use Rattle.qn_model.specs.Unmet.{least_from}
 use Rattle.qn_model.specs.World.{World}
-use Rattle.qn_world.specs.declared.looking.NodeSeen.{NodeSeen}
-use Rattle.qn_world.specs.Seen.{seen_of}
+use Rattle.qn_world.specs.declared.pending.Pending.{Pending}
+use Rattle.qn_world.specs.Pending.{pending_of}
 use Rattle.qn_replay.specs.declared.choice.Choice.{Choice}
 use Rattle.qn_replay.specs.declared.choice.Choice.TheVariants as choice
 use Rattle.qn_replay.specs.Draws.{next_state, draw_at}
 
 -- three nodes with the ids 1, 2 and 3 and one vote each, without flags
 abbrev pub node_of : ℕ → NodeEntry
-node_of id = record { id = record { 0 = id }; votes = 1 }
+node_of id = record { id = record { 0 = id }; votes = 1; fence_delay = 0 }
 
 abbrev pub soak_settings : Settings
 soak_settings =
@@ -32,13 +32,14 @@ soak_settings =
       window = 10000;
       device = None;
       expected = 3;
+      tie = None;
     }
 
 -- the usual times
 abbrev pub soak_timing : Timing
 soak_timing = usual_times
 
--- an event, and the state behind its draws
+-- an event, and the state after its draws
 pub record Drawn : Type 0 where
   pub event : Event
   pub state : ℕ
@@ -46,26 +47,26 @@ pub record Drawn : Type 0 where
 abbrev pub undrawn : Event → ℕ → Drawn
 undrawn event state = record { event = event; state = state }
 
--- the node of a rank
-abbrev pub seen_at : ℕ → World → NodeSeen
-seen_at rank w = seen_of soak_settings rank w
+-- what is pending at the node of a rank
+abbrev pub pending_at : ℕ → World → Pending
+pending_at rank w = pending_of soak_settings rank w
 
--- a feed was decided behind the last one, at most 1000 milliseconds ago
-abbrev pub is_feed_due : ℕ → NodeSeen → Bool
-is_feed_due now seen = option_map_or (λ decided. nat_lt seen.fed decided && nat_le now (decided + 1000)) seen.decided false
+-- a feed was decided after the last one, at most 1000 milliseconds ago
+abbrev pub is_feed_due : ℕ → Pending → Bool
+is_feed_due now pending = option_map_or (λ decided. nat_lt pending.fed decided && nat_le now (decided + 1000)) pending.decided false
 
 -- a boot at a clock below ten seconds
 abbrev pub boot_at : Rank → ℕ → Drawn
 boot_at rank state = undrawn (Boot rank (draw_at state % 1000000)) state
 
 -- the next step of a node
-unfoldable pub next_step : NodeSeen → ℕ → Rank → ℕ → Drawn
-next_step seen now rank state =
-    if not seen.running then boot_at rank (next_state state)
-    else (if is_feed_due now seen then undrawn (Feed rank) state
-    else (if seen.out && not seen.landed then undrawn (Land rank) state
-    else (if seen.landed then undrawn (Done rank) state
-    else (if seen.stop_due then undrawn (Stopped rank) state else undrawn (Tick rank) state))))
+unfoldable pub next_step : Pending → ℕ → Rank → ℕ → Drawn
+next_step pending now rank state =
+    if not pending.running then boot_at rank (next_state state)
+    else (if is_feed_due now pending then undrawn (Feed rank) state
+    else (if pending.out && not pending.landed then undrawn (Land rank) state
+    else (if pending.landed then undrawn (Done rank) state
+    else (if pending.stop_due then undrawn (Stopped rank) state else undrawn (Tick rank) state))))
 
 -- the clocks of a pass, as far as they are drawn
 pub record DrawnClocks : Type 0 where
@@ -143,15 +144,15 @@ choice_of number =
 
 -- what the choice comes to
 unfoldable pub chosen_event : World → Choice → Rank → ℕ → Drawn
-chosen_event w choice.Step rank state = next_step (seen_at rank.0 w) (time w.moments) rank state
+chosen_event w choice.Step rank state = next_step (pending_at rank.0 w) (time w.moments) rank state
 chosen_event w choice.Pass rank state =
-    pass_at (seen_at 0 w).running (seen_at 1 w).running (seen_at 2 w).running (next_state state)
+    pass_at (pending_at 0 w).running (pending_at 1 w).running (pending_at 2 w).running (next_state state)
 chosen_event w choice.View rank state = view_at rank (next_state state)
 chosen_event w choice.Delivery rank state = delivery rank (length (packets soak_settings w.moments)) w state
 chosen_event w choice.Device rank state = undrawn (Device rank true) state
 chosen_event w choice.Incident rank state = incident_at rank (next_state state)
 
--- the candidate behind two draws: the choice, and the node
+-- the candidate after two draws: the choice, and the node
 abbrev pub candidate_at : World → ℕ → ℕ → Drawn
 candidate_at w first second = chosen_event w (choice_of (draw_at first % 16)) (record { 0 = draw_at second % 3 }) second
 
@@ -167,12 +168,12 @@ abbrev pub moment : Event
 moment = Pass 1 []
 
 -- a running node would be past its watchdog in one more millisecond
-abbrev pub is_overdue : ℕ → NodeSeen → Bool
-is_overdue now seen = seen.running && nat_lt 500000 (99 * (now + 1 - seen.fed))
+abbrev pub is_overdue : ℕ → Pending → Bool
+is_overdue now pending = pending.running && nat_lt 500000 (99 * (now + 1 - pending.fed))
 
 -- the least overdue rank
 unfoldable pub overdue : World → Option ℕ
-overdue w = least_from 3 0 (λ rank. is_overdue (time w.moments) (seen_at rank w))
+overdue w = least_from 3 0 (λ rank. is_overdue (time w.moments) (pending_at rank w))
 
 -- what happens where not even time may pass
 unfoldable pub forced : World → Event
@@ -182,6 +183,6 @@ forced w = option_map_or (λ rank. Crash (record { 0 = rank })) (overdue w) mome
 unfoldable pub in_place : World → Event → Event
 in_place w event = if may_happen event w then event else (if may_happen moment w then moment else forced w)
 
--- the next event, and the state behind its draws
+-- the next event, and the state after its draws
 unfoldable pub next_event : World → ℕ → Drawn
 next_event w state = undrawn (in_place w (candidate w state).event) (candidate w state).state

@@ -116,7 +116,7 @@ pub record TakesLine (old new : Playback) (line : List ℕ) (world : World) : Ty
   pub moved : progress_at new (stepped (progress_at old world) event) ≡ with_event (progress_at old world) event
   pub reports : new.report ≡ report old.world.settings event (stepped (progress_at old world) event)
 
--- a line is at fault, or its event is refused, or memory was wanted for what its event adds
+-- a line is at fault, or its event is refused, or it ran out of memory for what its event adds
 pub data RefusesLine (old : Playback) (line : List ℕ) (end : ReplayEnd) (world : World) : Type 0 where
   AtFault : spelled_event (progress_at old world) line ≡ Err end → RefusesLine old line end world
   NotAllowedHere : (event : Event) → spelled_event (progress_at old world) line ≡ Ok event → allowed_in (progress_at old world) event ≡ Err end

@@ -1,15 +1,11 @@
 -- How a replay takes its input: inside the settings text, at the timing line and after the head.
-use Rattle.std.specs.Prelude.{◌≡◌, ◌≤◌, ℕ, ◌+◌, true, List, [], ◌∷◌, ◌++◌, length, None, Ok, Option}
-use Rattle.std.specs.Io.KnownBytes.{prepend_known}
+use Rattle.std.specs.Prelude.{◌≡◌, ◌≤◌, ℕ, ◌+◌, true, List, [], ◌∷◌, ◌++◌, length, None, Ok}
 use Rattle.qn_model.specs.declared.configuration.Settings.{Settings}
 use Rattle.qn_model.specs.declared.events.Event.{Event}
-use Rattle.qn_model.specs.Inputs.{Tells}
 use Rattle.qn_model.specs.LineLaws.{IsPartOfLine}
-use Rattle.qn_model.specs.Lines.{Ending, ReadFailed, lines_of}
-use Rattle.qn_sched.specs.declared.replay_end.ReplayEnd.{ReplayEnd}
-use Rattle.qn_sched.specs.declared.replay_end.ReplayEnd.TheVariants.{NoMemory, ReadFault}
+use Rattle.qn_model.specs.Lines.{Ending, lines_of}
 use Rattle.qn_sched.specs.Head.{settings_in}
-use Rattle.qn_replay.specs.Replay.{Progress, Replayed, allowed_in, counted_bytes, ended, event_in, event_lines, go_on, text_lines, timing_lines}
+use Rattle.qn_replay.specs.Replay.{Progress, Replayed, allowed_in, counted_bytes, event_in, event_lines, go_on, text_lines, timing_lines}
 use Rattle.qn_world.specs.Memory.{needs_memory}
 pub use Rattle.qn_play.specs.Reading.{Anywhere, EndsWith, GoesOn, IsNeeded, IsOpen, Stops}
 
@@ -40,19 +36,19 @@ pub record MayGoOn (text : TextSoFar) : Type 0 where
 abbrev pub text_rest : TextSoFar → Ending → List ℕ → Replayed
 text_rest text ending more = text_lines text.whole text.lines ending (lines_of (text.rest ++ more))
 
--- behind the line of this number, with these settings
+-- after the line of this number, with these settings
 abbrev pub timing_rest : ℕ → Settings → Ending → List ℕ → Replayed
 timing_rest before settings ending more = timing_lines settings before ending (lines_of more)
 
--- behind a settings text of so many lines, and `----`
+-- after a settings text of so many lines, and `----`
 abbrev pub settings_rest : List ℕ → ℕ → Ending → List ℕ → Replayed
 settings_rest whole lines ending more = go_on None (settings_in whole) (λ settings. timing_rest (lines + 1) settings ending more)
 
--- behind the head
+-- after the head
 abbrev pub event_rest : Progress → Ending → List ℕ → Replayed
 event_rest so_far ending more = event_lines so_far ending (lines_of more)
 
--- memory was wanted for the event of the line that was taken, which the world adds something for
+-- out of memory for the event of the line that was taken, which the world adds something for
 pub record WantsAt (so_far : Progress) (taken : List ℕ) : Type 0 where
   pub line : List ℕ
   pub event : Event

@@ -21,7 +21,7 @@ use Rattle.qn_sched.specs.Head.{dashes, safe_timing_in, settings_in}
 use Rattle.qn_sched.specs.TraceLines.{trace_line}
 pub use Rattle.qn_play.specs.Played.{Played, ended, go_on, traced}
 
--- where a replay stands behind its head: how many lines of the input there were so far, how many of them were events, and
+-- where a replay stands after its head: how many lines of the input there were so far, how many of them were events, and
 -- the world after these events
 pub record Progress : Type 0 where
   pub settings : Settings
@@ -30,7 +30,7 @@ pub record Progress : Type 0 where
   pub events : ℕ
   pub world : World
 
--- behind a head of so many lines nothing has happened
+-- after a head of so many lines nothing has happened
 abbrev pub at_start : Settings → Timing → ℕ → Progress
 at_start settings timing lines = record { settings = settings; timing = timing; lines = lines; events = 0; world = first_world }
 
@@ -84,7 +84,7 @@ unfoldable pub event_text : Progress → Event → List ℕ
 event_text so_far event =
     trace_line (ids so_far.settings.nodes) (so_far.events + 1) (report so_far.settings event (stepped so_far event)) ++ 10 ∷ []
 
--- the end of the input behind the last end of a line
+-- the end of the input after the last end of a line
 abbrev pub end_of_events : Progress → Ending → List ℕ → Replayed
 end_of_events so_far Ended [] = ended (Some so_far) (Done so_far.events)
 end_of_events so_far Ended (byte ∷ rest) = cut_in (Some so_far) (so_far.lines + 1) Ended
@@ -95,11 +95,11 @@ unfoldable pub last_event : Progress → Ending → List ℕ → Replayed
 last_event so_far ending rest =
     if nat_lt MOST_LINE_BYTES (length rest) then ended (Some so_far) (BadSchedule (so_far.lines + 1) TooLong) else end_of_events so_far ending rest
 
--- an event, and what is answered behind it
+-- an event, and what is answered after it
 abbrev pub after_event : Progress → Result Event ReplayEnd → (Progress → Replayed) → Replayed
 after_event so_far judged next = go_on (Some so_far) judged (λ event. traced (event_text so_far event) (next (with_event so_far event)))
 
--- a whole line is judged, then the rules, and then come its trace line and the lines behind it
+-- a whole line is judged, then the rules, and then come its trace line and the lines after it
 abbrev pub event_lines : Progress → Ending → List (List ℕ) → Replayed
 event_lines so_far ending [] = last_event so_far ending []
 event_lines so_far ending (rest ∷ []) = last_event so_far ending rest
@@ -107,12 +107,12 @@ event_lines so_far ending (line ∷ next ∷ lines) =
     go_on (Some so_far) (event_in so_far line)
     (λ event. after_event so_far (allowed_in so_far event) (λ further. event_lines further ending (next ∷ lines)))
 
--- the input behind `before` lines, where the timing line is due and not ended
+-- the input after `before` lines, where the timing line is due and not ended
 unfoldable pub last_timing : ℕ → Ending → List ℕ → Replayed
 last_timing before ending rest =
     if nat_lt MOST_LINE_BYTES (length rest) then ends (BadSchedule (before + 1) TooLong) else cut_in None (before + 1) ending
 
--- the timing line and the lines behind it
+-- the timing line and the lines after it
 abbrev pub timing_lines : Settings → ℕ → Ending → List (List ℕ) → Replayed
 timing_lines settings before ending [] = last_timing before ending []
 timing_lines settings before ending (rest ∷ []) = last_timing before ending rest
@@ -124,12 +124,12 @@ timing_lines settings before ending (line ∷ next ∷ lines) =
 abbrev pub counted_bytes : List ℕ → List ℕ → ℕ
 counted_bytes text rest = if starts_with nat_eq dashes rest then length text else length text + length rest
 
--- the input behind the `before` lines of a settings text, where `----` is due and not ended
+-- the input after the `before` lines of a settings text, where `----` is due and not ended
 unfoldable pub last_of_text : List ℕ → ℕ → Ending → List ℕ → Replayed
 last_of_text text before ending rest =
     if nat_lt 1048576 (counted_bytes text rest) then ends (BadConf conf.TooLong) else cut_in None (before + 1) ending
 
--- the lines behind the `before` lines of a settings text: it goes up to the first line `----`
+-- the lines after the `before` lines of a settings text: it goes up to the first line `----`
 abbrev pub text_lines : List ℕ → ℕ → Ending → List (List ℕ) → Replayed
 text_lines text before ending [] = last_of_text text before ending []
 text_lines text before ending (rest ∷ []) = last_of_text text before ending rest

@@ -15,6 +15,7 @@ use Rattle.qn_replay.specs.Generator.{Drawn, next_event, soak_settings, soak_tim
 
 abbrev pub is_boot : Event → Bool
 is_boot (event.Boot rank base) = true
+is_boot (event.BootClean rank base) = true
 is_boot other = false
 
 abbrev pub is_crash : Event → Bool

@@ -26,7 +26,7 @@ pub record TakesEnd (byte : ℕ) (old new : TextSoFar) : Type 0 where
   pub same : new ≡ old
   pub rest : (ending : Ending) (more : List ℕ) → text_rest old ending (byte ∷ more) ≡ settings_rest new.whole new.lines ending more
 
--- the text goes on, is whole, or is too long whatever follows; or memory was wanted
+-- the text goes on, is whole, or is too long whatever follows; or it ran out of memory
 abbrev pub Takes : Taken → ℕ → TextSoFar → TextSoFar → Type 0
 Takes More byte old new = TakesMore byte old new
 Takes Whole byte old new = TakesEnd byte old new

@@ -1,3 +1,5 @@
+//! What a draw of a soak chooses.
+
 /// What a draw chooses.
 #[derive(Clone, Copy, PartialEq, Eq, Debug)]
 pub(crate) enum Choice {

@@ -1,3 +1,4 @@
+//! The parts of the events that a draw of a soak can give: receivers, feeds, views and incidents.
 ghost use Rattle.std.specs.Prelude.{◌≡◌, ◌<◌, ◌≤◌, ◌^◌, true};
 ghost use Rattle.qn_model.specs.World.{World as WorldBefore};
 ghost use Rattle.qn_model.specs.Rules.{is_well_formed};
@@ -6,7 +7,7 @@ ghost use Rattle.qn_replay.specs.Generator.{incident_of, is_feed_due, receiver, 
 
 use qn_base::{Mask, Rank, View};
 use qn_model::Event;
-use qn_world::{NodeSeen, World};
+use qn_world::{Pending, World};
 
 /// The receiver of a packet, or the rank where there is no such packet.
 pub(crate) fn receiver(world: &World, number: u64, rank: Rank) -> Rank
@@ -21,32 +22,30 @@ pub(crate) fn receiver(world: &World, number: u64, rank: Rank) -> Rank
     }
 }
 
-/// Whether a feed was decided behind the last one, at most 1000 milliseconds ago.
-pub(crate) fn is_feed_due(now: u64, seen: NodeSeen) -> bool
-    ensures { result ≡ is_feed_due now seen }
+/// Whether a feed was decided after the last one, at most 1000 milliseconds ago.
+pub(crate) fn is_feed_due(now: u64, pending: Pending) -> bool
+    ensures { result ≡ is_feed_due now pending }
 {
-    match seen.decided {
-        Some(decided) => seen.fed < decided && now.saturating_sub(decided) <= 1000,
+    match pending.decided {
+        Some(decided) => pending.fed < decided && now.saturating_sub(decided) <= 1000,
         None => false,
     }
 }
 
-/// A view of these members, whose id is their bits.
+/// Writes a view of these members, whose id is their bits, over an event.
 #[tactic(auto, unfolding(qn_model::specs::Rules::is_well_formed))]
-pub(crate) fn view_of(rank: Rank, members: u32) -> Event
+pub(crate) fn write_view(rank: Rank, members: u32, into: &mut Event)
     requires rank { rank.0 < 3 }
     requires some { 0 < members }
     requires configured { members ≤ 7 }
-    ensures event { result ≡ (view_of rank members 0).event }
-    ensures formed { is_well_formed soak_settings result ≡ true }
+    ensures event { into.new ≡ (view_of rank members 0).event }
+    ensures formed { is_well_formed soak_settings into.new ≡ true }
 {
-    Event::View(
-        rank,
-        View {
-            id: u64::from(members),
-            members: Mask(members),
-        },
-    )
+    let view = View {
+        id: u64::from(members),
+        members: Mask(members),
+    };
+    *into = Event::View(rank, view);
 }
 
 /// The bit of a rank.
@@ -58,20 +57,20 @@ pub(crate) fn bit_of(rank: Rank) -> u32
     1 << rank.0
 }
 
-/// The incident of a number below 8.
+/// Writes the incident of a number below 8 over an event.
 #[tactic(auto, unfolding(crate::specs::Generator::incident_of, qn_model::specs::Rules::is_well_formed))]
-pub(crate) fn incident_of(number: u64, rank: Rank) -> Event
+pub(crate) fn write_incident(number: u64, rank: Rank, into: &mut Event)
     requires { rank.0 < 3 }
-    ensures event { result ≡ incident_of number rank }
-    ensures formed { is_well_formed soak_settings result ≡ true }
+    ensures event { into.new ≡ incident_of number rank }
+    ensures formed { is_well_formed soak_settings into.new ≡ true }
 {
     if number == 0 {
-        Event::Crash(rank)
+        *into = Event::Crash(rank);
     } else if number == 1 {
-        Event::Leave(rank)
+        *into = Event::Leave(rank);
     } else if number == 2 {
-        Event::Late(rank, 1)
+        *into = Event::Late(rank, 1);
     } else {
-        Event::Fail(rank)
+        *into = Event::Fail(rank);
     }
 }

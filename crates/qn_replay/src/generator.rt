@@ -1,9 +1,10 @@
+//! Draws the events of a soak from a seed, each allowed in its turn.
 use crate::choice::Choice;
-use crate::drawn_events::{bit_of, incident_of, is_feed_due, receiver, view_of};
-use crate::in_place::in_place_of;
+use crate::drawn_events::{bit_of, is_feed_due, receiver, write_incident, write_view};
+use crate::in_place::keep_or_replace;
 use qn_base::Rank;
 use qn_model::{Clocks, Event};
-use qn_world::{NodeSeen, World};
+use qn_world::{Pending, World};
 use std::marker::Model;
 
 /// Draws the events of a soak from a seed, one after the other, each one allowed in its turn.
@@ -47,86 +48,101 @@ impl Gen {
         ensures formed { is_well_formed soak_settings result ≡ true }
         ensures allowed { (d : WorldBefore) → WorldFor world.now d → refusal soak_settings soak_timing result d ≡ None }
     {
-        let event = self.candidate(world);
-        in_place_of(event, world)
+        let mut event = Event::Tick(Rank(0));
+        self.next_into(world, &mut event);
+        event
+    }
+
+    /// The same as `next`, with the event written over one that is there.
+    pub fn next_into(&mut self, world: &World, into: &mut Event)
+        requires settings { world.now.settings ≡ soak_settings }
+        requires timing { world.now.timing ≡ soak_timing }
+        requires early { world.now.time ≤ LATEST_TIME }
+        ensures drawn { (d : WorldBefore) → WorldFor world.now d
+            → record { event = into.new; state = self.new } ≡ next_event d self.old }
+        ensures formed { is_well_formed soak_settings into.new ≡ true }
+        ensures allowed { (d : WorldBefore) → WorldFor world.now d → refusal soak_settings soak_timing into.new d ≡ None }
+    {
+        self.candidate(world, into);
+        keep_or_replace(into, world);
     }
 
     /// The candidate for the next event.
-    fn candidate(&mut self, world: &World) -> Event
+    fn candidate(&mut self, world: &World, into: &mut Event)
         requires settings { world.now.settings ≡ soak_settings }
-        ensures drawn { (d : WorldBefore) → WorldFor world.now d → record { event = result; state = self.new } ≡ candidate d self.old }
-        ensures formed { is_well_formed soak_settings result ≡ true }
+        ensures drawn { (d : WorldBefore) → WorldFor world.now d → record { event = into.new; state = self.new } ≡ candidate d self.old }
+        ensures formed { is_well_formed soak_settings into.new ≡ true }
     {
         let choice = Choice::of(self.draw() % 16);
         let rank = Rank((self.draw() % 3) as u8);
-        self.chosen_event(world, choice, rank)
+        self.chosen_event(world, choice, rank, into);
     }
 
     /// What a choice comes to.
-    fn chosen_event(&mut self, world: &World, choice: Choice, rank: Rank) -> Event
+    fn chosen_event(&mut self, world: &World, choice: Choice, rank: Rank, into: &mut Event)
         requires settings { world.now.settings ≡ soak_settings }
         requires rank { rank.0 < 3 }
         ensures drawn { (d : WorldBefore) → WorldFor world.now d
-            → record { event = result; state = self.new } ≡ chosen_event d choice rank self.old }
-        ensures formed { is_well_formed soak_settings result ≡ true }
+            → record { event = into.new; state = self.new } ≡ chosen_event d choice rank self.old }
+        ensures formed { is_well_formed soak_settings into.new ≡ true }
     {
         match choice {
-            Choice::Step => self.next_step(world.seen(rank), world.time(), rank),
-            Choice::Pass => self.pass_of(world),
-            Choice::View => self.view(rank),
-            Choice::Delivery => self.delivery(world, rank),
-            Choice::Device => Event::Device(rank, true),
-            Choice::Incident => incident_of(self.draw() % 8, rank),
+            Choice::Step => self.next_step(world.pending(rank), world.time(), rank, into),
+            Choice::Pass => self.pass_of(world, into),
+            Choice::View => self.view(rank, into),
+            Choice::Delivery => self.delivery(world, rank, into),
+            Choice::Device => *into = Event::Device(rank, true),
+            Choice::Incident => write_incident(self.draw() % 8, rank, into),
         }
     }
 
     /// The next step of a node.
     #[tactic(auto, unfolding(crate::specs::Generator::next_step, qn_model::specs::Rules::is_well_formed))]
-    fn next_step(&mut self, seen: NodeSeen, now: u64, rank: Rank) -> Event
+    fn next_step(&mut self, pending: Pending, now: u64, rank: Rank, into: &mut Event)
         requires rank { rank.0 < 3 }
-        ensures drawn { record { event = result; state = self.new } ≡ next_step seen now rank self.old }
-        ensures formed { is_well_formed soak_settings result ≡ true }
+        ensures drawn { record { event = into.new; state = self.new } ≡ next_step pending now rank self.old }
+        ensures formed { is_well_formed soak_settings into.new ≡ true }
     {
-        if !seen.running {
+        if !pending.running {
             let base = self.draw() % 1_000_000;
-            Event::Boot(rank, base)
-        } else if is_feed_due(now, seen) {
-            Event::Feed(rank)
-        } else if seen.out && !seen.landed {
-            Event::Land(rank)
-        } else if seen.landed {
-            Event::Done(rank)
-        } else if seen.stop_due {
-            Event::Stopped(rank)
+            *into = Event::Boot(rank, base);
+        } else if is_feed_due(now, pending) {
+            *into = Event::Feed(rank);
+        } else if pending.out && !pending.landed {
+            *into = Event::Land(rank);
+        } else if pending.landed {
+            *into = Event::Done(rank);
+        } else if pending.stop_due {
+            *into = Event::Stopped(rank);
         } else {
-            Event::Tick(rank)
+            *into = Event::Tick(rank);
         }
     }
 
     /// Time passes for the nodes of a world.
-    fn pass_of(&mut self, world: &World) -> Event
+    fn pass_of(&mut self, world: &World, into: &mut Event)
         requires { world.now.settings ≡ soak_settings }
         ensures drawn { (d : WorldBefore) → WorldFor world.now d
-            → record { event = result; state = self.new } ≡ chosen_event d Choice.Pass (record { 0 = 0 }) self.old }
-        ensures formed { is_well_formed soak_settings result ≡ true }
+            → record { event = into.new; state = self.new } ≡ chosen_event d Choice.Pass (record { 0 = 0 }) self.old }
+        ensures formed { is_well_formed soak_settings into.new ≡ true }
     {
-        let first = world.seen(Rank(0));
-        let second = world.seen(Rank(1));
-        let third = world.seen(Rank(2));
-        self.pass(first.running, second.running, third.running)
+        let first = world.pending(Rank(0));
+        let second = world.pending(Rank(1));
+        let third = world.pending(Rank(2));
+        self.pass(first.running, second.running, third.running, into);
     }
 
     /// A pass, with a clock for each of the nodes that run.
-    fn pass(&mut self, first: bool, second: bool, third: bool) -> Event
-        ensures drawn { record { event = result; state = self.new } ≡ pass_at first second third (next_state self.old) }
-        ensures formed { is_well_formed soak_settings result ≡ true }
+    fn pass(&mut self, first: bool, second: bool, third: bool, into: &mut Event)
+        ensures drawn { record { event = into.new; state = self.new } ≡ pass_at first second third (next_state self.old) }
+        ensures formed { is_well_formed soak_settings into.new ≡ true }
     {
         let dt = 1 + self.draw() % 400;
         let mut clocks = Clocks::new();
         self.add_clock(&mut clocks, dt, Rank(0), first);
         self.add_clock(&mut clocks, dt, Rank(1), second);
         self.add_clock(&mut clocks, dt, Rank(2), third);
-        Event::Pass { dt, clocks }
+        *into = Event::Pass { dt, clocks };
     }
 
     /// Adds the clock of a node where it runs.
@@ -145,38 +161,39 @@ impl Gen {
 
     /// A view: of all nodes, of this one alone, or of some nodes and this one.
     #[tactic(auto, unfolding(crate::specs::Generator::view_at))]
-    fn view(&mut self, rank: Rank) -> Event
+    fn view(&mut self, rank: Rank, into: &mut Event)
         requires { rank.0 < 3 }
-        ensures drawn { record { event = result; state = self.new } ≡ view_at rank (next_state self.old) }
-        ensures formed { is_well_formed soak_settings result ≡ true }
+        ensures drawn { record { event = into.new; state = self.new } ≡ view_at rank (next_state self.old) }
+        ensures formed { is_well_formed soak_settings into.new ≡ true }
     {
         let kind = self.draw() % 3;
         if kind == 0 {
-            view_of(rank, 7)
+            write_view(rank, 7, into);
         } else if kind == 1 {
-            view_of(rank, bit_of(rank))
+            write_view(rank, bit_of(rank), into);
         } else {
             let others = (self.draw() % 8) as u32;
-            view_of(rank, others | bit_of(rank))
+            write_view(rank, others | bit_of(rank), into);
         }
     }
 
     /// One of the last eight packets reaches its receiver, where one was sent.
     #[tactic(auto, unfolding(crate::specs::Generator::delivery, qn_model::specs::Rules::is_well_formed))]
-    fn delivery(&mut self, world: &World, rank: Rank) -> Event
+    fn delivery(&mut self, world: &World, rank: Rank, into: &mut Event)
         requires settings { world.now.settings ≡ soak_settings }
         requires rank { rank.0 < 3 }
         ensures drawn { (d : WorldBefore) → WorldFor world.now d
-            → record { event = result; state = self.new } ≡ delivery rank (length (packets soak_settings d.moments)) d self.old }
-        ensures formed { is_well_formed soak_settings result ≡ true }
+            → record { event = into.new; state = self.new } ≡ delivery rank (length (packets soak_settings d.moments)) d self.old }
+        ensures formed { is_well_formed soak_settings into.new ≡ true }
     {
         let count = world.packets();
         if count == 0 {
-            return Event::Tick(rank);
+            *into = Event::Tick(rank);
+            return;
         }
         let number = count - 1 - self.draw() % count.min(8);
         let to = receiver(world, number, rank);
-        Event::Deliver(to, number)
+        *into = Event::Deliver(to, number);
     }
 
     /// One more draw: the upper 31 bits of the new state.

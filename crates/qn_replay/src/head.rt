@@ -1,4 +1,5 @@
-ghost use Rattle.std.specs.Prelude.{◌≡◌, ◌⊎◌, ◌≤◌, ◌<◌, ◌+◌, ◌^◌, [], true, None, Err, IfOk, IfErr};
+//! Reads the head of a schedule: the settings, the dashes and the times.
+ghost use Rattle.std.specs.Prelude.{◌≡◌, ◌⊎◌, ◌≤◌, ◌<◌, ◌+◌, ◌^◌, [], true, length, None, Err, IfOk, IfErr};
 ghost use Rattle.std.specs.Io.KnownBytes.{IsAtEnd, prepend_known};
 ghost use Rattle.qn_io.specs.Outside.{HasRisen};
 ghost use Rattle.qn_model.specs.declared.configuration.Settings.{Settings};
@@ -15,7 +16,7 @@ use crate::playback::Playback;
 use crate::schedule::Schedule;
 use arrayvec::ArrayVec;
 use qn_conf::{ConfFault, read_tree};
-use qn_io::{LineRead, Next, Pieces, Source, read_line};
+use qn_io::{LineRead, Next, PIECE, Pieces, Source, read_line};
 use qn_model::{LineFault, Settings, Timing, timing_safe};
 use qn_sched::{ReplayEnd, read_timing};
 use qn_settings::settings;
@@ -35,6 +36,7 @@ pub(crate) fn start<I: Source>(
         (prepend_known pieces.old (I.left input.old)) (prepend_known pieces.new (I.left input.new))
         ((pieces.new ≡ []) × IsAtEnd (I.left input.new))
         ((pieces.new ≡ []) × HasRisen (I.faults input.old) (I.faults input.new))) }
+    ensures within { length pieces.new ≤ PIECE }
     ensures never_falls { I.faults input.old ≤ I.faults input.new }
 {
     let schedule = read_head(alloc, pieces, input)?;
@@ -57,6 +59,7 @@ fn read_head<I: Source>(
         (prepend_known pieces.old (I.left input.old)) (prepend_known pieces.new (I.left input.new))
         ((pieces.new ≡ []) × IsAtEnd (I.left input.new))
         ((pieces.new ≡ []) × HasRisen (I.faults input.old) (I.faults input.new))) }
+    ensures within { length pieces.new ≤ PIECE }
     ensures never_falls { I.faults input.old ≤ I.faults input.new }
 {
     let text = read_text(alloc, pieces, input)?;
@@ -84,6 +87,7 @@ fn read_text<I: Source>(
         (prepend_known pieces.old (I.left input.old)) (prepend_known pieces.new (I.left input.new))
         ((pieces.new ≡ []) × IsAtEnd (I.left input.new))
         ((pieces.new ≡ []) × HasRisen (I.faults input.old) (I.faults input.new))) }
+    ensures within { length pieces.new ≤ PIECE }
     ensures never_falls { I.faults input.old ≤ I.faults input.new }
 {
     let mut text = PartText::new(alloc);
@@ -118,6 +122,7 @@ fn read_timing_line<I: Source>(
         (prepend_known pieces.old (I.left input.old)) (prepend_known pieces.new (I.left input.new))
         ((pieces.new ≡ []) × IsAtEnd (I.left input.new))
         ((pieces.new ≡ []) × HasRisen (I.faults input.old) (I.faults input.new))) }
+    ensures within { length pieces.new ≤ PIECE }
     ensures never_falls { I.faults input.old ≤ I.faults input.new }
 {
     let mut bytes = ArrayVec::new();

@@ -1,3 +1,4 @@
+//! What takes the place of a drawn event that is not allowed.
 ghost use Rattle.std.specs.Prelude.{◌≡◌, ◌<◌, ◌≤◌, true, None, IfSome, option_map, if◌then◌else◌};
 ghost use Rattle.qn_base.specs.declared.limits.TheConstants.{LATEST_TIME};
 ghost use Rattle.qn_model.specs.World.{World as WorldBefore};
@@ -7,65 +8,65 @@ ghost use Rattle.qn_replay.specs.Generator.{forced, in_place, is_overdue, may_ha
 
 use qn_base::Rank;
 use qn_model::{Clocks, Event};
-use qn_world::{NodeSeen, World};
+use qn_world::{Pending, World};
 
-/// The candidate where it is allowed, else one millisecond, and where not even that is allowed the crash of a
-/// node whose watchdog is over.
-pub(crate) fn in_place_of(event: Event, world: &World) -> Event
+/// The candidate stays where it is allowed; else one millisecond is written over it, and where not even that is
+/// allowed the crash of a node whose watchdog is over.
+pub(crate) fn keep_or_replace(event: &mut Event, world: &World)
     requires settings { world.now.settings ≡ soak_settings }
     requires timing { world.now.timing ≡ soak_timing }
     requires early { world.now.time ≤ LATEST_TIME }
-    requires formed { is_well_formed soak_settings event ≡ true }
-    ensures drawn { (d : WorldBefore) → WorldFor world.now d → result ≡ in_place d event }
-    ensures formed { is_well_formed soak_settings result ≡ true }
-    ensures allowed { (d : WorldBefore) → WorldFor world.now d → refusal soak_settings soak_timing result d ≡ None }
+    requires formed { is_well_formed soak_settings event.old ≡ true }
+    ensures drawn { (d : WorldBefore) → WorldFor world.now d → event.new ≡ in_place d event.old }
+    ensures formed { is_well_formed soak_settings event.new ≡ true }
+    ensures allowed { (d : WorldBefore) → WorldFor world.now d → refusal soak_settings soak_timing event.new d ≡ None }
 {
-    match world.allowed(&event) {
-        Ok(()) => event,
-        Err(_) => moment_or_forced(world),
+    match world.allowed(event) {
+        Ok(()) => {}
+        Err(_) => write_moment_or_forced(world, event),
     }
 }
 
-/// One millisecond, or the crash of a node whose watchdog is over.
-fn moment_or_forced(world: &World) -> Event
+/// Writes one millisecond, or the crash of a node whose watchdog is over, over an event.
+fn write_moment_or_forced(world: &World, into: &mut Event)
     requires settings { world.now.settings ≡ soak_settings }
     requires timing { world.now.timing ≡ soak_timing }
     requires early { world.now.time ≤ LATEST_TIME }
     ensures drawn { (d : WorldBefore) → WorldFor world.now d
-        → result ≡ (if may_happen moment d then moment else forced d) }
-    ensures formed { is_well_formed soak_settings result ≡ true }
-    ensures allowed { (d : WorldBefore) → WorldFor world.now d → refusal soak_settings soak_timing result d ≡ None }
+        → into.new ≡ (if may_happen moment d then moment else forced d) }
+    ensures formed { is_well_formed soak_settings into.new ≡ true }
+    ensures allowed { (d : WorldBefore) → WorldFor world.now d → refusal soak_settings soak_timing into.new d ≡ None }
 {
-    let pass = moment();
-    match world.allowed(&pass) {
-        Ok(()) => pass,
-        Err(_) => forced(world),
+    write_moment(into);
+    match world.allowed(into) {
+        Ok(()) => {}
+        Err(_) => write_forced(world, into),
     }
 }
 
-/// One millisecond, on all clocks.
+/// Writes one millisecond, on all clocks, over an event.
 #[tactic(auto, unfolding(qn_model::specs::Rules::is_well_formed))]
-fn moment() -> Event
-    ensures event { result ≡ moment }
-    ensures formed { is_well_formed soak_settings result ≡ true }
+fn write_moment(into: &mut Event)
+    ensures event { into.new ≡ moment }
+    ensures formed { is_well_formed soak_settings into.new ≡ true }
 {
-    Event::Pass {
+    *into = Event::Pass {
         dt: 1,
         clocks: Clocks::new(),
-    }
+    };
 }
 
-/// The crash of the least node whose watchdog is over in one more millisecond.
+/// Writes the crash of the least node whose watchdog is over in one more millisecond over an event.
 #[tactic(auto, unfolding(qn_model::specs::Rules::is_well_formed))]
-fn forced(world: &World) -> Event
+fn write_forced(world: &World, into: &mut Event)
     requires settings { world.now.settings ≡ soak_settings }
     requires early { world.now.time ≤ LATEST_TIME }
-    ensures drawn { (d : WorldBefore) → WorldFor world.now d → result ≡ forced d }
-    ensures formed { is_well_formed soak_settings result ≡ true }
+    ensures drawn { (d : WorldBefore) → WorldFor world.now d → into.new ≡ forced d }
+    ensures formed { is_well_formed soak_settings into.new ≡ true }
 {
     match overdue(world) {
-        Some(rank) => Event::Crash(rank),
-        None => moment(),
+        Some(rank) => *into = Event::Crash(rank),
+        None => write_moment(into),
     }
 }
 
@@ -77,11 +78,11 @@ fn overdue(world: &World) -> Option<Rank>
     ensures configured { IfSome result (λ rank. rank.0 < 3) }
 {
     let now = world.time();
-    if is_overdue(now, world.seen(Rank(0))) {
+    if is_overdue(now, world.pending(Rank(0))) {
         Some(Rank(0))
-    } else if is_overdue(now, world.seen(Rank(1))) {
+    } else if is_overdue(now, world.pending(Rank(1))) {
         Some(Rank(1))
-    } else if is_overdue(now, world.seen(Rank(2))) {
+    } else if is_overdue(now, world.pending(Rank(2))) {
         Some(Rank(2))
     } else {
         None
@@ -89,9 +90,9 @@ fn overdue(world: &World) -> Option<Rank>
 }
 
 /// Whether a running node would be past its watchdog in one more millisecond.
-fn is_overdue(now: u64, seen: NodeSeen) -> bool
+fn is_overdue(now: u64, pending: Pending) -> bool
     requires { now ≤ LATEST_TIME }
-    ensures { result ≡ is_overdue now seen }
+    ensures { result ≡ is_overdue now pending }
 {
-    seen.running && 99 * (now + 1).saturating_sub(seen.fed) > 500_000
+    pending.running && 99 * (now + 1).saturating_sub(pending.fed) > 500_000
 }

@@ -1,10 +1,11 @@
+//! The settings text of a schedule while it is read, up to the line of dashes.
 use std::alloc::{AllocError, Global};
 use std::marker::Model;
 
 /// The most bytes of a settings text.
 const MAX_TEXT_BYTES: usize = 1_048_576;
 
-/// The line behind the settings text.
+/// The line after the settings text.
 const DASHES: &[u8; 4] = b"----";
 
 /// What the next byte made of a settings text.
@@ -15,7 +16,7 @@ pub(crate) enum Taken {
     Whole,
     /// More bytes were read than a settings text may have.
     TooLong,
-    /// Memory was wanted and not there.
+    /// Out of memory.
     NoMemory,
 }
 

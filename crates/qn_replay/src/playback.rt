@@ -1,17 +1,19 @@
+//! A replay after its head, as a world that qn_play plays.
 use crate::schedule::Schedule;
 use arrayvec::ArrayVec;
-use qn_base::MOST_LINE_BYTES;
+use qn_base::{MOST_LINE_BYTES, Rank};
 use qn_model::{Event, LineFault, Refused, Report};
 use qn_play::Plays;
-use qn_sched::{ReplayEnd, read_line, write_trace};
+use qn_sched::{ReplayEnd, read_line_into, write_trace};
 use qn_world::{World, blank_report};
 use std::alloc::Global;
 
-/// A replay after its head: the world after the events so far, what the last of them came to, how many lines the
-/// head had, and how many events there were.
+/// A replay after its head: the world after the events so far, the last of them and what it came to, how many lines
+/// the head had, and how many events there were.
 #[derive(Drop)]
 pub(crate) struct Playback {
     world: World,
+    event: Event,
     report: Report,
     head: u64,
     events: u64,
@@ -20,11 +22,9 @@ pub(crate) struct Playback {
 impl Playback {
     ghost use Rattle.std.specs.Prelude.{◌≡◌, ◌<◌, ◌≤◌, ◌+◌, ◌^◌, true, OnOk, OnErr, IfOk, IfErr};
     ghost use Rattle.qn_base.specs.declared.limits.TheConstants.{MOST_EVENTS};
-    ghost use Rattle.qn_model.specs.Rules.{is_well_formed};
     ghost use Rattle.qn_model.specs.Settings.{IsValid};
     ghost use Rattle.qn_model.specs.Timing.{is_safe};
-    ghost use Rattle.qn_replay.specs.Playing.{Begins, IsGoing, RefusesLine, Stands, TakesLine, progress_at, refused_end, report_text};
-    ghost use Rattle.qn_replay.specs.Replay.{spelled_event};
+    ghost use Rattle.qn_replay.specs.Playing.{Begins, IsGoing, RefusesLine, Stands, TakesLine, refused_end, report_text};
     ghost use Rattle.qn_replay.specs.Runs.{last_of};
 
     /// A replay whose head was read: nothing has happened.
@@ -43,6 +43,7 @@ impl Playback {
         };
         Ok(Playback {
             world,
+            event: Event::Tick(Rank(0)),
             report: blank_report(),
             head: schedule.lines,
             events: 0,
@@ -68,24 +69,14 @@ impl Playback {
         ensures settings { self.new.world.settings ≡ self.old.world.settings }
         ensures timing { self.new.world.timing ≡ self.old.world.timing }
     {
-        let event = self.judge(line)?;
-        if let Err(refused) = self.world.apply_into(&event, &mut self.report) {
+        if let Err(fault) = read_line_into(line, self.world.settings(), &mut self.event) {
+            return Err(self.bad_line(fault));
+        }
+        if let Err(refused) = self.world.apply_into(&self.event, &mut self.report) {
             return Err(self.refusal(refused));
         }
         self.events += 1;
         Ok(())
-    }
-
-    /// The event of a line, without its end.
-    fn judge(&self, line: &[u8]) -> Result<Event, ReplayEnd>
-        requires { IsGoing self.now }
-        ensures judged { Stands self.now (λ world. result ≡ spelled_event (progress_at self.now world) line.now) }
-        ensures formed { IfOk result (λ event. is_well_formed self.now.world.settings event ≡ true) }
-    {
-        match read_line(line, self.world.settings()) {
-            Ok(event) => Ok(event),
-            Err(fault) => Err(self.bad_line(fault)),
-        }
     }
 
     /// The end at a fault of the next line.

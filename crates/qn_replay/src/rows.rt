@@ -1,3 +1,4 @@
+//! The laws of heads, texts and ends, and the law that a trace names one holder at most.
 ghost use Rattle.std.specs.Prelude.{◌≡◌, ◌++◌, codes};
 ghost use Rattle.qn_conf.specs.declared.faults.ConfFault.TheVariants.{ExtraClose};
 ghost use Rattle.qn_model.specs.Lines.{Ended, ReadFailed};
@@ -12,7 +13,7 @@ use qn_safety::law_no_two_holders;
 use qn_sched::law_event_lines;
 use qn_settings::law_valid_settings;
 
-/// The head of one node is good, and a line behind it begins no event. Where the timing line is due and
+/// The head of one node is good, and a line after it begins no event. Where the timing line is due and
 /// the input ends, it is unended; where a read fails there, that is the end.
 pub fn law_heads()
     ensures good { (replay_of Ended

@@ -1,3 +1,4 @@
+//! The settings and times of a soak.
 ghost use Rattle.std.specs.Prelude.{◌≡◌, true};
 ghost use Rattle.qn_model.specs.Settings.{IsValid};
 ghost use Rattle.qn_model.specs.Timing.{is_safe};
@@ -23,6 +24,7 @@ pub(crate) fn soak_settings() -> Settings
         window: 10000,
         device: None,
         expected: 3,
+        tie: None,
     }
 }
 
@@ -32,6 +34,7 @@ fn node_of(id: u32) -> NodeEntry
     NodeEntry {
         id: NodeId(id),
         votes: 1,
+        fence_delay: 0,
     }
 }
 

@@ -1,3 +1,4 @@
+//! The public call of a soak: its events, and the line that sums them up.
 ghost use Rattle.std.specs.Prelude.{◌≡◌, ◌≤◌, ◌+◌, ◌++◌, IfOk, decimal, length};
 ghost use Rattle.std.specs.Io.KnownBytes.{append_known};
 ghost use Rattle.qn_base.specs.declared.limits.TheConstants.{MOST_EVENTS};
@@ -8,14 +9,15 @@ ghost use Rattle.qn_replay.specs.Soak.{IsSoakEnd, soak_text, soaked, summary};
 use crate::generator::Gen;
 use crate::soak_settings::{soak_settings, soak_timing};
 use crate::tally::Tally;
-use qn_base::{Failed, NoMemory, ShortText};
+use qn_base::{Failed, NoMemory, Rank, ShortText};
 use qn_io::{Sink, put_all};
+use qn_model::Event;
 use qn_sched::ReplayEnd;
-use qn_world::World;
+use qn_world::{World, blank_report};
 use std::alloc::Global;
 
 /// Draws so many events from the seed, applies each to a world of three nodes, and writes a summary line.
-/// At `WriteFault` a front of the line was written, at `NoMemory` nothing.
+/// At `WriteFault` a prefix of the line was written, at `NoMemory` nothing.
 pub fn soak<O: Sink>(alloc: Global, seed: u64, events: u64, out: &mut O) -> ReplayEnd
     requires { events ≤ MOST_EVENTS }
     ensures ends { IsSoakEnd events result }
@@ -47,10 +49,12 @@ fn tally_of(alloc: Global, seed: u64, events: u64) -> Result<Tally, NoMemory>
     let mut world = World::new(alloc, soak_settings(), soak_timing())?;
     let mut generator = Gen::new(seed);
     let mut tally = Tally::new();
+    let mut event = Event::Tick(Rank(0));
+    let mut report = blank_report();
     'events: for number in 0..events {
-        let event = generator.next(&world);
-        match world.apply(&event) {
-            Ok(report) => tally.add(&event, &report),
+        generator.next_into(&world, &mut event);
+        match world.apply_into(&event, &mut report) {
+            Ok(()) => tally.add(&event, &report),
             Err(_) => return Err(NoMemory),
         }
     }

@@ -1,3 +1,4 @@
+//! What the events of a soak came to.
 ghost use Rattle.std.specs.Prelude.{◌≡◌, ◌≤◌, count_by, length};
 ghost use Rattle.qn_replay.specs.Soak.{is_boot, is_crash, is_reset, is_start, is_stop};
 
@@ -54,7 +55,7 @@ impl Tally {
 fn is_boot(event: &Event) -> bool
     ensures { result ≡ is_boot event.now }
 {
-    matches!(event, Event::Boot(..))
+    matches!(event, Event::Boot(..) | Event::BootClean(..))
 }
 
 fn is_crash(event: &Event) -> bool

@@ -1,3 +1,4 @@
+//! How heads and events end, at each length and at each read that fails.
 use crate::inputs::{
     DASHES_AND_TIMES, DONE, NODE, Times, bad_conf_line, bad_line, each_once, end_of, source,
 };

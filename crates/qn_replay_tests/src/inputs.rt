@@ -1,3 +1,4 @@
+//! Inputs that several tests share, read in pieces and failing at chosen reads.
 use qn_conf::ConfFault;
 use qn_io::{MemSink, MemSource};
 use qn_model::LineFault;

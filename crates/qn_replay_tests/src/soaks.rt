@@ -1,3 +1,4 @@
+//! Summaries of soaks that were worked out elsewhere.
 use qn_io::MemSink;
 use qn_replay::soak;
 use qn_sched::ReplayEnd;

@@ -1,3 +1,4 @@
+//! Traces that were worked out from the rules, also where an output fails.
 use crate::inputs::{DASHES_AND_TIMES, bad_line, each_once, source};
 use qn_base::Mask;
 use qn_io::MemSink;

@@ -18,7 +18,8 @@ use Rattle.qn_model.specs.declared.outputs.BootCause.{BootCause}
 use Rattle.qn_model.specs.declared.outputs.DiskOp.{DiskOp}
 use Rattle.qn_model.specs.declared.outputs.DiskOp.TheVariants as disk
 use Rattle.qn_model.specs.Log.{Line, op_out, disk_of, is_answer}
-use Rattle.qn_model.specs.Phases.{phase, next_phase, boot_phase, mail_phase, header_halt, slot_halt, boot_halt, message_of, deadly_of, in_time, is_booting, is_live, is_up, is_leaving}
+use Rattle.qn_model.specs.Moments.{begin_of}
+use Rattle.qn_model.specs.Phases.{phase, next_phase, boot_phase, mail_phase, header_halt, slot_halt, check_halt, boot_halt, message_of, deadly_of, in_time, is_booting, is_live, is_up, is_leaving}
 use Rattle.qn_model.specs.Wanted.{boot_op, rank_of}
 use Rattle.qn_model.specs.Fitting.{fits, answers_op, is_closed, is_first}
 use Rattle.qn_safety.proofs.Tools.{some_same, none_some, some_none}
@@ -29,6 +30,7 @@ use Rattle.qn_safety.proofs.Logs.{Made, NoLine, OneMore, IsLine, before_outs, di
 pub header_answers : (op : Option DiskOp) (seen : HeaderSeen) → answers_op op (what.Header seen) ≡ true → op ≡ Some disk.ReadHeader
 header_answers (Some disk.ReadHeader) seen e = refl
 header_answers (Some (disk.ReadSlot r)) seen e = absurd (false≢true e)
+header_answers (Some disk.CheckMail) seen e = absurd (false≢true e)
 header_answers (Some (disk.WriteClaim n)) seen e = absurd (false≢true e)
 header_answers (Some disk.WriteClear) seen e = absurd (false≢true e)
 header_answers (Some disk.ReadMail) seen e = absurd (false≢true e)
@@ -39,6 +41,7 @@ header_answers None seen e = absurd (false≢true e)
 pub slot_answers : (op : Option DiskOp) (other : Rank) (seen : SlotSeen) → answers_op op (what.SlotRead other seen) ≡ true → (rank : Rank) × (op ≡ Some (disk.ReadSlot rank)) × (rank.0 ≡ other.0)
 slot_answers (Some disk.ReadHeader) other seen e = absurd (false≢true e)
 slot_answers (Some (disk.ReadSlot rank)) other seen e = (rank, refl, eqb-true rank.0 other.0 e)
+slot_answers (Some disk.CheckMail) other seen e = absurd (false≢true e)
 slot_answers (Some (disk.WriteClaim n)) other seen e = absurd (false≢true e)
 slot_answers (Some disk.WriteClear) other seen e = absurd (false≢true e)
 slot_answers (Some disk.ReadMail) other seen e = absurd (false≢true e)
@@ -49,6 +52,7 @@ slot_answers None other seen e = absurd (false≢true e)
 pub claimed_answers : (op : Option DiskOp) (ok : Bool) → answers_op op (what.Claimed ok) ≡ true → (number : ℕ) × (op ≡ Some (disk.WriteClaim number))
 claimed_answers (Some disk.ReadHeader) ok e = absurd (false≢true e)
 claimed_answers (Some (disk.ReadSlot r)) ok e = absurd (false≢true e)
+claimed_answers (Some disk.CheckMail) ok e = absurd (false≢true e)
 claimed_answers (Some (disk.WriteClaim number)) ok e = (number, refl)
 claimed_answers (Some disk.WriteClear) ok e = absurd (false≢true e)
 claimed_answers (Some disk.ReadMail) ok e = absurd (false≢true e)
@@ -59,6 +63,7 @@ claimed_answers None ok e = absurd (false≢true e)
 pub cleared_answers : (op : Option DiskOp) (ok : Bool) → answers_op op (what.Cleared ok) ≡ true → op ≡ Some disk.WriteClear
 cleared_answers (Some disk.ReadHeader) ok e = absurd (false≢true e)
 cleared_answers (Some (disk.ReadSlot r)) ok e = absurd (false≢true e)
+cleared_answers (Some disk.CheckMail) ok e = absurd (false≢true e)
 cleared_answers (Some (disk.WriteClaim n)) ok e = absurd (false≢true e)
 cleared_answers (Some disk.WriteClear) ok e = refl
 cleared_answers (Some disk.ReadMail) ok e = absurd (false≢true e)
@@ -69,6 +74,7 @@ cleared_answers None ok e = absurd (false≢true e)
 pub mail_answers : (op : Option DiskOp) (seen : MailSeen) → answers_op op (what.MailRead seen) ≡ true → op ≡ Some disk.ReadMail
 mail_answers (Some disk.ReadHeader) seen e = absurd (false≢true e)
 mail_answers (Some (disk.ReadSlot r)) seen e = absurd (false≢true e)
+mail_answers (Some disk.CheckMail) seen e = absurd (false≢true e)
 mail_answers (Some (disk.WriteClaim n)) seen e = absurd (false≢true e)
 mail_answers (Some disk.WriteClear) seen e = absurd (false≢true e)
 mail_answers (Some disk.ReadMail) seen e = refl
@@ -76,9 +82,21 @@ mail_answers (Some (disk.WriteReset r)) seen e = absurd (false≢true e)
 mail_answers (Some (disk.WriteClose n)) seen e = absurd (false≢true e)
 mail_answers None seen e = absurd (false≢true e)
 
+pub check_answers : (op : Option DiskOp) (seen : MailSeen) → answers_op op (what.MailChecked seen) ≡ true → op ≡ Some disk.CheckMail
+check_answers (Some disk.ReadHeader) seen e = absurd (false≢true e)
+check_answers (Some (disk.ReadSlot r)) seen e = absurd (false≢true e)
+check_answers (Some disk.CheckMail) seen e = refl
+check_answers (Some (disk.WriteClaim n)) seen e = absurd (false≢true e)
+check_answers (Some disk.WriteClear) seen e = absurd (false≢true e)
+check_answers (Some disk.ReadMail) seen e = absurd (false≢true e)
+check_answers (Some (disk.WriteReset r)) seen e = absurd (false≢true e)
+check_answers (Some (disk.WriteClose n)) seen e = absurd (false≢true e)
+check_answers None seen e = absurd (false≢true e)
+
 pub reset_answers : (op : Option DiskOp) (other : Rank) (ok : Bool) → answers_op op (what.MailWritten other ok) ≡ true → (rank : Rank) × (op ≡ Some (disk.WriteReset rank)) × (rank.0 ≡ other.0)
 reset_answers (Some disk.ReadHeader) other ok e = absurd (false≢true e)
 reset_answers (Some (disk.ReadSlot r)) other ok e = absurd (false≢true e)
+reset_answers (Some disk.CheckMail) other ok e = absurd (false≢true e)
 reset_answers (Some (disk.WriteClaim n)) other ok e = absurd (false≢true e)
 reset_answers (Some disk.WriteClear) other ok e = absurd (false≢true e)
 reset_answers (Some disk.ReadMail) other ok e = absurd (false≢true e)
@@ -89,6 +107,7 @@ reset_answers None other ok e = absurd (false≢true e)
 pub closed_answers : (op : Option DiskOp) (ok : Bool) → answers_op op (what.Closed ok) ≡ true → (number : ℕ) × (op ≡ Some (disk.WriteClose number))
 closed_answers (Some disk.ReadHeader) ok e = absurd (false≢true e)
 closed_answers (Some (disk.ReadSlot r)) ok e = absurd (false≢true e)
+closed_answers (Some disk.CheckMail) ok e = absurd (false≢true e)
 closed_answers (Some (disk.WriteClaim n)) ok e = absurd (false≢true e)
 closed_answers (Some disk.WriteClear) ok e = absurd (false≢true e)
 closed_answers (Some disk.ReadMail) ok e = absurd (false≢true e)
@@ -100,6 +119,7 @@ closed_answers None ok e = absurd (false≢true e)
 abbrev pub is_boot_op : DiskOp → Bool
 is_boot_op disk.ReadHeader = true
 is_boot_op (disk.ReadSlot rank) = true
+is_boot_op disk.CheckMail = true
 is_boot_op (disk.WriteClaim number) = true
 is_boot_op disk.WriteClear = true
 is_boot_op disk.ReadMail = false
@@ -109,6 +129,7 @@ is_boot_op (disk.WriteClose number) = false
 abbrev pub is_live_op : DiskOp → Bool
 is_live_op disk.ReadMail = true
 is_live_op (disk.ReadSlot rank) = true
+is_live_op disk.CheckMail = false
 is_live_op (disk.WriteReset rank) = true
 is_live_op disk.ReadHeader = false
 is_live_op (disk.WriteClaim number) = false
@@ -178,6 +199,7 @@ first_boots s (line ∷ past) e = absurd (false≢true e)
 apt_kept : (s : Settings) (me : ℕ) (past : List Line) (entry : What) (timely : Bool) → is_answer entry ≡ false → fits s me past entry ≡ true
     → is_apt (op_out past) (phase s past) ≡ true → is_apt (op_out past) (next_phase s entry timely (phase s past)) ≡ true
 apt_kept s me past what.Begin timely is fit apt = subst (λ o. is_apt o Booting ≡ true) (sym (first_silent disk.ReadHeader past fit)) refl
+apt_kept s me past what.BeginClean timely is fit apt = subst (λ o. is_apt o Booting ≡ true) (sym (first_silent disk.ReadHeader past fit)) refl
 apt_kept s me past (what.View installed) timely is fit apt = apt
 apt_kept s me past (what.Ask ask) timely is fit apt = apt
 apt_kept s me past (what.Tell tell) timely is fit apt = apt
@@ -187,51 +209,66 @@ apt_kept s me past (what.Stopped ok) timely is fit apt = apt
 apt_kept s me past what.Leave timely is fit apt = apt_leaving (op_out past) (subst (λ p. is_apt (op_out past) p ≡ true) (up_is (phase s past) fit) apt)
 apt_kept s me past (what.Header seen) timely is fit apt = absurd (true≢false is)
 apt_kept s me past (what.SlotRead rank seen) timely is fit apt = absurd (true≢false is)
+apt_kept s me past (what.MailChecked seen) timely is fit apt = absurd (true≢false is)
 apt_kept s me past (what.Claimed ok) timely is fit apt = absurd (true≢false is)
 apt_kept s me past (what.Cleared ok) timely is fit apt = absurd (true≢false is)
 apt_kept s me past (what.MailRead seen) timely is fit apt = absurd (true≢false is)
 apt_kept s me past (what.MailWritten rank ok) timely is fit apt = absurd (true≢false is)
 apt_kept s me past (what.Closed ok) timely is fit apt = absurd (true≢false is)
 
--- a step of the boot that goes on: an operation of the boot while booting, or the first read of the mailbox
-pub data BootStep (me : ℕ) : What → DiskOp → Phase → Type 0 where
-  BeginStep : BootStep me what.Begin disk.ReadHeader Booting
-  HeaderStep : (seen : HeaderSeen) → BootStep me (what.Header seen) (disk.ReadSlot (rank_of me)) Booting
-  SlotStep : (rank : Rank) (own : Slot) → BootStep me (what.SlotRead rank (slot.Read own)) (disk.WriteClaim (own.incarnation + 1)) Booting
-  ClaimStep : BootStep me (what.Claimed true) disk.WriteClear Booting
-  ClearStep : BootStep me (what.Cleared true) disk.ReadMail Up
+-- a step of the boot that goes on, by the number that the last read of a slot gave: an operation of the boot while
+-- booting, or the first read of the mailbox
+pub data BootStep (me number : ℕ) : What → DiskOp → Phase → Type 0 where
+  BeginStep : (clean : Bool) → BootStep me number (begin_of clean) disk.ReadHeader Booting
+  HeaderStep : (seen : HeaderSeen) → BootStep me number (what.Header seen) (disk.ReadSlot (rank_of me)) Booting
+  SlotStep : (rank : Rank) (own : Slot) → BootStep me number (what.SlotRead rank (slot.Read own)) (disk.WriteClaim (own.incarnation + 1)) Booting
+  CleanSlotStep : (rank : Rank) (own : Slot) → BootStep me number (what.SlotRead rank (slot.Read own)) disk.CheckMail Booting
+  CheckStep : (seen : MailSeen) → BootStep me number (what.MailChecked seen) (disk.WriteClaim (number + 1)) Booting
+  ClaimStep : BootStep me number (what.Claimed true) disk.WriteClear Booting
+  ClearStep : BootStep me number (what.Cleared true) disk.ReadMail Up
 
-step_at : (me : ℕ) (entry : What) (o op : DiskOp) (p q : Phase) → BootStep me entry o p → o ≡ op → p ≡ q → BootStep me entry op q
-step_at me entry o op p q it same phase_same = subst (λ x. BootStep me entry x q) same (subst (λ x. BootStep me entry o x) phase_same it)
+step_at : {number : ℕ} (me : ℕ) (entry : What) (o op : DiskOp) (p q : Phase) → BootStep me number entry o p → o ≡ op → p ≡ q → BootStep me number entry op q
+step_at {number = number} me entry o op p q it same phase_same =
+    subst (λ x. BootStep me number entry x q) same (subst (λ x. BootStep me number entry o x) phase_same it)
 
-pub boot_step_of : (s : Settings) (me : ℕ) (entry : What) (op : DiskOp) (timely : Bool) → boot_halt s entry ≡ None → boot_op me entry ≡ Some op
-    → BootStep me entry op (next_phase s entry timely Booting)
-boot_step_of s me what.Begin op timely goes next = step_at me _ _ op _ _ BeginStep (some_same _ _ next) refl
-boot_step_of s me (what.Header seen) op timely goes next =
+slot_step_of : (me : ℕ) (number : ℕ) (rank : Rank) (own : Slot) (op : DiskOp) (clean : Bool)
+    → boot_op me clean number (what.SlotRead rank (slot.Read own)) ≡ Some op → BootStep me number (what.SlotRead rank (slot.Read own)) op Booting
+slot_step_of me number rank own op true next = step_at me _ _ op _ _ (CleanSlotStep rank own) (some_same _ _ next) refl
+slot_step_of me number rank own op false next = step_at me _ _ op _ _ (SlotStep rank own) (some_same _ _ next) refl
+
+pub boot_step_of : {number : ℕ} (s : Settings) (me : ℕ) (clean : Bool) (entry : What) (op : DiskOp) (timely : Bool) → boot_halt s entry ≡ None
+    → boot_op me clean number entry ≡ Some op → BootStep me number entry op (next_phase s entry timely Booting)
+boot_step_of s me clean what.Begin op timely goes next = step_at me _ _ op _ _ (BeginStep false) (some_same _ _ next) refl
+boot_step_of s me clean what.BeginClean op timely goes next = step_at me _ _ op _ _ (BeginStep true) (some_same _ _ next) refl
+boot_step_of s me clean (what.Header seen) op timely goes next =
     step_at me _ _ op _ _ (HeaderStep seen) (some_same _ _ next) (ap (λ c. boot_phase c Booting) (sym goes))
-boot_step_of s me (what.SlotRead rank (slot.Read own)) op timely goes next =
-    step_at me _ _ op _ _ (SlotStep rank own) (some_same _ _ next) (ap (λ c. boot_phase c Booting) (sym goes))
-boot_step_of s me (what.SlotRead rank slot.Damaged) op timely goes next = none_some op next
-boot_step_of s me (what.SlotRead rank slot.Failed) op timely goes next = none_some op next
-boot_step_of s me (what.Claimed true) op timely goes next = step_at me _ _ op _ _ ClaimStep (some_same _ _ next) refl
-boot_step_of s me (what.Claimed false) op timely goes next = some_none _ goes
-boot_step_of s me (what.Cleared true) op timely goes next = step_at me _ _ op _ _ ClearStep (some_same _ _ next) refl
-boot_step_of s me (what.Cleared false) op timely goes next = some_none _ goes
-boot_step_of s me (what.MailRead seen) op timely goes next = none_some op next
-boot_step_of s me (what.MailWritten rank ok) op timely goes next = none_some op next
-boot_step_of s me (what.View installed) op timely goes next = none_some op next
-boot_step_of s me (what.Ask ask) op timely goes next = none_some op next
-boot_step_of s me (what.Tell tell) op timely goes next = none_some op next
-boot_step_of s me (what.Device agrees) op timely goes next = none_some op next
-boot_step_of s me what.Tick op timely goes next = none_some op next
-boot_step_of s me (what.Stopped ok) op timely goes next = none_some op next
-boot_step_of s me what.Leave op timely goes next = none_some op next
-boot_step_of s me (what.Closed ok) op timely goes next = none_some op next
+boot_step_of {number = number} s me clean (what.SlotRead rank (slot.Read own)) op timely goes next =
+    step_at me _ _ op _ _ (slot_step_of me number rank own op clean next) refl (ap (λ c. boot_phase c Booting) (sym goes))
+boot_step_of s me clean (what.SlotRead rank slot.Damaged) op timely goes next = some_none _ goes
+boot_step_of s me clean (what.SlotRead rank slot.Failed) op timely goes next = some_none _ goes
+boot_step_of s me clean (what.MailChecked seen) op timely goes next =
+    step_at me _ _ op _ _ (CheckStep seen) (some_same _ _ next) (ap (λ c. boot_phase c Booting) (sym goes))
+boot_step_of s me clean (what.Claimed true) op timely goes next = step_at me _ _ op _ _ ClaimStep (some_same _ _ next) refl
+boot_step_of s me clean (what.Claimed false) op timely goes next = some_none _ goes
+boot_step_of s me clean (what.Cleared true) op timely goes next = step_at me _ _ op _ _ ClearStep (some_same _ _ next) refl
+boot_step_of s me clean (what.Cleared false) op timely goes next = some_none _ goes
+boot_step_of s me clean (what.MailRead seen) op timely goes next = none_some op next
+boot_step_of s me clean (what.MailWritten rank ok) op timely goes next = none_some op next
+boot_step_of s me clean (what.View installed) op timely goes next = none_some op next
+boot_step_of s me clean (what.Ask ask) op timely goes next = none_some op next
+boot_step_of s me clean (what.Tell tell) op timely goes next = none_some op next
+boot_step_of s me clean (what.Device agrees) op timely goes next = none_some op next
+boot_step_of s me clean what.Tick op timely goes next = none_some op next
+boot_step_of s me clean (what.Stopped ok) op timely goes next = none_some op next
+boot_step_of s me clean what.Leave op timely goes next = none_some op next
+boot_step_of s me clean (what.Closed ok) op timely goes next = none_some op next
 
-step_apt : (me : ℕ) (entry : What) (op : DiskOp) (p : Phase) → BootStep me entry op p → is_apt (Some op) p ≡ true
-step_apt me entry op p BeginStep = refl
+step_apt : {number : ℕ} (me : ℕ) (entry : What) (op : DiskOp) (p : Phase) → BootStep me number entry op p → is_apt (Some op) p ≡ true
+step_apt me entry op p (BeginStep clean) = refl
 step_apt me entry op p (HeaderStep seen) = refl
 step_apt me entry op p (SlotStep rank own) = refl
+step_apt me entry op p (CleanSlotStep rank own) = refl
+step_apt me entry op p (CheckStep seen) = refl
 step_apt me entry op p ClaimStep = refl
 step_apt me entry op p ClearStep = refl
 
@@ -258,9 +295,12 @@ pub lives_on : (s : Settings) (me : ℕ) (past : List Line) (entry : What) (time
     → is_apt (op_out past) (phase s past) ≡ true → is_live (phase s past) ≡ true → deadly_of (message_of entry) ≡ None → is_closed entry ≡ false
     → is_live (next_phase s entry timely (phase s past)) ≡ true
 lives_on s me past what.Begin timely fit apt live none open' = absurd (false≢true (ap is_live (sym (first_boots s past fit)) ∙ live))
+lives_on s me past what.BeginClean timely fit apt live none open' = absurd (false≢true (ap is_live (sym (first_boots s past fit)) ∙ live))
 lives_on s me past (what.Header seen) timely fit apt live none open' =
     absurd (false≢true (live_out (phase s past) (op_out past) disk.ReadHeader live apt (header_answers (op_out past) seen fit)))
 lives_on s me past (what.SlotRead rank seen) timely fit apt live none open' = live_stays (phase s past) (slot_halt seen) live
+lives_on s me past (what.MailChecked seen) timely fit apt live none open' =
+    absurd (false≢true (live_out (phase s past) (op_out past) disk.CheckMail live apt (check_answers (op_out past) seen fit)))
 lives_on s me past (what.Claimed ok) timely fit apt live none open' =
     let claim = claimed_answers (op_out past) ok fit in
     absurd (false≢true (live_out (phase s past) (op_out past) (disk.WriteClaim claim.0) live apt claim.1))
@@ -287,6 +327,7 @@ state_apt s log disk.ReadMail live state = by_live (phase s log) live
     by_live Dying e = absurd (false≢true e)
     by_live Gone e = absurd (false≢true e)
 state_apt s log (disk.ReadSlot rank) live state = subst (λ p. is_apt (Some (disk.ReadSlot rank)) p ≡ true) (sym (up_is (phase s log) state.0)) refl
+state_apt s log disk.CheckMail live state = absurd state
 state_apt s log (disk.WriteReset rank) live state = subst (λ p. is_apt (Some (disk.WriteReset rank)) p ≡ true) (sym (up_is (phase s log) state.0)) refl
 state_apt s log (disk.WriteClose number) live state = subst (λ p. is_apt (Some (disk.WriteClose number)) p ≡ true) (sym (leaving_is (phase s log) state.0)) refl
 state_apt s log disk.ReadHeader live state = absurd state
@@ -299,7 +340,7 @@ apt_given : (s : Settings) (me : ℕ) (line : Line) (past : List Line) (op : Dis
 unfolding phase
 apt_given s me line past op it apt (inl boots) =
     subst (λ p. is_apt (Some op) (next_phase s line.what (in_time line.tick past) p) ≡ true) (sym (booting_is (phase s past) boots.booting))
-    (step_apt me line.what op _ (boot_step_of s me line.what op (in_time line.tick past) boots.goes_on boots.next))
+    (step_apt me line.what op _ (boot_step_of s me _ line.what op (in_time line.tick past) boots.goes_on boots.next))
 apt_given s me line past op it apt (inr lives) =
     state_apt s (before_outs line past) op (lives_on s me past line.what (in_time line.tick past) it.fitting apt lives.live lives.lives_on lives.not_closed) lives.state
 

@@ -1,4 +1,4 @@
--- What holds of a node where no condition of a start lacks.
+-- What holds of a node where no condition blocks a start.
 use Rattle.std.proofs.Common.{◌≡◌, ℕ, ◌<◌, ◌≤◌, Bool, true, false, List, length, Some, None, Option, refl, ap, arith, ◌&&◌, ◌==◌, not, if◌then◌else◌, ◌⊎◌, inl, inr, is_none}
 use Rattle.std.specs.Option.{option_map_or}
 use Rattle.std.proofs.lemmas.Bool.{false≢true, true≢false, cases_lt, eqb-true, ne_eqb}
@@ -7,7 +7,7 @@ use Rattle.qn_model.specs.declared.life.Why.TheVariants as why
 use Rattle.qn_model.specs.Log.{Line}
 use Rattle.qn_model.specs.Phases.{phase, is_up}
 use Rattle.qn_model.specs.Holding.{holds}
-use Rattle.qn_model.specs.NodeVotes.{view, is_in_view, released, quorate}
+use Rattle.qn_model.specs.NodeVotes.{view, is_in_view, released, quorate_with_tie}
 use Rattle.qn_model.specs.Hearing.{is_free, is_held}
 use Rattle.qn_model.specs.Licences.{is_licensed, is_written, left_to_wait}
 use Rattle.qn_model.specs.Unmet.{unmet, is_clear, id_of, chosen, holder, unheard, unfenced, or_else, other_chosen}
@@ -86,11 +86,11 @@ licensed_of true licensed i e = absurd (true≢false i)
 another : (j me : ℕ) → ¬ (j ≡ me) → not (j == me) ≡ true
 another j me differs = ap not (ne_eqb j me differs)
 
--- a start comes only where nothing lacks
+-- a start comes only where nothing blocks it
 pub why_clear : (s : Settings) (me : ℕ) (log : List Line) (tick : ℕ) → is_clear (unmet s me log tick) ≡ true → IsClear s me log tick
 unfolding unmet
 why_clear s me log tick e =
-    let parts = clear_cases s log tick _ _ (is_up (phase s log)) (holds log) (is_none (view log)) (released s log) (quorate s log tick)
+    let parts = clear_cases s log tick _ _ (is_up (phase s log)) (holds log) (is_none (view log)) (released s log) (quorate_with_tie s log tick)
     (other_chosen s me log) (holder s me log) (unheard s me log) (unfenced s log tick) e in
     record {
       up = parts.is_up;

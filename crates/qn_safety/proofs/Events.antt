@@ -65,8 +65,10 @@ answer_unsent : (s : Settings) (r : ℕ) (op : Option DiskOp) (entry : What) (ms
 answer_unsent s r op (what.Ask ask) ms e = clash (answers_op op (what.Ask ask)) e (plain_no_answer op (what.Ask ask) refl)
 answer_unsent s r op (what.Tell tell) ms e = clash (answers_op op (what.Tell tell)) e (plain_no_answer op (what.Tell tell) refl)
 answer_unsent s r op what.Begin ms e = tt
+answer_unsent s r op what.BeginClean ms e = tt
 answer_unsent s r op (what.Header seen) ms e = tt
 answer_unsent s r op (what.SlotRead other seen) ms e = tt
+answer_unsent s r op (what.MailChecked seen) ms e = tt
 answer_unsent s r op (what.Claimed ok) ms e = tt
 answer_unsent s r op (what.Cleared ok) ms e = tt
 answer_unsent s r op (what.MailRead seen) ms e = tt
@@ -98,6 +100,8 @@ ruled_step s t (event.Pass dt clocks) w form ok held ruled =
     OneRuled (λ rank below. in_range (λ r. passes t dt (advance_of dt clocks r) (time w.moments) (node s r w.moments)) (length s.nodes) 0 rank
     (and_right_of (list_all (λ clock. is_on s clock.0.0 w) clocks) _ may) (omega arith) (omega arith)) ruled
 ruled_step s t (event.Boot rank base) w form ok held ruled =
+    OneRuled (not_true (is_on s rank.0 w) (allows (not (is_on s rank.0 w)) 2 ok), ltb-true rank.0 (length s.nodes) (and_left_of (is_configured s rank.0) (nat_le base 1000000000000000) form)) ruled
+ruled_step s t (event.BootClean rank base) w form ok held ruled =
     OneRuled (not_true (is_on s rank.0 w) (allows (not (is_on s rank.0 w)) 2 ok), ltb-true rank.0 (length s.nodes) (and_left_of (is_configured s rank.0) (nat_le base 1000000000000000) form)) ruled
 ruled_step s t (event.Crash rank) w form ok held ruled = OneRuled (running_allows (is_on s rank.0 w) 3 ok) ruled
 ruled_step s t (event.Land rank) w form ok held ruled = by_op (op_at s rank.0 w)
@@ -138,6 +142,7 @@ ruled_step s t (event.Feed rank) w form ok held ruled =
     let rules = both_allow (is_on s rank.0 w) (may_feed s t rank.0 w) 3 9 ok in
     let fed = test_there (λ decided. nat_le (time w.moments) (decided + t.feed_delay)) (node s rank.0 w.moments).decided rules.1 in
     OneRuled (record { on = rules.0; at = fed.0; decided = fed.1; in_time = leb-true (time w.moments) (fed.0 + t.feed_delay) fed.2 }) ruled
+ruled_step s t (event.Operator rank message) w form ok held ruled = ruled
 
 -- the rules hold of the moments of a run, and each seat is held
 pub record Stage (s : Settings) (t : Timing) (events : List Event) : Type 0 where
@@ -174,6 +179,9 @@ effect_at {s = s} {t = t} {e = e} {earlier = earlier} j (OneEvent form ok allowe
 pub earlier_allowed : {s : Settings} {t : Timing} {e : Event} {earlier : List Event} → IsAllowed s t (e ∷ earlier) → IsAllowed s t earlier
 earlier_allowed (OneEvent form ok allowed) = allowed
 
+pub newest_allowed : {s : Settings} {t : Timing} {e : Event} {earlier : List Event} → IsAllowed s t (e ∷ earlier) → refusal s t e (run s t earlier) ≡ None
+newest_allowed (OneEvent form ok allowed) = ok
+
 -- an event adds one moment or none
 pub Grows : List Moment → List Moment → Type 0
 Grows ms ms' = (ms' ≡ ms) ⊎ ((m : Moment) × (ms' ≡ m ∷ ms))
@@ -182,6 +190,7 @@ grows_step : (s : Settings) (t : Timing) (e : Event) (w : World) → Grows w.mom
 unfolding step Grows
 grows_step s t (event.Pass dt clocks) w = inr (_, refl)
 grows_step s t (event.Boot rank base) w = inr (_, refl)
+grows_step s t (event.BootClean rank base) w = inr (_, refl)
 grows_step s t (event.Crash rank) w = inr (_, refl)
 grows_step s t (event.Land rank) w = by_op (op_at s rank.0 w)
   where
@@ -215,6 +224,7 @@ grows_step s t (event.Stopped rank) w = inr (_, refl)
 grows_step s t (event.Unstopped rank) w = inr (_, refl)
 grows_step s t (event.Leave rank) w = inr (_, refl)
 grows_step s t (event.Feed rank) w = inr (_, refl)
+grows_step s t (event.Operator rank message) w = inl refl
 
 pub grows : (s : Settings) (t : Timing) (e : Event) (earlier : List Event)
     → ((run s t (e ∷ earlier)).moments ≡ (run s t earlier).moments) ⊎ ((m : Moment) × ((run s t (e ∷ earlier)).moments ≡ m ∷ (run s t earlier).moments))

@@ -31,7 +31,9 @@ use Rattle.qn_safety.proofs.Landings.{LandedAt, landed_at, AddedBy, added_by, Li
 times_answer : (entry : What) (times : Timing) → times_of entry ≡ Some times → is_answer entry ≡ true
 times_answer (what.Header seen) times e = refl
 times_answer what.Begin times e = none_some times e
+times_answer what.BeginClean times e = none_some times e
 times_answer (what.SlotRead other seen) times e = refl
+times_answer (what.MailChecked seen) times e = refl
 times_answer (what.Claimed ok) times e = refl
 times_answer (what.Cleared ok) times e = refl
 times_answer (what.MailRead seen) times e = refl
@@ -49,6 +51,7 @@ failed_times : (op : DiskOp) → times_of (failed op) ≡ None
 unfolding failed
 failed_times disk.ReadHeader = refl
 failed_times (disk.ReadSlot other) = refl
+failed_times disk.CheckMail = refl
 failed_times (disk.WriteClaim number) = refl
 failed_times disk.WriteClear = refl
 failed_times disk.ReadMail = refl
@@ -59,6 +62,7 @@ taken_times : (s : Settings) (t : Timing) (j : ℕ) (op : DiskOp) (w : World) (t
 unfolding taken
 taken_times s t j disk.ReadHeader w times e = sym (some_same _ _ e)
 taken_times s t j (disk.ReadSlot other) w times e = none_some times e
+taken_times s t j disk.CheckMail w times e = none_some times e
 taken_times s t j (disk.WriteClaim number) w times e = none_some times e
 taken_times s t j disk.WriteClear w times e = none_some times e
 taken_times s t j disk.ReadMail w times e = none_some times e
@@ -110,6 +114,7 @@ between_of {s = s} {t = t} j line past before allowed added it land =
 failed_unread : (j : ℕ) (op : DiskOp) → reads_slot is_clean_slot j (failed op) ≡ true → ⊥
 unfolding failed
 failed_unread j (disk.ReadSlot other) e = false≢true (and_right_of (other.0 == j) false e)
+failed_unread j disk.CheckMail e = false≢true e
 failed_unread j disk.ReadHeader e = false≢true e
 failed_unread j (disk.WriteClaim number) e = false≢true e
 failed_unread j disk.WriteClear e = false≢true e
@@ -122,6 +127,7 @@ unfolding taken
 taken_clean s t i j (disk.ReadSlot other) w e =
     subst (λ r. (w.slots r).clean ≡ true) (eqb-true other.0 j (and_left_of (other.0 == j) (w.slots other.0).clean e)) (and_right_of (other.0 == j) (w.slots other.0).clean e)
 taken_clean s t i j disk.ReadHeader w e = absurd (false≢true e)
+taken_clean s t i j disk.CheckMail w e = absurd (false≢true e)
 taken_clean s t i j (disk.WriteClaim number) w e = absurd (false≢true e)
 taken_clean s t i j disk.WriteClear w e = absurd (false≢true e)
 taken_clean s t i j disk.ReadMail w e = absurd (false≢true e)

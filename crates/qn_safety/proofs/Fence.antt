@@ -13,7 +13,7 @@ use Rattle.qn_model.specs.NodeOutputs.{mail_feeds, feeds_on, newest_outs}
 use Rattle.qn_model.specs.Moments.{Before, Itself, Later}
 use Rattle.qn_safety.proofs.Tools.{some_same, none_some, clash, and_left_of, and_right_of, before_then, before_shorter}
 use Rattle.qn_model.specs.Log as LogSpec
-use Rattle.qn_model.specs.Moments.{Moment, Adds, Running, tick_of, has_feed, logged, handed, booted, time, node}
+use Rattle.qn_model.specs.Moments.{Moment, Adds, Running, tick_of, has_feed, logged, handed, begin_of, booted, time, node}
 use Rattle.qn_safety.specs.Timed.{IsUp, IsSameBoot, IsRuled, AllRuled, GetsBadMail, IsAdded, IsTimedRun}
 use Rattle.std.proofs.lemmas.List.Elements.{All-head, All-tail}
 use Rattle.qn_model.specs.Timing.{is_safe, has_periods, outlasts_feeds}
@@ -32,8 +32,9 @@ ticks_sorted (OneMore it made) (Later newest more) = let rest = ticks_sorted mad
 pub added_then : {s : Settings} {i : ℕ} {line : Line} {past : List Line} {before mid all : List Moment} → IsAdded s i line past before mid → Before mid all → IsAdded s i line past before all
 added_then added back = record { entry = added.entry; back = before_then added.back back; gave = added.gave }
 
-no_begin_times : (entry : What) (times : Timing) → entry ≡ what.Begin → times_of entry ≡ Some times → ⊥
-no_begin_times entry times begins gives = none_some {P = ⊥} times (sym (ap times_of begins) ∙ gives)
+no_begin_times : (clean : Bool) (entry : What) (times : Timing) → entry ≡ begin_of clean → times_of entry ≡ Some times → ⊥
+no_begin_times false entry times begins gives = none_some {P = ⊥} times (sym (ap times_of begins) ∙ gives)
+no_begin_times true entry times begins gives = none_some {P = ⊥} times (sym (ap times_of begins) ∙ gives)
 
 -- a node that is up works with the timing of the run
 pub timing_up : {s : Settings} {t : Timing} {all : List Moment} (run : IsTimedRun s t all) (i : ℕ) (p : List Moment) → Before p all → IsUp s i p → timing (node s i p).log ≡ t
@@ -46,7 +47,7 @@ timing_up {s = s} {t = t} {all = all} run i p back up =
       where
         by_origin : Origin s i line past p → times ≡ t
         by_origin (ByEntry before added same) = run.headers i line past before times (added_then added back) gives
-        by_origin (ByBoot begins first) = absurd (no_begin_times line.what times begins gives)
+        by_origin (ByBoot clean begins first) = absurd (no_begin_times clean line.what times begins gives)
 
 pub feed_is : (P : Out → Type 0) (outs : List Out) → All P outs → has_feed outs ≡ true → P out.Feed
 feed_is P [] p e = absurd (false≢true e)
@@ -62,11 +63,13 @@ pub mail_is_answer : (entry : What) → feeds_on (message_of entry) ≡ true →
 mail_is_answer (what.MailRead seen) e = refl
 mail_is_answer (what.Header seen) e = refl
 mail_is_answer (what.SlotRead other seen) e = refl
+mail_is_answer (what.MailChecked seen) e = refl
 mail_is_answer (what.Claimed ok) e = refl
 mail_is_answer (what.Cleared ok) e = refl
 mail_is_answer (what.MailWritten other ok) e = refl
 mail_is_answer (what.Closed ok) e = refl
 mail_is_answer what.Begin e = absurd (false≢true e)
+mail_is_answer what.BeginClean e = absurd (false≢true e)
 mail_is_answer (what.View installed) e = absurd (false≢true e)
 mail_is_answer (what.Ask ask) e = absurd (false≢true e)
 mail_is_answer (what.Tell tell) e = absurd (false≢true e)
@@ -153,10 +156,10 @@ module _ {s : Settings} {t : Timing} {all : List Moment} (run : IsTimedRun s t a
       record { decided = λ d is. was.decided d (sym (ap (λ n. n.decided) e) ∙ is); fed = let q = ap (λ n. n.fed) e in let f = was.fed in omega arith }
   last_feeds_turn new moment (IsPass dt clocks e at) rule back since same boots on was =
       record { decided = λ d is. was.decided d (sym (ap (λ n. n.decided) e) ∙ is); fed = let q = ap (λ n. n.fed) e in let f = was.fed in omega arith }
-  last_feeds_turn new moment (IsBoot base e at) rule back since same boots on was =
+  last_feeds_turn new moment (IsBoot base clean e at) rule back since same boots on was =
       absurd (let q = ap (λ n. n.boots) e ∙ booted_once (node s j new) in omega arith)
     where
-      booted_once : (n : Running) → (booted s j (time new) base n).boots ≡ suc n.boots
+      booted_once : (n : Running) → (booted s j (time new) base clean n).boots ≡ suc n.boots
       booted_once n = unfold booted handed logged in refl
   last_feeds_turn new moment (IsFeed e at) rule back since same boots on was =
       record {

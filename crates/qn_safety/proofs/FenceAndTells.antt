@@ -17,7 +17,7 @@ use Rattle.qn_safety.specs.Timed.{AllRuled, IsBetween, GetsBadMail, IsAdded, IsT
 use Rattle.qn_model.specs.Timing.{is_safe}
 use Rattle.qn_safety.specs.Lemmas.{HasEnded, HasWaited, HasStartedAfter, TellSays}
 use Rattle.qn_safety.proofs.Runs.{ruled_before, newest_rule, earlier_ruled, span}
-use Rattle.qn_safety.proofs.Origins.{added_line}
+use Rattle.qn_safety.proofs.Origins.{added_line, contains}
 use Rattle.qn_safety.proofs.Fence.{fence}
 use Rattle.qn_safety.proofs.Licensed.{added_boots, holder_holds}
 use Rattle.qn_safety.proofs.Tells.{TellTrace, tell_trace}
@@ -58,6 +58,14 @@ pub tell_says : (s : Settings) (t : Timing) (moments : List Moment) (reader : �
 tell_says s t moments reader line past before tell run added reads answered = record {
   sent = sent;
   back = trace.added.back;
+  comes_out = record {
+    line = trace.line;
+    past = trace.past;
+    newest = trace.added.gave;
+    to = trace.to;
+    receives = trace.receives;
+    sends = contains trace.sends;
+  };
   shows = subst (λ log. is_present log tell.view ≡ true) (sym trace.added.gave) trace.shows;
   installed = asked;
   earlier = before_then trace.ask_added.back (Later (Adds j trace.added.entry) Itself);

@@ -16,7 +16,7 @@ use Rattle.qn_model.specs.Phases.{phase, next_phase, in_time}
 use Rattle.qn_model.specs.NodeVotes.{answers}
 use Rattle.qn_model.specs.Fitting.{answers_op}
 use Rattle.qn_safety.proofs.Tools.{some_same, none_some, not_true}
-use Rattle.qn_model.specs.Moments.{is_gone, node}
+use Rattle.qn_model.specs.Moments.{begin_of, is_gone, node}
 use Rattle.qn_model.specs.World.{World, first_world, taken, failed, is_write, given_up, numbered, without}
 use Rattle.std.proofs.Common.{append-nil}
 use Rattle.qn_safety.proofs.Logs.{Made, NoLine, IsLine, made_line}
@@ -50,6 +50,7 @@ reset_keeps : (mine : Slot) (op : DiskOp) → is_reset op ≡ true → KeepsNumb
 reset_keeps mine (disk.WriteReset rank) e = tt
 reset_keeps mine disk.ReadHeader e = tt
 reset_keeps mine (disk.ReadSlot rank) e = tt
+reset_keeps mine disk.CheckMail e = tt
 reset_keeps mine disk.WriteClear e = tt
 reset_keeps mine disk.ReadMail e = tt
 reset_keeps mine (disk.WriteClaim number) e = absurd (false≢true e)
@@ -59,6 +60,7 @@ pub reset_slot : (mine : Slot) (op : DiskOp) → is_reset op ≡ true → slot_a
 reset_slot mine (disk.WriteReset rank) e = refl
 reset_slot mine disk.ReadHeader e = refl
 reset_slot mine (disk.ReadSlot rank) e = refl
+reset_slot mine disk.CheckMail e = refl
 reset_slot mine disk.WriteClear e = refl
 reset_slot mine disk.ReadMail e = refl
 reset_slot mine (disk.WriteClaim number) e = absurd (false≢true e)
@@ -87,6 +89,7 @@ slot_keeps mine (disk.WriteClaim number) keeps = keeps
 slot_keeps mine (disk.WriteClose number) keeps = keeps
 slot_keeps mine disk.ReadHeader keeps = omega arith
 slot_keeps mine (disk.ReadSlot rank) keeps = omega arith
+slot_keeps mine disk.CheckMail keeps = omega arith
 slot_keeps mine disk.WriteClear keeps = omega arith
 slot_keeps mine disk.ReadMail keeps = omega arith
 slot_keeps mine (disk.WriteReset rank) keeps = omega arith
@@ -119,6 +122,7 @@ keeps_out {s = s} made mine was (disk.WriteClose number) out =
     let same = some_same _ _ (sym (was.numbered (booted_op made (disk.WriteClose number) out refl)) ∙ out_closes made number out) in omega arith
 keeps_out made mine was disk.ReadHeader out = tt
 keeps_out made mine was (disk.ReadSlot rank) out = tt
+keeps_out made mine was disk.CheckMail out = tt
 keeps_out made mine was disk.WriteClear out = tt
 keeps_out made mine was disk.ReadMail out = tt
 keeps_out made mine was (disk.WriteReset rank) out = tt
@@ -142,6 +146,7 @@ failed_reset s disk.WriteClear timely p writes living = absurd (true≢false liv
 failed_reset s (disk.WriteClose number) timely p writes living = absurd (true≢false living)
 failed_reset s disk.ReadHeader timely p writes living = absurd (false≢true writes)
 failed_reset s (disk.ReadSlot rank) timely p writes living = absurd (false≢true writes)
+failed_reset s disk.CheckMail timely p writes living = absurd (false≢true writes)
 failed_reset s disk.ReadMail timely p writes living = absurd (false≢true writes)
 
 resets_given : (left : List DiskOp) (op : DiskOp) (took : Option What) → AllResets left → (is_write op ≡ true → is_reset op ≡ true) → AllResets (left ++ given_up (Some op) took)
@@ -221,6 +226,7 @@ module _ (s : Settings) (t : Timing) (j : ℕ) (x : Seat) (made : Made s j x.log
       failed_read : (op : DiskOp) (rank : Rank) (own : Slot) → failed op ≡ what.SlotRead rank (slot.Read own) → ⊥
       failed_read disk.ReadHeader rank own e = absurd (unfold failed in cc)
       failed_read (disk.ReadSlot other) rank own e = absurd (unfold failed in cc)
+      failed_read disk.CheckMail rank own e = absurd (unfold failed in cc)
       failed_read (disk.WriteClaim number) rank own e = absurd (unfold failed in cc)
       failed_read disk.WriteClear rank own e = absurd (unfold failed in cc)
       failed_read disk.ReadMail rank own e = absurd (unfold failed in cc)
@@ -230,6 +236,7 @@ module _ (s : Settings) (t : Timing) (j : ℕ) (x : Seat) (made : Made s j x.log
       failed_claim : (op : DiskOp) → failed op ≡ what.Claimed true → ⊥
       failed_claim disk.ReadHeader e = absurd (unfold failed in cc)
       failed_claim (disk.ReadSlot other) e = absurd (unfold failed in cc)
+      failed_claim disk.CheckMail e = absurd (unfold failed in cc)
       failed_claim (disk.WriteClaim number) e = absurd (unfold failed in cc)
       failed_claim disk.WriteClear e = absurd (unfold failed in cc)
       failed_claim disk.ReadMail e = absurd (unfold failed in cc)
@@ -278,6 +285,10 @@ fresh_held s x = record {
   left_ok = tt;
 }
 
+pub begin_plain : (clean : Bool) → is_answer (begin_of clean) ≡ false
+begin_plain false = refl
+begin_plain true = refl
+
 -- each event keeps what is true of a seat
 pub held_effect : (s : Settings) (t : Timing) (j : ℕ) (w w' : World) → Effect s t j w w' → Made s j (node s j w.moments).log → Made s j (node s j w'.moments).log
     → Held s (seat_of s j w) → Held s (seat_of s j w')
@@ -288,8 +299,9 @@ held_effect s t j w w' (Answers tick entry on took e) made made' was =
     subst (λ x. Held s x) (sym e) (held_answers s t j (seat_of s j w) made was tick entry (subst (λ l. Made s j l) (ap (λ x. x.log) e) made') on took)
 held_effect s t j w w' (Fails tick op on out e) made made' was =
     subst (λ x. Held s x) (sym e) (held_fails s t j (seat_of s j w) made was tick op (subst (λ l. Made s j l) (ap (λ x. x.log) e) made') on out)
-held_effect s t j w w' (BootsUp tick off e) made made' was =
-    subst (λ x. Held s x) (sym e) (held_enters s t j (fresh (seat_of s j w)) NoLine (fresh_held s (seat_of s j w)) tick what.Begin (subst (λ l. Made s j l) (ap (λ x. x.log) e) made') refl refl)
+held_effect s t j w w' (BootsUp tick clean off e) made made' was =
+    subst (λ x. Held s x) (sym e)
+    (held_enters s t j (fresh (seat_of s j w)) NoLine (fresh_held s (seat_of s j w)) tick (begin_of clean) (subst (λ l. Made s j l) (ap (λ x. x.log) e) made') refl (begin_plain clean))
 held_effect s t j w w' (GoesOff on e) made made' was = subst (λ x. Held s x) (sym e) (held_ends s t j (seat_of s j w) made was on)
 held_effect s t j w w' (Lands op on out none all e) made made' was = subst (λ x. Held s x) (sym e) (held_lands s t j (seat_of s j w) made was op w on out none refl)
 held_effect s t j w w' (LandsLate number op there e) made made' was = subst (λ x. Held s x) (sym e) (held_late s t j (seat_of s j w) made was number op there)

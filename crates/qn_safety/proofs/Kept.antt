@@ -1,11 +1,12 @@
 -- What is always true of the slot of a node, of its operation that is out and of its leftovers.
-use Rattle.std.proofs.Common.{◌≡◌, ℕ, suc, Bool, true, false, List, [], ◌∷◌, Some, None, Option, refl, sym, ap, ◌∙◌, subst, arith, ◌&&◌, ◌⊎◌, inl, inr, is_some}
+use Rattle.std.proofs.Common.{◌≡◌, ℕ, suc, Bool, true, false, List, [], ◌∷◌, Some, None, Option, refl, sym, ap, ◌∙◌, subst, arith, ◌&&◌, ◌⊎◌, inl, inr, is_some, unwrap_or}
 use Rattle.std.specs.Option.{option_or}
 use Rattle.std.proofs.lemmas.Bool.{false≢true, true≢false, eq-eqb}
 use Rattle.qn_base.specs.declared.ids.Rank.{Rank}
 use Rattle.qn_model.specs.declared.configuration.Settings.{Settings}
 use Rattle.qn_model.specs.declared.times.Timing.{Timing}
 use Rattle.qn_model.specs.declared.disk.Slot.{Slot}
+use Rattle.qn_model.specs.declared.seen.MailSeen.{MailSeen}
 use Rattle.qn_model.specs.declared.seen.SlotSeen.TheVariants as slot
 use Rattle.qn_model.specs.declared.entries.What.{What}
 use Rattle.qn_model.specs.declared.entries.What.TheVariants as what
@@ -13,7 +14,7 @@ use Rattle.qn_model.specs.declared.life.Phase.{Phase}
 use Rattle.qn_model.specs.declared.life.Phase.TheVariants.{Booting, Up, Leaving, Dying, Gone}
 use Rattle.qn_model.specs.declared.outputs.DiskOp.{DiskOp}
 use Rattle.qn_model.specs.declared.outputs.DiskOp.TheVariants as disk
-use Rattle.qn_model.specs.Log.{Line, op_out, claimed, claim_of, disk_of, is_answer}
+use Rattle.qn_model.specs.Log.{Line, op_out, claimed, claim_of, disk_of, is_answer, number_read, slot_number}
 use Rattle.qn_model.specs.Phases.{phase, in_time, is_booting}
 use Rattle.qn_model.specs.Hearing.{told}
 use Rattle.qn_model.specs.Fitting.{answers_op}
@@ -22,11 +23,11 @@ use Rattle.qn_model.specs.Moments.{is_gone, booted}
 use Rattle.qn_safety.specs.Closing.{is_close}
 use Rattle.qn_model.specs.World.{World, taken, failed}
 use Rattle.qn_safety.proofs.Logs.{Made, IsLine, answers_out}
-use Rattle.qn_safety.proofs.Apt.{is_apt, apt, booting_is}
+use Rattle.qn_safety.proofs.Apt.{is_apt, apt, check_answers, claimed_answers}
 use Rattle.qn_safety.proofs.Stays.{boot_past, op_kept, gives_none}
 use Rattle.qn_safety.proofs.Times.{boot_tick}
-use Rattle.qn_safety.proofs.Numbers.{claim_given, claimed_same}
-use Rattle.qn_safety.proofs.Outs.{out_cases, out_claims, out_closes, own_slot_out, clear_given, claimed_by_clear, no_close_out, comes_up}
+use Rattle.qn_safety.proofs.Numbers.{NumberFrom, BySlot, ByCheck, ClaimGiven, claim_given, claimed_same, number_kept}
+use Rattle.qn_safety.proofs.Outs.{out_cases, out_claims, out_closes, own_slot_out, clear_given, check_given, claimed_by_clear, no_close_out, comes_up}
 use Rattle.qn_safety.proofs.Seats.{slot_after}
 
 -- the slot of a node that runs
@@ -37,6 +38,8 @@ pub record Kept (s : Settings) (log : List Line) (took : Option What) (mine : Sl
   pub numbered : is_booting (phase s log) ≡ false → claimed log ≡ Some mine.incarnation
   -- the read of the own slot in the boot gave what the slot still has
   pub reading : (rank : Rank) (own : Slot) → is_booting (phase s log) ≡ true → took ≡ Some (what.SlotRead rank (slot.Read own)) → own.incarnation ≡ mine.incarnation
+  -- while a clean start checks its mailbox, the slot has the number that was read
+  pub checking : op_out log ≡ Some disk.CheckMail → slot_number log ≡ mine.incarnation
   -- a claim is one more than the slot has until it lands, and then it is what the slot has
   pub claim_waits : (number : ℕ) → op_out log ≡ Some (disk.WriteClaim number) → took ≡ None → suc mine.incarnation ≡ number
   pub claim_landed : (number : ℕ) (v : What) → op_out log ≡ Some (disk.WriteClaim number) → took ≡ Some v → (mine.clean ≡ false) × (mine.incarnation ≡ number)
@@ -49,6 +52,7 @@ first_kept s mine = record {
   dirty = λ booted open'. absurd (true≢false booted);
   numbered = λ booted. absurd (true≢false booted);
   reading = λ rank own booting e. none_some _ e;
+  checking = λ e. none_some _ e;
   claim_waits = λ number e none. none_some _ e;
   claim_landed = λ number v e some. none_some _ e;
   clearing = λ e. none_some _ e;
@@ -80,13 +84,36 @@ same_claim : (line : Line) (past : List Line) → disk_of line.outs ≡ None →
 unfolding claimed
 same_claim line past none = ap (λ o. option_or (claim_of o) (claimed past)) none
 
+-- what answers nothing reads no slot
+plain_number : (entry : What) → is_answer entry ≡ false → number_read entry ≡ None
+plain_number (what.SlotRead rank seen) is = absurd (true≢false is)
+plain_number entry is = refl
+
+number_of_read : (line : Line) (past : List Line) (rank : Rank) (own : Slot) → line.what ≡ what.SlotRead rank (slot.Read own) → slot_number (line ∷ past) ≡ own.incarnation
+unfolding slot_number
+number_of_read line past rank own reads = ap (λ entry. unwrap_or (number_read entry) (slot_number past)) reads
+
 module _ {s : Settings} {me : ℕ} {line : Line} {past : List Line} (it : IsLine s me line past) (made : Made s me past) (took : Option What) (mine : Slot) (was : Kept s past took mine) where
+  -- a claim that an answer gives is one more than the slot has
+  pub claim_next : ((rank : Rank) (own : Slot) → is_booting (phase s past) ≡ true → line.what ≡ what.SlotRead rank (slot.Read own) → own.incarnation ≡ mine.incarnation)
+      → (number : ℕ) → ClaimGiven s line past number → suc mine.incarnation ≡ number
+  claim_next told number claim = by_source claim.from
+    where
+      check_out : (seen : MailSeen) → line.what ≡ what.MailChecked seen → op_out past ≡ Some disk.CheckMail
+      check_out seen reads =
+          check_answers (op_out past) seen (subst (λ entry. answers_op (op_out past) entry ≡ true) reads (answers_out s me past line.what claim.answers it.fitting))
+
+      by_source : NumberFrom line.what (slot_number past) number → suc mine.incarnation ≡ number
+      by_source (BySlot rank own reads next) = let same = told rank own (booting_back it claim.booting) reads in omega arith
+      by_source (ByCheck seen reads next) = let same = was.checking (check_out seen reads) in omega arith
+
   -- an entry that answers nothing
   pub kept_enter : is_answer line.what ≡ false → ((v : What) → took ≡ Some v → answers_op (op_out past) v ≡ true) → Kept s (line ∷ past) took mine
   kept_enter plain waits = record {
     dirty = λ booted open'. was.dirty (booted_back it plain booted) (open_before took refl open');
     numbered = λ booted. claimed_same it booted ∙ was.numbered (booted_back it plain booted);
     reading = λ rank own booting e. was.reading rank own (booting_back it booting) e;
+    checking = λ e. number_kept line past (plain_number line.what plain) ∙ was.checking (op_before disk.CheckMail e no_check);
     claim_waits = λ number e none. was.claim_waits number (op_before (disk.WriteClaim number) e (no_claim number)) none;
     claim_landed = λ number v e some. was.claim_landed number v (op_before (disk.WriteClaim number) e (no_claim number)) some;
     clearing = λ e.
@@ -96,7 +123,10 @@ module _ {s : Settings} {me : ℕ} {line : Line} {past : List Line} (it : IsLine
   }
     where
       no_claim : (number : ℕ) → disk_of line.outs ≡ Some (disk.WriteClaim number) → ⊥
-      no_claim number gave = true≢false (sym (ap is_answer ((claim_given it number gave).reads)) ∙ plain)
+      no_claim number gave = true≢false (sym ((claim_given it number gave).answers) ∙ plain)
+
+      no_check : disk_of line.outs ≡ Some disk.CheckMail → ⊥
+      no_check gave = true≢false (sym (ap is_answer ((check_given it gave).reads)) ∙ plain)
 
       no_clear : disk_of line.outs ≡ Some disk.WriteClear → ⊥
       no_clear gave = true≢false (sym (ap is_answer (clear_given it gave)) ∙ plain)
@@ -127,7 +157,8 @@ module _ {s : Settings} {me : ℕ} {line : Line} {past : List Line} (it : IsLine
     dirty = λ booted open'. (up_now booted).0;
     numbered = λ booted. claimed_same it booted ∙ (up_now booted).1;
     reading = λ rank own booting e. none_some _ e;
-    claim_waits = λ number e none. next_claim number (given (disk.WriteClaim number) e);
+    checking = λ e. after_read (given disk.CheckMail e);
+    claim_waits = λ number e none. claim_next told number (claim_given it number (given (disk.WriteClaim number) e));
     claim_landed = λ number v e some. none_some v some;
     clearing = λ e. after_claim (given disk.WriteClear e);
   }
@@ -149,17 +180,15 @@ module _ {s : Settings} {me : ℕ} {line : Line} {past : List Line} (it : IsLine
           by_phase true e = was.clearing (comes_up it made is e booted living)
           by_phase false e = (was.dirty e (ap (λ b. b && is_some took) (no_close_out s line past answers living)), was.numbered e)
 
-      next_claim : (number : ℕ) → disk_of line.outs ≡ Some (disk.WriteClaim number) → suc mine.incarnation ≡ number
-      next_claim number gave =
-          let claim = claim_given it number gave in
-          let same = told claim.rank claim.own (booting_back it claim.booting) claim.reads in
-          let next = claim.next in
-          omega arith
+      after_read : disk_of line.outs ≡ Some disk.CheckMail → slot_number (line ∷ past) ≡ mine.incarnation
+      after_read gave =
+          let check = check_given it gave in
+          number_of_read line past check.rank check.own check.reads ∙ told check.rank check.own check.booting check.reads
 
       after_claim : disk_of line.outs ≡ Some disk.WriteClear → (mine.clean ≡ false) × (claimed (line ∷ past) ≡ Some mine.incarnation)
       after_claim gave =
           let claimed_it = clear_given it gave in
-          let out = Rattle.qn_safety.proofs.Apt.claimed_answers (op_out past) true (subst (λ w. answers_op (op_out past) w ≡ true) claimed_it answers) in
+          let out = claimed_answers (op_out past) true (subst (λ w. answers_op (op_out past) w ≡ true) claimed_it answers) in
           let landed' = done out.0 out.1 claimed_it in
           (landed'.0, claimed_by_clear line past gave ∙ out_claims made out.0 out.1 ∙ ap Some (sym landed'.1))
 
@@ -168,6 +197,7 @@ pub taken_answers : (s : Settings) (t : Timing) (rank : ℕ) (op : DiskOp) (w : 
 unfolding taken
 taken_answers s t rank disk.ReadHeader w = refl
 taken_answers s t rank (disk.ReadSlot other) w = eq-eqb other.0 other.0 refl
+taken_answers s t rank disk.CheckMail w = refl
 taken_answers s t rank (disk.WriteClaim number) w = refl
 taken_answers s t rank disk.WriteClear w = refl
 taken_answers s t rank disk.ReadMail w = refl
@@ -178,6 +208,7 @@ pub failed_answers : (op : DiskOp) → answers_op (Some op) (failed op) ≡ true
 unfolding failed
 failed_answers disk.ReadHeader = refl
 failed_answers (disk.ReadSlot other) = eq-eqb other.0 other.0 refl
+failed_answers disk.CheckMail = refl
 failed_answers (disk.WriteClaim number) = refl
 failed_answers disk.WriteClear = refl
 failed_answers disk.ReadMail = refl
@@ -214,6 +245,7 @@ module _ {s : Settings} {me : ℕ} {log : List Line} (made : Made s me log) (min
     dirty = λ booted open'. was.dirty booted (ap (λ o. is_close o && false) out ∙ ap (λ b. b && false) no_close);
     numbered = was.numbered;
     reading = λ rank own booting e. told rank own booting (some_same _ _ e);
+    checking = was.checking;
     claim_waits = λ number e none. some_none v none;
     claim_landed = λ number u e some. absurd (no_claim number (some_same _ _ (sym out ∙ e)));
     clearing = was.clearing;
@@ -229,6 +261,7 @@ module _ {s : Settings} {me : ℕ} {log : List Line} (made : Made s me log) (min
       own_read_value rank own booting e =
           let value : own ≡ w.slots other.0 = cc in
           ap (λ x. x.incarnation) (value ∙ ap w.slots (sym (own_slot_out made other out booting)) ∙ own_slot)
+  kept_land t disk.CheckMail w out own_slot = land_plain disk.CheckMail _ out refl (λ number e. cc) (λ rank own booting e. absurd (cc))
   kept_land t disk.ReadMail w out own_slot = land_plain disk.ReadMail _ out refl (λ number e. cc) (λ rank own booting e. absurd (cc))
   kept_land t disk.WriteClear w out own_slot = land_plain disk.WriteClear _ out refl (λ number e. cc) (λ rank own booting e. absurd (cc))
   kept_land t (disk.WriteReset other) w out own_slot = land_plain (disk.WriteReset other) _ out refl (λ number e. cc) (λ rank own booting e. absurd (cc))
@@ -236,6 +269,7 @@ module _ {s : Settings} {me : ℕ} {log : List Line} (made : Made s me log) (min
     dirty = λ booted open'. clash (is_booting (phase s log)) (booting_op made (disk.WriteClaim number) out refl refl) booted;
     numbered = λ booted. clash (is_booting (phase s log)) (booting_op made (disk.WriteClaim number) out refl refl) booted;
     reading = λ rank own booting e. claimed_read rank own (some_same _ _ e);
+    checking = λ e. absurd (claim_check (some_same _ _ (sym out ∙ e)));
     claim_waits = λ n e none. some_none _ none;
     claim_landed = λ n v e some. (refl, same_number n (some_same _ _ (sym out ∙ e)));
     clearing = λ e. absurd (claim_clear (some_same _ _ (sym out ∙ e)));
@@ -247,12 +281,16 @@ module _ {s : Settings} {me : ℕ} {log : List Line} (made : Made s me log) (min
       same_number : (n : ℕ) → disk.WriteClaim number ≡ disk.WriteClaim n → number ≡ n
       same_number n e = cc
 
+      claim_check : disk.WriteClaim number ≡ disk.CheckMail → ⊥
+      claim_check e = cc
+
       claim_clear : disk.WriteClaim number ≡ disk.WriteClear → ⊥
       claim_clear e = cc
   kept_land t (disk.WriteClose number) w out own_slot = record {
     dirty = λ booted open'. absurd (true≢false (sym (ap (λ o. is_close o && true) out) ∙ open'));
     numbered = λ booted. out_closes made number out;
     reading = λ rank own booting e. clash (is_booting (phase s log)) booting (booted_op made (disk.WriteClose number) out refl);
+    checking = λ e. absurd (close_check (some_same _ _ (sym out ∙ e)));
     claim_waits = λ n e none. absurd (close_claim n (some_same _ _ (sym out ∙ e)));
     claim_landed = λ n v e some. absurd (close_claim n (some_same _ _ (sym out ∙ e)));
     clearing = λ e. absurd (close_clear (some_same _ _ (sym out ∙ e)));
@@ -260,6 +298,9 @@ module _ {s : Settings} {me : ℕ} {log : List Line} (made : Made s me log) (min
     where
       close_claim : (n : ℕ) → disk.WriteClose number ≡ disk.WriteClaim n → ⊥
       close_claim n e = cc
+
+      close_check : disk.WriteClose number ≡ disk.CheckMail → ⊥
+      close_check e = cc
 
       close_clear : disk.WriteClose number ≡ disk.WriteClear → ⊥
       close_clear e = cc

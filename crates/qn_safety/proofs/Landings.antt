@@ -82,7 +82,7 @@ landed_step s t j v e events allowed (Enters tick entry on_before plain same) re
     (rest on_before was_took)
 landed_step s t j v e events allowed (Answers tick entry on_before was_took same) rest on took = none_some v (sym (ap (λ x. x.took) same) ∙ took)
 landed_step s t j v e events allowed (Fails tick op on_before out same) rest on took = none_some v (sym (ap (λ x. x.took) same) ∙ took)
-landed_step s t j v e events allowed (BootsUp tick off same) rest on took = none_some v (sym (ap (λ x. x.took) same) ∙ took)
+landed_step s t j v e events allowed (BootsUp tick clean off same) rest on took = none_some v (sym (ap (λ x. x.took) same) ∙ took)
 landed_step s t j v e events allowed (GoesOff on_before same) rest on took = none_some v (sym (ap (λ x. x.took) same) ∙ took)
 landed_step s t j v e events allowed (Lands op on_before out none all same) rest on took = record {
   e = e;
@@ -138,7 +138,7 @@ module _ (s : Settings) (t : Timing) (j : ℕ) (entry : What) (line : Line) (pas
   kind_of adds gave behind made held (GoesOff on same) = too_long line past (sym gave ∙ ap (λ x. x.log) same ∙ sym behind)
   kind_of adds gave behind made held (Lands op on out none all same) = too_long line past (sym gave ∙ ap (λ x. x.log) same ∙ sym behind)
   kind_of adds gave behind made held (LandsLate number op there same) = too_long line past (sym gave ∙ ap (λ x. x.log) same ∙ sym behind)
-  kind_of adds gave behind made held (BootsUp tick off same) =
+  kind_of adds gave behind made held (BootsUp tick clean off same) =
       absurd (let boots : (node s j w'.moments).boots ≡ suc (node s j w.moments).boots = ap (λ x. x.boots) same in
       let kept : (node s j w'.moments).boots ≡ (node s j w.moments).boots = ap (λ ms. (node s j ms).boots) adds ∙ added_boots s j entry w.moments in
       omega arith)

@@ -27,4 +27,5 @@ pub mod Holders
 pub mod WaitForAll
 pub mod Incarnations
 pub mod FenceAndTells
+pub mod ResetLanding
 pub mod Premises

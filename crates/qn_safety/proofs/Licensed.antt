@@ -5,7 +5,6 @@ use Rattle.qn_model.specs.declared.configuration.Settings.{Settings}
 use Rattle.qn_model.specs.declared.times.Timing.{Timing}
 use Rattle.qn_model.specs.declared.seen.SlotSeen.{SlotSeen}
 use Rattle.qn_model.specs.declared.entries.What.{What}
-use Rattle.qn_model.specs.declared.entries.What.TheVariants as what
 use Rattle.qn_model.specs.declared.life.Phase.{Phase}
 use Rattle.qn_model.specs.declared.life.Phase.TheVariants.{Booting, Up, Leaving, Dying, Gone}
 use Rattle.qn_model.specs.Log.{Line, op_out, ask_place, ask_tick, claimed, claim_of, incarnation, timing, times_of, no_times, disk_of, has_start, has_stop, is_answer, is_view, view_of}
@@ -16,7 +15,7 @@ use Rattle.qn_model.specs.Licences.{out_time, reads_slot, writes_reset, is_clean
 use Rattle.qn_model.specs.Moments.{Before}
 use Rattle.qn_safety.proofs.Tools.{clash, before_then, before_tail, before_shorter}
 use Rattle.qn_model.specs.Log as LogSpec
-use Rattle.qn_model.specs.Moments.{Moment, Adds, tick_of, time, node, is_holder}
+use Rattle.qn_model.specs.Moments.{Moment, begin_of, Adds, tick_of, time, node, is_holder}
 use Rattle.qn_safety.specs.Timed.{IsUp, IsSameBoot, IsBetween, HasClosed, GetsBadMail, IsAdded, IsTimedRun}
 use Rattle.qn_model.specs.Timing.{is_safe}
 use Rattle.qn_safety.proofs.Logs.{Made, made_before}
@@ -44,11 +43,13 @@ pub record Licensed (s : Settings) (i j : ℕ) (m all : List Moment) : Type 0 wh
   pub since : out_time j (node s i m).log ≤ length (asking ∷ older)
   pub no_more : HoldsNoMore s i j p m all
 
-no_begin_read : (test : SlotSeen → Bool) (rank : ℕ) (entry : What) → entry ≡ what.Begin → reads_slot test rank entry ≡ true → ⊥
-no_begin_read test rank entry begins reads = false≢true (sym (ap (reads_slot test rank) begins) ∙ reads)
+no_begin_read : (test : SlotSeen → Bool) (rank : ℕ) (clean : Bool) (entry : What) → entry ≡ begin_of clean → reads_slot test rank entry ≡ true → ⊥
+no_begin_read test rank false entry begins reads = false≢true (sym (ap (reads_slot test rank) begins) ∙ reads)
+no_begin_read test rank true entry begins reads = false≢true (sym (ap (reads_slot test rank) begins) ∙ reads)
 
-no_begin_write : (rank : ℕ) (entry : What) → entry ≡ what.Begin → writes_reset rank entry ≡ true → ⊥
-no_begin_write rank entry begins writes = false≢true (sym (ap (writes_reset rank) begins) ∙ writes)
+no_begin_write : (rank : ℕ) (clean : Bool) (entry : What) → entry ≡ begin_of clean → writes_reset rank entry ≡ true → ⊥
+no_begin_write rank false entry begins writes = false≢true (sym (ap (writes_reset rank) begins) ∙ writes)
+no_begin_write rank true entry begins writes = false≢true (sym (ap (writes_reset rank) begins) ∙ writes)
 
 pub added_boots : (s : Settings) (i : ℕ) (entry : What) (before : List Moment) → (node s i (Adds i entry ∷ before)).boots ≡ (node s i before).boots
 added_boots s i entry before = ap (λ n. n.boots) (added_node s i entry before) ∙ same_boots s i (time before) entry (node s i before)
@@ -127,7 +128,7 @@ module _ {s : Settings} {t : Timing} {all : List Moment} (run : IsTimedRun s t a
       made_read = made_before here ((sound (ruled_before back run.ruled) i).made)
 
       by_origin : Origin s i read.line read.past m → Licensed s i j m all
-      by_origin (ByBoot begins first) = absurd (no_begin_read is_clean_slot j read.line.what begins read.reads)
+      by_origin (ByBoot clean begins first) = absurd (no_begin_read is_clean_slot j clean read.line.what begins read.reads)
       by_origin (ByEntry before added same) =
           let fact = run.clean i j read.line read.past before (added_then added back) read.reads in
           licensed_by read.line read.past before fact.0 added same fact.1 (slot_ask made_read is_clean_slot j differs read.reads)
@@ -156,7 +157,7 @@ module _ {s : Settings} {t : Timing} {all : List Moment} (run : IsTimedRun s t a
           omega arith
 
       by_origin : Origin s i reset.line reset.past m → Licensed s i j m all
-      by_origin (ByBoot begins first) = absurd (no_begin_write j reset.line.what begins reset.writes)
+      by_origin (ByBoot clean begins first) = absurd (no_begin_write j clean reset.line.what begins reset.writes)
       by_origin (ByEntry before added same) =
           let fact = run.written i j reset.line reset.past before (added_then added back) reset.writes in
           let p_m = before_then fact.1.back (before_tail added.back) in

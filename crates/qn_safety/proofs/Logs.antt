@@ -105,12 +105,14 @@ ask_line op (line ∷ past) e = by_outs (disk_of line.outs) (is_answer line.what
 pub answers_out : (s : Settings) (me : ℕ) (past : List Line) (entry : What) → is_answer entry ≡ true → fits s me past entry ≡ true → answers_op (op_out past) entry ≡ true
 answers_out s me past (what.Header seen) is fit = fit
 answers_out s me past (what.SlotRead rank seen) is fit = fit
+answers_out s me past (what.MailChecked seen) is fit = fit
 answers_out s me past (what.Claimed ok) is fit = fit
 answers_out s me past (what.Cleared ok) is fit = fit
 answers_out s me past (what.MailRead seen) is fit = fit
 answers_out s me past (what.MailWritten rank ok) is fit = fit
 answers_out s me past (what.Closed ok) is fit = fit
 answers_out s me past what.Begin is fit = absurd (false≢true is)
+answers_out s me past what.BeginClean is fit = absurd (false≢true is)
 answers_out s me past (what.View installed) is fit = absurd (false≢true is)
 answers_out s me past (what.Ask ask) is fit = absurd (false≢true is)
 answers_out s me past (what.Tell tell) is fit = absurd (false≢true is)

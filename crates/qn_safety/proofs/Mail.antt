@@ -1,5 +1,5 @@
 -- A reset that landed: the incarnation that was up gets bad mail from then on.
-use Rattle.std.proofs.Common.{◌≡◌, ℕ, ◌<◌, ◌≤◌, Bool, true, false, List, ◌∷◌, length, Some, None, Option, refl, sym, ap, ◌∙◌, subst, arith, ◌==◌, not, if◌then◌else◌, ◌⊎◌, inl, inr}
+use Rattle.std.proofs.Common.{◌≡◌, ℕ, ◌<◌, ◌≤◌, Bool, true, false, List, ◌∷◌, length, Some, None, Option, refl, sym, ap, ◌∙◌, subst, arith, ◌==◌, ◌||◌, not, if◌then◌else◌, ◌⊎◌, inl, inr}
 use Rattle.std.specs.Option.{option_map_or}
 use Rattle.std.proofs.lemmas.Bool.{false≢true, eqb-true}
 use Rattle.qn_base.specs.declared.ids.Rank.{Rank}
@@ -24,6 +24,7 @@ use Rattle.qn_safety.specs.Timed.{IsUp, IsSameBoot, IsBetween, GetsBadMail, Writ
 use Rattle.qn_model.specs.declared.events.Event.{Event}
 use Rattle.qn_model.specs.declared.events.Event.TheVariants as event
 use Rattle.qn_model.specs.World.{World, put, op_at, mailboxes_with, taken, failed, numbered}
+use Rattle.qn_model.specs.Rules.{refusal, is_on, may_operate}
 use Rattle.qn_model.specs.Steps.{happens, landed, answered, fails, lands_late, entry_of, step, run}
 use Rattle.std.specs.Prelude.{slice_get}
 use Rattle.qn_safety.proofs.Logs.{Made, made_line}
@@ -33,10 +34,10 @@ use Rattle.qn_safety.proofs.Outs.{read_plain}
 use Rattle.qn_safety.proofs.Runs.{sound, ruled_before, span, same_mid}
 use Rattle.qn_safety.proofs.Origins.{line_of, line_what}
 use Rattle.qn_safety.proofs.Fence.{mail_is_answer, up_later}
-use Rattle.qn_safety.proofs.Seats.{seat_of, put_same, put_other, Effect, Rests, Enters, Answers, Fails, BootsUp, GoesOff, Lands, LandsLate}
+use Rattle.qn_safety.proofs.Seats.{seat_of, put_same, put_other, allows, Effect, Rests, Enters, Answers, Fails, BootsUp, GoesOff, Lands, LandsLate}
 use Rattle.qn_safety.proofs.Kept.{some_op, booting_op}
 use Rattle.qn_safety.proofs.Held.{Held, resets_late}
-use Rattle.qn_safety.proofs.Events.{IsAllowed, allowed_before, stage, effect_at, earlier_allowed, moments_grow, run_step}
+use Rattle.qn_safety.proofs.Events.{IsAllowed, allowed_before, stage, effect_at, earlier_allowed, newest_allowed, moments_grow, run_step}
 use Rattle.qn_safety.proofs.Landings.{LandedAt, landed_at, AddedBy, added_by, LineKind, Plain, Taken, Failed, ask_place_inside}
 use Rattle.qn_safety.proofs.Facts.{asked_le, between_of}
 
@@ -57,6 +58,7 @@ deadly_with k j (disk.WriteReset other) mailboxes no_clear deadly = by_owner (ot
     by_owner false e = deadly_same _ _ (put_other mailboxes other.0 j message.Reset e) deadly
 deadly_with k j disk.ReadHeader mailboxes no_clear deadly = deadly
 deadly_with k j (disk.ReadSlot rank) mailboxes no_clear deadly = deadly
+deadly_with k j disk.CheckMail mailboxes no_clear deadly = deadly
 deadly_with k j (disk.WriteClaim number) mailboxes no_clear deadly = deadly
 deadly_with k j disk.ReadMail mailboxes no_clear deadly = deadly
 deadly_with k j (disk.WriteClose number) mailboxes no_clear deadly = deadly
@@ -74,43 +76,63 @@ module _ (s : Settings) (t : Timing) (j : ℕ) (w : World) (made : Made s j (nod
       let own : numbered (w.left j) number ≡ Some disk.WriteClear = subst (λ r. numbered (w.left r) number ≡ Some disk.WriteClear) same (there ∙ ap Some clear) in
       false≢true ((resets_late (w.left j) number disk.WriteClear (held.resets on) own).0)
 
-  mail_step : (e : Event) → is_deadly ((step s t e w).mailboxes j) ≡ true
-  unfolding step
-  mail_step (event.Pass dt clocks) = deadly
-  mail_step (event.Boot rank base) = deadly
-  mail_step (event.Crash rank) = deadly
-  mail_step (event.Land rank) = by_op (op_at s rank.0 w) refl
+  -- an operator sends the node no other message than a deadly one
+  deadly_sent : (rank : ℕ) (message : Message) → may_operate s rank message w ≡ true → is_deadly (put w.mailboxes rank message j) ≡ true
+  deadly_sent rank message may = by_owner (rank == j) refl
+    where
+      by_rule : (a b c : Bool) → (a || not b || not c) ≡ true → b ≡ true → c ≡ true → a ≡ true
+      by_rule true b c may holds runs = refl
+      by_rule false true true may holds runs = absurd (false≢true may)
+      by_rule false false c may holds runs = absurd (false≢true holds)
+      by_rule false true false may holds runs = absurd (false≢true runs)
+
+      by_owner : (b : Bool) → (rank == j) ≡ b → is_deadly (put w.mailboxes rank message j) ≡ true
+      by_owner false e = deadly_same _ _ (put_other w.mailboxes rank j message e) deadly
+      by_owner true e =
+          let own = eqb-true rank j e in
+          deadly_same _ _ (ap (λ b. if b then message else w.mailboxes j) e)
+          (by_rule (is_deadly message) (is_deadly (w.mailboxes rank)) (is_on s rank w) may
+          (ap (λ r. is_deadly (w.mailboxes r)) own ∙ deadly) (ap (λ r. is_on s r w) own ∙ on))
+
+  mail_step : (e : Event) → refusal s t e w ≡ None → is_deadly ((step s t e w).mailboxes j) ≡ true
+  unfolding refusal step
+  mail_step (event.Pass dt clocks) ok = deadly
+  mail_step (event.Boot rank base) ok = deadly
+  mail_step (event.BootClean rank base) ok = deadly
+  mail_step (event.Crash rank) ok = deadly
+  mail_step (event.Land rank) ok = by_op (op_at s rank.0 w) refl
     where
       by_op : (o : Option DiskOp) → op_at s rank.0 w ≡ o → is_deadly ((option_map_or (λ op. landed s t rank.0 op w) o w).mailboxes j) ≡ true
       by_op None e = deadly
       by_op (Some op) e = deadly_with rank.0 j op w.mailboxes (no_clear_out rank.0 op e) deadly
-  mail_step (event.Done rank) = by_took (w.took rank.0)
+  mail_step (event.Done rank) ok = by_took (w.took rank.0)
     where
       by_took : (o : Option What) → is_deadly ((option_map_or (λ entry. answered rank.0 entry w) o w).mailboxes j) ≡ true
       by_took None = deadly
       by_took (Some entry) = deadly
-  mail_step (event.Fail rank) = by_op (op_at s rank.0 w)
+  mail_step (event.Fail rank) ok = by_op (op_at s rank.0 w)
     where
       by_op : (o : Option DiskOp) → is_deadly ((option_map_or (λ op. fails s rank.0 op w) o w).mailboxes j) ≡ true
       by_op None = deadly
       by_op (Some op) = deadly
-  mail_step (event.Late rank number) = by_op (numbered (w.left rank.0) number) refl
+  mail_step (event.Late rank number) ok = by_op (numbered (w.left rank.0) number) refl
     where
       by_op : (o : Option DiskOp) → numbered (w.left rank.0) number ≡ o → is_deadly ((option_map_or (λ op. lands_late rank.0 number op w) o w).mailboxes j) ≡ true
       by_op None e = deadly
       by_op (Some op) e = deadly_with rank.0 j op w.mailboxes (no_clear_left rank.0 number op e) deadly
-  mail_step (event.View rank view) = deadly
-  mail_step (event.Deliver rank number) = by_sent (slice_get (packets s w.moments) number)
+  mail_step (event.View rank view) ok = deadly
+  mail_step (event.Deliver rank number) ok = by_sent (slice_get (packets s w.moments) number)
     where
       by_sent : (o : Option Sent) → is_deadly ((option_map_or (λ x. happens (Adds rank.0 (entry_of x.packet)) w) o w).mailboxes j) ≡ true
       by_sent None = deadly
       by_sent (Some sent) = deadly
-  mail_step (event.Device rank agrees) = deadly
-  mail_step (event.Tick rank) = deadly
-  mail_step (event.Stopped rank) = deadly
-  mail_step (event.Unstopped rank) = deadly
-  mail_step (event.Leave rank) = deadly
-  mail_step (event.Feed rank) = deadly
+  mail_step (event.Device rank agrees) ok = deadly
+  mail_step (event.Tick rank) ok = deadly
+  mail_step (event.Stopped rank) ok = deadly
+  mail_step (event.Unstopped rank) ok = deadly
+  mail_step (event.Leave rank) ok = deadly
+  mail_step (event.Feed rank) ok = deadly
+  mail_step (event.Operator rank message) ok = deadly_sent rank.0 message (allows (may_operate s rank.0 message w) 10 ok)
 
 -- node j after a reset landed at p: its mailbox is deadly, and a read that it asked for later does not feed it
 record BadMail (s : Settings) (t : Timing) (j : ℕ) (p : List Moment) (w : World) : Type 0 where
@@ -122,6 +144,7 @@ unfolding taken
 taken_bad s t j disk.ReadMail w deadly = ap not deadly
 taken_bad s t j disk.ReadHeader w deadly = refl
 taken_bad s t j (disk.ReadSlot other) w deadly = refl
+taken_bad s t j disk.CheckMail w deadly = refl
 taken_bad s t j (disk.WriteClaim number) w deadly = refl
 taken_bad s t j disk.WriteClear w deadly = refl
 taken_bad s t j (disk.WriteReset other) w deadly = refl
@@ -147,7 +170,7 @@ module _ {s : Settings} {t : Timing} (j : ℕ) (p : List Moment) where
       was.took v was_took (omega arith)
   took_step allowed was on (Answers tick entry on_before was_took same) v took after = none_some v (sym (ap (λ x. x.took) same) ∙ took)
   took_step allowed was on (Fails tick op on_before out same) v took after = none_some v (sym (ap (λ x. x.took) same) ∙ took)
-  took_step allowed was on (BootsUp tick off same) v took after = none_some v (sym (ap (λ x. x.took) same) ∙ took)
+  took_step allowed was on (BootsUp tick clean off same) v took after = none_some v (sym (ap (λ x. x.took) same) ∙ took)
   took_step allowed was on (GoesOff on_before same) v took after = none_some v (sym (ap (λ x. x.took) same) ∙ took)
   took_step {events = events} allowed was on (Lands op on_before out none all same) v took after =
       ap (λ u. feeds_on (message_of u)) (some_same _ _ (sym took ∙ ap (λ x. x.took) same)) ∙ taken_bad s t j op (run s t events) was.deadly
@@ -158,7 +181,7 @@ module _ {s : Settings} {t : Timing} (j : ℕ) (p : List Moment) where
       let stood = stage (earlier_allowed allowed) in
       record {
         deadly = subst (λ w'. is_deadly (w'.mailboxes j) ≡ true) (sym (run_step s t e events))
-            (mail_step s t j (run s t events) ((sound stood.ruled j).made) (stood.held j) up.on up.booted was.deadly e);
+            (mail_step s t j (run s t events) ((sound stood.ruled j).made) (stood.held j) up.on up.booted was.deadly e (newest_allowed allowed));
         took = took_step allowed was on (effect_at j allowed);
       }
 
@@ -198,6 +221,7 @@ unfolding failed
 failed_no_mail disk.ReadMail = refl
 failed_no_mail disk.ReadHeader = refl
 failed_no_mail (disk.ReadSlot other) = refl
+failed_no_mail disk.CheckMail = refl
 failed_no_mail (disk.WriteClaim number) = refl
 failed_no_mail disk.WriteClear = refl
 failed_no_mail (disk.WriteReset other) = refl
@@ -208,6 +232,7 @@ unfolding failed
 failed_unwritten j (disk.WriteReset other) e = false≢true (and_right_of (other.0 == j) false e)
 failed_unwritten j disk.ReadHeader e = false≢true e
 failed_unwritten j (disk.ReadSlot other) e = false≢true e
+failed_unwritten j disk.CheckMail e = false≢true e
 failed_unwritten j (disk.WriteClaim number) e = false≢true e
 failed_unwritten j disk.WriteClear e = false≢true e
 failed_unwritten j disk.ReadMail e = false≢true e
@@ -218,6 +243,7 @@ unfolding taken
 taken_reset s t i j (disk.WriteReset other) w e = (other, refl, eqb-true other.0 j (and_left_of (other.0 == j) true e))
 taken_reset s t i j disk.ReadHeader w e = absurd (false≢true e)
 taken_reset s t i j (disk.ReadSlot other) w e = absurd (false≢true e)
+taken_reset s t i j disk.CheckMail w e = absurd (false≢true e)
 taken_reset s t i j (disk.WriteClaim number) w e = absurd (false≢true e)
 taken_reset s t i j disk.WriteClear w e = absurd (false≢true e)
 taken_reset s t i j disk.ReadMail w e = absurd (false≢true e)
@@ -226,7 +252,7 @@ taken_reset s t i j (disk.WriteClose number) w e = absurd (false≢true e)
 module _ {s : Settings} {t : Timing} {events : List Event} (allowed : IsAllowed s t events) (i j : ℕ) (v : What) (since : List Event) (back : Before since events)
     (land : LandedAt s t i v since) (other : Rank) (resets : land.op ≡ disk.WriteReset other) (own : other.0 ≡ j) where
   -- the incarnation of j that was up when the reset of it landed gets bad mail
-  bad_mail_from : GetsBadMail s j (run s t land.earlier).moments (run s t events).moments
+  pub bad_mail_from : GetsBadMail s j (run s t land.earlier).moments (run s t events).moments
   bad_mail_from up line past before added p_before same after = by_kind it.kind
     where
       p : List Moment

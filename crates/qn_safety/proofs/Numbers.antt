@@ -1,10 +1,11 @@
 -- The number that a node claims in its boot, and has from then on.
-use Rattle.std.proofs.Common.{◌≡◌, ℕ, ◌+◌, Bool, true, false, List, [], ◌∷◌, Some, None, Option, refl, sym, ap, ◌∙◌, subst, if◌then◌else◌, ◌⊎◌, inl, inr, is_some}
+use Rattle.std.proofs.Common.{◌≡◌, ℕ, ◌+◌, Bool, true, false, List, [], ◌∷◌, Some, None, Option, refl, sym, ap, ◌∙◌, subst, if◌then◌else◌, ◌⊎◌, inl, inr, is_some, unwrap_or}
 use Rattle.std.specs.Option.{option_or}
 use Rattle.std.proofs.lemmas.Bool.{false≢true, true≢false}
 use Rattle.qn_base.specs.declared.ids.Rank.{Rank}
 use Rattle.qn_model.specs.declared.configuration.Settings.{Settings}
 use Rattle.qn_model.specs.declared.disk.Slot.{Slot}
+use Rattle.qn_model.specs.declared.seen.MailSeen.{MailSeen}
 use Rattle.qn_model.specs.declared.seen.SlotSeen.TheVariants as slot
 use Rattle.qn_model.specs.declared.entries.What.{What}
 use Rattle.qn_model.specs.declared.entries.What.TheVariants as what
@@ -13,53 +14,67 @@ use Rattle.qn_model.specs.declared.life.Phase.TheVariants.{Booting, Up, Leaving,
 use Rattle.qn_model.specs.declared.outputs.BootCause.{BootCause}
 use Rattle.qn_model.specs.declared.outputs.DiskOp.{DiskOp}
 use Rattle.qn_model.specs.declared.outputs.DiskOp.TheVariants as disk
-use Rattle.qn_model.specs.Log.{Line, op_out, claimed, claim_of, incarnation, disk_of, is_answer}
-use Rattle.qn_model.specs.Phases.{phase, next_phase, boot_phase, header_halt, slot_halt, in_time, is_booting}
+use Rattle.qn_model.specs.Log.{Line, op_out, claimed, claim_of, incarnation, disk_of, is_answer, number_read, slot_number}
+use Rattle.qn_model.specs.Phases.{phase, next_phase, boot_phase, header_halt, slot_halt, check_halt, in_time, is_booting}
 use Rattle.qn_model.specs.Fitting.{fits}
 use Rattle.qn_safety.proofs.Tools.{clash}
 use Rattle.qn_model.specs.Moments.{is_gone}
 use Rattle.qn_safety.proofs.Says.{Reason}
 use Rattle.qn_safety.proofs.Logs.{Made, NoLine, OneMore, IsLine, before_outs, disk_reason}
-use Rattle.qn_safety.proofs.Apt.{is_apt, apt, BootStep, BeginStep, HeaderStep, SlotStep, ClaimStep, ClearStep, boot_step_of, booting_is, claimed_answers, cleared_answers, mail_answers}
+use Rattle.qn_safety.proofs.Apt.{is_apt, apt, BootStep, BeginStep, HeaderStep, SlotStep, CleanSlotStep, CheckStep, ClaimStep, ClearStep, boot_step_of, booting_is, claimed_answers, cleared_answers, mail_answers}
 use Rattle.qn_safety.proofs.Times.{boot_tick, gone_next, not_live_up}
 
--- a line that gives a claim read the own slot, and the node boots after it
+-- where the number of a claim comes from: the entry is the read of the own slot, or the check after it, and then the number
+-- is that of the last read of a slot
+pub data NumberFrom (entry : What) (last number : ℕ) : Type 0 where
+  BySlot : (rank : Rank) (own : Slot) → entry ≡ what.SlotRead rank (slot.Read own) → number ≡ own.incarnation + 1 → NumberFrom entry last number
+  ByCheck : (seen : MailSeen) → entry ≡ what.MailChecked seen → number ≡ last + 1 → NumberFrom entry last number
+
+-- a line that gives a claim answers the read of the slot or the check, and the node boots after it
 pub record ClaimGiven (s : Settings) (line : Line) (past : List Line) (number : ℕ) : Type 0 where
   pub booting : is_booting (phase s (line ∷ past)) ≡ true
-  pub own : Slot
-  pub rank : Rank
-  pub reads : line.what ≡ what.SlotRead rank (slot.Read own)
-  pub next : number ≡ own.incarnation + 1
+  pub answers : is_answer line.what ≡ true
+  pub from : NumberFrom line.what (slot_number past) number
+
+-- an entry that reads no slot leaves the number of the last read
+pub number_kept : (line : Line) (past : List Line) → number_read line.what ≡ None → slot_number (line ∷ past) ≡ slot_number past
+unfolding slot_number
+number_kept line past none = ap (λ found. unwrap_or found (slot_number past)) none
+
+phase_step : (s : Settings) (line : Line) (past : List Line) → phase s (line ∷ past) ≡ next_phase s line.what (in_time line.tick past) (phase s past)
+unfolding phase
+phase_step s line past = refl
 
 pub claim_given : {s : Settings} {me : ℕ} {line : Line} {past : List Line} → IsLine s me line past → (number : ℕ) → disk_of line.outs ≡ Some (disk.WriteClaim number) → ClaimGiven s line past number
 claim_given {s = s} {me = me} {line = line} {past = past} it number gave = by_reason (disk_reason it (disk.WriteClaim number) gave)
   where
-    step_claims : (entry : What) (op : DiskOp) (p : Phase) → BootStep me entry op p → op ≡ disk.WriteClaim number
-        → (own : Slot) × (rank : Rank) × (entry ≡ what.SlotRead rank (slot.Read own)) × (number ≡ own.incarnation + 1) × (is_booting p ≡ true)
-    step_claims entry op p BeginStep e = absurd (cc)
+    number_same : (n : ℕ) → disk.WriteClaim n ≡ disk.WriteClaim number → number ≡ n
+    number_same n e = cc
+
+    step_claims : {last : ℕ} (entry : What) (op : DiskOp) (p : Phase) → BootStep me last entry op p → op ≡ disk.WriteClaim number
+        → NumberFrom entry last number × (is_answer entry ≡ true) × (is_booting p ≡ true)
+    step_claims entry op p (BeginStep clean) e = absurd (cc)
     step_claims entry op p (HeaderStep seen) e = absurd (cc)
-    step_claims entry op p (SlotStep rank own) e = (own, rank, refl, number_same e, refl)
-      where
-        number_same : disk.WriteClaim (own.incarnation + 1) ≡ disk.WriteClaim number → number ≡ own.incarnation + 1
-        number_same q = cc
+    step_claims entry op p (SlotStep rank own) e = (BySlot rank own refl (number_same (own.incarnation + 1) e), refl, refl)
+    step_claims entry op p (CleanSlotStep rank own) e = absurd (cc)
+    step_claims {last = last} entry op p (CheckStep seen) e = (ByCheck seen refl (number_same (last + 1) e), refl, refl)
     step_claims entry op p ClaimStep e = absurd (cc)
     step_claims entry op p ClearStep e = absurd (cc)
 
     phase_now : is_booting (phase s past) ≡ true → phase s (line ∷ past) ≡ next_phase s line.what (in_time line.tick past) Booting
-    phase_now b = phase_step line past ∙ ap (λ p. next_phase s line.what (in_time line.tick past) p) (booting_is (phase s past) b)
-      where
-        phase_step : (l : Line) (ls : List Line) → phase s (l ∷ ls) ≡ next_phase s l.what (in_time l.tick ls) (phase s ls)
-        phase_step l ls = unfold phase in refl
+    phase_now b = phase_step s line past ∙ ap (λ p. next_phase s line.what (in_time line.tick past) p) (booting_is (phase s past) b)
+
+    from_past : NumberFrom line.what (slot_number (before_outs line past)) number → NumberFrom line.what (slot_number past) number
+    from_past (BySlot rank own reads next) = BySlot rank own reads next
+    from_past (ByCheck seen reads next) = ByCheck seen reads (next ∙ ap (λ n. n + 1) (number_kept _ past (ap number_read reads)))
 
     by_reason : Reason s me past line.what (before_outs line past) (disk.WriteClaim number) → ClaimGiven s line past number
     by_reason (inl boots) =
-        let step = step_claims line.what (disk.WriteClaim number) _ (boot_step_of s me line.what (disk.WriteClaim number) (in_time line.tick past) boots.goes_on boots.next) refl in
+        let step = step_claims line.what (disk.WriteClaim number) _ (boot_step_of s me _ line.what (disk.WriteClaim number) (in_time line.tick past) boots.goes_on boots.next) refl in
         record {
-          booting = ap is_booting (phase_now boots.booting) ∙ step.4;
-          own = step.0;
-          rank = step.1;
-          reads = step.2;
-          next = step.3;
+          booting = ap is_booting (phase_now boots.booting) ∙ step.2;
+          answers = step.1;
+          from = from_past step.0;
         }
     by_reason (inr lives) = absurd lives.state
 
@@ -92,12 +107,14 @@ early_answer : (s : Settings) (me : ℕ) (past : List Line) (entry : What) (time
     → is_late (op_out past) ≡ false → is_apt (op_out past) Booting ≡ true → needs_number None (next_phase s entry timely Booting) ≡ false
 early_answer s me past (what.Header seen) timely is fit early a = halted_early (header_halt s seen)
 early_answer s me past (what.SlotRead other seen) timely is fit early a = halted_early (slot_halt seen)
+early_answer s me past (what.MailChecked seen) timely is fit early a = halted_early (check_halt seen)
 early_answer s me past (what.Claimed ok) timely is fit early a = let op = claimed_answers (op_out past) ok fit in late_clash (op_out past) (disk.WriteClaim op.0) op.1 refl early
 early_answer s me past (what.Cleared ok) timely is fit early a = late_clash (op_out past) disk.WriteClear (cleared_answers (op_out past) ok fit) refl early
 early_answer s me past (what.MailRead seen) timely is fit early a = apt_clash (op_out past) disk.ReadMail (mail_answers (op_out past) seen fit) refl a
 early_answer s me past (what.MailWritten other ok) timely is fit early a = refl
 early_answer s me past (what.Closed ok) timely is fit early a = refl
 early_answer s me past what.Begin timely is fit early a = absurd (false≢true is)
+early_answer s me past what.BeginClean timely is fit early a = absurd (false≢true is)
 early_answer s me past (what.View installed) timely is fit early a = absurd (false≢true is)
 early_answer s me past (what.Ask ask) timely is fit early a = absurd (false≢true is)
 early_answer s me past (what.Tell tell) timely is fit early a = absurd (false≢true is)
@@ -111,11 +128,13 @@ some_or None second e = e
 some_or (Some x) second e = refl
 
 -- a step of the boot before the claim is the claim, or needs no number after it
-early_step : (me : ℕ) (past : List Line) (s : Settings) (entry : What) (op : DiskOp) (p : Phase) → BootStep me entry op p → fits s me past entry ≡ true → is_late (op_out past) ≡ false
+early_step : {number : ℕ} (me : ℕ) (past : List Line) (s : Settings) (entry : What) (op : DiskOp) (p : Phase) → BootStep me number entry op p → fits s me past entry ≡ true → is_late (op_out past) ≡ false
     → (is_some (claim_of (Some op)) ≡ true) ⊎ (needs_number (Some op) p ≡ false)
-early_step me past s entry op p BeginStep fit early = inr refl
+early_step me past s entry op p (BeginStep clean) fit early = inr refl
 early_step me past s entry op p (HeaderStep seen) fit early = inr refl
 early_step me past s entry op p (SlotStep rank own) fit early = inl refl
+early_step me past s entry op p (CleanSlotStep rank own) fit early = inr refl
+early_step me past s entry op p (CheckStep seen) fit early = inl refl
 early_step me past s entry op p ClaimStep fit early = let o = claimed_answers (op_out past) true fit in late_clash (op_out past) (disk.WriteClaim o.0) o.1 refl early
 early_step me past s entry op p ClearStep fit early = late_clash (op_out past) disk.WriteClear (cleared_answers (op_out past) true fit) refl early
 
@@ -157,7 +176,7 @@ numbered_step s me line past it made before needs = by_before (needs_number (op_
             (ap (λ p. needs_number (Some op) (next_phase s line.what (in_time line.tick past) p)) (booting_is (phase s past) b) ∙ none)
 
         by_reason : Reason s me past line.what (before_outs line past) op → is_some (option_or (claim_of (Some op)) (claimed past)) ≡ true
-        by_reason (inl boots) = either (early_step me past s line.what op _ (boot_step_of s me line.what op (in_time line.tick past) boots.goes_on boots.next) it.fitting early)
+        by_reason (inl boots) = either (early_step me past s line.what op _ (boot_step_of s me _ line.what op (in_time line.tick past) boots.goes_on boots.next) it.fitting early)
         by_reason (inr lives) = absurd (not_live_up (phase s past) b lives.live)
 
     no_need : ((is_booting (phase s past) ≡ true) × (is_late (op_out past) ≡ false)) ⊎ (phase s past ≡ Gone) → is_some (option_or (claim_of (disk_of line.outs)) (claimed past)) ≡ true
@@ -192,6 +211,7 @@ claimed_same {s = s} {me = me} {line = line} {past = past} it booted = by_given 
     by_given None e = refl
     by_given (Some disk.ReadHeader) e = refl
     by_given (Some (disk.ReadSlot rank)) e = refl
+    by_given (Some disk.CheckMail) e = refl
     by_given (Some disk.WriteClear) e = refl
     by_given (Some disk.ReadMail) e = refl
     by_given (Some (disk.WriteReset rank)) e = refl

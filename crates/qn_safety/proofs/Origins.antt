@@ -1,5 +1,5 @@
 -- Where a line of a log was added, and where a packet was sent.
-use Rattle.std.proofs.Common.{◌≡◌, ℕ, suc, zero, true, false, List, [], ◌∷◌, ◌++◌, Some, refl, sym, ap, ◌∙◌, subst, arith, if◌then◌else◌, ◌⊎◌, inl, inr, All}
+use Rattle.std.proofs.Common.{◌≡◌, ℕ, suc, zero, Bool, true, false, List, [], ◌∷◌, ◌++◌, Some, refl, sym, ap, ◌∙◌, subst, arith, if◌then◌else◌, ◌⊎◌, inl, inr, All, Contains}
 use Rattle.std.proofs.lemmas.Bool.{false≢true}
 use Rattle.qn_base.specs.declared.ids.Rank.{Rank}
 use Rattle.qn_model.specs.declared.configuration.Settings.{Settings}
@@ -7,7 +7,6 @@ use Rattle.qn_model.specs.declared.times.Timing.{Timing}
 use Rattle.qn_model.specs.declared.packets.Packet.{Packet}
 use Rattle.qn_model.specs.declared.packets.Packet.TheVariants as packet
 use Rattle.qn_model.specs.declared.entries.What.{What}
-use Rattle.qn_model.specs.declared.entries.What.TheVariants as what
 use Rattle.qn_model.specs.declared.life.Phase.{Phase}
 use Rattle.qn_model.specs.declared.life.Phase.TheVariants.{Booting, Up, Leaving, Dying, Gone}
 use Rattle.qn_model.specs.declared.outputs.Out.{Out}
@@ -19,7 +18,7 @@ use Rattle.qn_model.specs.NodeOutputs.{outs_at, taken_in, with_entry, newest_out
 use Rattle.qn_model.specs.Moments.{Before, Itself, Later}
 use Rattle.qn_safety.proofs.Tools.{some_same, none_some, before_length}
 use Rattle.qn_model.specs.declared.packets.Sent.{Sent}
-use Rattle.qn_model.specs.Moments.{Moment, Passes, Boots, Adds, Feeds, Ends, Running, tick_of, logged, handed, booted, time, node, given_out, packets, packets_of}
+use Rattle.qn_model.specs.Moments.{Moment, Passes, Boots, Adds, Feeds, Ends, Running, tick_of, logged, handed, begin_of, booted, time, node, given_out, packets, packets_of}
 use Rattle.qn_safety.specs.Timed.{IsUp, IsSameBoot, IsSentTo, AllRuled, IsAdded}
 use Rattle.std.specs.Prelude.{slice_get}
 use Rattle.std.proofs.lemmas.List.Elements.{All-head, All-tail}
@@ -30,7 +29,7 @@ use Rattle.qn_safety.proofs.Runs.{Turn, IsApart, IsPass, IsBoot, IsAdd, IsFeed, 
 -- where a line of a log comes from: it was added at a moment of the same boot, or began the boot
 pub data Origin (s : Settings) (i : ℕ) (line : Line) (past : List Line) (moments : List Moment) : Type 0 where
   ByEntry : (before : List Moment) → (added : IsAdded s i line past before moments) → IsSameBoot s i (Adds i added.entry ∷ before) moments → Origin s i line past moments
-  ByBoot : line.what ≡ what.Begin → past ≡ [] → Origin s i line past moments
+  ByBoot : (clean : Bool) → line.what ≡ begin_of clean → past ≡ [] → Origin s i line past moments
 
 newest_or : {x y : Line} {xs ys : List Line} → Before (x ∷ xs) (y ∷ ys) → (x ∷ xs ≡ y ∷ ys) ⊎ Before (x ∷ xs) ys
 newest_or Itself = inl refl
@@ -52,13 +51,14 @@ pub handed_log : (s : Settings) (i now : ℕ) (entry : What) (n : Running) → (
 unfolding handed logged with_entry line_of
 handed_log s i now entry n = refl
 
-booted_log : (s : Settings) (i now base : ℕ) (n : Running) → (booted s i now base n).log ≡ line_of s i (tick_of base) what.Begin [] ∷ []
+booted_log : (s : Settings) (i now base : ℕ) (clean : Bool) (n : Running) → (booted s i now base clean n).log ≡ line_of s i (tick_of base) (begin_of clean) [] ∷ []
 unfolding booted handed logged with_entry line_of
-booted_log s i now base n = refl
+booted_log s i now base clean n = refl
 
-begin_line : (s : Settings) (i tick : ℕ) → (line_of s i tick what.Begin []).what ≡ what.Begin
+begin_line : (s : Settings) (i tick : ℕ) (clean : Bool) → (line_of s i tick (begin_of clean) []).what ≡ begin_of clean
 unfolding line_of
-begin_line s i tick = refl
+begin_line s i tick false = refl
+begin_line s i tick true = refl
 
 pub line_what : (s : Settings) (i tick : ℕ) (entry : What) (past : List Line) → (line_of s i tick entry past).what ≡ read_as s i past entry
 unfolding line_of
@@ -72,7 +72,7 @@ origin_later : (s : Settings) (i : ℕ) (line : Line) (past : List Line) (moment
     → (node s i (moment ∷ earlier)).boots ≡ (node s i earlier).boots → Origin s i line past earlier → Origin s i line past (moment ∷ earlier)
 origin_later s i line past moment earlier same (ByEntry before added boot) =
     ByEntry before (record { entry = added.entry; back = Later moment added.back; gave = added.gave }) (boot ∙ sym same)
-origin_later s i line past moment earlier same (ByBoot begins first) = ByBoot begins first
+origin_later s i line past moment earlier same (ByBoot clean begins first) = ByBoot clean begins first
 
 pub same_boots : (s : Settings) (i now : ℕ) (entry : What) (n : Running) → (handed s i now entry n).boots ≡ n.boots
 unfolding handed logged
@@ -95,11 +95,11 @@ origin_turn s i line past earlier moment (IsFeed e at) rest back =
     origin_later s i line past moment earlier (ap (λ n. n.boots) e) (rest (subst (λ n. Before (line ∷ past) n.log) e back))
 origin_turn s i line past earlier moment (IsEnd e at) rest back =
     origin_later s i line past moment earlier (ap (λ n. n.boots) e) (rest (subst (λ n. Before (line ∷ past) n.log) e back))
-origin_turn s i line past earlier moment (IsBoot base e at) rest back =
-    at_begin (newest_or (subst (λ log. Before (line ∷ past) log) (ap (λ n. n.log) e ∙ booted_log s i (time earlier) base (node s i earlier)) back))
+origin_turn s i line past earlier moment (IsBoot base clean e at) rest back =
+    at_begin (newest_or (subst (λ log. Before (line ∷ past) log) (ap (λ n. n.log) e ∙ booted_log s i (time earlier) base clean (node s i earlier)) back))
   where
-    at_begin : (line ∷ past ≡ line_of s i (tick_of base) what.Begin [] ∷ []) ⊎ Before (line ∷ past) [] → Origin s i line past (moment ∷ earlier)
-    at_begin (inl same) = ByBoot (ap (λ l. l.what) (head_same same) ∙ begin_line s i (tick_of base)) (tail_same same)
+    at_begin : (line ∷ past ≡ line_of s i (tick_of base) (begin_of clean) [] ∷ []) ⊎ Before (line ∷ past) [] → Origin s i line past (moment ∷ earlier)
+    at_begin (inl same) = ByBoot clean (ap (λ l. l.what) (head_same same) ∙ begin_line s i (tick_of base) clean) (tail_same same)
     at_begin (inr none) = none_before none
 origin_turn s i line past earlier moment (IsAdd entry e at) rest back =
     at_entry (newest_or (subst (λ log. Before (line ∷ past) log) log_now back))
@@ -142,6 +142,10 @@ added_line s i entry line past before gave =
 pub data IsIn {A : Type 0} (x : A) : List A → Type 0 where
   First : {xs : List A} → IsIn x (x ∷ xs)
   Behind : (y : A) {xs : List A} → IsIn x xs → IsIn x (y ∷ xs)
+
+pub contains : {A : Type 0} {x : A} {xs : List A} → IsIn x xs → Contains xs x
+contains First = (0, omega arith, refl)
+contains (Behind y there) = let rest = contains there in (suc rest.0, omega (arith, rest.1), rest.2)
 
 get_in : {A : Type 0} (xs : List A) (n : ℕ) (x : A) → slice_get xs n ≡ Some x → IsIn x xs
 get_in [] n x e = none_some x e
@@ -192,6 +196,7 @@ pub record Sending (s : Settings) (k : ℕ) (sent : Sent) (moments : List Moment
   pub added : IsAdded s k line past before moments
   pub up : IsUp s k before
   pub behind : past ≡ (node s k before).log
+  pub sends : IsIn (out.Send sent.to sent.packet) line.outs
   pub reason : PacketReason s k past (before_outs line past) line.what sent.to sent.packet
 
 packet_live : (s : Settings) (k : ℕ) (past log : List Line) (entry : What) (to : Rank) (content : Packet) → PacketReason s k past log entry to content → is_live (phase s past) ≡ true
@@ -223,6 +228,7 @@ sent_later moment it = record {
   added = record { entry = it.added.entry; back = Later moment it.added.back; gave = it.added.gave };
   up = it.up;
   behind = it.behind;
+  sends = it.sends;
   reason = it.reason;
 }
 
@@ -230,6 +236,7 @@ sent_later moment it = record {
 sent_now : {s : Settings} {t : Timing} {moment : Moment} {earlier : List Moment} (k : ℕ) (sent : Sent) → AllRuled s t (moment ∷ earlier)
     → (log : List Line) → (node s k (moment ∷ earlier)).log ≡ log → IsIn (out.Send sent.to sent.packet) (newest_outs log)
     → (line : Line) × (past : List Line) × (log ≡ line ∷ past) × PacketReason s k past (before_outs line past) line.what sent.to sent.packet
+    × IsIn (out.Send sent.to sent.packet) line.outs
 sent_now k sent ruled [] e there = none_in there
 sent_now {s = s} k sent ruled (line ∷ past) e there = (
   line,
@@ -237,12 +244,13 @@ sent_now {s = s} k sent ruled (line ∷ past) e there = (
   refl,
   all_in (Says s k past line.tick line.what (before_outs line past)) (out.Send sent.to sent.packet) line.outs
       (line_says (made_line (subst (λ l. Made s k l) e ((sound ruled k).made)))) there,
+  there,
 )
 
 sent_by_entry : {s : Settings} {t : Timing} {k : ℕ} {earlier : List Moment} (sent : Sent) (entry : What) → AllRuled s t (Adds k entry ∷ earlier)
     → (line : Line) (past : List Line) → (node s k (Adds k entry ∷ earlier)).log ≡ line ∷ past → PacketReason s k past (before_outs line past) line.what sent.to sent.packet
-    → Sending s k sent (Adds k entry ∷ earlier)
-sent_by_entry {s = s} {k = k} {earlier = earlier} sent entry ruled line past gave why =
+    → IsIn (out.Send sent.to sent.packet) line.outs → Sending s k sent (Adds k entry ∷ earlier)
+sent_by_entry {s = s} {k = k} {earlier = earlier} sent entry ruled line past gave why sends =
     let parts = added_line s k entry line past earlier gave in
     record {
       line = line;
@@ -254,14 +262,15 @@ sent_by_entry {s = s} {k = k} {earlier = earlier} sent entry ruled line past gav
         booted = live_booted (phase s (node s k earlier).log) (subst (λ p. is_live (phase s p) ≡ true) parts.behind (packet_live s k past (before_outs line past) line.what sent.to sent.packet why));
       };
       behind = parts.behind;
+      sends = sends;
       reason = why;
     }
 
-boot_sends_none : {P : Type 0} (s : Settings) (k base : ℕ) (sent : Sent) (earlier : List Moment) (line : Line) (past : List Line)
-    → (node s k (Boots k base ∷ earlier)).log ≡ line ∷ past → PacketReason s k past (before_outs line past) line.what sent.to sent.packet → P
-boot_sends_none s k base sent earlier line past gave why =
-    let same : line ∷ past ≡ line_of s k (tick_of base) what.Begin [] ∷ [] =
-    sym gave ∙ ap (λ n. n.log) (booted_node s k base earlier) ∙ booted_log s k (time earlier) base (node s k earlier) in
+boot_sends_none : {P : Type 0} (s : Settings) (k base : ℕ) (clean : Bool) (sent : Sent) (earlier : List Moment) (line : Line) (past : List Line)
+    → (node s k (Boots k base clean ∷ earlier)).log ≡ line ∷ past → PacketReason s k past (before_outs line past) line.what sent.to sent.packet → P
+boot_sends_none s k base clean sent earlier line past gave why =
+    let same : line ∷ past ≡ line_of s k (tick_of base) (begin_of clean) [] ∷ [] =
+    sym gave ∙ ap (λ n. n.log) (booted_node s k base clean earlier) ∙ booted_log s k (time earlier) base clean (node s k earlier) in
     absurd (not_live_first s past (tail_same same) (packet_live s k past (before_outs line past) line.what sent.to sent.packet why))
 
 sent_given : {s : Settings} {t : Timing} (sent : Sent) (moment : Moment) (earlier : List Moment) → AllRuled s t (moment ∷ earlier)
@@ -270,12 +279,12 @@ unfolding given_out
 sent_given sent (Passes dt clocks) earlier ruled there = none_in there
 sent_given sent (Feeds rank) earlier ruled there = none_in there
 sent_given sent (Ends rank) earlier ruled there = none_in there
-sent_given {s = s} sent (Boots rank base) earlier ruled there =
-    let now = sent_now rank sent ruled (node s rank (Boots rank base ∷ earlier)).log refl (sent_in sent _ there) in
-    boot_sends_none s rank base sent earlier now.0 now.1 now.2 now.3
+sent_given {s = s} sent (Boots rank base clean) earlier ruled there =
+    let now = sent_now rank sent ruled (node s rank (Boots rank base clean ∷ earlier)).log refl (sent_in sent _ there) in
+    boot_sends_none s rank base clean sent earlier now.0 now.1 now.2 now.3
 sent_given {s = s} sent (Adds rank entry) earlier ruled there =
     let now = sent_now rank sent ruled (node s rank (Adds rank entry ∷ earlier)).log refl (sent_in sent _ there) in
-    (rank, sent_by_entry sent entry ruled now.0 now.1 now.2 now.3)
+    (rank, sent_by_entry sent entry ruled now.0 now.1 now.2 now.3 now.4)
 
 sent_among : {s : Settings} {t : Timing} (sent : Sent) (moments : List Moment) → AllRuled s t moments → IsIn sent (packets s moments) → (k : ℕ) × Sending s k sent moments
 unfolding packets

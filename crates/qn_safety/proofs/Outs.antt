@@ -8,11 +8,13 @@ use Rattle.qn_model.specs.declared.entries.What.{What}
 use Rattle.qn_model.specs.declared.entries.What.TheVariants as what
 use Rattle.qn_model.specs.declared.life.Phase.{Phase}
 use Rattle.qn_model.specs.declared.life.Phase.TheVariants.{Booting}
+use Rattle.qn_model.specs.declared.disk.Slot.{Slot}
 use Rattle.qn_model.specs.declared.outputs.BootCause.{BootCause}
+use Rattle.qn_model.specs.declared.seen.SlotSeen.TheVariants as slot
 use Rattle.qn_model.specs.declared.outputs.DiskOp.{DiskOp}
 use Rattle.qn_model.specs.declared.outputs.DiskOp.TheVariants as disk
 use Rattle.qn_model.specs.Log.{Line, op_out, claimed, claim_of, disk_of, is_answer}
-use Rattle.qn_model.specs.Phases.{phase, next_phase, boot_phase, header_halt, slot_halt, in_time, is_booting, is_up}
+use Rattle.qn_model.specs.Phases.{phase, next_phase, boot_phase, header_halt, slot_halt, check_halt, in_time, is_booting, is_up}
 use Rattle.qn_model.specs.NodeVotes.{answers}
 use Rattle.qn_model.specs.Fitting.{fits, read_as, answers_op, is_closed}
 use Rattle.qn_safety.proofs.Tools.{none_some, clash}
@@ -20,7 +22,7 @@ use Rattle.qn_model.specs.Moments.{is_gone}
 use Rattle.qn_safety.specs.Closing.{is_close}
 use Rattle.qn_safety.proofs.Says.{Reason}
 use Rattle.qn_safety.proofs.Logs.{Made, NoLine, OneMore, IsLine, before_outs, line_at, disk_reason, AskedBy, ask_line}
-use Rattle.qn_safety.proofs.Apt.{is_apt, apt, BootStep, BeginStep, HeaderStep, SlotStep, ClaimStep, ClearStep, boot_step_of, booting_is, up_is, mail_answers, cleared_answers}
+use Rattle.qn_safety.proofs.Apt.{is_apt, apt, BootStep, BeginStep, HeaderStep, SlotStep, CleanSlotStep, CheckStep, ClaimStep, ClearStep, boot_step_of, booting_is, up_is, mail_answers, cleared_answers}
 use Rattle.qn_safety.proofs.Stays.{boot_past_later}
 use Rattle.qn_safety.proofs.Rests.{own_read, same_phase}
 use Rattle.qn_safety.proofs.Numbers.{claim_given, ClaimGiven}
@@ -55,6 +57,7 @@ claimed_cases {s = s} {line = line} {past = past} it = by_given (disk_of line.ou
     by_given None e = inl (claimed_none line past (ap claim_of e))
     by_given (Some disk.ReadHeader) e = inl (claimed_none line past (ap claim_of e))
     by_given (Some (disk.ReadSlot rank)) e = inl (claimed_none line past (ap claim_of e))
+    by_given (Some disk.CheckMail) e = inl (claimed_none line past (ap claim_of e))
     by_given (Some disk.WriteClear) e = inl (claimed_none line past (ap claim_of e))
     by_given (Some disk.ReadMail) e = inl (claimed_none line past (ap claim_of e))
     by_given (Some (disk.WriteReset rank)) e = inl (claimed_none line past (ap claim_of e))
@@ -78,15 +81,17 @@ out_claims (OneMore {line = line} {past = past} it made) number e = by_cases (ou
 close_state : {s : Settings} {me : ℕ} {line : Line} {past : List Line} → IsLine s me line past → (number : ℕ) → disk_of line.outs ≡ Some (disk.WriteClose number) → claimed past ≡ Some number
 close_state {s = s} {me = me} {line = line} {past = past} it number gave = by_reason (disk_reason it (disk.WriteClose number) gave)
   where
-    no_step : (entry : What) (op : DiskOp) (p : Phase) → BootStep me entry op p → op ≡ disk.WriteClose number → ⊥
-    no_step entry op p BeginStep e = cc
+    no_step : {last : ℕ} (entry : What) (op : DiskOp) (p : Phase) → BootStep me last entry op p → op ≡ disk.WriteClose number → ⊥
+    no_step entry op p (BeginStep clean) e = cc
     no_step entry op p (HeaderStep seen) e = cc
     no_step entry op p (SlotStep rank own) e = cc
+    no_step entry op p (CleanSlotStep rank own) e = cc
+    no_step entry op p (CheckStep seen) e = cc
     no_step entry op p ClaimStep e = cc
     no_step entry op p ClearStep e = cc
 
     by_reason : Reason s me past line.what (before_outs line past) (disk.WriteClose number) → claimed past ≡ Some number
-    by_reason (inl boots) = absurd (no_step line.what (disk.WriteClose number) _ (boot_step_of s me line.what (disk.WriteClose number) false boots.goes_on boots.next) refl)
+    by_reason (inl boots) = absurd (no_step line.what (disk.WriteClose number) _ (boot_step_of s me _ line.what (disk.WriteClose number) false boots.goes_on boots.next) refl)
     by_reason (inr lives) = lives.state.2
 
 pub out_closes : {s : Settings} {me : ℕ} {log : List Line} → Made s me log → (number : ℕ) → op_out log ≡ Some (disk.WriteClose number) → claimed log ≡ Some number
@@ -112,15 +117,17 @@ own_slot_out {s = s} {me = me} {log = log} made rank out booting = by_reason (di
     up_booted p e = ap is_booting (up_is p e)
 
     by_reason : Reason s me asked.past asked.line.what (before_outs asked.line asked.past) (disk.ReadSlot rank) → me ≡ rank.0
-    by_reason (inl boots) = own_read s me asked.line.what (disk.ReadSlot rank) _ rank (boot_step_of s me asked.line.what (disk.ReadSlot rank) false boots.goes_on boots.next) refl
+    by_reason (inl boots) = own_read s me asked.line.what (disk.ReadSlot rank) _ rank (boot_step_of s me _ asked.line.what (disk.ReadSlot rank) false boots.goes_on boots.next) refl
     by_reason (inr lives) = clash (is_booting (phase s log)) booting
         (boot_past_later made asked.back (up_booted (phase s (asked.line ∷ asked.past)) (subst (λ p. is_up p ≡ true) (same_phase s asked.line asked.past) lives.state.0)))
 
 -- a step of the boot that asks for the clear answers the claim
-pub clear_step : {me : ℕ} (entry : What) (op : DiskOp) (p : Phase) → BootStep me entry op p → op ≡ disk.WriteClear → entry ≡ what.Claimed true
-clear_step entry op p BeginStep e = absurd (cc)
+pub clear_step : {me number : ℕ} (entry : What) (op : DiskOp) (p : Phase) → BootStep me number entry op p → op ≡ disk.WriteClear → entry ≡ what.Claimed true
+clear_step entry op p (BeginStep clean) e = absurd (cc)
 clear_step entry op p (HeaderStep seen) e = absurd (cc)
 clear_step entry op p (SlotStep rank own) e = absurd (cc)
+clear_step entry op p (CleanSlotStep rank own) e = absurd (cc)
+clear_step entry op p (CheckStep seen) e = absurd (cc)
 clear_step entry op p ClaimStep e = refl
 clear_step entry op p ClearStep e = absurd (cc)
 
@@ -128,7 +135,33 @@ pub clear_given : {s : Settings} {me : ℕ} {line : Line} {past : List Line} →
 clear_given {s = s} {me = me} {line = line} {past = past} it gave = by_reason (disk_reason it disk.WriteClear gave)
   where
     by_reason : Reason s me past line.what (before_outs line past) disk.WriteClear → line.what ≡ what.Claimed true
-    by_reason (inl boots) = clear_step line.what disk.WriteClear _ (boot_step_of s me line.what disk.WriteClear false boots.goes_on boots.next) refl
+    by_reason (inl boots) = clear_step line.what disk.WriteClear _ (boot_step_of s me _ line.what disk.WriteClear false boots.goes_on boots.next) refl
+    by_reason (inr lives) = absurd lives.state
+
+-- a line that asks for the check read the own slot while the node boots
+pub record CheckGiven (s : Settings) (line : Line) (past : List Line) : Type 0 where
+  pub booting : is_booting (phase s past) ≡ true
+  pub rank : Rank
+  pub own : Slot
+  pub reads : line.what ≡ what.SlotRead rank (slot.Read own)
+
+check_step : {me number : ℕ} (entry : What) (op : DiskOp) (p : Phase) → BootStep me number entry op p → op ≡ disk.CheckMail
+    → (rank : Rank) × (own : Slot) × (entry ≡ what.SlotRead rank (slot.Read own))
+check_step entry op p (BeginStep clean) e = absurd (cc)
+check_step entry op p (HeaderStep seen) e = absurd (cc)
+check_step entry op p (SlotStep rank own) e = absurd (cc)
+check_step entry op p (CleanSlotStep rank own) e = (rank, own, refl)
+check_step entry op p (CheckStep seen) e = absurd (cc)
+check_step entry op p ClaimStep e = absurd (cc)
+check_step entry op p ClearStep e = absurd (cc)
+
+pub check_given : {s : Settings} {me : ℕ} {line : Line} {past : List Line} → IsLine s me line past → disk_of line.outs ≡ Some disk.CheckMail → CheckGiven s line past
+check_given {s = s} {me = me} {line = line} {past = past} it gave = by_reason (disk_reason it disk.CheckMail gave)
+  where
+    by_reason : Reason s me past line.what (before_outs line past) disk.CheckMail → CheckGiven s line past
+    by_reason (inl boots) =
+        let step = check_step line.what disk.CheckMail _ (boot_step_of s me _ line.what disk.CheckMail false boots.goes_on boots.next) refl in
+        record { booting = boots.booting; rank = step.0; own = step.1; reads = step.2 }
     by_reason (inr lives) = absurd lives.state
 
 pub claimed_by_clear : (line : Line) (past : List Line) → disk_of line.outs ≡ Some disk.WriteClear → claimed (line ∷ past) ≡ claimed past
@@ -141,6 +174,8 @@ plain_no_answer (Some disk.ReadHeader) (what.Header seen) is = absurd (true≢fa
 plain_no_answer (Some disk.ReadHeader) entry is = refl
 plain_no_answer (Some (disk.ReadSlot rank)) (what.SlotRead other seen) is = absurd (true≢false is)
 plain_no_answer (Some (disk.ReadSlot rank)) entry is = refl
+plain_no_answer (Some disk.CheckMail) (what.MailChecked seen) is = absurd (true≢false is)
+plain_no_answer (Some disk.CheckMail) entry is = refl
 plain_no_answer (Some (disk.WriteClaim number)) (what.Claimed ok) is = absurd (true≢false is)
 plain_no_answer (Some (disk.WriteClaim number)) entry is = refl
 plain_no_answer (Some disk.WriteClear) (what.Cleared ok) is = absurd (true≢false is)
@@ -155,8 +190,10 @@ plain_no_answer (Some (disk.WriteClose number)) entry is = refl
 -- an answer of the operation that is out fits
 fits_out : (s : Settings) (me : ℕ) (past : List Line) (entry : What) → is_answer entry ≡ true → answers_op (op_out past) entry ≡ true → fits s me past entry ≡ true
 fits_out s me past what.Begin is e = absurd (false≢true is)
+fits_out s me past what.BeginClean is e = absurd (false≢true is)
 fits_out s me past (what.Header seen) is e = e
 fits_out s me past (what.SlotRead other seen) is e = e
+fits_out s me past (what.MailChecked seen) is e = e
 fits_out s me past (what.Claimed ok) is e = e
 fits_out s me past (what.Cleared ok) is e = e
 fits_out s me past (what.MailRead seen) is e = e
@@ -190,6 +227,7 @@ close_answer (Some (disk.WriteClose number)) (what.Closed ok) is e = refl
 close_answer (Some (disk.WriteClose number)) entry is e = absurd (false≢true e)
 close_answer (Some disk.ReadHeader) entry is e = absurd (false≢true is)
 close_answer (Some (disk.ReadSlot rank)) entry is e = absurd (false≢true is)
+close_answer (Some disk.CheckMail) entry is e = absurd (false≢true is)
 close_answer (Some (disk.WriteClaim number)) entry is e = absurd (false≢true is)
 close_answer (Some disk.WriteClear) entry is e = absurd (false≢true is)
 close_answer (Some disk.ReadMail) entry is e = absurd (false≢true is)
@@ -221,6 +259,7 @@ comes_up_at : (s : Settings) (me : ℕ) (past : List Line) (entry : What) (timel
     → is_booting (next_phase s entry timely Booting) ≡ false → is_gone (next_phase s entry timely Booting) ≡ false → op_out past ≡ Some disk.WriteClear
 comes_up_at s me past (what.Header seen) timely is fit a b g = halted_up (header_halt s seen) b g
 comes_up_at s me past (what.SlotRead other seen) timely is fit a b g = halted_up (slot_halt seen) b g
+comes_up_at s me past (what.MailChecked seen) timely is fit a b g = halted_up (check_halt seen) b g
 comes_up_at s me past (what.Claimed true) timely is fit a b g = absurd (true≢false b)
 comes_up_at s me past (what.Claimed false) timely is fit a b g = absurd (true≢false g)
 comes_up_at s me past (what.Cleared ok) timely is fit a b g = cleared_answers (op_out past) ok fit
@@ -228,6 +267,7 @@ comes_up_at s me past (what.MailRead seen) timely is fit a b g = not_apt (op_out
 comes_up_at s me past (what.MailWritten other ok) timely is fit a b g = absurd (true≢false b)
 comes_up_at s me past (what.Closed ok) timely is fit a b g = absurd (true≢false g)
 comes_up_at s me past what.Begin timely is fit a b g = absurd (false≢true is)
+comes_up_at s me past what.BeginClean timely is fit a b g = absurd (false≢true is)
 comes_up_at s me past (what.View installed) timely is fit a b g = absurd (false≢true is)
 comes_up_at s me past (what.Ask ask) timely is fit a b g = absurd (false≢true is)
 comes_up_at s me past (what.Tell tell) timely is fit a b g = absurd (false≢true is)

@@ -65,7 +65,7 @@ module _ {s : Settings} {t : Timing} {all : List Moment} (run : IsTimedRun s t a
       it = line_at start.back ((sound ruled_now i).made)
 
       by_origin : Origin s i start.line start.past now → Started s i now
-      by_origin (ByBoot begins first) = absurd (no_begin_start i start.line start.past it start.start first)
+      by_origin (ByBoot clean begins first) = absurd (no_begin_start i start.line start.past it start.start first)
       by_origin (ByEntry before added same) =
           let at : List Moment = Adds i added.entry ∷ before in
           let on = holder_on s now i holder in

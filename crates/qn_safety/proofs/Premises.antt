@@ -8,7 +8,7 @@ use Rattle.qn_model.specs.declared.configuration.Settings.{Settings}
 use Rattle.qn_model.specs.declared.nodelist.NodeEntry.{NodeEntry}
 use Rattle.qn_model.specs.declared.events.Event.{Event}
 use Rattle.qn_model.specs.declared.events.Event.TheVariants as event
-use Rattle.qn_model.specs.Log.{op_out, ask_place, ask_tick, claimed, timing}
+use Rattle.qn_model.specs.Log.{op_out, ask_place, ask_tick, begins_clean, claimed, slot_number, timing}
 use Rattle.qn_model.specs.NodeVotes.{view, install, votes}
 use Rattle.qn_model.specs.Votes.{answer_at, present_view, view_tick, is_released, expected_votes, device_yes}
 use Rattle.qn_model.specs.Phases.{phase}
@@ -18,7 +18,7 @@ use Rattle.qn_model.specs.Licences.{out_time, slot_read_since, reset_since}
 use Rattle.qn_model.specs.Settings.{IsValid, ids}
 use Rattle.qn_model.specs.Timing.{usual_times}
 use Rattle.qn_model.specs.Unmet.{least_from, unmet}
-use Rattle.qn_model.specs.Wanted.{mail_tick, wanted}
+use Rattle.qn_model.specs.Wanted.{mail_tick, wanted_with_delay}
 use Rattle.qn_model.specs.NodeOutputs.{moment, acts, outs_at, with_entry}
 use Rattle.qn_model.specs.Moments.{Before, Itself, Later, logged, handed, booted, time, node, given_out, packets, is_holder}
 use Rattle.qn_model.specs.World.{taken, failed}
@@ -30,13 +30,14 @@ use Rattle.qn_safety.specs.Premises.{OneAfterAnother}
 abbrev two_nodes : Settings
 two_nodes =
     record {
-      nodes = record { id = record { 0 = 1 }; votes = 1 } ∷ record { id = record { 0 = 2 }; votes = 1 } ∷ [];
+      nodes = record { id = record { 0 = 1 }; votes = 1; fence_delay = 0 } ∷ record { id = record { 0 = 2 }; votes = 1; fence_delay = 0 } ∷ [];
       two_node = true;
       wait_for_all = false;
       last_man_standing = false;
       window = 10000;
       device = None;
       expected = 2;
+      tie = None;
     }
 
 abbrev first : Rank
@@ -58,15 +59,15 @@ abbrev takes_over : List Event
 takes_over = event.Tick first ∷ event.Pass 2000 [] ∷ event.Feed first ∷ event.Done first ∷ event.Land first ∷ event.Tick first ∷ event.Pass 4000 [] ∷ event.Feed first ∷ event.Done first ∷ event.Land first ∷ event.Tick first ∷ event.Pass 4000 [] ∷ event.Done first ∷ event.Land first ∷ event.Done first ∷ event.Land first ∷ event.Done first ∷ event.Land first ∷ event.View first (sees 1) ∷ event.Done first ∷ event.Land first ∷ event.Done first ∷ event.Land first ∷ event.Done first ∷ event.Land first ∷ event.Done first ∷ event.Land first ∷ event.Boot first 0 ∷ event.Crash second ∷ start_alone
 
 start_alone_holds : is_holder two_nodes (run two_nodes usual_times start_alone).moments 1 ≡ true
-unfolding op_out ask_place ask_tick claimed timing view install votes answer_at present_view view_tick is_released expected_votes device_yes phase holds stop_due may_stop told out_time slot_read_since reset_since least_from unmet mail_tick wanted moment acts outs_at with_entry logged handed booted time node given_out packets taken failed is_well_formed refusal step run AllAllowed
+unfolding op_out ask_place ask_tick claimed timing begins_clean slot_number view install votes answer_at present_view view_tick is_released expected_votes device_yes phase holds stop_due may_stop told out_time slot_read_since reset_since least_from unmet mail_tick wanted_with_delay moment acts outs_at with_entry logged handed booted time node given_out packets taken failed is_well_formed refusal step run AllAllowed
 start_alone_holds = refl
 
 takes_over_holds : is_holder two_nodes (run two_nodes usual_times takes_over).moments 0 ≡ true
-unfolding op_out ask_place ask_tick claimed timing view install votes answer_at present_view view_tick is_released expected_votes device_yes phase holds stop_due may_stop told out_time slot_read_since reset_since least_from unmet mail_tick wanted moment acts outs_at with_entry logged handed booted time node given_out packets taken failed is_well_formed refusal step run AllAllowed
+unfolding op_out ask_place ask_tick claimed timing begins_clean slot_number view install votes answer_at present_view view_tick is_released expected_votes device_yes phase holds stop_due may_stop told out_time slot_read_since reset_since least_from unmet mail_tick wanted_with_delay moment acts outs_at with_entry logged handed booted time node given_out packets taken failed is_well_formed refusal step run AllAllowed
 takes_over_holds = refl
 
 takes_over_allowed : AllAllowed two_nodes usual_times takes_over
-unfolding op_out ask_place ask_tick claimed timing view install votes answer_at present_view view_tick is_released expected_votes device_yes phase holds stop_due may_stop told out_time slot_read_since reset_since least_from unmet mail_tick wanted moment acts outs_at with_entry logged handed booted time node given_out packets taken failed is_well_formed refusal step run AllAllowed
+unfolding op_out ask_place ask_tick claimed timing begins_clean slot_number view install votes answer_at present_view view_tick is_released expected_votes device_yes phase holds stop_due may_stop told out_time slot_read_since reset_since least_from unmet mail_tick wanted_with_delay moment acts outs_at with_entry logged handed booted time node given_out packets taken failed is_well_formed refusal step run AllAllowed
 takes_over_allowed = (refl, refl, (refl, refl, (refl, refl, (refl, refl, (refl, refl, (refl, refl, (refl, refl, (refl, refl, (refl, refl, (refl, refl, (refl, refl, (refl, refl, (refl, refl, (refl, refl, (refl, refl, (refl, refl, (refl, refl, (refl, refl, (refl, refl, (refl, refl, (refl, refl, (refl, refl, (refl, refl, (refl, refl, (refl, refl, (refl, refl, (refl, refl, (refl, refl, (refl, refl, (refl, refl, (refl, refl, (refl, refl, (refl, refl, (refl, refl, (refl, refl, (refl, refl, (refl, refl, (refl, refl, (refl, refl, (refl, refl, (refl, refl, (refl, refl, (refl, refl, tt)))))))))))))))))))))))))))))))))))))))))))
 
 takes_over_later : Before start_alone takes_over
@@ -75,14 +76,14 @@ takes_over_later = Later (event.Tick first) (Later (event.Pass 2000 []) (Later (
 one_is_not_zero : ¬ (◌≡◌ {A = ℕ} 1 0)
 one_is_not_zero e = absurd (omega arith)
 
-each_node : (P : NodeEntry → Type 0) → P (record { id = record { 0 = 1 }; votes = 1 }) → P (record { id = record { 0 = 2 }; votes = 1 }) → All P two_nodes.nodes
+each_node : (P : NodeEntry → Type 0) → P (record { id = record { 0 = 1 }; votes = 1; fence_delay = 0 }) → P (record { id = record { 0 = 2 }; votes = 1; fence_delay = 0 }) → All P two_nodes.nodes
 each_node P one two = All-cons P one_vote (two_votes ∷ []) one (All-cons P two_votes [] two (All-nil P))
   where
     one_vote : NodeEntry
-    one_vote = record { id = record { 0 = 1 }; votes = 1 }
+    one_vote = record { id = record { 0 = 1 }; votes = 1; fence_delay = 0 }
 
     two_votes : NodeEntry
-    two_votes = record { id = record { 0 = 2 }; votes = 1 }
+    two_votes = record { id = record { 0 = 2 }; votes = 1; fence_delay = 0 }
 
 two_nodes_valid : IsValid two_nodes
 two_nodes_valid = record {
@@ -100,6 +101,9 @@ two_nodes_valid = record {
   two_votes = λ e. each_node (λ n. n.votes ≡ 1) refl refl;
   two_alone = λ e. refl;
   last_man_votes = λ e. absurd (false≢true e);
+  delays_fit = each_node (λ n. n.fence_delay ≤ 3600000) (omega arith) (omega arith);
+  tie_order = tt;
+  tie_alone = λ e. absurd (false≢true e);
 }
   where
     ids_ascend : (k : ℕ) → k + 1 < 2 → slice_index (ids two_nodes.nodes) k < slice_index (ids two_nodes.nodes) (k + 1)

@@ -26,7 +26,7 @@ use Rattle.qn_safety.proofs.Tools.{some_same, none_some, and_left_of, and_right_
 use Rattle.qn_safety.proofs.Says.{Reason}
 use Rattle.qn_safety.proofs.Clear.{why_clear}
 use Rattle.qn_safety.proofs.Logs.{Made, IsLine, before_outs, made_line, made_tail, line_at, disk_reason, start_reason, AnswerOf, answer_of}
-use Rattle.qn_safety.proofs.Apt.{slot_answers, reset_answers, BootStep, BeginStep, HeaderStep, SlotStep, ClaimStep, ClearStep, boot_step_of}
+use Rattle.qn_safety.proofs.Apt.{slot_answers, reset_answers, BootStep, BeginStep, HeaderStep, SlotStep, CleanSlotStep, CheckStep, ClaimStep, ClearStep, boot_step_of}
 
 -- the out-time of a rank begins inside the log
 pub out_time_inside : (rank : ℕ) (log : List Line) → out_time rank log ≤ length log
@@ -54,8 +54,10 @@ outside_on : (rank : ℕ) (entry : What) (before : Option View) → starts_out_t
     → option_map_or (λ view. is_member view.members rank) before false ≡ false
     → option_map_or (λ view. is_member view.members rank) (option_or (view_of entry) before) false ≡ false
 outside_on rank what.Begin before starts outside = outside
+outside_on rank what.BeginClean before starts outside = outside
 outside_on rank (what.Header seen) before starts outside = outside
 outside_on rank (what.SlotRead other seen) before starts outside = outside
+outside_on rank (what.MailChecked seen) before starts outside = outside
 outside_on rank (what.Claimed ok) before starts outside = outside
 outside_on rank (what.Cleared ok) before starts outside = outside
 outside_on rank (what.MailRead seen) before starts outside = outside
@@ -80,7 +82,7 @@ stays_out rank {old = old} (Later newest {new = new} more) since outside = by_st
     by_start true is begun rest = absurd (let long = before_length more in omega arith)
     by_start false is begun rest = outside_on rank newest.what (view new) is (rest begun)
 
--- a read of a slot in the log that passes a test and was asked for behind a place
+-- a read of a slot in the log that passes a test and was asked for after a place
 pub record SlotRead (test : SlotSeen → Bool) (rank place : ℕ) (log : List Line) : Type 0 where
   pub line : Line
   pub past : List Line
@@ -104,7 +106,7 @@ read_found place test rank (line ∷ past) e = by_here (nat_lt place line.asked 
     }
     by_here false is or rest = let was = rest or in record { line = was.line; past = was.past; back = Later line was.back; behind = was.behind; reads = was.reads }
 
--- a reset in the log that was written and was asked for behind a place
+-- a reset in the log that was written and was asked for after a place
 pub record ResetDone (rank place tick : ℕ) (log : List Line) : Type 0 where
   pub line : Line
   pub past : List Line
@@ -158,8 +160,10 @@ pub record FencingAsk (s : Settings) (rank : ℕ) (line : Line) (past : List Lin
 pub read_is : (test : SlotSeen → Bool) (rank : ℕ) (entry : What) → reads_slot test rank entry ≡ true
     → (other : Rank) × (seen : SlotSeen) × (entry ≡ what.SlotRead other seen) × (other.0 ≡ rank) × (test seen ≡ true)
 read_is test rank what.Begin e = absurd (false≢true e)
+read_is test rank what.BeginClean e = absurd (false≢true e)
 read_is test rank (what.Header seen) e = absurd (false≢true e)
 read_is test rank (what.SlotRead other seen) e = (other, seen, refl, eqb-true other.0 rank (and_left_of (other.0 == rank) (test seen) e), and_right_of (other.0 == rank) (test seen) e)
+read_is test rank (what.MailChecked seen) e = absurd (false≢true e)
 read_is test rank (what.Claimed ok) e = absurd (false≢true e)
 read_is test rank (what.Cleared ok) e = absurd (false≢true e)
 read_is test rank (what.MailRead seen) e = absurd (false≢true e)
@@ -175,8 +179,10 @@ read_is test rank (what.Closed ok) e = absurd (false≢true e)
 
 pub write_is : (rank : ℕ) (entry : What) → writes_reset rank entry ≡ true → (other : Rank) × (entry ≡ what.MailWritten other true) × (other.0 ≡ rank)
 write_is rank what.Begin e = absurd (false≢true e)
+write_is rank what.BeginClean e = absurd (false≢true e)
 write_is rank (what.Header seen) e = absurd (false≢true e)
 write_is rank (what.SlotRead other seen) e = absurd (false≢true e)
+write_is rank (what.MailChecked seen) e = absurd (false≢true e)
 write_is rank (what.Claimed ok) e = absurd (false≢true e)
 write_is rank (what.Cleared ok) e = absurd (false≢true e)
 write_is rank (what.MailRead seen) e = absurd (false≢true e)
@@ -201,20 +207,24 @@ unfolding view
 same_view_at line past rank = refl
 
 -- a step of the boot reads the own slot alone
-pub own_read : (s : Settings) (me : ℕ) (entry : What) (op : DiskOp) (p : Phase) (rank : Rank) → BootStep me entry op p → op ≡ disk.ReadSlot rank → me ≡ rank.0
-own_read s me entry op p rank BeginStep e = absurd (cc)
+pub own_read : {number : ℕ} (s : Settings) (me : ℕ) (entry : What) (op : DiskOp) (p : Phase) (rank : Rank) → BootStep me number entry op p → op ≡ disk.ReadSlot rank → me ≡ rank.0
+own_read s me entry op p rank (BeginStep clean) e = absurd (cc)
 own_read s me entry op p rank (HeaderStep seen) e = ap (λ r. r.0) (read_same e)
   where
     read_same : disk.ReadSlot (rank_of me) ≡ disk.ReadSlot rank → rank_of me ≡ rank
     read_same q = cc
 own_read s me entry op p rank (SlotStep other own) e = absurd (cc)
+own_read s me entry op p rank (CleanSlotStep other own) e = absurd (cc)
+own_read s me entry op p rank (CheckStep seen) e = absurd (cc)
 own_read s me entry op p rank ClaimStep e = absurd (cc)
 own_read s me entry op p rank ClearStep e = absurd (cc)
 
-no_reset : (s : Settings) (me : ℕ) (entry : What) (op : DiskOp) (p : Phase) (rank : Rank) → BootStep me entry op p → op ≡ disk.WriteReset rank → ⊥
-no_reset s me entry op p rank BeginStep e = cc
+no_reset : {number : ℕ} (s : Settings) (me : ℕ) (entry : What) (op : DiskOp) (p : Phase) (rank : Rank) → BootStep me number entry op p → op ≡ disk.WriteReset rank → ⊥
+no_reset s me entry op p rank (BeginStep clean) e = cc
 no_reset s me entry op p rank (HeaderStep seen) e = cc
 no_reset s me entry op p rank (SlotStep other own) e = cc
+no_reset s me entry op p rank (CleanSlotStep other own) e = cc
+no_reset s me entry op p rank (CheckStep seen) e = cc
 no_reset s me entry op p rank ClaimStep e = cc
 no_reset s me entry op p rank ClearStep e = cc
 
@@ -238,7 +248,7 @@ module _ {s : Settings} {me : ℕ} {line : Line} {past : List Line} (made : Made
     where
       by_reason : Reason s me answer.asked.past answer.asked.line.what (before_outs answer.asked.line answer.asked.past) (disk.ReadSlot other) → FencingAsk s rank line past
       by_reason (inl boots) = absurd (differs (sym same ∙ sym (own_read s me answer.asked.line.what _ _ other
-          (boot_step_of s me answer.asked.line.what (disk.ReadSlot other) false boots.goes_on boots.next) refl)))
+          (boot_step_of s me _ answer.asked.line.what (disk.ReadSlot other) false boots.goes_on boots.next) refl)))
       by_reason (inr lives) = ask_at other same answer lives.state
 
   write_by : (answer : AnswerOf line past) (other : Rank) → other.0 ≡ rank → answer.op ≡ disk.WriteReset other → FencingAsk s rank line past
@@ -247,7 +257,7 @@ module _ {s : Settings} {me : ℕ} {line : Line} {past : List Line} (made : Made
     where
       by_reason : Reason s me answer.asked.past answer.asked.line.what (before_outs answer.asked.line answer.asked.past) (disk.WriteReset other) → FencingAsk s rank line past
       by_reason (inl boots) = absurd (no_reset s me answer.asked.line.what _ _ other
-          (boot_step_of s me answer.asked.line.what (disk.WriteReset other) false boots.goes_on boots.next) refl)
+          (boot_step_of s me _ answer.asked.line.what (disk.WriteReset other) false boots.goes_on boots.next) refl)
       by_reason (inr lives) = ask_at other same answer lives.state
 
 -- a read of another node's slot was asked for while up and while that node was outside the view
@@ -281,8 +291,10 @@ pub record TellFound (test : Tell → Bool) (rank : ℕ) (log : List Line) : Typ
 tell_is : (test : Tell → Bool) (rank : ℕ) (past : List Line) (entry : What) → tells test rank past entry ≡ true
     → (tell : Tell) × (entry ≡ what.Tell tell) × (tell.from.0 ≡ rank) × (answers past tell ≡ true) × (test tell ≡ true)
 tell_is test rank past what.Begin e = absurd (false≢true e)
+tell_is test rank past what.BeginClean e = absurd (false≢true e)
 tell_is test rank past (what.Header seen) e = absurd (false≢true e)
 tell_is test rank past (what.SlotRead other seen) e = absurd (false≢true e)
+tell_is test rank past (what.MailChecked seen) e = absurd (false≢true e)
 tell_is test rank past (what.Claimed ok) e = absurd (false≢true e)
 tell_is test rank past (what.Cleared ok) e = absurd (false≢true e)
 tell_is test rank past (what.MailRead seen) e = absurd (false≢true e)

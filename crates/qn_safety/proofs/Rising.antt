@@ -1,5 +1,5 @@
 -- The numbers of the incarnations of one node rise.
-use Rattle.std.proofs.Common.{◌≡◌, ℕ, ◌<◌, ◌≤◌, Bool, true, false, List, [], ◌∷◌, Some, None, refl, sym, ap, ◌∙◌, subst, arith, ◌⊎◌, inl, inr}
+use Rattle.std.proofs.Common.{◌≡◌, ℕ, ◌<◌, ◌≤◌, true, false, List, [], ◌∷◌, Some, None, refl, sym, ap, ◌∙◌, subst, arith, ◌⊎◌, inl, inr}
 use Rattle.std.proofs.lemmas.Bool.{false≢true}
 use Rattle.qn_base.specs.declared.ids.Rank.{Rank}
 use Rattle.qn_model.specs.declared.configuration.Settings.{Settings}
@@ -14,20 +14,19 @@ use Rattle.qn_model.specs.Phases.{phase, is_booting}
 use Rattle.qn_model.specs.Fitting.{answers_op}
 use Rattle.qn_model.specs.Moments.{Before}
 use Rattle.qn_safety.proofs.Tools.{some_same, none_some, clash, before_total}
-use Rattle.qn_model.specs.Moments.{Moment, node}
+use Rattle.qn_model.specs.Moments.{Moment, begin_of, node}
 use Rattle.qn_safety.specs.Timed.{IsUp, AllRuled, NumbersRise}
 use Rattle.qn_model.specs.declared.events.Event.{Event}
 use Rattle.qn_model.specs.World.{World, failed}
 use Rattle.qn_model.specs.Steps.{run}
 use Rattle.qn_safety.proofs.Logs.{Made, IsLine, made_line}
-use Rattle.qn_safety.proofs.Stays.{boot_past}
 use Rattle.qn_safety.proofs.Outs.{answer_fits, read_plain, claimed_cases}
 use Rattle.qn_safety.proofs.Numbers.{up_number, ClaimGiven}
 use Rattle.qn_safety.proofs.Runs.{sound, ruled_before, boots_le}
 use Rattle.qn_safety.proofs.Origins.{line_of, line_what}
 use Rattle.qn_safety.proofs.Seats.{seat_of, slot_after, Effect, Rests, Enters, Answers, Fails, BootsUp, GoesOff, Lands, LandsLate}
-use Rattle.qn_safety.proofs.Kept.{Kept, failed_answers}
-use Rattle.qn_safety.proofs.Held.{Held, left_late, keeps_out, slot_keeps}
+use Rattle.qn_safety.proofs.Kept.{Kept, claim_next, failed_answers}
+use Rattle.qn_safety.proofs.Held.{Held, begin_plain, left_late, keeps_out, slot_keeps}
 use Rattle.qn_safety.proofs.Events.{IsAllowed, NoEvent, OneEvent, allowed_before, stage, effect_at, earlier_allowed, grows, newest_state, first_moments, only_nothing, AtEvents, at_events}
 
 -- the number in a slot never falls
@@ -37,7 +36,7 @@ slot_rises s t j w w' made held (Rests same) = let q = ap (λ x. x.slot.incarnat
 slot_rises s t j w w' made held (Enters tick entry on plain same) = let q = ap (λ x. x.slot.incarnation) same in omega arith
 slot_rises s t j w w' made held (Answers tick entry on took same) = let q = ap (λ x. x.slot.incarnation) same in omega arith
 slot_rises s t j w w' made held (Fails tick op on out same) = let q = ap (λ x. x.slot.incarnation) same in omega arith
-slot_rises s t j w w' made held (BootsUp tick off same) = let q = ap (λ x. x.slot.incarnation) same in omega arith
+slot_rises s t j w w' made held (BootsUp tick clean off same) = let q = ap (λ x. x.slot.incarnation) same in omega arith
 slot_rises s t j w w' made held (GoesOff on same) = let q = ap (λ x. x.slot.incarnation) same in omega arith
 slot_rises s t j w w' made held (Lands op on out none all same) =
     let kept : Kept s (node s j w.moments).log None (w.slots j) = subst (λ k. Kept s (node s j w.moments).log k (w.slots j)) none (held.kept on) in
@@ -54,9 +53,9 @@ unfolding node
 never_on s j = refl
 
 -- a node that is up has its number in its slot
-pub slot_number : {s : Settings} {t : Timing} {events : List Event} (j number : ℕ) → IsAllowed s t events → IsUp s j (run s t events).moments
+pub up_in_slot : {s : Settings} {t : Timing} {events : List Event} (j number : ℕ) → IsAllowed s t events → IsUp s j (run s t events).moments
     → incarnation (node s j (run s t events).moments).log ≡ Some number → number ≡ ((run s t events).slots j).incarnation
-slot_number {s = s} {t = t} {events = events} j number allowed up has =
+up_in_slot {s = s} {t = t} {events = events} j number allowed up has =
     let here = stage allowed in
     let state = sound here.ruled j in
     let named = up_number state.made up.booted (state.living up.on) in
@@ -83,7 +82,7 @@ number_above {s = s} {t = t} j number p (OneEvent {e = e} {earlier = earlier} fo
 
     present : p ≡ (run s t (e ∷ earlier)).moments → number ≤ ((run s t (e ∷ earlier)).slots j).incarnation
     present is =
-        let q = slot_number j number whole (subst (λ ms. IsUp s j ms) is up) (subst (λ ms. incarnation (node s j ms).log ≡ Some number) is has) in
+        let q = up_in_slot j number whole (subst (λ ms. IsUp s j ms) is up) (subst (λ ms. incarnation (node s j ms).log ≡ Some number) is has) in
         omega arith
 
     by_newest : (m : Moment) → (run s t (e ∷ earlier)).moments ≡ m ∷ (run s t earlier).moments → (p ≡ m ∷ (run s t earlier).moments) ⊎ Before p (run s t earlier).moments
@@ -116,6 +115,7 @@ failed_own : (op : DiskOp) (rank : Rank) (own : Slot) → failed op ≡ what.Slo
 unfolding failed
 failed_own disk.ReadHeader rank own e = cc
 failed_own (disk.ReadSlot other) rank own e = cc
+failed_own disk.CheckMail rank own e = cc
 failed_own (disk.WriteClaim number) rank own e = cc
 failed_own disk.WriteClear rank own e = cc
 failed_own disk.ReadMail rank own e = cc
@@ -127,7 +127,19 @@ unfolding claimed
 nothing_claimed = refl
 
 module _ {s : Settings} {t : Timing} (j number later_number : ℕ) (p : List Moment) (up : IsUp s j p) (has : incarnation (node s j p).log ≡ Some number) where
-  -- a claim is above each number that was up before
+  -- a claim that an answer gives is above each number that was up before
+  claim_above : {earlier : List Event} {line : Line} → IsAllowed s t earlier → Before p (run s t earlier).moments → (node s j (run s t earlier).moments).on ≡ true
+      → IsLine s j line (node s j (run s t earlier).moments).log
+      → ((rank : Rank) (own : Slot) → is_booting (phase s (node s j (run s t earlier).moments).log) ≡ true → line.what ≡ what.SlotRead rank (slot.Read own)
+      → own.incarnation ≡ ((run s t earlier).slots j).incarnation)
+      → (claim : ℕ) → ClaimGiven s line (node s j (run s t earlier).moments).log claim → claim ≡ later_number → number < later_number
+  claim_above {earlier = earlier} allowed back on it told claim given same =
+      let kept = ((stage allowed).held j).kept on in
+      let next = claim_next it ((sound ((stage allowed).ruled) j).made) ((run s t earlier).took j) ((run s t earlier).slots j) kept told claim given in
+      let above = number_above j number p allowed back up has in
+      omega arith
+
+  -- a number that is claimed at an event is above each number that was up before
   claim_rises : {e : Event} {earlier : List Event} → IsAllowed s t (e ∷ earlier) → Before p (run s t earlier).moments → (node s j p).boots < (node s j (run s t (e ∷ earlier)).moments).boots
       → (node s j (run s t (e ∷ earlier)).moments).on ≡ true → claimed (node s j (run s t (e ∷ earlier)).moments).log ≡ Some later_number
       → Effect s t j (run s t earlier) (run s t (e ∷ earlier))
@@ -154,7 +166,7 @@ module _ {s : Settings} {t : Timing} (j number later_number : ℕ) (p : List Mom
 
       by_claim : (claimed (line ∷ log) ≡ claimed log) ⊎ ((n : ℕ) × (claimed (line ∷ log) ≡ Some n) × ClaimGiven s line log n) → number < later_number
       by_claim (inl kept) = rest on_before (sym kept ∙ sym (ap (λ x. claimed x.log) same) ∙ claims) (let q = ap (λ x. x.boots) same in omega arith)
-      by_claim (inr claim) = clash (is_answer line.what) (ap is_answer claim.2.reads) (ap is_answer (line_what s j tick entry log) ∙ read_plain s j log entry plain)
+      by_claim (inr claim) = clash (is_answer line.what) claim.2.answers (ap is_answer (line_what s j tick entry log) ∙ read_plain s j log entry plain)
   claim_rises {e = e} {earlier = earlier} allowed back less on claims (Fails tick op on_before out same) rest =
       by_claim (claimed_cases it)
     where
@@ -171,7 +183,9 @@ module _ {s : Settings} {t : Timing} (j number later_number : ℕ) (p : List Mom
       by_claim (inl kept) = rest on_before (sym kept ∙ sym (ap (λ x. claimed x.log) same) ∙ claims) (let q = ap (λ x. x.boots) same in omega arith)
       by_claim (inr claim) =
           let fit = answer_fits s j log (failed op) (subst (λ o. answers_op o (failed op) ≡ true) (sym out) (failed_answers op)) in
-          absurd (failed_own op claim.2.rank claim.2.own (sym (line_what s j tick (failed op) log ∙ fit.1) ∙ claim.2.reads))
+          claim_above (earlier_allowed allowed) back on_before it
+          (λ rank own booting reads. absurd (failed_own op rank own (sym (line_what s j tick (failed op) log ∙ fit.1) ∙ reads)))
+          claim.0 claim.2 (some_same _ _ (sym claim.1 ∙ sym (ap (λ x. claimed x.log) same) ∙ claims))
   claim_rises {e = e} {earlier = earlier} allowed back less on claims (Answers tick entry on_before took same) rest =
       by_claim (claimed_cases it)
     where
@@ -187,40 +201,24 @@ module _ {s : Settings} {t : Timing} (j number later_number : ℕ) (p : List Mom
       by_claim : (claimed (line ∷ log) ≡ claimed log) ⊎ ((n : ℕ) × (claimed (line ∷ log) ≡ Some n) × ClaimGiven s line log n) → number < later_number
       by_claim (inl kept) = rest on_before (sym kept ∙ sym (ap (λ x. claimed x.log) same) ∙ claims) (let q = ap (λ x. x.boots) same in omega arith)
       by_claim (inr claim) =
-          let stood = stage (earlier_allowed allowed) in
-          let held = stood.held j in
+          let held = (stage (earlier_allowed allowed)).held j in
           let fit = answer_fits s j log entry (held.answers on_before entry took) in
-          let reads : entry ≡ what.SlotRead claim.2.rank (slot.Read claim.2.own) = sym (line_what s j tick entry log ∙ fit.1) ∙ claim.2.reads in
-          let own = (held.kept on_before).reading claim.2.rank claim.2.own (still_booting claim.2.booting) (took ∙ ap Some reads) in
-          let next = claim.2.next in
-          let same_number : claim.0 ≡ later_number = some_same _ _ (sym claim.1 ∙ sym (ap (λ x. claimed x.log) same) ∙ claims) in
-          let above = number_above j number p (earlier_allowed allowed) back up has in
-          omega arith
-        where
-          still_booting : is_booting (phase s (line ∷ log)) ≡ true → is_booting (phase s log) ≡ true
-          still_booting booting = by_phase (is_booting (phase s log)) refl
-            where
-              by_phase : (b : Bool) → is_booting (phase s log) ≡ b → is_booting (phase s log) ≡ true
-              by_phase true q = q
-              by_phase false q = clash (is_booting (phase s (line ∷ log))) booting (boot_past it q)
-  claim_rises {e = e} {earlier = earlier} allowed back less on claims (BootsUp tick off same) rest =
+          claim_above (earlier_allowed allowed) back on_before it
+          (λ rank own booting reads. (held.kept on_before).reading rank own booting (took ∙ ap Some (sym (line_what s j tick entry log ∙ fit.1) ∙ reads)))
+          claim.0 claim.2 (some_same _ _ (sym claim.1 ∙ sym (ap (λ x. claimed x.log) same) ∙ claims))
+  claim_rises {e = e} {earlier = earlier} allowed back less on claims (BootsUp tick clean off same) rest =
       by_claim (claimed_cases it)
     where
       line : Line
-      line = line_of s j tick what.Begin []
+      line = line_of s j tick (begin_of clean) []
 
       it : IsLine s j line []
       it = made_line (subst (λ l. Made s j l) (ap (λ x. x.log) same) ((sound ((stage allowed).ruled) j).made))
 
-      begin_what : line.what ≡ what.Begin
-      begin_what = line_what s j tick what.Begin []
-
-      no_read : (rank : Rank) (own : Slot) → what.Begin ≡ what.SlotRead rank (slot.Read own) → ⊥
-      no_read rank own q = cc
-
       by_claim : (claimed (line ∷ []) ≡ claimed []) ⊎ ((n : ℕ) × (claimed (line ∷ []) ≡ Some n) × ClaimGiven s line [] n) → number < later_number
       by_claim (inl kept) = none_some later_number (sym (kept ∙ nothing_claimed) ∙ sym (ap (λ x. claimed x.log) same) ∙ claims)
-      by_claim (inr claim) = absurd (no_read claim.2.rank claim.2.own (sym begin_what ∙ claim.2.reads))
+      by_claim (inr claim) =
+          clash (is_answer line.what) claim.2.answers (ap is_answer (line_what s j tick (begin_of clean) []) ∙ read_plain s j [] (begin_of clean) (begin_plain clean))
 
   -- a number that is claimed is above those of all incarnations that were up before
   rises : {events : List Event} → IsAllowed s t events → Before p (run s t events).moments → (node s j p).boots < (node s j (run s t events).moments).boots

@@ -13,7 +13,7 @@ use Rattle.qn_model.specs.NodeOutputs.{with_entry, newest_outs}
 use Rattle.qn_model.specs.Moments.{Before, Itself, Later}
 use Rattle.qn_safety.proofs.Tools.{some_same, none_some, and_left_of, and_right_of, not_true, before_then}
 use Rattle.qn_model.specs.Log as LogSpec
-use Rattle.qn_model.specs.Moments.{Moment, Passes, Boots, Adds, Feeds, Ends, Running, tick_of, is_gone, has_feed, advance_of, advanced, logged, handed, booted, time, node}
+use Rattle.qn_model.specs.Moments.{Moment, Passes, Boots, Adds, Feeds, Ends, Running, tick_of, is_gone, has_feed, advance_of, advanced, logged, handed, begin_of, booted, time, node}
 use Rattle.qn_model.specs.Rules.{passes, is_within_bounds, outlives}
 use Rattle.qn_safety.specs.Timed.{IsSameBoot, IsRuled, AllRuled, NoMoment, OneRuled}
 use Rattle.qn_safety.proofs.Logs.{Made, NoLine, OneMore}
@@ -23,8 +23,8 @@ pub data Turn (s : Settings) (i : ℕ) (earlier : List Moment) : Moment → Type
   IsApart : (moment : Moment) → node s i (moment ∷ earlier) ≡ node s i earlier → time (moment ∷ earlier) ≡ time earlier → Turn s i earlier moment
   IsPass : (dt : ℕ) (clocks : List (Rank × ℕ)) → node s i (Passes dt clocks ∷ earlier) ≡ advanced (advance_of dt clocks i) (node s i earlier)
       → time (Passes dt clocks ∷ earlier) ≡ time earlier + dt → Turn s i earlier (Passes dt clocks)
-  IsBoot : (base : ℕ) → node s i (Boots i base ∷ earlier) ≡ booted s i (time earlier) base (node s i earlier)
-      → time (Boots i base ∷ earlier) ≡ time earlier → Turn s i earlier (Boots i base)
+  IsBoot : (base : ℕ) (clean : Bool) → node s i (Boots i base clean ∷ earlier) ≡ booted s i (time earlier) base clean (node s i earlier)
+      → time (Boots i base clean ∷ earlier) ≡ time earlier → Turn s i earlier (Boots i base clean)
   IsAdd : (entry : What) → node s i (Adds i entry ∷ earlier) ≡ handed s i (time earlier) entry (node s i earlier)
       → time (Adds i entry ∷ earlier) ≡ time earlier → Turn s i earlier (Adds i entry)
   IsFeed : node s i (Feeds i ∷ earlier) ≡ record (node s i earlier) { fed = time earlier }
@@ -39,9 +39,9 @@ pub added_node : (s : Settings) (i : ℕ) (entry : What) (earlier : List Moment)
 unfolding node
 added_node s i entry earlier = ap (λ b. if b then handed s i (time earlier) entry (node s i earlier) else node s i earlier) (own_test i)
 
-pub booted_node : (s : Settings) (i base : ℕ) (earlier : List Moment) → node s i (Boots i base ∷ earlier) ≡ booted s i (time earlier) base (node s i earlier)
+pub booted_node : (s : Settings) (i base : ℕ) (clean : Bool) (earlier : List Moment) → node s i (Boots i base clean ∷ earlier) ≡ booted s i (time earlier) base clean (node s i earlier)
 unfolding node
-booted_node s i base earlier = ap (λ b. if b then booted s i (time earlier) base (node s i earlier) else node s i earlier) (own_test i)
+booted_node s i base clean earlier = ap (λ b. if b then booted s i (time earlier) base clean (node s i earlier) else node s i earlier) (own_test i)
 
 fed_node : (s : Settings) (i : ℕ) (earlier : List Moment) → node s i (Feeds i ∷ earlier) ≡ record (node s i earlier) { fed = time earlier }
 unfolding node
@@ -51,9 +51,9 @@ ended_node : (s : Settings) (i : ℕ) (earlier : List Moment) → node s i (Ends
 unfolding node
 ended_node s i earlier = ap (λ b. if b then record (node s i earlier) { on = false } else node s i earlier) (own_test i)
 
-boots_apart : (s : Settings) (i other base : ℕ) (earlier : List Moment) → (other == i) ≡ false → node s i (Boots other base ∷ earlier) ≡ node s i earlier
+boots_apart : (s : Settings) (i other base : ℕ) (clean : Bool) (earlier : List Moment) → (other == i) ≡ false → node s i (Boots other base clean ∷ earlier) ≡ node s i earlier
 unfolding node
-boots_apart s i other base earlier e = ap (λ b. if b then booted s i (time earlier) base (node s i earlier) else node s i earlier) e
+boots_apart s i other base clean earlier e = ap (λ b. if b then booted s i (time earlier) base clean (node s i earlier) else node s i earlier) e
 
 adds_apart : (s : Settings) (i other : ℕ) (entry : What) (earlier : List Moment) → (other == i) ≡ false → node s i (Adds other entry ∷ earlier) ≡ node s i earlier
 unfolding node
@@ -70,11 +70,11 @@ ends_apart s i other earlier e = ap (λ b. if b then record (node s i earlier) {
 pub turn : (s : Settings) (i : ℕ) (earlier : List Moment) (moment : Moment) → Turn s i earlier moment
 unfolding time
 turn s i earlier (Passes dt clocks) = IsPass dt clocks (unfold node in refl) refl
-turn s i earlier (Boots other base) = by_owner (other == i) refl
+turn s i earlier (Boots other base clean) = by_owner (other == i) refl
   where
-    by_owner : (b : Bool) → (other == i) ≡ b → Turn s i earlier (Boots other base)
-    by_owner true e = subst (λ k. Turn s i earlier (Boots k base)) (sym (eqb-true other i e)) (IsBoot base (booted_node s i base earlier) refl)
-    by_owner false e = IsApart (Boots other base) (boots_apart s i other base earlier e) refl
+    by_owner : (b : Bool) → (other == i) ≡ b → Turn s i earlier (Boots other base clean)
+    by_owner true e = subst (λ k. Turn s i earlier (Boots k base clean)) (sym (eqb-true other i e)) (IsBoot base clean (booted_node s i base clean earlier) refl)
+    by_owner false e = IsApart (Boots other base clean) (boots_apart s i other base clean earlier e) refl
 turn s i earlier (Adds other entry) = by_owner (other == i) refl
   where
     by_owner : (b : Bool) → (other == i) ≡ b → Turn s i earlier (Adds other entry)
@@ -201,12 +201,12 @@ sound_turn s t i earlier moment (IsApart m e at) rule was = subst (λ n. IsSound
 sound_turn s t i earlier moment (IsPass dt clocks e at) rule was =
     subst (λ n. IsSound s t i (time (moment ∷ earlier)) n) (sym e) (subst (λ now. IsSound s t i now (advanced (advance_of dt clocks i) (node s i earlier))) (sym at)
     (sound_advanced s t i (time earlier) dt (advance_of dt clocks i) (node s i earlier) was (λ on. rule i (was.known on))))
-sound_turn s t i earlier moment (IsBoot base e at) rule was =
-    subst (λ n. IsSound s t i (time (moment ∷ earlier)) n) (sym e) (subst (λ now. IsSound s t i now (booted s i (time earlier) base (node s i earlier))) (sym at)
+sound_turn s t i earlier moment (IsBoot base clean e at) rule was =
+    subst (λ n. IsSound s t i (time (moment ∷ earlier)) n) (sym e) (subst (λ now. IsSound s t i now (booted s i (time earlier) base clean (node s i earlier))) (sym at)
     (sound_booted (node s i earlier)))
   where
-    sound_booted : (n : Running) → IsSound s t i (time earlier) (booted s i (time earlier) base n)
-    sound_booted n = unfold booted in sound_handed s t i (time earlier) what.Begin _ (fresh_sound s t i (time earlier) base (suc n.boots) rule.1) refl
+    sound_booted : (n : Running) → IsSound s t i (time earlier) (booted s i (time earlier) base clean n)
+    sound_booted n = unfold booted in sound_handed s t i (time earlier) (begin_of clean) _ (fresh_sound s t i (time earlier) base (suc n.boots) rule.1) refl
 sound_turn s t i earlier moment (IsAdd entry e at) rule was =
     subst (λ n. IsSound s t i (time (moment ∷ earlier)) n) (sym e) (subst (λ now. IsSound s t i now (handed s i (time earlier) entry (node s i earlier))) (sym at)
     (sound_handed s t i (time earlier) entry (node s i earlier) was rule.0))
@@ -245,9 +245,9 @@ newest_rule (OneRuled rule ruled) = rule
 pub earlier_ruled : {s : Settings} {t : Timing} {moment : Moment} {earlier : List Moment} → AllRuled s t (moment ∷ earlier) → AllRuled s t earlier
 earlier_ruled (OneRuled rule ruled) = ruled
 
-booted_boots : (s : Settings) (i now base : ℕ) (n : Running) → (booted s i now base n).boots ≡ suc n.boots
+booted_boots : (s : Settings) (i now base : ℕ) (clean : Bool) (n : Running) → (booted s i now base clean n).boots ≡ suc n.boots
 unfolding booted handed logged
-booted_boots s i now base n = refl
+booted_boots s i now base clean n = refl
 
 handed_boots : (s : Settings) (i now : ℕ) (entry : What) (n : Running) → (handed s i now entry n).boots ≡ n.boots
 unfolding handed logged
@@ -257,7 +257,7 @@ handed_boots s i now entry n = refl
 boots_turn : (s : Settings) (i : ℕ) (earlier : List Moment) (moment : Moment) → Turn s i earlier moment → (node s i earlier).boots ≤ (node s i (moment ∷ earlier)).boots
 boots_turn s i earlier moment (IsApart m e at) = let p = ap (λ n. n.boots) e in omega arith
 boots_turn s i earlier moment (IsPass dt clocks e at) = let p = ap (λ n. n.boots) e in omega arith
-boots_turn s i earlier moment (IsBoot base e at) = let p = ap (λ n. n.boots) e ∙ booted_boots s i (time earlier) base (node s i earlier) in omega arith
+boots_turn s i earlier moment (IsBoot base clean e at) = let p = ap (λ n. n.boots) e ∙ booted_boots s i (time earlier) base clean (node s i earlier) in omega arith
 boots_turn s i earlier moment (IsAdd entry e at) = let p = ap (λ n. n.boots) e ∙ handed_boots s i (time earlier) entry (node s i earlier) in omega arith
 boots_turn s i earlier moment (IsFeed e at) = let p = ap (λ n. n.boots) e in omega arith
 boots_turn s i earlier moment (IsEnd e at) = let p = ap (λ n. n.boots) e in omega arith
@@ -311,8 +311,8 @@ one_step s t i earlier moment (IsPass dt clocks e at) rule sound_now same on =
       fast = omega arith;
       forward = omega arith;
     }
-one_step s t i earlier moment (IsBoot base e at) rule sound_now same on =
-    absurd (let p = ap (λ n. n.boots) e ∙ booted_boots s i (time earlier) base (node s i earlier) in omega arith)
+one_step s t i earlier moment (IsBoot base clean e at) rule sound_now same on =
+    absurd (let p = ap (λ n. n.boots) e ∙ booted_boots s i (time earlier) base clean (node s i earlier) in omega arith)
 one_step s t i earlier moment (IsAdd entry e at) rule sound_now same on =
     still s i earlier moment rule.0 (subst (λ n. Before (node s i earlier).log n.log) (sym e) (handed_grows s i (time earlier) entry (node s i earlier)))
     (ap (λ n. n.clock) e ∙ handed_clock s i (time earlier) entry (node s i earlier)) at

@@ -1,5 +1,6 @@
 -- What an output of a node tells of the entry that gave it.
 use Rattle.std.proofs.Common.{◌≡◌, ℕ, suc, zero, ◌+◌, ◌<◌, ◌≤◌, Bool, true, false, List, [], ◌∷◌, ◌++◌, length, Some, None, Option, refl, sym, ap, ◌∙◌, subst, arith, cond, ◌&&◌, ◌||◌, ◌==◌, not, if◌then◌else◌, ◌⊎◌, inl, inr, is_some, All, map, filter}
+use Rattle.std.specs.Prelude.{option_and_then}
 use Rattle.std.specs.Option.{option_or, option_map, option_map_or}
 use Rattle.std.proofs.lemmas.List.Elements.{All-nil, All-cons, All-append, All-head, All-tail, All-map}
 use Rattle.std.proofs.lemmas.Bool.{false≢true}
@@ -20,22 +21,22 @@ use Rattle.qn_model.specs.declared.outputs.DiskOp.TheVariants as disk
 use Rattle.qn_model.specs.declared.outputs.Out.{Out}
 use Rattle.qn_model.specs.declared.outputs.Out.TheVariants as out
 use Rattle.qn_model.specs.declared.outputs.HaltKind.TheVariants as halt
-use Rattle.qn_model.specs.Log.{Line, op_out, incarnation, now, disk_of, has_start}
+use Rattle.qn_model.specs.Log.{Line, begins_clean, op_out, incarnation, now, disk_of, has_start, slot_number}
 use Rattle.qn_model.specs.Phases.{phase, boot_halt, message_of, deadly_of, is_booting, is_live, is_up, is_leaving}
 use Rattle.qn_model.specs.Fitting.{is_closed}
 use Rattle.qn_model.specs.Holding.{holds}
-use Rattle.qn_model.specs.NodeVotes.{install, view, is_in_view, is_present, released, quorate}
+use Rattle.qn_model.specs.NodeVotes.{install, view, is_in_view, is_present, released, quorate_with_tie}
 use Rattle.qn_model.specs.Unmet.{unmet, is_clear, is_chosen}
-use Rattle.qn_model.specs.Wanted.{wanted, fencing_op, to_read, to_reset, boot_op, close_op, rank_of, is_mail_due, may_fence}
+use Rattle.qn_model.specs.Wanted.{wanted_with_delay, fencing_op_with_delay, is_delay_over, to_read, to_reset, to_reset_now, boot_op, close_op, rank_of, is_mail_due, may_fence}
 use Rattle.qn_model.specs.NodeOutputs.{acts, outs_at, live_outs, boot_outs, boot_step_outs, is_boot_step, is_begin, disk_outs, when, replies, reply, asks_under, ask_to, is_asking, gives_stop, gives_start, mail_feeds}
 use Rattle.qn_safety.proofs.Least.{least_passes}
 use Rattle.qn_safety.proofs.Tools.{some_same, none_some, and_left_of, and_right_of, not_true}
 
 -- an operation of the boot: the entry is a step of the boot that goes on
-pub record BootReason (s : Settings) (me : ℕ) (past : List Line) (entry : What) (op : DiskOp) : Type 0 where
+pub record BootReason (s : Settings) (me : ℕ) (past log : List Line) (entry : What) (op : DiskOp) : Type 0 where
   pub booting : is_booting (phase s past) ≡ true
   pub goes_on : boot_halt s entry ≡ None
-  pub next : boot_op me entry ≡ Some op
+  pub next : boot_op me (begins_clean log) (slot_number log) entry ≡ Some op
 
 -- the state that a node that takes part asks for an operation in
 abbrev pub LiveState : Settings → List Line → DiskOp → Type 0
@@ -53,7 +54,7 @@ pub record LiveReason (s : Settings) (past log : List Line) (entry : What) (op :
   pub state : LiveState s log op
 
 abbrev pub Reason : Settings → ℕ → List Line → What → List Line → DiskOp → Type 0
-Reason s me past entry log op = BootReason s me past entry op ⊎ LiveReason s past log entry op
+Reason s me past entry log op = BootReason s me past log entry op ⊎ LiveReason s past log entry op
 
 pub record StartReason (s : Settings) (me : ℕ) (past log : List Line) : Type 0 where
   pub live : is_live (phase s past) ≡ true
@@ -110,6 +111,18 @@ to_read_outside s log rank e = outside_first _ _ (least_passes _ 0 _ rank e)
 to_reset_outside : (s : Settings) (log : List Line) (rank : ℕ) → to_reset s log ≡ Some rank → is_in_view log rank ≡ false
 to_reset_outside s log rank e = outside_of_three _ _ _ (least_passes _ 0 _ rank e)
 
+-- the node that is reset now is the one to reset
+now_or_later : (reset : Option ℕ) (over : ℕ → Bool) (rank : ℕ) → option_and_then (λ r. if over r then Some r else None) reset ≡ Some rank → reset ≡ Some rank
+now_or_later None over rank e = none_some rank e
+now_or_later (Some other) over rank e = by_delay (over other) e
+  where
+    by_delay : (b : Bool) → (if b then Some other else None) ≡ Some rank → Some other ≡ Some rank
+    by_delay true is = is
+    by_delay false is = none_some rank is
+
+to_reset_now_outside : (s : Settings) (log : List Line) (rank : ℕ) → to_reset_now s log ≡ Some rank → is_in_view log rank ≡ false
+to_reset_now_outside s log rank e = to_reset_outside s log rank (now_or_later (to_reset s log) (is_delay_over s log) rank e)
+
 fencing_state : (s : Settings) (log : List Line) (read reset : Option ℕ) (op : DiskOp)
     → is_up (phase s log) ≡ true
     → ((rank : ℕ) → read ≡ Some rank → is_in_view log rank ≡ false)
@@ -140,14 +153,14 @@ wanted_cases s log op None false false held true fencing closing p q e = (refl, 
 wanted_cases s log op None false false held false fencing closing p q e = none_some op e
 
 -- what a node that takes part wants next, it wants for a reason
-pub wanted_by : (s : Settings) (me : ℕ) (log : List Line) (op : DiskOp) → wanted s me log ≡ Some op → (op_out log ≡ None) × LiveState s log op
-unfolding wanted
+pub wanted_by : (s : Settings) (me : ℕ) (log : List Line) (op : DiskOp) → wanted_with_delay s me log ≡ Some op → (op_out log ≡ None) × LiveState s log op
+unfolding wanted_with_delay
 wanted_by s me log op e =
-    wanted_cases s log op (op_out log) (is_mail_due log) (is_leaving (phase s log)) (holds log) (may_fence s me log) (fencing_op s log) (close_op log)
+    wanted_cases s log op (op_out log) (is_mail_due log) (is_leaving (phase s log)) (holds log) (may_fence s me log) (fencing_op_with_delay s log) (close_op log)
     (λ leaving held closing. close_state s log (incarnation log) op refl leaving held closing)
-    (λ fence fencing. fencing_state s log (to_read s log) (to_reset s log) op
-    (and_left_of (is_up (phase s log)) (quorate s log (now log)) (and_left_of _ (is_chosen s me log) fence))
-    (to_read_outside s log) (to_reset_outside s log) fencing)
+    (λ fence fencing. fencing_state s log (to_read s log) (to_reset_now s log) op
+    (and_left_of (is_up (phase s log)) (quorate_with_tie s log (now log)) (and_left_of _ (is_chosen s me log) fence))
+    (to_read_outside s log) (to_reset_now_outside s log) fencing)
     e
 
 module _ (s : Settings) (me : ℕ) (past : List Line) (tick : ℕ) (entry : What) (log : List Line) where
@@ -192,8 +205,10 @@ module _ (s : Settings) (me : ℕ) (past : List Line) (tick : ℕ) (entry : What
   replies_say : (other : What) → is_live (phase s past) ≡ true → entry ≡ other → AllSay (replies s me (gives_start s me log || holds log) log other)
   replies_say (what.Ask ask) live same = reply_says ask live same
   replies_say what.Begin live same = none_says
+  replies_say what.BeginClean live same = none_says
   replies_say (what.Header seen) live same = none_says
   replies_say (what.SlotRead rank seen) live same = none_says
+  replies_say (what.MailChecked seen) live same = none_says
   replies_say (what.Claimed ok) live same = none_says
   replies_say (what.Cleared ok) live same = none_says
   replies_say (what.MailRead seen) live same = none_says
@@ -233,7 +248,7 @@ module _ (s : Settings) (me : ℕ) (past : List Line) (tick : ℕ) (entry : What
       (when_says (mail_feeds tick past entry) out.Feed (λ e. inr e)))
       (replies_say entry live refl))
       (asks_say (is_asking s log) live))
-      (op_says (wanted s me log) (λ op e. let why = wanted_by s me log op e in
+      (op_says (wanted_with_delay s me log) (λ op e. let why = wanted_by s me log op e in
       inr (record { live = live; lives_on = lives; not_closed = not_closed; silent = why.0; state = why.1 })))
 
   live_say : (other : What) (message : Option Message) → is_live (phase s past) ≡ true → is_closed entry ≡ is_closed other → deadly_of (message_of entry) ≡ message
@@ -242,8 +257,10 @@ module _ (s : Settings) (me : ℕ) (past : List Line) (tick : ℕ) (entry : What
   live_say other (Some message) live same deadly p = one_says (out.Halt (halt.Deadly message)) tt
   live_say (what.Closed ok) None live same deadly p = one_says out.Disarm tt
   live_say what.Begin None live same deadly p = p deadly same
+  live_say what.BeginClean None live same deadly p = p deadly same
   live_say (what.Header seen) None live same deadly p = p deadly same
   live_say (what.SlotRead rank seen) None live same deadly p = p deadly same
+  live_say (what.MailChecked seen) None live same deadly p = p deadly same
   live_say (what.Claimed ok) None live same deadly p = p deadly same
   live_say (what.Cleared ok) None live same deadly p = p deadly same
   live_say (what.MailRead seen) None live same deadly p = p deadly same
@@ -256,17 +273,17 @@ module _ (s : Settings) (me : ℕ) (past : List Line) (tick : ℕ) (entry : What
   live_say (what.Stopped ok) None live same deadly p = p deadly same
   live_say what.Leave None live same deadly p = p deadly same
 
-  boot_step_says : (cause : Option BootCause) → is_booting (phase s past) ≡ true → boot_halt s entry ≡ cause → AllSay (boot_step_outs me entry cause)
+  boot_step_says : (cause : Option BootCause) → is_booting (phase s past) ≡ true → boot_halt s entry ≡ cause → AllSay (boot_step_outs me (begins_clean log) (slot_number log) entry cause)
   boot_step_says None booting goes = both_say _ _ (when_says (not (is_begin entry)) out.Feed (λ e. inl booting))
-      (op_says (boot_op me entry) (λ op e. inl (record { booting = booting; goes_on = goes; next = e })))
+      (op_says (boot_op me (begins_clean log) (slot_number log) entry) (λ op e. inl (record { booting = booting; goes_on = goes; next = e })))
   boot_step_says (Some cause) booting goes = one_says _ tt
 
-  boot_says : (step : Bool) → is_booting (phase s past) ≡ true → AllSay (if step then boot_step_outs me entry (boot_halt s entry) else [])
+  boot_says : (step : Bool) → is_booting (phase s past) ≡ true → AllSay (if step then boot_step_outs me (begins_clean log) (slot_number log) entry (boot_halt s entry) else [])
   boot_says true booting = boot_step_says (boot_halt s entry) booting refl
   boot_says false booting = none_says
 
   phase_says : (booting live : Bool) → is_booting (phase s past) ≡ booting → is_live (phase s past) ≡ live
-      → AllSay (if booting then boot_outs s me entry else (if live then live_outs s me log entry (mail_feeds tick past entry) (deadly_of (message_of entry)) else []))
+      → AllSay (if booting then boot_outs s me (begins_clean log) (slot_number log) entry else (if live then live_outs s me log entry (mail_feeds tick past entry) (deadly_of (message_of entry)) else []))
   phase_says true live b l = boot_says (is_boot_step entry) b
   phase_says false true b l = live_say entry (deadly_of (message_of entry)) l refl refl (acts_say l)
   phase_says false false b l = none_says

@@ -19,7 +19,7 @@ use Rattle.qn_model.specs.NodeVotes.{view}
 use Rattle.qn_model.specs.NodeOutputs.{with_entry}
 use Rattle.qn_safety.proofs.Tools.{some_none, and_left_of, and_right_of, not_true}
 use Rattle.qn_model.specs.declared.packets.Sent.{Sent}
-use Rattle.qn_model.specs.Moments.{Moment, Passes, Boots, Adds, Feeds, Ends, Running, tick_of, is_gone, logged, handed, booted, time, node, packets}
+use Rattle.qn_model.specs.Moments.{Moment, Passes, Boots, Adds, Feeds, Ends, Running, tick_of, is_gone, logged, handed, begin_of, booted, time, node, packets}
 use Rattle.qn_model.specs.declared.events.Event.{Event}
 use Rattle.qn_model.specs.declared.events.Event.TheVariants as event
 use Rattle.qn_model.specs.World.{World, put, op_at, slots_with, taken, failed, given_up, leftover_at, numbered, without}
@@ -68,7 +68,7 @@ pub data Effect (s : Settings) (t : Timing) (j : ℕ) (w w' : World) : Type 0 wh
       → seat_of s j w' ≡ record (entered s j tick entry (seat_of s j w)) { took = None } → Effect s t j w w'
   Fails : (tick : ℕ) (op : DiskOp) → (node s j w.moments).on ≡ true → op_out (node s j w.moments).log ≡ Some op
       → seat_of s j w' ≡ record (entered s j tick (failed op) (seat_of s j w)) { took = None; left = w.left j ++ given_up (Some op) (w.took j) } → Effect s t j w w'
-  BootsUp : (tick : ℕ) → (node s j w.moments).on ≡ false → seat_of s j w' ≡ entered s j tick what.Begin (fresh (seat_of s j w)) → Effect s t j w w'
+  BootsUp : (tick : ℕ) (clean : Bool) → (node s j w.moments).on ≡ false → seat_of s j w' ≡ entered s j tick (begin_of clean) (fresh (seat_of s j w)) → Effect s t j w w'
   GoesOff : (node s j w.moments).on ≡ true
       → seat_of s j w' ≡ record (seat_of s j w) { on = false; took = None; left = w.left j ++ given_up (op_out (node s j w.moments).log) (w.took j) } → Effect s t j w w'
   Lands : (op : DiskOp) → (node s j w.moments).on ≡ true → op_out (node s j w.moments).log ≡ Some op → w.took j ≡ None → w' ≡ landed s t j op w
@@ -90,6 +90,7 @@ slots_own j (disk.WriteClaim number) slots = put_same slots j (record { incarnat
 slots_own j (disk.WriteClose number) slots = put_same slots j (record { incarnation = number; clean = true })
 slots_own j disk.ReadHeader slots = refl
 slots_own j (disk.ReadSlot rank) slots = refl
+slots_own j disk.CheckMail slots = refl
 slots_own j disk.WriteClear slots = refl
 slots_own j disk.ReadMail slots = refl
 slots_own j (disk.WriteReset rank) slots = refl
@@ -99,6 +100,7 @@ slots_other r j (disk.WriteClaim number) slots e = put_other slots r j (record {
 slots_other r j (disk.WriteClose number) slots e = put_other slots r j (record { incarnation = number; clean = true }) e
 slots_other r j disk.ReadHeader slots e = refl
 slots_other r j (disk.ReadSlot rank) slots e = refl
+slots_other r j disk.CheckMail slots e = refl
 slots_other r j disk.WriteClear slots e = refl
 slots_other r j disk.ReadMail slots e = refl
 slots_other r j (disk.WriteReset rank) slots e = refl
@@ -112,19 +114,19 @@ handed_seat : (s : Settings) (j now : ℕ) (entry : What) (n : Running) (took : 
 unfolding handed logged with_entry line_of
 handed_seat s j now entry n took left slot = refl
 
-booted_seat : (s : Settings) (j now base : ℕ) (n : Running) (took : Option What) (left : List DiskOp) (slot : Slot)
-    → seat_from (booted s j now base n) None [] slot ≡ entered s j (tick_of base) what.Begin (fresh (seat_from n took left slot))
+booted_seat : (s : Settings) (j now base : ℕ) (clean : Bool) (n : Running) (took : Option What) (left : List DiskOp) (slot : Slot)
+    → seat_from (booted s j now base clean n) None [] slot ≡ entered s j (tick_of base) (begin_of clean) (fresh (seat_from n took left slot))
 unfolding booted handed logged with_entry line_of
-booted_seat s j now base n took left slot = refl
+booted_seat s j now base clean n took left slot = refl
 
 -- the node of another rank does not change
 node_apart_adds : (s : Settings) (r j : ℕ) (entry : What) (ms : List Moment) → (r == j) ≡ false → node s j (Adds r entry ∷ ms) ≡ node s j ms
 unfolding node
 node_apart_adds s r j entry ms e = ap (λ b. if b then handed s j (time ms) entry (node s j ms) else node s j ms) e
 
-node_apart_boots : (s : Settings) (r j base : ℕ) (ms : List Moment) → (r == j) ≡ false → node s j (Boots r base ∷ ms) ≡ node s j ms
+node_apart_boots : (s : Settings) (r j base : ℕ) (clean : Bool) (ms : List Moment) → (r == j) ≡ false → node s j (Boots r base clean ∷ ms) ≡ node s j ms
 unfolding node
-node_apart_boots s r j base ms e = ap (λ b. if b then booted s j (time ms) base (node s j ms) else node s j ms) e
+node_apart_boots s r j base clean ms e = ap (λ b. if b then booted s j (time ms) base clean (node s j ms) else node s j ms) e
 
 node_apart_ends : (s : Settings) (r j : ℕ) (ms : List Moment) → (r == j) ≡ false → node s j (Ends r ∷ ms) ≡ node s j ms
 unfolding node
@@ -185,17 +187,17 @@ module _ (s : Settings) (t : Timing) where
       by_owner true e = subst (λ k. Effect s t k w (fails s r op w)) (eqb-true r j e) own
       by_owner false e = Rests (seat_same _ _ _ _ _ _ _ _ (node_apart_adds s r j (failed op) w.moments e) (put_other w.took r j None e) (put_other w.left r j (w.left r ++ leftover_at s r w) e) refl)
 
-  pub effect_boots : (r j base : ℕ) (w : World) → (node s r w.moments).on ≡ false → Effect s t j w (Steps.boots r base w)
-  effect_boots r j base w off = by_owner (r == j) refl
+  pub effect_boots : (r j base : ℕ) (clean : Bool) (w : World) → (node s r w.moments).on ≡ false → Effect s t j w (Steps.boots r base clean w)
+  effect_boots r j base clean w off = by_owner (r == j) refl
     where
-      own : Effect s t r w (Steps.boots r base w)
-      own = BootsUp (tick_of base) off
-          (seat_same _ _ _ _ _ _ _ _ (booted_node s r base w.moments) (put_same w.took r None) (put_same w.left r []) refl
-          ∙ booted_seat s r (time w.moments) base (node s r w.moments) (w.took r) (w.left r) (w.slots r))
+      own : Effect s t r w (Steps.boots r base clean w)
+      own = BootsUp (tick_of base) clean off
+          (seat_same _ _ _ _ _ _ _ _ (booted_node s r base clean w.moments) (put_same w.took r None) (put_same w.left r []) refl
+          ∙ booted_seat s r (time w.moments) base clean (node s r w.moments) (w.took r) (w.left r) (w.slots r))
 
-      by_owner : (b : Bool) → (r == j) ≡ b → Effect s t j w (Steps.boots r base w)
-      by_owner true e = subst (λ k. Effect s t k w (Steps.boots r base w)) (eqb-true r j e) own
-      by_owner false e = Rests (seat_same _ _ _ _ _ _ _ _ (node_apart_boots s r j base w.moments e) (put_other w.took r j None e) (put_other w.left r j [] e) refl)
+      by_owner : (b : Bool) → (r == j) ≡ b → Effect s t j w (Steps.boots r base clean w)
+      by_owner true e = subst (λ k. Effect s t k w (Steps.boots r base clean w)) (eqb-true r j e) own
+      by_owner false e = Rests (seat_same _ _ _ _ _ _ _ _ (node_apart_boots s r j base clean w.moments e) (put_other w.took r j None e) (put_other w.left r j [] e) refl)
 
   pub effect_ends : (r j : ℕ) (w : World) → (node s r w.moments).on ≡ true → Effect s t j w (happens (Ends r) (gives_up s r w))
   effect_ends r j w on = by_owner (r == j) refl
@@ -268,7 +270,8 @@ test_there test None e = absurd (false≢true e)
 pub effect : (s : Settings) (t : Timing) (j : ℕ) (e : Event) (w : World) → refusal s t e w ≡ None → Effect s t j w (step s t e w)
 unfolding refusal step
 effect s t j (event.Pass dt clocks) w ok = Rests (seat_passes s j dt clocks w)
-effect s t j (event.Boot rank base) w ok = effect_boots s t rank.0 j base w (not_true (is_on s rank.0 w) (allows (not (is_on s rank.0 w)) 2 ok))
+effect s t j (event.Boot rank base) w ok = effect_boots s t rank.0 j base false w (not_true (is_on s rank.0 w) (allows (not (is_on s rank.0 w)) 2 ok))
+effect s t j (event.BootClean rank base) w ok = effect_boots s t rank.0 j base true w (not_true (is_on s rank.0 w) (allows (not (is_on s rank.0 w)) 2 ok))
 effect s t j (event.Crash rank) w ok = effect_ends s t rank.0 j w (running_allows (is_on s rank.0 w) 3 ok)
 effect s t j (event.Land rank) w ok =
     let rules = both_allow (is_on s rank.0 w) (may_land s rank.0 w) 3 4 ok in
@@ -298,3 +301,4 @@ effect s t j (event.Stopped rank) w ok = effect_enters s t rank.0 j (what.Stoppe
 effect s t j (event.Unstopped rank) w ok = effect_enters s t rank.0 j (what.Stopped false) w ((both_allow (is_on s rank.0 w) (may_be_stopped s rank.0 w) 3 5 ok).0) refl
 effect s t j (event.Leave rank) w ok = effect_enters s t rank.0 j what.Leave w (running_allows (is_on s rank.0 w) 3 ok) refl
 effect s t j (event.Feed rank) w ok = Rests (seat_feeds s j rank.0 w)
+effect s t j (event.Operator rank message) w ok = Rests refl

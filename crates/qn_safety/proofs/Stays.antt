@@ -12,7 +12,7 @@ use Rattle.qn_model.specs.declared.outputs.BootCause.{BootCause}
 use Rattle.qn_model.specs.declared.outputs.DiskOp.{DiskOp}
 use Rattle.qn_model.specs.declared.outputs.DiskOp.TheVariants as disk
 use Rattle.qn_model.specs.Log.{Line, op_out, ask_place, disk_of, has_start, is_answer}
-use Rattle.qn_model.specs.Phases.{phase, next_phase, boot_phase, mail_phase, header_halt, slot_halt, boot_halt, message_of, deadly_of, in_time, is_booting, is_live, is_up, is_leaving}
+use Rattle.qn_model.specs.Phases.{phase, next_phase, boot_phase, mail_phase, header_halt, slot_halt, check_halt, boot_halt, message_of, deadly_of, in_time, is_booting, is_live, is_up, is_leaving}
 use Rattle.qn_model.specs.Holding.{holds, is_stopped}
 use Rattle.qn_model.specs.Fitting.{fits}
 use Rattle.qn_model.specs.Moments.{Before, Itself, Later}
@@ -21,23 +21,27 @@ use Rattle.qn_safety.specs.Closing.{is_close, asked_close}
 use Rattle.qn_safety.proofs.Says.{Reason}
 use Rattle.qn_safety.proofs.Clear.{why_clear}
 use Rattle.qn_safety.proofs.Logs.{Made, NoLine, OneMore, IsLine, before_outs, disk_reason, start_reason}
-use Rattle.qn_safety.proofs.Apt.{is_apt, apt, leaving_is, BootStep, BeginStep, HeaderStep, SlotStep, ClaimStep, ClearStep, boot_step_of, cleared_answers}
+use Rattle.qn_safety.proofs.Apt.{is_apt, apt, leaving_is, BootStep, BeginStep, HeaderStep, SlotStep, CleanSlotStep, CheckStep, ClaimStep, ClearStep, boot_step_of, cleared_answers}
 
 -- an operation is given only where none is out any more
-step_silent : (s : Settings) (me : ℕ) (past : List Line) (entry : What) (op : DiskOp) (p : Phase) → BootStep me entry op p → fits s me past entry ≡ true
+step_silent : {number : ℕ} (s : Settings) (me : ℕ) (past : List Line) (entry : What) (op : DiskOp) (p : Phase) → BootStep me number entry op p → fits s me past entry ≡ true
     → (if is_answer entry then None else op_out past) ≡ None
 unfolding op_out
-step_silent s me [] entry op p BeginStep fit = refl
-step_silent s me (line ∷ past) entry op p BeginStep fit = absurd (false≢true fit)
+step_silent s me [] entry op p (BeginStep false) fit = refl
+step_silent s me [] entry op p (BeginStep true) fit = refl
+step_silent s me (line ∷ past) entry op p (BeginStep false) fit = absurd (false≢true fit)
+step_silent s me (line ∷ past) entry op p (BeginStep true) fit = absurd (false≢true fit)
 step_silent s me past entry op p (HeaderStep seen) fit = refl
 step_silent s me past entry op p (SlotStep rank own) fit = refl
+step_silent s me past entry op p (CleanSlotStep rank own) fit = refl
+step_silent s me past entry op p (CheckStep seen) fit = refl
 step_silent s me past entry op p ClaimStep fit = refl
 step_silent s me past entry op p ClearStep fit = refl
 
 reason_silent : (s : Settings) (me : ℕ) (line : Line) (past : List Line) (op : DiskOp) → IsLine s me line past
     → Reason s me past line.what (before_outs line past) op → (if is_answer line.what then None else op_out past) ≡ None
 unfolding op_out
-reason_silent s me line past op it (inl boots) = step_silent s me past line.what op _ (boot_step_of s me line.what op false boots.goes_on boots.next) it.fitting
+reason_silent s me line past op it (inl boots) = step_silent s me past line.what op _ (boot_step_of s me _ line.what op false boots.goes_on boots.next) it.fitting
 reason_silent s me line past op it (inr lives) = lives.silent
 
 pub silent_while_out : {s : Settings} {me : ℕ} {line : Line} {past : List Line} → IsLine s me line past → (op : DiskOp) → disk_of line.outs ≡ Some op
@@ -88,10 +92,13 @@ next_past : (s : Settings) (me : ℕ) (past : List Line) (entry : What) (timely 
     → is_booting (next_phase s entry timely (phase s past)) ≡ false
 unfolding phase
 next_past s me [] what.Begin timely fit e = absurd (true≢false e)
+next_past s me [] what.BeginClean timely fit e = absurd (true≢false e)
 next_past s me (line ∷ past) what.Begin timely fit e = absurd (false≢true fit)
+next_past s me (line ∷ past) what.BeginClean timely fit e = absurd (false≢true fit)
 next_past s me past (what.Header seen) timely fit e = halted_past (header_halt s seen) (phase s past) e
 next_past s me past (what.SlotRead rank seen) timely fit e =
     ap (λ b. is_booting (if b then boot_phase (slot_halt seen) (phase s past) else phase s past)) e ∙ e
+next_past s me past (what.MailChecked seen) timely fit e = halted_past (check_halt seen) (phase s past) e
 next_past s me past (what.Claimed ok) timely fit e = ok_past ok (phase s past) Gone e refl
 next_past s me past (what.Cleared ok) timely fit e = ok_past ok Up Gone refl refl
 next_past s me past (what.MailRead seen) timely fit e = mail_past (message_of (what.MailRead seen)) timely (phase s past) e
@@ -158,9 +165,12 @@ next_over : (s : Settings) (me : ℕ) (past : List Line) (entry : What) (timely 
     → is_over (phase s past) ≡ true → is_over (next_phase s entry timely (phase s past)) ≡ true
 unfolding phase
 next_over s me [] what.Begin timely fit a e = absurd (false≢true e)
+next_over s me [] what.BeginClean timely fit a e = absurd (false≢true e)
 next_over s me (line ∷ past) what.Begin timely fit a e = absurd (false≢true fit)
+next_over s me (line ∷ past) what.BeginClean timely fit a e = absurd (false≢true fit)
 next_over s me past (what.Header seen) timely fit a e = halted_over (header_halt s seen) (phase s past) e
 next_over s me past (what.SlotRead rank seen) timely fit a e = slot_over (slot_halt seen) (phase s past) e
+next_over s me past (what.MailChecked seen) timely fit a e = halted_over (check_halt seen) (phase s past) e
 next_over s me past (what.Claimed ok) timely fit a e = ok_over ok (phase s past) e
 next_over s me past (what.Cleared ok) timely fit a e = clear_over (phase s past) (op_out past) (if ok then Up else Gone) (cleared_answers (op_out past) ok fit) a e
 next_over s me past (what.MailRead seen) timely fit a e = mail_over (message_of (what.MailRead seen)) timely (phase s past) e
@@ -208,16 +218,19 @@ close_given : (s : Settings) (me : ℕ) (line : Line) (past : List Line) (op : O
 close_given s me line past None it gave is = absurd (false≢true is)
 close_given s me line past (Some disk.ReadHeader) it gave is = absurd (false≢true is)
 close_given s me line past (Some (disk.ReadSlot rank)) it gave is = absurd (false≢true is)
+close_given s me line past (Some disk.CheckMail) it gave is = absurd (false≢true is)
 close_given s me line past (Some (disk.WriteClaim n)) it gave is = absurd (false≢true is)
 close_given s me line past (Some disk.WriteClear) it gave is = absurd (false≢true is)
 close_given s me line past (Some disk.ReadMail) it gave is = absurd (false≢true is)
 close_given s me line past (Some (disk.WriteReset rank)) it gave is = absurd (false≢true is)
 close_given s me line past (Some (disk.WriteClose n)) it gave is = by_reason (disk_reason it (disk.WriteClose n) gave)
   where
-    no_step : (entry : What) (op : DiskOp) (p : Phase) → BootStep me entry op p → op ≡ disk.WriteClose n → ⊥
-    no_step entry op p BeginStep e = cc
+    no_step : {number : ℕ} (entry : What) (op : DiskOp) (p : Phase) → BootStep me number entry op p → op ≡ disk.WriteClose n → ⊥
+    no_step entry op p (BeginStep clean) e = cc
     no_step entry op p (HeaderStep seen) e = cc
     no_step entry op p (SlotStep rank own) e = cc
+    no_step entry op p (CleanSlotStep rank own) e = cc
+    no_step entry op p (CheckStep seen) e = cc
     no_step entry op p ClaimStep e = cc
     no_step entry op p ClearStep e = cc
 
@@ -231,7 +244,7 @@ close_given s me line past (Some (disk.WriteClose n)) it gave is = by_reason (di
         phase_same l ls = unfold phase in refl
 
     by_reason : Reason s me past line.what (before_outs line past) (disk.WriteClose n) → (holds (before_outs line past) ≡ false) × (is_over (phase s (line ∷ past)) ≡ true)
-    by_reason (inl boots) = absurd (no_step line.what (disk.WriteClose n) _ (boot_step_of s me line.what (disk.WriteClose n) false boots.goes_on boots.next) refl)
+    by_reason (inl boots) = absurd (no_step line.what (disk.WriteClose n) _ (boot_step_of s me _ line.what (disk.WriteClose n) false boots.goes_on boots.next) refl)
     by_reason (inr lives) = (lives.state.1, after_outs lives.state.0)
 
 idle_after : (start before stopped : Bool) → start ≡ false → (before && not stopped) ≡ false → (start || (before && not stopped)) ≡ false

@@ -2,13 +2,16 @@
 use Rattle.std.proofs.Common.{◌≡◌, ℕ, ◌<◌, Bool, true, false, List, ◌∷◌, Some, None, Option, refl, sym, ap, ◌∙◌, subst, arith, ◌&&◌, ◌||◌, ◌==◌, not, if◌then◌else◌, ◌⊎◌, inl, inr}
 use Rattle.std.specs.Option.{option_or, option_map, option_map_or}
 use Rattle.std.proofs.lemmas.Bool.{false≢true, true≢false, cases_order, eqb-true}
+use Rattle.qn_base.specs.declared.ids.Rank.{Rank}
 use Rattle.qn_base.specs.declared.ids.View.{View}
 use Rattle.qn_base.specs.Members.{is_member}
 use Rattle.qn_model.specs.declared.configuration.Settings.{Settings}
 use Rattle.qn_model.specs.declared.times.Timing.{Timing}
 use Rattle.qn_model.specs.declared.packets.Ask.{Ask}
 use Rattle.qn_model.specs.declared.packets.Tell.{Tell}
+use Rattle.qn_model.specs.declared.packets.Packet.{Packet}
 use Rattle.qn_model.specs.declared.packets.Packet.TheVariants as packet
+use Rattle.qn_model.specs.declared.outputs.Out.TheVariants as out
 use Rattle.qn_model.specs.declared.entries.What.{What}
 use Rattle.qn_model.specs.declared.entries.What.TheVariants as what
 use Rattle.qn_model.specs.declared.life.Phase.{Phase}
@@ -22,7 +25,7 @@ use Rattle.qn_model.specs.NodeOutputs.{gives_start}
 use Rattle.qn_model.specs.Moments.{Before, Itself, Later}
 use Rattle.qn_safety.proofs.Tools.{some_same, clash, and_left_of, and_right_of, not_true, before_then, before_tail}
 use Rattle.qn_model.specs.declared.packets.Sent.{Sent}
-use Rattle.qn_model.specs.Moments.{Moment, Adds, node}
+use Rattle.qn_model.specs.Moments.{Moment, begin_of, Adds, node}
 use Rattle.qn_safety.specs.Timed.{IsAdded, IsUp, IsSameBoot, IsSentTo, WasSent, AllRuled, IsTimedRun}
 use Rattle.std.proofs.Common.{unwrap_or}
 use Rattle.qn_model.specs.NodeVotes.{is_same_view}
@@ -30,7 +33,7 @@ use Rattle.qn_safety.proofs.Says.{PacketReason, TellReason, AskReason}
 use Rattle.qn_safety.proofs.Logs.{Made, IsLine, before_outs, made_line, start_reason}
 use Rattle.qn_safety.proofs.Rests.{TellFound, same_view_at}
 use Rattle.qn_safety.proofs.Runs.{sound, ruled_before, newest_rule}
-use Rattle.qn_safety.proofs.Origins.{Origin, ByEntry, ByBoot, origin, AddedLine, added_line, Sending, sent_at}
+use Rattle.qn_safety.proofs.Origins.{IsIn, Origin, ByEntry, ByBoot, origin, AddedLine, added_line, Sending, sent_at}
 use Rattle.qn_safety.proofs.Numbers.{up_number}
 use Rattle.qn_safety.proofs.Fence.{added_then}
 use Rattle.qn_safety.proofs.Licensed.{added_boots}
@@ -129,6 +132,9 @@ pub record TellTrace (s : Settings) (i j : ℕ) (tell : Tell) (heard_at : List M
   pub idle : tell.holds ≡ false → holds (line ∷ past) ≡ false
   pub sees : is_in_view (line ∷ past) i ≡ true
   pub shows : is_present (line ∷ past) tell.view ≡ true
+  pub to : Rank
+  pub receives : to.0 ≡ i
+  pub sends : IsIn (out.Send to (packet.Tell tell)) line.outs
   pub ask_line : Line
   pub ask_past : List Line
   pub asked : List Moment
@@ -148,9 +154,9 @@ same_present line past seen = refl
 module _ {s : Settings} {t : Timing} {all : List Moment} (run : IsTimedRun s t all) (i : ℕ) where
   -- from the Ask that was sent on: both packets, and the boot that asked
   traced_from : (j : ℕ) (tell : Tell) (heard_at : List Moment) → Before heard_at all → IsUp s i heard_at → claimed (node s i heard_at).log ≡ Some tell.incarnation
-      → (sent_tell : Sent) → sent_tell.to.0 ≡ i → (sending : Sending s j sent_tell heard_at)
+      → (sent_tell : Sent) → sent_tell.to.0 ≡ i → sent_tell.packet ≡ packet.Tell tell → (sending : Sending s j sent_tell heard_at)
       → TellReason s j sending.past (before_outs sending.line sending.past) sending.line.what sent_tell.to tell → TellTrace s i j tell heard_at
-  traced_from j tell heard_at heard_all up_heard claims sent_tell receiver sending why =
+  traced_from j tell heard_at heard_all up_heard claims sent_tell receiver content sending why =
       by_ask (sent_at (ruled_before back_before_all run.ruled) asked_sent)
     where
       back_sent_all : Before (Adds j sending.added.entry ∷ sending.before) all
@@ -203,6 +209,9 @@ module _ {s : Settings} {t : Timing} {all : List Moment} (run : IsTimedRun s t a
         sees = sym (same_view_at sending.line sending.past i)
             ∙ member_of_present (view (before_outs sending.line sending.past)) why.ask.view i why.present (subst (λ r. is_member why.ask.view.members r ≡ true) asker why.member);
         shows = sym (same_present sending.line sending.past tell.view) ∙ ap (is_present (before_outs sending.line sending.past)) why.same_view ∙ why.present;
+        to = sent_tell.to;
+        receives = receiver;
+        sends = subst (λ (p : Packet). IsIn (out.Send sent_tell.to p) sending.line.outs) content sending.sends;
         ask_line = asking.line;
         ask_past = asking.past;
         asked = asking.before;
@@ -228,7 +237,7 @@ module _ {s : Settings} {t : Timing} {all : List Moment} (run : IsTimedRun s t a
           let why : TellReason s found.0 found.1.past (before_outs found.1.line found.1.past) found.1.line.what told_sent.sent.to tell =
           subst (λ c. PacketReason s found.0 found.1.past (before_outs found.1.line found.1.past) found.1.line.what told_sent.sent.to c) told_sent.content found.1.reason in
           subst (λ x. TellTrace s i x tell heard_at) (sym (ap (λ r. r.0) why.from_me))
-          (traced_from found.0 tell heard_at heard_all up_heard claims told_sent.sent told_sent.receiver found.1 why)
+          (traced_from found.0 tell heard_at heard_all up_heard claims told_sent.sent told_sent.receiver told_sent.content found.1 why)
 
   -- what a Tell that answers says
   pub tell_trace : (line : Line) (past : List Line) (before : List Moment) (tell : Tell) → IsAdded s i line past before all → line.what ≡ what.Tell tell → answers past tell ≡ true
@@ -265,14 +274,15 @@ module _ {s : Settings} {t : Timing} {all : List Moment} (run : IsTimedRun s t a
   pub traced : (m : List Moment) → Before m all → (j : ℕ) → TellFound (λ tell. not tell.holds) j (node s i m).log → Traced s i j m
   traced m m_all j found = by_origin (origin s i found.line found.past m found.back)
     where
-      no_begin : found.line.what ≡ what.Begin → ⊥
-      no_begin begins = told_begin (sym begins ∙ found.reads)
+      no_begin : (clean : Bool) → found.line.what ≡ begin_of clean → ⊥
+      no_begin clean begins = told_begin clean (sym begins ∙ found.reads)
         where
-          told_begin : what.Begin ≡ what.Tell found.tell → ⊥
-          told_begin e = cc
+          told_begin : (clean : Bool) → begin_of clean ≡ what.Tell found.tell → ⊥
+          told_begin false e = cc
+          told_begin true e = cc
 
       by_origin : Origin s i found.line found.past m → Traced s i j m
-      by_origin (ByBoot begins first) = absurd (no_begin begins)
+      by_origin (ByBoot clean begins first) = absurd (no_begin clean begins)
       by_origin (ByEntry before added same) =
           subst (λ x. Traced s i x m) found.sender
           (traced_at m before found.tell (before_tail added.back) (sym (added_boots s i added.entry before) ∙ same) found.passes

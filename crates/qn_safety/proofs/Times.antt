@@ -18,7 +18,7 @@ use Rattle.qn_model.specs.Moments.{Before, Itself, Later}
 use Rattle.qn_safety.proofs.Tools.{some_same, none_some, some_none, clash, and_left_of}
 use Rattle.qn_safety.proofs.Says.{Reason}
 use Rattle.qn_safety.proofs.Logs.{Made, NoLine, OneMore, IsLine, before_outs, disk_reason}
-use Rattle.qn_safety.proofs.Apt.{is_apt, apt, BootStep, BeginStep, HeaderStep, SlotStep, ClaimStep, ClearStep, boot_step_of, booting_is, slot_answers, claimed_answers, cleared_answers, mail_answers, reset_answers}
+use Rattle.qn_safety.proofs.Apt.{is_apt, apt, BootStep, BeginStep, HeaderStep, SlotStep, CleanSlotStep, CheckStep, ClaimStep, ClearStep, boot_step_of, booting_is, slot_answers, check_answers, claimed_answers, cleared_answers, mail_answers, reset_answers}
 
 -- every header in the log gives these times
 pub HeadersGive : Timing → List Line → Type 0
@@ -43,6 +43,7 @@ blank_out : (out : Option DiskOp) (p : Phase) → is_booting p ≡ true → is_b
 blank_out None p b e = inl refl
 blank_out (Some disk.ReadHeader) p b e = inr refl
 blank_out (Some (disk.ReadSlot rank)) p b e = absurd (false≢true (ap (λ q. is_blank (Some (disk.ReadSlot rank)) q) (sym (booting_is p b)) ∙ e))
+blank_out (Some disk.CheckMail) p b e = absurd (false≢true (ap (λ q. is_blank (Some disk.CheckMail) q) (sym (booting_is p b)) ∙ e))
 blank_out (Some (disk.WriteClaim number)) p b e = absurd (false≢true (ap (λ q. is_blank (Some (disk.WriteClaim number)) q) (sym (booting_is p b)) ∙ e))
 blank_out (Some disk.WriteClear) p b e = absurd (false≢true (ap (λ q. is_blank (Some disk.WriteClear) q) (sym (booting_is p b)) ∙ e))
 blank_out (Some disk.ReadMail) p b e = absurd (false≢true (ap (λ q. is_blank (Some disk.ReadMail) q) (sym (booting_is p b)) ∙ e))
@@ -60,12 +61,14 @@ blank_answer s me past (what.Header (header.Read nodes times)) timely is fit out
 blank_answer s me past (what.Header header.NotImage) timely is fit out none = refl
 blank_answer s me past (what.Header header.Failed) timely is fit out none = refl
 blank_answer s me past (what.SlotRead other seen) timely is fit out none = let op = slot_answers (op_out past) other seen fit in absurd (not_header (op_out past) (disk.ReadSlot op.0) op.1 (λ e. cc) out)
+blank_answer s me past (what.MailChecked seen) timely is fit out none = absurd (not_header (op_out past) disk.CheckMail (check_answers (op_out past) seen fit) (λ e. cc) out)
 blank_answer s me past (what.Claimed ok) timely is fit out none = let op = claimed_answers (op_out past) ok fit in absurd (not_header (op_out past) (disk.WriteClaim op.0) op.1 (λ e. cc) out)
 blank_answer s me past (what.Cleared ok) timely is fit out none = absurd (not_header (op_out past) disk.WriteClear (cleared_answers (op_out past) ok fit) (λ e. cc) out)
 blank_answer s me past (what.MailRead seen) timely is fit out none = absurd (not_header (op_out past) disk.ReadMail (mail_answers (op_out past) seen fit) (λ e. cc) out)
 blank_answer s me past (what.MailWritten other ok) timely is fit out none = let op = reset_answers (op_out past) other ok fit in absurd (not_header (op_out past) (disk.WriteReset op.0) op.1 (λ e. cc) out)
 blank_answer s me past (what.Closed ok) timely is fit out none = refl
 blank_answer s me past what.Begin timely is fit out none = absurd (false≢true is)
+blank_answer s me past what.BeginClean timely is fit out none = absurd (false≢true is)
 blank_answer s me past (what.View installed) timely is fit out none = absurd (false≢true is)
 blank_answer s me past (what.Ask ask) timely is fit out none = absurd (false≢true is)
 blank_answer s me past (what.Tell tell) timely is fit out none = absurd (false≢true is)
@@ -84,6 +87,7 @@ not_up_booting p b l = false≢true (ap is_up (sym (booting_is p b)) ∙ l)
 pub boot_tick : (s : Settings) (me : ℕ) (past : List Line) (entry : What) (timely : Bool) → is_answer entry ≡ false → fits s me past entry ≡ true
     → is_booting (phase s past) ≡ true → is_booting (next_phase s entry timely (phase s past)) ≡ true
 boot_tick s me past what.Begin timely is fit b = refl
+boot_tick s me past what.BeginClean timely is fit b = refl
 boot_tick s me past what.Tick timely is fit b = b
 boot_tick s me past (what.Stopped ok) timely is fit b = b
 boot_tick s me past what.Leave timely is fit b = absurd (not_up_booting (phase s past) b fit)
@@ -93,16 +97,19 @@ boot_tick s me past (what.Tell tell) timely is fit b = absurd (not_live_up (phas
 boot_tick s me past (what.Device agrees) timely is fit b = absurd (not_live_up (phase s past) b fit)
 boot_tick s me past (what.Header seen) timely is fit b = absurd (true≢false is)
 boot_tick s me past (what.SlotRead other seen) timely is fit b = absurd (true≢false is)
+boot_tick s me past (what.MailChecked seen) timely is fit b = absurd (true≢false is)
 boot_tick s me past (what.Claimed ok) timely is fit b = absurd (true≢false is)
 boot_tick s me past (what.Cleared ok) timely is fit b = absurd (true≢false is)
 boot_tick s me past (what.MailRead seen) timely is fit b = absurd (true≢false is)
 boot_tick s me past (what.MailWritten other ok) timely is fit b = absurd (true≢false is)
 boot_tick s me past (what.Closed ok) timely is fit b = absurd (true≢false is)
 
-begin_only : (me : ℕ) (entry : What) (op : DiskOp) (p : Phase) → BootStep me entry op p → is_answer entry ≡ false → op ≡ disk.ReadHeader
-begin_only me entry op p BeginStep is = refl
+begin_only : {number : ℕ} (me : ℕ) (entry : What) (op : DiskOp) (p : Phase) → BootStep me number entry op p → is_answer entry ≡ false → op ≡ disk.ReadHeader
+begin_only me entry op p (BeginStep clean) is = refl
 begin_only me entry op p (HeaderStep seen) is = absurd (true≢false is)
 begin_only me entry op p (SlotStep rank own) is = absurd (true≢false is)
+begin_only me entry op p (CleanSlotStep rank own) is = absurd (true≢false is)
+begin_only me entry op p (CheckStep seen) is = absurd (true≢false is)
 begin_only me entry op p ClaimStep is = absurd (true≢false is)
 begin_only me entry op p ClearStep is = absurd (true≢false is)
 
@@ -116,6 +123,7 @@ pub gone_next : (s : Settings) (me : ℕ) (past : List Line) (entry : What) (tim
 unfolding phase
 gone_next s me [] entry timely fit gone a = absurd (false≢true (ap Rattle.qn_model.specs.Moments.is_gone gone))
 gone_next s me (line ∷ past) what.Begin timely fit gone a = absurd (false≢true fit)
+gone_next s me (line ∷ past) what.BeginClean timely fit gone a = absurd (false≢true fit)
 gone_next s me (line ∷ past) what.Tick timely fit gone a = gone
 gone_next s me (line ∷ past) (what.Stopped ok) timely fit gone a = gone
 gone_next s me (line ∷ past) what.Leave timely fit gone a = absurd (false≢true (ap is_up (sym gone) ∙ fit))
@@ -125,6 +133,7 @@ gone_next s me (line ∷ past) (what.Tell tell) timely fit gone a = gone
 gone_next s me (line ∷ past) (what.Device agrees) timely fit gone a = gone
 gone_next s me (line ∷ past) (what.Header seen) timely fit gone a = clash (answers_op (op_out (line ∷ past)) (what.Header seen)) fit (gone_answers (op_out (line ∷ past)) (what.Header seen) a)
 gone_next s me (line ∷ past) (what.SlotRead other seen) timely fit gone a = clash (answers_op (op_out (line ∷ past)) (what.SlotRead other seen)) fit (gone_answers (op_out (line ∷ past)) (what.SlotRead other seen) a)
+gone_next s me (line ∷ past) (what.MailChecked seen) timely fit gone a = clash (answers_op (op_out (line ∷ past)) (what.MailChecked seen)) fit (gone_answers (op_out (line ∷ past)) (what.MailChecked seen) a)
 gone_next s me (line ∷ past) (what.Claimed ok) timely fit gone a = clash (answers_op (op_out (line ∷ past)) (what.Claimed ok)) fit (gone_answers (op_out (line ∷ past)) (what.Claimed ok) a)
 gone_next s me (line ∷ past) (what.Cleared ok) timely fit gone a = clash (answers_op (op_out (line ∷ past)) (what.Cleared ok)) fit (gone_answers (op_out (line ∷ past)) (what.Cleared ok) a)
 gone_next s me (line ∷ past) (what.MailRead seen) timely fit gone a = clash (answers_op (op_out (line ∷ past)) (what.MailRead seen)) fit (gone_answers (op_out (line ∷ past)) (what.MailRead seen) a)
@@ -138,6 +147,7 @@ blank_gone out p e = ap (λ q. is_blank out q) e ∙ at_gone out
     at_gone None = refl
     at_gone (Some disk.ReadHeader) = refl
     at_gone (Some (disk.ReadSlot rank)) = refl
+    at_gone (Some disk.CheckMail) = refl
     at_gone (Some (disk.WriteClaim number)) = refl
     at_gone (Some disk.WriteClear) = refl
     at_gone (Some disk.ReadMail) = refl
@@ -156,6 +166,7 @@ blank_phase (Some op) Up e = absurd (false≢true (sym (not_blank op) ∙ e))
     not_blank : (o : DiskOp) → is_blank (Some o) Up ≡ false
     not_blank disk.ReadHeader = refl
     not_blank (disk.ReadSlot rank) = refl
+    not_blank disk.CheckMail = refl
     not_blank (disk.WriteClaim number) = refl
     not_blank disk.WriteClear = refl
     not_blank disk.ReadMail = refl
@@ -166,6 +177,7 @@ blank_phase (Some op) Leaving e = absurd (false≢true (sym (not_blank op) ∙ e
     not_blank : (o : DiskOp) → is_blank (Some o) Leaving ≡ false
     not_blank disk.ReadHeader = refl
     not_blank (disk.ReadSlot rank) = refl
+    not_blank disk.CheckMail = refl
     not_blank (disk.WriteClaim number) = refl
     not_blank disk.WriteClear = refl
     not_blank disk.ReadMail = refl
@@ -176,6 +188,7 @@ blank_phase (Some op) Dying e = absurd (false≢true (sym (not_blank op) ∙ e))
     not_blank : (o : DiskOp) → is_blank (Some o) Dying ≡ false
     not_blank disk.ReadHeader = refl
     not_blank (disk.ReadSlot rank) = refl
+    not_blank disk.CheckMail = refl
     not_blank (disk.WriteClaim number) = refl
     not_blank disk.WriteClear = refl
     not_blank disk.ReadMail = refl
@@ -203,7 +216,7 @@ blank_on s me line past it made none blank = by_phase (blank_phase (op_out past)
       where
         by_reason : Reason s me past line.what (before_outs line past) op → is_booting next ≡ true → is_blank (Some op) next ≡ true
         by_reason (inl boots) n =
-            ap (λ o. is_blank (Some o) next) (begin_only me line.what op _ (boot_step_of s me line.what op false boots.goes_on boots.next) is)
+            ap (λ o. is_blank (Some o) next) (begin_only me line.what op _ (boot_step_of s me _ line.what op false boots.goes_on boots.next) is)
             ∙ ap (λ q. is_blank (Some disk.ReadHeader) q) (booting_is next n)
         by_reason (inr lives) n = absurd (not_live_up (phase s past) b lives.live)
 

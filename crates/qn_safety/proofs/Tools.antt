@@ -27,7 +27,7 @@ pub not_true : (a : Bool) → not a ≡ true → a ≡ false
 not_true true e = absurd (false≢true e)
 not_true false e = refl
 
--- a list grows by what is put in front of it
+-- a list grows by what is put before it
 pub before_length : {A : Type 0} {old new : List A} → Before old new → length old ≤ length new
 before_length Itself = omega arith
 before_length (Later newest more) = let rest = before_length more in omega arith

@@ -13,12 +13,12 @@ use Rattle.qn_model.specs.declared.entries.What.{What}
 use Rattle.qn_model.specs.declared.entries.What.TheVariants as what
 use Rattle.qn_model.specs.declared.outputs.DiskOp.{DiskOp}
 use Rattle.qn_model.specs.Log.{Line}
-use Rattle.qn_model.specs.NodeVotes.{view, answers, released, quorate}
+use Rattle.qn_model.specs.NodeVotes.{view, answers, released, quorate, quorate_with_tie}
 use Rattle.qn_model.specs.Fitting.{fits, read_as, answers_op}
 use Rattle.qn_model.specs.Moments.{Before, Itself, Later}
 use Rattle.qn_safety.proofs.Tools.{clash, and_left_of, and_right_of, not_true, before_length, before_then, before_tail}
 use Rattle.qn_model.specs.declared.packets.Sent.{Sent}
-use Rattle.qn_model.specs.Moments.{Moment, Adds, node, packets}
+use Rattle.qn_model.specs.Moments.{Moment, begin_of, Adds, node, packets}
 use Rattle.qn_safety.specs.Timed.{IsSentTo, WasSent, AllRuled, IsAdded}
 use Rattle.qn_model.specs.declared.events.Event.{Event}
 use Rattle.qn_model.specs.declared.events.Event.TheVariants as event
@@ -27,6 +27,7 @@ use Rattle.qn_model.specs.Rules.{refusal, is_on, may_be_done}
 use Rattle.qn_model.specs.Steps.{happens, landed, answered, fails, lands_late, entry_of, step, run}
 use Rattle.std.specs.Prelude.{slice_get}
 use Rattle.qn_model.specs.declared.votes.VoteWhat.TheVariants as vote
+use Rattle.qn_model.specs.Tie.{breaks_tie}
 use Rattle.qn_model.specs.Votes.{is_released, releases, are_all_in, quorum_of, expected_votes, counted_votes, present_view}
 use Rattle.qn_model.specs.NodeVotes.{votes, vote_of}
 use Rattle.qn_model.specs.Steps.{AllAllowed}
@@ -61,8 +62,10 @@ release_here s line past (what.Tell tell) reads e = by_test (answers past tell &
     by_test true both r = ByTell line past tell Itself reads (and_right_of (answers past tell) tell.released both)
     by_test false both r = absurd (false≢true r)
 release_here s line past what.Begin reads e = absurd (false≢true e)
+release_here s line past what.BeginClean reads e = absurd (false≢true e)
 release_here s line past (what.Header seen) reads e = absurd (false≢true e)
 release_here s line past (what.SlotRead other seen) reads e = absurd (false≢true e)
+release_here s line past (what.MailChecked seen) reads e = absurd (false≢true e)
 release_here s line past (what.Claimed ok) reads e = absurd (false≢true e)
 release_here s line past (what.Cleared ok) reads e = absurd (false≢true e)
 release_here s line past (what.MailRead seen) reads e = absurd (false≢true e)
@@ -101,17 +104,19 @@ pub record SawAll (s : Settings) (moments : List Moment) : Type 0 where
 saw_later : {s : Settings} {old new : List Moment} → Before old new → SawAll s old → SawAll s new
 saw_later back it = record { rank = it.rank; seen = it.seen; line = it.line; past = it.past; before = it.before; added = added_then it.added back; reads = it.reads; all = it.all }
 
-no_begin_view : (entry : What) (seen : View) → entry ≡ what.Begin → entry ≡ what.View seen → ⊥
-no_begin_view entry seen begins reads = begin_view (sym begins ∙ reads)
+no_begin_view : (clean : Bool) (entry : What) (seen : View) → entry ≡ begin_of clean → entry ≡ what.View seen → ⊥
+no_begin_view clean entry seen begins reads = begin_view clean (sym begins ∙ reads)
   where
-    begin_view : what.Begin ≡ what.View seen → ⊥
-    begin_view e = cc
+    begin_view : (clean : Bool) → begin_of clean ≡ what.View seen → ⊥
+    begin_view false e = cc
+    begin_view true e = cc
 
-no_begin_tell : (entry : What) (tell : Tell) → entry ≡ what.Begin → entry ≡ what.Tell tell → ⊥
-no_begin_tell entry tell begins reads = begin_tell (sym begins ∙ reads)
+no_begin_tell : (clean : Bool) (entry : What) (tell : Tell) → entry ≡ begin_of clean → entry ≡ what.Tell tell → ⊥
+no_begin_tell clean entry tell begins reads = begin_tell clean (sym begins ∙ reads)
   where
-    begin_tell : what.Begin ≡ what.Tell tell → ⊥
-    begin_tell e = cc
+    begin_tell : (clean : Bool) → begin_of clean ≡ what.Tell tell → ⊥
+    begin_tell false e = cc
+    begin_tell true e = cc
 
 never_released : (s : Settings) (i : ℕ) → s.wait_for_all ≡ true → released s (node s i []).log ≡ true → ⊥
 unfolding node is_released votes
@@ -140,7 +145,7 @@ saw_all s t (suc fuel) i (m ∷ moments) long ruled waits e =
 
     by_origin : ((k : ℕ) (ms : List Moment) → length ms ≤ fuel → AllRuled s t ms → released s (node s k ms).log ≡ true → SawAll s ms)
         → (line : Line) (past : List Line) (tell : Tell) → line.what ≡ what.Tell tell → tell.released ≡ true → Origin s i line past (m ∷ moments) → SawAll s (m ∷ moments)
-    by_origin rest line past tell reads says (ByBoot begins first) = absurd (no_begin_tell line.what tell begins reads)
+    by_origin rest line past tell reads says (ByBoot clean begins first) = absurd (no_begin_tell clean line.what tell begins reads)
     by_origin rest line past tell reads says (ByEntry before added same) =
         let ruled_add = ruled_before added.back ruled in
         let parts = added_line s i added.entry line past before added.gave in
@@ -159,16 +164,26 @@ saw_all s t (suc fuel) i (m ∷ moments) long ruled waits e =
     by_release rest (ByView line past seen back reads all) = by_view (origin s i line past (m ∷ moments) back)
       where
         by_view : Origin s i line past (m ∷ moments) → SawAll s (m ∷ moments)
-        by_view (ByBoot begins first) = absurd (no_begin_view line.what seen begins reads)
+        by_view (ByBoot clean begins first) = absurd (no_begin_view clean line.what seen begins reads)
         by_view (ByEntry before added same) = record { rank = i; seen = seen; line = line; past = past; before = before; added = added; reads = reads; all = all }
 
 pub released_saw_all : {s : Settings} {t : Timing} {moments : List Moment} → AllRuled s t moments → (i : ℕ) → s.wait_for_all ≡ true → released s (node s i moments).log ≡ true → SawAll s moments
 released_saw_all {s = s} {t = t} {moments = moments} ruled i waits e = saw_all s t (length moments) i moments (omega arith) ruled waits e
 
-pub quorate_released : (s : Settings) (log : List Line) (tick : ℕ) → quorate s log tick ≡ true → released s log ≡ true
-quorate_released s log tick e =
+-- what is quorate by the votes is released, and so is what the breaker lets be quorate
+counted_released : (s : Settings) (log : List Line) (tick : ℕ) → quorate s log tick ≡ true → released s log ≡ true
+counted_released s log tick e =
     and_right_of (is_some (present_view (votes log))) (is_released s (votes log))
     (and_left_of (is_some (present_view (votes log)) && is_released s (votes log)) (nat_le (quorum_of s (expected_votes s (votes log))) (counted_votes s (votes log) tick)) e)
+
+either_released : (counted free breaks : Bool) → (counted ≡ true → free ≡ true) → (counted || (free && breaks)) ≡ true → free ≡ true
+either_released true free breaks by_votes e = by_votes refl
+either_released false true breaks by_votes e = refl
+either_released false false breaks by_votes e = absurd (false≢true e)
+
+pub quorate_released : (s : Settings) (log : List Line) (tick : ℕ) → quorate_with_tie s log tick ≡ true → released s log ≡ true
+quorate_released s log tick e =
+    either_released (quorate s log tick) (released s log) (breaks_tie s (votes log)) (counted_released s log tick) e
 
 same_entry : {i k : ℕ} {first second : What} {xs ys : List Moment} → Adds i first ∷ xs ≡ Adds k second ∷ ys → first ≡ second
 same_entry e = cc
@@ -201,6 +216,7 @@ module _ (s : Settings) (t : Timing) (w : World) (k : ℕ) (seen : View) (answer
   unfolding step refusal ViewStep
   view_step (event.Pass dt clocks) ok e = absurd (cc)
   view_step (event.Boot rank base) ok e = absurd (cc)
+  view_step (event.BootClean rank base) ok e = absurd (cc)
   view_step (event.Crash rank) ok e = absurd (cc)
   view_step (event.Land rank) ok e = by_op (op_at s rank.0 w) e
     where
@@ -238,6 +254,7 @@ module _ (s : Settings) (t : Timing) (w : World) (k : ℕ) (seen : View) (answer
   view_step (event.Unstopped rank) ok e = absurd (cc)
   view_step (event.Leave rank) ok e = absurd (cc)
   view_step (event.Feed rank) ok e = absurd (cc)
+  view_step (event.Operator rank message) ok e = not_grown k (what.View seen) w.moments e
 
 view_of_event : {s : Settings} {t : Timing} {e : Event} {earlier : List Event} (k : ℕ) (seen : View) → IsAllowed s t (e ∷ earlier)
     → (run s t (e ∷ earlier)).moments ≡ Adds k (what.View seen) ∷ (run s t earlier).moments → (rank : Rank) × (e ≡ event.View rank seen) × (rank.0 ≡ k)
@@ -292,7 +309,7 @@ view_event {s = s} {t = t} {events = events} allowed saw = by_event (view_of_eve
 
 -- with wait_for_all on, a quorate node goes back to such an event
 pub quorate_saw_all : (s : Settings) (t : Timing) (events : List Event) (rank tick : ℕ) → s.wait_for_all ≡ true → AllAllowed s t events
-    → quorate s (node s rank (run s t events).moments).log tick ≡ true → AllInView s t events
+    → quorate_with_tie s (node s rank (run s t events).moments).log tick ≡ true → AllInView s t events
 quorate_saw_all s t events rank tick waits all e =
     let allowed = allowed_of s t events all in
     view_event allowed (released_saw_all ((stage allowed).ruled) rank waits (quorate_released s (node s rank (run s t events).moments).log tick e))

@@ -1,8 +1,12 @@
 -- What the two lemmas under the safety theorem say of a timed run: of a node to which a reset was written, and of a node
 -- that answered. This project's profile, after sbd(8).
-use Rattle.std.specs.Prelude.{◌≡◌, ◌≤◌, ◌+◌, ℕ, true, false, List, ◌∷◌}
+use Rattle.std.specs.Prelude.{◌≡◌, ◌≤◌, ◌+◌, ℕ, true, false, List, ◌∷◌, Contains}
+use Rattle.qn_base.specs.declared.ids.Rank.{Rank}
 use Rattle.qn_model.specs.declared.configuration.Settings.{Settings}
 use Rattle.qn_model.specs.declared.times.Timing.{Timing}
+use Rattle.qn_model.specs.declared.outputs.Out.TheVariants as out
+use Rattle.qn_model.specs.declared.packets.Packet.{Packet}
+use Rattle.qn_model.specs.declared.packets.Packet.TheVariants as packet
 use Rattle.qn_model.specs.declared.packets.Tell.{Tell}
 use Rattle.qn_model.specs.Log.{Line, has_start}
 use Rattle.qn_model.specs.NodeVotes.{install, is_present}
@@ -30,11 +34,22 @@ pub record HasStartedAfter (s : Settings) (rank : ℕ) (since now : List Moment)
   pub starts : has_start line.outs ≡ true
   pub held : (mid : List Moment) → Before (Adds rank added.entry ∷ before) mid → Before mid now → is_holder s mid rank ≡ true
 
+-- the newest entry of a rank gave out this packet to another rank, among its outputs
+pub record HasJustSent (s : Settings) (rank receiver : ℕ) (packet : Packet) (moments : List Moment) : Type 0 where
+  pub line : Line
+  pub past : List Line
+  pub newest : (node s rank moments).log ≡ line ∷ past
+  pub to : Rank
+  pub receives : to.0 ≡ receiver
+  pub sends : Contains line.outs (out.Send to packet)
+
 -- What a Tell that answers its reader says of its sender; `before` is right before the reader reads it.
 pub record TellSays (s : Settings) (reader : ℕ) (tell : Tell) (before moments : List Moment) : Type 0 where
-  -- it was sent at this moment, when the sender's present view was that of the Tell
+  -- it was sent at this moment, among what came out of the sender's newest entry, when the sender's present view was that of
+  -- the Tell
   pub sent : List Moment
   pub back : Before sent before
+  pub comes_out : HasJustSent s tell.from.0 reader (packet.Tell tell) sent
   pub shows : is_present (node s tell.from.0 sent).log tell.view ≡ true
   -- the reader's last View was installed still earlier, in the same boot: it has installed none since
   pub installed : List Moment

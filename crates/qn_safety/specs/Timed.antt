@@ -52,7 +52,7 @@ pub record MayFeed (s : Settings) (t : Timing) (rank : ℕ) (earlier : List Mome
 abbrev pub IsRuled : Settings → Timing → Moment → List Moment → Type 0
 IsRuled s t (Passes dt clocks) earlier =
     (rank : ℕ) → rank < length s.nodes → passes t dt (advance_of dt clocks rank) (time earlier) (node s rank earlier) ≡ true
-IsRuled s t (Boots rank base) earlier = ((node s rank earlier).on ≡ false) × (rank < length s.nodes)
+IsRuled s t (Boots rank base clean) earlier = ((node s rank earlier).on ≡ false) × (rank < length s.nodes)
 IsRuled s t (Adds rank entry) earlier = ((node s rank earlier).on ≡ true) × WasSent s rank entry earlier
 IsRuled s t (Feeds rank) earlier = MayFeed s t rank earlier
 IsRuled s t (Ends rank) earlier = (node s rank earlier).on ≡ true

@@ -1,10 +1,11 @@
+//! The safety theorem and the laws beside it.
 ghost use Rattle.std.specs.Prelude.{◌≡◌, ◌≤◌, ◌+◌, ◌*◌, ℕ, List, IsTrue, IsFalse, Some};
 ghost use Rattle.qn_base.specs.Members.{is_member};
 ghost use Rattle.qn_model.specs.declared.configuration.Settings.{Settings};
 ghost use Rattle.qn_model.specs.declared.events.Event.{Event};
 ghost use Rattle.qn_model.specs.declared.times.Timing.{Timing};
 ghost use Rattle.qn_model.specs.Log.{incarnation};
-ghost use Rattle.qn_model.specs.NodeVotes.{quorate};
+ghost use Rattle.qn_model.specs.NodeVotes.{quorate_with_tie};
 ghost use Rattle.qn_model.specs.Phases.{is_leaving, phase};
 ghost use Rattle.qn_model.specs.Timing.{is_safe};
 ghost use Rattle.qn_model.specs.Moments.{Before, Moment, is_holder, time};
@@ -93,13 +94,13 @@ pub fn law_clocks()
         → clock s rank new + 101 * time old ≤ 101 * time new + clock s rank old }
 {}
 
-/// With wait_for_all on, a node is quorate at a tick only where one of the events handed a node a view of
-/// all configured nodes, which fitted that node.
+/// With wait_for_all on, a node is quorate at a tick, by the votes or by the tie breaker, only where one of
+/// the events handed a node a view of all configured nodes, which fitted that node.
 pub fn law_wait_for_all()
     ensures { (s : Settings) (t : Timing) (events : List Event) (rank tick : ℕ)
         → IsTrue s.wait_for_all
         → AllAllowed s t events
-        → IsTrue (quorate s (node_at s rank (run s t events)).log tick)
+        → IsTrue (quorate_with_tie s (node_at s rank (run s t events)).log tick)
         → AllInView s t events }
 {}
 

@@ -1,3 +1,4 @@
+//! The fence lemma and the Tell lemma.
 ghost use Rattle.std.specs.Prelude.{◌≡◌, ℕ, List, IsTrue};
 ghost use Rattle.qn_model.specs.declared.configuration.Settings.{Settings};
 ghost use Rattle.qn_model.specs.declared.entries.What.TheVariants as what;

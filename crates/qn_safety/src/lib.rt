@@ -1,21 +1,23 @@
-// The safety theorem of the cluster, as laws over the definitions that the contracts of the code cite.
-//
-// Promises: in the world after any events that are allowed at most one node holds the resource
-// (`law_no_two_holders`). The same holds at each moment of every timed run (`law_timed_runs`), which knows
-// the shared disk by four facts alone (`specs/Timed`); every run of the world is one
-// (`law_runs_are_timed`). Beside it: what holds of the incarnations of one node (`law_incarnations`), how a
-// clock runs beside true time (`law_clocks`), and that with wait_for_all nothing is quorate before some node
-// saw all (`law_wait_for_all`). The two lemmas that the theorem rests on are laws too: `law_fence` and
-// `law_tells`. The premises are met by a schedule in which two nodes hold, one after the other
-// (`law_premises_are_met`).
-//
-// A crate above cites a law by a call of it; how a lemma under a proof takes a clause stands at the head of
-// `specs/Reported`.
+//! The safety theorem of the cluster, as laws over the definitions that the contracts of the code cite.
+//!
+//! Promises: in the world after any events that are allowed at most one node holds the resource
+//! (`law_no_two_holders`). The same holds at each moment of every timed run (`law_timed_runs`), which knows
+//! the shared disk by four facts alone (`specs/Timed`); every run of the world is one
+//! (`law_runs_are_timed`). Beside it: what holds of the incarnations of one node (`law_incarnations`), how a
+//! clock runs beside true time (`law_clocks`), and that with wait_for_all nothing is quorate before some node
+//! saw all (`law_wait_for_all`). The two lemmas that the theorem rests on are laws too: `law_fence` and
+//! `law_tells`; over the events of the world, from the landing of a reset on, the first is `law_landed_reset`.
+//! The premises are met by a schedule in which two nodes hold, one after the other (`law_premises_are_met`).
+//!
+//! A crate above cites a law by a call of it; how a lemma under a proof takes a clause stands at the head of
+//! `specs/Reported`.
 #![tactic(auto)]
 
+mod landing;
 mod laws;
 mod lemmas;
 
+pub use landing::law_landed_reset;
 pub use laws::{
     law_clocks, law_incarnations, law_no_two_holders, law_premises_are_met, law_runs_are_timed,
     law_timed_runs, law_wait_for_all,

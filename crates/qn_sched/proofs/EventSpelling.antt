@@ -13,17 +13,20 @@ use Rattle.qn_base.specs.Text.{yes_no}
 use Rattle.qn_model.specs.declared.configuration.Settings.{Settings}
 use Rattle.qn_model.specs.declared.events.Event.{Event}
 use Rattle.qn_model.specs.declared.events.Event.TheVariants as event
+use Rattle.qn_model.specs.declared.disk.Message.{Message}
+use Rattle.qn_model.specs.declared.disk.Message.TheVariants.{Empty, Test, Reset, Off, Exit, Crashdump}
 use Rattle.qn_model.specs.declared.line_fault.LineFault.TheVariants.{TooLong, UnknownWord}
 use Rattle.qn_model.specs.Lines.{◌>>=◌, is_ascending, members_of, number_between, two_words, words_of}
+use Rattle.qn_model.specs.Messages.{operator_word}
 use Rattle.qn_model.specs.Rules.{is_between, is_configured, is_well_formed}
 use Rattle.qn_model.specs.Settings.{ids}
 use Rattle.qn_sched.specs.declared.event_name.EventName.{EventName}
-use Rattle.qn_sched.specs.declared.event_name.EventName.TheVariants.{Pass, Boot, Late, View, Deliver, Device, OfNode}
+use Rattle.qn_sched.specs.declared.event_name.EventName.TheVariants.{Pass, Boot, BootClean, Late, View, Deliver, Device, Operator, OfNode}
 use Rattle.qn_sched.specs.declared.event_name.NodeEvent.{NodeEvent}
 use Rattle.qn_sched.specs.declared.event_name.NodeEvent.TheVariants.{Crash, Land, Done, Fail, Tick, Stopped, Unstopped, Leave, Feed}
 use Rattle.qn_sched.specs.EventLines.{clock_word, event_line, event_words, id_word}
 use Rattle.qn_sched.specs.EventNames.{event_at, event_name, event_names, event_word, node_event_word}
-use Rattle.qn_sched.specs.EventReading.{boot_of, clocks_of, deliver_of, device_of, event_named, event_of, event_of_words, late_of, node_event_of, numbered_of, pass_of, rank_of, view_of, yes_or_no}
+use Rattle.qn_sched.specs.EventReading.{boot_clean_of, boot_of, clocks_of, deliver_of, device_of, event_named, event_of, event_of_words, late_of, message_worded, messages, node_event_of, numbered_of, operator_of, pass_of, rank_of, view_of, yes_or_no}
 use Rattle.qn_sched.specs.Words.{one_word, three_words}
 use Rattle.qn_sched.proofs.Binds.{bind_ok, good, same_ok}
 use Rattle.qn_sched.proofs.ClockSpelling.{clocks_of-ok, clocks_of-words, is_clock, ranks_of}
@@ -34,12 +37,12 @@ use Rattle.qn_sched.proofs.WrittenNumbers.{number_between-decimal, number_betwee
 
 -- ---- the first word
 
-first_or_later : (test : EventName → Bool) (first : EventName) (later : Option EventName) (name : EventName) (b : Bool) → test first ≡ b
+first_or_later : {A : Type 0} (test : A → Bool) (first : A) (later : Option A) (name : A) (b : Bool) → test first ≡ b
     → (later ≡ Some name → test name ≡ true) → cond b (Some first) later ≡ Some name → test name ≡ true
-first_or_later test first later name true passes others is = let same : first ≡ name = cc in subst (λ (n : EventName). test n ≡ true) same passes
+first_or_later test first later name true passes others is = let same : first ≡ name = cc in subst (λ n. test n ≡ true) same passes
 first_or_later test first later name false fails others is = others is
 
-found : (test : EventName → Bool) (names : List EventName) (name : EventName) → find test names ≡ Some name → test name ≡ true
+found : {A : Type 0} (test : A → Bool) (names : List A) (name : A) → find test names ≡ Some name → test name ≡ true
 found test [] name is = cc
 found test (first ∷ names) name is = first_or_later test first (find test names) name (test first) refl (found test names name) is
 
@@ -63,17 +66,19 @@ names : (name : EventName) → event_name (event_word name) ≡ Some name
 unfolding event_name
 names Pass = refl
 names Boot = refl
+names BootClean = refl
 names Late = refl
 names View = refl
 names Deliver = refl
 names Device = refl
+names Operator = refl
 names (OfNode e) = node_names e
 
-ok_or-name : (o : Option EventName) (name : EventName) → ok_or o UnknownWord ≡ Ok name → o ≡ Some name
+ok_or-name : {A : Type 0} (o : Option A) (name : A) → ok_or o UnknownWord ≡ Ok name → o ≡ Some name
 ok_or-name None name is = cc
 ok_or-name (Some n) name is = cc
 
--- ---- the words behind it
+-- ---- the words after it
 
 one_word-ok : (words : List (List ℕ)) (word : List ℕ) → one_word words ≡ Ok word → words ≡ word ∷ []
 one_word-ok [] word is = cc
@@ -112,6 +117,20 @@ unfolding yes_or_no
 yes_or_no-word true = refl
 yes_or_no-word false = refl
 
+message_worded-ok : (word : List ℕ) (message : Message) → message_worded word ≡ Some message → word ≡ operator_word message
+unfolding message_worded
+message_worded-ok word message is =
+    sym ((bytes_eq-Decides (operator_word message) word).0 (found (λ m. bytes_eq (operator_word m) word) messages message is))
+
+message_worded-word : (message : Message) → message_worded (operator_word message) ≡ Some message
+unfolding message_worded
+message_worded-word Empty = refl
+message_worded-word Test = refl
+message_worded-word Reset = refl
+message_worded-word Off = refl
+message_worded-word Exit = refl
+message_worded-word Crashdump = refl
+
 module _ (s : Settings) (known : AreIds (ids s.nodes)) (count : length (ids s.nodes) ≡ length s.nodes) where
   abbrev all_ids : List ℕ
   all_ids = ids s.nodes
@@ -128,7 +147,7 @@ module _ (s : Settings) (known : AreIds (ids s.nodes)) (count : length (ids s.no
       let other : nat_le n high ≡ true = grind (arith, nat_tests) in
       rw (one, other) refl
 
-  -- what the words behind a first word say
+  -- what the words after a first word say
   record Says (name : EventName) (words : List (List ℕ)) (e : Event) : Type 0 where
     words_are : event_word name ∷ words ≡ event_words all_ids e
     formed : is_well_formed s e ≡ true
@@ -193,6 +212,16 @@ module _ (s : Settings) (known : AreIds (ids s.nodes)) (count : length (ids s.no
       subst (λ (x : Event). Says Boot words x) (same_ok (event.Boot step.0.0 step.0.1) e step.2)
       (record { words_are = ap (λ ws. codes "boot" ∷ ws) it.words_are; formed = rw (it.formed, high) refl })
 
+  boot_clean_of-ok : (words : List (List ℕ)) (e : Event) → boot_clean_of all_ids words ≡ Ok e → Says BootClean words e
+  unfolding boot_clean_of is_well_formed
+  boot_clean_of-ok words e is =
+      let step = bind_ok (numbered_of all_ids 0 1000000000000000 words) _ e is in
+      let it = numbered_of-ok 0 1000000000000000 words step.0 step.1 in
+      let below = it.below in
+      let high : nat_le step.0.1 1000000000000000 ≡ true = grind (arith, nat_tests) in
+      subst (λ (x : Event). Says BootClean words x) (same_ok (event.BootClean step.0.0 step.0.1) e step.2)
+      (record { words_are = ap (λ ws. codes "boot-clean" ∷ ws) it.words_are; formed = rw (it.formed, high) refl })
+
   late_of-ok : (words : List (List ℕ)) (e : Event) → late_of all_ids words ≡ Ok e → Says Late words e
   unfolding late_of is_well_formed
   late_of-ok words e is =
@@ -224,6 +253,21 @@ module _ (s : Settings) (known : AreIds (ids s.nodes)) (count : length (ids s.no
         words_are = ap (λ ws. codes "device" ∷ ws)
             (two_words-ok words pair.0 pair.1 ∙ ap (λ w. w ∷ pair.0.1 ∷ []) id.word_is
             ∙ ap (λ w. id_word all_ids first.0 ∷ w ∷ []) (yes_or_no-ok pair.0.1 second.0 second.1));
+        formed = configured first.0 id.inside;
+      })
+
+  operator_of-ok : (words : List (List ℕ)) (e : Event) → operator_of all_ids words ≡ Ok e → Says Operator words e
+  unfolding operator_of is_well_formed
+  operator_of-ok words e is =
+      let pair = bind_ok (two_words words) _ e is in
+      let first = bind_ok (rank_of all_ids pair.0.0) _ e pair.2 in
+      let second = bind_ok (ok_or (message_worded pair.0.1) UnknownWord) _ e first.2 in
+      let id = rank_of-ok all_ids pair.0.0 first.0 first.1 in
+      let word = message_worded-ok pair.0.1 second.0 (ok_or-name (message_worded pair.0.1) second.0 second.1) in
+      subst (λ (x : Event). Says Operator words x) (same_ok (event.Operator first.0 second.0) e second.2)
+      (record {
+        words_are = ap (λ ws. codes "operator" ∷ ws)
+            (two_words-ok words pair.0 pair.1 ∙ ap (λ w. w ∷ pair.0.1 ∷ []) id.word_is ∙ ap (λ w. id_word all_ids first.0 ∷ w ∷ []) word);
         formed = configured first.0 id.inside;
       })
 
@@ -274,10 +318,12 @@ module _ (s : Settings) (known : AreIds (ids s.nodes)) (count : length (ids s.no
   unfolding event_named
   event_named-ok Pass words e is = pass_of-ok words e is
   event_named-ok Boot words e is = boot_of-ok words e is
+  event_named-ok BootClean words e is = boot_clean_of-ok words e is
   event_named-ok Late words e is = late_of-ok words e is
   event_named-ok View words e is = view_of-ok words e is
   event_named-ok Deliver words e is = deliver_of-ok words e is
   event_named-ok Device words e is = device_of-ok words e is
+  event_named-ok Operator words e is = operator_of-ok words e is
   event_named-ok (OfNode n) words e is = node_event_of-ok n words e is
 
   -- what the words of a line say
@@ -301,7 +347,7 @@ module _ (s : Settings) (known : AreIds (ids s.nodes)) (count : length (ids s.no
   node_words n rank formed = by_name (OfNode n) (id_word all_ids rank ∷ []) (event_at n rank) (rw (rank_of-id all_ids known rank (inside_ids rank formed)) refl)
 
   accepted : (e : Event) → is_well_formed s e ≡ true → event_of_words all_ids (event_words all_ids e) ≡ Ok e
-  unfolding is_well_formed event_named pass_of boot_of late_of view_of deliver_of device_of
+  unfolding is_well_formed event_named pass_of boot_of boot_clean_of late_of view_of deliver_of device_of operator_of
   accepted (event.Pass dt clocks) formed =
       let all = and_parts (is_between 1 1000000000 dt && list_all (is_clock (length s.nodes)) clocks) (is_ascending (ranks_of clocks)) formed in
       let first = and_parts (is_between 1 1000000000 dt) (list_all (is_clock (length s.nodes)) clocks) all.0 in
@@ -314,6 +360,11 @@ module _ (s : Settings) (known : AreIds (ids s.nodes)) (count : length (ids s.no
       let both = and_parts (is_configured s rank.0) (nat_le base 1000000000000000) formed in
       let below = leb-true base 1000000000000000 both.1 in
       by_name Boot _ (event.Boot rank base) (rw (numbered_of-words 0 1000000000000000 rank base both.0 (omega arith) below (omega arith)) refl)
+  accepted (event.BootClean rank base) formed =
+      let both = and_parts (is_configured s rank.0) (nat_le base 1000000000000000) formed in
+      let below = leb-true base 1000000000000000 both.1 in
+      by_name BootClean _ (event.BootClean rank base)
+      (rw (numbered_of-words 0 1000000000000000 rank base both.0 (omega arith) below (omega arith)) refl)
   accepted (event.Crash rank) formed = node_words Crash rank formed
   accepted (event.Land rank) formed = node_words Land rank formed
   accepted (event.Done rank) formed = node_words Done rank formed
@@ -345,6 +396,9 @@ module _ (s : Settings) (known : AreIds (ids s.nodes)) (count : length (ids s.no
   accepted (event.Unstopped rank) formed = node_words Unstopped rank formed
   accepted (event.Leave rank) formed = node_words Leave rank formed
   accepted (event.Feed rank) formed = node_words Feed rank formed
+  accepted (event.Operator rank message) formed =
+      by_name Operator _ (event.Operator rank message)
+      (rw (rank_of-id all_ids known rank (inside_ids rank formed), message_worded-word message) refl)
 
 -- a line is accepted exactly where it is the line of a well formed event
 pub event_spelled : (s : Settings) → AreIds (ids s.nodes) → length (ids s.nodes) ≡ length s.nodes → length s.nodes ≤ 32 → (line : List ℕ) (e : Event)

@@ -8,12 +8,12 @@ use Rattle.qn_model.specs.declared.nodelist.NodeEntry.{NodeEntry}
 use Rattle.qn_model.specs.Settings.{ids}
 use Rattle.qn_sched.specs.EventLines.{ids_from}
 
--- each word behind a byte
+-- each word after a byte
 abbrev pub behind : ℕ → List (List ℕ) → List ℕ
 behind byte [] = []
 behind byte (word ∷ words) = (byte ∷ word) ++ behind byte words
 
--- the first word, and then each behind a byte
+-- the first word, and then each after a byte
 pub join-behind : (byte : ℕ) (word : List ℕ) (words : List (List ℕ)) → join_with_byte byte (word ∷ words) ≡ word ++ behind byte words
 join-behind byte word [] = sym (append-nil word)
 join-behind byte word (next ∷ words) = ap (λ rest. word ++ byte ∷ rest) (join-behind byte next words)

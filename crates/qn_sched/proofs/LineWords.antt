@@ -13,7 +13,10 @@ use Rattle.qn_base.specs.Text.{yes_no}
 use Rattle.qn_model.specs.declared.configuration.Settings.{Settings}
 use Rattle.qn_model.specs.declared.events.Event.{Event}
 use Rattle.qn_model.specs.declared.events.Event.TheVariants as event
+use Rattle.qn_model.specs.declared.disk.Message.{Message}
+use Rattle.qn_model.specs.declared.disk.Message.TheVariants.{Empty, Test, Reset, Off, Exit, Crashdump}
 use Rattle.qn_model.specs.Lines.{is_ascending, words_of}
+use Rattle.qn_model.specs.Messages.{operator_word}
 use Rattle.qn_model.specs.Rules.{is_between, is_configured, is_well_formed}
 use Rattle.qn_model.specs.Settings.{ids}
 use Rattle.qn_sched.specs.EventLines.{clock_word, event_words, id_word, joined, member_word}
@@ -50,6 +53,22 @@ joined_blankless byte other (word ∷ []) without = without.0
 joined_blankless byte other (word ∷ next ∷ words) without =
     All-append (λ b. (b == 32) ≡ false) word (byte ∷ join_with_byte byte (next ∷ words)) without.0
     (All-cons (λ b. (b == 32) ≡ false) byte (join_with_byte byte (next ∷ words)) other (joined_blankless byte other (next ∷ words) without.1))
+
+message_blankless : (message : Message) → IsBlankless (operator_word message)
+message_blankless Empty = blankless (codes "clear") refl
+message_blankless Test = blankless (codes "test") refl
+message_blankless Reset = blankless (codes "reset") refl
+message_blankless Off = blankless (codes "off") refl
+message_blankless Exit = blankless (codes "exit") refl
+message_blankless Crashdump = blankless (codes "crashdump") refl
+
+short_message : (message : Message) → length (operator_word message) ≤ 20
+short_message Empty = omega arith
+short_message Test = omega arith
+short_message Reset = omega arith
+short_message Off = omega arith
+short_message Exit = omega arith
+short_message Crashdump = omega arith
 
 -- words of so many bytes at most
 abbrev pub AreShort : ℕ → List (List ℕ) → Type 0
@@ -153,28 +172,33 @@ module _ (ids : List ℕ) (known : AreIds ids) (few : length ids ≤ 32) where
       let later = few_clocks (clock.0.0 + 1) clocks order.1 both.1 (omega arith) in
       omega (arith, later, above)
 
-  -- a line whose words behind the first are few and short
+  -- a line whose words after the first are few and short
   pub record IsPlain (words : List (List ℕ)) : Type 0 where
     pub parted : words_of (join_with_byte 32 words) ≡ words
     pub short : length (join_with_byte 32 words) ≤ 4096
 
-  plain : (most : ℕ) (word : List ℕ) (words : List (List ℕ)) → list_all (λ b. not (b == 32)) word ≡ true → length word ≤ 9 → AreWithout 32 words → AreShort most words
+  plain : (most : ℕ) (word : List ℕ) (words : List (List ℕ)) → list_all (λ b. not (b == 32)) word ≡ true → length word ≤ 10 → AreWithout 32 words → AreShort most words
       → (most + 1) * length words ≤ 4000 → IsPlain (word ∷ words)
   plain most word words tested small without short room = record {
     parted = parts-joined 32 refl word words (blankless word tested, without);
     short = let whole = length-join 32 most word words short in omega (arith, whole);
   }
 
-  node_plain : (word : List ℕ) (rank : Rank) → list_all (λ b. not (b == 32)) word ≡ true → length word ≤ 9 → IsPlain (word ∷ id_word ids rank ∷ [])
+  node_plain : (word : List ℕ) (rank : Rank) → list_all (λ b. not (b == 32)) word ≡ true → length word ≤ 10 → IsPlain (word ∷ id_word ids rank ∷ [])
   node_plain word rank tested small = plain 20 word (id_word ids rank ∷ []) tested small (id_blankless rank, tt) (length-id_word rank, tt) (omega arith)
 
-  numbered_plain : (word : List ℕ) (rank : Rank) (n : ℕ) → list_all (λ b. not (b == 32)) word ≡ true → length word ≤ 9 → n < 2 ^ 64 → IsPlain (word ∷ id_word ids rank ∷ decimal n ∷ [])
+  numbered_plain : (word : List ℕ) (rank : Rank) (n : ℕ) → list_all (λ b. not (b == 32)) word ≡ true → length word ≤ 10 → n < 2 ^ 64 → IsPlain (word ∷ id_word ids rank ∷ decimal n ∷ [])
   numbered_plain word rank n tested small fits =
       plain 20 word (id_word ids rank ∷ decimal n ∷ []) tested small (id_blankless rank, (number_blankless n fits, tt)) (length-id_word rank, (length-decimal n fits, tt)) (omega arith)
 
   device_plain : (rank : Rank) (agrees : Bool) → IsPlain (codes "device" ∷ id_word ids rank ∷ yes_no agrees ∷ [])
   device_plain rank true = plain 20 (codes "device") (id_word ids rank ∷ codes "yes" ∷ []) refl (omega arith) (id_blankless rank, (blankless (codes "yes") refl, tt)) (length-id_word rank, (omega arith, tt)) (omega arith)
   device_plain rank false = plain 20 (codes "device") (id_word ids rank ∷ codes "no" ∷ []) refl (omega arith) (id_blankless rank, (blankless (codes "no") refl, tt)) (length-id_word rank, (omega arith, tt)) (omega arith)
+
+  message_plain : (rank : Rank) (message : Message) → IsPlain (codes "operator" ∷ id_word ids rank ∷ operator_word message ∷ [])
+  message_plain rank message =
+      plain 20 (codes "operator") (id_word ids rank ∷ operator_word message ∷ []) refl (omega arith)
+      (id_blankless rank, (message_blankless message, tt)) (length-id_word rank, (short_message message, tt)) (omega arith)
 
 -- the line of a well formed event
 pub line_plain : (s : Settings) (known : AreIds (ids s.nodes)) (few : length (ids s.nodes) ≤ 32) → length (ids s.nodes) ≡ length s.nodes → (e : Event) → is_well_formed s e ≡ true
@@ -197,6 +221,10 @@ line_plain s known few count (event.Boot rank base) formed =
     let both = and_parts (is_configured s rank.0) (nat_le base 1000000000000000) formed in
     let below = leb-true base 1000000000000000 both.1 in
     numbered_plain (ids s.nodes) known few (codes "boot") rank base refl (omega arith) (omega arith)
+line_plain s known few count (event.BootClean rank base) formed =
+    let both = and_parts (is_configured s rank.0) (nat_le base 1000000000000000) formed in
+    let below = leb-true base 1000000000000000 both.1 in
+    numbered_plain (ids s.nodes) known few (codes "boot-clean") rank base refl (omega arith) (omega arith)
 line_plain s known few count (event.Crash rank) formed = node_plain (ids s.nodes) known few (codes "crash") rank refl (omega arith)
 line_plain s known few count (event.Land rank) formed = node_plain (ids s.nodes) known few (codes "land") rank refl (omega arith)
 line_plain s known few count (event.Done rank) formed = node_plain (ids s.nodes) known few (codes "done") rank refl (omega arith)
@@ -224,3 +252,4 @@ line_plain s known few count (event.Stopped rank) formed = node_plain (ids s.nod
 line_plain s known few count (event.Unstopped rank) formed = node_plain (ids s.nodes) known few (codes "unstopped") rank refl (omega arith)
 line_plain s known few count (event.Leave rank) formed = node_plain (ids s.nodes) known few (codes "leave") rank refl (omega arith)
 line_plain s known few count (event.Feed rank) formed = node_plain (ids s.nodes) known few (codes "feed") rank refl (omega arith)
+line_plain s known few count (event.Operator rank message) formed = message_plain (ids s.nodes) known few rank message

@@ -9,7 +9,7 @@ use Rattle.qn_sched.specs.declared.members.MemberList.{MemberList}
 use Rattle.qn_sched.proofs.Binds.{bind-same, bind-ok}
 use Rattle.qn_sched.specs.MemberList.{is_above, no_members, with_rank, with_part, with_parts, finished}
 
--- ids that ascend, behind one that stands before them
+-- ids that ascend, after one that stands before them
 abbrev pub ascends_from : Option ℕ → List ℕ → Bool
 ascends_from last [] = true
 ascends_from last (id ∷ ids) = is_above last id && ascends_from (Some id) ids

@@ -315,7 +315,7 @@ some_rank : (ids ranks : List ℕ) → 0 < length (words_at ids ranks) → 0 < l
 some_rank ids [] some = some
 some_rank ids (rank ∷ ranks) some = omega arith
 
--- the words are parted at the commas alone
+-- the words are separated at the commas alone
 words_parted : (ids : List ℕ) → AreIds ids → (ranks : List ℕ) → 0 < length ranks → parts 44 (join_with_byte 44 (words_at ids ranks)) ≡ words_at ids ranks
 words_parted ids known [] some = absurd (omega arith)
 words_parted ids known (rank ∷ ranks) some = parts-joined 44 refl (decimal (slice_index ids rank)) (words_at ids ranks) (words_without ids known 44 (inl (omega arith)) (rank ∷ ranks))

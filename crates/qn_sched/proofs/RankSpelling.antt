@@ -79,7 +79,7 @@ rank_of-id ids known rank inside = rw (known_rank-id ids known rank.0 inside) re
 
 id_fits : (nodes : List NodeEntry) → All (λ n. n.id.0 ≤ 4294967295) nodes → (k : ℕ) → (k < length nodes) ⊎ (length nodes ≤ k) → slice_index (ids nodes) k < 2 ^ 64
 id_fits nodes fit k (inl inside) =
-    let none : NodeEntry = record { id = record { 0 = 0 }; votes = 0 } in
+    let none : NodeEntry = record { id = record { 0 = 0 }; votes = 0; fence_delay = 0 } in
     let below = fit k none inside in
     let same = get_or-map (λ (n : NodeEntry). n.id.0) nodes k none 0 inside in
     omega (arith, below, same)

@@ -193,7 +193,7 @@ pub timing_spelled : (line : List ℕ) (t : Timing) → (timing_of line ≡ Ok t
 timing_spelled line t =
     (timing_of-ok line t, λ h. ap timing_of h.1 ∙ timing_of-timing_line t h.0)
 
--- more than five words behind the first
+-- more than five words after the first
 pub times_of_words-more : (a b c d e : List ℕ) (words : List (List ℕ)) → 0 < length words → times_of_words (a ∷ b ∷ c ∷ d ∷ e ∷ words) ≡ Err BadCount
 unfolding times_of_words
 times_of_words-more a b c d e [] some = absurd (omega arith)

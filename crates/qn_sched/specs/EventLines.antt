@@ -6,7 +6,8 @@ use Rattle.qn_base.specs.declared.ids.Rank.{Rank}
 use Rattle.qn_base.specs.Members.{is_member}
 use Rattle.qn_base.specs.Text.{yes_no}
 use Rattle.qn_model.specs.declared.events.Event.{Event}
-use Rattle.qn_model.specs.declared.events.Event.TheVariants.{Pass, Boot, Crash, Land, Done, Fail, Late, View, Deliver, Device, Tick, Stopped, Unstopped, Leave, Feed}
+use Rattle.qn_model.specs.declared.events.Event.TheVariants.{Pass, Boot, BootClean, Crash, Land, Done, Fail, Late, View, Deliver, Device, Tick, Stopped, Unstopped, Leave, Feed, Operator}
+use Rattle.qn_model.specs.Messages.{operator_word}
 
 -- the id of the node of a rank, in decimal digits
 abbrev pub id_word : List ℕ → Rank → List ℕ
@@ -34,6 +35,7 @@ clock_word ids clock = id_word ids clock.0 ++ 61 ∷ decimal clock.1
 abbrev pub event_words : List ℕ → Event → List (List ℕ)
 event_words ids (Pass dt clocks) = codes "pass" ∷ decimal dt ∷ map (clock_word ids) clocks
 event_words ids (Boot rank base) = codes "boot" ∷ id_word ids rank ∷ decimal base ∷ []
+event_words ids (BootClean rank base) = codes "boot-clean" ∷ id_word ids rank ∷ decimal base ∷ []
 event_words ids (Crash rank) = codes "crash" ∷ id_word ids rank ∷ []
 event_words ids (Land rank) = codes "land" ∷ id_word ids rank ∷ []
 event_words ids (Done rank) = codes "done" ∷ id_word ids rank ∷ []
@@ -47,6 +49,7 @@ event_words ids (Stopped rank) = codes "stopped" ∷ id_word ids rank ∷ []
 event_words ids (Unstopped rank) = codes "unstopped" ∷ id_word ids rank ∷ []
 event_words ids (Leave rank) = codes "leave" ∷ id_word ids rank ∷ []
 event_words ids (Feed rank) = codes "feed" ∷ id_word ids rank ∷ []
+event_words ids (Operator rank message) = codes "operator" ∷ id_word ids rank ∷ operator_word message ∷ []
 
 -- the line of an event, without its end, where the nodes have these ids by rank
 unfoldable pub event_line : List ℕ → Event → List ℕ

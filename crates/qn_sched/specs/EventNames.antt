@@ -5,7 +5,7 @@ use Rattle.qn_base.specs.declared.ids.Rank.{Rank}
 use Rattle.qn_model.specs.declared.events.Event.{Event}
 use Rattle.qn_model.specs.declared.events.Event.TheVariants as event
 use Rattle.qn_sched.specs.declared.event_name.EventName.{EventName}
-use Rattle.qn_sched.specs.declared.event_name.EventName.TheVariants.{Pass, Boot, Late, View, Deliver, Device, OfNode}
+use Rattle.qn_sched.specs.declared.event_name.EventName.TheVariants.{Pass, Boot, BootClean, Late, View, Deliver, Device, Operator, OfNode}
 use Rattle.qn_sched.specs.declared.event_name.NodeEvent.{NodeEvent}
 use Rattle.qn_sched.specs.declared.event_name.NodeEvent.TheVariants.{Crash, Land, Done, Fail, Tick, Stopped, Unstopped, Leave, Feed}
 
@@ -37,16 +37,20 @@ event_at Feed rank = event.Feed rank
 abbrev pub event_word : EventName → List ℕ
 event_word Pass = codes "pass"
 event_word Boot = codes "boot"
+event_word BootClean = codes "boot-clean"
 event_word Late = codes "late"
 event_word View = codes "view"
 event_word Deliver = codes "deliver"
 event_word Device = codes "device"
+event_word Operator = codes "operator"
 event_word (OfNode event) = node_event_word event
 
 -- the names of all events
 abbrev pub event_names : List EventName
 event_names =
-    Pass ∷ Boot ∷ OfNode Crash ∷ OfNode Land ∷ OfNode Done ∷ OfNode Fail ∷ OfNode Tick ∷ OfNode Stopped ∷ OfNode Unstopped ∷ OfNode Leave ∷ OfNode Feed ∷ Late ∷ View ∷ Deliver ∷ Device ∷ []
+    Pass ∷ Boot ∷ BootClean ∷ OfNode Crash ∷ OfNode Land ∷ OfNode Done ∷ OfNode Fail
+    ∷ OfNode Tick ∷ OfNode Stopped ∷ OfNode Unstopped ∷ OfNode Leave ∷ OfNode Feed
+    ∷ Late ∷ View ∷ Deliver ∷ Device ∷ Operator ∷ []
 
 -- the name that a first word is
 unfoldable pub event_name : List ℕ → Option EventName

@@ -1,5 +1,5 @@
 -- The event that a line of a schedule says, or its first fault: this project's profile.
-use Rattle.std.specs.Prelude.{ℕ, ◌-◌, ◌^◌, Bool, true, false, nat_lt, if◌then◌else◌, List, [], ◌∷◌, length, map, Result, Ok, Err, codes}
+use Rattle.std.specs.Prelude.{ℕ, ◌-◌, ◌^◌, Bool, true, false, nat_lt, if◌then◌else◌, List, [], ◌∷◌, find, length, map, Option, Result, Ok, Err, codes}
 use Rattle.std.specs.Option.{ok_or}
 use Rattle.std.specs.List.{join_with_byte}
 use Rattle.std.specs.Str.{bytes_eq}
@@ -9,9 +9,12 @@ use Rattle.qn_model.specs.declared.events.Event.{Event}
 use Rattle.qn_model.specs.declared.events.Event.TheVariants as event
 use Rattle.qn_model.specs.declared.line_fault.LineFault.{LineFault}
 use Rattle.qn_model.specs.declared.line_fault.LineFault.TheVariants.{UnknownWord, BadCount, BadNumber, TooLong}
+use Rattle.qn_model.specs.declared.disk.Message.{Message}
+use Rattle.qn_model.specs.declared.disk.Message.TheVariants.{Empty, Test, Reset, Off, Exit, Crashdump}
+use Rattle.qn_model.specs.Messages.{operator_word}
 use Rattle.qn_model.specs.Lines.{◌>>=◌, is_ascending, known_rank, members_of, number_between, parts, two_words, words_of}
 use Rattle.qn_sched.specs.declared.event_name.EventName.{EventName}
-use Rattle.qn_sched.specs.declared.event_name.EventName.TheVariants.{Pass, Boot, Late, View, Deliver, Device, OfNode}
+use Rattle.qn_sched.specs.declared.event_name.EventName.TheVariants.{Pass, Boot, BootClean, Late, View, Deliver, Device, Operator, OfNode}
 use Rattle.qn_sched.specs.declared.event_name.NodeEvent.{NodeEvent}
 use Rattle.qn_sched.specs.EventNames.{event_at, event_name}
 use Rattle.qn_sched.specs.Words.{one_word, three_words}
@@ -41,6 +44,11 @@ unfoldable pub boot_of : List ℕ → List (List ℕ) → Result Event LineFault
 boot_of ids words = do
   numbered ← numbered_of ids 0 1000000000000000 words
   Ok (event.Boot numbered.0 numbered.1)
+
+unfoldable pub boot_clean_of : List ℕ → List (List ℕ) → Result Event LineFault
+boot_clean_of ids words = do
+  numbered ← numbered_of ids 0 1000000000000000 words
+  Ok (event.BootClean numbered.0 numbered.1)
 
 unfoldable pub late_of : List ℕ → List (List ℕ) → Result Event LineFault
 late_of ids words = do
@@ -73,6 +81,21 @@ device_of ids words = do
   agrees ← yes_or_no pair.1
   Ok (event.Device rank agrees)
 
+-- the messages that an operator can send
+abbrev pub messages : List Message
+messages = Empty ∷ Test ∷ Reset ∷ Off ∷ Exit ∷ Crashdump ∷ []
+
+-- sbd(8), `message`: the message that an operator sends by a word
+unfoldable pub message_worded : List ℕ → Option Message
+message_worded word = find (λ message. bytes_eq (operator_word message) word) messages
+
+unfoldable pub operator_of : List ℕ → List (List ℕ) → Result Event LineFault
+operator_of ids words = do
+  pair ← two_words words
+  rank ← rank_of ids pair.0
+  message ← ok_or (message_worded pair.1) UnknownWord
+  Ok (event.Operator rank message)
+
 -- the id and the advance of a clock, judged from left to right
 unfoldable pub clock_at : List ℕ → List ℕ → List ℕ → Result (Rank × ℕ) LineFault
 clock_at ids first second = do
@@ -80,7 +103,7 @@ clock_at ids first second = do
   advance ← number_between 0 1000000000000 second
   Ok (rank, advance)
 
--- a clock of a pass, by its parts round `=`: the id stands before the first one, and the advance is all that stands behind it
+-- a clock of a pass, by its parts round `=`: the id stands before the first one, and the advance is all that stands after it
 unfoldable pub clock_of_parts : List ℕ → List (List ℕ) → Result (Rank × ℕ) LineFault
 clock_of_parts ids [] = Err BadNumber
 clock_of_parts ids (id ∷ []) = Err BadNumber
@@ -114,10 +137,12 @@ pass_of ids (first ∷ words) = do
 unfoldable pub event_named : List ℕ → EventName → List (List ℕ) → Result Event LineFault
 event_named ids Pass words = pass_of ids words
 event_named ids Boot words = boot_of ids words
+event_named ids BootClean words = boot_clean_of ids words
 event_named ids Late words = late_of ids words
 event_named ids View words = view_of ids words
 event_named ids Deliver words = deliver_of ids words
 event_named ids Device words = device_of ids words
+event_named ids Operator words = operator_of ids words
 event_named ids (OfNode event) words = node_event_of ids event words
 
 unfoldable pub event_of_words : List ℕ → List (List ℕ) → Result Event LineFault
@@ -129,3 +154,8 @@ event_of_words ids (first ∷ words) = do
 -- the event that a line says, or its first fault
 unfoldable pub event_of : List ℕ → List ℕ → Result Event LineFault
 event_of ids line = if nat_lt MOST_LINE_BYTES (length line) then Err TooLong else event_of_words ids (words_of line)
+
+-- the answer of a call that fills in an event, with that event
+abbrev pub filled_in : Result (Unit {0}) LineFault → Event → Result Event LineFault
+filled_in (Ok done) event = Ok event
+filled_in (Err fault) event = Err fault

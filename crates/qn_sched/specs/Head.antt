@@ -13,7 +13,7 @@ use Rattle.qn_sched.specs.declared.replay_end.ReplayEnd.{ReplayEnd}
 use Rattle.qn_sched.specs.declared.replay_end.ReplayEnd.TheVariants.{BadConf, BadSettings, BadSchedule, UnsafeTiming}
 use Rattle.qn_sched.specs.TimingLine.{timing_of}
 
--- the line behind the settings text
+-- the line after the settings text
 abbrev pub dashes : List ℕ
 dashes = codes "----"
 

@@ -30,7 +30,7 @@ times_of first second third fourth fifth = do
   feed_delay ← time_of fifth
   Ok (record { watchdog = watchdog; msgwait = msgwait; loop_ms = loop_ms; read_limit = read_limit; feed_delay = feed_delay })
 
--- exactly five words behind the first
+-- exactly five words after the first
 unfoldable pub times_of_words : List (List ℕ) → Result Timing LineFault
 times_of_words (first ∷ second ∷ third ∷ fourth ∷ fifth ∷ []) = times_of first second third fourth fifth
 times_of_words words = Err BadCount

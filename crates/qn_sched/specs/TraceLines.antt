@@ -21,7 +21,7 @@ use Rattle.qn_model.specs.declared.votes.Answer.{Answer}
 use Rattle.qn_model.specs.Messages.{message_name}
 use Rattle.qn_sched.specs.EventLines.{id_word, ids_from}
 
--- the first condition that a start lacks
+-- the first condition that blocks a start
 abbrev pub why_text : Why → List ℕ
 why_text Down = codes "down"
 why_text Holding = codes "holding"
@@ -51,6 +51,7 @@ cause_number cause.UnsafeTiming = 3
 cause_number cause.ClaimFailed = 4
 cause_number cause.ClearFailed = 5
 cause_number cause.IncarnationSpent = 6
+cause_number cause.NotClean = 7
 
 abbrev pub halt_word : HaltKind → List ℕ
 halt_word (halt.Deadly message) = codes "halt:" ++ message_name message
@@ -59,6 +60,7 @@ halt_word (halt.Boot cause) = codes "halt:boot-" ++ decimal (cause_number cause)
 abbrev pub disk_word : List ℕ → DiskOp → List ℕ
 disk_word ids disk.ReadHeader = codes "read-header"
 disk_word ids (disk.ReadSlot rank) = codes "read-slot:" ++ id_word ids rank
+disk_word ids disk.CheckMail = codes "check-mail"
 disk_word ids (disk.WriteClaim incarnation) = codes "claim:" ++ decimal incarnation
 disk_word ids disk.WriteClear = codes "clear"
 disk_word ids disk.ReadMail = codes "read-mail"
@@ -91,7 +93,7 @@ holders_text ids holders = joined_or_dash 43 (map decimal (ids_from 0 ids holder
 abbrev pub answer_text : Answer → List ℕ
 answer_text answer = codes " quorate=" ++ yes_no answer.quorate ++ codes " " ++ decimal answer.votes ++ codes "/" ++ decimal answer.quorum
 
--- what stands behind the number and the time: at a pass, and at an event of a node
+-- what stands after the number and the time: at a pass, and at an event of a node
 abbrev pub touched_text : List ℕ → Report → Option Rank → List ℕ
 touched_text ids report None = codes " - - holders=" ++ holders_text ids report.holders
 touched_text ids report (Some rank) =

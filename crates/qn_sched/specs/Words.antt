@@ -4,7 +4,7 @@ use Rattle.qn_model.specs.declared.line_fault.LineFault.{LineFault}
 use Rattle.qn_model.specs.declared.line_fault.LineFault.TheVariants.{BadCount}
 use Rattle.qn_model.specs.Lines.{parts}
 
--- the parts that are left round a byte: none behind the last part
+-- the parts that are left round a byte: none after the last part
 abbrev pub parts_left : ℕ → Option (List ℕ) → List (List ℕ)
 parts_left byte None = []
 parts_left byte (Some text) = parts byte text

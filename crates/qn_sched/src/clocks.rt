@@ -1,3 +1,4 @@
+//! Reads the clocks of a pass of time, word by word.
 ghost use Rattle.std.specs.Prelude.{◌≡◌, ◌<◌, IfOk};
 ghost use Rattle.std.specs.Option.{option_copied};
 ghost use Rattle.qn_model.specs.Settings.{ids};
@@ -64,7 +65,7 @@ impl ClockList {
 }
 
 /// The clocks of a pass of which these words are left. The first fault from left to right is named; BadCount
-/// where the ids do not ascend strictly comes behind the faults of the words.
+/// where the ids do not ascend strictly comes after the faults of the words.
 pub(crate) fn read_clocks(nodes: &Nodes, words: Option<&[u8]>) -> Result<Clocks, LineFault>
     ensures { result ≡ clocks_of (ids nodes.now) (parts_left 32 (option_copied words.entry)) }
 {

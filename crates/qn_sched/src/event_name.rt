@@ -1,3 +1,4 @@
+//! The first words of the lines of events.
 ghost use Rattle.std.specs.Prelude.{◌≡◌};
 ghost use Rattle.qn_sched.specs.EventNames.{event_at, event_name, event_word, node_event_word};
 
@@ -9,10 +10,12 @@ use qn_model::Event;
 pub(crate) enum EventName {
     Pass,
     Boot,
+    BootClean,
     Late,
     View,
     Deliver,
     Device,
+    Operator,
     /// An event of which the line says the node alone.
     OfNode(NodeEvent),
 }
@@ -32,9 +35,10 @@ pub(crate) enum NodeEvent {
 }
 
 /// The names of all events.
-const EVENT_NAMES: [EventName; 15] = [
+const EVENT_NAMES: [EventName; 17] = [
     EventName::Pass,
     EventName::Boot,
+    EventName::BootClean,
     EventName::OfNode(NodeEvent::Crash),
     EventName::OfNode(NodeEvent::Land),
     EventName::OfNode(NodeEvent::Done),
@@ -48,6 +52,7 @@ const EVENT_NAMES: [EventName; 15] = [
     EventName::View,
     EventName::Deliver,
     EventName::Device,
+    EventName::Operator,
 ];
 
 impl NodeEvent {
@@ -94,10 +99,12 @@ impl EventName {
         match self {
             EventName::Pass => "pass",
             EventName::Boot => "boot",
+            EventName::BootClean => "boot-clean",
             EventName::Late => "late",
             EventName::View => "view",
             EventName::Deliver => "deliver",
             EventName::Device => "device",
+            EventName::Operator => "operator",
             EventName::OfNode(event) => event.word(),
         }
     }

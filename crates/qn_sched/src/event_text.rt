@@ -1,13 +1,15 @@
+//! Writes the line of an event.
 ghost use Rattle.std.specs.Prelude.{◌≡◌, ◌≤◌, ◌+◌, ◌*◌, ◌++◌, ◌∷◌, length, map, decimal, codes};
 ghost use Rattle.std.specs.List.{join_with_byte};
 ghost use Rattle.qn_base.specs.Text.{yes_no};
+ghost use Rattle.qn_model.specs.Messages.{operator_word};
 ghost use Rattle.qn_model.specs.Settings.{ids};
 ghost use Rattle.qn_sched.specs.EventLines.{clock_word, event_line, id_word, member_word};
 
 use crate::text::{add_id, add_members};
 use arrayvec::ArrayVec;
 use qn_base::{Rank, View, add, add_number, yes_no};
-use qn_model::{Clocks, Event, Nodes, Settings};
+use qn_model::{Clocks, Event, Message, Nodes, Settings};
 
 /// Empties `into` and writes the line of an event, without its end. The id of a rank that is not configured
 /// is 0.
@@ -27,6 +29,7 @@ fn add_event(into: &mut ArrayVec<u8, 4096>, nodes: &Nodes, event: &Event)
     match event {
         Event::Pass { dt, clocks } => add_pass(into, nodes, *dt, clocks),
         Event::Boot(rank, base) => add_numbered(into, b"boot", nodes, *rank, *base),
+        Event::BootClean(rank, base) => { add_numbered(into, b"boot-clean", nodes, *rank, *base) }
         Event::Crash(rank) => add_node(into, b"crash", nodes, *rank),
         Event::Land(rank) => add_node(into, b"land", nodes, *rank),
         Event::Done(rank) => add_node(into, b"done", nodes, *rank),
@@ -40,6 +43,7 @@ fn add_event(into: &mut ArrayVec<u8, 4096>, nodes: &Nodes, event: &Event)
         Event::Unstopped(rank) => add_node(into, b"unstopped", nodes, *rank),
         Event::Leave(rank) => add_node(into, b"leave", nodes, *rank),
         Event::Feed(rank) => add_node(into, b"feed", nodes, *rank),
+        Event::Operator(rank, message) => add_operator(into, nodes, *rank, *message),
     }
 }
 
@@ -84,6 +88,17 @@ fn add_device(into: &mut ArrayVec<u8, 4096>, nodes: &Nodes, rank: Rank, agrees: 
     add_node(into, b"device", nodes, rank);
     add(into, b" ");
     add(into, yes_no(agrees));
+}
+
+/// Adds the line of an operator's message.
+fn add_operator(into: &mut ArrayVec<u8, 4096>, nodes: &Nodes, rank: Rank, message: Message)
+    requires { length into.old.items ≤ 100 }
+    ensures { into.new.items ≡ into.old.items
+        ++ (codes "operator" ++ 32 ∷ (id_word (ids nodes.now) rank ++ 32 ∷ operator_word message)) }
+{
+    add_node(into, b"operator", nodes, rank);
+    add(into, b" ");
+    add(into, message.operator_word().as_bytes());
 }
 
 /// Adds the line of a pass.

@@ -1,3 +1,4 @@
+//! The law that a line says an event exactly where it is its spelling.
 ghost use Rattle.std.specs.Prelude.{◌≡◌, ◌↔◌, ℕ, List, Ok, IsTrue};
 ghost use Rattle.qn_model.specs.declared.configuration.Settings.{Settings};
 ghost use Rattle.qn_model.specs.declared.events.Event.{Event};

@@ -1,10 +1,10 @@
-// The lines of a schedule, of its trace and of the input of `count`, word by word. Nothing here reads or writes.
-//
-// Promises: the words of a line are exactly the parts round single spaces; a number is accepted exactly
-// where it has no leading zero and is in range; a list of members is accepted exactly where its ids are
-// those of nodes and ascend strictly. A line is accepted as an event exactly where it is the one spelling of
-// that well formed event (`law_event_lines`), and as times exactly where it is their spelling; the first fault is named. The
-// line of an event and the trace line of a report are written exactly.
+//! The lines of a schedule, of its trace and of the input of `count`, word by word. Nothing here reads or writes.
+//!
+//! Promises: the words of a line are exactly the parts round single spaces; a number is accepted exactly
+//! where it has no leading zero and is in range; a list of members is accepted exactly where its ids are
+//! those of nodes and ascend strictly. A line is accepted as an event exactly where it is the one spelling of
+//! that well formed event (`law_event_lines`), and as times exactly where it is their spelling; the first fault is named. The
+//! line of an event and the trace line of a report are written exactly.
 #![tactic(auto)]
 
 mod clocks;
@@ -20,7 +20,7 @@ mod timing_line;
 mod trace;
 mod words;
 
-pub use event_line::read_line;
+pub use event_line::{read_line, read_line_into};
 pub use event_text::write_line;
 pub use laws::law_event_lines;
 pub use members::{known_rank, read_members};

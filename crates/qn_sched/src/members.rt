@@ -1,3 +1,4 @@
+//! Reads ids and lists of members.
 ghost use Rattle.std.specs.Prelude.{◌≡◌, ◌<◌, ◌==◌, ◌&&◌, length, slice_index, position, IfOk, IfSome};
 ghost use Rattle.qn_model.specs.Lines.{known_rank, members_of};
 ghost use Rattle.qn_model.specs.Settings.{ids};
@@ -97,7 +98,7 @@ impl MemberList {
         }
     }
 
-    /// Whether the list is sound with this id behind the last one.
+    /// Whether the list is sound with this id after the last one.
     fn is_sound_before(self, id: u32) -> bool
         ensures { result ≡ (self.is_sound && is_above self.last id) }
     {
@@ -118,7 +119,7 @@ impl MemberList {
 }
 
 /// The members that a word lists: ids of nodes, joined by commas, strictly ascending. The first fault from
-/// left to right is named; BadView for an empty part or for the order comes behind the faults of the ids.
+/// left to right is named; BadView for an empty part or for the order comes after the faults of the ids.
 pub fn read_members(nodes: &Nodes, word: &[u8]) -> Result<Mask, LineFault>
     ensures { result ≡ members_of (ids nodes.now) word.now }
 {

@@ -1,3 +1,4 @@
+//! Reads numbers that have a range and no leading zero.
 ghost use Rattle.std.specs.Prelude.{◌≡◌, ◌≤◌, ◌<◌, IfOk, length};
 ghost use Rattle.qn_model.specs.Lines.{has_leading_zero, number_between};
 

@@ -1,3 +1,4 @@
+//! How a replay ends.
 use qn_conf::ConfFault;
 use qn_model::{LineFault, Rule, Timing};
 use qn_settings::SettingsFault;
@@ -7,7 +8,7 @@ use qn_settings::SettingsFault;
 pub enum ReplayEnd {
     /// The input was read to its end, and every line was good: so many were events.
     Done { events: u64 },
-    /// The settings text is no configuration. Want of memory is `NoMemory` below.
+    /// The settings text is no configuration. Out of memory is `NoMemory` below.
     BadConf(ConfFault),
     /// The settings text is a configuration, and gives no settings.
     BadSettings(SettingsFault),
@@ -21,7 +22,7 @@ pub enum ReplayEnd {
     WriteFault,
     /// The times of the timing line are in range, and not safe.
     UnsafeTiming(Timing),
-    /// Memory was wanted and not there.
+    /// Out of memory.
     NoMemory,
 }
 

@@ -1,3 +1,4 @@
+//! Reads the timing line of a schedule.
 ghost use Rattle.std.specs.Prelude.{◌≡◌, ◌≤◌, ◌↔◌, Ok, IsTrue};
 ghost use Rattle.std.specs.Option.{option_copied};
 ghost use Rattle.qn_model.specs.Timing.{has_periods};
@@ -36,7 +37,7 @@ fn read_line(line: &[u8]) -> Result<Timing, LineFault>
     read_words(rest)
 }
 
-/// The times of the words behind the first, of which there must be five.
+/// The times of the words after the first, of which there must be five.
 #[tactic(auto, unfolding(crate::specs::TimingLine::times_of_words))]
 fn read_words(rest: Option<&[u8]>) -> Result<Timing, LineFault>
     ensures { result ≡ times_of_words (parts_left 32 (option_copied rest.entry)) }

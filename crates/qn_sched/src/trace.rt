@@ -1,3 +1,4 @@
+//! Writes the trace line of a report, and the condition that blocks a start.
 ghost use Rattle.std.specs.Prelude.{◌≡◌, ◌≤◌, ◌+◌, ◌*◌, ◌++◌, [], Some, length, map, codes, decimal};
 ghost use Rattle.qn_model.specs.Messages.{message_name};
 ghost use Rattle.qn_model.specs.Settings.{ids};
@@ -11,7 +12,7 @@ use qn_model::{
     Answer, BootCause, DiskOp, HaltKind, Message, Nodes, Out, Outs, Packet, Report, Settings, Why,
 };
 
-/// Empties `into` and writes the first condition that a start of the resource lacks, as a trace and a status
+/// Empties `into` and writes the first condition that blocks a start of the resource, as a trace and a status
 /// print it.
 pub fn write_why(why: &Why, into: &mut ArrayVec<u8, 64>)
     ensures { into.new.items ≡ why_text why.now }
@@ -85,7 +86,7 @@ pub fn write_trace(number: u64, report: &Report, settings: &Settings, into: &mut
     }
 }
 
-/// Adds what stands behind the time at a pass.
+/// Adds what stands after the time at a pass.
 fn add_pass(into: &mut ArrayVec<u8, 4096>, nodes: &Nodes, report: &Report)
     requires { length into.old.items ≤ 100 }
     ensures text { into.new.items ≡ into.old.items ++ (codes " - - holders=" ++ holders_text (ids nodes.now) report.now.holders) }
@@ -95,7 +96,7 @@ fn add_pass(into: &mut ArrayVec<u8, 4096>, nodes: &Nodes, report: &Report)
     add_holders(into, nodes, report.holders);
 }
 
-/// Adds what stands behind the time at an event of a node.
+/// Adds what stands after the time at an event of a node.
 fn add_touched(into: &mut ArrayVec<u8, 4096>, nodes: &Nodes, report: &Report, rank: Rank)
     requires { length into.old.items ≤ 100 }
     ensures text { into.new.items ≡ into.old.items ++ touched_text (ids nodes.now) report.now (Some rank) }
@@ -126,7 +127,7 @@ fn add_answer(into: &mut ArrayVec<u8, 4096>, answer: &Answer)
     add_number(into, answer.quorum);
 }
 
-/// Adds the first condition that a start lacks.
+/// Adds the first condition that blocks a start.
 fn add_why(into: &mut ArrayVec<u8, 4096>, why: &Why)
     requires { length into.old.items ≤ 4000 }
     ensures text { into.new.items ≡ into.old.items ++ why_text why.now }
@@ -217,6 +218,7 @@ fn add_op(into: &mut ArrayVec<u8, 4096>, nodes: &Nodes, op: DiskOp)
     match op {
         DiskOp::ReadHeader => add(into, b"read-header"),
         DiskOp::ReadSlot(rank) => add_at(into, b"read-slot:", nodes, rank),
+        DiskOp::CheckMail => add(into, b"check-mail"),
         DiskOp::WriteClaim(incarnation) => add_numbered(into, b"claim:", incarnation),
         DiskOp::WriteClear => add(into, b"clear"),
         DiskOp::ReadMail => add(into, b"read-mail"),
@@ -275,5 +277,6 @@ fn cause_number(cause: BootCause) -> u64
         BootCause::ClaimFailed => 4,
         BootCause::ClearFailed => 5,
         BootCause::IncarnationSpent => 6,
+        BootCause::NotClean => 7,
     }
 }

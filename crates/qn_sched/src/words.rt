@@ -1,3 +1,4 @@
+//! The words of a line, one after the other.
 ghost use Rattle.std.specs.Prelude.{◌≡◌, [], ◌∷◌, ◌≤◌, ◌<◌, length, None, Ok, Err, OnOk, OnErr, IfOk, IfErr, IfSome};
 ghost use Rattle.std.specs.Option.{option_copied};
 ghost use Rattle.qn_model.specs.Lines.{parts, two_words};
@@ -5,7 +6,7 @@ ghost use Rattle.qn_sched.specs.Words.{one_word, parts_left, three_words};
 
 use qn_model::LineFault;
 
-/// The first part of a text round a byte, and the text behind that byte, or none where the byte is not
+/// The first part of a text round a byte, and the text after that byte, or none where the byte is not
 /// there.
 pub fn first_part(text: &[u8], byte: u8) -> (&[u8], Option<&[u8]>)
     ensures parts { parts byte text.entry.now ≡ result.0.now ∷ parts_left byte (option_copied result.1) }
@@ -21,7 +22,7 @@ pub fn first_part(text: &[u8], byte: u8) -> (&[u8], Option<&[u8]>)
     (text, None)
 }
 
-/// The next word of a line of which `rest` is left, and what is left behind it. BadCount where there is
+/// The next word of a line of which `rest` is left, and what is left after it. BadCount where there is
 /// no further word.
 pub fn next_word(rest: Option<&[u8]>) -> Result<(&[u8], Option<&[u8]>), LineFault>
     ensures word { IfOk result

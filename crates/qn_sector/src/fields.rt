@@ -1,3 +1,4 @@
+//! A sector while it is put together, field by field.
 ghost use Rattle.std.specs.Prelude.{◌≡◌, ◌+◌, ◌≤◌, ◌++◌};
 ghost use Rattle.qn_model.specs.Sectors.{zeros};
 ghost use Rattle.std.specs.Int.{bytes_high_first};

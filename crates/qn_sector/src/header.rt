@@ -1,26 +1,35 @@
+//! The header of an image, written and read.
 ghost use Rattle.std.specs.Prelude.{◌≡◌, ◌≤◌, ℕ, IsTrue, IfSome, IfNone};
-ghost use Rattle.qn_model.specs.Sectors.{header_bytes};
+ghost use Rattle.qn_model.specs.Sectors.{header_bytes, header_bytes_in};
 ghost use Rattle.qn_model.specs.Timing.{has_periods};
 ghost use Rattle.qn_model.specs.declared.times.Timing.{Timing};
-ghost use Rattle.qn_sector.specs.Reading.{header_of, is_header, timing_at, SpellsHeader};
+ghost use Rattle.qn_sector.specs.Reading.{header_in, header_of, header_of_1, is_header, timing_at, SpellsHeader};
 
 use crate::fields::{self, Sector};
 use byteorder::{BigEndian, ByteOrder};
 use qn_base::add;
 use qn_model::Timing;
 
-/// Writes the header of an image for that many nodes, 1 to 32, with times of 1 to `LONGEST_PERIOD`
+/// Writes the header of an image of version 2 for that many nodes, 1 to 32, with times of 1 to `LONGEST_PERIOD`
 /// milliseconds, over all 512 bytes.
-#[tactic(auto, unfolding(qn_model::specs::Sectors::header_bytes))]
 pub fn put_header(nodes: u32, timing: &Timing, into: &mut [u8; 512])
     requires some_nodes { 1 ≤ nodes }
     requires few_nodes { nodes ≤ 32 }
     requires times { IsTrue (has_periods timing.now) }
     ensures { into.new ≡ header_bytes nodes timing.now }
 {
+    spell(2, nodes, timing, into);
+}
+
+/// Writes a header of that version.
+#[tactic(auto, unfolding(qn_model::specs::Sectors::header_bytes_in))]
+fn spell(version: u16, nodes: u32, timing: &Timing, into: &mut [u8; 512])
+    requires { nodes ≤ 32 }
+    ensures { into.new ≡ header_bytes_in version nodes timing.now }
+{
     let mut sector = Sector::new();
     add(&mut sector, b"QNSBD001");
-    fields::add_u16(&mut sector, 1);
+    fields::add_u16(&mut sector, version);
     fields::add_u16(&mut sector, nodes as u16);
     fields::add_zeros(&mut sector, 4);
     fields::add_u64(&mut sector, timing.watchdog);
@@ -32,19 +41,28 @@ pub fn put_header(nodes: u32, timing: &Timing, into: &mut [u8; 512])
     into.copy_from_slice(&sector);
 }
 
-/// The number of nodes and the times of the header that the 512 bytes spell. Whether the times are safe
-/// is not tested.
+/// The number of nodes and the times of the header of version 2 that the 512 bytes spell. Whether the times
+/// are safe is not tested.
 pub fn get_header(from: &[u8; 512]) -> Option<(u32, Timing)>
-    ensures some { IfSome result (λ h. SpellsHeader from.now h.0 h.1) }
-    ensures none { IfNone result ((nodes : ℕ) (timing : Timing) → SpellsHeader from.now nodes timing → ⊥) }
+    ensures some { IfSome result (λ h. SpellsHeader 2 from.now h.0 h.1) }
+    ensures none { IfNone result ((nodes : ℕ) (timing : Timing) → SpellsHeader 2 from.now nodes timing → ⊥) }
     ensures gives { result ≡ header_of from.now }
 {
-    read_header(from)
+    read_header(2, from)
 }
 
-#[tactic(auto, unfolding(crate::specs::Reading::header_of))]
-fn read_header(from: &[u8; 512]) -> Option<(u32, Timing)>
-    ensures { result ≡ header_of from.now }
+/// The same of a header of version 1.
+pub fn get_header_1(from: &[u8; 512]) -> Option<(u32, Timing)>
+    ensures some { IfSome result (λ h. SpellsHeader 1 from.now h.0 h.1) }
+    ensures none { IfNone result ((nodes : ℕ) (timing : Timing) → SpellsHeader 1 from.now nodes timing → ⊥) }
+    ensures gives { result ≡ header_of_1 from.now }
+{
+    read_header(1, from)
+}
+
+#[tactic(auto, unfolding(crate::specs::Reading::header_in))]
+fn read_header(version: u16, from: &[u8; 512]) -> Option<(u32, Timing)>
+    ensures { result ≡ header_in version from.now }
 {
     let nodes = u32::from(BigEndian::read_u16(from.split_at(10).1));
     let timing = read_times(from);
@@ -52,7 +70,7 @@ fn read_header(from: &[u8; 512]) -> Option<(u32, Timing)>
         return None;
     }
     let mut spelled = [0; 512];
-    put_header(nodes, &timing, &mut spelled);
+    spell(version, nodes, &timing, &mut spelled);
     if spelled.as_slice() == from.as_slice() {
         Some((nodes, timing))
     } else {

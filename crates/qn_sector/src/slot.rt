@@ -1,3 +1,4 @@
+//! A slot, written and read.
 ghost use Rattle.std.specs.Prelude.{◌≡◌, ◌≤◌, ◌<◌, ◌^◌, ℕ, IfSome, IfNone};
 ghost use Rattle.qn_model.specs.Sectors.{slot_bytes};
 ghost use Rattle.qn_model.specs.declared.disk.Slot.{Slot};

@@ -10,7 +10,7 @@ pub or_else-assoc : {X : Type 0} (a b c : Option X) → or_else (or_else a b) c 
 or_else-assoc None b c = refl
 or_else-assoc (Some x) b c = refl
 
--- the first of two lists, one behind the other
+-- the first of two lists, one after the other
 pub first_some-append : {X : Type 0} (xs ys : List (Option X)) → first_some (xs ++ ys) ≡ or_else (first_some xs) (first_some ys)
 first_some-append [] ys = refl
 first_some-append (x ∷ xs) ys = ap (or_else x) (first_some-append xs ys) ∙ sym (or_else-assoc x (first_some xs) (first_some ys))

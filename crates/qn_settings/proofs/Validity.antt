@@ -1,24 +1,26 @@
 -- Settings without a fault are valid.
 use Rattle.std.proofs.Common.{◌≡◌, ℕ, ◌≤◌, ◌==◌, not, cond, ◌&&◌, Bool, true, false, List, [], ◌∷◌, ◌++◌, map, length, Option, Some, None, refl, sym, arith, if◌then◌else◌}
-use Rattle.std.specs.Prelude.{All, IsTrue, IsNone, IfSome, nat_lt, option_map, is_some, find, unwrap_or}
+use Rattle.std.specs.Prelude.{All, IsTrue, IsNone, IsSome, IfSome, nat_lt, option_map, is_some, find, unwrap_or}
 use Rattle.std.specs.Option.{option_map_or}
 use Rattle.std.specs.List.{list_all, position_from}
 use Rattle.std.proofs.lemmas.Bool.{false≢true}
 use Rattle.std.proofs.lemmas.List.{length-map}
 use Rattle.std.proofs.lemmas.List.Elements.{All-cons}
 use borrow.Author.Tests.{ltb-false, eqb-false, eqb-true}
+use Rattle.qn_base.specs.declared.ids.Rank.{Rank}
 use Rattle.qn_model.specs.declared.nodelist.NodeEntry.{NodeEntry}
 use Rattle.qn_model.specs.declared.configuration.Device.{Device}
 use Rattle.qn_model.specs.Settings.{all_votes, IsPeriod, IsValid}
 use Rattle.qn_settings.specs.declared.key.Key.TheVariants as keys
 use Rattle.qn_settings.specs.declared.entries.Entry.{Entry}
 use Rattle.qn_settings.specs.declared.faults.SettingsFault.{SettingsFault}
-use Rattle.qn_settings.specs.declared.faults.SettingsFault.TheVariants.{ExpectedZero, LmsVotes, NoId, NoNodes, NoVotes, RepeatedId, TooManyNodes, TwoNodeCount, TwoNodeDevice, TwoNodeVotes}
+use Rattle.qn_settings.specs.declared.faults.SettingsFault.TheVariants.{ExpectedZero, LmsVotes, NoId, NoNodes, NoVotes, RepeatedId, TieDevice, TieTwoNode, TooManyNodes, TwoNodeCount, TwoNodeDevice, TwoNodeVotes}
 use Rattle.qn_settings.specs.Answer.{device_of, fault_in, filled, has_one_vote, value_faults, vote_faults}
 use Rattle.qn_settings.specs.Nodes.{lacks_id, node_faults, node_of, nodes_of, repeated_in, sections}
 use Rattle.qn_settings.specs.Values.{bad_number_in, first_some, flag, has_device, number}
 use Rattle.qn_settings.proofs.NodeLemmas.{All-fold, Ascends-fold, length-fold, strictly}
-use Rattle.qn_settings.proofs.ValueLemmas.{default-range, good_entries, ids_fit, ids_from_one, votes_fit, or_none}
+use Rattle.qn_settings.proofs.TieLemmas.{IsOrder-tie_of}
+use Rattle.qn_settings.proofs.ValueLemmas.{default-range, delays_fit, good_entries, ids_fit, ids_from_one, votes_fit, or_none}
 
 -- none of several is there
 abbrev AllNone : {X : Type 0} → List (Option X) → Type 0
@@ -90,12 +92,26 @@ no_device : (device : Option Device) → is_some device ≡ false → IsNone dev
 no_device None e = refl
 no_device (Some device) e = absurd (false≢true (sym e))
 
+-- the breaker, where it has an order, stands without two_node and without a device
+tie_alone :
+    (on two : Bool) (device : Option Device) (order : Option (List Rank))
+    → (if on && is_some device then Some TieDevice else None) ≡ None
+    → (if on && two then Some TieTwoNode else None) ≡ None
+    → IsSome (if on then order else None) → (two ≡ false) × IsNone device
+tie_alone false two device order free single some = absurd (false≢true some)
+tie_alone true two device order free single some =
+    (no_fault two TieTwoNode single, no_device device (no_fault (is_some device) TieDevice free))
+
 length-nodes : (entries : List Entry) → length (nodes_of entries) ≡ length (sections entries)
 length-nodes entries = omega (arith, length-fold [] (map node_of (sections entries)), length-map (sections entries) node_of)
 
 pub votes_fit_all : (entries : List Entry) → All (λ n. n.votes ≤ 65535) (nodes_of entries)
 votes_fit_all entries =
     All-fold (λ n. n.votes ≤ 65535) [] (map node_of (sections entries)) (λ k d within. absurd (omega arith)) (votes_fit (sections entries))
+
+delays_fit_all : (entries : List Entry) → All (λ n. n.fence_delay ≤ 3600000) (nodes_of entries)
+delays_fit_all entries =
+    All-fold (λ n. n.fence_delay ≤ 3600000) [] (map node_of (sections entries)) (λ k d within. absurd (omega arith)) (delays_fit (sections entries))
 
 ids_fit_all : (entries : List Entry) → All (λ n. n.id.0 ≤ 4294967295) (nodes_of entries)
 ids_fit_all entries =
@@ -114,7 +130,7 @@ pub IsValid-filled : (entries : List Entry) → fault_in entries ≡ None → Is
 IsValid-filled entries e =
     let nodes = nodes_of entries
     in let clear = all_none (value_faults entries ++ node_faults entries ++ vote_faults (filled nodes entries) entries) e
-    in let bad = clear.1.1.1
+    in let bad = clear.1.1
     in let count = eqb-false (length (sections entries)) 0 (no_fault (length (sections entries) == 0) NoNodes bad.1.1.0)
     in let few = ltb-false 32 (length (sections entries)) (no_fault (nat_lt 32 (length (sections entries))) TooManyNodes bad.1.1.1.0)
     in let len = length-nodes entries
@@ -138,4 +154,7 @@ IsValid-filled entries e =
       two_votes = λ is. one_vote_each nodes (both two (list_all has_one_vote nodes) (no_fault (two && not (list_all has_one_vote nodes)) TwoNodeVotes votes.1.1.1.0) is);
       two_alone = λ is. no_device device (neither two (is_some device) (no_fault (two && is_some device) TwoNodeDevice votes.1.1.1.1.0) is);
       last_man_votes = last_man (flag keys.LastManStanding entries) nodes votes.1.1.1.1.1.0;
+      delays_fit = delays_fit_all entries;
+      tie_order = IsOrder-tie_of nodes entries (omega arith);
+      tie_alone = tie_alone (flag keys.AutoTieBreaker entries) two device _ votes.1.1.1.1.1.1.0 votes.1.1.1.1.1.1.1.0;
     }

@@ -6,7 +6,7 @@ use Rattle.std.proofs.lemmas.List.Elements.{All-cons}
 use borrow.Author.Tests.{ltb-false}
 use Rattle.qn_base.specs.Decimal.{number_of}
 use Rattle.qn_settings.specs.declared.key.Key.{Key}
-use Rattle.qn_settings.specs.declared.key.Key.TheVariants.{NodeId, QuorumVotes}
+use Rattle.qn_settings.specs.declared.key.Key.TheVariants.{FenceDelay, NodeId, QuorumVotes}
 use Rattle.qn_settings.specs.declared.entries.Entry.{Entry}
 use Rattle.qn_settings.specs.declared.entries.Entry.TheVariants.{NodeBegins, Written}
 use Rattle.qn_settings.specs.declared.faults.SettingsFault.TheVariants.{BadNumber}
@@ -171,3 +171,10 @@ votes_fit [] = λ k d within. absurd (omega arith)
 votes_fit (section ∷ others) =
     All-cons (λ n. n.votes ≤ 65535) (node_of section) (map node_of others)
     (default-range QuorumVotes (0, 65535) section 1 refl (omega arith) (omega arith)).1 (votes_fit others)
+
+-- each node waits at most an hour
+pub delays_fit : (entries : List (List Entry)) → All (λ n. n.fence_delay ≤ 3600000) (map node_of entries)
+delays_fit [] = λ k d within. absurd (omega arith)
+delays_fit (section ∷ others) =
+    All-cons (λ n. n.fence_delay ≤ 3600000) (node_of section) (map node_of others)
+    (default-range FenceDelay (0, 3600000) section 0 refl (omega arith) (omega arith)).1 (delays_fit others)

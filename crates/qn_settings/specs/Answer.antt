@@ -1,6 +1,6 @@
 -- The settings of a tree: corosync.conf(5), votequorum(5). This project's profile are the default of the device's votes,
 -- that last man standing leaves the device out of the expected votes, the ranges, and the order of the faults.
-use Rattle.std.specs.Prelude.{ℕ, ◌+◌, ◌-◌, ◌==◌, ◌&&◌, not, Bool, if◌then◌else◌, List, [], ◌∷◌, ◌++◌, Option, Some, None, Result, Ok, Err, length, find, is_some, option_map, unwrap_or}
+use Rattle.std.specs.Prelude.{ℕ, ◌+◌, ◌-◌, ◌==◌, ◌&&◌, not, Bool, if◌then◌else◌, List, [], ◌∷◌, ◌++◌, Option, Some, None, Result, Ok, Err, length, find, is_some, is_none, option_map, unwrap_or}
 use Rattle.std.specs.Option.{option_map_or}
 use Rattle.std.specs.List.{list_all}
 use Rattle.qn_conf.specs.declared.tree.Item.{Item}
@@ -11,9 +11,10 @@ use Rattle.qn_model.specs.Settings.{all_votes}
 use Rattle.qn_settings.specs.declared.key.Key.TheVariants as keys
 use Rattle.qn_settings.specs.declared.entries.Entry.{Entry}
 use Rattle.qn_settings.specs.declared.faults.SettingsFault.{SettingsFault}
-use Rattle.qn_settings.specs.declared.faults.SettingsFault.TheVariants.{ExpectedZero, LmsVotes, TwoNodeCount, TwoNodeDevice, TwoNodeVotes}
+use Rattle.qn_settings.specs.declared.faults.SettingsFault.TheVariants.{BadTieNode, ExpectedZero, LmsVotes, TieDevice, TieTwoNode, TwoNodeCount, TwoNodeDevice, TwoNodeVotes}
 use Rattle.qn_settings.specs.Entries.{entries_of}
 use Rattle.qn_settings.specs.Nodes.{node_faults, nodes_of}
+use Rattle.qn_settings.specs.TieOrder.{tie_of}
 use Rattle.qn_settings.specs.Values.{bad_number, first_some, flag, has_device, number, unsupported, wrong_provider}
 
 -- votequorum(5), wait_for_all: as written, and else on with two_node
@@ -47,6 +48,7 @@ filled nodes entries =
       window = unwrap_or (number keys.LastManStandingWindow entries) 10000;
       device = device;
       expected = unwrap_or (number keys.ExpectedVotes entries) (all_votes nodes + device_votes last_man_standing device);
+      tie = tie_of nodes entries;
     }
 
 -- the settings of a tree: each key as its last pair, and what is absent filled in
@@ -56,7 +58,7 @@ settings_of tree = filled (nodes_of (entries_of tree)) (entries_of tree)
 -- the faults of the words and numbers, in the order in which they are tried
 abbrev pub value_faults : List Entry → List (Option SettingsFault)
 value_faults entries =
-    wrong_provider entries ∷ unsupported keys.AutoTieBreaker entries ∷ unsupported keys.AllowDownscale entries ∷ bad_number entries ∷ []
+    wrong_provider entries ∷ unsupported keys.AllowDownscale entries ∷ bad_number entries ∷ []
 
 abbrev pub expected_zero : List Entry → Option SettingsFault
 expected_zero entries = option_map_or (λ n. if n == 0 then Some ExpectedZero else None) (number keys.ExpectedVotes entries) None
@@ -82,10 +84,23 @@ last_man_votes s =
     then option_map (λ node. LmsVotes node.id) (find (λ node. not (has_one_vote node)) s.nodes)
     else None
 
+-- the breaker stands without a device (this project's profile)
+abbrev pub tie_device : Settings → List Entry → Option SettingsFault
+tie_device s entries = if flag keys.AutoTieBreaker entries && is_some s.device then Some TieDevice else None
+
+-- the breaker stands without two_node (this project's profile)
+abbrev pub tie_two_node : Settings → List Entry → Option SettingsFault
+tie_two_node s entries = if flag keys.AutoTieBreaker entries && s.two_node then Some TieTwoNode else None
+
+-- votequorum(5), auto_tie_breaker_node: one of the three forms, of configured nodes, each once
+abbrev pub bad_tie_node : Settings → List Entry → Option SettingsFault
+bad_tie_node s entries = if flag keys.AutoTieBreaker entries && is_none s.tie then Some BadTieNode else None
+
 -- the faults of settings as a whole, in the order in which they are tried
 abbrev pub vote_faults : Settings → List Entry → List (Option SettingsFault)
 vote_faults s entries =
-    expected_zero entries ∷ two_node_count s ∷ two_node_votes s ∷ two_node_device s ∷ last_man_votes s ∷ []
+    expected_zero entries ∷ two_node_count s ∷ two_node_votes s ∷ two_node_device s ∷ last_man_votes s
+    ∷ tie_device s entries ∷ tie_two_node s entries ∷ bad_tie_node s entries ∷ []
 
 -- the first fault of entries whose nodes and settings are these
 abbrev pub fault_in : List Entry → Option SettingsFault

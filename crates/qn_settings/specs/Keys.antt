@@ -4,12 +4,13 @@ use Rattle.std.specs.Prelude.{ℕ, ◌==◌, ◌||◌, Bool, if◌then◌else◌
 use Rattle.qn_base.specs.Decimal.{number_of}
 use Rattle.qn_base.specs.declared.limits.TheConstants.{LONGEST_PERIOD}
 use Rattle.qn_settings.specs.declared.key.Key.{Key}
-use Rattle.qn_settings.specs.declared.key.Key.TheVariants.{NodeId, QuorumVotes, Provider, ExpectedVotes, TwoNode, WaitForAll, LastManStanding, LastManStandingWindow, AutoTieBreaker, AllowDownscale, Model, Votes, Timeout}
+use Rattle.qn_settings.specs.declared.key.Key.TheVariants.{NodeId, QuorumVotes, FenceDelay, Provider, ExpectedVotes, TwoNode, WaitForAll, LastManStanding, LastManStandingWindow, AutoTieBreaker, AutoTieBreakerNode, AllowDownscale, Model, Votes, Timeout}
 
 -- the name of a key in the text
 abbrev pub key_name : Key → List ℕ
 key_name NodeId = codes "nodeid"
 key_name QuorumVotes = codes "quorum_votes"
+key_name FenceDelay = codes "fence_delay"
 key_name Provider = codes "provider"
 key_name ExpectedVotes = codes "expected_votes"
 key_name TwoNode = codes "two_node"
@@ -17,6 +18,7 @@ key_name WaitForAll = codes "wait_for_all"
 key_name LastManStanding = codes "last_man_standing"
 key_name LastManStandingWindow = codes "last_man_standing_window"
 key_name AutoTieBreaker = codes "auto_tie_breaker"
+key_name AutoTieBreakerNode = codes "auto_tie_breaker_node"
 key_name AllowDownscale = codes "allow_downscale"
 key_name Model = codes "model"
 key_name Votes = codes "votes"
@@ -26,13 +28,15 @@ key_name Timeout = codes "timeout"
 abbrev pub range_of : Key → Option (ℕ × ℕ)
 range_of NodeId = Some (1, 4294967295)
 range_of QuorumVotes = Some (0, 65535)
+range_of FenceDelay = Some (0, LONGEST_PERIOD)
 range_of Provider = None
 range_of ExpectedVotes = Some (0, 1000000)
 range_of TwoNode = Some (0, 1)
 range_of WaitForAll = Some (0, 1)
 range_of LastManStanding = Some (0, 1)
 range_of LastManStandingWindow = Some (1, LONGEST_PERIOD)
-range_of AutoTieBreaker = None
+range_of AutoTieBreaker = Some (0, 1)
+range_of AutoTieBreakerNode = None
 range_of AllowDownscale = None
 range_of Model = None
 range_of Votes = Some (0, 65535)
@@ -51,17 +55,19 @@ number_in key text =
 abbrev pub place_of : Key → ℕ
 place_of NodeId = 0
 place_of QuorumVotes = 1
-place_of Provider = 2
-place_of ExpectedVotes = 3
-place_of TwoNode = 4
-place_of WaitForAll = 5
-place_of LastManStanding = 6
-place_of LastManStandingWindow = 7
-place_of AutoTieBreaker = 8
-place_of AllowDownscale = 9
-place_of Model = 10
-place_of Votes = 11
-place_of Timeout = 12
+place_of FenceDelay = 2
+place_of Provider = 3
+place_of ExpectedVotes = 4
+place_of TwoNode = 5
+place_of WaitForAll = 6
+place_of LastManStanding = 7
+place_of LastManStandingWindow = 8
+place_of AutoTieBreaker = 9
+place_of AutoTieBreakerNode = 10
+place_of AllowDownscale = 11
+place_of Model = 12
+place_of Votes = 13
+place_of Timeout = 14
 
 -- whether two keys are the same
 abbrev pub is_key : Key → Key → Bool

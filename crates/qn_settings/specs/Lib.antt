@@ -3,4 +3,5 @@ pub mod Sections
 pub mod Entries
 pub mod Values
 pub mod Nodes
+pub mod TieOrder
 pub mod Answer

@@ -1,4 +1,5 @@
--- The nodes of the settings: corosync.conf(5), `nodelist`, `node`; the limit of 32 is this project's profile.
+-- The nodes of the settings: corosync.conf(5), `nodelist`, `node`; the limit of 32 and the fence delay are this
+-- project's profile.
 use Rattle.std.specs.Prelude.{◌==◌, Bool, false, if◌then◌else◌, List, [], ◌∷◌, Option, Some, None, length, map, fold, insert, is_none, nat_lt, option_map, position, unwrap_or}
 use Rattle.std.specs.List.{position_from}
 use Rattle.qn_base.specs.declared.ids.NodeId.{NodeId}
@@ -23,12 +24,13 @@ sections [] = []
 sections (NodeBegins ∷ entries) = own_entries entries ∷ sections entries
 sections (Written key value ∷ entries) = sections entries
 
--- the node of a section, with 1 vote where none is written
+-- the node of a section, with 1 vote and no fence delay where none is written
 abbrev pub node_of : List Entry → NodeEntry
 node_of section =
     record {
       id = record { 0 = unwrap_or (number keys.NodeId section) 0 };
       votes = unwrap_or (number keys.QuorumVotes section) 1;
+      fence_delay = unwrap_or (number keys.FenceDelay section) 0;
     }
 
 -- the nodes with one more, before the first of a greater id

@@ -2,7 +2,7 @@
 use Rattle.std.specs.Prelude.{ℕ, if◌then◌else◌, List, [], ◌∷◌, Option, codes, find}
 use Rattle.std.specs.Str.{bytes_eq}
 use Rattle.qn_settings.specs.declared.key.Key.{Key}
-use Rattle.qn_settings.specs.declared.key.Key.TheVariants.{NodeId, QuorumVotes, Provider, ExpectedVotes, TwoNode, WaitForAll, LastManStanding, LastManStandingWindow, AutoTieBreaker, AllowDownscale, Model, Votes, Timeout}
+use Rattle.qn_settings.specs.declared.key.Key.TheVariants.{NodeId, QuorumVotes, FenceDelay, Provider, ExpectedVotes, TwoNode, WaitForAll, LastManStanding, LastManStandingWindow, AutoTieBreaker, AutoTieBreakerNode, AllowDownscale, Model, Votes, Timeout}
 use Rattle.qn_settings.specs.declared.section.Section.{Section}
 use Rattle.qn_settings.specs.declared.section.Section.TheVariants.{Outside, NodeList, Node, Quorum, Device, Other}
 use Rattle.qn_settings.specs.Keys.{key_name}
@@ -23,9 +23,9 @@ inside Other name = Other
 abbrev pub keys_of : Section → List Key
 keys_of Outside = []
 keys_of NodeList = []
-keys_of Node = NodeId ∷ QuorumVotes ∷ []
+keys_of Node = NodeId ∷ QuorumVotes ∷ FenceDelay ∷ []
 keys_of Quorum =
-    Provider ∷ ExpectedVotes ∷ TwoNode ∷ WaitForAll ∷ LastManStanding ∷ LastManStandingWindow ∷ AutoTieBreaker ∷ AllowDownscale ∷ []
+    Provider ∷ ExpectedVotes ∷ TwoNode ∷ WaitForAll ∷ LastManStanding ∷ LastManStandingWindow ∷ AutoTieBreaker ∷ AutoTieBreakerNode ∷ AllowDownscale ∷ []
 keys_of Device = Model ∷ Votes ∷ Timeout ∷ []
 keys_of Other = []
 

@@ -1,3 +1,4 @@
+//! The keys that are read, in the order in which the tree has them.
 ghost use Rattle.std.specs.Prelude.{◌≡◌, ◌+◌, ◌≤◌, ◌<◌, ◌-◌, ◌^◌, length, IfSome, IfNone};
 ghost use Rattle.qn_settings.specs.Entries.{entry_of, open_after};
 
@@ -83,7 +84,7 @@ impl<'tree> Entries<'tree> {
         }
     }
 
-    /// Goes behind the beginning of the next node section, or to the end where there is none.
+    /// Goes past the beginning of the next node section, or to the end where there is none.
     pub(crate) fn skip_to_node(&mut self) -> bool
         ensures { sections self.old ≡ (if result then own_entries self.new ∷ sections self.new else []) }
     {

@@ -1,3 +1,4 @@
+//! Why a tree gives no settings.
 use crate::key::Key;
 use qn_base::NodeId;
 use thiserror::Error;
@@ -44,4 +45,14 @@ pub enum SettingsFault {
     /// last_man_standing stands with this node, the least id, that has not exactly one vote.
     #[error("quorum.last_man_standing: node {} has not exactly 1 vote", .id.0)]
     LmsVotes { id: NodeId },
+    /// auto_tie_breaker stands with a device.
+    #[error("quorum.auto_tie_breaker: there is a quorum device")]
+    TieDevice,
+    /// auto_tie_breaker stands with two_node.
+    #[error("quorum.auto_tie_breaker: two_node is on")]
+    TieTwoNode,
+    /// auto_tie_breaker stands with an `auto_tie_breaker_node` that is neither lowest nor highest nor a list of
+    /// configured nodes, each once.
+    #[error("quorum.auto_tie_breaker_node: neither lowest nor highest nor configured nodes, each once")]
+    BadTieNode,
 }

@@ -1,3 +1,4 @@
+//! The keys that are read, and the range of each number.
 ghost use Rattle.std.specs.Prelude.{◌≡◌, ◌≤◌, IfSome, is_some};
 ghost use Rattle.qn_settings.specs.Keys.{key_name, number_in, range_of};
 
@@ -10,6 +11,7 @@ use std::fmt;
 pub enum Key {
     NodeId,
     QuorumVotes,
+    FenceDelay,
     Provider,
     ExpectedVotes,
     TwoNode,
@@ -17,6 +19,7 @@ pub enum Key {
     LastManStanding,
     LastManStandingWindow,
     AutoTieBreaker,
+    AutoTieBreakerNode,
     AllowDownscale,
     Model,
     Votes,
@@ -31,6 +34,7 @@ impl Key {
         match self {
             Key::NodeId => "nodeid",
             Key::QuorumVotes => "quorum_votes",
+            Key::FenceDelay => "fence_delay",
             Key::Provider => "provider",
             Key::ExpectedVotes => "expected_votes",
             Key::TwoNode => "two_node",
@@ -38,6 +42,7 @@ impl Key {
             Key::LastManStanding => "last_man_standing",
             Key::LastManStandingWindow => "last_man_standing_window",
             Key::AutoTieBreaker => "auto_tie_breaker",
+            Key::AutoTieBreakerNode => "auto_tie_breaker_node",
             Key::AllowDownscale => "allow_downscale",
             Key::Model => "model",
             Key::Votes => "votes",
@@ -52,10 +57,13 @@ impl Key {
         match self {
             Key::NodeId => Some((1, 4_294_967_295)),
             Key::QuorumVotes | Key::Votes => Some((0, 65_535)),
+            Key::FenceDelay => Some((0, LONGEST_PERIOD)),
             Key::ExpectedVotes => Some((0, 1_000_000)),
-            Key::TwoNode | Key::WaitForAll | Key::LastManStanding => Some((0, 1)),
+            Key::TwoNode | Key::WaitForAll | Key::LastManStanding | Key::AutoTieBreaker => {
+                Some((0, 1))
+            }
             Key::LastManStandingWindow | Key::Timeout => Some((1, LONGEST_PERIOD)),
-            Key::Provider | Key::AutoTieBreaker | Key::AllowDownscale | Key::Model => None,
+            Key::Provider | Key::AutoTieBreakerNode | Key::AllowDownscale | Key::Model => None,
         }
     }
 

@@ -1,3 +1,4 @@
+//! The law that the settings of a tree are valid.
 ghost use Rattle.std.specs.Prelude.{List, IfOk};
 ghost use Rattle.qn_conf.specs.declared.tree.Item.{Item};
 ghost use Rattle.qn_model.specs.Settings.{IsValid};

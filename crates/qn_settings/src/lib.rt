@@ -1,7 +1,7 @@
-// The settings that a tree of corosync.conf gives (corosync.conf(5), votequorum(5)).
-//
-// Promises: `settings` answers the settings of the tree exactly where no fault of the list applies, and they are
-// valid (`law_valid_settings`); else it answers the first fault in a fixed order. It takes no memory.
+//! The settings that a tree of corosync.conf gives (corosync.conf(5), votequorum(5)).
+//!
+//! Promises: `settings` answers the settings of the tree exactly where no fault of the list applies, and they are
+//! valid (`law_valid_settings`); else it answers the first fault in a fixed order. It takes no memory.
 #![tactic(auto)]
 
 mod entries;
@@ -11,6 +11,7 @@ mod laws;
 mod nodes;
 mod reading;
 mod section;
+mod tie_order;
 mod values;
 
 pub use faults::SettingsFault;

@@ -1,3 +1,4 @@
+//! The nodes that a tree gives, in ascending id, or their first fault.
 ghost use Rattle.std.specs.Prelude.{◌≡◌, ◌<◌, ◌≤◌, None, Some, length, IfSome, MatchResult, nat_lt, position};
 ghost use Rattle.arrayvec.specs.ArrayVec.{array_vec_len};
 ghost use Rattle.qn_model.specs.Settings.{all_votes};
@@ -77,6 +78,7 @@ fn node_of(entries: &Entries) -> NodeEntry
     NodeEntry {
         id: NodeId(own_number(entries, Key::NodeId).unwrap_or(0) as u32),
         votes: own_number(entries, Key::QuorumVotes).unwrap_or(1) as u32,
+        fence_delay: own_number(entries, Key::FenceDelay).unwrap_or(0),
     }
 }
 

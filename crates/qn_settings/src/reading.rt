@@ -1,7 +1,8 @@
+//! The public call: the settings of a tree, or its first fault.
 ghost use Rattle.std.specs.Prelude.{◌≡◌, ◌↔◌, ◌≤◌, None, Some, Err, All, IfOk, IsOk, length, find, not, option_map};
 ghost use Rattle.std.specs.List.{list_all};
 ghost use Rattle.qn_model.specs.Settings.{IsValid};
-ghost use Rattle.qn_settings.specs.Answer.{answer_of, device_of, device_votes, expected_zero, fault_of, filled, has_one_vote, last_man_votes, settings_of, two_node_count, two_node_device, two_node_votes, value_faults, vote_faults, wait_for_all_of};
+ghost use Rattle.qn_settings.specs.Answer.{answer_of, bad_tie_node, device_of, device_votes, expected_zero, fault_of, filled, has_one_vote, last_man_votes, settings_of, tie_device, tie_two_node, two_node_count, two_node_device, two_node_votes, value_faults, vote_faults, wait_for_all_of};
 ghost use Rattle.qn_settings.specs.Entries.{entries_of};
 ghost use Rattle.qn_settings.specs.Values.{first_some};
 ghost use Rattle.qn_settings.specs.declared.faults.SettingsFault.{SettingsFault};
@@ -9,6 +10,7 @@ ghost use Rattle.qn_settings.specs.declared.faults.SettingsFault.{SettingsFault}
 use crate::faults::SettingsFault;
 use crate::key::Key;
 use crate::nodes::{all_votes, read_nodes};
+use crate::tie_order::tie_order;
 use crate::values::{bad_number, flag, has_device, number, unsupported, wrong_provider};
 use qn_conf::Tree;
 use qn_model::{Device, NodeEntry, Nodes, Settings};
@@ -45,7 +47,6 @@ fn value_fault(tree: &Tree) -> Option<SettingsFault>
 {
     first_some(&[
         wrong_provider(tree),
-        unsupported(tree, Key::AutoTieBreaker),
         unsupported(tree, Key::AllowDownscale),
         bad_number(tree),
     ])
@@ -75,6 +76,7 @@ fn fill(tree: &Tree, nodes: Nodes) -> Settings
     let last_man_standing = flag(tree, Key::LastManStanding);
     let device = device(tree, node_votes);
     let device_votes = device_votes(last_man_standing, device);
+    let tie = tie_order(tree, nodes.as_slice());
     Settings {
         nodes,
         two_node: flag(tree, Key::TwoNode),
@@ -83,6 +85,7 @@ fn fill(tree: &Tree, nodes: Nodes) -> Settings
         window: number(tree, Key::LastManStandingWindow).unwrap_or(DEFAULT_WINDOW),
         device,
         expected: number(tree, Key::ExpectedVotes).unwrap_or(node_votes + device_votes),
+        tie,
     }
 }
 
@@ -131,6 +134,9 @@ fn vote_fault(tree: &Tree, settings: &Settings) -> Option<SettingsFault>
         two_node_votes(settings),
         two_node_device(settings),
         last_man_votes(settings),
+        tie_device(tree, settings),
+        tie_two_node(tree, settings),
+        bad_tie_node(tree, settings),
     ])
 }
 
@@ -176,6 +182,29 @@ fn last_man_votes(settings: &Settings) -> Option<SettingsFault>
     }
     let node = first_without_one_vote(settings.nodes.as_slice())?;
     Some(SettingsFault::LmsVotes { id: node.id })
+}
+
+/// The breaker stands only without a device (this project's profile).
+fn tie_device(tree: &Tree, settings: &Settings) -> Option<SettingsFault>
+    ensures { result ≡ tie_device settings.now (entries_of tree.now) }
+{
+    (flag(tree, Key::AutoTieBreaker) && settings.device.is_some()).then_some(
+        SettingsFault::TieDevice,
+    )
+}
+
+/// The breaker stands only without two_node (this project's profile).
+fn tie_two_node(tree: &Tree, settings: &Settings) -> Option<SettingsFault>
+    ensures { result ≡ tie_two_node settings.now (entries_of tree.now) }
+{
+    (flag(tree, Key::AutoTieBreaker) && settings.two_node).then_some(SettingsFault::TieTwoNode)
+}
+
+/// The breaker stands only with an order of preference (votequorum(5), `auto_tie_breaker_node`).
+fn bad_tie_node(tree: &Tree, settings: &Settings) -> Option<SettingsFault>
+    ensures { result ≡ bad_tie_node settings.now (entries_of tree.now) }
+{
+    (flag(tree, Key::AutoTieBreaker) && settings.tie.is_none()).then_some(SettingsFault::BadTieNode)
 }
 
 fn all_have_one_vote(nodes: &[NodeEntry]) -> bool

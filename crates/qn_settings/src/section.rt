@@ -1,3 +1,4 @@
+//! The sections that are read, and the keys of each.
 ghost use Rattle.std.specs.Prelude.{◌≡◌, ◌<◌, ◌-◌, ◌^◌, ◌∷◌, length, drop};
 ghost use Rattle.qn_settings.specs.Sections.{innermost, inside, key_in, keys_of};
 
@@ -17,9 +18,9 @@ pub(crate) enum Section {
     Other,
 }
 
-const NODE_KEYS: [Key; 2] = [Key::NodeId, Key::QuorumVotes];
+const NODE_KEYS: [Key; 3] = [Key::NodeId, Key::QuorumVotes, Key::FenceDelay];
 
-const QUORUM_KEYS: [Key; 8] = [
+const QUORUM_KEYS: [Key; 9] = [
     Key::Provider,
     Key::ExpectedVotes,
     Key::TwoNode,
@@ -27,6 +28,7 @@ const QUORUM_KEYS: [Key; 8] = [
     Key::LastManStanding,
     Key::LastManStandingWindow,
     Key::AutoTieBreaker,
+    Key::AutoTieBreakerNode,
     Key::AllowDownscale,
 ];
 

@@ -1,3 +1,4 @@
+//! The last value of a key, as a number, a flag or a device.
 ghost use Rattle.std.specs.Prelude.{◌≡◌, ◌≤◌, IfSome};
 ghost use Rattle.qn_settings.specs.Entries.{entries_of};
 ghost use Rattle.qn_settings.specs.Nodes.{own_entries};

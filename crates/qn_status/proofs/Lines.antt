@@ -20,7 +20,7 @@ items_of_states (n ∷ nodes) = ap (item (state_data n)) (items_of_states nodes)
 pub items_states : (values : List Value) (nodes : List NodeState) → map view values ≡ map state_data nodes → items_view values ≡ states_items nodes
 items_states values nodes same = ap items_of same ∙ items_of_states nodes
 
--- the lines before a node, its line, and those behind it
+-- the lines before a node, its line, and those after it
 lines_at : (f : NodeState → List ℕ) (nodes : List NodeState) (i : ℕ) (d : NodeState) → i < length nodes
     → flat_map f nodes ≡ flat_map f (take i nodes) ++ (f (get_or nodes i d) ++ flat_map f (drop (i + 1) nodes))
 lines_at f nodes i d within =
@@ -30,7 +30,7 @@ lines_at f nodes i d within =
 regroup : (a b c d : List ℕ) → a ++ ((b ++ c) ++ d) ≡ (a ++ b) ++ (c ++ d)
 regroup a b c d = simp append_assoc
 
--- a line of which a front was written ends the lines
+-- a line of which a prefix was written ends the lines
 pub line_cut : (f : NodeState → List ℕ) (nodes : List NodeState) (i : ℕ) (d : NodeState) (shown : List ℕ) {old mid new : Option (List ℕ)} → i < length nodes
     → shown ≡ f (get_or nodes i d) → mid ≡ append_known old (flat_map f (take i nodes)) → AppendsFront mid new shown → AppendsFront old new (flat_map f nodes)
 line_cut f nodes i d shown {old} {mid} {new} within shown_is before begun =

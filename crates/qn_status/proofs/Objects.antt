@@ -25,7 +25,7 @@ truth_token : (b : Bool) → token_text (Token.boolean b) ≡ truth b
 truth_token true = refl
 truth_token false = refl
 
--- a further member of an object, and what stands behind it
+-- a further member of an object, and what stands after it
 abbrev further : List ℕ → List ℕ → List ℕ → List ℕ
 further key value rest = 44 ∷ (quoted key ++ 58 ∷ (value ++ rest))
 
@@ -35,7 +35,7 @@ nested a b c d e f g h i =
     123 ∷ (quoted (codes "expected") ++ 58 ∷ (a ++ further (codes "holds") b (further (codes "id") c (further (codes "phase") d (further (codes "quorate") e
     (further (codes "quorum") f (further (codes "released") g (further (codes "votes") h (further (codes "why") i (125 ∷ []))))))))))
 
--- a text in quotes, and what stands behind it
+-- a text in quotes, and what stands after it
 quoted_more : (text rest : List ℕ) → (34 ∷ (text ++ 34 ∷ [])) ++ rest ≡ 34 ∷ (text ++ 34 ∷ rest)
 quoted_more text rest = ap (λ t. 34 ∷ t) (append_assoc text (34 ∷ []) rest)
 
@@ -81,7 +81,7 @@ object_text n =
     ∙ nested_quoted a (truth n.holds) c (phase_name n.phase) (truth n.answer.quorate) f (truth n.answer.released) h (why_text n.why)
     ∙ nested_text a (truth n.holds) c (phase_name n.phase) (truth n.answer.quorate) f (truth n.answer.released) h (why_text n.why)
 
--- the objects, each behind a comma
+-- the objects, each after a comma
 later_text : (n : NodeState) (nodes : List NodeState) → items_text true (states_items (n ∷ nodes)) ≡ 44 ∷ (join_with_byte 44 (map state_object (n ∷ nodes)) ++ 93 ∷ [])
 later_text n [] = ap (λ text. 44 ∷ (text ++ 93 ∷ [])) (object_text n)
 later_text n (m ∷ nodes) =

@@ -1,3 +1,4 @@
+//! The status of nodes as one line of JSON.
 ghost use Rattle.std.specs.Prelude.{◌≡◌, string_bytes, IfOk};
 ghost use Rattle.serde_json.specs.View.{view};
 ghost use Rattle.qn_sched.specs.TraceLines.{why_text};

@@ -1,3 +1,4 @@
+//! What the status says of one node.
 use qn_base::NodeId;
 use qn_model::{Answer, Phase, Why};
 

@@ -1,3 +1,4 @@
+//! The two public calls: the status of a world as text, and as JSON.
 ghost use Rattle.std.specs.Prelude.{◌≡◌, ◌≤◌, ◌<◌, OnOk, OnErr, IsErrOf, length};
 ghost use Rattle.std.specs.Io.KnownBytes.{append_known};
 ghost use Rattle.qn_io.specs.Outside.{HasRisen};
@@ -21,13 +22,13 @@ use std::alloc::Global;
 /// Why a status was not written.
 #[derive(Clone, Copy, PartialEq, Eq, Debug)]
 pub enum StatusFault {
-    /// The sink failed; a front of the status was written.
+    /// The sink failed; a prefix of the status was written.
     Failed,
-    /// Memory was wanted and not there; nothing was written.
+    /// Out of memory; nothing was written.
     NoMemory,
 }
 
-/// Writes the status of a world as text, a line for each node. At `Failed` a front of it was written.
+/// Writes the status of a world as text, a line for each node. At `Failed` a prefix of it was written.
 pub fn status_text<O: Sink>(world: &World, out: &mut O) -> Result<(), Failed>
     ensures whole { OnOk result ((d : WorldBefore) → WorldFor world.now d
         → O.written out.new ≡ append_known (O.written out.old) (status_text world.now.settings d)) }
@@ -41,7 +42,7 @@ pub fn status_text<O: Sink>(world: &World, out: &mut O) -> Result<(), Failed>
     Ok(())
 }
 
-/// Writes the status of a world as one line of JSON. At `Failed` a front of it was written, at `NoMemory`
+/// Writes the status of a world as one line of JSON. At `Failed` a prefix of it was written, at `NoMemory`
 /// nothing.
 pub fn status_json<O: Sink>(alloc: Global, world: &World, out: &mut O) -> Result<(), StatusFault>
     ensures whole { OnOk result ((d : WorldBefore) → WorldFor world.now d

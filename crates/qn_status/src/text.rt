@@ -1,3 +1,4 @@
+//! The status of nodes as text, a line each.
 ghost use Rattle.std.specs.Prelude.{◌≡◌, ◌≤◌, ◌+◌, ◌++◌, ℕ, codes, flat_map, length, OnOk, OnErr};
 ghost use Rattle.std.specs.Io.KnownBytes.{append_known};
 ghost use Rattle.qn_io.specs.Outside.{HasRisen};
@@ -12,7 +13,7 @@ use qn_io::{Sink, put_all};
 use qn_model::{Answer, Phase, Why};
 use qn_sched::write_why;
 
-/// Writes the line of each node. At `Failed` a front of the lines was written.
+/// Writes the line of each node. At `Failed` a prefix of the lines was written.
 pub(crate) fn write_lines<O: Sink>(nodes: &[NodeState], out: &mut O) -> Result<(), Failed>
     ensures whole { OnOk result (O.written out.new ≡ append_known (O.written out.old) (flat_map state_line nodes.now)) }
     ensures front { OnErr result (AppendsFront (O.written out.old) (O.written out.new) (flat_map state_line nodes.now)) }
@@ -62,7 +63,7 @@ fn add_answer(line: &mut ShortText, answer: Answer)
     line.add(yes_no(answer.released));
 }
 
-/// Adds the condition that a start of a node lacks, and ends the line.
+/// Adds the condition that blocks a start of a node, and ends the line.
 fn add_why(line: &mut ShortText, why: Why)
     requires { length line.old ≤ 180 }
     ensures { line.new ≡ line.old ++ (codes " why=" ++ why_text why ++ codes "\n") }

@@ -1,3 +1,4 @@
+//! Settings texts with their trees and first faults.
 use qn_conf::{ConfFault, Item, Tree, read_tree};
 use std::alloc::Global;
 use std::test::Fail;

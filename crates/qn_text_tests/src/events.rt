@@ -1,3 +1,4 @@
+//! Lines of events with their first faults, and trace lines.
 ghost use Rattle.std.specs.Prelude.{◌<◌};
 ghost use Rattle.qn_model.specs.Settings.{IsValid};
 
@@ -18,10 +19,12 @@ fn settings() -> Settings
     nodes.push(NodeEntry {
         id: NodeId(1),
         votes: 1,
+        fence_delay: 0,
     });
     nodes.push(NodeEntry {
         id: NodeId(2),
         votes: 1,
+        fence_delay: 0,
     });
     Settings {
         nodes,
@@ -31,6 +34,7 @@ fn settings() -> Settings
         window: 10000,
         device: None,
         expected: 2,
+        tie: None,
     }
 }
 

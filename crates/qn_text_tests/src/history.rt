@@ -1,3 +1,4 @@
+//! Lines of recorded histories, and what is said of those at fault.
 use qn_base::{Mask, NodeId, Rank, View};
 use qn_history::{
     HistoryFault, Key, rank_word, read_entry, read_members, read_rank, read_settings,
@@ -16,11 +17,16 @@ struct Row {
     what: What,
 }
 
-const ROWS: [Row; 30] = [
+const ROWS: [Row; 37] = [
     Row {
         line: "0\tbegin",
         tick: 0,
         what: What::Begin,
+    },
+    Row {
+        line: "0\tbegin-clean",
+        tick: 0,
+        what: What::BeginClean,
     },
     Row {
         line: "5005\ttick",
@@ -87,6 +93,36 @@ const ROWS: [Row; 30] = [
         line: "1\tslot 0 failed",
         tick: 1,
         what: What::SlotRead(Rank(0), SlotSeen::Failed),
+    },
+    Row {
+        line: "2\tchecked empty",
+        tick: 2,
+        what: What::MailChecked(MailSeen::Read(Message::Empty)),
+    },
+    Row {
+        line: "2\tchecked exit",
+        tick: 2,
+        what: What::MailChecked(MailSeen::Read(Message::Exit)),
+    },
+    Row {
+        line: "2\tchecked test",
+        tick: 2,
+        what: What::MailChecked(MailSeen::Read(Message::Test)),
+    },
+    Row {
+        line: "2\tchecked crashdump",
+        tick: 2,
+        what: What::MailChecked(MailSeen::Read(Message::Crashdump)),
+    },
+    Row {
+        line: "2\tchecked damaged",
+        tick: 2,
+        what: What::MailChecked(MailSeen::Damaged),
+    },
+    Row {
+        line: "2\tchecked failed",
+        tick: 2,
+        what: What::MailChecked(MailSeen::Failed),
     },
     Row {
         line: "0\tclaimed yes",
@@ -248,6 +284,24 @@ fn reads_settings_and_rank(rt: HostRuntime) -> Result<(), Fail> {
 }
 
 #[test]
+fn reads_tie_order_and_fence_delays(rt: HostRuntime) -> Result<(), Fail> {
+    let settings = read_settings(
+        "nodes=1:1,2:1,3:1 two_node=no wait_for_all=no last_man_standing=no window=10000 device=none expected=3 tie=2,0 delays=0,3000",
+    )?;
+    let order = settings.tie.as_ref().ok_or("no order")?;
+    assert!(rt; order.as_slice() == [Rank(2), Rank(0)].as_slice());
+    for (place, delay) in [(0, 0), (1, 3000), (2, 0)] {
+        let node = settings.nodes.as_slice().get(place).ok_or("no node")?;
+        assert!(rt; node.fence_delay == delay);
+    }
+    let settings = read_settings(
+        "nodes=1:1 two_node=no wait_for_all=no last_man_standing=no window=10000 device=none expected=1 tie=none",
+    )?;
+    assert!(rt; settings.tie.is_none());
+    Ok(())
+}
+
+#[test]
 fn says_what_was_wrong(rt: HostRuntime) -> Result<(), Fail> {
     for (line, fault) in [
         ("0 begin", HistoryFault::NoEntry),
@@ -258,6 +312,7 @@ fn says_what_was_wrong(rt: HostRuntime) -> Result<(), Fail> {
         ("0\tslot 256 failed", HistoryFault::BadNumber),
         ("0\tslot 0 read 1 wet", HistoryFault::BadSlot),
         ("0\tmail full", HistoryFault::UnknownMessage),
+        ("0\tchecked clear", HistoryFault::UnknownMessage),
         ("0\tview 1 0,32", HistoryFault::BadMember),
         ("0\task 0 1 1 1 1", HistoryFault::BadAsk),
         ("0\ttell 0 1 1 1 1 0,1 no", HistoryFault::BadTell),
@@ -265,7 +320,8 @@ fn says_what_was_wrong(rt: HostRuntime) -> Result<(), Fail> {
         assert!(rt; read_entry(rt.alloc(), line) == Err(fault));
     }
     for (words, fault) in [
-        ("", HistoryFault::NoKey { key: Key::Nodes }),
+        ("", HistoryFault::UnknownKey),
+        ("two_node=no", HistoryFault::NoKey { key: Key::Nodes }),
         ("nodes=1", HistoryFault::BadNode),
         (
             "nodes=1:1 two_node=no",
@@ -273,6 +329,7 @@ fn says_what_was_wrong(rt: HostRuntime) -> Result<(), Fail> {
                 key: Key::WaitForAll,
             },
         ),
+        ("nodes=1:1 nodelist=1:1", HistoryFault::UnknownKey),
     ] {
         assert!(rt; read_settings(words).err() == Some(fault));
     }

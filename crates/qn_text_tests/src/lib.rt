@@ -1,7 +1,7 @@
-// Tests of the words that the repository speaks, and of the texts that it reads and writes, over the built
-// libraries: numbers and masks, times, the settings text, the lines of a schedule, and recorded histories. What a
-// text comes to is proved against the definitions; these rows show that the definitions say what the manual pages
-// and the formats say.
+//! Tests of the words that the repository speaks, and of the texts that it reads and writes, over the built
+//! libraries: numbers and masks, times, the settings text, the lines of a schedule, and recorded histories. What a
+//! text comes to is proved against the definitions; these rows show that the definitions say what the manual pages
+//! and the formats say.
 #![tactic(auto)]
 
 #[cfg(test)]
@@ -12,6 +12,8 @@ mod events;
 mod history;
 #[cfg(test)]
 mod settings;
+#[cfg(test)]
+mod tie_settings;
 #[cfg(test)]
 mod timing;
 #[cfg(test)]

@@ -1,3 +1,4 @@
+//! Settings texts with the settings that they give, or their first faults and what is said of them.
 use qn_base::{NodeId, yes_no};
 use qn_conf::read_tree;
 use qn_model::Settings;
@@ -7,7 +8,7 @@ use std::str::from_utf8;
 use std::test::Fail;
 
 /// Settings texts that are configurations, each with its first fault.
-const REFUSED: [(&[u8], SettingsFault); 37] = [
+const REFUSED: [(&[u8], SettingsFault); 35] = [
     // byte-order-mark-section
     (
         b"\xef\xbb\xbfnodelist {\nnode {\nnodeid: 1\n}\n}\n",
@@ -23,13 +24,6 @@ const REFUSED: [(&[u8], SettingsFault); 37] = [
         b"nodelist {\nnode {\nnodeid: 1\n}\n}\nquorum {\nallow_downscale: 1\n}\n",
         SettingsFault::Unsupported {
             key: Key::AllowDownscale,
-        },
-    ),
-    // downscale-and-tie-breaker
-    (
-        b"nodelist {\nnode {\nnodeid: 1\n}\n}\nquorum {\nallow_downscale: 1\nauto_tie_breaker: 1\n}\n",
-        SettingsFault::Unsupported {
-            key: Key::AutoTieBreaker,
         },
     ),
     // expected-zero
@@ -178,13 +172,6 @@ const REFUSED: [(&[u8], SettingsFault); 37] = [
     (
         b"nodelist {\nnode {\nnodeid: 7\n}\nnode {\nnodeid: 3\n}\nnode {\nnodeid: 7\n}\nnode {\nnodeid: 3\n}\nnode {\nnodeid: 5\n}\nnode {\nnodeid: 5\n}\n}\n",
         SettingsFault::RepeatedId { id: NodeId(3) },
-    ),
-    // tie-breaker-21-zeros
-    (
-        b"nodelist {\nnode {\nnodeid: 1\n}\n}\nquorum {\nauto_tie_breaker: 000000000000000000000\n}\n",
-        SettingsFault::Unsupported {
-            key: Key::AutoTieBreaker,
-        },
     ),
     // too-many-before-repeated
     (
@@ -477,8 +464,8 @@ fn says_what_to_mend(rt: HostRuntime) -> Result<(), Fail> {
     Ok(())
 }
 
-/// The settings in words.
-fn words_of(alloc: Global, settings: &Settings) -> Result<String, Fail> {
+/// The settings in words, without the tie order and the fence delays.
+pub(crate) fn words_of(alloc: Global, settings: &Settings) -> Result<String, Fail> {
     let mut nodes = String::new(alloc);
     for node in settings.nodes.as_slice() {
         if !nodes.is_empty() {

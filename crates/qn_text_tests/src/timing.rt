@@ -1,3 +1,4 @@
+//! Times that are safe and times that are not, and timing lines.
 use qn_model::{LineFault, Timing, timing_safe};
 use qn_sched::read_timing;
 use std::process::Abort;

@@ -1,3 +1,4 @@
+//! Decimals, sums of votes, masks and their members.
 use arrayvec::ArrayVec;
 use qn_base::{Mask, Rank, View, chosen, read_decimal, votes, write_decimal};
 

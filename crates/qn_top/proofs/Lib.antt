@@ -1,14 +1,9 @@
-mod Complete
-mod CountLines
-mod Counted
-mod Done
-mod GivenOut
-mod Listing
+mod Branches
+pub mod KindWords
+mod LastTexts
 mod OptionWords
-mod ReadTexts
+mod PlayedEnds
 mod Replayed
-mod RunEnds
 mod Shown
 mod Stated
-mod Turned
-mod Working
+mod Written

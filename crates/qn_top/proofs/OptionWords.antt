@@ -1,4 +1,4 @@
--- The words that are left behind the options of a command.
+-- The words that are left after the options of a command.
 use Rattle.std.proofs.Common.{◌≡◌, ◌<◌, ◌==◌, false, ℕ, List, [], ◌∷◌, length, map, None, refl, arith}
 use Rattle.std.proofs.lemmas.List.Splits.{length-slice_split}
 use Rattle.qn_model.specs.Lines.{parts}

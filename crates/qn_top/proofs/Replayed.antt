@@ -1,94 +1,111 @@
--- The end of a replay, and the last line behind its trace.
-use Rattle.std.proofs.Common.{◌≡◌, ◌≢◌, ◌≤◌, ℕ, List, [], ◌++◌, Option, refl, sym, ap, ◌∙◌, subst, append_assoc, append-nil, arith}
+-- The end of a replay, and the last line after its trace.
+use Rattle.std.proofs.Common.{◌≡◌, ◌≢◌, ◌≤◌, ℕ, List, [], ◌++◌, refl, sym, ap, ◌∙◌, subst, append_assoc, append-nil, arith}
 use Rattle.std.specs.Io.KnownBytes.{append_known}
 use Rattle.qn_base.specs.Rising.{HasRisen-within}
-use Rattle.qn_base.specs.Faults.{HasRisen}
 use Rattle.qn_io.specs.Outside.{append_known-append, append_known-nil}
 use Rattle.qn_io.specs.Writes.{AppendsFront}
 use Rattle.qn_model.specs.Inputs.{BeginsWith, Tells, Anyway, AtEnd, AtFailure}
 use Rattle.qn_model.specs.Lines.{Outcome, after}
-use Rattle.qn_replay.specs.Replay.{Replayed, replay_of}
+use Rattle.qn_play.specs.Reading as reading
+use Rattle.qn_replay.specs.Replay.{Replayed as Answer, replay_of}
 use Rattle.qn_replay.specs.Runs.{EndsAs, WroteAll, Unwritten, Wanted, Replays}
 use Rattle.qn_sched.specs.declared.replay_end.ReplayEnd.{ReplayEnd}
 use Rattle.qn_sched.specs.declared.replay_end.ReplayEnd.TheVariants as end
-use Rattle.qn_top.specs.Replaying.{ReplayEnds, Told, Wanted as WantedBehind, RunsReplay, end_outcome, replay_text}
-use Rattle.qn_top.specs.Runs.{Answers, Whole, Cut, WroteAll as WroteText, WroteFront}
-use Rattle.qn_top.proofs.GivenOut.{front_then, gives_all}
+use Rattle.qn_commands.specs.Endings.{Cut, Says, Whole}
+use Rattle.qn_commands.specs.Reads.{IsNeeded, LastDecides, StillOpen, WroteAll as WroteText, WroteFront}
+use Rattle.qn_commands.specs.Seen.{Input, Output, Outside, ReadFails, WriteFails, seen}
+use Rattle.qn_top.specs.Commands.Replay.{ReplayEnds, RunsReplay, Told, Wanted as WantedAfter, replay_text}
+use Rattle.qn_top.specs.ReplayEnds.{end_outcome}
+use Rattle.qn_top.proofs.Written.{after_text, says_after}
 
 -- what an answer of the replay gives as a whole
-abbrev whole_of : Replayed → Outcome
+abbrev whole_of : Answer → Outcome
 whole_of answer = after answer.trace (end_outcome answer.end)
 
-tells_text : {taken : List ℕ} {at_end failed : Type 0} (P : Replayed → Type 0) (Q : Outcome → Type 0) → ((a : Replayed) → P a → Q (whole_of a))
+tells_text : {taken : List ℕ} {at_end failed : Type 0} (P : Answer → Type 0) (Q : Outcome → Type 0) → ((a : Answer) → P a → Q (whole_of a))
     → Tells replay_of taken at_end failed P → Tells replay_text taken at_end failed Q
 tells_text P Q weaker (Anyway always) = Anyway (λ ending more. weaker _ (always ending more))
 tells_text P Q weaker (AtEnd ended holds) = AtEnd ended (weaker _ holds)
 tells_text P Q weaker (AtFailure fails holds) = AtFailure fails (weaker _ holds)
 
-module _ {taken : List ℕ} {at_end failed : Type 0} {old : Option (List ℕ)} where
+-- the bytes that the end needs are those that the text needs
+needed_text : {taken : List ℕ} → reading.IsNeeded replay_of taken → IsNeeded replay_text taken
+needed_text (reading.StillOpen still) = StillOpen (ap (λ (e : ReplayEnd). (end_outcome e).status) still)
+needed_text (reading.LastDecides front byte parts still) = LastDecides front byte parts (ap (λ (e : ReplayEnd). (end_outcome e).status) still)
+
+module _ {taken : List ℕ} {at_end failed : Type 0} (before : Output) where
   -- the sink failed inside the trace
-  cut_trace : {new : Option (List ℕ)} {write_failed : Type 0} (trace : List ℕ) → Tells replay_of taken at_end failed (λ a. BeginsWith a.trace trace) → write_failed
-      → AppendsFront old new trace → ReplayEnds taken at_end failed old new write_failed 7
-  cut_trace trace tells fails front =
+  cut_trace : (later : Output) (trace : List ℕ) → Tells replay_of taken at_end failed (λ a. BeginsWith a.trace trace) → WriteFails before later
+      → AppendsFront before.written later.written trace → ReplayEnds taken at_end failed before later 7
+  cut_trace later trace tells fails prefix =
       Told (WroteFront trace
       (tells_text (λ a. BeginsWith a.trace trace) (λ o. BeginsWith o.text trace)
       (λ a begins. (begins.0 ++ (end_outcome a.end).text, ap (λ t. t ++ (end_outcome a.end).text) begins.1 ∙ append_assoc trace begins.0 (end_outcome a.end).text)) tells)
-      refl fails front)
+      refl fails prefix)
 
-  -- the trace was written, and then the last line, or a front of it
-  whole_trace : {middle new : Option (List ℕ)} {write_failed : Type 0} {status : ℕ} (answer : Replayed) → Tells replay_of taken at_end failed (λ a. a ≡ answer)
-      → middle ≡ append_known old answer.trace → Answers [] (end_outcome answer.end).text (end_outcome answer.end).status middle new write_failed status
-      → ReplayEnds taken at_end failed old new write_failed status
-  whole_trace {middle} {new} answer tells wrote (Whole is whole) =
+  -- the trace was written, and then the last line, or a prefix of it
+  whole_trace : (middle later : Output) (status : ℕ) (answer : Answer) → before.faults ≤ middle.faults → middle.faults ≤ later.faults
+      → Tells replay_of taken at_end failed (λ a. a ≡ answer) → middle.written ≡ append_known before.written answer.trace
+      → Says (end_outcome answer.end).text (end_outcome answer.end).status middle later status → ReplayEnds taken at_end failed before later status
+  whole_trace middle later status answer rises goes tells wrote (Whole is whole) =
       Told (WroteText (whole_of answer)
       (tells_text (λ a. a ≡ answer) (λ o. o ≡ whole_of answer) (λ a same. ap whole_of same) tells)
       is
-      (whole ∙ ap (λ known. append_known known (end_outcome answer.end).text) wrote ∙ sym (append_known-append old answer.trace (end_outcome answer.end).text)))
-  whole_trace {middle} {new} {write_failed} answer tells wrote (Cut is fails front) =
-      subst (λ (s : ℕ). ReplayEnds taken at_end failed old new write_failed s) (sym is)
+      (whole ∙ ap (λ known. append_known known (end_outcome answer.end).text) wrote ∙ sym (append_known-append before.written answer.trace (end_outcome answer.end).text)))
+  whole_trace middle later status answer rises goes tells wrote (Cut is fails prefix) =
+      subst (λ (s : ℕ). ReplayEnds taken at_end failed before later s) (sym is)
       (Told (WroteFront (answer.trace ++ (end_outcome answer.end).text)
       (tells_text (λ a. a ≡ answer) (λ o. BeginsWith o.text (answer.trace ++ (end_outcome answer.end).text))
       (λ a same. ([], ap (λ b. (whole_of b).text) same ∙ sym (append-nil (answer.trace ++ (end_outcome answer.end).text)))) tells)
-      refl fails
-      (front_then old middle new [] answer.trace (end_outcome answer.end).text (gives_all old middle [] answer.trace refl wrote) front)))
+      refl (HasRisen-within before.faults middle.faults later.faults later.faults rises goes (omega arith) fails)
+      (after_text middle.written answer.trace (end_outcome answer.end).text wrote prefix)))
 
   -- a replay that ended, and its last line
-  finished : {middle new : Option (List ℕ)} {write_failed_before write_failed : Type 0} {status : ℕ} (ended : ReplayEnd) → ended ≢ end.WriteFault
-      → EndsAs taken at_end failed old middle write_failed_before ended
-      → Answers [] (end_outcome ended).text (end_outcome ended).status middle new write_failed status → ReplayEnds taken at_end failed old new write_failed status
-  finished {middle} {new} {write_failed} {status} ended other (WroteAll answer tells needed is whole anywhere) answers =
-      whole_trace answer tells whole (subst (λ (e : ReplayEnd). Answers [] (end_outcome e).text (end_outcome e).status middle new write_failed status) is answers)
-  finished ended other (Unwritten trace tells is fails front) answers = absurd (other is)
-  finished {middle} {new} {write_failed} {status} ended other (Wanted trace tells is whole why) answers =
-      WantedBehind trace middle tells whole why
-      (subst (λ (e : ReplayEnd). Answers [] (end_outcome e).text (end_outcome e).status middle new write_failed status) is answers)
+  finished : (middle later : Output) (status : ℕ) (ended : ReplayEnd) → ended ≢ end.WriteFault → before.faults ≤ middle.faults → middle.faults ≤ later.faults
+      → EndsAs taken at_end failed before.written middle.written (WriteFails before middle) ended
+      → Says (end_outcome ended).text (end_outcome ended).status middle later status → ReplayEnds taken at_end failed before later status
+  finished middle later status ended other rises goes (WroteAll answer tells is whole anywhere) says =
+      whole_trace middle later status answer rises goes tells whole
+      (subst (λ (e : ReplayEnd). Says (end_outcome e).text (end_outcome e).status middle later status) is says)
+  finished middle later status ended other rises goes (Unwritten trace tells is fails prefix) says = absurd (other is)
+  finished middle later status ended other rises goes (Wanted trace tells is whole why) says =
+      WantedAfter trace tells why
+      (says_after before middle later trace whole rises goes
+      (subst (λ (e : ReplayEnd). Says (end_outcome e).text (end_outcome e).status middle later status) is says))
 
   -- a replay whose sink failed
-  unwritten : {new : Option (List ℕ)} {write_failed : Type 0} → EndsAs taken at_end failed old new write_failed end.WriteFault → ReplayEnds taken at_end failed old new write_failed 7
-  unwritten {new} {write_failed} (WroteAll answer tells needed is whole anywhere) =
-      whole_trace answer tells whole
-      (subst (λ (e : ReplayEnd). Answers [] (end_outcome e).text (end_outcome e).status new new write_failed 7) is (Whole refl (sym (append_known-nil new))))
-  unwritten (Unwritten trace tells is fails front) = cut_trace trace tells fails front
-  unwritten (Wanted trace tells is whole why) = cc
+  unwritten : (later : Output) → before.faults ≤ later.faults → EndsAs taken at_end failed before.written later.written (WriteFails before later) end.WriteFault
+      → ReplayEnds taken at_end failed before later 7
+  unwritten later rises (WroteAll answer tells is whole anywhere) =
+      whole_trace later later 7 answer rises (omega arith) tells whole
+      (subst (λ (e : ReplayEnd). Says (end_outcome e).text (end_outcome e).status later later 7) is (Whole refl (sym (append_known-nil later.written))))
+  unwritten later rises (Unwritten trace tells is fails prefix) = cut_trace later trace tells fails prefix
+  unwritten later rises (Wanted trace tells is whole why) = cc
 
-answers_wider : {text : List ℕ} {wanted : ℕ} {old new : Option (List ℕ)} {failed wider : Type 0} {status : ℕ}
-    → (failed → wider) → Answers [] text wanted old new failed status → Answers [] text wanted old new wider status
-answers_wider widen (Whole is whole) = Whole is whole
-answers_wider widen (Cut is fails front) = Cut is (widen fails) front
+module _ (first last : Input) (before later : Output) (env : Outside) where
+  -- the whole command
+  pub replay_finished : (middle : Output) (status : ℕ) (ended : ReplayEnd) → ended ≢ end.WriteFault → before.faults ≤ middle.faults → middle.faults ≤ later.faults
+      → Replays first.left last.left (ReadFails first last) before.written middle.written (WriteFails before middle) ended
+      → Says (end_outcome ended).text (end_outcome ended).status middle later status
+      → RunsReplay (seen first before env) (seen last later env) status
+  replay_finished middle status ended other rises goes run says = record {
+    taken = run.taken;
+    waiting = run.waiting;
+    takes = run.takes;
+    needed = needed_text run.needed;
+    within = run.within;
+    ends = finished before middle later status ended other rises goes run.ends says;
+  }
 
--- the whole command
-pub replay_finished : {left_old left_new old middle new : Option (List ℕ)} {failed : Type 0} {x y z status : ℕ} (ended : ReplayEnd) → ended ≢ end.WriteFault → x ≤ y → y ≤ z
-    → Replays left_old left_new failed old middle (HasRisen x y) ended
-    → Answers [] (end_outcome ended).text (end_outcome ended).status middle new (HasRisen y z) status
-    → RunsReplay left_old left_new failed old new (HasRisen x z) status
-replay_finished {x} {y} {z} ended other before behind run answers = record {
-  taken = run.taken;
-  waiting = run.waiting;
-  takes = run.takes;
-  ends = finished ended other run.ends (answers_wider (HasRisen-within x y z z before behind (omega arith)) answers);
-}
-
--- the whole command, where the sink failed inside the trace
-pub replay_unwritten : {left_old left_new old new : Option (List ℕ)} {failed write_failed : Type 0} → Replays left_old left_new failed old new write_failed end.WriteFault
-    → RunsReplay left_old left_new failed old new write_failed 7
-replay_unwritten run = record { taken = run.taken; waiting = run.waiting; takes = run.takes; ends = unwritten run.ends }
+  -- the whole command, where the sink failed inside the trace
+  pub replay_unwritten : before.faults ≤ later.faults
+      → Replays first.left last.left (ReadFails first last) before.written later.written (WriteFails before later) end.WriteFault
+      → RunsReplay (seen first before env) (seen last later env) 7
+  replay_unwritten rises run = record {
+    taken = run.taken;
+    waiting = run.waiting;
+    takes = run.takes;
+    needed = needed_text run.needed;
+    within = run.within;
+    ends = unwritten before later rises run.ends;
+  }

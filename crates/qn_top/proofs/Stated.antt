@@ -3,6 +3,7 @@ use Rattle.std.proofs.Common.{◌≡◌, ◌⊎◌, inl, inr, ℕ, List, [], ◌
 use Rattle.qn_model.specs.Inputs.{BeginsWith, Tells, Anyway, AtEnd, AtFailure}
 use Rattle.qn_model.specs.Lines.{Ended, ReadFailed, Outcome}
 use Rattle.qn_model.specs.World.{World}
+use Rattle.qn_play.specs.Reading as reading
 use Rattle.qn_replay.specs.Endings.{EndFits, ReplayFits}
 use Rattle.qn_replay.specs.Replay.{Progress, Replayed, replay_of}
 use Rattle.qn_replay.specs.Runs.{GivesWorld, IsFault, IsLast, Reaches}
@@ -10,15 +11,27 @@ use Rattle.qn_sched.specs.declared.replay_end.ReplayEnd.{ReplayEnd}
 use Rattle.qn_sched.specs.declared.replay_end.ReplayEnd.TheVariants as end
 use Rattle.qn_world.specs.Standing.{WorldFor}
 use Rattle.qn_world.specs.Whole.{Whole as WorldKept}
+use Rattle.qn_commands.specs.Endings.{Cut, Says, Whole}
+use Rattle.qn_commands.specs.Reads.{IsNeeded, LastDecides, StillOpen, WroteAll, WroteFront}
+use Rattle.qn_commands.specs.Seen.{Input, Output, Outside, ReadFails, seen}
 use Rattle.qn_top.specs.declared.command.Form.{Form}
-use Rattle.qn_top.specs.Replaying.{end_outcome}
-use Rattle.qn_top.specs.Runs.{Answers, Whole, Cut, WroteAll, WroteFront}
-use Rattle.qn_top.specs.StatusRuns.{RunsStatus, StatesWorld, Stated, Unstated, StatusEnds, Told, Wanted, status_answer, status_behind, status_in}
+use Rattle.qn_top.specs.Commands.Status.{RunsStatus, StatesWorld, Stated, Unstated, StatusEnds, Told, Wanted, status_answer, status_behind, status_in}
+use Rattle.qn_top.specs.ReplayEnds.{end_outcome}
+use Rattle.qn_top.proofs.PlayedEnds.{same_status}
 
--- an answer that the bytes tell of was written, or a front of it
-answered : {form : Form} {taken : List ℕ} {at_end failed write_failed : Type 0} {old new : Option (List ℕ)} {status : ℕ} (outcome : Outcome)
+-- the bytes that the end needs are those that the status needs
+open_status : (form : Form) (taken : List ℕ) → reading.IsOpen replay_of taken → (status_answer form ReadFailed taken).status ≡ 6
+open_status form taken still =
+    same_status form (replay_of ReadFailed taken).end (replay_of ReadFailed taken).last ∙ ap (λ (e : ReplayEnd). (end_outcome e).status) still
+
+needed_status : {taken : List ℕ} (form : Form) → reading.IsNeeded replay_of taken → IsNeeded (status_answer form) taken
+needed_status {taken} form (reading.StillOpen still) = StillOpen (open_status form taken still)
+needed_status form (reading.LastDecides front byte parts still) = LastDecides front byte parts (open_status form front still)
+
+-- an answer that the bytes tell of was written, or a prefix of it
+answered : {form : Form} {taken : List ℕ} {at_end failed : Type 0} {before later : Output} {status : ℕ} (outcome : Outcome)
     → Tells (status_answer form) taken at_end failed (λ o. o ≡ outcome) → Tells (status_answer form) taken at_end failed (λ o. BeginsWith o.text outcome.text)
-    → Answers [] outcome.text outcome.status old new write_failed status → StatusEnds form taken at_end failed old new write_failed status
+    → Says outcome.text outcome.status before later status → StatusEnds form taken at_end failed before later status
 answered outcome tells begins (Whole is whole) = Told (WroteAll outcome tells is whole)
 answered outcome tells begins (Cut is fails front) = Told (WroteFront outcome.text begins is fails front)
 
@@ -60,13 +73,13 @@ tells_fault {taken} form ended Q weaker (Anyway always) = Anyway (λ ending more
 tells_fault {taken} form ended Q weaker (AtEnd at holds) = AtEnd at (weaker (status_answer form Ended taken) (same_fault form ended (replay_of Ended taken) holds))
 tells_fault {taken} form ended Q weaker (AtFailure fails holds) = AtFailure fails (weaker (status_answer form ReadFailed taken) (same_fault form ended (replay_of ReadFailed taken) holds))
 
--- memory was wanted
+-- out of memory
 abbrev WantedMemory : Result WorldKept ReplayEnd → Type 0
 WantedMemory result = result ≡ Err end.NoMemory
 
-module _ {taken : List ℕ} {at_end failed write_failed : Type 0} {old new : Option (List ℕ)} {status : ℕ} where
+module _ {taken : List ℕ} {at_end failed : Type 0} {before later : Output} {status : ℕ} where
   stated : (form : Form) (world : WorldKept) → at_end → (last : IsLast (replay_of Ended taken) world)
-      → StatesWorld form world.settings last.so_far.world old new write_failed status → StatusEnds form taken at_end failed old new write_failed status
+      → StatesWorld form world.settings last.so_far.world before later status → StatusEnds form taken at_end failed before later status
   stated form world ended last (Stated answers) =
       answered (record { text = status_in form world.settings last.so_far.world; status = 0 })
       (AtEnd ended (world_answer form taken world last))
@@ -75,8 +88,8 @@ module _ {taken : List ℕ} {at_end failed write_failed : Type 0} {old new : Opt
   stated form world ended last (Unstated answers) = Wanted answers
 
   told_world : (form : Form) (world : WorldKept) → ReplayFits → Tells replay_of taken at_end failed (λ answer. IsLast answer world)
-      → ((d : World) → WorldFor world d → StatesWorld form world.settings d old new write_failed status)
-      → StatusEnds form taken at_end failed old new write_failed status
+      → ((d : World) → WorldFor world d → StatesWorld form world.settings d before later status)
+      → StatusEnds form taken at_end failed before later status
   told_world form world fits (Anyway always) states =
       absurd (not_unread (replay_of ReadFailed (taken ++ [])) world (always ReadFailed []) (fits ReadFailed (taken ++ [])))
   told_world form world fits (AtEnd ended last) states = stated form world ended last (states last.so_far.world last.stands)
@@ -85,43 +98,47 @@ module _ {taken : List ℕ} {at_end failed write_failed : Type 0} {old new : Opt
 
   reached_world : (form : Form) (world : WorldKept) → ReplayFits
       → WantedMemory (Ok world) ⊎ Tells replay_of taken at_end failed (GivesWorld (Ok world))
-      → ((d : World) → WorldFor world d → StatesWorld form world.settings d old new write_failed status)
-      → StatusEnds form taken at_end failed old new write_failed status
+      → ((d : World) → WorldFor world d → StatesWorld form world.settings d before later status)
+      → StatusEnds form taken at_end failed before later status
   reached_world form world fits (inl never) states = cc
   reached_world form world fits (inr tells) states = told_world form world fits tells states
 
   reached_fault : (form : Form) (ended : ReplayEnd)
       → WantedMemory (Err ended) ⊎ Tells replay_of taken at_end failed (GivesWorld (Err ended))
-      → Answers [] (end_outcome ended).text (end_outcome ended).status old new write_failed status
-      → StatusEnds form taken at_end failed old new write_failed status
+      → Says (end_outcome ended).text (end_outcome ended).status before later status
+      → StatusEnds form taken at_end failed before later status
   reached_fault form ended (inl memory) answers =
       let same : ended ≡ end.NoMemory = cc in
-      Wanted (subst (λ (e : ReplayEnd). Answers [] (end_outcome e).text (end_outcome e).status old new write_failed status) same answers)
+      Wanted (subst (λ (e : ReplayEnd). Says (end_outcome e).text (end_outcome e).status before later status) same answers)
   reached_fault form ended (inr tells) answers =
       answered (end_outcome ended)
       (tells_fault form ended (λ o. o ≡ end_outcome ended) (λ o same. same) tells)
       (tells_fault form ended (λ o. BeginsWith o.text (end_outcome ended).text) (λ o same. begins_same o (end_outcome ended) same) tells)
       answers
 
-module _ {left_old left_new old new : Option (List ℕ)} {failed write_failed : Type 0} {status : ℕ} where
+module _ (first last : Input) (before later : Output) (env : Outside) (status : ℕ) (form : Form) where
   -- the status of a last world
-  pub world_stated : (form : Form) (world : WorldKept) → ReplayFits → Reaches left_old left_new failed (Ok world)
-      → ((d : World) → WorldFor world d → StatesWorld form world.settings d old new write_failed status)
-      → RunsStatus form left_old left_new failed old new write_failed status
-  world_stated form world fits reaches states = record {
+  pub world_stated : (world : WorldKept) → ReplayFits → Reaches first.left last.left (ReadFails first last) (Ok world)
+      → ((d : World) → WorldFor world d → StatesWorld form world.settings d before later status)
+      → RunsStatus form (seen first before env) (seen last later env) status
+  world_stated world fits reaches states = record {
     taken = reaches.taken;
     waiting = reaches.waiting;
     takes = reaches.takes;
+    needed = needed_status form reaches.needed;
+    within = reaches.within;
     ends = reached_world form world fits reaches.ends states;
   }
 
   -- the line of a fault
-  pub fault_stated : (form : Form) (ended : ReplayEnd) → Reaches left_old left_new failed (Err ended)
-      → Answers [] (end_outcome ended).text (end_outcome ended).status old new write_failed status
-      → RunsStatus form left_old left_new failed old new write_failed status
-  fault_stated form ended reaches answers = record {
+  pub fault_stated : (ended : ReplayEnd) → Reaches first.left last.left (ReadFails first last) (Err ended)
+      → Says (end_outcome ended).text (end_outcome ended).status before later status
+      → RunsStatus form (seen first before env) (seen last later env) status
+  fault_stated ended reaches says = record {
     taken = reaches.taken;
     waiting = reaches.waiting;
     takes = reaches.takes;
-    ends = reached_fault form ended reaches.ends answers;
+    needed = needed_status form reaches.needed;
+    within = reaches.within;
+    ends = reached_fault form ended reaches.ends says;
   }

@@ -1,14 +1,5 @@
 pub mod Commands
-pub mod CountTurns
-pub mod Counting
-pub mod Faults
-pub mod ImageTexts
-pub mod ImageWorks
+pub mod Does
 pub mod Options
-pub mod Replaying
-pub mod Runs
-pub mod SoakRuns
-pub mod StatusRuns
-pub mod Statuses
-pub mod Works
-pub mod Writing
+pub mod ReplayEnds
+pub mod Words

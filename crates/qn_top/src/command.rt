@@ -1,8 +1,8 @@
-ghost use Rattle.std.specs.Prelude.{◌≡◌, ◌≤◌, ◌==◌, map, string_bytes, length, IsTrue, IfSome, IfNone, None, Some};
+//! The commands of the program, and the words that each of them is.
+ghost use Rattle.std.specs.Prelude.{◌≡◌, ◌≤◌, ◌==◌, map, string_bytes, length, IfSome, IfNone, None, Some};
 ghost use Rattle.std.specs.Option.{option_copied};
-ghost use Rattle.qn_model.specs.Sectors.{is_deadly};
 ghost use Rattle.qn_sched.specs.Words.{parts_left};
-ghost use Rattle.qn_top.specs.Commands.{IsProper, command_named, command_of, create_of, form_named, form_of, id_of, image_alone, kind_of, message_of, next_time, number_in, soak_of, timing_in, timing_of};
+ghost use Rattle.qn_top.specs.Words.{IsProper, command_named, command_of, create_of, form_named, form_of, id_of, image_alone, kind_named, kind_of, message_of, next_time, number_in, soak_of, timing_in, timing_of};
 ghost use Rattle.qn_top.specs.Options.{value_of};
 
 use crate::options::{OptionName, Path, are_options, value_of};
@@ -17,7 +17,7 @@ pub enum Command<'words> {
     Count,
     /// `replay`: the trace of a schedule.
     Replay,
-    /// `status [--form FORM]`: the status of each node behind a schedule.
+    /// `status [--form FORM]`: the status of each node after a schedule.
     Status {
         form: Form,
     },
@@ -39,11 +39,15 @@ pub enum Command<'words> {
     List {
         image: Path<'words>,
     },
-    /// `message --image P --id N --kind KIND`: writes a deadly message to a node.
+    /// `message --image P --id N --kind KIND`: leaves a message to a node.
     Message {
         image: Path<'words>,
         id: NodeId,
         kind: Message,
+    },
+    /// `migrate --image P`: makes an image of version 2 of one of version 1.
+    Migrate {
+        image: Path<'words>,
     },
     /// `help`: the commands.
     Help,
@@ -58,7 +62,7 @@ pub enum Form {
     Json,
 }
 
-/// The command that the words are, where they are one. The words are those behind the program's name.
+/// The command that the words are, where they are one. The words are those after the program's name.
 pub fn command_of(words: &[String]) -> Option<Command<'_>>
     ensures command { result ≡ command_of (map string_bytes words.now) }
     ensures proper { IfSome result IsProper }
@@ -93,6 +97,9 @@ fn command_named<'words>(name: &str, options: &'words [String]) -> Option<Comman
         Some(Command::List { image })
     } else if name == "message" {
         message_of(options)
+    } else if name == "migrate" {
+        let image = image_alone(options)?;
+        Some(Command::Migrate { image })
     } else if name == "help" {
         are_options(&[], options).then_some(Command::Help)
     } else {
@@ -101,7 +108,7 @@ fn command_named<'words>(name: &str, options: &'words [String]) -> Option<Comman
 }
 
 /// The form, which is the only option; text where none is written.
-#[tactic(auto, unfolding(crate::specs::Commands::form_of))]
+#[tactic(auto, unfolding(crate::specs::Words::form_of))]
 fn form_of(options: &[String]) -> Option<Form>
     ensures { result ≡ form_of (map string_bytes options.now) }
 {
@@ -128,7 +135,7 @@ fn form_named(word: &str) -> Option<Form>
 }
 
 /// `soak` with these words: any seed, and 1 to `MOST_EVENTS` events.
-#[tactic(auto, unfolding(crate::specs::Commands::soak_of))]
+#[tactic(auto, unfolding(crate::specs::Words::soak_of))]
 fn soak_of(words: &[String]) -> Option<Command<'_>>
     ensures command { result ≡ soak_of (map string_bytes words.now) }
     ensures proper { IfSome result IsProper }
@@ -144,7 +151,7 @@ fn soak_of(words: &[String]) -> Option<Command<'_>>
 }
 
 /// `create` with these options.
-#[tactic(auto, unfolding(crate::specs::Commands::create_of))]
+#[tactic(auto, unfolding(crate::specs::Words::create_of))]
 fn create_of(options: &[String]) -> Option<Command<'_>>
     ensures command { result ≡ create_of (map string_bytes options.now) }
     ensures proper { IfSome result IsProper }
@@ -158,7 +165,7 @@ fn create_of(options: &[String]) -> Option<Command<'_>>
 }
 
 /// `message` with these options.
-#[tactic(auto, unfolding(crate::specs::Commands::message_of))]
+#[tactic(auto, unfolding(crate::specs::Words::message_of))]
 fn message_of(options: &[String]) -> Option<Command<'_>>
     ensures command { result ≡ message_of (map string_bytes options.now) }
     ensures proper { IfSome result IsProper }
@@ -176,7 +183,7 @@ fn message_of(options: &[String]) -> Option<Command<'_>>
 }
 
 /// The path of an image, which is the only option.
-#[tactic(auto, unfolding(crate::specs::Commands::image_alone))]
+#[tactic(auto, unfolding(crate::specs::Words::image_alone))]
 fn image_alone(options: &[String]) -> Option<Path<'_>>
     ensures { result ≡ image_alone (map string_bytes options.now) }
 {
@@ -187,7 +194,7 @@ fn image_alone(options: &[String]) -> Option<Path<'_>>
 }
 
 /// The times among the options, or the usual ones.
-#[tactic(auto, unfolding(crate::specs::Commands::timing_of))]
+#[tactic(auto, unfolding(crate::specs::Words::timing_of))]
 fn timing_of(options: &[String]) -> Option<Timing>
     ensures { result ≡ timing_of (map string_bytes options.now) }
 {
@@ -198,7 +205,7 @@ fn timing_of(options: &[String]) -> Option<Timing>
 }
 
 /// The id among the options.
-#[tactic(auto, unfolding(crate::specs::Commands::id_of))]
+#[tactic(auto, unfolding(crate::specs::Words::id_of))]
 fn id_of(options: &[String]) -> Option<NodeId>
     ensures { result ≡ id_of (map string_bytes options.now) }
 {
@@ -208,22 +215,23 @@ fn id_of(options: &[String]) -> Option<NodeId>
 }
 
 /// The message among the options.
-#[tactic(auto, unfolding(crate::specs::Commands::kind_of))]
+#[tactic(auto, unfolding(crate::specs::Words::kind_of))]
 fn kind_of(options: &[String]) -> Option<Message>
-    ensures value { result ≡ kind_of (map string_bytes options.now) }
-    ensures deadly { IfSome result (λ kind. IsTrue (is_deadly kind)) }
+    ensures { result ≡ kind_of (map string_bytes options.now) }
 {
     let word = value_of(options, OptionName::Kind)?;
-    match word.as_str() {
-        kind if kind == "reset" => Some(Message::Reset),
-        kind if kind == "off" => Some(Message::Off),
-        kind if kind == "crashdump" => Some(Message::Crashdump),
-        _ => None,
-    }
+    kind_named(word.as_str())
 }
 
-/// Five times, parted by commas.
-#[tactic(auto, unfolding(crate::specs::Commands::timing_in))]
+/// The message that an operator sends by this word.
+fn kind_named(word: &str) -> Option<Message>
+    ensures { result ≡ kind_named word.now }
+{
+    Message::from_operator_word(word)
+}
+
+/// Five times, separated by commas.
+#[tactic(auto, unfolding(crate::specs::Words::timing_in))]
 fn timing_in(text: &[u8]) -> Option<Timing>
     ensures { result ≡ timing_in text.now }
 {
@@ -265,7 +273,7 @@ fn is_over(rest: Option<&[u8]>) -> bool
 }
 
 /// A decimal number in a range; leading zeros are good.
-#[tactic(auto, unfolding(crate::specs::Commands::number_in))]
+#[tactic(auto, unfolding(crate::specs::Words::number_in))]
 fn number_in(least: u64, greatest: u64, word: &[u8]) -> Option<u64>
     ensures value { result ≡ number_in least greatest word.now }
     ensures within { IfSome result (λ number. (least ≤ number) × (number ≤ greatest)) }

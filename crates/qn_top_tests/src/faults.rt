@@ -1,3 +1,4 @@
+//! Inputs and outputs that fail at chosen calls, under each command that can meet them.
 use crate::runs::Run;
 use qn_io::QuietEnv;
 use std::test::Fail;

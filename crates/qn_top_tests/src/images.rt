@@ -1,3 +1,4 @@
+//! The commands of an image, whole and with calls that fail.
 use crate::runs::Run;
 use qn_io::{Env, MemEnv, QuietEnv};
 use std::test::Fail;
@@ -6,7 +7,7 @@ use std::test::Fail;
 const ONE_NODE: &str = "nodelist {\nnode {\nnodeid: 1\n}\n}\n";
 
 /// The commands of an image, one after the other: the words, the status, and what is written.
-const COMMANDS: [(&str, u8, &str); 10] = [
+const COMMANDS: [(&str, u8, &str); 15] = [
     ("dump --image d", 9, "fault BadImage sector 0\n"),
     ("list --image d", 9, "fault BadImage sector 0\n"),
     (
@@ -28,7 +29,7 @@ const COMMANDS: [(&str, u8, &str); 10] = [
     (
         "dump --image d",
         0,
-        "version 1\nnodes 1\nwatchdog 5000\nmsgwait 10000\nloop 1000\nread_limit 2000\nfeed_delay 1000\nsafe yes\n",
+        "version 2\nnodes 1\nwatchdog 5000\nmsgwait 10000\nloop 1000\nread_limit 2000\nfeed_delay 1000\nsafe yes\n",
     ),
     ("message --image d --id 1 --kind off", 0, "sent off to 1\n"),
     (
@@ -37,6 +38,23 @@ const COMMANDS: [(&str, u8, &str); 10] = [
         "fault UnknownNode 2\n",
     ),
     ("list --image d", 0, "node 1 incarnation 0 clean mail off\n"),
+    (
+        "message --image d --id 1 --kind exit",
+        15,
+        "fault DeadlyThere off\n",
+    ),
+    (
+        "message --image d --id 1 --kind clear",
+        0,
+        "sent clear to 1\n",
+    ),
+    (
+        "list --image d",
+        0,
+        "node 1 incarnation 0 clean mail empty\n",
+    ),
+    ("message --image d --id 1 --kind empty", 2, "fault Usage\n"),
+    ("migrate --image d", 0, "migrated nodes 1\n"),
 ];
 
 #[test]
@@ -51,10 +69,10 @@ fn commands_of_an_image(rt: HostRuntime) -> Result<(), Fail> {
     for (place, byte) in [(0, b'M'), (1, b'A'), (2, b'I'), (3, b'L'), (4, 9)] {
         mailbox[place] = byte;
     }
-    env.write(2, &mailbox)?;
+    env.write(512, &mailbox)?;
     let (ended, written) = Run::of("list --image d", "").run(&rt, &mut env)?;
     assert!(rt; ended == 9);
-    assert!(rt; written.as_slice() == b"fault BadImage sector 2\n".as_slice());
+    assert!(rt; written.as_slice() == b"fault BadImage sector 512\n".as_slice());
     Ok(())
 }
 
@@ -67,6 +85,7 @@ fn calls_that_fail(rt: HostRuntime) -> Result<(), Fail> {
         "dump --image d",
         "list --image d",
         "message --image d --id 1 --kind off",
+        "migrate --image d",
     ] {
         for failing in [1, 2] {
             let none = Vec::new(alloc);

@@ -1,6 +1,6 @@
-// Tests of `top` over the built libraries: what the program writes, and its status, over inputs that come in pieces, an
-// output with little room, and an outside in memory of which calls fail. Words, lines and settings texts at fault are
-// tried through the built program, by tests/run.
+//! Tests of `top` over the built libraries: what the program writes, and its status, over inputs that come in pieces, an
+//! output with little room, and an outside in memory of which calls fail. Words, lines and settings texts at fault are
+//! tried through the built program, by tests/run.
 #![tactic(auto)]
 
 #[cfg(test)]

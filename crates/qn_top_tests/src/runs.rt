@@ -1,3 +1,4 @@
+//! Runs of `top` over an input and an output in memory.
 use qn_io::{Env, MemSink, MemSource};
 use qn_top::top;
 use std::alloc::AllocError;

@@ -1,10 +1,13 @@
+//! Checks all rows, and counts those from which a form differs.
 use crate::counts::check_count;
 use crate::histories::History;
 use crate::rows::row_of;
+use crate::ties::check_tie;
 use crate::wrong::Wrong;
 use anyhow::Result;
 use qn_history::{rank_word, read_rank, read_settings, settings_words};
 use qn_model::Settings;
+use qn_tie::Tie;
 use std::alloc::Global;
 use std::io::{BufRead, Lines};
 
@@ -12,6 +15,7 @@ use std::io::{BufRead, Lines};
 #[derive(Clone, Copy, Default)]
 struct Totals {
     counts: u64,
+    ties: u64,
     histories: u64,
     entries: u64,
     looks: u64,
@@ -25,6 +29,7 @@ struct Reader {
     /// The settings of the history that begins.
     settings: Option<Settings>,
     history: Option<History>,
+    tie: Option<Tie>,
 }
 
 /// Writes each row from which a form differs, and then how many rows there were.
@@ -48,12 +53,14 @@ impl Totals {
     fn write(self, rt: &impl Print) -> Result<()> {
         let Totals {
             counts,
+            ties,
             histories,
             entries,
             looks,
             differ,
         } = self;
         println!(rt; "counts {counts}")?;
+        println!(rt; "calls of a tie breaker {ties}")?;
         println!(rt; "histories {histories} entries {entries} looks {looks}")?;
         println!(rt; "differ {differ}")?;
         Ok(())
@@ -61,11 +68,15 @@ impl Totals {
 }
 
 impl Reader {
-    /// Checks a line: a count, the settings that begin a history, the rank of its node, or a row of it.
+    /// Checks a line: a count, a call of a tie breaker, the settings that begin a history, the rank of its node, or a row of it.
     fn check(&mut self, alloc: Global, line: &str) -> Result<(), Wrong> {
         if let Some(count) = line.strip_prefix("count\t") {
             self.totals.counts = self.totals.counts.saturating_add(1);
             return check_count(alloc, count);
+        }
+        if let Some(call) = line.strip_prefix("tie\t") {
+            self.totals.ties = self.totals.ties.saturating_add(1);
+            return check_tie(alloc, &mut self.tie, call);
         }
         if let Some(words) = settings_words(line) {
             self.history = None;

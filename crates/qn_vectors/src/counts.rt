@@ -1,3 +1,4 @@
+//! Checks a row of a count of votes, in both forms.
 use crate::wrong::Wrong;
 use qn_base::View;
 use qn_history::{read_members, read_number, read_settings, read_truth};
@@ -6,7 +7,7 @@ use qn_plain::vote_answer;
 use qn_quorum::Quorum;
 use std::alloc::Global;
 
-/// Checks a count: its name, settings, entries, tick and answer, parted by tabs.
+/// Checks a count: its name, settings, entries, tick and answer, separated by tabs.
 pub fn check_count(alloc: Global, row: &str) -> Result<(), Wrong> {
     let mut columns = row.split('\t');
     let _name = columns.next().ok_or(Wrong::Form)?;

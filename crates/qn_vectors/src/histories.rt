@@ -1,3 +1,4 @@
+//! Checks the rows of a node's history, in both forms.
 use crate::rows::Row;
 use crate::wrong::Wrong;
 use qn_base::Rank;

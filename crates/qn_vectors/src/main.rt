@@ -1,15 +1,15 @@
-// Rows that were worked out elsewhere, run through each form of a count of votes and of a node that the
-// repository has: those from the whole list, and those in fixed memory.
-//
-//     qn_vectors             reads rows, and writes each from which a form differs, and how many there were
-//     qn_vectors show        reads histories, and writes what comes out of each entry
-//     qn_vectors steps N     reads one history, and hands it N times to a new node
-//     qn_vectors plain N     reads one history, and evaluates each of its first N beginnings from the whole list
-//
-// What it reads stands on standard input. The last two write how many outputs there were; they are there to be
-// timed, by `bench/node`.
-//
-// Promises: nothing. It is a test: what it is run on, and what it must write, stand beside it.
+//! Rows that were worked out elsewhere, run through each form of a count of votes and of a node that the
+//! repository has: those from the whole list, and those in fixed memory; and through the tie breaker in fixed memory.
+//!
+//!     qn_vectors             reads rows, and writes each from which a form differs, and how many there were
+//!     qn_vectors show        reads histories, and writes what comes out of each entry
+//!     qn_vectors steps N     reads one history, and hands it N times to a new node
+//!     qn_vectors plain N     reads one history, and evaluates each of its first N beginnings from the whole list
+//!
+//! What it reads stands on standard input. The last two write how many outputs there were; they are there to be
+//! timed, by `bench/node`.
+//!
+//! Promises: nothing. It is a test: what it is run on, and what it must write, stand beside it.
 #![tactic(auto)]
 
 mod checking;
@@ -17,6 +17,7 @@ mod counts;
 mod histories;
 mod rows;
 mod running;
+mod ties;
 mod writing;
 mod wrong;
 

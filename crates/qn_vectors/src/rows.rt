@@ -1,3 +1,4 @@
+//! Reads the rows of histories.
 use crate::counts::answer_of;
 use crate::wrong::Wrong;
 use qn_history::{
@@ -21,7 +22,7 @@ pub struct Row {
     pub incarnation: Option<Option<u64>>,
 }
 
-/// Reads a row of eight columns, parted by tabs.
+/// Reads a row of eight columns, separated by tabs.
 pub fn row_of(alloc: Global, line: &str) -> Result<Row, Wrong> {
     let columns: Vec<&str> = line.split('\t').collect(alloc)?;
     let [tick, what, outs, why, answer, phase, holds, incarnation] = columns.as_slice() else {
@@ -83,6 +84,7 @@ fn op_of(words: &[&str]) -> Result<DiskOp, Wrong> {
     Ok(match words {
         ["read-header"] => DiskOp::ReadHeader,
         ["read-slot", of] => DiskOp::ReadSlot(read_rank(of)?),
+        ["check-mail"] => DiskOp::CheckMail,
         ["claim", incarnation] => DiskOp::WriteClaim(read_number(incarnation)?),
         ["clear"] => DiskOp::WriteClear,
         ["read-mail"] => DiskOp::ReadMail,
@@ -100,6 +102,7 @@ fn cause_of(word: &str) -> Result<BootCause, Wrong> {
         "4" => BootCause::ClaimFailed,
         "5" => BootCause::ClearFailed,
         "6" => BootCause::IncarnationSpent,
+        "7" => BootCause::NotClean,
         _ => return Err(Wrong::Form),
     })
 }

@@ -1,3 +1,4 @@
+//! Shows and times what comes out of a recorded history.
 use crate::writing::outs_text;
 use anyhow::{Context, Result, bail};
 use qn_base::Rank;

@@ -1,10 +1,11 @@
+//! Writes outputs, packets and answers as the rows have them.
 use anyhow::Result;
 use qn_base::{Mask, Rank, View, yes_no};
 use qn_model::{Ask, BootCause, DiskOp, HaltKind, Out, Packet, Tell};
 use std::alloc::Global;
 use std::str::from_utf8;
 
-/// The outputs, parted by `; `, or `-` where there are none.
+/// The outputs, separated by `; `, or `-` where there are none.
 pub fn outs_text(alloc: Global, outs: &[Out]) -> Result<String> {
     if outs.is_empty() {
         return Ok(String::from_str(alloc, "-")?);
@@ -87,6 +88,7 @@ fn op_text(alloc: Global, op: DiskOp) -> Result<String> {
     Ok(match op {
         DiskOp::ReadHeader => String::from_str(alloc, "read-header")?,
         DiskOp::ReadSlot(rank) => format!(in alloc; "read-slot {}", rank.0)?,
+        DiskOp::CheckMail => String::from_str(alloc, "check-mail")?,
         DiskOp::WriteClaim(number) => format!(in alloc; "claim {number}")?,
         DiskOp::WriteClear => String::from_str(alloc, "clear")?,
         DiskOp::ReadMail => String::from_str(alloc, "read-mail")?,
@@ -103,6 +105,7 @@ fn cause_number(cause: BootCause) -> u8 {
         BootCause::ClaimFailed => 4,
         BootCause::ClearFailed => 5,
         BootCause::IncarnationSpent => 6,
+        BootCause::NotClean => 7,
     }
 }
 

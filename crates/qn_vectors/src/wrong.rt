@@ -1,3 +1,4 @@
+//! What can be wrong with a row.
 use qn_history::HistoryFault;
 use std::alloc::AllocError;
 use thiserror::Error;
@@ -11,7 +12,7 @@ pub enum Wrong {
     /// A part of it is none of a history.
     #[error("no row: {0}")]
     Part(#[from] HistoryFault),
-    /// Memory was wanted and not there.
+    /// Out of memory.
     #[error("out of memory")]
     Memory(#[from(alloc)] AllocError),
     /// This comes out otherwise.

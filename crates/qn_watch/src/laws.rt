@@ -1,3 +1,4 @@
+//! What leaves a watcher as it is.
 ghost use Rattle.std.specs.Prelude.{◌≡◌, ◌∷◌, None, List, false};
 ghost use Rattle.qn_model.specs.Log.{Line, disk_of, times_of};
 ghost use Rattle.qn_model.specs.Wanted.{asks_mail};

@@ -1,3 +1,4 @@
+//! The watcher: when the mailbox is to be read, and what a read comes to.
 use qn_model::{MailSeen, Message, Timing};
 
 /// What a read of the own mailbox comes to (sbd(8), `watch`; the limit of a read is this project's

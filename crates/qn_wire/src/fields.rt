@@ -1,3 +1,4 @@
+//! The bytes of a packet while it is put together, field by field.
 ghost use Rattle.std.specs.Prelude.{◌≡◌, ◌+◌, ◌≤◌, ◌++◌, ◌∷◌, [], length};
 ghost use Rattle.std.specs.Int.{bytes_high_first};
 ghost use Rattle.arrayvec.specs.ArrayVec.{array_vec_len};

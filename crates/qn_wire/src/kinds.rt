@@ -1,4 +1,4 @@
-// The kinds of packets: the byte after `QN`.
+//! The kinds of packets: the byte after `QN`.
 
 pub const ASK: u8 = 1;
 

@@ -1,3 +1,4 @@
+//! The law that a well formed packet that was put is read back.
 ghost use Rattle.std.specs.Prelude.{◌≡◌, Some, IsTrue};
 ghost use Rattle.qn_model.specs.declared.packets.Packet.{Packet};
 ghost use Rattle.qn_wire.specs.Packets.{packet_bytes, is_well_formed};

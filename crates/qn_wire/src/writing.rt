@@ -1,3 +1,4 @@
+//! Writes a packet as its bytes.
 ghost use Rattle.std.specs.Prelude.{◌≡◌, ◌+◌, ◌≤◌, ◌++◌};
 ghost use Rattle.arrayvec.specs.ArrayVec.{array_vec_len};
 ghost use Rattle.qn_wire.specs.Packets.{packet_bytes, ask_fields, as_ask};

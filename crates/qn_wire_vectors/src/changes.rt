@@ -1,3 +1,4 @@
+//! Changes each byte of a packet to each other value, and counts what is read of it.
 use arrayvec::ArrayVec;
 use qn_wire::{get_packet, put_packet};
 

@@ -1,9 +1,9 @@
-// Rows that were worked out elsewhere, the bytes of a packet with what they spell, run through both directions of
-// qn_wire. It reads the rows from standard input, writes each row from which a direction differs, and then how many rows
-// there were. Of each row that spells a packet it also changes every byte to every other value: where such bytes are read
-// as a packet, they are the spelling of that packet.
-//
-// Promises: nothing. It is a test: what it is run on, and what it must write, stand beside it.
+//! Rows that were worked out elsewhere, the bytes of a packet with what they spell, run through both directions of
+//! qn_wire. It reads the rows from standard input, writes each row from which a direction differs, and then how many rows
+//! there were. Of each row that spells a packet it also changes every byte to every other value: where such bytes are read
+//! as a packet, they are the spelling of that packet.
+//!
+//! Promises: nothing. It is a test: what it is run on, and what it must write, stand beside it.
 #![tactic(auto)]
 
 mod changes;

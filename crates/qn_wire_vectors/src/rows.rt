@@ -1,3 +1,4 @@
+//! Reads a row of bytes and a packet, and checks it in both directions.
 use crate::wrong::Wrong;
 use arrayvec::ArrayVec;
 use qn_history::{read_ask, read_rank, read_tell, read_truth, read_view};

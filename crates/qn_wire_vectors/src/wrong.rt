@@ -1,3 +1,4 @@
+//! What can be wrong with a row.
 use hex::FromHexError;
 use qn_history::HistoryFault;
 use std::alloc::AllocError;
@@ -15,7 +16,7 @@ pub enum Wrong {
     /// A part of it is none of a packet.
     #[error("no row: {0}")]
     Part(#[from] HistoryFault),
-    /// Memory was wanted and not there.
+    /// Out of memory.
     #[error("out of memory")]
     Memory(#[from(alloc)] AllocError),
     /// This comes out otherwise.

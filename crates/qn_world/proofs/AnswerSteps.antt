@@ -192,6 +192,7 @@ failure_answers : (op : DiskOp) → answers_op (Some op) (failed op) ≡ true
 unfolding failed
 failure_answers disk.ReadHeader = refl
 failure_answers (disk.ReadSlot other) = same_rank other.0
+failure_answers disk.CheckMail = refl
 failure_answers (disk.WriteClaim number) = refl
 failure_answers disk.WriteClear = refl
 failure_answers disk.ReadMail = refl
@@ -372,6 +373,7 @@ plain_of w (event.Leave own) rank entry hands = record {
 }
 plain_of w (event.Pass dt clocks) rank entry hands = absurd hands
 plain_of w (event.Boot own base) rank entry hands = absurd hands
+plain_of w (event.BootClean own base) rank entry hands = absurd hands
 plain_of w (event.Crash own) rank entry hands = absurd hands
 plain_of w (event.Land own) rank entry hands = absurd hands
 plain_of w (event.Done own) rank entry hands = absurd hands
@@ -379,6 +381,7 @@ plain_of w (event.Fail own) rank entry hands = absurd hands
 plain_of w (event.Late own number) rank entry hands = absurd hands
 plain_of w (event.Deliver own number) rank entry hands = absurd hands
 plain_of w (event.Feed own) rank entry hands = absurd hands
+plain_of w (event.Operator own message) rank entry hands = absurd hands
 
 pub entry_stepped : (w new : Whole) (event : Event) (rank : Rank) (entry : What) (outs : List Out) → Hands event rank entry → Handed w new rank.0 entry outs
     → Stepped w new event outs
@@ -477,6 +480,7 @@ hands_touched (event.Unstopped own) rank entry hands = ap Some hands.0
 hands_touched (event.Leave own) rank entry hands = ap Some hands.0
 hands_touched (event.Pass dt clocks) rank entry hands = absurd hands
 hands_touched (event.Boot own base) rank entry hands = absurd hands
+hands_touched (event.BootClean own base) rank entry hands = absurd hands
 hands_touched (event.Crash own) rank entry hands = absurd hands
 hands_touched (event.Land own) rank entry hands = absurd hands
 hands_touched (event.Done own) rank entry hands = absurd hands
@@ -484,6 +488,7 @@ hands_touched (event.Fail own) rank entry hands = absurd hands
 hands_touched (event.Late own number) rank entry hands = absurd hands
 hands_touched (event.Deliver own number) rank entry hands = absurd hands
 hands_touched (event.Feed own) rank entry hands = absurd hands
+hands_touched (event.Operator own message) rank entry hands = absurd hands
 
 -- the seats of a world after one was replaced
 pub still_within : (w new : Whole) (i : ℕ) (seat : Seat) → i < length w.seats → new ≡ record w { seats = slice_set w.seats i seat } → i < length new.seats

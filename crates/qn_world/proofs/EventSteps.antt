@@ -241,6 +241,7 @@ answers_itself : (w : Whole) (d : World) (i : ℕ) (op : DiskOp) → answers_op 
 unfolding taken
 answers_itself w d i disk.ReadHeader = refl
 answers_itself w d i (disk.ReadSlot other) = same_rank other.0
+answers_itself w d i disk.CheckMail = refl
 answers_itself w d i (disk.WriteClaim number) = refl
 answers_itself w d i disk.WriteClear = refl
 answers_itself w d i disk.ReadMail = refl
@@ -430,6 +431,7 @@ not_late w rank number some none =
 pub wider : (count : ℕ) (op : DiskOp) → count ≤ 32 → IsWithin count op → IsWithin 32 op
 wider count disk.ReadHeader few p = tt
 wider count (disk.ReadSlot other) few p = omega arith
+wider count disk.CheckMail few p = tt
 wider count (disk.WriteClaim number) few p = tt
 wider count disk.WriteClear few p = tt
 wider count disk.ReadMail few p = tt

@@ -59,6 +59,7 @@ receivers_of s (out.Halt kind ∷ outs) all = receivers_of s outs (All-tail (IsN
 op_of_disk : (s : Settings) (op : DiskOp) → IsNodeOutput s (out.Disk op) → IsWithin (length s.nodes) op
 op_of_disk s disk.ReadHeader is = tt
 op_of_disk s (disk.ReadSlot rank) is = is
+op_of_disk s disk.CheckMail is = tt
 op_of_disk s (disk.WriteClaim number) is = tt
 op_of_disk s disk.WriteClear is = tt
 op_of_disk s disk.ReadMail is = tt
@@ -96,24 +97,26 @@ feeds_send_nothing true (Some op) = refl
 feeds_send_nothing false None = refl
 feeds_send_nothing false (Some op) = refl
 
-step_sends_nothing : (me : ℕ) (entry : What) (cause : Option BootCause) → packets_of (boot_step_outs me entry cause) ≡ []
-step_sends_nothing me entry None = feeds_send_nothing (not (is_begin entry)) (boot_op me entry)
-step_sends_nothing me entry (Some cause) = refl
+step_sends_nothing : (me : ℕ) (clean : Bool) (number : ℕ) (entry : What) (cause : Option BootCause)
+    → packets_of (boot_step_outs me clean number entry cause) ≡ []
+step_sends_nothing me clean number entry None = feeds_send_nothing (not (is_begin entry)) (boot_op me clean number entry)
+step_sends_nothing me clean number entry (Some cause) = refl
 
-boot_sends_nothing : (s : Settings) (me : ℕ) (entry : What) (b : Bool) → packets_of (if b then boot_step_outs me entry (boot_halt s entry) else []) ≡ []
-boot_sends_nothing s me entry true = step_sends_nothing me entry (boot_halt s entry)
-boot_sends_nothing s me entry false = refl
+boot_sends_nothing : (s : Settings) (me : ℕ) (clean : Bool) (number : ℕ) (entry : What) (b : Bool)
+    → packets_of (if b then boot_step_outs me clean number entry (boot_halt s entry) else []) ≡ []
+boot_sends_nothing s me clean number entry true = step_sends_nothing me clean number entry (boot_halt s entry)
+boot_sends_nothing s me clean number entry false = refl
 
-by_phase : (s : Settings) (me : ℕ) (entry : What) (booting : Bool) (live : Bool) (lively : List Out) → live ≡ false
-    → packets_of (if booting then boot_outs s me entry else (if live then lively else [])) ≡ []
-by_phase s me entry true live lively quiet = boot_sends_nothing s me entry (is_boot_step entry)
-by_phase s me entry false live lively quiet = ap (λ b. packets_of (if b then lively else [])) quiet
+by_phase : (s : Settings) (me : ℕ) (clean : Bool) (number : ℕ) (entry : What) (booting : Bool) (live : Bool) (lively : List Out) → live ≡ false
+    → packets_of (if booting then boot_outs s me clean number entry else (if live then lively else [])) ≡ []
+by_phase s me clean number entry true live lively quiet = boot_sends_nothing s me clean number entry (is_boot_step entry)
+by_phase s me clean number entry false live lively quiet = ap (λ b. packets_of (if b then lively else [])) quiet
 
 pub quiet_sends_nothing : (s : Settings) (me : ℕ) (log : List Line) (entry : Entry) → is_live (phase s log) ≡ false
     → packets_of (newest_outs (with_entry s me log entry)) ≡ []
 unfolding with_entry outs_at
 quiet_sends_nothing s me log entry quiet =
-    by_phase s me (read_as s me log entry.what) (is_booting (phase s log)) (is_live (phase s log))
+    by_phase s me _ _ (read_as s me log entry.what) (is_booting (phase s log)) (is_live (phase s log))
     (live_outs s me (taken_in log entry.tick (read_as s me log entry.what)) (read_as s me log entry.what)
     (mail_feeds entry.tick log (read_as s me log entry.what)) (deadly_of (message_of (read_as s me log entry.what)))) quiet
 

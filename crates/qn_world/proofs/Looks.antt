@@ -1,20 +1,23 @@
--- What is reported of an event.
-use Rattle.std.proofs.Common.{◌≡◌, ℕ, true, List, Some, None, sym, ◌∙◌, ap}
+-- What is reported of an event, and shown of a node.
+use Rattle.std.proofs.Common.{◌≡◌, ℕ, Bool, true, List, Some, None, length, sym, ◌∙◌, ap}
 use Rattle.std.specs.Prelude.{Option}
 use Rattle.std.specs.Option.{option_map_or}
 use Rattle.qn_base.specs.declared.ids.Mask.{Mask}
 use Rattle.qn_base.specs.declared.ids.Rank.{Rank}
 use Rattle.qn_model.specs.declared.configuration.Settings.{Settings}
 use Rattle.qn_model.specs.declared.events.Event.{Event}
+use Rattle.qn_model.specs.declared.life.Phase.{Phase}
 use Rattle.qn_model.specs.declared.life.Why.{Why}
 use Rattle.qn_model.specs.declared.life.Why.TheVariants.{Down}
 use Rattle.qn_model.specs.declared.outputs.Out.{Out}
 use Rattle.qn_model.specs.declared.votes.Answer.{Answer}
-use Rattle.qn_model.specs.Moments.{time}
+use Rattle.qn_model.specs.Moments.{is_holder, time}
 use Rattle.qn_model.specs.Rules.{is_well_formed}
 use Rattle.qn_model.specs.Steps.{answer_now, answer_off, holders, outs_after, report, touched, why_now}
 use Rattle.qn_model.specs.World.{World, node_at}
-use Rattle.qn_world.specs.Seen.{IsConfigured}
+use Rattle.qn_world.specs.declared.pending.Pending.{Pending}
+use Rattle.qn_world.specs.Pending.{pending_of}
+use Rattle.qn_world.specs.Seen.{IsConfigured, phase_now, seen_of}
 use Rattle.qn_world.proofs.RuleSteps.{rank_configured}
 
 -- the node of a well formed event is configured
@@ -33,3 +36,22 @@ report-parts s event d at who outs held count lacks times touches gives holds co
     let answers = counts ∙ ap (λ node. option_map_or (λ rank. answer_now s (node_at s rank.0 d)) node (answer_off s)) touches in
     let reasons = whys ∙ ap (λ node. option_map_or (λ rank. why_now s rank.0 (node_at s rank.0 d)) node Down) touches in
     rw (times, touches, gives, holds, answers, reasons)
+
+-- what is shown of a node is that of the definitions where each part is
+pub seen-parts : (s : Settings) (rank : ℕ) (d : World) (pending : Pending) (life : Phase) (left : ℕ) (count : Answer) (lacks : Why) (held : Bool)
+    → pending ≡ pending_of s rank d → life ≡ phase_now s (node_at s rank d) → left ≡ length (d.left rank)
+    → count ≡ answer_now s (node_at s rank d) → lacks ≡ why_now s rank (node_at s rank d) → held ≡ is_holder s d.moments rank
+    → record {
+      running = pending.running;
+      phase = life;
+      fed = pending.fed;
+      decided = pending.decided;
+      out = pending.out;
+      landed = pending.landed;
+      stop_due = pending.stop_due;
+      leftovers = left;
+      answer = count;
+      why = lacks;
+      holds = held;
+    } ≡ seen_of s rank d
+seen-parts s rank d pending life left count lacks held pendings lives lefts counts whys holds = rw (pendings, lives, lefts, counts, whys, holds)

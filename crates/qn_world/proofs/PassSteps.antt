@@ -11,24 +11,23 @@ use Rattle.qn_base.specs.declared.ids.Rank.{Rank}
 use Rattle.qn_model.specs.declared.configuration.Settings.{Settings}
 use Rattle.qn_model.specs.declared.times.Timing.{Timing}
 use Rattle.qn_model.specs.declared.entries.What.{What}
-use Rattle.qn_model.specs.declared.entries.What.TheVariants as what
 use Rattle.qn_model.specs.declared.events.Event.TheVariants as event
 use Rattle.qn_model.specs.declared.outputs.Out.{Out}
 use Rattle.qn_model.specs.Log.{now}
 use Rattle.qn_model.specs.Phases.{phase}
 use Rattle.qn_model.specs.Fitting.{answers_op}
 use Rattle.qn_model.specs.NodeOutputs.{newest_outs, outs_at, with_entry}
-use Rattle.qn_model.specs.Moments.{Boots, Passes, Running, advance_of, advanced, booted, given_out, handed, logged, node, packets, packets_of, tick_of, time}
+use Rattle.qn_model.specs.Moments.{Boots, Passes, Running, advance_of, advanced, begin_of, booted, given_out, handed, logged, node, packets, packets_of, tick_of, time}
 use Rattle.qn_model.specs.World.{World, node_at, put}
 use Rattle.qn_model.specs.Rules.{is_configured, is_on, is_well_formed, is_within_bounds, may_pass, outlives, passes, refusal}
-use Rattle.qn_model.specs.Steps.{boots, happens, step}
+use Rattle.qn_model.specs.Steps.{boots, happens, outs_after, step, touched}
 use Rattle.qn_node.specs.Node.{steps_of}
 use Rattle.qn_node.specs.Outputs.{IsNodeOutput}
 use Rattle.qn_world.specs.declared.seat.Seat.{Seat}
 use Rattle.qn_world.specs.Leftovers.{others_of}
 use Rattle.qn_world.specs.Seats.{BootedSeat, SeatFor, advanced_seat}
 use Rattle.qn_world.specs.Standing.{IsOpWithin, IsWithin, WorldFor, latest_clock, left_of}
-use Rattle.qn_world.specs.Stepping.{IsReady, SameFrame, Stepped}
+use Rattle.qn_world.specs.Stepping.{IsReady, SameFrame, Stepped, boot_event}
 use Rattle.qn_world.specs.Whole.{Whole}
 use Rattle.qn_world.proofs.EventSteps.{no_outputs, passed, put_here, seated_nothing}
 use Rattle.qn_world.proofs.HandSteps.{op_within}
@@ -39,31 +38,32 @@ use Rattle.qn_world.proofs.WorldSteps.{OneNode, with_left, with_seat}
 
 -- ---- boot
 
-boots_node : (s : Settings) (d : World) (i base : ℕ) → node_at s i (happens (Boots i base) d) ≡ booted s i (time d.moments) base (node_at s i d)
+boots_node : (s : Settings) (d : World) (i base : ℕ) (clean : Bool) → node_at s i (happens (Boots i base clean) d) ≡ booted s i (time d.moments) base clean (node_at s i d)
 unfolding node
-boots_node s d i base = ap (λ b. if b then booted s i (time d.moments) base (node_at s i d) else node_at s i d) (same_rank i)
+boots_node s d i base clean = ap (λ b. if b then booted s i (time d.moments) base clean (node_at s i d) else node_at s i d) (same_rank i)
 
 -- the begin of a boot sends nothing
-begin_sends_nothing : (s : Settings) (i t base : ℕ) (n : Running) → packets_of (newest_outs (booted s i t base n).log) ≡ []
+begin_sends_nothing : (s : Settings) (i t base : ℕ) (clean : Bool) (n : Running) → packets_of (newest_outs (booted s i t base clean n).log) ≡ []
 unfolding booted handed logged with_entry outs_at phase
-begin_sends_nothing s i t base n = refl
+begin_sends_nothing s i t base false n = refl
+begin_sends_nothing s i t base true n = refl
 
-boot_sends : (s : Settings) (d : World) (i base : ℕ) → packets s (happens (Boots i base) d).moments ≡ packets s d.moments ++ []
+boot_sends : (s : Settings) (d : World) (i base : ℕ) (clean : Bool) → packets s (happens (Boots i base clean) d).moments ≡ packets s d.moments ++ []
 unfolding packets given_out
-boot_sends s d i base =
-    ap (λ sent. packets s d.moments ++ sent) (ap (λ n. packets_of (newest_outs n.log)) (boots_node s d i base) ∙ begin_sends_nothing s i (time d.moments) base (node_at s i d))
+boot_sends s d i base clean =
+    ap (λ sent. packets s d.moments ++ sent) (ap (λ n. packets_of (newest_outs n.log)) (boots_node s d i base clean) ∙ begin_sends_nothing s i (time d.moments) base clean (node_at s i d))
 
-booted-clock : (s : Settings) (i t base : ℕ) (n : Running) → (booted s i t base n).clock ≡ base
+booted-clock : (s : Settings) (i t base : ℕ) (clean : Bool) (n : Running) → (booted s i t base clean n).clock ≡ base
 unfolding booted handed logged
-booted-clock s i t base n = refl
+booted-clock s i t base clean n = refl
 
-one_boots : (s : Settings) (d : World) (i base : ℕ) → OneNode s d (record (happens (Boots i base) d) { took = put d.took i None }) i []
+one_boots : (s : Settings) (d : World) (i base : ℕ) (clean : Bool) → OneNode s d (record (happens (Boots i base clean) d) { took = put d.took i None }) i []
 unfolding node time
-one_boots s d i base =
+one_boots s d i base clean =
     record {
       same_time = refl;
-      others = λ j apart. (ap (λ b. if b then booted s j (time d.moments) base (node_at s j d) else node_at s j d) apart, ap (λ b. if b then None else d.took j) apart);
-      sends = boot_sends s d i base;
+      others = λ j apart. (ap (λ b. if b then booted s j (time d.moments) base clean (node_at s j d) else node_at s j d) apart, ap (λ b. if b then None else d.took j) apart);
+      sends = boot_sends s d i base clean;
       same_slots = λ j. refl;
       same_mailboxes = λ j. refl;
       same_left = λ j. refl;
@@ -74,16 +74,32 @@ dropped w d i j is (inl same) =
     subst (λ k. left_of k (others_of i w.left) ≡ put d.left i [] k) same (left_of-dropped i w.left ∙ sym (put_here d.left i []))
 dropped w d i j is (inr apart) = left_of-others i j w.left apart ∙ (is.lefts j ∙ sym (ap (λ b. if b then [] else d.left j) apart))
 
-few_base : (s : Settings) (rank : Rank) (base : ℕ) → is_well_formed s (event.Boot rank base) ≡ true → base ≤ 1000000000000000
+few_base : (s : Settings) (rank : Rank) (base : ℕ) (clean : Bool) → is_well_formed s (boot_event rank base clean) ≡ true → base ≤ 1000000000000000
 unfolding is_well_formed
-few_base s rank base formed = le-true base 1000000000000000 (second_true (is_configured s rank.0) _ formed)
+few_base s rank base false formed = le-true base 1000000000000000 (second_true (is_configured s rank.0) _ formed)
+few_base s rank base true formed = le-true base 1000000000000000 (second_true (is_configured s rank.0) _ formed)
 
-pub boot_stepped : (w mid new : Whole) (rank : Rank) (base : ℕ) (seat : Seat) (outs : List Out) → IsReady w (event.Boot rank base) → rank.0 < length w.seats
-    → mid ≡ record w { left = others_of rank.0 w.left }
-    → new ≡ record mid { seats = slice_set mid.seats rank.0 seat } → BootedSeat seat mid.settings rank.0 mid.time base outs
-    → Stepped w new (event.Boot rank base) outs
+-- both events that boot a rank touch it, make its boot, and report what comes out of it
+pub boot_touches : (rank : Rank) (base : ℕ) (clean : Bool) → touched (boot_event rank base clean) ≡ Some rank
+boot_touches rank base false = refl
+boot_touches rank base true = refl
+
+boot_steps : (s : Settings) (t : Timing) (rank : Rank) (base : ℕ) (clean : Bool) (d : World)
+    → step s t (boot_event rank base clean) d ≡ boots rank.0 base clean d
 unfolding step
-boot_stepped w mid new rank base seat outs ready within e f boot =
+boot_steps s t rank base false d = refl
+boot_steps s t rank base true d = refl
+
+boot_reports : (s : Settings) (rank : Rank) (base : ℕ) (clean : Bool) (after : World)
+    → outs_after s (boot_event rank base clean) after ≡ newest_outs (node_at s rank.0 after).log
+boot_reports s rank base false after = refl
+boot_reports s rank base true after = refl
+
+pub boot_stepped : (w mid new : Whole) (rank : Rank) (base : ℕ) (clean : Bool) (seat : Seat) (outs : List Out) → IsReady w (boot_event rank base clean) → rank.0 < length w.seats
+    → mid ≡ record w { left = others_of rank.0 w.left }
+    → new ≡ record mid { seats = slice_set mid.seats rank.0 seat } → BootedSeat seat mid.settings rank.0 mid.time base clean outs
+    → Stepped w new (boot_event rank base clean) outs
+boot_stepped w mid new rank base clean seat outs ready within e f boot =
     let i = rank.0 in
     let left_frame : SameFrame w mid = record { settings = ap (λ w. w.settings) e; timing = ap (λ w. w.timing) e; steps = ap (λ w. w.steps) e; count = ap (λ w. length w.seats) e } in
     let within_mid : i < length mid.seats = subst (λ n. i < n) (sym left_frame.count) within in
@@ -91,9 +107,9 @@ boot_stepped w mid new rank base seat outs ready within e f boot =
     λ d is. subst (λ m. WorldFor m (record d { left = put d.left i [] })) (sym e)
     (with_left w d (others_of i w.left) (put d.left i []) is (λ j. dropped w d i j is (rank_cases i j))
     (All-filter (λ leftover. not (leftover.of.0 == i)) (λ leftover. IsWithin (length w.settings.nodes) leftover.op) w.left is.left_targets)) in
-    let base_few = few_base w.settings rank base ready.formed in
+    let base_few = few_base w.settings rank base clean ready.formed in
     let op_ok : IsOpWithin (length mid.settings.nodes) seat.op =
-    subst (λ op. IsOpWithin (length mid.settings.nodes) op) (sym boot.op) (op_within mid.settings what.Begin outs None boot.ranks tt) in
+    subst (λ op. IsOpWithin (length mid.settings.nodes) op) (sym boot.op) (op_within mid.settings (begin_of clean) outs None boot.ranks tt) in
     let room_ok : mid.steps ≤ steps_of seat.node = (let a = boot.room in let b = ready.few in let c = left_frame.steps in omega arith) in
     record {
       frame = record {
@@ -105,26 +121,29 @@ boot_stepped w mid new rank base seat outs ready within e f boot =
       stands = λ d is allowed.
           let d1 = record d { left = put d.left i [] } in
           let is1 = middle d is in
-          let after = boots_node mid.settings d1 i base in
-          subst (λ n. WorldFor n (boots i base d)) (seated_nothing mid i seat ∙ sym f)
-          (with_seat mid d1 (boots i base d) i seat [] is1 within_mid (one_boots mid.settings d1 i base)
+          let after = boots_node mid.settings d1 i base clean in
+          subst (λ after. WorldFor new after) (sym (boot_steps w.settings w.timing rank base clean d))
+          (subst (λ n. WorldFor n (boots i base clean d)) (seated_nothing mid i seat ∙ sym f)
+          (with_seat mid d1 (boots i base clean d) i seat [] is1 within_mid (one_boots mid.settings d1 i base clean)
           (record {
-            own = subst (λ n. SeatFor seat mid.settings i n ((boots i base d).took i)) (sym after)
-                (subst (λ took. SeatFor seat mid.settings i (booted mid.settings i (time d1.moments) base (node_at mid.settings i d1)) took) (sym (put_here d.took i None))
-                (subst (λ t. SeatFor seat mid.settings i (booted mid.settings i t base (node_at mid.settings i d1)) None) is1.times (boot.stands (node_at mid.settings i d1))));
-            clock = λ on. subst (λ n. n.clock ≤ latest_clock (time (boots i base d).moments)) (sym after)
-                (subst (λ c. c ≤ latest_clock (time (boots i base d).moments)) (sym (booted-clock mid.settings i (time d1.moments) base (node_at mid.settings i d1))) (omega arith));
+            own = subst (λ n. SeatFor seat mid.settings i n ((boots i base clean d).took i)) (sym after)
+                (subst (λ took. SeatFor seat mid.settings i (booted mid.settings i (time d1.moments) base clean (node_at mid.settings i d1)) took) (sym (put_here d.took i None))
+                (subst (λ t. SeatFor seat mid.settings i (booted mid.settings i t base clean (node_at mid.settings i d1)) None) is1.times (boot.stands (node_at mid.settings i d1))));
+            clock = λ on. subst (λ n. n.clock ≤ latest_clock (time (boots i base clean d).moments)) (sym after)
+                (subst (λ c. c ≤ latest_clock (time (boots i base clean d).moments)) (sym (booted-clock mid.settings i (time d1.moments) base clean (node_at mid.settings i d1))) (omega arith));
             receive = All-nil (λ sent. sent.to.0 < length mid.settings.nodes);
             target = op_ok;
             answer = λ entry g. absurd (let z : None ≡ Some entry = sym boot.took ∙ g in cc);
             room = room_ok;
-          }));
+          })));
       gives = λ d is allowed.
           let d1 = record d { left = put d.left i [] } in
           boot.gives (node_at mid.settings i d1)
-          ∙ (ap (λ t. newest_outs (booted mid.settings i t base (node_at mid.settings i d1)).log) (middle d is).times
-          ∙ (ap (λ n. newest_outs n.log) (sym (boots_node mid.settings d1 i base))
-          ∙ ap (λ s. newest_outs (node_at s i (boots i base d)).log) left_frame.settings));
+          ∙ (ap (λ t. newest_outs (booted mid.settings i t base clean (node_at mid.settings i d1)).log) (middle d is).times
+          ∙ (ap (λ n. newest_outs n.log) (sym (boots_node mid.settings d1 i base clean))
+          ∙ (ap (λ s. newest_outs (node_at s i (boots i base clean d)).log) left_frame.settings
+          ∙ (sym (boot_reports w.settings rank base clean (boots i base clean d))
+          ∙ ap (λ after. outs_after w.settings (boot_event rank base clean) after) (sym (boot_steps w.settings w.timing rank base clean d))))));
       ranks = λ d is allowed. subst (λ s. All (IsNodeOutput s) outs) left_frame.settings boot.ranks;
     }
 

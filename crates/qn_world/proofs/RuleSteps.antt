@@ -7,12 +7,14 @@ use Rattle.std.proofs.lemmas.Bool.Decides.{nat_tests}
 use Rattle.qn_base.specs.declared.ids.Rank.{Rank}
 use Rattle.qn_base.specs.declared.limits.TheConstants.{LONGEST_PERIOD}
 use Rattle.qn_model.specs.declared.configuration.Settings.{Settings}
+use Rattle.qn_model.specs.declared.disk.Message.{Message}
 use Rattle.qn_model.specs.declared.events.Event.{Event}
 use Rattle.qn_model.specs.declared.events.Event.TheVariants as event
 use Rattle.qn_model.specs.Log.{op_out}
 use Rattle.qn_model.specs.Moments.{advance_of, time}
 use Rattle.qn_model.specs.World.{World, node_at}
-use Rattle.qn_model.specs.Rules.{is_between, is_clock, is_configured, is_on, is_well_formed, is_within_bounds, may_be_done, may_be_stopped, may_fail, may_feed, may_land, may_pass, outlives, passes, unless, unless_running}
+use Rattle.qn_model.specs.Rules.{is_between, is_clock, is_configured, is_on, is_well_formed, is_within_bounds, may_be_done, may_be_stopped, may_fail, may_feed, may_land, may_operate, may_pass, outlives, passes, unless, unless_running}
+use Rattle.qn_model.specs.Sectors.{is_deadly}
 use Rattle.qn_model.specs.Steps.{touched}
 use Rattle.qn_world.specs.declared.seat.Seat.{Seat}
 use Rattle.qn_world.specs.Seats.{RunsFor}
@@ -118,6 +120,7 @@ configured : (s : Settings) (event : Event) (rank : Rank) → is_well_formed s e
 unfolding is_well_formed
 configured s (event.Pass dt clocks) rank formed e = absurd (cc)
 configured s (event.Boot own base) rank formed e = let z : own ≡ rank = cc in subst (λ r. is_configured s r.0 ≡ true) z (first_true _ _ formed)
+configured s (event.BootClean own base) rank formed e = let z : own ≡ rank = cc in subst (λ r. is_configured s r.0 ≡ true) z (first_true _ _ formed)
 configured s (event.Crash own) rank formed e = let z : own ≡ rank = cc in subst (λ r. is_configured s r.0 ≡ true) z formed
 configured s (event.Land own) rank formed e = let z : own ≡ rank = cc in subst (λ r. is_configured s r.0 ≡ true) z formed
 configured s (event.Done own) rank formed e = let z : own ≡ rank = cc in subst (λ r. is_configured s r.0 ≡ true) z formed
@@ -131,6 +134,7 @@ configured s (event.Stopped own) rank formed e = let z : own ≡ rank = cc in su
 configured s (event.Unstopped own) rank formed e = let z : own ≡ rank = cc in subst (λ r. is_configured s r.0 ≡ true) z formed
 configured s (event.Leave own) rank formed e = let z : own ≡ rank = cc in subst (λ r. is_configured s r.0 ≡ true) z formed
 configured s (event.Feed own) rank formed e = let z : own ≡ rank = cc in subst (λ r. is_configured s r.0 ≡ true) z formed
+configured s (event.Operator own message) rank formed e = let z : own ≡ rank = cc in subst (λ r. is_configured s r.0 ≡ true) z formed
 
 pub rank_configured : (s : Settings) (event : Event) (rank : Rank) → is_well_formed s event ≡ true → touched event ≡ Some rank → rank.0 < length s.nodes
 rank_configured s event rank formed e = lt-true rank.0 (length s.nodes) (configured s event rank formed e)
@@ -206,6 +210,14 @@ late_number s rank number formed = le-true 1 number (first_true (nat_le 1 number
 pub boot_rule : (w : Whole) (d : World) (i : ℕ) (seat : Seat) → WorldFor w d → slice_get w.seats i ≡ Some seat
     → unless (not seat.on) 2 ≡ unless (not (is_on w.settings i d)) 2
 boot_rule w d i seat is here = ap (λ on. unless (not on) 2) (is.nodes i seat here).runs
+
+-- rule 10, by the mailbox and the seat of a rank
+pub operator_rule : (w : Whole) (d : World) (i : ℕ) (sent there : Message) (seat : Seat) → WorldFor w d → i < 32
+    → ((value : Message) → slice_get w.mailboxes i ≡ Some value → there ≡ value) → slice_get w.seats i ≡ Some seat
+    → (is_deadly sent || not (is_deadly there) || not seat.on) ≡ may_operate w.settings i sent d
+operator_rule w d i sent there seat is few holds here =
+    ap (λ message. is_deadly sent || not (is_deadly message) || not seat.on) (holds (d.mailboxes i) (is.letters i few))
+    ∙ ap (λ on. is_deadly sent || not (is_deadly (d.mailboxes i)) || not on) (is.nodes i seat here).runs
 
 -- every clock that is named is that of a seat
 pub clock_within : (w : Whole) (dt : ℕ) (clocks : List (Rank × ℕ)) (place : ℕ) (clock : Rank × ℕ) → IsStanding w

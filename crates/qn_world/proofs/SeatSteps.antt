@@ -12,7 +12,7 @@ use Rattle.qn_model.specs.Phases.{phase}
 use Rattle.qn_model.specs.Holding.{answers_stop, stop_due}
 use Rattle.qn_model.specs.Fitting.{answers_op, fits, read_as}
 use Rattle.qn_model.specs.NodeOutputs.{newest_outs, with_entry}
-use Rattle.qn_model.specs.Moments.{Running, booted, handed, has_feed, is_gone, logged, never_booted, tick_of}
+use Rattle.qn_model.specs.Moments.{Running, begin_of, booted, handed, has_feed, is_gone, logged, never_booted, tick_of}
 use Rattle.qn_model.specs.declared.life.Phase.{Phase}
 use Rattle.qn_node.specs.declared.node.Node.{Node}
 use Rattle.qn_node.specs.Node.{NodeFor}
@@ -32,8 +32,10 @@ keeps_answer b w e = ap (λ b. is_answer (if b then w else what.Tick)) e
 pub answer_read : (s : Settings) (me : ℕ) (past : List Line) (w : What) → (is_answer w ≡ true → answers_op (op_out past) w ≡ true)
     → is_answer (read_as s me past w) ≡ is_answer w
 answer_read s me past what.Begin due = keeps_no_answer (fits s me past what.Begin) what.Begin refl
+answer_read s me past what.BeginClean due = keeps_no_answer (fits s me past what.BeginClean) what.BeginClean refl
 answer_read s me past (what.Header seen) due = keeps_answer (answers_op (op_out past) (what.Header seen)) (what.Header seen) (due refl)
 answer_read s me past (what.SlotRead rank seen) due = keeps_answer (answers_op (op_out past) (what.SlotRead rank seen)) (what.SlotRead rank seen) (due refl)
+answer_read s me past (what.MailChecked seen) due = keeps_answer (answers_op (op_out past) (what.MailChecked seen)) (what.MailChecked seen) (due refl)
 answer_read s me past (what.Claimed ok) due = keeps_answer (answers_op (op_out past) (what.Claimed ok)) (what.Claimed ok) (due refl)
 answer_read s me past (what.Cleared ok) due = keeps_answer (answers_op (op_out past) (what.Cleared ok)) (what.Cleared ok) (due refl)
 answer_read s me past (what.MailRead seen) due = keeps_answer (answers_op (op_out past) (what.MailRead seen)) (what.MailRead seen) (due refl)
@@ -63,8 +65,10 @@ stop_read : (s : Settings) (me : ℕ) (past : List Line) (w : What)
     → (stop_due past && not (answers_stop (read_as s me past w))) ≡ (stop_due past && not (answers_stop w))
 stop_read s me past (what.Stopped ok) = stop_if_due (stop_due past) ok
 stop_read s me past what.Begin = same_unless (stop_due past) _ _ (keeps_no_stop (fits s me past what.Begin) what.Begin refl)
+stop_read s me past what.BeginClean = same_unless (stop_due past) _ _ (keeps_no_stop (fits s me past what.BeginClean) what.BeginClean refl)
 stop_read s me past (what.Header seen) = same_unless (stop_due past) _ _ (keeps_no_stop (fits s me past (what.Header seen)) (what.Header seen) refl)
 stop_read s me past (what.SlotRead rank seen) = same_unless (stop_due past) _ _ (keeps_no_stop (fits s me past (what.SlotRead rank seen)) (what.SlotRead rank seen) refl)
+stop_read s me past (what.MailChecked seen) = same_unless (stop_due past) _ _ (keeps_no_stop (fits s me past (what.MailChecked seen)) (what.MailChecked seen) refl)
 stop_read s me past (what.Claimed ok) = same_unless (stop_due past) _ _ (keeps_no_stop (fits s me past (what.Claimed ok)) (what.Claimed ok) refl)
 stop_read s me past (what.Cleared ok) = same_unless (stop_due past) _ _ (keeps_no_stop (fits s me past (what.Cleared ok)) (what.Cleared ok) refl)
 stop_read s me past (what.MailRead seen) = same_unless (stop_due past) _ _ (keeps_no_stop (fits s me past (what.MailRead seen)) (what.MailRead seen) refl)
@@ -187,7 +191,7 @@ hand_seat old stepped new s me time tick w node took outs p gone is on due ticks
       stop_due = stop_with w outs old.stop_due;
     } = cc in e ∙ f)
 
--- a node that has just booted, before its Begin
+-- a node that has just booted, before its first entry
 abbrev pub fresh : ℕ → ℕ → Running → Running
 fresh time base node = record { on = true; boots = suc node.boots; log = []; clock = base; fed = time; decided = None }
 
@@ -213,24 +217,25 @@ fresh_seat n s me time base node stands =
       };
     }
 
-no_answer_due : (node : Running) → IsDue node what.Begin
-no_answer_due node e = absurd (cc)
+no_answer_due : (node : Running) (clean : Bool) → IsDue node (begin_of clean)
+no_answer_due node false e = absurd (cc)
+no_answer_due node true e = absurd (cc)
 
--- the seat of a node that boots, by what it becomes when it is handed Begin
-pub boot_seat : (n : Node) (new : Seat) (s : Settings) (me time base : ℕ) (node : Running) → NodeFor n s me []
-    → ((s : Settings) (me : ℕ) (node : Running) (took : Option What) → SeatFor (fresh_of n time base) s me node took → node.on ≡ true → IsDue node what.Begin
-    → SeatFor new s me (handed s me time what.Begin node) took)
-    → SeatFor new s me (booted s me time base node) None
+-- the seat of a node that boots, by what it becomes when it is handed its first entry
+pub boot_seat : (n : Node) (new : Seat) (s : Settings) (me time base : ℕ) (clean : Bool) (node : Running) → NodeFor n s me []
+    → ((s : Settings) (me : ℕ) (node : Running) (took : Option What) → SeatFor (fresh_of n time base) s me node took → node.on ≡ true → IsDue node (begin_of clean)
+    → SeatFor new s me (handed s me time (begin_of clean) node) took)
+    → SeatFor new s me (booted s me time base clean node) None
 unfolding booted
-boot_seat n new s me time base node stands hands =
-    hands s me (fresh time base node) None (fresh_seat n s me time base node stands) refl (no_answer_due (fresh time base node))
+boot_seat n new s me time base clean node stands hands =
+    hands s me (fresh time base node) None (fresh_seat n s me time base node stands) refl (no_answer_due (fresh time base node) clean)
 
-pub boot_outs_are : (n : Node) (outs : List Out) (s : Settings) (me time base : ℕ) (node : Running) → NodeFor n s me []
+pub boot_outs_are : (n : Node) (outs : List Out) (s : Settings) (me time base : ℕ) (clean : Bool) (node : Running) → NodeFor n s me []
     → ((s : Settings) (me : ℕ) (node : Running) (took : Option What) → SeatFor (fresh_of n time base) s me node took → node.on ≡ true
-    → outs ≡ newest_outs (handed s me time what.Begin node).log)
-    → outs ≡ newest_outs (booted s me time base node).log
+    → outs ≡ newest_outs (handed s me time (begin_of clean) node).log)
+    → outs ≡ newest_outs (booted s me time base clean node).log
 unfolding booted
-boot_outs_are n outs s me time base node stands gives = gives s me (fresh time base node) None (fresh_seat n s me time base node stands) refl
+boot_outs_are n outs s me time base clean node stands gives = gives s me (fresh time base node) None (fresh_seat n s me time base node stands) refl
 
 pub boot_ranks : (n : Node) (outs : List Out) (s : Settings) (me time base : ℕ) → NodeFor n s me []
     → ((s : Settings) (me : ℕ) (node : Running) (took : Option What) → SeatFor (fresh_of n time base) s me node took → node.on ≡ true → All (IsNodeOutput s) outs)

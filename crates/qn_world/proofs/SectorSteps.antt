@@ -1,5 +1,5 @@
 -- What the operations of a node take from the sectors, and write to them.
-use Rattle.std.proofs.Common.{◌≡◌, ℕ, ◌<◌, true, false, length, Some, sym, ◌∙◌, ap, subst}
+use Rattle.std.proofs.Common.{◌≡◌, ℕ, ◌<◌, true, false, [], length, Some, refl, sym, ◌∙◌, ap, subst}
 use Rattle.std.specs.Prelude.{slice_get, slice_set}
 use Rattle.std.proofs.lemmas.Option.{slice_get_within}
 use Rattle.qn_base.specs.declared.ids.Rank.{Rank}
@@ -7,6 +7,7 @@ use Rattle.qn_model.specs.declared.disk.Message.{Message}
 use Rattle.qn_model.specs.declared.disk.Message.TheVariants as message
 use Rattle.qn_model.specs.declared.disk.Slot.{Slot}
 use Rattle.qn_model.specs.declared.entries.What.TheVariants as what
+use Rattle.qn_model.specs.declared.events.Event.TheVariants as event
 use Rattle.qn_model.specs.declared.outputs.DiskOp.{DiskOp}
 use Rattle.qn_model.specs.declared.outputs.DiskOp.TheVariants as disk
 use Rattle.qn_model.specs.declared.seen.HeaderSeen.{HeaderSeen}
@@ -14,9 +15,11 @@ use Rattle.qn_model.specs.declared.seen.HeaderSeen.TheVariants as header
 use Rattle.qn_model.specs.declared.seen.MailSeen.TheVariants as mail
 use Rattle.qn_model.specs.declared.seen.SlotSeen.TheVariants as slot
 use Rattle.qn_model.specs.World.{World, put, taken}
-use Rattle.qn_model.specs.Steps.{written}
+use Rattle.qn_model.specs.Steps.{step, written}
 use Rattle.qn_world.specs.Standing.{WorldFor}
+use Rattle.qn_world.specs.Stepping.{Stepped}
 use Rattle.qn_world.specs.Whole.{Whole}
+use Rattle.qn_world.proofs.EventSteps.{no_outputs}
 use Rattle.qn_world.proofs.WorldSteps.{sector_put, with_sectors}
 
 -- what is read
@@ -36,6 +39,12 @@ pub takes_mail : (w : Whole) (d : World) (rank : ℕ) (op : DiskOp) (seen : Mess
 unfolding taken
 takes_mail w d rank op seen is e below here =
     ap (λ seen. what.MailRead (mail.Read seen)) (here (d.mailboxes rank) (is.letters rank below)) ∙ ap (λ op. taken w.settings w.timing rank op d) (sym e)
+
+pub takes_check : (w : Whole) (d : World) (rank : ℕ) (op : DiskOp) (seen : Message) → WorldFor w d → op ≡ disk.CheckMail
+    → rank < 32 → ((value : Message) → slice_get w.mailboxes rank ≡ Some value → seen ≡ value) → what.MailChecked (mail.Read seen) ≡ taken w.settings w.timing rank op d
+unfolding taken
+takes_check w d rank op seen is e below here =
+    ap (λ seen. what.MailChecked (mail.Read seen)) (here (d.mailboxes rank) (is.letters rank below)) ∙ ap (λ op. taken w.settings w.timing rank op d) (sym e)
 
 pub takes_claim : (w : Whole) (d : World) (rank : ℕ) (op : DiskOp) (number : ℕ) → op ≡ disk.WriteClaim number → what.Claimed true ≡ taken w.settings w.timing rank op d
 unfolding taken
@@ -97,3 +106,21 @@ pub writes_reset : (w new : Whole) (d : World) (rank : ℕ) (op : DiskOp) (other
     → WorldFor new (written rank op d)
 writes_reset w new d rank op other is below e made =
     subst (λ op. WorldFor new (written rank op d)) (sym e) (mailbox_put w new d other.0 message.Reset is below made)
+
+-- an operator replaces what a mailbox holds
+pub operator_stepped : (w new : Whole) (rank : Rank) (value : Message) → rank.0 < 32
+    → new ≡ record w { mailboxes = slice_set w.mailboxes rank.0 value }
+    → Stepped w new (event.Operator rank value) []
+unfolding step
+operator_stepped w new rank value below made =
+    record {
+      frame = record {
+        settings = ap (λ w. w.settings) made;
+        timing = ap (λ w. w.timing) made;
+        steps = ap (λ w. w.steps) made;
+        count = ap (λ w. length w.seats) made;
+      };
+      stands = λ d is allowed. mailbox_put w new d rank.0 value is below made;
+      gives = λ d is allowed. refl;
+      ranks = λ d is allowed. no_outputs w.settings;
+    }

@@ -16,7 +16,7 @@ use Rattle.qn_model.specs.Phases.{boot_halt, deadly_of, is_booting, is_live, mes
 use Rattle.qn_model.specs.Holding.{holds}
 use Rattle.qn_model.specs.NodeVotes.{view}
 use Rattle.qn_model.specs.Fitting.{fits, is_first, read_as}
-use Rattle.qn_model.specs.Wanted.{wanted}
+use Rattle.qn_model.specs.Wanted.{wanted_with_delay}
 use Rattle.qn_model.specs.NodeOutputs.{acts, ask_to, asks, asks_under, boot_outs, boot_step_outs, disk_outs, gives_start, gives_stop, is_asked, is_asking, is_boot_step, live_outs, mail_feeds, newest_outs, outs_at, replies, taken_in, when, with_entry}
 
 none_front : (front back : Option DiskOp) → front ≡ None → back ≡ None → option_or front back ≡ None
@@ -44,8 +44,10 @@ when_no_disk false output e = refl
 replies_no_disk : (s : Settings) (me : ℕ) (held : Bool) (log : List Line) (entry : What) → disk_of (replies s me held log entry) ≡ None
 replies_no_disk s me held log (what.Ask ask) = when_no_disk _ _ refl
 replies_no_disk s me held log what.Begin = refl
+replies_no_disk s me held log what.BeginClean = refl
 replies_no_disk s me held log (what.Header seen) = refl
 replies_no_disk s me held log (what.SlotRead rank seen) = refl
+replies_no_disk s me held log (what.MailChecked seen) = refl
 replies_no_disk s me held log (what.Claimed ok) = refl
 replies_no_disk s me held log (what.Cleared ok) = refl
 replies_no_disk s me held log (what.MailRead seen) = refl
@@ -74,8 +76,8 @@ none_if : (b : Bool) (rest : Option DiskOp) → b ≡ true → (if b then None e
 none_if b rest e = ap (λ b. if b then None else rest) e
 
 -- nothing is wanted while an operation is out
-wanted_none : (s : Settings) (me : ℕ) (log : List Line) → is_some (op_out log) ≡ true → wanted s me log ≡ None
-unfolding wanted
+wanted_none : (s : Settings) (me : ℕ) (log : List Line) → is_some (op_out log) ≡ true → wanted_with_delay s me log ≡ None
+unfolding wanted_with_delay
 wanted_none s me log e = none_if (is_some (op_out log)) _ e
 
 acts_no_disk : (s : Settings) (me : ℕ) (log : List Line) (entry : What) (fed : Bool) → is_some (op_out log) ≡ true → disk_of (acts s me log entry fed) ≡ None
@@ -85,7 +87,7 @@ acts_no_disk s me log entry fed e =
     let start = when (gives_start s me log) out.Start in
     let feed = when fed out.Feed in
     let told = replies s me (gives_start s me log || holds log) log entry in
-    no_disk (stop ++ start ++ feed ++ told ++ asks s me log) (disk_outs (wanted s me log))
+    no_disk (stop ++ start ++ feed ++ told ++ asks s me log) (disk_outs (wanted_with_delay s me log))
     (no_disk (stop ++ start ++ feed ++ told) (asks s me log)
     (no_disk (stop ++ start ++ feed) told
     (no_disk (stop ++ start) feed
@@ -99,8 +101,10 @@ acts_no_disk s me log entry fed e =
 plain_live : (s : Settings) (me : ℕ) (log : List Line) (entry : What) (fed : Bool) → is_answer entry ≡ false → is_some (op_out log) ≡ true
     → disk_of (live_outs s me log entry fed (deadly_of (message_of entry))) ≡ None
 plain_live s me log what.Begin fed plain e = acts_no_disk s me log what.Begin fed e
+plain_live s me log what.BeginClean fed plain e = acts_no_disk s me log what.BeginClean fed e
 plain_live s me log (what.Header seen) fed plain e = absurd (cc)
 plain_live s me log (what.SlotRead rank seen) fed plain e = absurd (cc)
+plain_live s me log (what.MailChecked seen) fed plain e = absurd (cc)
 plain_live s me log (what.Claimed ok) fed plain e = absurd (cc)
 plain_live s me log (what.Cleared ok) fed plain e = absurd (cc)
 plain_live s me log (what.MailRead seen) fed plain e = absurd (cc)
@@ -131,8 +135,10 @@ if_plain false w plain answers = refl
 plain_step : (s : Settings) (me : ℕ) (past : List Line) (w : What) → is_answer (read_as s me past w) ≡ false → is_some (op_out past) ≡ true
     → is_boot_step (read_as s me past w) ≡ false
 plain_step s me past what.Begin plain e = ap (λ b. is_boot_step (if b then what.Begin else what.Tick)) (first_or_none s me past e)
+plain_step s me past what.BeginClean plain e = ap (λ b. is_boot_step (if b then what.BeginClean else what.Tick)) (first_or_none s me past e)
 plain_step s me past (what.Header seen) plain e = if_plain (fits s me past (what.Header seen)) (what.Header seen) plain refl
 plain_step s me past (what.SlotRead rank seen) plain e = if_plain (fits s me past (what.SlotRead rank seen)) (what.SlotRead rank seen) plain refl
+plain_step s me past (what.MailChecked seen) plain e = if_plain (fits s me past (what.MailChecked seen)) (what.MailChecked seen) plain refl
 plain_step s me past (what.Claimed ok) plain e = if_plain (fits s me past (what.Claimed ok)) (what.Claimed ok) plain refl
 plain_step s me past (what.Cleared ok) plain e = if_plain (fits s me past (what.Cleared ok)) (what.Cleared ok) plain refl
 plain_step s me past (what.MailRead seen) plain e = plain_if (fits s me past (what.MailRead seen)) (what.MailRead seen) refl
@@ -150,11 +156,11 @@ taken_in_out : (past : List Line) (tick : ℕ) (entry : What) → is_answer entr
 unfolding op_out
 taken_in_out past tick entry plain e = ap (λ b. is_some (if b then None else op_out past)) plain ∙ e
 
-silent_by : (s : Settings) (me : ℕ) (entry : What) (booting live : Bool) (lively : List Out) → is_boot_step entry ≡ false → disk_of lively ≡ None
-    → disk_of (if booting then boot_outs s me entry else (if live then lively else [])) ≡ None
-silent_by s me entry true live lively plain e = ap (λ b. disk_of (if b then boot_step_outs me entry (boot_halt s entry) else [])) plain
-silent_by s me entry false true lively plain e = e
-silent_by s me entry false false lively plain e = refl
+silent_by : (s : Settings) (me : ℕ) (clean : Bool) (number : ℕ) (entry : What) (booting live : Bool) (lively : List Out) → is_boot_step entry ≡ false → disk_of lively ≡ None
+    → disk_of (if booting then boot_outs s me clean number entry else (if live then lively else [])) ≡ None
+silent_by s me clean number entry true live lively plain e = ap (λ b. disk_of (if b then boot_step_outs me clean number entry (boot_halt s entry) else [])) plain
+silent_by s me clean number entry false true lively plain e = e
+silent_by s me clean number entry false false lively plain e = refl
 
 -- nothing is asked of the disk at an entry that is read as no answer while an operation is out
 pub silent_while_out : (s : Settings) (me : ℕ) (past : List Line) (entry : Entry) → is_answer (read_as s me past entry.what) ≡ false → is_some (op_out past) ≡ true
@@ -162,6 +168,6 @@ pub silent_while_out : (s : Settings) (me : ℕ) (past : List Line) (entry : Ent
 unfolding with_entry outs_at
 silent_while_out s me past entry plain e =
     let w = read_as s me past entry.what in
-    silent_by s me w (is_booting (phase s past)) (is_live (phase s past)) (live_outs s me (taken_in past entry.tick w) w (mail_feeds entry.tick past w) (deadly_of (message_of w)))
+    silent_by s me _ _ w (is_booting (phase s past)) (is_live (phase s past)) (live_outs s me (taken_in past entry.tick w) w (mail_feeds entry.tick past w) (deadly_of (message_of w)))
     (plain_step s me past entry.what plain e)
     (plain_live s me (taken_in past entry.tick w) w (mail_feeds entry.tick past w) plain (taken_in_out past entry.tick w plain e))

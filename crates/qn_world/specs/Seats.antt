@@ -1,12 +1,11 @@
 -- What the seat of a node stands for.
-use Rattle.std.specs.Prelude.{◌≡◌, ◌≤◌, ◌+◌, ℕ, true, false, All, List, Option, None, if◌then◌else◌}
+use Rattle.std.specs.Prelude.{◌≡◌, ◌≤◌, ◌+◌, ℕ, Bool, true, false, All, List, Option, None, if◌then◌else◌}
 use Rattle.qn_model.specs.declared.configuration.Settings.{Settings}
 use Rattle.qn_model.specs.declared.entries.What.{What}
-use Rattle.qn_model.specs.declared.entries.What.TheVariants as what
 use Rattle.qn_model.specs.Log.{is_answer, now, op_out}
 use Rattle.qn_model.specs.Fitting.{answers_op}
 use Rattle.qn_model.specs.Holding.{stop_due}
-use Rattle.qn_model.specs.Moments.{Running, booted, handed, tick_of}
+use Rattle.qn_model.specs.Moments.{Running, begin_of, booted, handed, tick_of}
 use Rattle.qn_model.specs.declared.outputs.Out.{Out}
 use Rattle.qn_model.specs.NodeOutputs.{newest_outs}
 use Rattle.qn_node.specs.Node.{NodeFor, steps_of}
@@ -53,13 +52,13 @@ pub record HandedSeat (old new : Seat) (time : ℕ) (entry : What) (outs : List 
 abbrev pub advanced_seat : ℕ → Seat → Seat
 advanced_seat advance seat = record seat { clock = (if seat.on then seat.clock + advance else seat.clock) }
 
--- a node booted, and gave these outputs
-pub record BootedSeat (new : Seat) (s : Settings) (me : ℕ) (time base : ℕ) (outs : List Out) : Type 0 where
+-- a node booted, as a clean start or not, and gave these outputs
+pub record BootedSeat (new : Seat) (s : Settings) (me : ℕ) (time base : ℕ) (clean : Bool) (outs : List Out) : Type 0 where
   pub room : steps_of new.node + 1 ≡ 18446744073709551615
-  pub op : new.op ≡ op_with what.Begin outs None
+  pub op : new.op ≡ op_with (begin_of clean) outs None
   pub took : new.took ≡ None
-  pub stands : (node : Running) → SeatFor new s me (booted s me time base node) None
-  pub gives : (node : Running) → outs ≡ newest_outs (booted s me time base node).log
+  pub stands : (node : Running) → SeatFor new s me (booted s me time base clean node) None
+  pub gives : (node : Running) → outs ≡ newest_outs (booted s me time base clean node).log
   pub ranks : All (IsNodeOutput s) outs
 
 -- the seat of a node that never ran

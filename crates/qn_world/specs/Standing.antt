@@ -26,6 +26,7 @@ abbrev pub IsWithin : ℕ → DiskOp → Type 0
 IsWithin count (disk.ReadSlot rank) = rank.0 < count
 IsWithin count (disk.WriteReset rank) = rank.0 < count
 IsWithin count disk.ReadHeader = Unit {0}
+IsWithin count disk.CheckMail = Unit {0}
 IsWithin count (disk.WriteClaim number) = Unit {0}
 IsWithin count disk.WriteClear = Unit {0}
 IsWithin count disk.ReadMail = Unit {0}

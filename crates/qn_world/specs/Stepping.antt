@@ -1,5 +1,5 @@
 -- What a call that steps the world promises.
-use Rattle.std.specs.Prelude.{◌≡◌, ◌<◌, ◌≤◌, ◌+◌, ℕ, true, false, List, Option, Some, None, All, length}
+use Rattle.std.specs.Prelude.{◌≡◌, ◌<◌, ◌≤◌, ◌+◌, ℕ, Bool, true, false, List, Option, Some, None, All, length}
 use Rattle.qn_base.specs.declared.ids.Rank.{Rank}
 use Rattle.qn_base.specs.declared.limits.TheConstants.{LATEST_TIME}
 use Rattle.qn_model.specs.declared.entries.What.{What}
@@ -60,7 +60,7 @@ pub record Applied (old new : Whole) (event : Event) (outs : List Out) : Type 0 
   pub gives : (d : World) → WorldFor old d → outs ≡ outs_after old.settings event (step old.settings old.timing event d)
   pub ranks : All (IsNodeOutput old.settings) outs
 
--- an event that was refused: by this rule, or for want of memory
+-- an event that was refused: by this rule, or since there is no memory for it
 abbrev pub RefusedBy : Option ℕ → Refused → Type 0
 RefusedBy rule (refused.NotAllowed number) = rule ≡ Some number.0
 RefusedBy rule refused.NoMemory = rule ≡ None
@@ -86,6 +86,11 @@ pub record Unhanded (old new : Whole) (rank : ℕ) (entry : What) : Type 0 where
   pub cause : (d : World) → WorldFor old d → (node_at old.settings rank d).on ≡ true
       → sends_between old.settings d (happens (Adds rank entry) d) ≡ true
 
+-- the event that boots a rank, as a clean start or not
+abbrev pub boot_event : Rank → ℕ → Bool → Event
+boot_event rank base false = event.Boot rank base
+boot_event rank base true = event.BootClean rank base
+
 -- an event that hands a rank this entry, whatever came before it
 abbrev pub Hands : Event → Rank → What → Type 0
 Hands (event.View rank view) i entry = (rank ≡ i) × (entry ≡ what.View view)
@@ -96,6 +101,7 @@ Hands (event.Unstopped rank) i entry = (rank ≡ i) × (entry ≡ what.Stopped f
 Hands (event.Leave rank) i entry = (rank ≡ i) × (entry ≡ what.Leave)
 Hands (event.Pass dt clocks) i entry = ⊥
 Hands (event.Boot rank base) i entry = ⊥
+Hands (event.BootClean rank base) i entry = ⊥
 Hands (event.Crash rank) i entry = ⊥
 Hands (event.Land rank) i entry = ⊥
 Hands (event.Done rank) i entry = ⊥
@@ -103,3 +109,4 @@ Hands (event.Fail rank) i entry = ⊥
 Hands (event.Late rank number) i entry = ⊥
 Hands (event.Deliver rank number) i entry = ⊥
 Hands (event.Feed rank) i entry = ⊥
+Hands (event.Operator rank message) i entry = ⊥

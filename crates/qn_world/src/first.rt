@@ -1,3 +1,4 @@
+//! The first world.
 ghost use Rattle.std.specs.Prelude.{◌≡◌, ◌≤◌, ℕ, Some, IfOk, length, slice_get};
 ghost use Rattle.qn_world.specs.declared.seat.Seat.{Seat};
 ghost use Rattle.qn_world.specs.Seats.{IsFresh};

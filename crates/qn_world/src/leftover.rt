@@ -1,3 +1,4 @@
+//! Writes that were given up before they landed.
 ghost use Rattle.std.specs.Prelude.{◌≡◌, ◌≤◌};
 ghost use Rattle.qn_world.specs.Leftovers.{others_of, place_in};
 

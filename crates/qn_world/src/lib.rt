@@ -1,11 +1,11 @@
-// The world of a cluster: its nodes in true time, the image that they share, the packets that were sent,
-// and the nine rules that an event has to obey.
-//
-// Promises: a `World` stands for a world of the definitions (`specs/Standing`). `allowed` is exactly the
-// rules; `apply` answers the rule that refuses an event, or makes exactly the step of the definitions and
-// reports the new world. After a refusal the world is as it was. Memory is wanted only where a step appends
-// a packet or a leftover: nodes are kept in fixed memory. Every world was reached by well formed events,
-// each allowed in its turn, and so at most one node holds.
+//! The world of a cluster: its nodes in true time, the image that they share, the packets that were sent,
+//! and the ten rules that an event has to obey.
+//!
+//! Promises: a `World` stands for a world of the definitions (`specs/Standing`). `allowed` is exactly the
+//! rules; `apply` answers the rule that refuses an event, or makes exactly the step of the definitions and
+//! reports the new world. After a refusal the world is as it was. It runs out of memory only where a step appends
+//! a packet or a leftover: nodes are kept in fixed memory. Every world was reached by well formed events,
+//! each allowed in its turn, and so at most one node holds.
 #![tactic(auto)]
 
 mod clocks;
@@ -13,6 +13,7 @@ mod first;
 mod leftover;
 mod looking;
 mod outputs;
+mod pending;
 mod rules;
 mod seat;
 mod state;
@@ -20,4 +21,5 @@ mod steps;
 mod world;
 
 pub use looking::{NodeSeen, blank_report};
+pub use pending::Pending;
 pub use world::World;

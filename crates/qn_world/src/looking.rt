@@ -1,3 +1,4 @@
+//! What a world shows of its nodes, and the reports that it gives.
 ghost use Rattle.std.specs.Prelude.{◌≡◌, ◌<◌, ◌≤◌, ℕ, Some, false, length, slice_get};
 ghost use Rattle.qn_model.specs.declared.configuration.Settings.{Settings};
 ghost use Rattle.qn_model.specs.Steps.{answer_off, holders, touched};
@@ -35,7 +36,7 @@ pub struct NodeSeen {
     pub leftovers: u64,
     /// The count of votes at the node's present tick.
     pub answer: Answer,
-    /// The first condition that a start lacks at the node's present tick.
+    /// The first condition that blocks a start at the node's present tick.
     pub why: Why,
     pub holds: bool,
 }
@@ -49,7 +50,7 @@ impl Seat {
     ghost use Rattle.qn_model.specs.Steps.{answer_now, why_now};
     ghost use Rattle.qn_model.specs.World.{World, node_at};
     ghost use Rattle.qn_world.specs.Seats.{SeatFor};
-    ghost use Rattle.qn_world.specs.Seen.{seen_of};
+    ghost use Rattle.qn_world.specs.Seen.{phase_now, seen_of};
 
     /// Whether the node is running and holds the resource.
     pub(crate) fn holds(&self) -> bool
@@ -73,14 +74,16 @@ impl Seat {
         }
     }
 
-    /// The first condition that a start lacks at the node's present tick; Down where it is off.
-    pub(crate) fn why(&self) -> Why
+    /// The first condition that blocks a start at the node's present tick, where the count of votes is known; Down where
+    /// the node is off.
+    pub(crate) fn why(&self, count: Answer) -> Why
         ensures { (s : Settings) (me : ℕ) (node : Running) (took : Option What)
             → SeatFor self.now s me node took
+            → count ≡ answer_now s node
             → result ≡ why_now s me node }
     {
         if self.on {
-            self.node.why(self.tick())
+            self.node.why_with(self.tick(), count)
         } else {
             Why::Down
         }
@@ -93,76 +96,46 @@ impl Seat {
             → leftovers ≡ length (d.left me)
             → result ≡ seen_of settings.now me d }
     {
-        if self.on {
-            self.seen_running(leftovers)
-        } else {
-            seen_off(answer_off(settings), leftovers)
-        }
-    }
-
-    /// The same, where the node is running.
-    fn seen_running(&self, leftovers: u64) -> NodeSeen
-        ensures { (s : Settings) (me : ℕ) (d : World)
-            → SeatFor self.now s me (node_at s me d) (d.took me)
-            → (node_at s me d).on ≡ true
-            → leftovers ≡ length (d.left me)
-            → result ≡ seen_of s me d }
-    {
+        let pending = self.pending();
+        let count = self.answer(settings);
         NodeSeen {
-            running: true,
-            phase: self.node.phase(),
-            fed: self.fed,
-            decided: self.decided,
-            out: self.op.is_some(),
-            landed: self.has_landed(),
-            stop_due: self.stop_due,
+            running: pending.running,
+            phase: self.phase(),
+            fed: pending.fed,
+            decided: pending.decided,
+            out: pending.out,
+            landed: pending.landed,
+            stop_due: pending.stop_due,
             leftovers,
-            answer: self.node.answer(self.tick()),
-            why: self.node.why(self.tick()),
-            holds: self.node.holds(),
+            answer: count,
+            why: self.why(count),
+            holds: self.holds(),
         }
     }
 
-    /// Whether an operation is out and has landed.
-    fn has_landed(&self) -> bool
-        ensures { result ≡ (is_some self.now.op && is_some self.now.took) }
+    /// The phase of the node; Gone where it is off.
+    fn phase(&self) -> Phase
+        ensures { (s : Settings) (me : ℕ) (node : Running) (took : Option What)
+            → SeatFor self.now s me node took
+            → result ≡ phase_now s node }
     {
-        self.op.is_some() && self.took.is_some()
-    }
-}
-
-/// What is shown of a node that is off.
-fn seen_off(answer: Answer, leftovers: u64) -> NodeSeen
-    ensures { (s : Settings) (me : ℕ) (d : World)
-        → answer ≡ answer_off s
-        → (node_at s me d).on ≡ false
-        → leftovers ≡ length (d.left me)
-        → result ≡ seen_of s me d }
-{
-    NodeSeen {
-        running: false,
-        phase: Phase::Gone,
-        fed: 0,
-        decided: None,
-        out: false,
-        landed: false,
-        stop_due: false,
-        leftovers,
-        answer,
-        why: Why::Down,
-        holds: false,
+        if self.on {
+            self.node.phase()
+        } else {
+            Phase::Gone
+        }
     }
 }
 
 impl State {
     ghost use Rattle.std.specs.Prelude.{◌≡◌, ◌<◌, ◌≤◌, ℕ, IfSome, IsTrue, length, slice_get, true};
-    ghost use Rattle.std.specs.Option.{option_map, option_map_or};
+    ghost use Rattle.std.specs.Option.{option_map};
     ghost use Rattle.qn_base.specs.Members.{is_member};
     ghost use Rattle.qn_model.specs.Moments.{packets};
     ghost use Rattle.qn_model.specs.Rules.{is_well_formed};
-    ghost use Rattle.qn_model.specs.Steps.{answer_now, answer_off, holders, outs_after, report, why_now};
-    ghost use Rattle.qn_model.specs.World.{World, node_at};
-    ghost use Rattle.qn_world.specs.Seen.{IsConfigured, seen_of};
+    ghost use Rattle.qn_model.specs.Steps.{holders, outs_after, report};
+    ghost use Rattle.qn_model.specs.World.{World};
+    ghost use Rattle.qn_world.specs.Seen.{IsConfigured, answer_shown, seen_of, why_shown};
     ghost use Rattle.qn_world.specs.Standing.{IsReached, IsStanding, WorldFor};
 
     /// The nodes that hold the resource.
@@ -220,7 +193,7 @@ impl State {
         into.touched = touched;
         into.holders = self.holders();
         into.answer = self.answer_of(touched);
-        into.why = self.why_of(touched);
+        into.why = self.why_of(touched, into.answer);
     }
 
     /// The count of votes of a node at its present tick; that of a node that is off where there is none.
@@ -229,7 +202,7 @@ impl State {
         requires configured { IsConfigured self.now.settings node }
         ensures { (d : World)
             → WorldFor self.now d
-            → result ≡ option_map_or (λ rank. answer_now self.now.settings (node_at self.now.settings rank.0 d)) node (answer_off self.now.settings) }
+            → result ≡ answer_shown self.now.settings node d }
     {
         match node {
             Some(i) => self.seat(i).answer(&self.settings),
@@ -237,16 +210,18 @@ impl State {
         }
     }
 
-    /// The first condition that a node lacks at its present tick; Down where there is none.
-    fn why_of(&self, node: Option<Rank>) -> Why
+    /// The first condition that blocks a start at a node's present tick, where its count of votes is known; Down where there
+    /// is none.
+    fn why_of(&self, node: Option<Rank>, count: Answer) -> Why
         requires standing { IsStanding self.now }
         requires configured { IsConfigured self.now.settings node }
         ensures { (d : World)
             → WorldFor self.now d
-            → result ≡ option_map_or (λ rank. why_now self.now.settings rank.0 (node_at self.now.settings rank.0 d)) node Why.Down }
+            → count ≡ answer_shown self.now.settings node d
+            → result ≡ why_shown self.now.settings node d }
     {
         match node {
-            Some(i) => self.seat(i).why(),
+            Some(i) => self.seat(i).why(count),
             None => Why::Down,
         }
     }
@@ -279,6 +254,7 @@ pub(crate) fn touched(event: &Event) -> Option<Rank>
     match event {
         Event::Pass { .. } => None,
         Event::Boot(rank, _)
+        | Event::BootClean(rank, _)
         | Event::Crash(rank)
         | Event::Land(rank)
         | Event::Done(rank)
@@ -291,7 +267,8 @@ pub(crate) fn touched(event: &Event) -> Option<Rank>
         | Event::Stopped(rank)
         | Event::Unstopped(rank)
         | Event::Leave(rank)
-        | Event::Feed(rank) => Some(*rank),
+        | Event::Feed(rank)
+        | Event::Operator(rank, _) => Some(*rank),
     }
 }
 

@@ -1,3 +1,4 @@
+//! What the outputs of a node are to the world: packets that are sent, and its end.
 ghost use Rattle.std.specs.Prelude.{◌≡◌, ◌≤◌, ◌<◌, ◌+◌, ◌++◌, ◌↔◌, [], IsFalse, length, option_to_list, vec_capacity, vec_len};
 ghost use Rattle.qn_model.specs.Moments.{is_gone, packets_of};
 ghost use Rattle.qn_world.specs.Outputs.{packet_in};

@@ -1,11 +1,13 @@
-ghost use Rattle.std.specs.Prelude.{◌≡◌, ◌<◌, ◌≤◌, ℕ, None, Some, nat_le, is_some, not, ◌&&◌};
+//! The nine rules that an event has to obey.
+ghost use Rattle.std.specs.Prelude.{◌≡◌, ◌<◌, ◌≤◌, ℕ, None, Some, nat_le, is_some, not, ◌&&◌, ◌||◌};
 ghost use Rattle.qn_model.specs.Rules.{is_within_bounds, outlives, unless};
+ghost use Rattle.qn_model.specs.Sectors.{is_deadly};
 
 use crate::clocks::advance_of;
 use crate::seat::Seat;
 use crate::state::State;
 use qn_base::{Rank, View};
-use qn_model::{Clocks, Event, Rule};
+use qn_model::{Clocks, Event, Message, Rule};
 
 /// The rule of that number refuses unless its test holds.
 fn unless(holds: bool, rule: u8) -> Option<u8>
@@ -20,6 +22,13 @@ fn is_within_bounds(dt: u64, advance: u64) -> bool
     ensures { result ≡ is_within_bounds dt advance }
 {
     99 * dt <= advance && advance <= 101 * dt
+}
+
+/// Whether an operator may write a message over the one that is there, to a node that runs or is off.
+fn may_operate(message: Message, there: Message, on: bool) -> bool
+    ensures { result ≡ (is_deadly message || not (is_deadly there) || not on) }
+{
+    message.is_deadly() || !there.is_deadly() || !on
 }
 
 impl Seat {
@@ -78,7 +87,7 @@ impl State {
     ghost use Rattle.std.specs.Option.{option_map_or, option_or};
     ghost use Rattle.qn_base.specs.declared.limits.TheConstants.{LATEST_TIME, LONGEST_PERIOD};
     ghost use Rattle.qn_base.specs.Members.{is_member};
-    ghost use Rattle.qn_model.specs.Rules.{is_on, is_well_formed, may_be_done, may_be_late, may_be_stopped, may_deliver, may_fail, may_feed, may_land, may_pass, refusal, unless, unless_running};
+    ghost use Rattle.qn_model.specs.Rules.{is_on, is_well_formed, may_be_done, may_be_late, may_be_stopped, may_deliver, may_fail, may_feed, may_land, may_operate, may_pass, refusal, unless, unless_running};
     ghost use Rattle.std.specs.List.{list_all, range_with_len};
     ghost use Rattle.qn_base.specs.declared.ids.Rank.{Rank};
     ghost use Rattle.qn_model.specs.World.{World};
@@ -111,6 +120,7 @@ impl State {
         match event {
             Event::Pass { dt, clocks } => self.refuses_pass(*dt, clocks),
             Event::Boot(i, _) => self.refuses_boot(*i),
+            Event::BootClean(i, _) => self.refuses_boot(*i),
             Event::Crash(i) => self.refuses_off(*i),
             Event::Device(i, _) => self.refuses_off(*i),
             Event::Tick(i) => self.refuses_off(*i),
@@ -124,6 +134,7 @@ impl State {
             Event::View(i, view) => self.refuses_view(*i, *view),
             Event::Deliver(i, number) => self.refuses_deliver(*i, *number),
             Event::Feed(i) => self.refuses_feed(*i),
+            Event::Operator(i, message) => self.refuses_operator(*i, *message),
         }
     }
 
@@ -286,5 +297,14 @@ impl State {
             i,
             unless(self.seat(i).may_feed(self.time, self.timing.feed_delay), 9),
         )
+    }
+
+    /// Rule 10: the message is deadly, or the mailbox holds no deadly one, or the node is off.
+    fn refuses_operator(&self, i: Rank, message: Message) -> Option<u8>
+        requires within { i.0 < length self.now.seats }
+        requires few { i.0 < 32 }
+        ensures { (d : World) → WorldFor self.now d → result ≡ unless (may_operate self.now.settings i.0 message d) 10 }
+    {
+        unless(may_operate(message, self.mailbox(i), self.seat(i).on), 10)
     }
 }

@@ -1,3 +1,4 @@
+//! One configured node of the world, running or off.
 ghost use Rattle.std.specs.Prelude.{◌≡◌, ◌<◌, ◌≤◌, ◌+◌, ◌++◌, vec_capacity, vec_len};
 ghost use Rattle.qn_model.specs.Moments.{packets_of};
 ghost use Rattle.qn_node.specs.Node.{steps_of};
@@ -58,17 +59,18 @@ impl Seat {
         self.clock / 100
     }
 
-    /// The node boots: a new history, which begins with Begin.
+    /// The node boots: a new history, which begins with Begin, or with BeginClean where it is a clean start.
     pub(crate) fn boot(
         &mut self,
         settings: &Settings,
         me: Rank,
         time: u64,
         base: u64,
+        clean: bool,
         outs: &mut Outs,
     )
         requires { me.0 < length settings.now.nodes }
-        ensures { BootedSeat self.new settings.now me.0 time base outs.new }
+        ensures { BootedSeat self.new settings.now me.0 time base clean outs.new }
     {
         *self = Seat {
             on: true,
@@ -80,7 +82,7 @@ impl Seat {
             took: None,
             stop_due: false,
         };
-        self.hand(time, What::Begin, outs);
+        self.hand(time, What::begin(clean), outs);
     }
 
     /// The running node is handed an entry at the present tick of its clock.

@@ -1,3 +1,4 @@
+//! What a world keeps, and the small changes of it.
 use crate::clocks::advance_all;
 use crate::leftover::{Leftover, drop_left, place_of};
 use crate::outputs::{MOST_OUTPUTS, sends};
@@ -212,7 +213,7 @@ impl State {
         self.slots[usize::from(i.0)]
     }
 
-    fn mailbox(&self, i: Rank) -> Message
+    pub(crate) fn mailbox(&self, i: Rank) -> Message
         requires { i.0 < 32 }
         ensures { (message : Message) → slice_get self.now.mailboxes i.0 ≡ Some message → result ≡ message }
     {
@@ -309,15 +310,15 @@ impl State {
         seat.hand(time, what, outs);
     }
 
-    /// The seat of a node that is off boots.
-    pub(crate) fn boot_seat(&mut self, i: Rank, base: u64, outs: &mut Outs)
+    /// The seat of a node that is off boots, as a clean start or not.
+    pub(crate) fn boot_seat(&mut self, i: Rank, base: u64, clean: bool, outs: &mut Outs)
         requires within { i.0 < length self.old.seats }
         requires configured { i.0 < length self.old.settings.nodes }
-        ensures { (new : Seat) × (self.new ≡ record self.old { seats = slice_set self.old.seats i.0 new }) × BootedSeat new self.old.settings i.0 self.old.time base outs.new }
+        ensures { (new : Seat) × (self.new ≡ record self.old { seats = slice_set self.old.seats i.0 new }) × BootedSeat new self.old.settings i.0 self.old.time base clean outs.new }
     {
         let time = self.time;
         let seat = &mut self.seats[usize::from(i.0)];
-        seat.boot(&self.settings, i, time, base, outs);
+        seat.boot(&self.settings, i, time, base, clean, outs);
     }
 
     /// Each running node's clock advances.
@@ -353,6 +354,7 @@ impl State {
             DiskOp::WriteClaim(_) => What::Claimed(true),
             DiskOp::WriteClear => What::Cleared(true),
             DiskOp::ReadMail => What::MailRead(MailSeen::Read(self.mailbox(i))),
+            DiskOp::CheckMail => What::MailChecked(MailSeen::Read(self.mailbox(i))),
             DiskOp::WriteReset(other) => What::MailWritten(other, true),
             DiskOp::WriteClose(_) => What::Closed(true),
         }
@@ -383,7 +385,7 @@ impl State {
             ),
             DiskOp::WriteClear => self.set_mailbox(i, Message::Empty),
             DiskOp::WriteReset(other) => self.set_mailbox(other, Message::Reset),
-            DiskOp::ReadHeader | DiskOp::ReadSlot(_) | DiskOp::ReadMail => {}
+            DiskOp::ReadHeader | DiskOp::ReadSlot(_) | DiskOp::CheckMail | DiskOp::ReadMail => {}
         }
     }
 }

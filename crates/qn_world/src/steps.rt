@@ -1,3 +1,4 @@
+//! The step of each event.
 ghost use Rattle.std.specs.Prelude.{◌≡◌};
 ghost use Rattle.qn_model.specs.World.{failed};
 ghost use Rattle.qn_model.specs.Steps.{entry_of};
@@ -6,7 +7,7 @@ use crate::clocks::advance_all;
 use crate::state::State;
 use qn_base::{NoMemory, Rank};
 use qn_model::{
-    Clocks, DiskOp, Event, HeaderSeen, MailSeen, Outs, Packet, Refused, SlotSeen, What,
+    Clocks, DiskOp, Event, HeaderSeen, MailSeen, Message, Outs, Packet, Refused, SlotSeen, What,
 };
 
 /// The entry of an operation that failed.
@@ -19,6 +20,7 @@ fn failed(op: DiskOp) -> What
         DiskOp::ReadSlot(other) => What::SlotRead(other, SlotSeen::Failed),
         DiskOp::WriteClaim(_) => What::Claimed(false),
         DiskOp::WriteClear => What::Cleared(false),
+        DiskOp::CheckMail => What::MailChecked(MailSeen::Failed),
         DiskOp::ReadMail => What::MailRead(MailSeen::Failed),
         DiskOp::WriteReset(other) => What::MailWritten(other, false),
         DiskOp::WriteClose(_) => What::Closed(false),
@@ -40,7 +42,7 @@ fn entry_of(packet: Packet) -> What
 impl State {
     ghost use Rattle.std.specs.Prelude.{◌≡◌, ◌≤◌, ◌<◌, [], true, IfErr, OnOk, OnErr, length};
     ghost use Rattle.qn_base.specs.declared.limits.TheConstants.{LATEST_TIME};
-    ghost use Rattle.qn_world.specs.Stepping.{Applied, Hands, IsReady, OutOfMemory, Refuses, Stepped};
+    ghost use Rattle.qn_world.specs.Stepping.{Applied, Hands, IsReady, OutOfMemory, Refuses, Stepped, boot_event};
     ghost use Rattle.qn_model.specs.Rules.{is_well_formed};
     ghost use Rattle.qn_world.specs.Standing.{IsStanding};
 
@@ -78,7 +80,11 @@ impl State {
                 Ok(())
             }
             Event::Boot(i, base) => {
-                self.boot(*i, *base, outs);
+                self.boot(*i, *base, false, outs);
+                Ok(())
+            }
+            Event::BootClean(i, base) => {
+                self.boot(*i, *base, true, outs);
                 Ok(())
             }
             Event::Crash(i) => self.crash(*i),
@@ -103,6 +109,10 @@ impl State {
                 self.feed(*i);
                 Ok(())
             }
+            Event::Operator(i, message) => {
+                self.operate(*i, *message);
+                Ok(())
+            }
         }
     }
 
@@ -115,13 +125,13 @@ impl State {
         self.add_time(dt);
     }
 
-    /// A node boots; its leftovers are dropped.
-    fn boot(&mut self, i: Rank, base: u64, outs: &mut Outs)
-        requires { IsReady self.old (Event.Boot i base) }
-        ensures { Stepped self.old self.new (Event.Boot i base) outs.new }
+    /// A node boots, as a clean start or not; its leftovers are dropped.
+    fn boot(&mut self, i: Rank, base: u64, clean: bool, outs: &mut Outs)
+        requires { IsReady self.old (boot_event i base clean) }
+        ensures { Stepped self.old self.new (boot_event i base clean) outs.new }
     {
         self.drop_left(i);
-        self.boot_seat(i, base, outs);
+        self.boot_seat(i, base, clean, outs);
     }
 
     /// A node is off at once.
@@ -228,5 +238,13 @@ impl State {
         ensures { Stepped self.old self.new (Event.Feed i) [] }
     {
         self.take_feed(i);
+    }
+
+    /// An operator writes a message to the mailbox of a node.
+    fn operate(&mut self, i: Rank, message: Message)
+        requires { IsReady self.old (Event.Operator i message) }
+        ensures { Stepped self.old self.new (Event.Operator i message) [] }
+    {
+        self.set_mailbox(i, message);
     }
 }

@@ -1,4 +1,6 @@
+//! A world and its public calls.
 use crate::looking::{NodeSeen, blank_report};
+use crate::pending::Pending;
 use crate::state::State;
 use qn_base::{Mask, NoMemory, Rank};
 use qn_model::{Event, Refused, Report, Rule, Settings, Timing};
@@ -7,7 +9,7 @@ use std::alloc::Global;
 use std::marker::Model;
 
 /// A cluster in true time, with its nodes, the image that they share, and the packets that were sent. It
-/// changes by events, each of which one of nine rules may refuse; `apply` takes its memory from the
+/// changes by events, each of which one of ten rules may refuse; `apply` takes its memory from the
 /// allocator that `new` was given.
 #[derive(Drop)]
 pub struct World {
@@ -39,6 +41,7 @@ impl World {
     ghost use Rattle.qn_model.specs.Steps.{holders, report, step};
     ghost use Rattle.qn_node.specs.Outputs.{IsNodeOutput};
     ghost use Rattle.qn_world.specs.Memory.{needs_memory};
+    ghost use Rattle.qn_world.specs.Pending.{pending_of};
     ghost use Rattle.qn_world.specs.Seen.{seen_of};
     ghost use Rattle.qn_world.specs.Standing.{WorldFor};
     ghost use Rattle.qn_world.specs.Stepping.{RefusedBy};
@@ -68,8 +71,8 @@ impl World {
         self.state.allowed(event)
     }
 
-    /// The step of an event, and what it came to. An event that is not allowed is refused first; memory is
-    /// wanted only where the step appends a packet or a leftover. After a refusal the world is as it was.
+    /// The step of an event, and what it came to. An event that is not allowed is refused first; it
+    /// runs out of memory only where the step appends a packet or a leftover. After a refusal the world is as it was.
     pub fn apply(&mut self, event: &Event) -> Result<Report, Refused>
         requires formed { is_well_formed self.old.settings event.now ≡ true }
         requires early { self.old.time ≤ LATEST_TIME }
@@ -82,7 +85,7 @@ impl World {
         ensures allowed { OnOk result ((d : Cluster) → WorldFor self.old d → refusal self.old.settings self.old.timing event.now d ≡ None) }
         ensures steps { OnOk result (self.new.steps + 1 ≡ self.old.steps) }
 
-        // An event is refused by the first rule that refuses it, or for want of memory.
+        // An event is refused by the first rule that refuses it, or since there is no memory for it.
         ensures refused { IfErr result (λ r. (d : Cluster) → WorldFor self.old d → RefusedBy (refusal self.old.settings self.old.timing event.now d) r) }
         ensures memory { result ≡ Err Refused.NoMemory → (d : Cluster) → WorldFor self.old d → needs_memory self.old.settings self.old.timing event.now d ≡ true }
         ensures err { OnErr result (self.new ≡ self.old) }
@@ -118,7 +121,7 @@ impl World {
             → refusal self.old.settings self.old.timing event.now d ≡ None) }
         ensures steps { OnOk result (self.new.steps + 1 ≡ self.old.steps) }
 
-        // An event is refused by the first rule that refuses it, or for want of memory.
+        // An event is refused by the first rule that refuses it, or since there is no memory for it.
         ensures refused { IfErr result (λ r. (d : Cluster)
             → WorldFor self.old d
             → RefusedBy (refusal self.old.settings self.old.timing event.now d) r) }
@@ -189,5 +192,13 @@ impl World {
         ensures { (d : Cluster) → WorldFor self.now d → result ≡ seen_of self.now.settings i.0 d }
     {
         self.state.seen(i)
+    }
+
+    /// What is pending at the node of a rank: what `seen` shows of it that needs no count of votes.
+    pub fn pending(&self, i: Rank) -> Pending
+        requires { i.0 < length self.now.settings.nodes }
+        ensures { (d : Cluster) → WorldFor self.now d → result ≡ pending_of self.now.settings i.0 d }
+    {
+        self.state.pending(i)
     }
 }

@@ -1,8 +1,8 @@
-// The program `quorumd`: it makes the words, standard input, standard output and the outside of a node, calls
-// `top` on them and ends with its status. Everything that it promises stands on `top`.
-//
-// Before `top` it ends with status 2 for a word that is no UTF-8, and with status 11 where memory is wanted
-// for the words and not there; it then writes nothing.
+//! The program `quorumd`: it makes the words, standard input, standard output and the outside of a node, calls
+//! `top` on them and ends with its status. Everything that it promises stands on `top`.
+//!
+//! Before `top` it ends with status 2 for a word that is no UTF-8, and with status 11 where there
+//! is no memory for the words; it then writes nothing.
 #![tactic(auto)]
 
 use qn_io::{RealEnv, StdSink, StdSource};
@@ -15,7 +15,7 @@ use std::rt::Env;
 /// The status for words that are no command.
 const USAGE: u8 = 2;
 
-/// The status where memory was wanted and not there.
+/// The status of a program that is out of memory.
 const NO_MEMORY: u8 = 11;
 
 fn main(rt: HostRuntime) -> ExitCode {
@@ -33,7 +33,7 @@ fn main(rt: HostRuntime) -> ExitCode {
     ExitCode::from(status)
 }
 
-/// The words behind the program's name, or the status to end with.
+/// The words after the program's name, or the status to end with.
 fn words(rt: &(impl Env + AllocGlobal)) -> Result<Vec<String>, ExitCode> {
     let mut all = env::args(rt).map_err(|error| match error.kind() {
         ErrorKind::InvalidData => ExitCode::from(USAGE),

@@ -1,4 +1,5 @@
-ghost use Rattle.std.specs.Prelude.{◌≡◌, ◌≤◌, ◌<◌, ◌+◌, ◌∷◌, ◌++◌, ℕ, List, None, Some, length, true, false, ◌&&◌, ◌||◌, [], not, if◌then◌else◌};
+//! The outputs of a node that takes part, in the order of the definition.
+ghost use Rattle.std.specs.Prelude.{◌≡◌, ◌≤◌, ◌<◌, ◌+◌, ◌∷◌, ◌++◌, ℕ, List, None, Some, length, nat_le, true, false, ◌&&◌, ◌||◌, [], not, if◌then◌else◌};
 ghost use Rattle.std.specs.Option.{option_map, option_map_or, option_or};
 ghost use Rattle.qn_base.specs.Members.{is_member};
 ghost use Rattle.qn_model.specs.declared.configuration.Settings.{Settings};
@@ -7,18 +8,21 @@ ghost use Rattle.qn_model.specs.Log.{Line, claim_of, disk_of, now, times_of};
 ghost use Rattle.qn_fence.specs.Fence.{FenceFor, IsOutside, is_boot_end};
 ghost use Rattle.qn_watch.specs.Watch.{WatchFor};
 ghost use Rattle.qn_model.specs.NodeOutputs.{acts, ask_to, asks, gives_start, gives_stop, is_asked, is_asking, replies, taken_in};
-ghost use Rattle.qn_model.specs.NodeVotes.{answer as answer_of, quorate, released as is_released, view};
+ghost use Rattle.qn_model.specs.NodeVotes.{answer_with_tie, quorate_with_tie, released as is_released, view, votes};
 ghost use Rattle.qn_model.specs.Phases.{phase};
 ghost use Rattle.qn_model.specs.Unmet.{chosen, is_chosen, is_clear, lacks_of_others, unmet};
-ghost use Rattle.qn_model.specs.Wanted.{asks_mail, may_fence, wanted};
+ghost use Rattle.qn_model.specs.Votes.{view_tick};
+ghost use Rattle.qn_model.specs.Wanted.{asks_mail, fence_delay, fencing_op_with_delay, may_fence, wanted_with_delay};
 ghost use Rattle.qn_heard.specs.Heard.{HeardBefore, HeardFor, installs_of};
-ghost use Rattle.qn_node.specs.Live.{LiveFor, LiveTook, lacks, live_phase, with_outs};
+ghost use Rattle.qn_node.specs.Live.{LiveFor, LiveTook, lacks, live_phase, must_wait, with_outs};
 ghost use Rattle.qn_node.specs.Resource.{after_outs, is_held};
+ghost use Rattle.qn_node.specs.Tally.{TallyFor};
 
 use super::Live;
 use crate::laws::law_outside;
 use crate::outputs::{push_if, push_op};
 use crate::own::Own;
+use crate::tally::Tally;
 use qn_base::{Mask, Rank};
 use qn_fence::Want;
 use qn_model::{Answer, DiskOp, Out, Outs, Packet, What, Why};
@@ -26,35 +30,36 @@ use qn_watch::Watch;
 
 impl Live {
     /// Gives the outputs of an entry, as it was read, that the node has taken in at this tick: Stop, Start,
-    /// Feed where `feeds` says so, a Tell, Asks, a disk operation. `answer` is the count of votes at the tick.
+    /// Feed where `feeds` says so, a Tell, Asks, a disk operation. `tally` has taken the entry in too.
     pub fn act(
         &mut self,
         own: &Own,
+        tally: &Tally,
         tick: u64,
         what: What,
         feeds: bool,
-        answer: Answer,
         outs: &mut Outs,
     )
         requires { outs.old ≡ [] }
         ensures count { installs_of self.new.heard ≡ installs_of self.old.heard }
         ensures stands { (past : List Line)
             → LiveTook self.old own.now.settings own.now.me.0 past tick what
-            → answer ≡ answer_of own.now.settings (taken_in past tick what) tick
+            → TallyFor tally.now own.now.settings (votes (taken_in past tick what))
             → LiveFor self.new own.now.settings own.now.me.0
             (with_outs past tick what (acts own.now.settings own.now.me.0 (taken_in past tick what) what feeds)) }
         ensures outs { (past : List Line)
             → LiveTook self.old own.now.settings own.now.me.0 past tick what
-            → answer ≡ answer_of own.now.settings (taken_in past tick what) tick
+            → TallyFor tally.now own.now.settings (votes (taken_in past tick what))
             → outs.new ≡ acts own.now.settings own.now.me.0 (taken_in past tick what) what feeds }
     {
         qn_watch::law_other_lines();
         law_outside();
+        let answer = tally.answer(own, tick);
         let asked = self.asks(tick, answer.released);
         let stops = self.gives_stop(tick, answer);
         let starts = self.gives_start(own, tick, answer);
         let holds = self.will_hold(starts);
-        let op = self.wanted(own, tick, answer);
+        let op = self.wanted(own, tick, answer, tally.view_tick());
         push_if(outs, stops, Out::Stop);
         push_if(outs, starts, Out::Start);
         push_if(outs, feeds, Out::Feed);
@@ -93,7 +98,7 @@ impl Live {
         ensures { (s : Settings) (me : ℕ) (log : List Line)
             → LiveFor self.now s me log
             → now log ≡ tick
-            → answer.quorate ≡ quorate s log tick
+            → answer.quorate ≡ quorate_with_tie s log tick
             → result ≡ gives_stop s log }
     {
         self.resource.is_held()
@@ -101,12 +106,12 @@ impl Live {
             && self.resource.may_give_stop(self.loop_ms, tick)
     }
 
-    /// Whether a Start is to be given: no condition lacks.
+    /// Whether a Start is to be given: no condition blocks it.
     fn gives_start(&self, own: &Own, tick: u64, answer: Answer) -> bool
         ensures { (log : List Line)
             → LiveFor self.now own.now.settings own.now.me.0 log
             → now log ≡ tick
-            → answer ≡ answer_of own.now.settings log tick
+            → answer ≡ answer_with_tie own.now.settings log tick
             → result ≡ gives_start own.now.settings own.now.me.0 log }
     {
         is_clear(self.why(own, tick, answer))
@@ -119,13 +124,13 @@ impl Live {
         starts || self.resource.is_held()
     }
 
-    /// The first condition that a start of the resource still lacks at this tick, which is not below that of
-    /// the last entry. `answer` is the count of votes at the tick.
+    /// The first condition that blocks a start of the resource at this tick, which is not below that of
+    /// the last entry. `answer` is the count of votes at the tick, with the tie breaker.
     pub fn why(&self, own: &Own, tick: u64, answer: Answer) -> Why
         ensures { (log : List Line)
             → LiveFor self.now own.now.settings own.now.me.0 log
             → now log ≤ tick
-            → answer ≡ answer_of own.now.settings log tick
+            → answer ≡ answer_with_tie own.now.settings log tick
             → result ≡ unmet own.now.settings own.now.me.0 log tick }
     {
         if self.leaving {
@@ -146,7 +151,7 @@ impl Live {
         }
     }
 
-    /// What lacks of a node that is up and quorate.
+    /// What blocks a start of a node that is up and quorate.
     fn lacks(&self, own: &Own, tick: u64) -> Why
         ensures { (log : List Line)
             → LiveFor self.now own.now.settings own.now.me.0 log
@@ -161,7 +166,7 @@ impl Live {
         }
     }
 
-    /// What lacks of the other nodes, once the node is quorate and chosen.
+    /// What of the other nodes blocks a start, once the node is quorate and chosen.
     fn lacks_of_others(&self, own: &Own, tick: u64) -> Why
         ensures { (log : List Line)
             → LiveFor self.now own.now.settings own.now.me.0 log
@@ -211,13 +216,14 @@ impl Live {
         }
     }
 
-    /// The next disk operation, where none is out.
-    fn wanted(&self, own: &Own, tick: u64, answer: Answer) -> Option<DiskOp>
+    /// The next disk operation, where none is out. `since` is the tick of the last view.
+    fn wanted(&self, own: &Own, tick: u64, answer: Answer, since: u64) -> Option<DiskOp>
         ensures { (log : List Line)
             → LiveFor self.now own.now.settings own.now.me.0 log
             → now log ≡ tick
-            → answer.quorate ≡ quorate own.now.settings log tick
-            → result ≡ wanted own.now.settings own.now.me.0 log }
+            → answer.quorate ≡ quorate_with_tie own.now.settings log tick
+            → since ≡ view_tick (votes log)
+            → result ≡ wanted_with_delay own.now.settings own.now.me.0 log }
     {
         if self.op.is_some() {
             None
@@ -226,7 +232,7 @@ impl Live {
         } else if self.may_close() {
             Some(DiskOp::WriteClose(self.incarnation))
         } else if self.may_fence(own, answer) {
-            self.fence.next().op()
+            self.fencing(own, tick, since)
         } else {
             None
         }
@@ -243,10 +249,24 @@ impl Live {
     fn may_fence(&self, own: &Own, answer: Answer) -> bool
         ensures { (log : List Line)
             → LiveFor self.now own.now.settings own.now.me.0 log
-            → answer.quorate ≡ quorate own.now.settings log (now log)
+            → answer.quorate ≡ quorate_with_tie own.now.settings log (now log)
             → result ≡ may_fence own.now.settings own.now.me.0 log }
     {
         !self.leaving && answer.quorate && self.is_chosen(own)
+    }
+
+    /// The next operation of the fencing: a reset waits until its node's fence delay is over. `since` is the tick of
+    /// the last view.
+    fn fencing(&self, own: &Own, tick: u64, since: u64) -> Option<DiskOp>
+        ensures { (log : List Line)
+            → LiveFor self.now own.now.settings own.now.me.0 log
+            → now log ≡ tick
+            → since ≡ view_tick (votes log)
+            → result ≡ fencing_op_with_delay own.now.settings log }
+    {
+        let want = self.fence.next();
+        let waits = must_wait(own, want, tick, since);
+        if waits { None } else { want.op() }
     }
 
     /// Gives the answer to an Ask, by what the node says of itself.
@@ -330,6 +350,16 @@ impl Live {
     }
 }
 
+/// Whether the fencing waits at this tick: it wants to reset a node whose fence delay is not over.
+fn must_wait(own: &Own, want: Want, tick: u64, since: u64) -> bool
+    ensures { result ≡ must_wait (λ rank. nat_le (since + fence_delay own.now.settings rank) tick) want }
+{
+    match want {
+        Want::WriteReset(rank) => !own.is_delay_over(rank, since, tick),
+        Want::None | Want::ReadSlot(_) => false,
+    }
+}
+
 /// Notes whether the own mailbox is asked for at this tick.
 fn note_read(watch: &mut Watch, tick: u64, op: Option<DiskOp>)
     ensures { (log : List Line) (line : Line)
@@ -353,7 +383,7 @@ fn asks_mail(op: Option<DiskOp>) -> bool
     matches!(op, Some(DiskOp::ReadMail))
 }
 
-/// Whether no condition of a start lacks.
+/// Whether no condition blocks a start.
 fn is_clear(why: Why) -> bool
     ensures { result ≡ is_clear why }
 {

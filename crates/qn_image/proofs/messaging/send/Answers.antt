@@ -5,7 +5,7 @@ use Rattle.qn_image.proofs.messaging.send.Goals as goal
 
 pub returns-then-eq : goal.returns-then-eq
 returns-then-eq g c =
-    reached _ _ _ _ c.ranks.invariant c.ranks-test.true _ c.in_ok-found.ensures (sym c.eq.ensures ∙ c.if-eq.true) c.write_message.ensures
+    reached _ _ _ _ c.ranks.invariant c.ranks-test.true _ c.in_ok-found.ensures (sym c.eq.ensures ∙ c.if-eq.true) c.leave.ensures
 
 pub ranks-preserved : goal.ranks-preserved
 ranks-preserved g c =

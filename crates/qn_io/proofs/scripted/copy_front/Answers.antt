@@ -3,7 +3,7 @@ use Rattle.std.proofs.Math.Seq.{take-append_seam}
 use Rattle.std.proofs.lemmas.List.{take_min, length-take-le}
 use Rattle.qn_io.proofs.scripted.copy_front.Goals as goal
 
--- a list that begins with a front of that length
+-- a list that begins with a prefix of that length
 front_of : (front rest from : List ℕ) (count most : ℕ) → count ≡ min most (length from) → front ≡ take count from → take count (front ++ rest) ≡ take most from
 front_of front rest from count most is copied =
     let within : count ≤ length from = omega arith in

@@ -48,8 +48,8 @@ returns-then-rank-own-clause-outs c = λ log h.
     let nothing = nothing_for_other_slot s me log None c.args.what c.in-SlotRead.rank c.in-SlotRead.seen h.waits c.in-SlotRead.is (other c.in-SlotRead.rank.0 me c.if-rank-own.true) in
     subst (λ w. c.args.outs.now ≡ newest_outs (with_read s me log tick w)) (sym nothing) (c.requires ∙ sym (tick_outs s me tick log h.waits.is_booting))
 
-pub returns-else-rank-own-clause-stands : goal.returns-else-rank-own-clause-stands
-returns-else-rank-own-clause-stands c = λ log h.
+pub returns-clause-stands : goal.returns-clause-stands
+returns-clause-stands c = λ log h.
     let s = c.args.own.now.settings in
     let me = c.args.own.now.me.0 in
     let tick = c.args.tick in
@@ -58,8 +58,8 @@ returns-else-rank-own-clause-stands c = λ log h.
     as_read (λ w. StageFor c.own_slot.result s me (with_read s me log tick w)) s me log c.args.what E own
     (reads_answer s me log None (disk.ReadSlot (rank_of me)) E h.waits refl (same me)) (c.own_slot.ensures.stands s me tick log h)
 
-pub returns-else-rank-own-clause-outs : goal.returns-else-rank-own-clause-outs
-returns-else-rank-own-clause-outs c = λ log h.
+pub returns-clause-outs : goal.returns-clause-outs
+returns-clause-outs c = λ log h.
     let s = c.args.own.now.settings in
     let me = c.args.own.now.me.0 in
     let tick = c.args.tick in

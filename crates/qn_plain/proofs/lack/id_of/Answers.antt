@@ -10,5 +10,5 @@ id_from-get (node ∷ nodes) (suc rank) d here = id_from-get nodes rank d (omega
 
 pub returns-clause-id : goal.returns-clause-id
 returns-clause-id c =
-    id_from-get c.as_slice-nodes.result.now c.from.result (record { id = record { 0 = 0 }; votes = 0 }) (omega (arith, ap length c.as_slice-nodes.ensures.value))
+    id_from-get c.as_slice-nodes.result.now c.from.result (record { id = record { 0 = 0 }; votes = 0; fence_delay = 0 }) (omega (arith, ap length c.as_slice-nodes.ensures.value))
     ∙ (ap (id_from c.as_slice-nodes.result.now) c.from.ensures ∙ ap (λ nodes. id_from nodes c.args.rank.0) c.as_slice-nodes.ensures.value)

@@ -1,4 +1,4 @@
-use Rattle.std.proofs.Common.{◌≡◌, ◌≤◌, ◌++◌, List, ℕ, Option, arith, ap, subst, sym, refl, ◌∙◌}
+use Rattle.std.proofs.Common.{◌++◌, List, ℕ, Option, arith, ap, subst, sym, refl, ◌∙◌}
 use Rattle.std.specs.Io.KnownBytes.{prepend_known}
 use Rattle.qn_io.specs.Writes.{AppendsFront}
 use Rattle.qn_play.specs.RunLaws.{runs_complete}
@@ -23,7 +23,7 @@ lines-init g c =
 
 pub returns-in_default-clause-runs : goal.returns-in_default-clause-runs
 returns-in_default-clause-runs g c =
-    unwritten c.lines.invariant.running c.next.new.self.pieces (sym c.in_default.ensures.kept)
+    unwritten c.lines.invariant.running c.next.new.self.pieces c.next.ensures.within (sym c.in_default.ensures.kept)
     (risen_within _ _ _ _ c.lines.invariant.sink c.next.ensures.sink_faults (omega arith) c.in_default.ensures.write_failed)
     c.in_default.ensures.prefix
 
@@ -33,7 +33,7 @@ returns-in-Err-clause-runs g c =
     let pieces = c.next.new.self.pieces in
     let sink = c.lines.invariant.sink in
     let wrote = c.next.ensures.sink_faults in
-    finishes (writes_on run c.in-Ok.ensures.given) pieces c.in-Err.end c.finish.result
+    finishes (writes_on run c.in-Ok.ensures.given) pieces c.in-Err.end c.finish.result c.next.ensures.within
     (c.in-Err.ensures.kept c.args.world.now run.after.earlier run.after.stands)
     (λ rose. risen_within _ _ _ _ (omega (arith, sink, wrote)) c.finish.ensures.never_falls (omega arith) rose)
     (stops_wider (λ fails. (fails.0, risen_within _ _ _ _ c.lines.invariant.source c.next.ensures.source_faults (omega arith) fails.1))
@@ -71,7 +71,7 @@ returns-in_default-put-clause-runs g c =
     let line = c.line.result.now in
     let sink = c.lines.invariant.sink in
     let wrote = c.next.ensures.sink_faults in
-    unwritten_at (writes_on run c.in-Ok.ensures.given) c.next.new.self.pieces line c.judge.new.text.items
+    unwritten_at (writes_on run c.in-Ok.ensures.given) c.next.new.self.pieces line c.judge.new.text.items c.next.ensures.within
     (goes_at run c.lines.invariant.head c.in-Ok.read line c.line.ensures.value c.in-Ok.ensures.unended c.line.ensures.fits
     c.judge.new.text.items c.in-Ok.ensures.reads (c.in_default-judge.ensures.text c.args.world.now))
     (risen_within _ _ _ _ (omega (arith, sink, wrote)) c.put.ensures.never_falls (omega arith) c.in_default-put.ensures.cause)

@@ -4,7 +4,7 @@ use Rattle.qn_replay.specs.Reading.{GoesOn, MayGoOn, text_rest}
 use Rattle.qn_replay.specs.Replay.{replay_of}
 use Rattle.qn_replay.proofs.head.read_text.Given as goal
 
--- the text may go on, and what the whole input gives is what the rest gives behind it
+-- the text may go on, and what the whole input gives is what the rest gives after it
 abbrev pub invariant-bytes : goal.invariant-bytes
 invariant-bytes g l = record {
   may_go_on : MayGoOn l.text;

@@ -24,7 +24,7 @@ pub returns-in_err-playback-clause-reaches : goal.returns-in_err-playback-clause
 returns-in_err-playback-clause-reaches g c =
     let exit = err_from_is_err_and c.from_residual.result c.from_residual.ensures.1 in
     rw (exit.1, exit.2)
-    (reaches_in_head c.new-pieces.result c.start.new.pieces c.in_err-playback.field-0.0 c.new-pieces.ensures c.in_err-playback.ensures.fault c.in_err-playback.ensures.end)
+    (reaches_in_head c.new-pieces.result c.start.new.pieces c.in_err-playback.field-0.0 c.new-pieces.ensures c.in_err-playback.ensures.fault c.start.ensures.within c.in_err-playback.ensures.end)
 
 pub play-end-requires-clause-stands : goal.play-end-requires-clause-stands
 play-end-requires-clause-stands g c = begins_after c.in_ok-playback.playback c.in_ok-playback.ensures.begins

@@ -28,12 +28,12 @@ pub events-preserved : goal.events-preserved
 events-preserved c =
     let before = c.events.invariant in
     let d = (soaked c.args.seed c.events.number).world in
-    let event = c.next-event.result in
-    let is : undrawn event c.next-event.new.self ≡ next_event d (soaked c.args.seed c.events.number).state =
-    c.next-event.ensures.drawn d before.stands ∙ ap (λ x. next_event d x) before.state in
+    let event = c.next_into.new.into in
+    let is : undrawn event c.next_into.new.self ≡ next_event d (soaked c.args.seed c.events.number).state =
+    c.next_into.ensures.drawn d before.stands ∙ ap (λ x. next_event d x) before.state in
     let stood = c.in-Ok.ensures.stands d before.stands in
     let said = c.in-Ok.ensures.report d before.stands in
-    let formed : is_well_formed c.events.world.settings event ≡ true = ap (λ s. is_well_formed s event) before.settings ∙ c.next-event.ensures.formed in
+    let formed : is_well_formed c.events.world.settings event ≡ true = ap (λ s. is_well_formed s event) before.settings ∙ c.next_into.ensures.formed in
     let then = before.stands.times in
     let now = stood.times in
     let later = time-step c.events.world.settings c.events.world.timing event d formed in
@@ -41,11 +41,11 @@ events-preserved c =
     let left = before.steps in
     let step = c.in-Ok.ensures.steps in
     record {
-      stands = stands_more c.args.seed c.events.number c.next-event.new.self event is before.settings before.timing stood;
-      state = state_more c.args.seed c.events.number c.next-event.new.self event is;
-      tally = tally_more c.args.seed c.events.number c.next-event.new.self event is c.in-Ok.report c.events.tally c.add.new.self before.settings before.timing said before.tally
+      stands = stands_more c.args.seed c.events.number c.next_into.new.self event is before.settings before.timing stood;
+      state = state_more c.args.seed c.events.number c.next_into.new.self event is;
+      tally = tally_more c.args.seed c.events.number c.next_into.new.self event is c.apply_into.new.into c.events.tally c.add.new.self before.settings before.timing said before.tally
           c.add.ensures.tally;
-      one = most_more event c.in-Ok.report c.events.tally c.add.new.self before.one (few_holders c.events.world.timing event c.in-Ok.report d before.settings said c.in-Ok.ensures.one_holder)
+      one = most_more event c.apply_into.new.into c.events.tally c.add.new.self before.one (few_holders c.events.world.timing event c.apply_into.new.into d before.settings said c.in-Ok.ensures.one_holder)
           c.add.ensures.tally;
       within = within_more c.events.number c.events.tally c.add.new.self before.within c.add.ensures.grows;
       settings = c.in-Ok.ensures.settings ∙ before.settings;

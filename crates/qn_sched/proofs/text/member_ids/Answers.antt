@@ -14,7 +14,7 @@ loop-rank-preserved c =
     let nodes = c.as_slice-node-items.result.now in
     let rank = c.loop-rank.rank in
     let members = c.args.members in
-    let none : NodeEntry = record { id = record { 0 = 0 }; votes = 0 } in
+    let none : NodeEntry = record { id = record { 0 = 0 }; votes = 0; fence_delay = 0 } in
     let list = c.loop-rank.list.items in
     let so_far = c.loop-rank.invariant.all in
     let few = c.loop-rank.invariant.few in

@@ -11,7 +11,7 @@ returns-then-room-count-clause-moves c =
     (subst (λ (xs : List ℕ). HasNoLineFeed (take count xs)) c.waiting-waiting.ensures.value c.length_before_end-count.ensures.before)
     (subst (λ (xs : List ℕ). count ≤ length xs) c.waiting-waiting.ensures.value c.length_before_end-count.ensures.within)
     c.if-room-count.true c.move_front.ensures.line c.take_first.result c.take_first.new.self c.remaining_capacity-room.ensures
-    (sym c.move_front.ensures.left ∙ c.take_first.ensures)
+    (sym c.move_front.ensures.left ∙ c.take_first.ensures.takes)
 
 pub returns-then-room-count-clause-unended : goal.returns-then-room-count-clause-unended
 returns-then-room-count-clause-unended c =

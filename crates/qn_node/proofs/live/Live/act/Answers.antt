@@ -1,6 +1,7 @@
 use Rattle.std.proofs.Common.{◌≡◌, List, ◌++◌, refl, ap, sym, subst, ◌∙◌}
 use Rattle.std.specs.Option.{option_or}
 use Rattle.qn_model.specs.Log.{Line, disk_of}
+use Rattle.qn_model.specs.NodeVotes.{votes}
 use Rattle.qn_model.specs.NodeOutputs.{acts, replies, taken_in, when}
 use Rattle.qn_model.specs.declared.outputs.Out.TheVariants as out
 use Rattle.qn_fence.specs.Fence.{FenceFor, IsOutside}
@@ -30,7 +31,7 @@ asked c past took =
     (took_stands c.args.self.now s me past c.args.tick c.args.what c.asks-asked.new.self.heard took (hears c past took) watches)
 
 pub returns-clause-stands : goal.returns-clause-stands
-returns-clause-stands c = λ past took is.
+returns-clause-stands c = λ past took counts.
     let s = c.args.own.now.settings in
     let me = c.args.own.now.me.0 in
     let tick = c.args.tick in
@@ -39,10 +40,11 @@ returns-clause-stands c = λ past took is.
     let log = taken_in past tick w in
     let outs = acts s me log w fed in
     let live = asked c past took in
-    let enough = quorate_of s log tick c.args.answer is in
+    let is = c.answer-answer.ensures (votes log) counts in
+    let enough = quorate_of s log tick c.answer-answer.result is in
     let stops = c.gives_stop-stops.ensures s me log live refl enough in
     let starts = c.gives_start-starts.ensures log live refl is in
-    let op = c.wanted-op.ensures log live refl enough in
+    let op = c.wanted-op.ensures log live refl enough (c.view_tick.ensures s (votes log) counts) in
     let given : disk_of outs ≡ c.wanted-op.result = (acts_has s me log w fed).of_op ∙ sym op in
     let heard = c.asks-asked.ensures.stands s me (with_outs past tick w outs) (took.hears _ refl refl (acts_claim s me log w fed)) refl (phase_same s past tick w outs ∙ took.phases) in
     let watches = c.give.ensures.watches past _ (subst (λ x. WatchFor x.watch past) (sym c.asks-asked.ensures.rest) took.watches) (no_times_of w took.plain) refl given in
@@ -59,18 +61,19 @@ returns-clause-stands c = λ past took is.
     c.gives_stop-stops.result c.gives_start-starts.result c.wanted-op.result took stops starts op heard watches fences))
 
 pub returns-clause-outs : goal.returns-clause-outs
-returns-clause-outs c = λ past took is.
+returns-clause-outs c = λ past took counts.
     let s = c.args.own.now.settings in
     let me = c.args.own.now.me.0 in
     let tick = c.args.tick in
     let w = c.args.what in
     let log = taken_in past tick w in
     let live = asked c past took in
-    let enough = quorate_of s log tick c.args.answer is in
-    let free = released_of s log tick c.args.answer is in
+    let is = c.answer-answer.ensures (votes log) counts in
+    let enough = quorate_of s log tick c.answer-answer.result is in
+    let free = released_of s log tick c.answer-answer.result is in
     let stops = c.gives_stop-stops.ensures s me log live refl enough in
     let starts = c.gives_start-starts.ensures log live refl is in
-    let op = c.wanted-op.ensures log live refl enough in
+    let op = c.wanted-op.ensures log live refl enough (c.view_tick.ensures s (votes log) counts) in
     let held = is_held c.asks-asked.new.self.resource in
     acts_chain s me log w c.args.feeds c.gives_stop-stops.result c.gives_start-starts.result held c.wanted-op.result
     c.push_if.new.outs c.push_if-2.new.outs c.push_if-3.new.outs c.reply.new.outs c.ask.new.outs c.push_op.new.outs

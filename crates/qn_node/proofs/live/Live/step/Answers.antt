@@ -6,10 +6,10 @@ use Rattle.qn_model.specs.declared.outputs.Out.TheVariants as out
 use Rattle.qn_model.specs.Log.{ask_place, is_answer}
 use Rattle.qn_model.specs.NodeVotes.{votes}
 use Rattle.qn_model.specs.NodeOutputs.{acts, newest_outs, taken_in, with_entry, with_read}
-use Rattle.qn_quorum.specs.Quorum.{QuorumFor}
 use Rattle.qn_node.specs.Live.{LiveFor, LiveTook}
 use Rattle.qn_node.specs.Resource.{after_entry}
 use Rattle.qn_node.specs.Rest.{RestFor}
+use Rattle.qn_node.specs.Tally.{TallyFor}
 use Rattle.qn_node.proofs.LiveReads.{Reads, reads_live, reads_same}
 use Rattle.qn_node.proofs.LiveSteps.{act_log, act_newest, counted, counted_taken, end_newest, end_stands, halt_newest, halt_stands, took}
 use Rattle.qn_node.proofs.live.Live.step.Goals as goal
@@ -23,10 +23,10 @@ returns-in-Halt-clause-counts c = λ log h counts.
     let r = c.read-what.result in
     let reading = reads_same c.args.self.now s me log c.args.entry.what h ∙ sym c.read-what.ensures in
     let still = subst (λ x. LiveFor x s me log) (sym c.course-course.ensures.same) h in
-    let counted_so = c.count.ensures s (votes log) counts in
+    let counted_so = c.count.ensures (votes log) counts in
     let vote = c.hear-vote.ensures.vote s me log still.hears in
-    subst (λ v. QuorumFor c.count.new.quorum s (votes (with_read s me log tick v))) (sym reading)
-    (counted c.count.new.quorum s me log tick c.hear-vote.result r counted_so vote)
+    subst (λ v. TallyFor c.count.new.self s (votes (with_read s me log tick v))) (sym reading)
+    (counted c.count.new.self s me log tick c.hear-vote.result r counted_so vote)
 
 pub returns-in-End-clause-counts : goal.returns-in-End-clause-counts
 unfolding with_entry
@@ -37,10 +37,10 @@ returns-in-End-clause-counts c = λ log h counts.
     let r = c.read-what.result in
     let reading = reads_same c.args.self.now s me log c.args.entry.what h ∙ sym c.read-what.ensures in
     let still = subst (λ x. LiveFor x s me log) (sym c.course-course.ensures.same) h in
-    let counted_so = c.count.ensures s (votes log) counts in
+    let counted_so = c.count.ensures (votes log) counts in
     let vote = c.hear-vote.ensures.vote s me log still.hears in
-    subst (λ v. QuorumFor c.count.new.quorum s (votes (with_read s me log tick v))) (sym reading)
-    (counted c.count.new.quorum s me log tick c.hear-vote.result r counted_so vote)
+    subst (λ v. TallyFor c.count.new.self s (votes (with_read s me log tick v))) (sym reading)
+    (counted c.count.new.self s me log tick c.hear-vote.result r counted_so vote)
 
 pub returns-in-Act-clause-counts : goal.returns-in-Act-clause-counts
 unfolding with_entry
@@ -51,10 +51,10 @@ returns-in-Act-clause-counts c = λ log h counts.
     let r = c.read-what.result in
     let reading = reads_same c.args.self.now s me log c.args.entry.what h ∙ sym c.read-what.ensures in
     let still = subst (λ x. LiveFor x s me log) (sym c.course-course.ensures.same) h in
-    let counted_so = c.count.ensures s (votes log) counts in
+    let counted_so = c.count.ensures (votes log) counts in
     let vote = c.hear-vote.ensures.vote s me log still.hears in
-    subst (λ v. QuorumFor c.count.new.quorum s (votes (with_read s me log tick v))) (sym reading)
-    (counted c.count.new.quorum s me log tick c.hear-vote.result r counted_so vote)
+    subst (λ v. TallyFor c.count.new.self s (votes (with_read s me log tick v))) (sym reading)
+    (counted c.count.new.self s me log tick c.hear-vote.result r counted_so vote)
 
 pub returns-in-Halt-clause-stands : goal.returns-in-Halt-clause-stands
 unfolding with_entry
@@ -131,7 +131,7 @@ returns-in-Act-clause-stands c = λ log h counts before.
     let reads = subst (Reads log) (sym c.read-what.ensures) (reads_live c.args.self.now s me log c.args.entry.what h) in
     let still = subst (λ x. LiveFor x s me log) (sym c.course-course.ensures.same) h in
     let goes = sym (c.course-course.ensures.exact s log h.watches h.phases reads.plain reads.answers) ∙ c.in-Act.is in
-    let counted_so = c.count.ensures s (votes log) counts in
+    let counted_so = c.count.ensures (votes log) counts in
     let vote = c.hear-vote.ensures.vote s me log still.hears in
     let fences = c.hear-vote.ensures.fences s log _ still.fences reads.plain refl refl (λ e. (ap (λ b. if b then ask_place log else 0) e, reads.answers e)) before refl in
     let took_in = took c.course-course.new.self s me log tick r c.in-Act.feeds c.in-Act.leaving c.hear-vote.new.self.heard c.hear-vote.new.self.fence still reads goes
@@ -142,7 +142,7 @@ returns-in-Act-clause-stands c = λ log h counts before.
       op = if is_answer r then None else x.op;
       resource = after_entry tick r x.resource;
     }) s me log tick r) (sym c.hear-vote.ensures.rest) took_in) in
-    let answered = c.answer.ensures s (votes (taken_in log tick r)) (counted_taken c.count.new.quorum s log tick c.hear-vote.result r counted_so vote) in
+    let answered = counted_taken c.count.new.self s log tick c.hear-vote.result r counted_so vote in
     let newest = act_newest c.course-course.new.self s me log tick r c.in-Act.feeds c.in-Act.leaving still goes reads in
     subst (λ v. LiveFor c.act.new.self s me (with_read s me log tick v)) (sym reading)
     (subst (LiveFor c.act.new.self s me) (sym (act_log s me log tick r (acts s me (taken_in log tick r) r c.in-Act.feeds) newest))
@@ -159,7 +159,7 @@ returns-in-Act-clause-outs c = λ log h counts before.
     let reads = subst (Reads log) (sym c.read-what.ensures) (reads_live c.args.self.now s me log c.args.entry.what h) in
     let still = subst (λ x. LiveFor x s me log) (sym c.course-course.ensures.same) h in
     let goes = sym (c.course-course.ensures.exact s log h.watches h.phases reads.plain reads.answers) ∙ c.in-Act.is in
-    let counted_so = c.count.ensures s (votes log) counts in
+    let counted_so = c.count.ensures (votes log) counts in
     let vote = c.hear-vote.ensures.vote s me log still.hears in
     let fences = c.hear-vote.ensures.fences s log _ still.fences reads.plain refl refl (λ e. (ap (λ b. if b then ask_place log else 0) e, reads.answers e)) before refl in
     let took_in = took c.course-course.new.self s me log tick r c.in-Act.feeds c.in-Act.leaving c.hear-vote.new.self.heard c.hear-vote.new.self.fence still reads goes
@@ -170,7 +170,7 @@ returns-in-Act-clause-outs c = λ log h counts before.
       op = if is_answer r then None else x.op;
       resource = after_entry tick r x.resource;
     }) s me log tick r) (sym c.hear-vote.ensures.rest) took_in) in
-    let answered = c.answer.ensures s (votes (taken_in log tick r)) (counted_taken c.count.new.quorum s log tick c.hear-vote.result r counted_so vote) in
+    let answered = counted_taken c.count.new.self s log tick c.hear-vote.result r counted_so vote in
     let newest = act_newest c.course-course.new.self s me log tick r c.in-Act.feeds c.in-Act.leaving still goes reads in
     subst (λ v. c.act.new.outs ≡ newest_outs (with_read s me log tick v)) (sym reading)
     (c.act.ensures.outs log settled answered ∙ sym newest)

@@ -1,5 +1,6 @@
-use Rattle.std.proofs.Common.{refl}
+use Rattle.std.proofs.Common.{[], refl, subst}
 use Rattle.qn_model.specs.NodeVotes.{votes}
+use Rattle.qn_node.specs.Tally.{TallyFor}
 use Rattle.qn_node.proofs.node.Node.new.Goals as goal
 
 pub returns-clause-stands : goal.returns-clause-stands
@@ -10,6 +11,6 @@ returns-clause-stands c = record {
   is_configured = c.requires;
   knows = refl;
   is_inside = c.law_asked_inside.ensures.none;
-  counts = c.new.ensures;
+  counts = subst (λ s. TallyFor c.new-tally.result s []) c.copy.ensures c.new-tally.ensures;
   stands = refl;
 }

@@ -1,5 +1,6 @@
-use Rattle.std.proofs.Common.{◌≡◌, ℕ, ◌≤◌, [], ap, sym, ◌∙◌, subst, refl, arith}
+use Rattle.std.proofs.Common.{◌≡◌, ℕ, ◌-◌, ◌^◌, ◌<◌, ◌≤◌, [], lit<, ap, sym, ◌∙◌, subst, refl, arith}
 use Rattle.std.specs.Prelude.{replicate}
+use Rattle.qn_model.specs.Log.{slot_number}
 use Rattle.qn_model.specs.NodeVotes.{install, votes}
 use Rattle.qn_plain.specs.declared.peer.Peer.{Peer}
 use Rattle.qn_plain.specs.Peer.{PeerFor, no_peer, peer_at}
@@ -10,10 +11,11 @@ start_peer : (peer : Peer) (rank : ℕ) → peer ≡ no_peer → peer_at (replic
 start_peer peer rank is = ap (λ p. peer_at (replicate 32 p) rank) is ∙ same_peers 32 rank
 
 pub returns-clause-stands : goal.returns-clause-stands
-unfolding install votes
+unfolding install slot_number votes
 returns-clause-stands c = record {
   few = omega arith;
   lives = c.new.ensures;
+  claimable = λ boots. subst (λ l. l.slot_number < 2 ^ 64 - 1) (sym c.new.ensures) (lit< tt);
   tallies = c.new-2.ensures;
   installed = refl;
   peers = λ rank below. subst (λ p. PeerFor p [] rank) (sym (start_peer c.new-3.result rank c.new-3.ensures)) (peer_none rank);

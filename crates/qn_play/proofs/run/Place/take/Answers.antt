@@ -1,4 +1,4 @@
-use Rattle.std.proofs.Common.{◌≢◌, arith, length, ap, ◌∙◌, sym, Err, Result, List, ℕ}
+use Rattle.std.proofs.Common.{◌≢◌, length, ap, ◌∙◌, sym, Err, Result, List, ℕ}
 use Rattle.std.proofs.lemmas.Result.{err_from_is_err_and}
 use Rattle.qn_sched.specs.declared.replay_end.ReplayEnd.{ReplayEnd}
 use Rattle.qn_play.specs.Judging.{AtFault}

@@ -5,7 +5,7 @@ use Rattle.qn_replay.proofs.generator.Gen.chosen_event.Goals as goal
 pub returns-in-Step-clause-drawn : goal.returns-in-Step-clause-drawn
 returns-in-Step-clause-drawn c =
     λ d stands.
-    step_drawn d c.args.choice c.args.rank c.args.self.now _ c.seen.result c.time.result c.in-Step.is c.requires.settings (c.seen.ensures d stands)
+    step_drawn d c.args.choice c.args.rank c.args.self.now _ c.pending.result c.time.result c.in-Step.is c.requires.settings (c.pending.ensures d stands)
     (c.time.ensures ∙ stands.times) c.next_step.ensures.drawn
 
 pub returns-in-Pass-clause-drawn : goal.returns-in-Pass-clause-drawn
@@ -28,5 +28,5 @@ returns-in-Device-clause-formed c = device_formed c.args.rank c.requires.rank
 pub returns-in-Incident-clause-drawn : goal.returns-in-Incident-clause-drawn
 returns-in-Incident-clause-drawn c =
     λ d stands.
-    incident_drawn d c.args.choice c.args.rank c.args.self.now c.draw.new.self c.draw.result c.incident_of.result c.in-Incident.is c.draw.ensures.state
-    c.draw.ensures.value c.incident_of.ensures.event
+    incident_drawn d c.args.choice c.args.rank c.args.self.now c.draw.new.self c.draw.result c.write_incident.new.into c.in-Incident.is c.draw.ensures.state
+    c.draw.ensures.value c.write_incident.ensures.event

@@ -2,10 +2,10 @@ use Rattle.std.proofs.Common.{arith, ◌%◌}
 use Rattle.qn_replay.proofs.Clocks.{members_some, members_few}
 use Rattle.qn_replay.proofs.generator.Gen.view.Goals as goal
 
-pub view_of-requires-else-kind-eq1-clause-some : goal.view_of-requires-else-kind-eq1-clause-some
-view_of-requires-else-kind-eq1-clause-some c =
+pub write_view-requires-else-kind-eq1-clause-some : goal.write_view-requires-else-kind-eq1-clause-some
+write_view-requires-else-kind-eq1-clause-some c =
     members_some (c.draw.result % 8) c.args.rank.0 c.bit_of-else-kind-eq1.result c.requires (omega arith) c.bit_of-else-kind-eq1.ensures.value
 
-pub view_of-requires-else-kind-eq1-clause-configured : goal.view_of-requires-else-kind-eq1-clause-configured
-view_of-requires-else-kind-eq1-clause-configured c =
+pub write_view-requires-else-kind-eq1-clause-configured : goal.write_view-requires-else-kind-eq1-clause-configured
+write_view-requires-else-kind-eq1-clause-configured c =
     members_few (c.draw.result % 8) c.args.rank.0 c.bit_of-else-kind-eq1.result c.requires (omega arith) c.bit_of-else-kind-eq1.ensures.value

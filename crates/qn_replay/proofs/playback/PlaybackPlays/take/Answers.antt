@@ -1,7 +1,7 @@
 use Rattle.std.proofs.Common.{◌∙◌, List, ℕ, Ok, Result, sym, ap}
 use Rattle.std.proofs.lemmas.Result.{err_from_is_err_and}
 use Rattle.qn_sched.specs.declared.replay_end.ReplayEnd.{ReplayEnd}
-use Rattle.qn_replay.proofs.Playbacks.{plays, refuses_line, stands_on}
+use Rattle.qn_replay.proofs.Playbacks.{plays, refuses_line, stands_on, stays}
 use Rattle.qn_replay.proofs.playback.PlaybackPlays.take.Goals as goal
 
 abbrev text_is : List ℕ → Result (List ℕ) ReplayEnd
@@ -20,3 +20,10 @@ returns-clause-text c = λ start earlier after.
 pub returns-clause-stands : goal.returns-clause-stands
 returns-clause-stands c = λ start earlier after.
     stands_on start c.args.self.now c.happen.new.self c.args.line.now earlier after (c.in_ok-happen.ensures.event after.world after.stands)
+
+pub returns-in_err-happen-clause-kept : goal.returns-in_err-happen-clause-kept
+returns-in_err-happen-clause-kept c =
+    let exit = err_from_is_err_and c.from_residual.result c.from_residual.ensures.1 in
+    rw (exit.1)
+    (λ start earlier after. stays start c.args.self.now c.happen.new.self earlier c.in_err-happen.ensures.kept c.happen.ensures.kept_head
+    c.in_err-happen.ensures.kept_events after)

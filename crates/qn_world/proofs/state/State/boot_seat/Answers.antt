@@ -9,5 +9,5 @@ returns c = (
   c.boot.new.self,
   ap (λ (w : Whole). record w { seats = slice_set w.seats c.from.result c.boot.new.self }) c.self.view_is
       ∙ ap (λ k. record c.args.self.now { seats = slice_set c.args.self.now.seats k c.boot.new.self }) c.from.ensures,
-  subst (λ w. BootedSeat c.boot.new.self w.settings c.args.i.0 w.time c.args.base c.boot.new.outs) c.self.view_is c.boot.ensures,
+  subst (λ w. BootedSeat c.boot.new.self w.settings c.args.i.0 w.time c.args.base c.args.clean c.boot.new.outs) c.self.view_is c.boot.ensures,
 )

@@ -13,4 +13,4 @@ why_of-into-requires-clause-configured c =
 pub returns : goal.returns
 returns c = λ d is gives.
     report-parts c.args.self.now.settings c.args.event.now d c.self.inside.time c.touched-touched.result c.args.into.now.outs c.holders-into.result c.answer_of-into.result c.why_of-into.result
-    (ap (λ w. w.time) c.self.view_is ∙ is.times) c.touched-touched.ensures gives (c.holders-into.ensures.exact d is) (c.answer_of-into.ensures d is) (c.why_of-into.ensures d is)
+    (ap (λ w. w.time) c.self.view_is ∙ is.times) c.touched-touched.ensures gives (c.holders-into.ensures.exact d is) (c.answer_of-into.ensures d is) (c.why_of-into.ensures d is (c.answer_of-into.ensures d is))

@@ -1,7 +1,7 @@
 use Rattle.std.proofs.Common.{◌∙◌, ◌≡◌, ap, subst, sym, true}
 use Rattle.qn_model.specs.Rules.{is_well_formed, refusal}
 use Rattle.qn_model.specs.Steps.{touched}
-use Rattle.qn_world.proofs.RuleSteps.{late_number, rank_within}
+use Rattle.qn_world.proofs.RuleSteps.{late_number, rank_few, rank_within}
 use Rattle.qn_world.proofs.state.State.refusal.Goals as goal
 
 pub refuses_boot-requires : goal.refuses_boot-requires
@@ -10,6 +10,13 @@ refuses_boot-requires c = rank_within c.args.self.now c.args.event.now _ c.requi
 pub returns-in-Boot : goal.returns-in-Boot
 unfolding refusal
 returns-in-Boot c d is = c.refuses_boot.ensures d is ∙ ap (λ e. refusal c.args.self.now.settings c.args.self.now.timing e d) (sym c.in-Boot.is)
+
+pub refuses_boot-requires-in-BootClean : goal.refuses_boot-requires-in-BootClean
+refuses_boot-requires-in-BootClean c = rank_within c.args.self.now c.args.event.now _ c.requires.standing c.requires.formed (ap touched c.in-BootClean.is)
+
+pub returns-in-BootClean : goal.returns-in-BootClean
+unfolding refusal
+returns-in-BootClean c d is = c.refuses_boot-in-BootClean.ensures d is ∙ ap (λ e. refusal c.args.self.now.settings c.args.self.now.timing e d) (sym c.in-BootClean.is)
 
 pub refuses_off-requires : goal.refuses_off-requires
 refuses_off-requires c = rank_within c.args.self.now c.args.event.now _ c.requires.standing c.requires.formed (ap touched c.in-Crash.is)
@@ -94,6 +101,18 @@ refuses_feed-requires c = rank_within c.args.self.now c.args.event.now _ c.requi
 pub returns-in-Feed : goal.returns-in-Feed
 unfolding refusal
 returns-in-Feed c d is = c.refuses_feed.ensures d is ∙ ap (λ e. refusal c.args.self.now.settings c.args.self.now.timing e d) (sym c.in-Feed.is)
+
+pub refuses_operator-requires : goal.refuses_operator-requires
+refuses_operator-requires c =
+    let touches = ap touched c.in-Operator.is in
+    record {
+      within = rank_within c.args.self.now c.args.event.now _ c.requires.standing c.requires.formed touches;
+      few = rank_few c.args.self.now c.args.event.now _ c.requires.standing c.requires.formed touches;
+    }
+
+pub returns-in-Operator : goal.returns-in-Operator
+unfolding refusal
+returns-in-Operator c d is = c.refuses_operator.ensures d is ∙ ap (λ e. refusal c.args.self.now.settings c.args.self.now.timing e d) (sym c.in-Operator.is)
 
 pub refuses_late-requires : goal.refuses_late-requires
 refuses_late-requires c =

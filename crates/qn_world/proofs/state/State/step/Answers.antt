@@ -21,6 +21,12 @@ feed-requires c = subst (IsReady c.args.self.now) c.in-Feed.is c.requires.ready
 pub boot-requires : goal.boot-requires
 boot-requires c = subst (IsReady c.args.self.now) c.in-Boot.is c.requires.ready
 
+pub boot-requires-in-BootClean : goal.boot-requires-in-BootClean
+boot-requires-in-BootClean c = subst (IsReady c.args.self.now) c.in-BootClean.is c.requires.ready
+
+pub operate-requires : goal.operate-requires
+operate-requires c = subst (IsReady c.args.self.now) c.in-Operator.is c.requires.ready
+
 pub done-requires : goal.done-requires
 done-requires c = subst (IsReady c.args.self.now) c.in-Done.is c.requires.ready
 
@@ -52,6 +58,15 @@ returns-in-Feed-clause-ok c =
 
 pub returns-in-Boot-clause-ok : goal.returns-in-Boot-clause-ok
 returns-in-Boot-clause-ok c = subst (λ e. Stepped c.args.self.now c.boot.new.self e c.boot.new.outs) (sym c.in-Boot.is) c.boot.ensures
+
+pub returns-in-BootClean-clause-ok : goal.returns-in-BootClean-clause-ok
+returns-in-BootClean-clause-ok c =
+    subst (λ e. Stepped c.args.self.now c.boot-in-BootClean.new.self e c.boot-in-BootClean.new.outs) (sym c.in-BootClean.is) c.boot-in-BootClean.ensures
+
+pub returns-in-Operator-clause-ok : goal.returns-in-Operator-clause-ok
+returns-in-Operator-clause-ok c =
+    subst (λ outs. Stepped c.args.self.now c.operate.new.self c.args.event.now outs) (sym c.requires.none)
+    (subst (λ e. Stepped c.args.self.now c.operate.new.self e []) (sym c.in-Operator.is) c.operate.ensures)
 
 pub returns-in-Crash-clause-ok : goal.returns-in-Crash-clause-ok
 returns-in-Crash-clause-ok c =

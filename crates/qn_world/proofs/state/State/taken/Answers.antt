@@ -1,6 +1,6 @@
 use Rattle.std.proofs.Common.{subst}
 use Rattle.qn_world.specs.Standing.{IsWithin}
-use Rattle.qn_world.proofs.SectorSteps.{takes_claim, takes_clear, takes_close, takes_header, takes_mail, takes_reset, takes_slot}
+use Rattle.qn_world.proofs.SectorSteps.{takes_check, takes_claim, takes_clear, takes_close, takes_header, takes_mail, takes_reset, takes_slot}
 use Rattle.qn_world.proofs.state.State.taken.Goals as goal
 
 pub returns-in-ReadHeader : goal.returns-in-ReadHeader
@@ -18,6 +18,10 @@ returns-in-WriteClear c d is = takes_clear c.args.self.now d c.args.i.0 c.args.o
 
 pub returns-in-ReadMail : goal.returns-in-ReadMail
 returns-in-ReadMail c d is = takes_mail c.args.self.now d c.args.i.0 c.args.op c.mailbox.result is c.in-ReadMail.is c.requires.within c.mailbox.ensures
+
+pub returns-in-CheckMail : goal.returns-in-CheckMail
+returns-in-CheckMail c d is =
+    takes_check c.args.self.now d c.args.i.0 c.args.op c.mailbox-in-CheckMail.result is c.in-CheckMail.is c.requires.within c.mailbox-in-CheckMail.ensures
 
 pub returns-in-WriteReset : goal.returns-in-WriteReset
 returns-in-WriteReset c d is = takes_reset c.args.self.now d c.args.i.0 c.args.op c.in-WriteReset.other c.in-WriteReset.is

@@ -1,0 +1,10 @@
+mod CountEnds
+mod CountLines
+mod Counted
+mod Creating
+mod GivenOut
+mod ImageEnds
+mod Listing
+mod ReadTexts
+mod Turned
+mod Working

@@ -1,0 +1,14 @@
+pub mod Commands
+pub mod CountTurns
+pub mod Counting
+pub mod Endings
+pub mod Faults
+pub mod ImageTexts
+pub mod Images
+pub mod InputSettings
+pub mod Reads
+pub mod RunLaws
+pub mod Seen
+pub mod Statuses
+pub mod Works
+pub mod Writing

@@ -1,0 +1,27 @@
+//! The commands that play no schedule, and what every command shares: how it ends (`Status`, `Fault`, `say`, `refuse`),
+//! and the reading of the settings.
+//!
+//! Promises: each command's function meets the record of the command in specs/Commands, which says what was read, called
+//! and written, which statuses there are, and that each fault has its cause.
+#![tactic(auto)]
+
+mod commands;
+mod counter;
+mod ending;
+mod fault;
+mod image;
+mod image_texts;
+mod output;
+mod settings_text;
+mod status;
+
+pub use commands::count::count;
+pub use commands::create::create;
+pub use commands::dump::dump;
+pub use commands::list::list;
+pub use commands::message::send;
+pub use commands::migrate::migrate;
+pub use ending::{refuse, say};
+pub use fault::Fault;
+pub use settings_text::read_settings;
+pub use status::Status;

@@ -1,0 +1,76 @@
+//! Text that waits to be written, so that many short lines make one write.
+ghost use Rattle.std.specs.Prelude.{◌≡◌, ◌≤◌, ◌+◌, ◌++◌, [], List, ℕ, length, decimal, OnOk, OnErr};
+ghost use Rattle.std.specs.Io.KnownBytes.{append_known};
+ghost use Rattle.qn_io.specs.Outside.{HasRisen};
+ghost use Rattle.qn_io.specs.Writes.{AppendsFront};
+ghost use Rattle.qn_commands.specs.Writing.{GivesOut};
+
+use arrayvec::ArrayVec;
+use qn_base::{Failed, write_decimal};
+use qn_io::{Sink, put_all};
+use std::marker::Model;
+
+/// Text that was given out and waits to be written, so that many short lines make one write.
+#[derive(Drop)]
+pub struct Output {
+    waiting: ArrayVec<u8, 8192>,
+}
+
+impl Model for Output {
+    ghost use Rattle.std.specs.Prelude.{List, ℕ};
+
+    ghost Value = { List ℕ };
+
+    ghost view = { λ o. o.waiting.items };
+}
+
+impl Output {
+    /// Nothing waits.
+    pub fn new() -> Self
+        ensures { result ≡ [] }
+    {
+        Output {
+            waiting: ArrayVec::new(),
+        }
+    }
+
+    /// Gives out a text: it waits after what waits already, of which all is written where the text would
+    /// not fit. At `Failed` a prefix of both was written.
+    pub fn put<O: Sink>(&mut self, out: &mut O, text: &[u8]) -> Result<(), Failed>
+        ensures given { OnOk result (GivesOut (O.written out.old) (O.written out.new)
+            self.new (self.old ++ text.now)) }
+        ensures front { OnErr result (AppendsFront (O.written out.old) (O.written out.new)
+            (self.old ++ text.now)) }
+        ensures never_falls { O.faults out.old ≤ O.faults out.new }
+        ensures cause { OnErr result (HasRisen (O.faults out.old) (O.faults out.new)) }
+    {
+        if text.len() <= self.room() {
+            let _ = self.waiting.try_extend_from_slice(text);
+            return Ok(());
+        }
+        self.flush(out)?;
+        put_all(out, text)
+    }
+
+    /// How many further bytes may wait.
+    fn room(&self) -> usize
+        ensures { result + length self.now ≡ 8192 }
+    {
+        self.waiting.remaining_capacity()
+    }
+
+    /// Writes all that waits. At `Failed` a prefix of it was written.
+    pub fn flush<O: Sink>(&mut self, out: &mut O) -> Result<(), Failed>
+        ensures whole { OnOk result
+            (O.written out.new ≡ append_known (O.written out.old) self.old) }
+        ensures empty { OnOk result (self.new ≡ []) }
+        ensures front { OnErr result
+            (AppendsFront (O.written out.old) (O.written out.new) self.old) }
+        ensures never_falls { O.faults out.old ≤ O.faults out.new }
+        ensures cause { OnErr result (HasRisen (O.faults out.old) (O.faults out.new)) }
+    {
+        put_all(out, self.waiting.as_slice())?;
+        self.waiting.clear();
+        Ok(())
+    }
+}

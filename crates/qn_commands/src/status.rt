@@ -1,0 +1,57 @@
+//! The exit statuses.
+ghost use Rattle.std.specs.Prelude.{◌≡◌};
+ghost use Rattle.qn_commands.specs.Statuses.{code_of};
+
+/// How the program ends.
+#[derive(Clone, Copy, PartialEq, Eq, Debug)]
+pub enum Status {
+    /// The command did its whole work.
+    Done,
+    /// The words are no command.
+    Usage,
+    /// The settings text has a fault.
+    BadConf,
+    /// A line of the input is at fault.
+    BadSchedule,
+    /// An event is refused by a rule of the world.
+    NotAllowed,
+    /// The input could not be read.
+    ReadFault,
+    /// The output could not be written.
+    WriteFault,
+    /// The image could not be opened, read or written.
+    EnvFault,
+    /// A sector of the image is no spelling.
+    BadImage,
+    /// The times are not safe.
+    UnsafeTiming,
+    /// Out of memory.
+    NoMemory,
+    /// A test or an exit was not to replace a deadly message.
+    DeadlyThere,
+    /// No node has the id.
+    UnknownNode,
+}
+
+impl Status {
+    /// The exit status.
+    pub fn code(self) -> u8
+        ensures { result ≡ code_of self }
+    {
+        match self {
+            Status::Done => 0,
+            Status::Usage => 2,
+            Status::BadConf => 3,
+            Status::BadSchedule => 4,
+            Status::NotAllowed => 5,
+            Status::ReadFault => 6,
+            Status::WriteFault => 7,
+            Status::EnvFault => 8,
+            Status::BadImage => 9,
+            Status::UnsafeTiming => 10,
+            Status::NoMemory => 11,
+            Status::DeadlyThere => 15,
+            Status::UnknownNode => 16,
+        }
+    }
+}

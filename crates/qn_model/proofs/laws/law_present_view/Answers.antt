@@ -1,0 +1,5 @@
+use Rattle.qn_model.proofs.VoteLists.{present_view-votes}
+use Rattle.qn_model.proofs.laws.law_present_view.Goals as goal
+
+pub returns : goal.returns
+returns c = present_view-votes

@@ -1,0 +1,34 @@
+use Rattle.std.proofs.Common.{◌∷◌, refl, sym, ap, subst}
+use Rattle.qn_model.specs.Votes.{present_view, view_tick}
+use Rattle.qn_node.specs.Tally.{TallyFor}
+use Rattle.qn_node.proofs.tally.Tally.count.Goals as goal
+
+pub returns-in-Device : goal.returns-in-Device
+unfolding present_view view_tick
+returns-in-Device c = λ past h. subst (TallyFor _ c.args.own.now.settings) (ap (λ v. record { tick = c.args.tick; what = v } ∷ past) (sym c.in-Device.is))
+    (record {
+      counts = c.on_device.ensures c.args.own.now.settings past h.counts;
+      breaks = c.law_tie_stays.ensures c.args.self.now.tie c.args.own.now.settings _ past refl h.breaks;
+      views = h.views;
+      since = h.since;
+    })
+
+pub returns-in-Released : goal.returns-in-Released
+unfolding present_view view_tick
+returns-in-Released c = λ past h. subst (TallyFor _ c.args.own.now.settings) (ap (λ v. record { tick = c.args.tick; what = v } ∷ past) (sym c.in-Released.is))
+    (record {
+      counts = c.on_released.ensures c.args.own.now.settings past h.counts;
+      breaks = c.law_tie_stays.ensures c.args.self.now.tie c.args.own.now.settings _ past refl h.breaks;
+      views = h.views;
+      since = h.since;
+    })
+
+pub returns-in-Tick : goal.returns-in-Tick
+unfolding present_view view_tick
+returns-in-Tick c = λ past h. subst (TallyFor _ c.args.own.now.settings) (ap (λ v. record { tick = c.args.tick; what = v } ∷ past) (sym c.in-Tick.is))
+    (record {
+      counts = c.on_tick.ensures c.args.own.now.settings past h.counts;
+      breaks = c.law_tie_stays.ensures c.args.self.now.tie c.args.own.now.settings _ past refl h.breaks;
+      views = h.views;
+      since = h.since;
+    })

@@ -1,6 +1,0 @@
-use Rattle.qn_replay.proofs.Forced.{next_is}
-use Rattle.qn_replay.proofs.generator.Gen.next.Goals as goal
-
-pub returns-clause-drawn : goal.returns-clause-drawn
-returns-clause-drawn c =
-    λ d stands. next_is d c.args.self.now _ _ _ (c.candidate-event.ensures.drawn d stands) (c.in_place_of.ensures.drawn d stands)

@@ -1,0 +1,155 @@
+-- The words of the command line: this project's profile.
+use Rattle.std.specs.Prelude.{◌==◌, ◌≤◌, ℕ, ◌||◌, List, [], ◌∷◌, Option, Some, None, codes, length, nat_lt, not, option_map, if◌then◌else◌}
+use Rattle.std.specs.Option.{option_map_or}
+use Rattle.std.specs.Str.{bytes_eq}
+use Rattle.qn_base.specs.Decimal.{number_of}
+use Rattle.qn_base.specs.declared.ids.NodeId.{NodeId}
+use Rattle.qn_base.specs.declared.limits.TheConstants.{LONGEST_PERIOD, MOST_EVENTS}
+use Rattle.qn_model.specs.declared.disk.Message.{Message}
+use Rattle.qn_model.specs.declared.disk.Message.TheVariants.{Empty, Test, Reset, Off, Exit, Crashdump}
+use Rattle.qn_model.specs.declared.times.Timing.{Timing}
+use Rattle.qn_model.specs.Lines.{parts}
+use Rattle.qn_model.specs.Messages.{operator_word}
+use Rattle.qn_model.specs.Timing.{usual_times}
+use Rattle.qn_top.specs.declared.command.Command.{Command}
+use Rattle.qn_top.specs.declared.command.Command.TheVariants as command
+use Rattle.qn_top.specs.declared.command.Form.{Form}
+use Rattle.qn_top.specs.declared.command.Form.TheVariants as form
+use Rattle.qn_top.specs.declared.options.OptionName.TheVariants as option
+use Rattle.qn_top.specs.Options.{are_options, option_text, value_of}
+
+-- go on with the value, where there is one
+infixl 10 ◌>>=◌
+abbrev pub ◌>>=◌ : {A B : Type 0} → Option A → (A → Option B) → Option B
+None >>= next = None
+(Some value) >>= next = next value
+
+-- a number in a range; leading zeros are good
+unfoldable pub number_in : ℕ → ℕ → List ℕ → Option ℕ
+number_in least greatest word = do
+  number ← number_of word
+  if nat_lt number least || nat_lt greatest number then None else Some number
+
+-- the first of some parts as a time in milliseconds, and the parts after it
+abbrev pub next_time : List (List ℕ) → Option (ℕ × List (List ℕ))
+next_time [] = None
+next_time (part ∷ parts) = do
+  time ← number_in 1 LONGEST_PERIOD part
+  Some (time, parts)
+
+-- five times, separated by commas
+unfoldable pub timing_in : List ℕ → Option Timing
+timing_in text = do
+  first ← next_time (parts 44 text)
+  second ← next_time first.1
+  third ← next_time second.1
+  fourth ← next_time third.1
+  fifth ← next_time fourth.1
+  if not (length fifth.1 == 0) then None
+      else Some (record { watchdog = first.0; msgwait = second.0; loop_ms = third.0; read_limit = fourth.0; feed_delay = fifth.0 })
+
+-- the times among the options, or the usual ones
+unfoldable pub timing_of : List (List ℕ) → Option Timing
+timing_of options = option_map_or timing_in (value_of (option_text option.Timing) options) (Some usual_times)
+
+-- the id among the options
+unfoldable pub id_of : List (List ℕ) → Option NodeId
+id_of options = do
+  word ← value_of (option_text option.Id) options
+  id ← number_in 1 4294967295 word
+  Some (record { 0 = id })
+
+-- sbd(8), `message`: the messages that an operator may send
+abbrev pub kind_named : List ℕ → Option Message
+kind_named word =
+    if bytes_eq word (operator_word Empty) then Some Empty
+    else if bytes_eq word (operator_word Test) then Some Test
+    else if bytes_eq word (operator_word Reset) then Some Reset
+    else if bytes_eq word (operator_word Off) then Some Off
+    else if bytes_eq word (operator_word Exit) then Some Exit
+    else if bytes_eq word (operator_word Crashdump) then Some Crashdump
+    else None
+
+-- the message among the options
+unfoldable pub kind_of : List (List ℕ) → Option Message
+kind_of options = do
+  word ← value_of (option_text option.Kind) options
+  kind_named word
+
+-- the path of an image, which is the only option
+unfoldable pub image_alone : List (List ℕ) → Option (List ℕ)
+image_alone options =
+    if not (are_options (option.Image ∷ []) options) then None else value_of (option_text option.Image) options
+
+-- the forms of a status
+abbrev pub form_named : List ℕ → Option Form
+form_named word =
+    if bytes_eq word (codes "text") then Some form.Text
+    else if bytes_eq word (codes "json") then Some form.Json
+    else None
+
+-- the form, which is the only option; text where none is written
+unfoldable pub form_of : List (List ℕ) → Option Form
+form_of options =
+    if not (are_options (option.Form ∷ []) options) then None
+    else option_map_or form_named (value_of (option_text option.Form) options) (Some form.Text)
+
+-- `soak`: two plain words
+unfoldable pub soak_of : List (List ℕ) → Option Command
+soak_of (seed ∷ events ∷ []) = do
+  first ← number_of seed
+  count ← number_in 1 MOST_EVENTS events
+  Some (command.Soak first count)
+soak_of words = None
+
+-- `create`
+unfoldable pub create_of : List (List ℕ) → Option Command
+create_of options =
+    if not (are_options (option.Image ∷ option.Timing ∷ []) options) then None
+    else do
+      image ← value_of (option_text option.Image) options
+      timing ← timing_of options
+      Some (command.Create image timing)
+
+-- `message`
+unfoldable pub message_of : List (List ℕ) → Option Command
+message_of options =
+    if not (are_options (option.Image ∷ option.Id ∷ option.Kind ∷ []) options) then None
+    else do
+      image ← value_of (option_text option.Image) options
+      id ← id_of options
+      kind ← kind_of options
+      Some (command.Message image id kind)
+
+-- the command of this name, with these options
+abbrev pub command_named : List ℕ → List (List ℕ) → Option Command
+command_named name options =
+    if bytes_eq name (codes "count") then (if are_options [] options then Some command.Count else None)
+    else if bytes_eq name (codes "replay") then (if are_options [] options then Some command.Replay else None)
+    else if bytes_eq name (codes "status") then option_map command.Status (form_of options)
+    else if bytes_eq name (codes "soak") then soak_of options
+    else if bytes_eq name (codes "create") then create_of options
+    else if bytes_eq name (codes "dump") then option_map command.Dump (image_alone options)
+    else if bytes_eq name (codes "list") then option_map command.List (image_alone options)
+    else if bytes_eq name (codes "message") then message_of options
+    else if bytes_eq name (codes "migrate") then option_map command.Migrate (image_alone options)
+    else if bytes_eq name (codes "help") then (if are_options [] options then Some command.Help else None)
+    else None
+
+-- the command that the words are, where they are one
+abbrev pub command_of : List (List ℕ) → Option Command
+command_of [] = None
+command_of (name ∷ options) = command_named name options
+
+-- a soak has at most MOST_EVENTS events
+abbrev pub IsProper : Command → Type 0
+IsProper command.Count = Unit {0}
+IsProper command.Replay = Unit {0}
+IsProper (command.Status form) = Unit {0}
+IsProper (command.Soak seed events) = events ≤ MOST_EVENTS
+IsProper (command.Create image timing) = Unit {0}
+IsProper (command.Dump image) = Unit {0}
+IsProper (command.List image) = Unit {0}
+IsProper (command.Message image id kind) = Unit {0}
+IsProper (command.Migrate image) = Unit {0}
+IsProper command.Help = Unit {0}

@@ -1,0 +1,5 @@
+//! The commands, one in each file.
+pub(crate) mod help;
+pub(crate) mod replay;
+pub(crate) mod soak;
+pub(crate) mod status;
