@@ -29,3 +29,7 @@ pub mod Incarnations
 pub mod FenceAndTells
 pub mod ResetLanding
 pub mod Premises
+pub mod TripleSets
+pub mod TripleAnswers
+pub mod TripleSeats
+pub mod TripleRows

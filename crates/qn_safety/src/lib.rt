@@ -16,6 +16,7 @@
 mod landing;
 mod laws;
 mod lemmas;
+mod triple_event;
 
 pub use landing::law_landed_reset;
 pub use laws::{
@@ -23,3 +24,4 @@ pub use laws::{
     law_timed_runs, law_wait_for_all,
 };
 pub use lemmas::{law_fence, law_tells};
+pub use triple_event::TripleEvent;
