@@ -32,4 +32,9 @@ pub mod Premises
 pub mod TripleSets
 pub mod TripleAnswers
 pub mod TripleSeats
+pub mod TripleLogs
+pub mod TripleKept
+pub mod TripleHeld
+pub mod TripleRising
+pub mod TripleEvents
 pub mod TripleRows
