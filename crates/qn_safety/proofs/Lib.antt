@@ -37,4 +37,6 @@ pub mod TripleKept
 pub mod TripleHeld
 pub mod TripleRising
 pub mod TripleEvents
+pub mod TripleLandings
+pub mod TripleFacts
 pub mod TripleRows

@@ -480,7 +480,7 @@ next_effect s t j top w w' (Answers tick op on out e) made made' was =
 next_effect s t j top w w' (BootsUp tick clean off e) made made' was =
     subst (λ x. Next s t j top (seat_of s j w) x) (sym e) (next_boots s t j top (seat_of s j w) made was tick clean (subst (λ l. Made s j l) (ap (λ x. x.log) e) made'))
 next_effect s t j top w w' (GoesOff on e) made made' was = subst (λ x. Next s t j top (seat_of s j w) x) (sym e) (next_ends s t j top (seat_of s j w) made was on)
-next_effect s t j top w w' (LandsOn k op on out pending e) made made' was =
+next_effect s t j top w w' (LandsOn k op on out pending all e) made made' was =
     subst (λ x. Next s t j top (seat_of s j w) x) (sym e) (next_lands s t j top (seat_of s j w) made was k op (image_of k w) on out pending refl)
 next_effect s t j top w w' (LostOn k op on out e) made made' was = subst (λ x. Next s t j top (seat_of s j w) x) (sym e) (next_loses s t j top (seat_of s j w) made was k op on out)
 next_effect s t j top w w' (LateOn k number op there e) made made' was = subst (λ x. Next s t j top (seat_of s j w) x) (sym e) (next_late s t j top (seat_of s j w) made was k number op there)

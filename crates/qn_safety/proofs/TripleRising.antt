@@ -34,7 +34,7 @@ same_boots (Enters tick entry o plain e) on = ap (λ x. x.boots) e
 same_boots (Answers tick op o out e) on = ap (λ x. x.boots) e
 same_boots {s = s} {j = j} {w = w} (BootsUp tick clean off e) on = clash (node s j w.moments).on on off
 same_boots (GoesOff o e) on = ap (λ x. x.boots) e
-same_boots (LandsOn k op o out pending e) on = ap (λ x. x.boots) e
+same_boots (LandsOn k op o out pending all e) on = ap (λ x. x.boots) e
 same_boots (LostOn k op o out e) on = ap (λ x. x.boots) e
 same_boots (LateOn k number op there e) on = ap (λ x. x.boots) e
 

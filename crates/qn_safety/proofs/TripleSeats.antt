@@ -90,7 +90,7 @@ pub data Effect (s : Settings) (t : Timing) (j : ℕ) (w w' : TripleWorld) : Typ
   Answers : (tick : ℕ) (op : DiskOp) → (node s j w.moments).on ≡ true → op_of s j w ≡ Some op → seat_of s j w' ≡ answered s j tick op (seat_of s j w) → Effect s t j w w'
   BootsUp : (tick : ℕ) (clean : Bool) → (node s j w.moments).on ≡ false → seat_of s j w' ≡ entered s j tick (begin_of clean) (fresh (seat_of s j w)) → Effect s t j w w'
   GoesOff : (node s j w.moments).on ≡ true → seat_of s j w' ≡ gone_off (seat_of s j w) → Effect s t j w w'
-  LandsOn : (k : ℕ) (op : DiskOp) → (node s j w.moments).on ≡ true → op_of s j w ≡ Some op → w.parts j k ≡ Pending
+  LandsOn : (k : ℕ) (op : DiskOp) → (node s j w.moments).on ≡ true → op_of s j w ≡ Some op → w.parts j k ≡ Pending → w' ≡ landed_on s t j k op w
       → seat_of s j w' ≡ record (seat_of s j w) { parts = put (w.parts j) k (Landed (taken s t j op (image_of k w))); slots = slots_after k op (w.slots j) } → Effect s t j w w'
   LostOn : (k : ℕ) (op : DiskOp) → (node s j w.moments).on ≡ true → op_of s j w ≡ Some op → seat_of s j w' ≡ part_lost k op (seat_of s j w) → Effect s t j w w'
   LateOn : (k number : ℕ) (op : DiskOp) → numbered (w.left j k) number ≡ Some op → seat_of s j w' ≡ late k number op (seat_of s j w) → Effect s t j w w'
@@ -224,7 +224,7 @@ module _ (s : Settings) (t : Timing) where
   effect_lands r j k op w on out pending = by_owner (r == j) refl
     where
       own : Effect s t r w (landed_on s t r k op w)
-      own = LandsOn k op on out pending
+      own = LandsOn k op on out pending refl
           (seat_same (node s r w.moments) (node s r w.moments) _ _ _ _ _ _ _ _ refl (put_same w.parts r (put (w.parts r) k (Landed (taken s t r op (image_of k w))))) refl refl (slots_own r k op w.slots))
 
       by_owner : (b : Bool) → (r == j) ≡ b → Effect s t j w (landed_on s t r k op w)
