@@ -39,4 +39,6 @@ pub mod TripleRising
 pub mod TripleEvents
 pub mod TripleLandings
 pub mod TripleFacts
+pub mod TripleMail
+pub mod TripleHolders
 pub mod TripleRows

@@ -140,6 +140,14 @@ between_of j line past before allowed added it =
     let place = it.place in
     record { back = it.back; same = it.same; on = it.on; since = omega arith }
 
+-- the moment right before an answer is such a one too
+pub between_here : {s : Settings} {t : Timing} {events : List TripleEvent} (j : ℕ) (line : Line) (past : List Line) (before : List Moment) → IsAllowed s t events
+    → IsAdded s j line past before (run_triple s t events).moments → (node s j before).on ≡ true → IsBetween s j line before before
+between_here {s = s} j line past before allowed added on =
+    let asked = asked_le j line past before allowed added in
+    let inside = ask_place_inside (node s j before).log in
+    record { back = Itself; same = refl; on = on; since = omega arith }
+
 -- a part that has landed had done so, or it lands with the event
 pub data PartCase (s : Settings) (t : Timing) (i : ℕ) (w w' : TripleWorld) (k : ℕ) (value : What) : Type 0 where
   WasThere : w.parts i k ≡ Landed value → PartCase s t i w w' k value
