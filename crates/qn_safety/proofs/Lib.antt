@@ -42,3 +42,4 @@ pub mod TripleFacts
 pub mod TripleMail
 pub mod TripleHolders
 pub mod TripleRows
+pub mod TriplePremises

@@ -9,3 +9,4 @@ pub mod Premises
 pub mod TripleWorld
 pub mod TripleRules
 pub mod TripleSteps
+pub mod TriplePremises

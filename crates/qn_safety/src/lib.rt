@@ -17,6 +17,7 @@ mod landing;
 mod laws;
 mod lemmas;
 mod triple_event;
+mod triple_laws;
 
 pub use landing::law_landed_reset;
 pub use laws::{
@@ -25,3 +26,6 @@ pub use laws::{
 };
 pub use lemmas::{law_fence, law_tells};
 pub use triple_event::TripleEvent;
+pub use triple_laws::{
+    law_triple_no_two_holders, law_triple_premises_are_met, law_triple_runs_are_timed,
+};
