@@ -1,10 +1,9 @@
 -- What the parts of an operation on three images answer together.
-use Rattle.std.proofs.Common.{◌≡◌, ℕ, ◌≤◌, Bool, true, false, List, [], ◌∷◌, ◌++◌, Some, None, Option, refl, sym, ap, ◌∙◌, subst, arith, ◌==◌, ◌&&◌, ◌||◌, not, nat_lt, unwrap_or, if◌then◌else◌, ◌⊎◌, inl, inr}
+use Rattle.std.proofs.Common.{◌≡◌, ℕ, ◌≤◌, Bool, true, false, List, [], ◌∷◌, ◌++◌, Some, refl, sym, ap, ◌∙◌, subst, arith, ◌==◌, ◌&&◌, ◌||◌, not, nat_lt, unwrap_or, if◌then◌else◌, ◌⊎◌, inl, inr}
 use Rattle.std.proofs.lemmas.Bool.{false≢true, eqb-true, eq-eqb, ltb-true, ltb-false}
 use Rattle.qn_base.specs.declared.ids.Rank.{Rank}
 use Rattle.qn_model.specs.declared.disk.Message.{Message}
 use Rattle.qn_model.specs.declared.disk.Slot.{Slot}
-use Rattle.qn_model.specs.declared.seen.SlotSeen.{SlotSeen}
 use Rattle.qn_model.specs.declared.seen.SlotSeen.TheVariants as slot
 use Rattle.qn_model.specs.declared.seen.MailSeen.TheVariants as mail
 use Rattle.qn_model.specs.declared.entries.What.{What}
@@ -12,9 +11,7 @@ use Rattle.qn_model.specs.declared.entries.What.TheVariants as what
 use Rattle.qn_model.specs.declared.outputs.DiskOp.{DiskOp}
 use Rattle.qn_model.specs.declared.outputs.DiskOp.TheVariants as disk
 use Rattle.qn_model.specs.Fitting.{answers_op}
-use Rattle.qn_model.specs.Licences.{reads_slot, writes_reset, is_clean_slot}
-use Rattle.qn_model.specs.Phases.{message_of}
-use Rattle.qn_model.specs.NodeOutputs.{feeds_on}
+use Rattle.qn_model.specs.Licences.{writes_reset}
 use Rattle.qn_model.specs.Sectors.{is_deadly}
 use Rattle.qn_model.specs.World.{failed}
 use Rattle.qn_safety.specs.TripleWorld.{Part, Pending, Landed, Lost, needs_good, counted, counting, slots_among, is_above, highest, slot_among, messages_among, first_deadly, harmless, message_among, together, answer_among, answer_of}

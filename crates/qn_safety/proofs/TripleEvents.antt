@@ -1,6 +1,6 @@
 -- The events of the world of three images and the moments of its run: the moments obey the rules, and each of them comes of an
 -- event.
-use Rattle.std.proofs.Common.{◌≡◌, ℕ, suc, zero, ◌+◌, ◌<◌, ◌≤◌, Bool, true, false, List, [], ◌∷◌, length, Some, None, Option, refl, sym, ap, ◌∙◌, subst, arith, ◌==◌, not, ◌⊎◌, inl, inr, nat_le}
+use Rattle.std.proofs.Common.{◌≡◌, ℕ, suc, zero, ◌+◌, ◌<◌, ◌≤◌, Bool, true, List, [], ◌∷◌, length, Some, None, Option, refl, sym, ◌∙◌, subst, arith, ◌==◌, not, ◌⊎◌, inl, inr, nat_le}
 use Rattle.std.specs.Option.{option_map_or}
 use Rattle.std.specs.Prelude.{slice_get}
 use Rattle.std.specs.List.{list_all, range_with_len}
@@ -13,7 +13,6 @@ use Rattle.qn_model.specs.declared.packets.Packet.TheVariants as packet
 use Rattle.qn_model.specs.declared.packets.Sent.{Sent}
 use Rattle.qn_model.specs.declared.entries.What.{What}
 use Rattle.qn_model.specs.declared.entries.What.TheVariants as what
-use Rattle.qn_model.specs.declared.events.Event.{Event}
 use Rattle.qn_model.specs.declared.events.Event.TheVariants as event
 use Rattle.qn_model.specs.declared.outputs.DiskOp.{DiskOp}
 use Rattle.qn_model.specs.Log.{incarnation}
@@ -25,12 +24,12 @@ use Rattle.qn_model.specs.Steps.{happens, entry_of, step}
 use Rattle.qn_safety.specs.declared.triple_event.TripleEvent.{TripleEvent}
 use Rattle.qn_safety.specs.declared.triple_event.TripleEvent.TheVariants as triple
 use Rattle.qn_safety.specs.Timed.{IsUp, WasSent, AllRuled, NoMoment, OneRuled, NumbersRise}
-use Rattle.qn_safety.specs.TripleWorld.{TripleWorld, nodes_of, op_of, answer_of, first_triple}
+use Rattle.qn_safety.specs.TripleWorld.{TripleWorld, nodes_of, op_of, answer_of}
 use Rattle.qn_safety.specs.TripleRules.{is_well_formed_triple, refusal_triple, may_be_done_triple}
 use Rattle.qn_safety.specs.TripleSteps.{landed_on, lost_on, done_triple, lands_late_on, step_triple, run_triple, AllAllowedTriple}
 use Rattle.qn_safety.proofs.Tools.{clash, and_left_of, and_right_of, not_true, before_total}
 use Rattle.qn_safety.proofs.Outs.{plain_no_answer}
-use Rattle.qn_safety.proofs.Runs.{sound, ruled_before, boots_le}
+use Rattle.qn_safety.proofs.Runs.{boots_le}
 use Rattle.qn_safety.proofs.Seats.{allows, both_allow, running_allows, test_there}
 use Rattle.qn_safety.proofs.Events.{newest_state, only_nothing}
 use Rattle.qn_safety.proofs.TripleAnswers.{answer_answers}
@@ -118,8 +117,10 @@ ruled_step s t (triple.One (event.Done rank)) w form ok ruled = by_op (op_of s r
     by_op : (o : Option DiskOp) → AllRuled s t (option_map_or (λ op. done_triple rank.0 op w) o w).moments
     by_op None = ruled
     by_op (Some op) =
-        OneRuled ((both_allow (is_on s rank.0 (nodes_of w)) (may_be_done_triple s rank.0 w) 3 5 ok).0,
-        answer_unsent s rank.0 (Some op) (answer_of op (w.parts rank.0) (w.good rank.0)) w.moments (answer_answers op (w.parts rank.0) (w.good rank.0))) ruled
+        OneRuled (
+          (both_allow (is_on s rank.0 (nodes_of w)) (may_be_done_triple s rank.0 w) 3 5 ok).0,
+          answer_unsent s rank.0 (Some op) (answer_of op (w.parts rank.0) (w.good rank.0)) w.moments (answer_answers op (w.parts rank.0) (w.good rank.0)),
+        ) ruled
 ruled_step s t (triple.One (event.View rank view)) w form ok ruled = OneRuled ((both_allow (is_on s rank.0 (nodes_of w)) (is_member view.members rank.0) 3 7 ok).0, tt) ruled
 ruled_step s t (triple.One (event.Deliver rank number)) w form ok ruled =
     let rules = both_allow (is_on s rank.0 (nodes_of w)) (may_deliver s rank.0 number (nodes_of w)) 3 8 ok in

@@ -1,6 +1,6 @@
 -- Two of the four facts of the disk hold of every run of three images: headers agree, and clean means closed.
-use Rattle.std.proofs.Common.{◌≡◌, ℕ, ◌<◌, ◌≤◌, Bool, true, false, List, [], ◌∷◌, Some, None, Option, refl, sym, ap, ◌∙◌, subst, arith, ◌&&◌, ◌==◌, ◌⊎◌, inl, inr}
-use Rattle.std.proofs.lemmas.Bool.{false≢true, true≢false, eqb-true}
+use Rattle.std.proofs.Common.{◌≡◌, ℕ, ◌<◌, Bool, true, false, List, ◌∷◌, Some, None, Option, refl, sym, ap, ◌∙◌, subst, arith, ◌==◌, ◌⊎◌, inl, inr}
+use Rattle.std.proofs.lemmas.Bool.{false≢true, eqb-true}
 use Rattle.qn_base.specs.declared.ids.Rank.{Rank}
 use Rattle.qn_model.specs.declared.configuration.Settings.{Settings}
 use Rattle.qn_model.specs.declared.times.Timing.{Timing}
@@ -10,28 +10,28 @@ use Rattle.qn_model.specs.declared.entries.What.{What}
 use Rattle.qn_model.specs.declared.entries.What.TheVariants as what
 use Rattle.qn_model.specs.declared.outputs.DiskOp.{DiskOp}
 use Rattle.qn_model.specs.declared.outputs.DiskOp.TheVariants as disk
-use Rattle.qn_model.specs.Log.{Line, op_out, claimed, times_of, is_answer}
+use Rattle.qn_model.specs.Log.{claimed, times_of, is_answer}
 use Rattle.qn_model.specs.Phases.{phase, is_booting}
 use Rattle.qn_model.specs.Licences.{reads_slot, is_clean_slot}
-use Rattle.qn_model.specs.Moments.{Before, Moment, node}
-use Rattle.qn_model.specs.World.{World, put, taken, failed}
+use Rattle.qn_model.specs.Moments.{Moment, node}
+use Rattle.qn_model.specs.World.{World, taken, failed}
 use Rattle.qn_safety.specs.declared.triple_event.TripleEvent.{TripleEvent}
 use Rattle.qn_safety.specs.Closing.{asked_close}
-use Rattle.qn_safety.specs.Timed.{IsUp, IsBetween, HasClosed, IsAdded, CleanMeansClosed, HeadersAgree}
-use Rattle.qn_safety.specs.TripleWorld.{TripleWorld, Landed, image_of, op_of, counting, slots_among, header_of, together, answer_of, good_after}
+use Rattle.qn_safety.specs.Timed.{IsUp, IsBetween, HasClosed, CleanMeansClosed, HeadersAgree}
+use Rattle.qn_safety.specs.TripleWorld.{TripleWorld, Landed, image_of, op_of, counting, header_of, together, answer_of}
 use Rattle.qn_safety.specs.TripleSteps.{run_triple}
 use Rattle.qn_safety.proofs.Tools.{some_same, none_some, clash, and_left_of, and_right_of, before_tail}
-use Rattle.qn_safety.proofs.Logs.{Made, IsLine, made_line}
+use Rattle.qn_safety.proofs.Logs.{Made, made_line}
 use Rattle.qn_safety.proofs.Rests.{read_is}
 use Rattle.qn_safety.proofs.Runs.{sound}
 use Rattle.qn_safety.proofs.Numbers.{claimed_same}
-use Rattle.qn_safety.proofs.Origins.{IsIn, line_of}
+use Rattle.qn_safety.proofs.Origins.{IsIn}
 use Rattle.qn_safety.proofs.Kept.{booting_op}
 use Rattle.qn_safety.proofs.TripleSets.{TwoOf, meet, map_two, numbered_in}
 use Rattle.qn_safety.proofs.TripleAnswers.{CountsAt, AnswerIs, FewCount, TwoCount, answer_is, counted_at, SlotTold, slot_told, slot_in, slot_from}
-use Rattle.qn_safety.proofs.TripleSeats.{TripleSeat, seat_of, slots_after, Effect, Rests, Enters, Answers, BootsUp, GoesOff, LandsOn, LostOn, LateOn}
+use Rattle.qn_safety.proofs.TripleSeats.{seat_of, Effect, Rests, Enters, Answers, BootsUp, GoesOff, LandsOn, LostOn, LateOn}
 use Rattle.qn_safety.proofs.TripleLogs.{close_asked}
-use Rattle.qn_safety.proofs.TripleKept.{dirty, closed, Took, IsOwn, Kept, Standing, slot_case}
+use Rattle.qn_safety.proofs.TripleKept.{dirty, IsOwn, Kept, slot_case}
 use Rattle.qn_safety.proofs.TripleRising.{Height}
 use Rattle.qn_safety.proofs.TripleEvents.{IsAllowed, allowed_before, stage, effect_at, earlier_allowed}
 use Rattle.qn_safety.proofs.TripleLandings.{LineKind, Plain, Told, AddedBy, added_by, Seen, between_of, PartCase, WasThere, JustLanded, Carried, watch}

@@ -1,5 +1,5 @@
 -- What stays true of a node on three images at each event, and how the number of its last incarnation rises.
-use Rattle.std.proofs.Common.{◌≡◌, ℕ, ◌<◌, ◌≤◌, Bool, true, false, List, [], ◌∷◌, ◌++◌, Some, None, Option, refl, sym, ap, ◌∙◌, subst, arith, not, if◌then◌else◌, ◌⊎◌, inl, inr, unwrap_or}
+use Rattle.std.proofs.Common.{◌≡◌, ℕ, ◌<◌, ◌≤◌, Bool, true, false, List, [], ◌∷◌, ◌++◌, Some, None, Option, refl, sym, ap, ◌∙◌, subst, arith, ◌⊎◌, inl, inr, unwrap_or}
 use Rattle.std.proofs.lemmas.Bool.{false≢true, true≢false}
 use Rattle.qn_base.specs.declared.ids.Rank.{Rank}
 use Rattle.qn_model.specs.declared.configuration.Settings.{Settings}
@@ -16,23 +16,21 @@ use Rattle.qn_model.specs.Phases.{phase, next_phase, in_time, is_booting}
 use Rattle.qn_model.specs.Fitting.{answers_op}
 use Rattle.qn_model.specs.Moments.{begin_of, is_gone, node}
 use Rattle.qn_model.specs.World.{World, put, taken, numbered, without}
-use Rattle.qn_safety.specs.Closing.{asked_close}
-use Rattle.qn_safety.specs.TripleWorld.{TripleWorld, Part, Pending, Landed, Lost, all_pending, all_good, none_left, first_triple, image_of, leaves_over, has_landed, counting, slots_among, answer_of, good_after}
-use Rattle.qn_safety.proofs.Tools.{some_same, none_some, some_none, clash, not_true}
-use Rattle.qn_safety.proofs.Logs.{Made, NoLine, OneMore, IsLine, made_line}
+use Rattle.qn_safety.specs.TripleWorld.{TripleWorld, Pending, Landed, all_pending, first_triple, image_of, leaves_over, has_landed, counting, answer_of, good_after}
+use Rattle.qn_safety.proofs.Tools.{some_same, none_some, clash, not_true}
+use Rattle.qn_safety.proofs.Logs.{Made, NoLine, IsLine, made_line}
 use Rattle.qn_safety.proofs.Apt.{claimed_answers, check_answers}
-use Rattle.qn_safety.proofs.Stays.{boot_past}
 use Rattle.qn_safety.proofs.Numbers.{NumberFrom, BySlot, ByCheck, ClaimGiven, claim_given, claimed_same}
 use Rattle.qn_safety.proofs.Outs.{answer_fits, read_plain, claimed_cases, out_claims, own_slot_out, clear_given, check_given, claimed_by_clear, comes_up}
 use Rattle.qn_safety.proofs.Origins.{IsIn, line_of, line_what}
-use Rattle.qn_safety.proofs.Kept.{booting_op, taken_answers}
+use Rattle.qn_safety.proofs.Kept.{booting_op}
 use Rattle.qn_safety.proofs.Held.{begin_plain}
 use Rattle.qn_safety.proofs.Seats.{put_same}
 use Rattle.qn_safety.proofs.TripleSets.{TwoOf, OneTwo, meet, map_two, put_case, none_in, numbered_in, without_in, in_either}
 use Rattle.qn_safety.proofs.TripleAnswers.{CountsAt, SlotTold, answer_answers, slot_told, slot_in, claimed_two, cleared_two}
 use Rattle.qn_safety.proofs.TripleSeats.{TripleSeat, seat_of, entered, answered, fresh, gone_off, slots_after, part_lost, late, Effect, Rests, Enters, Answers, BootsUp, GoesOff, LandsOn, LostOn, LateOn}
 use Rattle.qn_safety.proofs.TripleLogs.{booted_back, booting_back, close_asked, closing_booted, open_before, asked_on, given_out, cleared_is, claim_first}
-use Rattle.qn_safety.proofs.TripleKept.{dirty, closed, Took, IsRead, Claiming, Clearing, Standing, ClearLeft, IsOwn, KeepsTop, Kept, fresh_read, not_landed, kept_enter, slot_case, above_after, clean_after, kept_written, kept_landed, leaves_is, kept_lost, keeps_out}
+use Rattle.qn_safety.proofs.TripleKept.{dirty, IsRead, Clearing, IsOwn, KeepsTop, Kept, fresh_read, not_landed, kept_enter, above_after, clean_after, kept_written, kept_landed, leaves_is, kept_lost, keeps_out}
 
 -- what is always true of a seat, by the number of the last incarnation of its node that came up
 pub record Held (s : Settings) (t : Timing) (j top : ℕ) (x : TripleSeat) : Type 0 where

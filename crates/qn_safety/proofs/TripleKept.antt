@@ -1,5 +1,5 @@
 -- What is always true of the slots of a node on three images, of the parts of its operation and of its leftovers.
-use Rattle.std.proofs.Common.{◌≡◌, ℕ, ◌<◌, ◌≤◌, Bool, true, false, List, [], ◌∷◌, ◌++◌, Some, None, Option, refl, sym, ap, ◌∙◌, subst, arith, if◌then◌else◌, ◌⊎◌, inl, inr}
+use Rattle.std.proofs.Common.{◌≡◌, ℕ, ◌<◌, ◌≤◌, Bool, true, false, [], ◌∷◌, ◌++◌, Some, None, Option, refl, sym, ap, ◌∙◌, subst, arith, if◌then◌else◌, ◌⊎◌, inl, inr}
 use Rattle.std.proofs.lemmas.Bool.{false≢true, true≢false}
 use Rattle.qn_base.specs.declared.ids.Rank.{Rank}
 use Rattle.qn_model.specs.declared.configuration.Settings.{Settings}
@@ -15,11 +15,11 @@ use Rattle.qn_model.specs.Phases.{phase, is_booting}
 use Rattle.qn_model.specs.World.{World, put, taken, is_write}
 use Rattle.qn_safety.specs.Closing.{asked_close}
 use Rattle.qn_safety.specs.TripleWorld.{Part, Pending, Landed, Lost, all_pending, leaves_over}
-use Rattle.qn_safety.proofs.Tools.{some_same, none_some, clash}
-use Rattle.qn_safety.proofs.Logs.{Made, NoLine, IsLine}
+use Rattle.qn_safety.proofs.Tools.{some_same, clash}
+use Rattle.qn_safety.proofs.Logs.{Made, IsLine}
 use Rattle.qn_safety.proofs.Stays.{op_kept}
-use Rattle.qn_safety.proofs.Numbers.{ClaimGiven, claim_given, claimed_same, number_kept}
-use Rattle.qn_safety.proofs.Outs.{out_cases, out_claims, out_closes, own_slot_out, clear_given, check_given}
+use Rattle.qn_safety.proofs.Numbers.{claim_given, number_kept}
+use Rattle.qn_safety.proofs.Outs.{out_cases, out_claims, out_closes, clear_given, check_given}
 use Rattle.qn_safety.proofs.Origins.{IsIn}
 use Rattle.qn_safety.proofs.Kept.{booting_op, booted_op}
 use Rattle.qn_safety.proofs.Seats.{put_same}

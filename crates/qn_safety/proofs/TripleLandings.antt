@@ -8,12 +8,12 @@ use Rattle.qn_model.specs.declared.outputs.DiskOp.{DiskOp}
 use Rattle.qn_model.specs.Log.{Line, op_out, ask_place, is_answer}
 use Rattle.qn_model.specs.Fitting.{answers_op}
 use Rattle.qn_model.specs.Moments.{Before, Itself, Later, Moment, Adds, node}
-use Rattle.qn_model.specs.World.{put, taken}
+use Rattle.qn_model.specs.World.{taken}
 use Rattle.qn_safety.specs.declared.triple_event.TripleEvent.{TripleEvent}
 use Rattle.qn_safety.specs.Timed.{IsSameBoot, IsBetween, AllRuled, IsAdded}
 use Rattle.qn_safety.specs.TripleWorld.{TripleWorld, Landed, Lost, image_of, op_of, answer_of}
 use Rattle.qn_safety.specs.TripleSteps.{landed_on, run_triple}
-use Rattle.qn_safety.proofs.Tools.{some_same, none_some, some_none, clash, before_tail, before_then}
+use Rattle.qn_safety.proofs.Tools.{none_some, clash, before_then}
 use Rattle.qn_safety.proofs.Logs.{Made, made_line}
 use Rattle.qn_safety.proofs.Stays.{op_kept, ask_place_kept}
 use Rattle.qn_safety.proofs.Outs.{answer_fits, read_plain}
@@ -63,7 +63,7 @@ module _ (s : Settings) (t : Timing) (j : ℕ) (entry : What) (line : Line) (pas
       let answer : What = answer_of op (w.parts j) (w.good j) in
       let is : line ≡ line_of s j tick (answer_of op (w.parts j) (w.good j)) (node s j w.moments).log = head_same (sym gave ∙ ap (λ x. x.log) same) in
       let fit = answer_fits s j (node s j w.moments).log (answer_of op (w.parts j) (w.good j))
-          (subst (λ o. answers_op o (answer_of op (w.parts j) (w.good j)) ≡ true) (sym out) (answer_answers op (w.parts j) (w.good j))) in
+      (subst (λ o. answers_op o (answer_of op (w.parts j) (w.good j)) ≡ true) (sym out) (answer_answers op (w.parts j) (w.good j))) in
       Told op out (ap (λ l. l.what) is ∙ line_what s j tick (answer_of op (w.parts j) (w.good j)) (node s j w.moments).log ∙ fit.1)
 
 added_later : {s : Settings} {t : Timing} {j : ℕ} {line : Line} {before : List Moment} {events : List TripleEvent} (e : TripleEvent) → AddedBy s t j line before events → AddedBy s t j line before (e ∷ events)

@@ -16,7 +16,7 @@ use Rattle.qn_model.specs.Fitting.{answers_op, is_claimed, is_cleared}
 use Rattle.qn_model.specs.NodeOutputs.{outs_at, taken_in, boot_outs, live_outs, mail_feeds}
 use Rattle.qn_model.specs.Moments.{Itself, Later}
 use Rattle.qn_safety.specs.Closing.{is_close, asked_close}
-use Rattle.qn_safety.proofs.Tools.{none_some, some_none, some_same, clash}
+use Rattle.qn_safety.proofs.Tools.{none_some, some_same, clash}
 use Rattle.qn_safety.proofs.Logs.{Made, NoLine, OneMore, IsLine, answers_out, ask_line}
 use Rattle.qn_safety.proofs.Apt.{slot_answers, check_answers}
 use Rattle.qn_safety.proofs.Stays.{boot_past, op_kept, is_over, closed_never, close_stays}

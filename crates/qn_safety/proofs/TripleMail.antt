@@ -1,5 +1,5 @@
 -- A reset that was written on two of three images: the incarnation that was up gets bad mail from then on.
-use Rattle.std.proofs.Common.{◌≡◌, ℕ, ◌<◌, ◌≤◌, Bool, true, false, List, ◌∷◌, length, Some, None, Option, refl, sym, ap, ◌∙◌, subst, arith, ◌==◌, ◌||◌, not, ◌⊎◌, inl, inr}
+use Rattle.std.proofs.Common.{◌≡◌, ℕ, ◌<◌, Bool, true, false, List, ◌∷◌, length, Some, None, Option, refl, sym, ap, ◌∙◌, subst, arith, ◌||◌, not, ◌⊎◌, inl, inr}
 use Rattle.std.specs.Option.{option_map_or}
 use Rattle.std.proofs.lemmas.Bool.{false≢true}
 use Rattle.qn_base.specs.declared.ids.Rank.{Rank}
@@ -14,7 +14,7 @@ use Rattle.qn_model.specs.declared.events.Event.{Event}
 use Rattle.qn_model.specs.declared.events.Event.TheVariants as event
 use Rattle.qn_model.specs.declared.outputs.DiskOp.{DiskOp}
 use Rattle.qn_model.specs.declared.outputs.DiskOp.TheVariants as disk
-use Rattle.qn_model.specs.Log.{Line, op_out, ask_place, is_answer}
+use Rattle.qn_model.specs.Log.{ask_place, is_answer}
 use Rattle.qn_model.specs.Phases.{phase, message_of, is_booting}
 use Rattle.qn_model.specs.Sectors.{is_deadly}
 use Rattle.qn_model.specs.Licences.{writes_reset}
@@ -28,7 +28,7 @@ use Rattle.qn_safety.specs.Timed.{IsUp, IsSameBoot, IsBetween, GetsBadMail, Writ
 use Rattle.qn_safety.specs.TripleWorld.{TripleWorld, Part, Landed, put_on, image_of, op_of, counting, needs_good, message_among, messages_among, together, answer_of, good_after, mailboxes_on}
 use Rattle.qn_safety.specs.TripleRules.{refusal_triple}
 use Rattle.qn_safety.specs.TripleSteps.{landed_on, lost_on, done_triple, lands_late_on, step_of_one, step_triple, run_triple}
-use Rattle.qn_safety.proofs.Tools.{some_same, clash, before_length, before_tail, before_then, before_total, before_same}
+use Rattle.qn_safety.proofs.Tools.{some_same, clash, before_length, before_tail, before_total, before_same}
 use Rattle.qn_safety.proofs.Logs.{Made}
 use Rattle.qn_safety.proofs.Rests.{write_is}
 use Rattle.qn_safety.proofs.Runs.{sound, ruled_before, span, same_mid}
@@ -38,10 +38,9 @@ use Rattle.qn_safety.proofs.Seats.{put_same, allows}
 use Rattle.qn_safety.proofs.Kept.{booting_op}
 use Rattle.qn_safety.proofs.Landings.{ask_place_inside}
 use Rattle.qn_safety.proofs.TripleSets.{TwoOf, meet, put_case, numbered_in}
-use Rattle.qn_safety.proofs.TripleAnswers.{CountsAt, AnswerIs, FewCount, TwoCount, answer_is, ResetOf, written_answer, mail_in, deadly_told}
+use Rattle.qn_safety.proofs.TripleAnswers.{CountsAt, AnswerIs, FewCount, TwoCount, answer_is, written_answer, mail_in, deadly_told}
 use Rattle.qn_safety.proofs.TripleSeats.{seat_of, Effect, Rests, Enters, Answers, BootsUp, GoesOff, LandsOn, LostOn, LateOn}
-use Rattle.qn_safety.proofs.TripleKept.{Took, Kept}
-use Rattle.qn_safety.proofs.TripleRising.{Height}
+use Rattle.qn_safety.proofs.TripleKept.{Kept}
 use Rattle.qn_safety.proofs.TripleEvents.{IsAllowed, allowed_before, stage, effect_at, earlier_allowed, newest_allowed, moments_grow, run_step}
 use Rattle.qn_safety.proofs.TripleLandings.{LineKind, Plain, Told, AddedBy, added_by, asked_le, Seen, between_of, between_here, PartCase, WasThere, JustLanded, Carried, carry, watch}
 
@@ -73,7 +72,7 @@ module _ (s : Settings) (t : Timing) (j k top : ℕ) (w : TripleWorld) (made : M
   no_clear_left : (r n number : ℕ) (op : DiskOp) → numbered (w.left r n) number ≡ Some op → r ≡ j → n ≡ k → op ≡ disk.WriteClear → ⊥
   no_clear_left r n number op there same here clear =
       let own : numbered (w.left j k) number ≡ Some disk.WriteClear = subst (λ q. numbered (w.left q k) number ≡ Some disk.WriteClear) same
-          (subst (λ m. numbered (w.left r m) number ≡ Some disk.WriteClear) here (there ∙ ap Some clear)) in
+      (subst (λ m. numbered (w.left r m) number ≡ Some disk.WriteClear) here (there ∙ ap Some clear)) in
       clash (w.good j k) good ((kept.own k disk.WriteClear (numbered_in (w.left j k) number disk.WriteClear own)).bad up.booted)
 
   by_rule : (a b c : Bool) → (a || not b || not c) ≡ true → b ≡ true → c ≡ true → a ≡ true
@@ -372,8 +371,9 @@ written_means_bad_mail {s = s} {t = t} {events = events} allowed i j line past b
         by_watch (inl seen) two =
             let at : Seen s i (λ p. IsUp s j p → ⊥) before = subst (λ ms. Seen s i (λ p. IsUp s j p → ⊥) ms) it.same seen in
             (at.at, between_of i line past before allowed added at, λ up. absurd (at.gone up))
-        by_watch (inr there) two =
-            ((run_triple s t it.earlier).moments,
-            subst (λ ms. IsBetween s i line before ms) (sym it.same) (between_here i line past before allowed added (subst (λ ms. (node s i ms).on ≡ true) it.same it.on)),
-            bad_mail_from allowed j (λ k. CountsAt op ((run_triple s t it.earlier).parts i) ((run_triple s t it.earlier).good i) k) two it.earlier (before_tail it.back)
-            (λ k counts good. there k (CountsAt.value counts) (CountsAt.landed counts) good))
+        by_watch (inr there) two = (
+          (run_triple s t it.earlier).moments,
+          subst (λ ms. IsBetween s i line before ms) (sym it.same) (between_here i line past before allowed added (subst (λ ms. (node s i ms).on ≡ true) it.same it.on)),
+          bad_mail_from allowed j (λ k. CountsAt op ((run_triple s t it.earlier).parts i) ((run_triple s t it.earlier).good i) k) two it.earlier (before_tail it.back)
+              (λ k counts good. there k (CountsAt.value counts) (CountsAt.landed counts) good),
+        )

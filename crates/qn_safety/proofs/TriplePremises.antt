@@ -103,10 +103,11 @@ passes_allowed : (s : Settings) (t : Timing) (events : List TripleEvent) → pas
 unfolding passes AllAllowedTriple
 passes_allowed s t [] e = tt
 passes_allowed s t (event ∷ earlier) e =
-    let now = and_left_of (is_well_formed_triple s event && is_none (refusal_triple s t event (run_triple s t earlier))) (passes s t earlier) e in
-    (and_left_of (is_well_formed_triple s event) (is_none (refusal_triple s t event (run_triple s t earlier))) now,
-    none_is (refusal_triple s t event (run_triple s t earlier)) (and_right_of (is_well_formed_triple s event) (is_none (refusal_triple s t event (run_triple s t earlier))) now),
-    passes_allowed s t earlier (and_right_of (is_well_formed_triple s event && is_none (refusal_triple s t event (run_triple s t earlier))) (passes s t earlier) e))
+    let now = and_left_of (is_well_formed_triple s event && is_none (refusal_triple s t event (run_triple s t earlier))) (passes s t earlier) e in (
+      and_left_of (is_well_formed_triple s event) (is_none (refusal_triple s t event (run_triple s t earlier))) now,
+      none_is (refusal_triple s t event (run_triple s t earlier)) (and_right_of (is_well_formed_triple s event) (is_none (refusal_triple s t event (run_triple s t earlier))) now),
+      passes_allowed s t earlier (and_right_of (is_well_formed_triple s event && is_none (refusal_triple s t event (run_triple s t earlier))) (passes s t earlier) e),
+    )
 
 takes_over_passes : passes two_nodes usual_times takes_over ≡ true
 unfolding op_out ask_place ask_tick claimed timing begins_clean slot_number view install votes answer_at present_view view_tick is_released expected_votes device_yes phase holds stop_due may_stop told out_time slot_read_since reset_since least_from unmet mail_tick wanted_with_delay moment acts outs_at with_entry logged handed booted time node given_out packets taken failed is_well_formed refusal step answer_of is_well_formed_triple refusal_triple step_triple run_triple passes

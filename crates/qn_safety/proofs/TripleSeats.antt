@@ -1,6 +1,6 @@
 -- What an event of the world of three images is to one node: its log, the parts of its operation, its leftovers, its good
 -- images and its slots.
-use Rattle.std.proofs.Common.{◌≡◌, ℕ, suc, Bool, true, false, List, [], ◌∷◌, ◌++◌, Some, None, Option, refl, sym, ap, ◌∙◌, subst, ◌==◌, ◌&&◌, not, if◌then◌else◌, is_some}
+use Rattle.std.proofs.Common.{◌≡◌, ℕ, suc, Bool, true, false, List, [], ◌∷◌, ◌++◌, Some, None, refl, sym, ap, ◌∙◌, subst, ◌==◌, not, if◌then◌else◌, is_some}
 use Rattle.std.specs.Option.{option_map_or}
 use Rattle.std.specs.Prelude.{slice_get}
 use Rattle.std.proofs.lemmas.Bool.{false≢true, eqb-true, eq-eqb}
@@ -14,7 +14,6 @@ use Rattle.qn_model.specs.declared.packets.Packet.TheVariants as packet
 use Rattle.qn_model.specs.declared.packets.Sent.{Sent}
 use Rattle.qn_model.specs.declared.entries.What.{What}
 use Rattle.qn_model.specs.declared.entries.What.TheVariants as what
-use Rattle.qn_model.specs.declared.events.Event.{Event}
 use Rattle.qn_model.specs.declared.events.Event.TheVariants as event
 use Rattle.qn_model.specs.declared.outputs.DiskOp.{DiskOp}
 use Rattle.qn_model.specs.declared.outputs.DiskOp.TheVariants as disk
@@ -27,10 +26,10 @@ use Rattle.qn_model.specs.Rules.{refusal, is_on, may_be_stopped, may_be_late, ma
 use Rattle.qn_model.specs.Steps.{happens, entry_of, step}
 use Rattle.qn_safety.specs.declared.triple_event.TripleEvent.{TripleEvent}
 use Rattle.qn_safety.specs.declared.triple_event.TripleEvent.TheVariants as triple
-use Rattle.qn_safety.specs.TripleWorld.{TripleWorld, Part, Pending, Landed, Lost, all_pending, all_good, none_left, put_on, image_of, nodes_of, op_of, is_pending, is_lost, leaves_over, answer_of, good_after, slots_on}
+use Rattle.qn_safety.specs.TripleWorld.{TripleWorld, Part, Pending, Landed, Lost, all_pending, all_good, none_left, image_of, nodes_of, op_of, is_pending, is_lost, leaves_over, answer_of, good_after, slots_on}
 use Rattle.qn_safety.specs.TripleRules.{refusal_triple, may_land_on, may_fail_on, may_be_done_triple, none_pending}
-use Rattle.qn_safety.specs.TripleSteps.{happens_triple, landed_on, lost_on, done_triple, ends_triple, boots_triple, lands_late_on, moves_nodes, step_triple}
-use Rattle.qn_safety.proofs.Tools.{some_none, none_some, and_left_of, and_right_of, not_true}
+use Rattle.qn_safety.specs.TripleSteps.{happens_triple, landed_on, lost_on, done_triple, ends_triple, boots_triple, lands_late_on, step_triple}
+use Rattle.qn_safety.proofs.Tools.{and_left_of, and_right_of, not_true}
 use Rattle.qn_safety.proofs.Runs.{added_node, booted_node}
 use Rattle.qn_safety.proofs.Origins.{line_of}
 use Rattle.qn_safety.proofs.Seats.{put_same, put_other, allows, both_allow, running_allows, is_there, test_there}

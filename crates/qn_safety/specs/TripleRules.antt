@@ -1,7 +1,6 @@
 -- Which events of the world of three images are well formed, and which a rule of the world refuses: this project's profile.
 -- The rules have the numbers that they have in the world of one image.
-use Rattle.std.specs.Prelude.{ℕ, Bool, true, false, Option, None, Some, ◌&&◌, ◌||◌, not, is_some}
-use Rattle.std.specs.Option.{option_or}
+use Rattle.std.specs.Prelude.{ℕ, Bool, Option, Some, ◌&&◌, not, is_some}
 use Rattle.qn_base.specs.declared.limits.TheConstants.{MOST_EVENTS}
 use Rattle.qn_model.specs.declared.configuration.Settings.{Settings}
 use Rattle.qn_model.specs.declared.times.Timing.{Timing}

@@ -1,7 +1,6 @@
 -- The step of the world of three images at each event, its runs, and what an event reports: this project's profile.
-use Rattle.std.specs.Prelude.{◌≡◌, ℕ, Bool, true, false, List, [], ◌∷◌, ◌++◌, Option, None, Some, if◌then◌else◌}
+use Rattle.std.specs.Prelude.{◌≡◌, ℕ, Bool, true, false, List, [], ◌∷◌, ◌++◌, None, Some}
 use Rattle.std.specs.Option.{option_map_or}
-use Rattle.qn_base.specs.declared.ids.Rank.{Rank}
 use Rattle.qn_model.specs.declared.configuration.Settings.{Settings}
 use Rattle.qn_model.specs.declared.times.Timing.{Timing}
 use Rattle.qn_model.specs.declared.outputs.DiskOp.{DiskOp}
@@ -13,7 +12,7 @@ use Rattle.qn_model.specs.World.{put, taken, numbered, without}
 use Rattle.qn_model.specs.Steps.{step, report}
 use Rattle.qn_safety.specs.declared.triple_event.TripleEvent.{TripleEvent}
 use Rattle.qn_safety.specs.declared.triple_event.TripleEvent.TheVariants as triple
-use Rattle.qn_safety.specs.TripleWorld.{TripleWorld, Part, Pending, Landed, Lost, first_triple, all_pending, all_good, none_left, put_on, image_of, nodes_of, op_of, leaves_over, answer_of, good_after, slots_on, mailboxes_on}
+use Rattle.qn_safety.specs.TripleWorld.{TripleWorld, Landed, Lost, first_triple, all_pending, all_good, none_left, put_on, image_of, nodes_of, op_of, leaves_over, answer_of, good_after, slots_on, mailboxes_on}
 use Rattle.qn_safety.specs.TripleRules.{is_well_formed_triple, refusal_triple}
 
 -- the world after one more moment that touches nothing of the images

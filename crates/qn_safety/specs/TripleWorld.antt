@@ -17,7 +17,7 @@ use Rattle.qn_model.specs.declared.outputs.DiskOp.{DiskOp}
 use Rattle.qn_model.specs.declared.outputs.DiskOp.TheVariants as disk
 use Rattle.qn_model.specs.Log.{op_out}
 use Rattle.qn_model.specs.Phases.{is_exit}
-use Rattle.qn_model.specs.Moments.{Moment, Running, node}
+use Rattle.qn_model.specs.Moments.{Moment, node}
 use Rattle.qn_model.specs.Sectors.{is_deadly}
 use Rattle.qn_model.specs.World.{World, first_world, put, failed, is_write}
 
