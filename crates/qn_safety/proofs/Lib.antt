@@ -29,3 +29,17 @@ pub mod Incarnations
 pub mod FenceAndTells
 pub mod ResetLanding
 pub mod Premises
+pub mod TripleSets
+pub mod TripleAnswers
+pub mod TripleSeats
+pub mod TripleLogs
+pub mod TripleKept
+pub mod TripleHeld
+pub mod TripleRising
+pub mod TripleEvents
+pub mod TripleLandings
+pub mod TripleFacts
+pub mod TripleMail
+pub mod TripleHolders
+pub mod TripleRows
+pub mod TriplePremises

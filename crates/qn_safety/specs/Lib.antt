@@ -6,3 +6,7 @@ pub mod Reported
 pub mod Landing
 pub mod Lemmas
 pub mod Premises
+pub mod TripleWorld
+pub mod TripleRules
+pub mod TripleSteps
+pub mod TriplePremises
