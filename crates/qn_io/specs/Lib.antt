@@ -1,6 +1,7 @@
 pub mod Lines
 pub mod Memory
 pub mod Openings
+pub mod Orders
 pub mod Outside
 pub mod Reads
 pub mod Receives
