@@ -65,6 +65,7 @@ impl<'a, C: Clock> Read for Answers<'a, C> {
         };
         self.stream.set_read_timeout(Some(left))?;
         match self.stream.read(buf) {
+            Ok(0) if !buf.is_empty() => Err(closed()),
             Err(error) if is_late(&error) => Err(late()),
             done => done,
         }
@@ -74,6 +75,11 @@ impl<'a, C: Clock> Read for Answers<'a, C> {
 /// No answer came in time.
 fn late() -> io::Error {
     io::Error::new(ErrorKind::TimedOut, "no answer within 20 seconds")
+}
+
+/// The agent closed the connection before it had answered.
+fn closed() -> io::Error {
+    io::Error::new(ErrorKind::UnexpectedEof, "closed before an answer")
 }
 
 /// Reads the answer, which is success only where it is the line `ok`.
