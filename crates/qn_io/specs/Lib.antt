@@ -2,6 +2,7 @@ pub mod Answered
 pub mod Lines
 pub mod Memory
 pub mod Openings
+pub mod Orders
 pub mod Outside
 pub mod Reads
 pub mod Receives

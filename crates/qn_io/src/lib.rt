@@ -8,21 +8,30 @@
 //! `RealEnv` are the trusted edge: they tell nothing, and no clause says what a file, a stream or a clock gives.
 #![tactic(auto)]
 
+mod action;
+mod again;
+mod agent;
 mod buffered;
 mod calls;
+mod deadline;
+mod devices;
 mod env_memory;
 mod failing;
 mod image_file;
 mod lines;
 mod memory;
+mod named_file;
+mod network;
 mod outside;
 mod quiet;
 mod real;
 mod reported;
+mod resource;
 mod scripted;
 mod sectors;
 mod standard;
 mod told;
+mod watchdog;
 mod whole;
 
 pub use buffered::{LINE, Next, PIECE, Pieces};

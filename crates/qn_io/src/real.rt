@@ -1,28 +1,37 @@
-//! The real outside: an image file and the monotonic clock.
-ghost use Rattle.std.specs.Prelude.{◌≡◌};
+//! The real outside: an image file, the monotonic clock, a port on 127.0.0.1, a watchdog and a resource.
+ghost use Rattle.std.specs.Prelude.{◌≡◌, ◌↔◌, ◌+◌, ◌<◌, ◌≤◌, IsTrue, IsSomeAnd};
 
+use crate::action::{Action, noted};
 use crate::calls::{Env, Got, Opening, PACKET, SECTOR};
+use crate::devices::Devices;
 use crate::image_file::ImageFile;
 use crate::reported::reported;
+use crate::resource::Order;
 use qn_base::{Failed, Rank};
 use std::fs::File;
-use std::io::{self, ErrorKind};
+use std::io;
 use std::marker::Model;
+use std::net::Net;
 use std::rt::Files;
 use std::time::Clock;
 
-/// The outside of a node over the runtime: an image file and the monotonic clock in milliseconds. The
-/// calls of a running node fail. It does not tell its calls, and is seen as its count of faults. Of each call
-/// that failed a line on standard error says why.
+/// A feed is given only within this time after the last answer of `now`, in milliseconds: it is to take effect
+/// within the feed delay of its decision, and a stop or a start before it may have taken long.
+const FEED_LIMIT: u64 = 500;
+
+/// The outside of a node over the runtime: an image file, the monotonic clock in milliseconds, UDP on 127.0.0.1, a
+/// watchdog and a resource. It does not tell its calls, and is seen as its count of faults. Of each call that failed
+/// a line on standard error says why, and of what a node opens, starts, stops, disarms and ends one says when.
 #[derive(Drop)]
-pub struct RealEnv<R: Files<File = File> + Clock + Eprint + Drop> {
+pub struct RealEnv<R: Files<File = File> + Net + Clock + Eprint + Drop> {
     rt: R,
     image: Option<ImageFile>,
-    last_tick: u64,
+    devices: Option<Devices>,
+    last_tick: Option<u64>,
     faults: u64,
 }
 
-impl<R: Files<File = File> + Clock + Eprint + Drop> Model for RealEnv<R> {
+impl<R: Files<File = File> + Net + Clock + Eprint + Drop> Model for RealEnv<R> {
     ghost use Rattle.std.specs.Prelude.{ℕ};
 
     ghost Value = { ℕ };
@@ -30,8 +39,8 @@ impl<R: Files<File = File> + Clock + Eprint + Drop> Model for RealEnv<R> {
     ghost view = { λ e. e.faults };
 }
 
-impl<R: Files<File = File> + Clock + Eprint + Drop> RealEnv<R> {
-    ghost use Rattle.std.specs.Prelude.{◌≡◌, ◌≤◌, IsErr, OnErr};
+impl<R: Files<File = File> + Net + Clock + Eprint + Drop> RealEnv<R> {
+    ghost use Rattle.std.specs.Prelude.{◌≡◌, ◌≤◌, OnErr};
     ghost use Rattle.qn_io.specs.Outside.{HasRisen};
 
     /// An outside over this runtime, with nothing opened and no fault so far.
@@ -41,7 +50,8 @@ impl<R: Files<File = File> + Clock + Eprint + Drop> RealEnv<R> {
         RealEnv {
             rt,
             image: None,
-            last_tick: 0,
+            devices: None,
+            last_tick: None,
             faults: 0,
         }
     }
@@ -56,17 +66,6 @@ impl<R: Files<File = File> + Clock + Eprint + Drop> RealEnv<R> {
             self.faults = self.faults.saturating_add(1);
         }
         done
-    }
-
-    /// A call of a running node, which fails.
-    fn unsupported(&mut self, name: &str) -> Result<(), Failed>
-        ensures failed { IsErr result }
-        ensures never_falls { self.old ≤ self.new }
-        ensures cause { HasRisen self.old self.new }
-    {
-        let error = io::Error::from(ErrorKind::Unsupported);
-        let done = reported(&self.rt, name, Err(error));
-        self.counted(done)
     }
 
     /// Takes the exclusive lock of the image. Where it is not to be had the image is closed, since its shared
@@ -88,9 +87,45 @@ impl<R: Files<File = File> + Clock + Eprint + Drop> RealEnv<R> {
         let time = reported(&self.rt, "monotonic clock", self.rt.monotonic()).ok()?;
         u64::try_from(time.as_millis()).ok()
     }
+
+    /// Says on standard error what the node did at the last answer of `now`.
+    fn note(&self, action: Action<'_>, done: Result<(), Failed>) -> Result<(), Failed>
+        ensures { result ≡ done }
+    {
+        noted(&self.rt, self.last_tick.unwrap_or(0), action, done)
+    }
+
+    /// Has the resource started or stopped.
+    fn order(&self, order: Order) -> Result<(), Failed> {
+        let devices = self.devices.as_ref().ok_or(Failed)?;
+        let done = devices.resource.order(&self.rt, order);
+        reported(&self.rt, devices.resource.path(), done)
+    }
+
+    /// Feeds the watchdog where that is in time.
+    fn feed_in_time(&self) -> Result<(), Failed> {
+        let tick = self.tick().ok_or(Failed)?;
+        let watchdog = &self.devices.as_ref().ok_or(Failed)?.watchdog;
+        let done = if is_feed_in_time(self.last_tick, tick) {
+            watchdog.feed()
+        } else {
+            Err(io::Error::other("too late for a feed"))
+        };
+        reported(&self.rt, watchdog.path(), done)
+    }
 }
 
-impl<R: Files<File = File> + Clock + Eprint + Drop> Env for RealEnv<R> {
+/// Whether a feed at that tick is in time after the last answer of `now`.
+fn is_feed_in_time(last_tick: Option<u64>, tick: u64) -> bool
+    ensures { IsTrue result ↔ IsSomeAnd last_tick (λ last. (last ≤ tick) × (tick < last + 500)) }
+{
+    match last_tick {
+        Some(last) => last <= tick && tick - last < FEED_LIMIT,
+        None => false,
+    }
+}
+
+impl<R: Files<File = File> + Net + Clock + Eprint + Drop> Env for RealEnv<R> {
     ghost use Rattle.std.specs.Prelude.{None};
 
     ghost faults = { λ e. e };
@@ -110,22 +145,51 @@ impl<R: Files<File = File> + Clock + Eprint + Drop> Env for RealEnv<R> {
         self.counted(done)
     }
 
-    fn open_node(&mut self, _opening: &Opening<'_>) -> Result<(), Failed> {
-        self.unsupported("node")
+    /// Opens the port, the image, the resource, which is stopped, and the watchdog, in this order. Where one of
+    /// them fails the others are closed, and those after it are not touched.
+    fn open_node(&mut self, opening: &Opening<'_>) -> Result<(), Failed> {
+        self.image = None;
+        self.devices = None;
+        let opened = Devices::open(&self.rt, opening);
+        let done = match opened {
+            Ok((image, devices)) => {
+                self.image = Some(image);
+                self.devices = Some(devices);
+                Ok(())
+            }
+            Err(failed) => Err(failed),
+        };
+        let tick = self.tick().unwrap_or(0);
+        let done = noted(&self.rt, tick, Action::Open(opening), done);
+        self.counted(done)
     }
 
     /// The time of the monotonic clock. Where it cannot be read, the last answer, and a fault.
     fn now(&mut self) -> u64 {
         match self.tick() {
-            Some(tick) => self.last_tick = tick,
+            Some(tick) => self.last_tick = Some(tick),
             None => self.faults = self.faults.saturating_add(1),
         }
-        self.last_tick
+        self.last_tick.unwrap_or(0)
     }
 
-    fn receive(&mut self, _packet: &mut [u8; PACKET]) -> Got {
-        let _ = self.unsupported("network");
-        Got::Failed
+    /// Waits at most 50 ms in all.
+    fn receive(&mut self, packet: &mut [u8; PACKET]) -> Got {
+        let done = match &self.devices {
+            Some(devices) => {
+                let came = devices.network.receive(&self.rt, packet);
+                reported(&self.rt, "network", came)
+            }
+            None => Err(Failed),
+        };
+        match done {
+            Ok(Some(count)) => Got::Packet(count),
+            Ok(None) => Got::Nothing,
+            Err(failed) => {
+                let _ = self.counted(Err(failed));
+                Got::Failed
+            }
+        }
     }
 
     /// Reads the sector; what lies past the end of the file reads as zeros.
@@ -150,25 +214,50 @@ impl<R: Files<File = File> + Clock + Eprint + Drop> Env for RealEnv<R> {
         self.counted(done)
     }
 
+    /// Feeds the watchdog. Later than 500 ms after the last answer of `now` nothing is fed, and the call has
+    /// failed.
     fn feed(&mut self) -> Result<(), Failed> {
-        self.unsupported("watchdog")
+        let done = self.feed_in_time();
+        self.counted(done)
     }
 
+    /// Has the resource started. An agent has 20 seconds to answer.
     fn start(&mut self) -> Result<(), Failed> {
-        self.unsupported("resource")
+        let done = self.order(Order::Start);
+        let done = self.note(Action::Start, done);
+        self.counted(done)
     }
 
+    /// Has the resource stopped. An agent has 20 seconds to answer.
     fn stop(&mut self) -> Result<(), Failed> {
-        self.unsupported("resource")
+        let done = self.order(Order::Stop);
+        let done = self.note(Action::Stop, done);
+        self.counted(done)
     }
 
-    fn send(&mut self, _to: Rank, _bytes: &[u8]) -> Result<(), Failed> {
-        self.unsupported("network")
+    /// Sends the packet, whether a node is there or not.
+    fn send(&mut self, to: Rank, bytes: &[u8]) -> Result<(), Failed> {
+        let done = match &self.devices {
+            Some(devices) => reported(&self.rt, "network", devices.network.send(to, bytes)),
+            None => Err(Failed),
+        };
+        self.counted(done)
     }
 
     fn disarm(&mut self) -> Result<(), Failed> {
-        self.unsupported("watchdog")
+        let done = match &self.devices {
+            Some(devices) => {
+                let watchdog = &devices.watchdog;
+                reported(&self.rt, watchdog.path(), watchdog.disarm())
+            }
+            None => Err(Failed),
+        };
+        let done = self.note(Action::Disarm, done);
+        self.counted(done)
     }
 
-    fn halt(&mut self, _code: u8) {}
+    /// Says so on standard error, and nothing else.
+    fn halt(&mut self, code: u8) {
+        let _ = self.note(Action::Halt(code), Ok(()));
+    }
 }

@@ -2,14 +2,12 @@
 ghost use Rattle.std.specs.Prelude.{◌<◌, ◌≤◌, IfOk, length};
 ghost use Rattle.std.specs.Io.KnownBytes.{ReadConsumes, WriteAppends};
 
+use crate::again::{read_again, write_again};
 use crate::outside::{Sink, Source};
 use crate::reported::reported;
 use qn_base::Failed;
-use std::io::{self, ErrorKind, Read, Write};
+use std::io::{Read, Write};
 use std::marker::Model;
-
-/// How often a real call is made that is interrupted each time; then it has failed.
-pub(crate) const TRIES: u32 = 1000;
 
 /// A source over a real reader, which is standard input. It is seen as what its reader tells that it has left, and
 /// as its count of faults; as a `Source` it tells nothing. Of each call that failed a line on standard error says
@@ -128,36 +126,4 @@ impl<W: Write + Drop, E: Eprint + Drop> Sink for StdSink<W, E> {
         }
         done
     }
-}
-
-/// Reads once, again after each interruption.
-fn read_again<R: Read>(reader: &mut R, into: &mut [u8]) -> io::Result<usize>
-    ensures within { IfOk result (λ n. n ≤ length into.new) }
-    ensures consumes { ReadConsumes (R.remaining reader.old) (R.remaining reader.new) result into.new }
-{
-    'tries: for _ in 0..TRIES {
-        match reader.read(into) {
-            Ok(count) => return Ok(count),
-            Err(error) if error.kind() == ErrorKind::Interrupted => {}
-            Err(error) => return Err(error),
-        }
-    }
-    Err(io::Error::from(ErrorKind::Interrupted))
-}
-
-/// Writes once, again after each interruption. A write that takes nothing of bytes has failed.
-fn write_again<W: Write>(writer: &mut W, from: &[u8]) -> io::Result<usize>
-    ensures within { IfOk result (λ n. n ≤ length from.now) }
-    ensures some { IfOk result (λ n. 0 < length from.now → 0 < n) }
-    ensures appends { WriteAppends (W.contents writer.old) (W.contents writer.new) result from.now }
-{
-    'tries: for _ in 0..TRIES {
-        match writer.write(from) {
-            Ok(0) if !from.is_empty() => return Err(io::Error::from(ErrorKind::WriteZero)),
-            Ok(count) => return Ok(count),
-            Err(error) if error.kind() == ErrorKind::Interrupted => {}
-            Err(error) => return Err(error),
-        }
-    }
-    Err(io::Error::from(ErrorKind::Interrupted))
 }

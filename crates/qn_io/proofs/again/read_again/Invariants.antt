@@ -1,5 +1,5 @@
 use Rattle.std.specs.Io.KnownBytes.{Keeps}
-use Rattle.qn_io.proofs.standard.read_again.Given as goal
+use Rattle.qn_io.proofs.again.read_again.Given as goal
 
 -- the interrupted reads took nothing
 abbrev pub invariant-tries : goal.invariant-tries

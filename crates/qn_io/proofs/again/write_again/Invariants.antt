@@ -1,5 +1,5 @@
 use Rattle.std.specs.Io.KnownBytes.{Keeps}
-use Rattle.qn_io.proofs.standard.write_again.Given as goal
+use Rattle.qn_io.proofs.again.write_again.Given as goal
 
 -- the interrupted writes gave nothing
 abbrev pub invariant-tries : goal.invariant-tries

@@ -1,0 +1,40 @@
+//! Real calls that are made again after each interruption, a bounded number of times.
+ghost use Rattle.std.specs.Prelude.{◌<◌, ◌≤◌, IfOk, length};
+ghost use Rattle.std.specs.Io.KnownBytes.{ReadConsumes, WriteAppends};
+
+use std::io::{self, ErrorKind, Read, Write};
+
+/// How often a real call is made that is interrupted each time; then it has failed.
+pub(crate) const TRIES: u32 = 1000;
+
+/// Reads once, again after each interruption.
+pub(crate) fn read_again<R: Read>(reader: &mut R, into: &mut [u8]) -> io::Result<usize>
+    ensures within { IfOk result (λ n. n ≤ length into.new) }
+    ensures consumes { ReadConsumes (R.remaining reader.old) (R.remaining reader.new) result into.new }
+{
+    'tries: for _ in 0..TRIES {
+        match reader.read(into) {
+            Ok(count) => return Ok(count),
+            Err(error) if error.kind() == ErrorKind::Interrupted => {}
+            Err(error) => return Err(error),
+        }
+    }
+    Err(io::Error::from(ErrorKind::Interrupted))
+}
+
+/// Writes once, again after each interruption. A write that takes nothing of bytes has failed.
+pub(crate) fn write_again<W: Write>(writer: &mut W, from: &[u8]) -> io::Result<usize>
+    ensures within { IfOk result (λ n. n ≤ length from.now) }
+    ensures some { IfOk result (λ n. 0 < length from.now → 0 < n) }
+    ensures appends { WriteAppends (W.contents writer.old) (W.contents writer.new) result from.now }
+{
+    'tries: for _ in 0..TRIES {
+        match writer.write(from) {
+            Ok(0) if !from.is_empty() => return Err(io::Error::from(ErrorKind::WriteZero)),
+            Ok(count) => return Ok(count),
+            Err(error) if error.kind() == ErrorKind::Interrupted => {}
+            Err(error) => return Err(error),
+        }
+    }
+    Err(io::Error::from(ErrorKind::Interrupted))
+}

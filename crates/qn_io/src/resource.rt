@@ -1,0 +1,85 @@
+//! The resource of a node: a file that says whether it is held, or an agent that starts and stops it.
+use crate::agent::Agent;
+use crate::named_file::NamedFile;
+use std::fs::File;
+use std::io;
+use std::net::Net;
+use std::rt::Files;
+use std::time::Clock;
+
+/// What stands before the path of an agent's socket.
+const SOCKET: &str = "unix:";
+
+/// What a resource is told to do.
+#[derive(Clone, Copy, PartialEq, Eq, Debug)]
+pub(crate) enum Order {
+    Start,
+    Stop,
+}
+
+impl Order {
+    ghost use Rattle.std.specs.Prelude.{◌≡◌};
+    ghost use Rattle.qn_io.specs.Orders.{file_word, agent_line};
+
+    /// What the file of a resource begins with after it.
+    fn file_word(self) -> &'static [u8]
+        ensures { result.now ≡ file_word self }
+    {
+        match self {
+            Order::Start => b"held",
+            Order::Stop => b"free",
+        }
+    }
+
+    /// The line that an agent is sent.
+    fn agent_line(self) -> &'static [u8]
+        ensures { result.now ≡ agent_line self }
+    {
+        match self {
+            Order::Start => b"start\n",
+            Order::Stop => b"stop\n",
+        }
+    }
+}
+
+/// The resource of a node.
+#[derive(Drop)]
+pub(crate) enum Resource {
+    /// A file that begins with `held` or `free`.
+    File(NamedFile),
+    /// An agent behind a Unix stream socket.
+    Agent(Agent),
+}
+
+impl Resource {
+    /// Opens the resource that the word names, and has it stopped: `unix:PATH` is an agent, any other word the
+    /// path of a file, which is made where it is absent.
+    pub(crate) fn open<R: Files<File = File> + Net + Clock>(
+        rt: &R,
+        word: &str,
+    ) -> io::Result<Resource> {
+        let resource = match word.strip_prefix(SOCKET) {
+            Some(path) => Resource::Agent(Agent::new(path)?),
+            None => Resource::File(NamedFile::open(rt, word)?),
+        };
+        resource.order(rt, Order::Stop)?;
+        Ok(resource)
+    }
+
+    /// The path of its file or of its agent's socket.
+    pub(crate) fn path(&self) -> &str {
+        match self {
+            Resource::File(file) => file.path(),
+            Resource::Agent(agent) => agent.path(),
+        }
+    }
+
+    /// Has it started or stopped. A file takes the word at its first byte; an agent has to answer that it is
+    /// done.
+    pub(crate) fn order<R: Net + Clock>(&self, rt: &R, order: Order) -> io::Result<()> {
+        match self {
+            Resource::File(file) => file.write_at(order.file_word(), 0),
+            Resource::Agent(agent) => agent.ask(rt, order.agent_line()),
+        }
+    }
+}

@@ -1,0 +1,38 @@
+//! Says of each thing that is tried whether it is as it should be.
+use std::io;
+
+/// What was tried, line by line on standard output, and how much of it was not as it should be.
+#[derive(Drop)]
+pub struct Report<'a, P: Print> {
+    out: &'a P,
+    tried: u32,
+    differ: u32,
+}
+
+impl<'a, P: Print> Report<'a, P> {
+    /// Nothing was tried so far.
+    pub fn new(out: &'a P) -> Report<'a, P> {
+        Report {
+            out,
+            tried: 0,
+            differ: 0,
+        }
+    }
+
+    /// Says of one thing whether it is as it should be.
+    pub fn say(&mut self, what: &str, holds: bool) -> io::Result<()> {
+        self.tried = self.tried.saturating_add(1);
+        if holds {
+            return println!(self.out; "{what}: yes");
+        }
+        self.differ = self.differ.saturating_add(1);
+        println!(self.out; "{what}: NO")
+    }
+
+    /// Says how many things were tried, and how many of them differ.
+    pub fn end(&self) -> io::Result<()> {
+        let tried = self.tried;
+        let differ = self.differ;
+        println!(self.out; "tried {tried} differ {differ}")
+    }
+}
