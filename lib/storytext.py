@@ -66,7 +66,7 @@ def head_of_story(text):
     """A story begins with settings and a line `----`, as a schedule does, or with a line `nodes ID..`."""
     before, dashes, rest = ("\n" + text).partition("\n----\n")
     if dashes:
-        above = before.count("\n")
+        above = before.count("\n") + 1
         lines = [(number + above, words) for number, words in words_of(rest)]
         return timed_head(before[1:] + "\n", lines)
     lines = words_of(text)

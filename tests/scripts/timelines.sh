@@ -3,8 +3,14 @@
 . "$TOP/tests/expect.sh"
 
 export QUORUMD
+# the interpreter itself, and no wrapper that looks for it at each call
+python=$(python3 -c 'import sys; print(sys.executable)')
+timeline() {
+    "$python" "$TOP/bin/timeline" "$@"
+}
+
 for folder in "$TOP"/examples/incidents/*/; do
-    "$TOP/bin/timeline" --title "$(sed -n '1s/^# //p' "$folder/story.md")" "$folder/schedule" > drawn.svg
+    timeline --title "$(sed -n '1s/^# //p' "$folder/story.md")" "$folder/schedule" > drawn.svg
     cmp drawn.svg "$folder/timeline.svg"
     grep -q '](timeline.svg)' "$folder/story.md" || { printf '%s/story.md does not show its picture\n' "$folder"; exit 1; }
 done
@@ -162,13 +168,13 @@ for folder in sorted((TOP / "examples" / "incidents").iterdir()):
 print("\n".join(wrong[:40]))
 sys.exit(1 if wrong else 0)
 END_OF_PYTHON
-TOP=$TOP python3 -B look.py
+TOP=$TOP "$python" -B look.py
 
 # refused STATUS PATTERN WORD..: bin/timeline ends with this status, writes no picture, and says this on standard error
 refused() {
     local wanted=$1 pattern=$2 status=0
     shift 2
-    "$TOP/bin/timeline" "$@" > drawn 2> errors || status=$?
+    timeline "$@" > drawn 2> errors || status=$?
     same "$status $(wc -c < drawn)" "$wanted 0"
     grep -qE "$pattern" errors || { printf 'timeline %s: %s\n' "$*" "$(cat errors)"; exit 1; }
 }
@@ -180,7 +186,14 @@ refused 4 '^timeline: fault BadSchedule line 1 Unended$' < /dev/null
 refused 3 '^timeline: fault BadConf ' < <(printf 'nodelist {\n----\n')
 refused 5 '^timeline: fault NotAllowed line 19 rule 1$' < <(sed '1,/^boot/!d' "$TOP/examples/letting-time-pass.schedule"; echo 'pass 5051')
 
+# it can be called itself, and through a link
+ln -s "$TOP/bin/timeline" link
+for called in "$TOP/bin/timeline" ./link; do
+    "$called" --title 'The wait' < "$TOP/examples/incidents/the-wait/schedule" > drawn.svg
+    cmp drawn.svg "$TOP/examples/incidents/the-wait/timeline.svg"
+done
+
 # a title is taken as it is, and a schedule without an event has a picture too
-sed '/^timing/q' "$TOP/examples/letting-time-pass.schedule" | "$TOP/bin/timeline" --title '<a & "b">' > drawn.svg
+sed '/^timing/q' "$TOP/examples/letting-time-pass.schedule" | timeline --title '<a & "b">' > drawn.svg
 grep -qF '<title>&lt;a &amp; "b"&gt;</title>' drawn.svg
 same "$(grep -c '<g data-lane=' drawn.svg)" 2
