@@ -29,9 +29,12 @@ class Refused(Exception):
 
 
 def program():
-    """The path of quorumd: $QUORUMD, else bin/quorumd beside these scripts, which builds it where it has to, else that of the path."""
+    """The path of quorumd: $QUORUMD, else bin/quorumd beside these scripts, which builds it where it has to, else that of the path or of
+    /usr/sbin, where a package has it."""
     beside = TOP / "bin" / "quorumd"
-    return os.environ.get("QUORUMD") or (str(beside) if beside.exists() else shutil.which("quorumd") or "quorumd")
+    if "QUORUMD" in os.environ or beside.exists():
+        return os.environ.get("QUORUMD", str(beside))
+    return shutil.which("quorumd", path=os.environ.get("PATH", os.defpath) + ":/usr/sbin") or "quorumd"
 
 
 def answer_of(command, text):
