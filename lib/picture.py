@@ -5,6 +5,7 @@ happens at one moment: such a moment is a grey column, in which its points stand
 marks; a bar, with the node's phase and whether it holds; a strip where it is quorate; and rows of the conditions that block a start.
 
 Each element says in data- attributes of which point it is, so that a program can read a picture too."""
+import itertools
 import math
 from collections import namedtuple
 from xml.sax.saxutils import escape
@@ -74,16 +75,13 @@ def width_of(text):
     return math.ceil(LETTER * len(text))
 
 
-def is_free(placed, row, left, right):
-    return all(other.row != row or right + 3 <= other.left or other.right + 3 <= left for other in placed)
-
-
 def spans_in_rows(spans, extent):
     """Spans from left to right, each in the first row where nothing is in its way."""
-    placed = []
+    placed, ends = [], []
     for span in spans:
         left, right = extent(span)
-        row = next(row for row in range(len(spans)) if is_free(placed, row, left, right))
+        row = next((row for row, end in enumerate(ends) if end + 3 <= left), len(ends))
+        ends[row:row + 1] = [right]
         placed.append(Placed(span, left, right, row))
     return placed
 
@@ -91,12 +89,14 @@ def spans_in_rows(spans, extent):
 def marks_in_rows(marks, extent):
     """Marks, from right to left: each above those that stand over its text, so that no line to the bar crosses a text. Where that makes
     too many rows, in the first where nothing is in its way."""
-    placed = []
+    placed, begins = [], []
     for mark in reversed(marks):
         left, right = extent(mark)
-        above = max((other.row + 1 for other in placed if left <= other.left <= right), default=0)
-        rows = [row for row in range(len(marks)) if is_free(placed, row, left, right)]
-        row = next((row for row in rows if above <= row < MOST_ROWS), rows[0])
+        over = itertools.takewhile(lambda other, right=right: other.left <= right, reversed(placed))
+        above = max((other.row + 1 for other in over), default=0)
+        free = [row for row, begin in enumerate(begins) if right + 3 <= begin] + [len(begins)]
+        row = next((row for row in free if above <= row < MOST_ROWS), free[0])
+        begins[row:row + 1] = [left]
         placed.append(Placed(mark, left, right, row))
     return placed[::-1]
 

@@ -1,7 +1,7 @@
 """A run of `quorumd replay` that is fed through a pipe: an event is written, and its trace line is read before the next one."""
 import subprocess
 
-from traces import Refused, program, report_of
+from traces import Refused, program, report_of, to_bytes
 
 MOST_EVENTS = 200000
 
@@ -18,9 +18,9 @@ class Replay:
 
     def write(self, text):
         """A program that has ended takes no more; why it ended is what it wrote last."""
+        data = to_bytes(text)
         if self.kept:
-            self.kept.write(text)
-        data = text.encode()
+            self.kept.write(data)
         try:
             while data:
                 data = data[self.child.stdin.write(data):]

@@ -30,7 +30,7 @@ def tell_story(text, write, keep=None):
     """Plays a story. `write` gets the lines of the account, and `keep`, a file's path, the schedule."""
     head, ids, lines = read_story(text)
     account = Account(write, head.timing.loop)
-    kept = open(keep, "w", encoding="utf-8", newline="\n") if keep else None
+    kept = open(keep, "wb") if keep else None
     try:
         play = Play(head.settings, head.timing, ids, account, kept)
         account.knows(play.nodes())

@@ -37,9 +37,18 @@ def program():
     return shutil.which("quorumd", path=os.environ.get("PATH", os.defpath) + ":/usr/sbin") or "quorumd"
 
 
+def to_text(data):
+    """Bytes as text. Whether they are UTF-8 is for quorumd to say, so bytes that are not are handed on as they are."""
+    return data.decode("utf-8", "surrogateescape")
+
+
+def to_bytes(text):
+    return text.encode("utf-8", "surrogateescape")
+
+
 def answer_of(command, text):
     """What `quorumd COMMAND` writes for this input, as lines."""
-    done = subprocess.run([program(), command], input=text.encode(), stdout=subprocess.PIPE, check=False)
+    done = subprocess.run([program(), command], input=to_bytes(text), stdout=subprocess.PIPE, check=False)
     lines = done.stdout.decode().splitlines()
     if done.returncode != 0:
         raise Refused(done.returncode, lines[-1] if lines else "quorumd %s ended with status %d" % (command, done.returncode))

@@ -92,6 +92,20 @@ tell 'message 1 off' 'up-clean 1' 'run 100' 'up 2' 'run 5000'
 says 'node 1 gives up its boot: its mailbox is not clean'
 same "$(holders trace)" 'holders=- holders=2'
 
+# an account or a schedule that cannot be written, and a reader that goes
+status=0
+story "$TOP/examples/try.story" > /dev/full 2> errors || status=$?
+same "$status $(cat errors)" '2 story: [Errno 28] No space left on device'
+status=0
+story --keep /dev/full "$TOP/examples/try.story" > account 2> errors || status=$?
+same "$status $(cat errors)" '2 story: [Errno 28] No space left on device'
+same "$(story "$TOP/examples/try.story" 2>&1 | head -n 1)" '       0 ms  node 1 boots'
+
+# a comment of the settings is kept as it is
+printf '# caf\303\251\nnodelist {\nnode {\nnodeid: 1\n}\n}\n----\nup 1\nrun 100\n' > story.txt
+story --keep kept story.txt > account
+same "$(bytes kept 0 8)" '2320636166c3a90a'
+
 # at fault LINE.. : a story of two nodes ends with status 2, and standard error names line and word
 faulty() {
     local wanted=$1 status=0
@@ -143,6 +157,7 @@ refused 2 '^story: line 1: nodes: no id' 'nodes\n'
 refused 2 '^story: line 1: 0: no id of a node' 'nodes 1 0\n'
 refused 3 '^story: fault BadConf ' 'nodes 1 1\n'
 refused 3 '^story: fault BadConf ' 'nodelist {\n----\nup 1\n'
+refused 3 '^story: fault BadConf NotText$' '# caf\351\n----\nup 1\n'
 refused 10 '^story: fault UnsafeTiming 5000 8163 1000 2000 1000' 'nodes 1\ntiming 5000 8163 1000 2000 1000\n'
 refused 2 '^usage: story \[--keep FILE\] \[STORY\]' '' --other
 refused 2 '^usage: story \[--keep FILE\] \[STORY\]' '' no-such-file

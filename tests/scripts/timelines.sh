@@ -186,6 +186,12 @@ refused 4 '^timeline: fault BadSchedule line 1 Unended$' < /dev/null
 refused 3 '^timeline: fault BadConf ' < <(printf 'nodelist {\n----\n')
 refused 5 '^timeline: fault NotAllowed line 19 rule 1$' < <(sed '1,/^boot/!d' "$TOP/examples/letting-time-pass.schedule"; echo 'pass 5051')
 
+# a picture that cannot be written
+status=0
+timeline "$TOP/examples/letting-time-pass.schedule" > /dev/full 2> errors || status=$?
+same "$status $(cat errors)" '2 timeline: [Errno 28] No space left on device'
+same "$(timeline "$TOP/examples/letting-time-pass.schedule" 2>&1 | head -c 4)" '<svg'
+
 # it can be called itself, and through a link
 ln -s "$TOP/bin/timeline" link
 for called in "$TOP/bin/timeline" ./link; do
