@@ -75,6 +75,11 @@ class Account:
     def say(self, text):
         self.write("%8d ms  %s" % (self.now, text))
 
+    def command(self, line):
+        """A line of the story is done; a run is seen by its time."""
+        if line.command != "run":
+            self.say("> " + " ".join(line.words))
+
     def event(self, words, report, deeds, cause):
         self.now = report.time
         self.holders = report.holders
@@ -102,7 +107,7 @@ class Account:
             "stopped": "node %d has stopped the resource" % deed.node,
             "unstopped": "node %d could not stop the resource" % deed.node,
             "asked": "node %s writes a reset to node %d" % (deed.text, deed.node),
-            "landed": "the reset of node %d is on the disk" % deed.node,
+            "landed": "the reset of node %d by node %s is on the disk" % (deed.node, deed.text),
             "message": "an operator writes %s to node %d" % (deed.text, deed.node),
         }
         if deed.kind == "halts" and not deed.text.startswith("boot-"):

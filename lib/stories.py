@@ -36,6 +36,7 @@ def tell_story(text, write, keep=None):
         account.knows(play.nodes())
         try:
             for line in lines:
+                account.command(line)
                 play.commands.do(line)
             account.end()
         finally:

@@ -7,6 +7,7 @@ import itertools
 from members import Member
 from nodes import Node, operation_in
 from replaying import MOST_EVENTS
+
 DISK_MS = 6  # from the asking for an operation to its answer; it lands halfway
 NETWORK_MS = 2  # from the sending of a packet to its arrival
 STOP_MS = 50  # from the asking for a stop of the resource to its answer
@@ -145,7 +146,8 @@ class World:
         host.hangs = False
         missed, host.missed = host.missed, []
         for action, values in missed:
-            action(host, *values)
+            if host.node.runs:
+                action(host, *values)
 
     def land(self, host, fails):
         if not fails:

@@ -56,6 +56,8 @@ story --keep again < story.txt > account.again
 cmp kept again
 cmp account account.again
 says '^ +3000 ms  node 1 is down: killed$'
+says '^ +3000 ms  > kill 1$'
+never '> run'
 says 'node 2 writes a reset to node 1$'
 same "$(holders trace)" 'holders=- holders=1 holders=- holders=2'
 
@@ -99,7 +101,7 @@ same "$status $(cat errors)" '2 story: [Errno 28] No space left on device'
 status=0
 story --keep /dev/full "$TOP/examples/try.story" > account 2> errors || status=$?
 same "$status $(cat errors)" '2 story: [Errno 28] No space left on device'
-same "$(story "$TOP/examples/try.story" 2>&1 | head -n 1)" '       0 ms  node 1 boots'
+same "$(story "$TOP/examples/try.story" 2>&1 | head -n 1)" '       0 ms  > up 1 2 3'
 
 # a comment of the settings is kept as it is
 printf '# caf\303\251\nnodelist {\nnode {\nnodeid: 1\n}\n}\n----\nup 1\nrun 100\n' > story.txt
