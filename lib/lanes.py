@@ -1,8 +1,7 @@
 """What a picture of a cluster shows: a lane for each node, with spans and marks between points.
 
 A point is a place in a list of moments: point 0 is the beginning, and point n is after the n-th thing that happened, which is event n
-of a schedule. Anything with such a list makes lanes: a journal of lines `TIME ID` has a point a line, and the spans `holds` of its
-owners."""
+of a schedule. Anything with such a list makes lanes: the points of a journal (journals.py) are its signatures."""
 from collections import namedtuple
 
 from nodes import Node, without_wait

@@ -179,9 +179,9 @@ refused() {
     grep -qE "$pattern" errors || { printf 'timeline %s: %s\n' "$*" "$(cat errors)"; exit 1; }
 }
 
-refused 2 '^usage: timeline \[--title' --colour < "$TOP/examples/letting-time-pass.schedule"
-refused 2 '^usage: timeline \[--title' one two
-refused 2 '^usage: timeline \[--title' no-such-file
+refused 2 '^usage: timeline \[--title TITLE\] \[--journal\] \[FILE\]' --colour < "$TOP/examples/letting-time-pass.schedule"
+refused 2 '^usage: timeline \[--title TITLE\] \[--journal\] \[FILE\]' one two
+refused 2 '^usage: timeline \[--title TITLE\] \[--journal\] \[FILE\]' no-such-file
 refused 4 '^timeline: fault BadSchedule line 1 Unended$' < /dev/null
 refused 3 '^timeline: fault BadConf ' < <(printf 'nodelist {\n----\n')
 refused 5 '^timeline: fault NotAllowed line 19 rule 1$' < <(sed '1,/^boot/!d' "$TOP/examples/letting-time-pass.schedule"; echo 'pass 5051')
@@ -191,6 +191,17 @@ status=0
 timeline "$TOP/examples/letting-time-pass.schedule" > /dev/full 2> errors || status=$?
 same "$status $(cat errors)" '2 timeline: [Errno 28] No space left on device'
 same "$(timeline "$TOP/examples/letting-time-pass.schedule" 2>&1 | head -c 4)" '<svg'
+
+# a journal: who signs again within a second went on, and the lines need not stand in their order
+printf '%s\n' '2.4 1' '3.02 1' '3.9 1' '17.58 2' '17.56 2' '18.5 2' '36.96 1' '37.5 2' > journal
+timeline --journal journal > drawn.svg
+same "$(grep -o 'data-lane="[^"]*"\|data-kind="holds" data-first="[0-9]*" data-last="[0-9]*"' drawn.svg | tr -d '"' | xargs)" \
+    'data-lane=node 1 data-kind=holds data-first=1 data-last=3 data-kind=holds data-first=7 data-last=9 data-lane=node 2 data-kind=holds data-first=4 data-last=6 data-kind=holds data-first=8 data-last=9'
+same "$(grep -o 'data-time="[0-9]*"' drawn.svg | head -n 1)" 'data-time="2400"'
+timeline --journal < /dev/null | grep -q '<title>journal</title>'
+for line in '1 1.5' '1,5 1' '1.5' '1.5 1 2' '' '-1 1'; do
+    refused 2 "^timeline: line 2: $line: not a time in seconds and an id$" --journal < <(printf '0.5 1\n%s\n' "$line")
+done
 
 # it can be called itself, and through a link
 ln -s "$TOP/bin/timeline" link
