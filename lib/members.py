@@ -23,8 +23,10 @@ class Member:
         self.hellos[sender] = tick
 
     def on_announce(self, sender, view):
-        self.announced[sender] = view
-        self.greatest = max(self.greatest, view.number)
+        """An announcement that names a node which is not configured, or comes from one, is passed over."""
+        if {sender, *view.members} <= set(self.ids):
+            self.announced[sender] = view
+            self.greatest = max(self.greatest, view.number)
 
     def visible(self, tick):
         return tuple(ident for ident in self.ids if ident == self.ident or tick <= self.hellos.get(ident, -4 * self.loop) + 3 * self.loop)
