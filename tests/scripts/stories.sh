@@ -3,10 +3,10 @@
 . "$TOP/tests/expect.sh"
 
 export QUORUMD
-# the interpreter itself, and no wrapper that looks for it at each call
+# the interpreter itself, and no wrapper that looks for it at each call; with the standard library alone
 python=$(python3 -c 'import sys; print(sys.executable)')
 story() {
-    "$python" "$TOP/bin/story" "$@"
+    "$python" -I -S "$TOP/bin/story" "$@"
 }
 
 # holders TRACE: who holds, one after the other

@@ -3,10 +3,10 @@
 . "$TOP/tests/expect.sh"
 
 export QUORUMD
-# the interpreter itself, and no wrapper that looks for it at each call
+# the interpreter itself, and no wrapper that looks for it at each call; with the standard library alone
 python=$(python3 -c 'import sys; print(sys.executable)')
 timeline() {
-    "$python" "$TOP/bin/timeline" "$@"
+    "$python" -I -S "$TOP/bin/timeline" "$@"
 }
 
 for folder in "$TOP"/examples/incidents/*/; do
@@ -168,7 +168,7 @@ for folder in sorted((TOP / "examples" / "incidents").iterdir()):
 print("\n".join(wrong[:40]))
 sys.exit(1 if wrong else 0)
 END_OF_PYTHON
-TOP=$TOP "$python" -B look.py
+TOP=$TOP "$python" -S -B look.py
 
 # refused STATUS PATTERN WORD..: bin/timeline ends with this status, writes no picture, and says this on standard error
 refused() {
