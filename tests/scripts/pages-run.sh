@@ -116,6 +116,9 @@ def folder_of(page):
     folder = pathlib.Path("run", str(page.relative_to(TOP)).replace("/", "-"))
     (folder / "bin").mkdir(parents=True)
     (folder / "bin" / "quorumd").symlink_to(os.environ["QUORUMD"])
+    for script in (TOP / "bin").iterdir():
+        if script.name != "quorumd":
+            (folder / "bin" / script.name).symlink_to(script)
     for there in TOP.iterdir():
         if there.name not in ("bin", "out") and not there.name.startswith("."):
             (folder / there.name).symlink_to(there)

@@ -1,0 +1,300 @@
+"""Draws a timeline of lanes.py as one SVG, in black and white, the same bytes for the same timeline.
+
+From left to right stand the points. Time that passes has its width; so have the points at which something is seen to change, since much
+happens at one moment: such a moment is a grey column, in which its points stand side by side. A lane has, from top to bottom: rows of
+marks; a bar, with the node's phase and whether it holds; a strip where it is quorate; and rows of the conditions that block a start.
+
+Each element says in data- attributes of which point it is, so that a program can read a picture too."""
+import itertools
+import math
+from collections import namedtuple
+from xml.sax.saxutils import escape
+
+LETTER = 6.1  # the width of a letter of a monospaced font of 10 pixels
+ROW = 14  # the height of a row of text
+BAR = 20  # the height of the bar of a lane
+STRIP = 4  # the height of the strip under it
+MOST_ROWS = 4  # of marks, unless they lie over one another
+EDGE = 10  # what is left free at each edge
+TIME_WIDTH = 360  # of all time together
+STEP, LEAST_STEP, STEPS_WIDTH = 24, 5, 1200  # of a point; of many points together
+TAIL = 24  # what the last state is drawn beyond the last point
+LEAST_WIDTH = 560
+SHAPE = 8  # the width and height of a shape
+BESIDE = 7  # from the middle of a shape to the text beside it
+
+STYLE = """text{font:10px monospace;fill:#000;stroke:#fff;stroke-width:2.5;paint-order:stroke}
+.title{font-weight:bold;font-size:12px}.moment{fill:#eee}.line{stroke:#888;stroke-dasharray:1 3}.lead{stroke:#bbb}
+.up,.booting,.leaving,.dying{stroke:#000;fill:#fff}.booting{stroke-dasharray:3 2}.leaving{fill:url(#bars)}.dying{fill:url(#hatch)}
+.holds,.landed,.crashes,.message{fill:#000}.quorate{fill:#777}.blocked{stroke:#000;stroke-width:1.5}
+.asked,.halts,.left,.view{fill:#fff;stroke:#000}.halts{stroke-width:2}"""
+
+PATTERNS = """<pattern id="hatch" width="4" height="4" patternUnits="userSpaceOnUse" patternTransform="rotate(45)">\
+<rect width="4" height="4" fill="#fff"/><rect width="1.5" height="4"/></pattern>
+<pattern id="bars" width="6" height="4" patternUnits="userSpaceOnUse"><rect width="6" height="4" fill="#fff"/>\
+<rect width="1" height="4"/></pattern>"""
+
+# The shape of a mark, drawn from its upper middle; the points of the four sides are at most 4 pixels from the middle.
+SHAPES = {
+    "view": "v8",
+    "asked": "m-4 0h8l-4 8z",
+    "landed": "m-4 0h8l-4 8z",
+    "message": "l4 4l-4 4l-4 -4z",
+    "halts": "m-4 0l8 8m0 -8l-8 8",
+    "crashes": "m-2 0h4v8h-4z",
+    "left": "a4 4 0 0 1 0 8a4 4 0 0 1 0 -8",
+}
+
+# What a mark says beside its shape.
+SAYS = {"view": "view %s", "asked": "by %s", "landed": "by %s", "message": "%s", "halts": "halt:%s", "crashes": "crash%s", "left": "left%s"}
+
+# What the shapes and patterns mean, in the order of the legend.
+LEGEND = {
+    "booting": "booting",
+    "up": "up",
+    "leaving": "leaving",
+    "dying": "halted, still on",
+    "holds": "holds the resource",
+    "quorate": "quorate, with votes/quorum",
+    "blocked": "blocks a start",
+    "view": "is told a view of these",
+    "asked": "reset asked for, by",
+    "landed": "reset in its mailbox, by",
+    "message": "operator's message",
+    "halts": "halts",
+    "crashes": "goes down",
+    "left": "left cleanly",
+    "moment": "one moment",
+}
+
+# A mark or a span, where its row reaches from left to right, and the number of the row, counted from the bar.
+Placed = namedtuple("Placed", "what left right row")
+
+
+def width_of(text):
+    return math.ceil(LETTER * len(text))
+
+
+def spans_in_rows(spans, extent):
+    """Spans from left to right, each in the first row where nothing is in its way."""
+    placed, ends = [], []
+    for span in spans:
+        left, right = extent(span)
+        row = next((row for row, end in enumerate(ends) if end + 3 <= left), len(ends))
+        ends[row:row + 1] = [right]
+        placed.append(Placed(span, left, right, row))
+    return placed
+
+
+def marks_in_rows(marks, extent):
+    """Marks, from right to left: each above those that stand over its text, so that no line to the bar crosses a text. Where that makes
+    too many rows, in the first where nothing is in its way."""
+    placed, begins = [], []
+    for mark in reversed(marks):
+        left, right = extent(mark)
+        over = itertools.takewhile(lambda other, right=right: other.left <= right, reversed(placed))
+        above = max((other.row + 1 for other in over), default=0)
+        free = [row for row, begin in enumerate(begins) if right + 3 <= begin] + [len(begins)]
+        row = next((row for row in free if above <= row < MOST_ROWS), free[0])
+        begins[row:row + 1] = [left]
+        placed.append(Placed(mark, left, right, row))
+    return placed[::-1]
+
+
+def rows_of(placed):
+    return max((place.row + 1 for place in placed), default=0)
+
+
+class Scale:
+    """Where each point of a timeline stands from left to right."""
+
+    def __init__(self, timeline, left):
+        times = timeline.times
+        spans = [point for lane in timeline.lanes for span in lane.spans for point in (span.first, span.last) if point < len(times)]
+        self.changes = sorted({*spans, *(mark.point for lane in timeline.lanes for mark in lane.marks)})
+        step = max(LEAST_STEP, min(STEP, STEPS_WIDTH / max(1, len(self.changes))))
+        pixels = TIME_WIDTH / max(1, times[-1] - times[0])
+        seen, steps = set(self.changes), 0
+        self.places = []
+        for point, time in enumerate(times):
+            steps += point in seen and point > 0
+            self.places.append(round(left + step * steps + pixels * (time - times[0])))
+
+    def x(self, point):
+        return self.places[point]
+
+    def end(self):
+        return self.places[-1] + TAIL
+
+    def right(self, point):
+        """Where a span ends that goes on up to this point, or beyond the last one."""
+        return self.places[point] if point < len(self.places) else self.end()
+
+
+class Drawing:
+    """The elements of a picture, and how far they reach."""
+
+    def __init__(self):
+        self.elements = []
+        self.width = LEAST_WIDTH
+
+    def add(self, text):
+        self.elements.append(text)
+
+    def text(self, x, y, text, kind="", more=""):
+        self.width = max(self.width, x + width_of(text) + EDGE)
+        self.add('<text%s x="%d" y="%d"%s>%s</text>' % (kind and ' class="%s"' % kind, x, y, more, escape(text)))
+
+    def box(self, kind, left, top, right, height, more=""):
+        self.add('<rect class="%s" x="%d" y="%d" width="%d" height="%d"%s/>' % (kind, left, top, max(1, right - left), height, more))
+
+    def shape(self, kind, x, top, more=""):
+        self.add('<path class="%s" d="M%d %d%s"%s/>' % (kind, x, top, SHAPES[kind], more))
+
+    def line(self, kind, left, top, right, bottom, more=""):
+        self.add('<path class="%s" d="M%d %dL%d %d"%s/>' % (kind, left, top, right, bottom, more))
+
+
+def of_span(span):
+    text = ' data-text="%s"' % escape(span.text, {'"': "&quot;"}) if span.text else ""
+    return ' data-kind="%s" data-first="%d" data-last="%d"%s' % (span.kind, span.first, span.last, text)
+
+
+def of_mark(mark):
+    return ' data-kind="%s" data-point="%d" data-text="%s"' % (mark.kind, mark.point, escape(mark.text, {'"': "&quot;"}))
+
+
+class LaneDrawing:
+    """One lane: what stands in which row, and from there its height."""
+
+    def __init__(self, lane, scale):
+        self.lane, self.scale = lane, scale
+        self.marks = marks_in_rows(sorted(lane.marks, key=lambda mark: mark.point), self.mark_extent)
+        blocked = sorted((span for span in lane.spans if span.kind == "blocked"), key=lambda span: span.first)
+        self.blocked = spans_in_rows(blocked, self.blocked_extent)
+        self.bar = (BAR if lane.spans else ROW) + STRIP  # with the strip
+
+    def mark_extent(self, mark):
+        x = self.scale.x(mark.point)
+        return x - SHAPE // 2, x + BESIDE + width_of(SAYS[mark.kind] % mark.text)
+
+    def blocked_extent(self, span):
+        x = self.scale.x(span.first)
+        return x, max(self.scale.right(span.last), x + 3 + width_of(span.text))
+
+    def height(self):
+        return ROW * (rows_of(self.marks) + rows_of(self.blocked)) + self.bar
+
+    def draw(self, drawing, top):
+        bar = top + ROW * rows_of(self.marks)
+        middle = bar + (self.bar - STRIP) // 2
+        drawing.add('<g data-lane="%s">' % escape(self.lane.name, {'"': "&quot;"}))
+        drawing.line("line", self.scale.x(0), middle, self.scale.end(), middle)
+        drawing.text(EDGE, middle + 4, self.lane.name)
+        self.draw_marks(drawing, bar)
+        self.draw_bars(drawing, bar)
+        self.draw_counts(drawing, bar)
+        self.draw_blocked(drawing, bar + BAR + STRIP)
+        drawing.add("</g>")
+
+    def draw_marks(self, drawing, bar):
+        for mark, _, _, row in self.marks:
+            x = self.scale.x(mark.point)
+            drawing.line("lead", x, bar - ROW * row - 3, x, bar)
+        for mark, _, _, row in self.marks:
+            x, top = self.scale.x(mark.point), bar - ROW * (row + 1)
+            drawing.shape(mark.kind, x, top + 2, of_mark(mark))
+            drawing.text(x + BESIDE, top + 10, SAYS[mark.kind] % mark.text)
+
+    def draw_bars(self, drawing, bar):
+        inside = {"quorate": (BAR + 1, STRIP - 1), "holds": (BAR - 8, 6)}
+        order = {"holds": 1, "quorate": 2}
+        spans = [span for span in self.lane.spans if span.kind != "blocked"]
+        for span in sorted(spans, key=lambda span: (order.get(span.kind, 0), span.first)):
+            down, height = inside.get(span.kind, (0, BAR))
+            drawing.box(span.kind, self.scale.x(span.first), bar + down, self.scale.right(span.last), height, of_span(span))
+
+    def draw_counts(self, drawing, bar):
+        """The votes and the quorum of a node that is quorate, in the upper half of its bar, where there is room."""
+        counts = sorted((span.first, span.text) for span in self.lane.spans if span.kind == "quorate")
+        draw_where_room(drawing, bar + 10, [(self.scale.x(first) + 3, text, "") for first, text in counts])
+
+    def draw_blocked(self, drawing, top):
+        for span, left, _, row in self.blocked:
+            drawing.line("lead", left, top - STRIP, left, top + ROW * row + 2)
+        for span, left, _, row in self.blocked:
+            y = top + ROW * (row + 1)
+            drawing.line("blocked", left, y, self.scale.right(span.last), y, of_span(span))
+            drawing.text(left + 3, y - 4, span.text)
+
+
+def draw_axis(drawing, timeline, scale, top, bottom):
+    """The moments as grey columns, the time of each above it, and below that the number of each point at which something changes."""
+    moments = {}
+    for point in scale.changes:
+        moments.setdefault(timeline.times[point], []).append(scale.x(point))
+    for places in moments.values():
+        drawing.box("moment", places[0] - 3, top + ROW + 4, places[-1] + 3, bottom - top - ROW - 4)
+    drawing.text(EDGE, top + 10, "ms")
+    drawing.text(EDGE, top + ROW + 14, timeline.points)
+    draw_where_room(drawing, top + 10, [(places[0], str(time), ' data-time="%d"' % time) for time, places in moments.items()])
+    draw_where_room(drawing, top + ROW + 14, [(scale.x(point), str(point), ' data-point="%d"' % point) for point in scale.changes])
+
+
+def draw_where_room(drawing, y, texts):
+    """Texts from left to right, each where there is room for it."""
+    end = 0
+    for x, text, more in texts:
+        if x >= end:
+            drawing.text(x, y, text, "", more)
+            end = x + width_of(text) + 4
+
+
+def draw_legend(drawing, kinds, top):
+    """What the kinds mean that are drawn, in lines of the picture's width; gives where it ends."""
+    x = EDGE
+    for kind, says in LEGEND.items():
+        if kind in kinds:
+            wide = 26 + width_of(says)
+            if x > EDGE and x + wide + EDGE > drawing.width:
+                x, top = EDGE, top + ROW + 4
+            draw_sample(drawing, kind, x, top)
+            drawing.text(x + 22, top + 10, says)
+            x += wide + 10
+    return top + ROW
+
+
+def draw_sample(drawing, kind, x, top):
+    if kind in SHAPES:
+        drawing.shape(kind, x + 12, top + 2)
+    elif kind == "blocked":
+        drawing.line("blocked", x, top + 10, x + 18, top + 10)
+    elif kind == "quorate":
+        drawing.box("quorate", x, top + 5, x + 18, STRIP - 1)
+    else:
+        drawing.box(kind, x, top + 1, x + 18, 10)
+
+
+def svg_of(timeline):
+    """The timeline as the text of an SVG."""
+    left = EDGE + max(width_of(name) for name in [timeline.points] + [lane.name for lane in timeline.lanes]) + 14
+    scale = Scale(timeline, left)
+    lanes = [LaneDrawing(lane, scale) for lane in timeline.lanes]
+    drawing, axis, top = Drawing(), 26, 26 + 2 * ROW + 12
+    drawing.width = max(drawing.width, scale.end() + EDGE)
+    drawing.text(EDGE, 16, timeline.title, "title")
+    bottom = top + sum(lane.height() + 8 for lane in lanes)
+    draw_axis(drawing, timeline, scale, axis, bottom)
+    for lane in lanes:
+        lane.draw(drawing, top)
+        top += lane.height() + 8
+    kinds = {"moment", *(thing.kind for lane in timeline.lanes for thing in lane.spans + lane.marks)}
+    height = draw_legend(drawing, kinds, top + 6) + EDGE
+    return "\n".join([
+        '<svg xmlns="http://www.w3.org/2000/svg" width="%d" height="%d" viewBox="0 0 %d %d" role="img">' % ((drawing.width, height) * 2),
+        "<title>%s</title>" % escape(timeline.title),
+        "<style>%s</style>" % STYLE,
+        "<defs>%s</defs>" % PATTERNS,
+        '<rect width="%d" height="%d" fill="#fff"/>' % (drawing.width, height),
+        *drawing.elements,
+        "</svg>\n"])

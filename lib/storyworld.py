@@ -1,0 +1,236 @@
+"""The world of a story: disks that answer, a network that delivers, clocks and watchdogs that run, machines that a reset takes down, and
+the membership of VIEWS.md. It turns the lines of a story into events, one after the other, as they would come to the nodes, and hands
+each of them to `quorumd replay`. What a node does is what the trace says; nothing of it is worked out here."""
+import heapq
+import itertools
+
+from members import Member
+from nodes import Node, operation_in
+from replaying import MOST_EVENTS
+
+DISK_MS = 6  # from the asking for an operation to its answer; it lands halfway
+NETWORK_MS = 2  # from the sending of a packet to its arrival
+STOP_MS = 50  # from the asking for a stop of the resource to its answer
+DOWN_MS = 10  # from the reading of a deadly message until the machine is down
+LOOKS = 5  # how often a node looks at its clock in the loop's time of the image
+
+
+class TooLong(Exception):
+    """The world has had as many events as a schedule may have."""
+
+
+class Host:
+    """A machine with its node, as it goes on in true time."""
+
+    def __init__(self, ident):
+        self.node = Node(ident)
+        self.ident = ident
+        self.disk_ms, self.is_broken = DISK_MS, False
+        self.stop_ms = STOP_MS
+        self.percent = 100  # how fast its clock runs
+        self.boots = 0
+        self.clock = 0  # in hundredths of a millisecond
+        self.fed = 0  # the true time at which its watchdog was fed last
+        self.hangs = False
+        self.missed = []  # what its machine would have handed it while it hung
+        self.member = None
+        self.voted = None  # its tick when the device told it yes last, and the view then
+
+    def begin(self, now):
+        """A boot begins: the watchdog is armed, and the clock starts."""
+        self.boots += 1
+        self.clock, self.fed = 0, now
+        self.hangs, self.missed = False, []
+        self.member, self.voted = None, None
+
+    @property
+    def tick(self):
+        return self.clock // 100
+
+    def is_ready(self):
+        return self.node.runs and not self.hangs and self.node.phase != "dying"
+
+    def takes_part(self):
+        return self.is_ready() and self.node.phase in ("up", "leaving")
+
+
+class World:
+    """All hosts at a moment of true time, and what is about to happen. `watch.event(words, report, deeds, cause)` is told of each event."""
+
+    def __init__(self, replay, ids, timing, watch):
+        self.replay, self.timing, self.watch = replay, timing, watch
+        self.ids = tuple(ids)
+        self.hosts = {ident: Host(ident) for ident in ids}
+        self.now = 0
+        self.queue, self.order = [], itertools.count()
+        self.part = {ident: 0 for ident in ids}
+        self.network_ms = NETWORK_MS
+        self.packets = 0
+        self.device = ()
+
+    # ---- time
+
+    def later(self, delay, action, *values):
+        heapq.heappush(self.queue, (self.now + delay, next(self.order), action, values))
+
+    def later_in_boot(self, delay, host, action, *values):
+        """The same, unless this boot of the host is over by then."""
+        self.later(delay, self.if_same_boot, host, host.boots, action, values)
+
+    def if_same_boot(self, host, boots, action, values):
+        if host.node.runs and host.boots == boots:
+            action(host, *values)
+
+    def run(self, milliseconds):
+        end = self.now + milliseconds
+        while self.queue and self.queue[0][0] <= end:
+            time, _, action, values = heapq.heappop(self.queue)
+            self.wait_until(time)
+            action(*values)
+        self.wait_until(end)
+
+    def wait_until(self, time):
+        if time == self.now:
+            return
+        passed, self.now = time - self.now, time
+        running = [host for host in self.hosts.values() if host.node.runs]
+        for host in running:
+            host.clock += passed * host.percent
+        named = "".join(" %d=%d" % (host.ident, passed * host.percent) for host in running if host.percent != 100)
+        self.event("pass %d%s" % (passed, named))
+
+    # ---- events
+
+    def event(self, line, cause=""):
+        """Hands an event to the replay, and does what the machine of the node does at what came out of it."""
+        if self.replay.events >= MOST_EVENTS:
+            raise TooLong("a schedule has at most %d events" % MOST_EVENTS)
+        words = line.split(" ")
+        report = self.replay.event(line)
+        if report.node is None:
+            self.watch.event(words, report, [], cause)
+            return
+        host = self.hosts[report.node]
+        deeds = host.node.take(words, report)
+        self.watch.event(words, report, deeds, cause)
+        self.serve(host, report.outs)
+        for deed in deeds:
+            if deed.kind == "up":
+                host.member = Member(host.ident, self.ids, self.timing.loop)
+            if deed.kind == "halts" and host.node.runs:
+                self.later_in_boot(DOWN_MS, host, self.crash, "by that message")
+
+    def serve(self, host, outs):
+        """What the outputs of a node ask its machine and the network for."""
+        if operation_in(outs):
+            self.later_in_boot(host.disk_ms // 2, host, self.land, host.is_broken)
+            self.later_in_boot(host.disk_ms, host, self.handed, self.answer, host.is_broken)
+        for out in outs:
+            if out == "stop":
+                self.later_in_boot(host.stop_ms, host, self.handed, self.stopped)
+            if out[:4] in ("ask>", "tell"):
+                self.send(host, int(out.partition(">")[2]))
+        if "feed" in outs:
+            host.fed = self.now
+            self.event("feed %d" % host.ident)
+
+    def handed(self, host, action, *values):
+        """Something that comes to the node itself: while it hangs, it waits."""
+        if host.hangs:
+            host.missed.append((action, values))
+        else:
+            action(host, *values)
+
+    def wake(self, host):
+        """A node that hung is handed what it missed."""
+        host.hangs = False
+        missed, host.missed = host.missed, []
+        for action, values in missed:
+            if host.node.runs:
+                action(host, *values)
+
+    def land(self, host, fails):
+        if not fails:
+            self.event("land %d" % host.ident)
+
+    def answer(self, host, fails):
+        self.event("%s %d" % ("fail" if fails else "done", host.ident))
+
+    def stopped(self, host):
+        self.event("stopped %d" % host.ident)
+
+    def crash(self, host, cause):
+        self.event("crash %d" % host.ident, cause)
+
+    def watchdog(self, host):
+        """The watchdog ends a machine that was not fed for its time."""
+        left = host.fed + self.timing.watchdog - self.now
+        if left <= 0:
+            self.crash(host, "its watchdog was not fed")
+        else:
+            self.later_in_boot(left, host, self.watchdog)
+
+    # ---- the network
+
+    def send(self, host, receiver):
+        number, self.packets = self.packets, self.packets + 1
+        self.transmit(host, receiver, self.deliver, number)
+
+    def transmit(self, host, receiver, action, *values):
+        """What is sent arrives where the network joins the two when it is sent and when it arrives."""
+        if self.part[host.ident] == self.part[receiver]:
+            self.later(self.network_ms, self.arrive, host.ident, self.hosts[receiver], action, values)
+
+    def arrive(self, sender, host, action, values):
+        if host.is_ready() and self.part[sender] == self.part[host.ident]:
+            action(host, *values)
+
+    def deliver(self, host, number):
+        self.event("deliver %d %d" % (host.ident, number))
+
+    # ---- membership, looks at the clock, and the quorum device
+
+    def turn(self, host):
+        """A node looks at its clock, again and again."""
+        self.later_in_boot(max(1, self.timing.loop // LOOKS), host, self.turn)
+        if not host.takes_part():
+            return
+        if not self.look(host):
+            self.event("tick %d" % host.ident)
+        if host.takes_part() and host.member.is_hello_due(host.tick):
+            self.greet(host)
+        if host.takes_part() and host.ident in self.device:
+            self.vote(host)
+
+    def look(self, host):
+        """Whether the node is told a view."""
+        view = host.member.look(host.tick)
+        if view is not None:
+            self.event("view %d %d %s" % (host.ident, view.number, ",".join(map(str, view.members))))
+        return view is not None
+
+    def greet(self, host):
+        view = host.member.to_announce()
+        for other in self.ids:
+            if other != host.ident:
+                self.transmit(host, other, self.hear_hello, host.ident)
+        for other in self.ids:
+            if other != host.ident and view is not None:
+                self.transmit(host, other, self.hear_announce, host.ident, view)
+
+    def hear_hello(self, host, sender):
+        if host.takes_part():
+            host.member.on_hello(host.tick, sender)
+            self.look(host)
+
+    def hear_announce(self, host, sender, view):
+        if host.takes_part():
+            host.member.on_announce(sender, view)
+            self.look(host)
+
+    def vote(self, host):
+        """The device says yes under each new view, and once in the loop's time."""
+        now = (host.tick, host.member.view)
+        if host.voted is None or host.voted[1] != now[1] or now[0] >= host.voted[0] + self.timing.loop:
+            host.voted = now
+            self.event("device %d yes" % host.ident)

@@ -1,0 +1,79 @@
+# packaging/build-deb: the package is unpacked into an empty root, and README's first commands and a story are run there. The same
+# sources give the same bytes; the program is the one that was built.
+. "$TOP/tests/expect.sh"
+
+if ! command -v dpkg-deb > /dev/null; then
+    printf 'skipped: dpkg-deb is not installed (Debian: dpkg), so no package was built\n'
+    exit 0
+fi
+if [ "$(dpkg --print-architecture)" != amd64 ]; then
+    printf 'skipped: this machine is no amd64, so no package was built\n'
+    exit 0
+fi
+# the build that is packed is that of the repository
+built=$TOP/crates/quorumd/out/quorumd
+
+mkdir one two
+package=$("$TOP/packaging/build-deb" one)
+same "$package" "one/$(basename "$package")"
+[[ $package =~ ^one/quorumd_[0-9.]+-[0-9]+_amd64\.deb$ ]] || { printf 'a package of this name: %s\n' "$package"; exit 1; }
+"$TOP/packaging/build-deb" two > said
+cmp "$package" "two/$(basename "$package")"
+version=$(basename "$package" | cut -d _ -f 2)
+same "$(dpkg-deb --field "$package" Package Version Architecture | xargs)" "Package: quorumd Version: $version Architecture: amd64"
+grep -q "^Version ${version%-*}, " "$TOP/README.md"
+grep -q "^\.Os quorumd ${version%-*}$" "$TOP/man/quorumd.8"
+
+dpkg -x "$package" root
+dpkg-deb --control "$package" control
+(cd root && md5sum --quiet -c ../control/md5sums)
+same "$(cd root && find . -type f | wc -l)" "$(wc -l < control/md5sums)"
+cmp root/usr/sbin/quorumd "$built"
+zcat root/usr/share/man/man8/quorumd.8.gz | cmp - "$TOP/man/quorumd.8"
+cmp root/usr/share/bash-completion/completions/quorumd "$TOP/completions/quorumd.bash"
+doc=$PWD/root/usr/share/doc/quorumd
+diff -r "$doc/examples" "$TOP/examples"
+grep -q '^License: Apache-2.0$' "$doc/copyright"
+zcat "$doc/changelog.Debian.gz" | head -n 1 | grep -qF "quorumd ($version) "
+# there is no unit, since there is no running node yet, and nothing is run at the installation
+same "$(find root -name '*.service' -o -name '*.socket')" ''
+same "$(ls control | xargs)" 'control md5sums'
+
+# all that a newcomer runs is that of the package
+cd "$(mktemp -d -p .)"
+ln -s "$doc/examples" examples
+PATH=$(dirname "$doc")/../../sbin:$(dirname "$doc")/../quorumd/bin:$PATH
+unset QUORUMD
+python3 - "$doc/README.md" << 'PYTHON'
+import re
+import subprocess
+import sys
+
+text = open(sys.argv[1]).read().partition("\n## Four commands\n")[2].partition("\n## ")[0]
+blocks = re.findall(r"(?ms)^```console\n(.*?)^```$", text)
+ran = 0
+for block in blocks:
+    for command, wanted in re.findall(r"(?m)^\$ (.*)\n((?:[^$\n].*\n)*)", block):
+        said = subprocess.run(command.replace("bin/quorumd", "quorumd"), shell=True, stdout=subprocess.PIPE, text=True).stdout
+        ran += 1
+        if said != wanted:
+            sys.exit("%s: wanted %s, got %s" % (command, wanted, said))
+if ran < 5:
+    sys.exit("only %d commands" % ran)
+PYTHON
+story --keep kept examples/try.story > account
+grep -q ' STARTS the resource$' account
+timeline --title 'The holder is killed' kept | cmp - examples/try.svg
+
+# words that are none
+for words in --help 'one two' no-such-folder; do
+    status=0
+    "$TOP/packaging/build-deb" $words > said 2> errors || status=$?
+    same "$status $(tail -n 1 errors)" '2 usage: packaging/build-deb [FOLDER]'
+done
+
+if command -v lintian > /dev/null; then
+    lintian --fail-on error "../$package"
+else
+    printf 'skipped: lintian is not installed (Debian: lintian), so the package was not looked at by it\n'
+fi
