@@ -39,6 +39,21 @@ zcat "$doc/changelog.Debian.gz" | head -n 1 | grep -qF "quorumd ($version) "
 same "$(find root -name '*.service' -o -name '*.socket')" ''
 same "$(ls control | xargs)" 'control md5sums'
 
+# dpkg installs it into an empty root, without the libraries that it depends on, and removes all of it again
+if [ "$(id -u)" = 0 ]; then
+    mkdir -p empty/var/lib/dpkg/info empty/var/lib/dpkg/updates
+    touch empty/var/lib/dpkg/status empty/var/lib/dpkg/available
+    in_root() {
+        dpkg --root="$PWD/empty" --log="$PWD/log" --force-depends "$@" > said 2>&1 || { cat said; exit 1; }
+    }
+    in_root --install "$package"
+    cmp empty/usr/sbin/quorumd "$built"
+    in_root --purge quorumd
+    same "$(ls empty | xargs)" var
+else
+    printf 'skipped: only root can install a package, so it was unpacked alone\n'
+fi
+
 # all that a newcomer runs is that of the package
 cd "$(mktemp -d -p .)"
 ln -s "$doc/examples" examples
