@@ -7,7 +7,9 @@
 //! clock runs beside true time (`law_clocks`), and that with wait_for_all nothing is quorate before some node
 //! saw all (`law_wait_for_all`). The two lemmas that the theorem rests on are laws too: `law_fence` and
 //! `law_tells`; over the events of the world, from the landing of a reset on, the first is `law_landed_reset`.
-//! The premises are met by a schedule in which two nodes hold, one after the other (`law_premises_are_met`).
+//! The premises are met by a schedule in which two nodes hold, one after the other (`law_premises_are_met`). The same
+//! is said of a disk of three images, any one of which may fail: `law_triple_no_two_holders`,
+//! `law_triple_runs_are_timed`, `law_triple_premises_are_met`, over the world of `specs/TripleSteps`.
 //!
 //! A crate above cites a law by a call of it; how a lemma under a proof takes a clause stands at the head of
 //! `specs/Reported`.
