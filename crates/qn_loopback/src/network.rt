@@ -55,13 +55,19 @@ pub fn check_foreign<E: Env, N: Net, P: Print>(
     node: &mut E,
 ) -> io::Result<()> {
     let stranger = UdpSocket::bind(net, (Ipv4Addr::LOCALHOST, 0))?;
-    for (length, taken) in [(0, 0), (129, 129), (130, 129), (LONG, 129)] {
+    let cases = [
+        ("a foreign packet of no bytes is a packet", 0, 0),
+        ("129 foreign bytes come whole", 129, 129),
+        ("of 130 foreign bytes the first 129 come", 130, 129),
+        ("of 600 foreign bytes the first 129 come", LONG, 129),
+    ];
+    for (what, length, taken) in cases {
         let bytes = numbered();
         stranger.send_to(&bytes[..length], (Ipv4Addr::LOCALHOST, port))?;
         let mut packet = [0; PACKET];
         let got = node.receive(&mut packet);
         let first = got == Got::Packet(taken) && packet[..taken] == bytes[..taken];
-        report.say("of foreign bytes the first 129 come", first)?;
+        report.say(what, first)?;
     }
     Ok(())
 }
