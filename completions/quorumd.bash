@@ -2,7 +2,7 @@
 # /usr/share/bash-completion/completions.
 
 # the commands, in the order of `quorumd help`
-_quorumd_commands=(count replay status soak create dump list message migrate help)
+_quorumd_commands=(count replay status soak create dump list message node migrate help)
 
 # _quorumd_options COMMAND: leaves the options that a command takes in `options`
 _quorumd_options() {
@@ -12,6 +12,7 @@ _quorumd_options() {
     create) options=(--image --timing) ;;
     dump | list | migrate) options=(--image) ;;
     message) options=(--image --id --kind) ;;
+    node) options=(--id --image --watchdog --resource --port --turns --leave --start-mode) ;;
     esac
 }
 
@@ -38,7 +39,8 @@ _quorumd_value() {
     --form) _quorumd_offer text json ;;
     --kind) _quorumd_offer clear test reset off exit crashdump ;;
     --timing) _quorumd_offer 5000,10000,1000,2000,1000 ;;
-    --image) _quorumd_files ;;
+    --start-mode) _quorumd_offer 0 1 ;;
+    --image | --watchdog | --resource) _quorumd_files ;;
     esac
 }
 

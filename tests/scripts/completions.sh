@@ -25,7 +25,7 @@ offers() {
 same "$(bash -c 'source "$1" && complete -p quorumd' - "$TOP/completions/quorumd.bash")" 'complete -F _quorumd quorumd'
 
 # commands
-commands='count replay status soak create dump list message migrate help'
+commands='count replay status soak create dump list message node migrate help'
 offers "$commands" ''
 offers 'count create' c
 offers 'status soak' s
@@ -53,6 +53,9 @@ offers '--image --id --kind' message ''
 offers '--image --kind' message --id 2 --
 offers '--id' message --kind off --image disk ''
 offers '' message --kind off --image disk --id 2 ''
+offers '--id --image --watchdog --resource --port --turns --leave --start-mode' node ''
+offers '--image --resource --port --leave --start-mode' node --turns 9 --id 1 --watchdog dog --
+offers '--leave' node --id 1 --image disk --watchdog dog --resource res --port 7000 --turns 9 --start-mode 1 --
 
 # a word that looks like an option can be a value; a redirection is no option
 offers --id message --image --id --kind off ''
@@ -69,12 +72,16 @@ offers reset message --image disk --kind r
 offers 5000,10000,1000,2000,1000 create --timing ''
 offers 5000,10000,1000,2000,1000 create --image disk --timing 5
 offers '' create --timing 6
+offers '0 1' node --start-mode ''
+offers '' node --port ''
 offers '' message --id ''
 mkdir files files/folder
 touch files/disk files/disk.old files/other
 offers 'files/disk files/disk.old' dump --image files/di
 offers 'files/folder' create --timing 5000,10000,1000,2000,1000 --image files/f
 offers 'files/other' message --id 2 --image files/o
+offers 'files/other' node --id 2 --watchdog files/o
+offers 'files/other' node --id 2 --resource files/o
 offers '' list --image files/x
 offers 'files/other' status '<' files/o
 offers 'files/other' status --form json '>' files/o

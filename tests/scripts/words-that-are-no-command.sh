@@ -23,6 +23,26 @@ message --image d --id 1
 message --image d --id 0 --kind off
 message --image d --id 4294967296 --kind off
 message --image d --id 1 --kind empty
+node
+node --id 1 --image d --watchdog w --resource r --port 7000
+node --id 1 --image d --watchdog w --resource r --turns 9
+node --id 1 --image d --watchdog w --port 7000 --turns 9
+node --id 1 --image d --resource r --port 7000 --turns 9
+node --id 1 --watchdog w --resource r --port 7000 --turns 9
+node --image d --watchdog w --resource r --port 7000 --turns 9
+node --id 0 --image d --watchdog w --resource r --port 7000 --turns 9
+node --id 4294967296 --image d --watchdog w --resource r --port 7000 --turns 9
+node --id 1 --image d --watchdog w --resource r --port 1023 --turns 9
+node --id 1 --image d --watchdog w --resource r --port 65001 --turns 9
+node --id 1 --image d --watchdog w --resource r --port 7000 --turns 0
+node --id 1 --image d --watchdog w --resource r --port 7000 --turns 1000000001
+node --id 1 --image d --watchdog w --resource r --port 7000 --turns 9 --leave 0
+node --id 1 --image d --watchdog w --resource r --port 7000 --turns 9 --leave 1000000001
+node --id 1 --image d --watchdog w --resource r --port 7000 --turns 9 --start-mode 2
+node --id 1 --image d --watchdog w --resource r --port 7000 --turns 9 --start-mode clean
+node --id 1 --image d --watchdog w --resource r --port 7000 --turns 9 --turns 9
+node --id 1 --image d --watchdog w --resource r --port 7000 --turns 9 --timing 5000,10000,1000,2000,1000
+node --id 1 --image d --watchdog w --resource r --port 7000 --turns 9 --leave
 migrate
 migrate d
 migrate --image d --id 1

@@ -31,7 +31,7 @@ wanted_of_conf conf.NotText is = absurd (omega arith)
 wanted_of_conf conf.TooLong is = absurd (omega arith)
 wanted_of_conf conf.NoMemory is = inr refl
 
-wanted_of : (why : Fault) → status_of why ≡ 11 → IsWanted {A = Settings} (Err why)
+pub wanted_of : (why : Fault) → status_of why ≡ 11 → IsWanted {A = Settings} (Err why)
 wanted_of fault.Usage is = absurd (omega arith)
 wanted_of (fault.BadConf why) is = wanted_of_conf why is
 wanted_of (fault.BadSettings why) is = absurd (omega arith)
@@ -42,6 +42,9 @@ wanted_of fault.EnvFault is = absurd (omega arith)
 wanted_of (fault.BadImage sector) is = absurd (omega arith)
 wanted_of (fault.UnsafeTiming timing) is = absurd (omega arith)
 wanted_of fault.NoMemory is = inl refl
+wanted_of (fault.ClockBack before now) is = absurd (omega arith)
+wanted_of (fault.SelfReset message) is = absurd (omega arith)
+wanted_of (fault.BootHalted cause) is = absurd (omega arith)
 wanted_of (fault.DeadlyThere held) is = absurd (omega arith)
 wanted_of (fault.UnknownNode id) is = absurd (omega arith)
 
@@ -99,7 +102,7 @@ made_status code (inr (inl seven)) = inr (inr (inr (inl seven)))
 made_status code (inr (inr eight)) = inr (inr (inr (inr (inl eight))))
 
 -- the status of a fault of the settings
-abbrev IsSettingsStatus : ℕ → Type 0
+abbrev pub IsSettingsStatus : ℕ → Type 0
 IsSettingsStatus code = (code ≡ 3) ⊎ ((code ≡ 6) ⊎ (code ≡ 11))
 
 refused_status : (code own : ℕ) → IsSettingsStatus own → (code ≡ own) ⊎ (code ≡ 7) → CreateStatus code
@@ -108,7 +111,7 @@ refused_status code own (inr (inl six)) (inl same) = inr (inr (inl (same ∙ six
 refused_status code own (inr (inr eleven)) (inl same) = inr (inr (inr (inr (inr (inr (same ∙ eleven))))))
 refused_status code own which (inr seven) = inr (inr (inr (inl seven)))
 
-own_status : (code own other : ℕ) → other ≢ 7 → (code ≡ own) ⊎ (code ≡ 7) → code ≡ other → own ≡ other
+pub own_status : (code own other : ℕ) → other ≢ 7 → (code ≡ own) ⊎ (code ≡ 7) → code ≡ other → own ≡ other
 own_status code own other no_seven (inl same) is = sym same ∙ is
 own_status code own other no_seven (inr seven) is = absurd (no_seven (sym is ∙ seven))
 

@@ -5,6 +5,7 @@ mod Creating
 mod GivenOut
 mod ImageEnds
 mod Listing
+mod NodeRuns
 mod ReadTexts
 mod Turned
 mod Working

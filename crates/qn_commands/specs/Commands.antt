@@ -5,3 +5,4 @@ pub mod Dump
 pub mod List
 pub mod Message
 pub mod Migrate
+pub mod Node

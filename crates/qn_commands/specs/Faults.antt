@@ -10,13 +10,14 @@ use Rattle.qn_model.specs.declared.rules.Rule.{Rule}
 use Rattle.qn_model.specs.declared.times.Timing.{Timing}
 use Rattle.qn_model.specs.Lines.{name_of}
 use Rattle.qn_model.specs.Messages.{message_name}
+use Rattle.qn_sched.specs.TraceLines.{cause_number}
 use Rattle.qn_settings.specs.declared.faults.SettingsFault.{SettingsFault}
 use Rattle.qn_settings.specs.declared.faults.SettingsFault.TheVariants as settings
 use Rattle.qn_settings.specs.declared.faults.TextFault.{TextFault}
 use Rattle.qn_settings.specs.declared.faults.TextFault.TheVariants as text
 use Rattle.qn_settings.specs.Keys.{key_name}
 use Rattle.qn_commands.specs.declared.fault.Fault.{Fault}
-use Rattle.qn_commands.specs.declared.fault.Fault.TheVariants.{Usage, BadConf, BadSettings, BadSchedule, NotAllowed, ReadFault, EnvFault, BadImage, UnsafeTiming, NoMemory, DeadlyThere, UnknownNode}
+use Rattle.qn_commands.specs.declared.fault.Fault.TheVariants.{Usage, BadConf, BadSettings, BadSchedule, NotAllowed, ReadFault, EnvFault, BadImage, UnsafeTiming, NoMemory, ClockBack, SelfReset, BootHalted, DeadlyThere, UnknownNode}
 
 -- a settings text that is no configuration
 abbrev pub conf_line : ConfFault → List ℕ
@@ -65,6 +66,14 @@ refused_line line rule = codes "fault NotAllowed line " ++ decimal line ++ codes
 abbrev pub deadly_line : Message → List ℕ
 deadly_line held = codes "fault DeadlyThere " ++ message_name held ++ codes "\n"
 
+-- a clock that went back: the tick before, and the one that followed
+abbrev pub clock_line : ℕ → ℕ → List ℕ
+clock_line before now = codes "fault ClockBack " ++ decimal before ++ codes " " ++ decimal now ++ codes "\n"
+
+-- a deadly message that a running node read
+abbrev pub reset_line : Message → List ℕ
+reset_line message = codes "fault SelfReset " ++ message_name message ++ codes "\n"
+
 -- the last line
 abbrev pub fault_line : Fault → List ℕ
 fault_line Usage = codes "fault Usage\n"
@@ -77,6 +86,9 @@ fault_line EnvFault = codes "fault EnvFault\n"
 fault_line (BadImage sector) = codes "fault BadImage sector " ++ decimal sector ++ codes "\n"
 fault_line (UnsafeTiming timing) = timing_line timing
 fault_line NoMemory = codes "fault NoMemory\n"
+fault_line (ClockBack before now) = clock_line before now
+fault_line (SelfReset message) = reset_line message
+fault_line (BootHalted cause) = codes "fault BootHalted " ++ decimal (cause_number cause) ++ codes "\n"
 fault_line (DeadlyThere held) = deadly_line held
 fault_line (UnknownNode id) = codes "fault UnknownNode " ++ decimal id.0 ++ codes "\n"
 
@@ -101,6 +113,9 @@ status_of EnvFault = 8
 status_of (BadImage sector) = 9
 status_of (UnsafeTiming timing) = 10
 status_of NoMemory = 11
+status_of (ClockBack before now) = 12
+status_of (SelfReset message) = 13
+status_of (BootHalted cause) = 14
 status_of (DeadlyThere held) = 15
 status_of (UnknownNode id) = 16
 

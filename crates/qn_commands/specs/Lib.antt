@@ -6,6 +6,7 @@ pub mod Faults
 pub mod ImageTexts
 pub mod Images
 pub mod InputSettings
+pub mod NodeTexts
 pub mod Reads
 pub mod RunLaws
 pub mod Seen

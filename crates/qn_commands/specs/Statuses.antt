@@ -1,7 +1,7 @@
 -- The exit statuses, and how a command may end: this project's profile.
 use Rattle.std.specs.Prelude.{◌≡◌, ◌⊎◌, ℕ, List, [], ◌∷◌}
 use Rattle.qn_commands.specs.declared.status.Status.{Status}
-use Rattle.qn_commands.specs.declared.status.Status.TheVariants.{Done, Usage, BadConf, BadSchedule, NotAllowed, ReadFault, WriteFault, EnvFault, BadImage, UnsafeTiming, NoMemory, DeadlyThere, UnknownNode}
+use Rattle.qn_commands.specs.declared.status.Status.TheVariants.{Done, Usage, BadConf, BadSchedule, NotAllowed, ReadFault, WriteFault, EnvFault, BadImage, UnsafeTiming, NoMemory, ClockBack, SelfReset, BootHalted, DeadlyThere, UnknownNode}
 use Rattle.qn_commands.specs.Seen.{CallFails, NeverFall, ReadFails, Seen, WriteFails}
 
 abbrev pub code_of : Status → ℕ
@@ -16,6 +16,9 @@ code_of EnvFault = 8
 code_of BadImage = 9
 code_of UnsafeTiming = 10
 code_of NoMemory = 11
+code_of ClockBack = 12
+code_of SelfReset = 13
+code_of BootHalted = 14
 code_of DeadlyThere = 15
 code_of UnknownNode = 16
 

@@ -5,3 +5,4 @@ pub mod dump;
 pub mod list;
 pub mod message;
 pub mod migrate;
+pub mod node;

@@ -1,14 +1,15 @@
 //! Why a command did not do its work, and the last line that says so.
 ghost use Rattle.std.specs.Prelude.{◌≡◌, ◌≤◌, ◌++◌, length, codes, decimal};
 ghost use Rattle.qn_settings.specs.Keys.{key_name};
-ghost use Rattle.qn_commands.specs.Faults.{conf_line, deadly_line, disk_fault, fault_line, refused_line, schedule_line, settings_line, status_of, text_fault, timing_line};
+ghost use Rattle.qn_commands.specs.Faults.{clock_line, conf_line, deadly_line, disk_fault, fault_line, refused_line, reset_line, schedule_line, settings_line, status_of, text_fault, timing_line};
 ghost use Rattle.qn_commands.specs.Statuses.{code_of};
 
 use crate::status::Status;
 use qn_base::{NodeId, ShortText};
 use qn_conf::ConfFault;
 use qn_image::ImageFault;
-use qn_model::{LineFault, Message, Rule, Timing};
+use qn_model::{BootCause, LineFault, Message, Rule, Timing};
+use qn_sched::cause_number;
 use qn_settings::{Key, SettingsFault, TextFault};
 
 /// Why a command did not do its work, with what its last line says.
@@ -26,7 +27,7 @@ pub enum Fault {
     NotAllowed { line: u64, rule: Rule },
     /// The input could not be read.
     ReadFault,
-    /// The image could not be opened, read or written.
+    /// The image could not be opened, read or written, or a running node not be opened.
     EnvFault,
     /// The sector is no spelling.
     BadImage { sector: u32 },
@@ -34,9 +35,15 @@ pub enum Fault {
     UnsafeTiming(Timing),
     /// Out of memory.
     NoMemory,
+    /// The clock of a running node went back: the tick of the turn before, and the one that followed.
+    ClockBack { before: u64, now: u64 },
+    /// A running node read this deadly message in its mailbox.
+    SelfReset(Message),
+    /// A step of the boot of a running node halted it.
+    BootHalted(BootCause),
     /// The mailbox holds this deadly message, which a test or an exit is not to replace.
     DeadlyThere(Message),
-    /// No slot of the image has the id.
+    /// No slot of the image, or no node of the settings, has the id.
     UnknownNode { id: NodeId },
 }
 
@@ -55,6 +62,9 @@ impl Fault {
             Fault::EnvFault => Status::EnvFault,
             Fault::BadImage { .. } => Status::BadImage,
             Fault::UnsafeTiming(_) => Status::UnsafeTiming,
+            Fault::ClockBack { .. } => Status::ClockBack,
+            Fault::SelfReset(_) => Status::SelfReset,
+            Fault::BootHalted(_) => Status::BootHalted,
             Fault::DeadlyThere(_) => Status::DeadlyThere,
             Fault::UnknownNode { .. } => Status::UnknownNode,
         }
@@ -75,6 +85,9 @@ impl Fault {
             Fault::BadImage { sector } => numbered(b"fault BadImage sector ", u64::from(sector)),
             Fault::UnsafeTiming(timing) => timing_line(&timing),
             Fault::NoMemory => whole(b"fault NoMemory\n"),
+            Fault::ClockBack { before, now } => clock_line(before, now),
+            Fault::SelfReset(message) => reset_line(message),
+            Fault::BootHalted(cause) => numbered(b"fault BootHalted ", cause_number(cause)),
             Fault::DeadlyThere(held) => deadly_line(held),
             Fault::UnknownNode { id } => numbered(b"fault UnknownNode ", u64::from(id.0)),
         }
@@ -187,6 +200,30 @@ fn timing_line(timing: &Timing) -> ShortText
     text.add_number(timing.read_limit);
     text.add(b" ");
     text.add_number(timing.feed_delay);
+    text.add(b"\n");
+    text
+}
+
+/// The line of a clock that went back.
+fn clock_line(before: u64, now: u64) -> ShortText
+    ensures { result ≡ clock_line before now }
+{
+    let mut text = ShortText::new();
+    text.add(b"fault ClockBack ");
+    text.add_number(before);
+    text.add(b" ");
+    text.add_number(now);
+    text.add(b"\n");
+    text
+}
+
+/// The line of a deadly message that a running node read.
+fn reset_line(message: Message) -> ShortText
+    ensures { result ≡ reset_line message }
+{
+    let mut text = ShortText::new();
+    text.add(b"fault SelfReset ");
+    text.add(message.name().as_bytes());
     text.add(b"\n");
     text
 }

@@ -19,7 +19,7 @@ pub enum Status {
     ReadFault,
     /// The output could not be written.
     WriteFault,
-    /// The image could not be opened, read or written.
+    /// The image could not be opened, read or written, or a running node not be opened.
     EnvFault,
     /// A sector of the image is no spelling.
     BadImage,
@@ -27,6 +27,12 @@ pub enum Status {
     UnsafeTiming,
     /// Out of memory.
     NoMemory,
+    /// The clock of a running node went back.
+    ClockBack,
+    /// A running node read a deadly message.
+    SelfReset,
+    /// A step of the boot of a running node halted it.
+    BootHalted,
     /// A test or an exit was not to replace a deadly message.
     DeadlyThere,
     /// No node has the id.
@@ -50,6 +56,9 @@ impl Status {
             Status::BadImage => 9,
             Status::UnsafeTiming => 10,
             Status::NoMemory => 11,
+            Status::ClockBack => 12,
+            Status::SelfReset => 13,
+            Status::BootHalted => 14,
             Status::DeadlyThere => 15,
             Status::UnknownNode => 16,
         }

@@ -7,7 +7,7 @@ ghost use Rattle.qn_sched.specs.TraceLines.{answer_text, cause_number, disk_word
 
 use crate::text::{add_id, add_joined, member_ids};
 use arrayvec::ArrayVec;
-use qn_base::{Mask, NodeId, Rank, add, add_number, yes_no};
+use qn_base::{Mask, NodeId, Rank, ShortText, add, add_number, yes_no};
 use qn_model::{
     Answer, BootCause, DiskOp, HaltKind, Message, Nodes, Out, Outs, Packet, Report, Settings, Why,
 };
@@ -119,12 +119,23 @@ fn add_answer(into: &mut ArrayVec<u8, 4096>, answer: &Answer)
     ensures text { into.new.items ≡ into.old.items ++ answer_text answer.now }
     ensures len { length into.new.items ≤ length into.old.items + 60 }
 {
-    add(into, b" quorate=");
-    add(into, yes_no(answer.quorate));
-    add(into, b" ");
-    add_number(into, answer.votes);
-    add(into, b"/");
-    add_number(into, answer.quorum);
+    let text = answer_text(answer);
+    add(into, text.as_slice());
+}
+
+/// The count of a node, as a trace, a status and the line of a running node print it, after what stands before it.
+pub fn answer_text(answer: &Answer) -> ShortText
+    ensures text { result ≡ answer_text answer.now }
+    ensures len { length result ≤ 60 }
+{
+    let mut text = ShortText::new();
+    text.add(b" quorate=");
+    text.add(yes_no(answer.quorate));
+    text.add(b" ");
+    text.add_number(answer.votes);
+    text.add(b"/");
+    text.add_number(answer.quorum);
+    text
 }
 
 /// Adds the first condition that blocks a start.
@@ -267,7 +278,8 @@ fn add_message(into: &mut ArrayVec<u8, 4096>, message: Message)
     add(into, message.name().as_bytes());
 }
 
-fn cause_number(cause: BootCause) -> u64
+/// The number of a cause, 1 to 7.
+pub fn cause_number(cause: BootCause) -> u64
     ensures { result ≡ cause_number cause }
 {
     match cause {

@@ -1,9 +1,9 @@
 -- The status of nodes as JSON data.
 use Rattle.std.specs.Prelude.{List, [], ◌∷◌, codes}
 use Rattle.serde_json.specs.Data.{Data, Items, array, boolean, item, member, no_items, no_members, number, object, string, unsigned}
+use Rattle.qn_sched.specs.PhaseNames.{phase_name}
 use Rattle.qn_sched.specs.TraceLines.{why_text}
 use Rattle.qn_status.specs.declared.node_state.NodeState.{NodeState}
-use Rattle.qn_status.specs.StatusText.{phase_name}
 
 -- the object of a node
 abbrev pub state_data : NodeState → Data

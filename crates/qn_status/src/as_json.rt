@@ -6,10 +6,9 @@ ghost use Rattle.qn_status.specs.StateData.{state_data, states_data};
 ghost use Rattle.qn_status.specs.StatusJson.{states_line};
 
 use crate::node_state::NodeState;
-use crate::text::phase_name;
 use arrayvec::ArrayVec;
 use qn_model::Why;
-use qn_sched::write_why;
+use qn_sched::{phase_name, write_why};
 use serde_json::{Value, json};
 use std::alloc::{AllocError, Global};
 use std::str::from_utf8;

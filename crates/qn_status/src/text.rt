@@ -4,14 +4,14 @@ ghost use Rattle.std.specs.Io.KnownBytes.{append_known};
 ghost use Rattle.qn_io.specs.Outside.{HasRisen};
 ghost use Rattle.qn_io.specs.Writes.{AppendsFront};
 ghost use Rattle.qn_sched.specs.TraceLines.{why_text};
-ghost use Rattle.qn_status.specs.StatusText.{answer_text, phase_name, state_line};
+ghost use Rattle.qn_status.specs.StatusText.{count_text, state_line};
 
 use crate::node_state::NodeState;
 use arrayvec::ArrayVec;
 use qn_base::{Failed, ShortText, yes_no};
 use qn_io::{Sink, put_all};
-use qn_model::{Answer, Phase, Why};
-use qn_sched::write_why;
+use qn_model::{Answer, Why};
+use qn_sched::{answer_text, phase_name, write_why};
 
 /// Writes the line of each node. At `Failed` a prefix of the lines was written.
 pub(crate) fn write_lines<O: Sink>(nodes: &[NodeState], out: &mut O) -> Result<(), Failed>
@@ -39,24 +39,19 @@ fn state_line(node: NodeState) -> ShortText
     line.add(phase_name(node.phase).as_bytes());
     line.add(b" holds=");
     line.add(yes_no(node.holds));
-    add_answer(&mut line, node.answer);
+    add_count(&mut line, node.answer);
     add_why(&mut line, node.why);
     line
 }
 
-/// Adds the count of a node.
-#[tactic(auto, unfolding(crate::specs::StatusText::answer_text))]
-fn add_answer(line: &mut ShortText, answer: Answer)
+/// Adds the whole count of a node.
+#[tactic(auto, unfolding(crate::specs::StatusText::count_text))]
+fn add_count(line: &mut ShortText, answer: Answer)
     requires { length line.old ≤ 64 }
-    ensures text { line.new ≡ line.old ++ answer_text answer }
-    ensures len { length line.new ≤ length line.old + 100 }
+    ensures text { line.new ≡ line.old ++ count_text answer }
+    ensures len { length line.new ≤ length line.old + 110 }
 {
-    line.add(b" quorate=");
-    line.add(yes_no(answer.quorate));
-    line.add(b" ");
-    line.add_number(answer.votes);
-    line.add(b"/");
-    line.add_number(answer.quorum);
+    line.add(answer_text(&answer).as_slice());
     line.add(b" expected=");
     line.add_number(answer.expected);
     line.add(b" released=");
@@ -73,18 +68,4 @@ fn add_why(line: &mut ShortText, why: Why)
     line.add(b" why=");
     line.add(text.as_slice());
     line.add(b"\n");
-}
-
-/// The word of a phase.
-pub(crate) fn phase_name(phase: Phase) -> &'static str
-    ensures text { result.now ≡ phase_name phase }
-    ensures len { length result.now ≤ 7 }
-{
-    match phase {
-        Phase::Booting => "booting",
-        Phase::Up => "up",
-        Phase::Leaving => "leaving",
-        Phase::Dying => "dying",
-        Phase::Gone => "off",
-    }
 }

@@ -24,6 +24,7 @@ module _ (before later : Seen) (status : ℕ) where
   causes (Some (command.Dump image)) does = does.causes
   causes (Some (command.List image)) does = does.causes
   causes (Some (command.Message image id kind)) does = does.causes
+  causes (Some (command.Node words)) does = does.causes
   causes (Some (command.Migrate image)) does = does.causes
   causes (Some command.Help) does = does.causes
 
@@ -37,6 +38,7 @@ module _ (before later : Seen) (status : ℕ) where
   no_usage (command.Dump image) does two = let one_of = does.statuses in grind arith
   no_usage (command.List image) does two = let one_of = does.statuses in grind arith
   no_usage (command.Message image id kind) does two = let one_of = does.statuses in grind arith
+  no_usage (command.Node words) does two = let one_of = does.statuses in grind arith
   no_usage (command.Migrate image) does two = let one_of = does.statuses in grind arith
   no_usage command.Help does two = let one_of = does.statuses in grind arith
 
@@ -51,6 +53,7 @@ module _ (before later : Seen) (status : ℕ) where
   enough (Some (command.Dump image)) does takes eleven = let one_of = does.statuses in grind arith
   enough (Some (command.List image)) does takes eleven = let one_of = does.statuses in grind arith
   enough (Some (command.Message image id kind)) does takes eleven = let one_of = does.statuses in grind arith
+  enough (Some (command.Node words)) does takes eleven = cc
   enough (Some (command.Migrate image)) does takes eleven = let one_of = does.statuses in grind arith
   enough (Some command.Help) does takes eleven = let one_of = does.statuses in grind arith
 

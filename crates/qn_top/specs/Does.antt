@@ -7,6 +7,7 @@ use Rattle.qn_commands.specs.Commands.Dump.{Dumps}
 use Rattle.qn_commands.specs.Commands.List.{Lists}
 use Rattle.qn_commands.specs.Commands.Message.{Sends}
 use Rattle.qn_commands.specs.Commands.Migrate.{Migrates}
+use Rattle.qn_commands.specs.Commands.Node.{RunsNode}
 use Rattle.qn_commands.specs.Seen.{Seen}
 use Rattle.qn_top.specs.declared.command.Command.{Command}
 use Rattle.qn_top.specs.declared.command.Command.TheVariants as command
@@ -27,6 +28,7 @@ Does (Some (command.Create image timing)) = Creates image timing
 Does (Some (command.Dump image)) = Dumps image
 Does (Some (command.List image)) = Lists image
 Does (Some (command.Message image id kind)) = Sends image id kind
+Does (Some (command.Node words)) = RunsNode words
 Does (Some (command.Migrate image)) = Migrates image
 Does (Some command.Help) = Helps
 
@@ -41,6 +43,7 @@ reads_input (Some (command.Create image timing)) = is_safe timing
 reads_input (Some (command.Dump image)) = false
 reads_input (Some (command.List image)) = false
 reads_input (Some (command.Message image id kind)) = false
+reads_input (Some (command.Node words)) = true
 reads_input (Some (command.Migrate image)) = false
 reads_input (Some command.Help) = false
 
@@ -55,6 +58,7 @@ calls_outside (Some (command.Create image timing)) = is_safe timing
 calls_outside (Some (command.Dump image)) = true
 calls_outside (Some (command.List image)) = true
 calls_outside (Some (command.Message image id kind)) = true
+calls_outside (Some (command.Node words)) = true
 calls_outside (Some (command.Migrate image)) = true
 calls_outside (Some command.Help) = false
 
@@ -69,5 +73,6 @@ takes_memory (Some (command.Create image timing)) = is_safe timing
 takes_memory (Some (command.Dump image)) = false
 takes_memory (Some (command.List image)) = false
 takes_memory (Some (command.Message image id kind)) = false
+takes_memory (Some (command.Node words)) = true
 takes_memory (Some (command.Migrate image)) = false
 takes_memory (Some command.Help) = false

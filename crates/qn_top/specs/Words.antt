@@ -1,5 +1,5 @@
 -- The words of the command line: this project's profile.
-use Rattle.std.specs.Prelude.{◌==◌, ◌≤◌, ℕ, ◌||◌, List, [], ◌∷◌, Option, Some, None, codes, length, nat_lt, not, option_map, if◌then◌else◌}
+use Rattle.std.specs.Prelude.{◌==◌, ◌≤◌, ℕ, Bool, false, ◌||◌, List, [], ◌∷◌, Option, Some, None, codes, length, nat_lt, not, option_map, if◌then◌else◌}
 use Rattle.std.specs.Option.{option_map_or}
 use Rattle.std.specs.Str.{bytes_eq}
 use Rattle.qn_base.specs.Decimal.{number_of}
@@ -11,10 +11,13 @@ use Rattle.qn_model.specs.declared.times.Timing.{Timing}
 use Rattle.qn_model.specs.Lines.{parts}
 use Rattle.qn_model.specs.Messages.{operator_word}
 use Rattle.qn_model.specs.Timing.{usual_times}
+use Rattle.qn_commands.specs.declared.commands.node.NodeWords.{NodeWords}
 use Rattle.qn_top.specs.declared.command.Command.{Command}
 use Rattle.qn_top.specs.declared.command.Command.TheVariants as command
 use Rattle.qn_top.specs.declared.command.Form.{Form}
 use Rattle.qn_top.specs.declared.command.Form.TheVariants as form
+use Rattle.qn_top.specs.declared.command.TheConstants.{MOST_TURNS}
+use Rattle.qn_top.specs.declared.options.OptionName.{OptionName}
 use Rattle.qn_top.specs.declared.options.OptionName.TheVariants as option
 use Rattle.qn_top.specs.Options.{are_options, option_text, value_of}
 
@@ -52,11 +55,16 @@ timing_in text = do
 unfoldable pub timing_of : List (List ℕ) → Option Timing
 timing_of options = option_map_or timing_in (value_of (option_text option.Timing) options) (Some usual_times)
 
+-- the number of an option, in a range
+unfoldable pub number_of_option : OptionName → ℕ → ℕ → List (List ℕ) → Option ℕ
+number_of_option name least greatest options = do
+  word ← value_of (option_text name) options
+  number_in least greatest word
+
 -- the id among the options
 unfoldable pub id_of : List (List ℕ) → Option NodeId
 id_of options = do
-  word ← value_of (option_text option.Id) options
-  id ← number_in 1 4294967295 word
+  id ← number_of_option option.Id 1 4294967295 options
   Some (record { 0 = id })
 
 -- sbd(8), `message`: the messages that an operator may send
@@ -121,6 +129,50 @@ message_of options =
       kind ← kind_of options
       Some (command.Message image id kind)
 
+-- the turn from which on a node is to leave, where one is written
+abbrev pub turn_in : List ℕ → Option (Option ℕ)
+turn_in word = option_map Some (number_in 1 MOST_TURNS word)
+
+unfoldable pub leave_of : List (List ℕ) → Option (Option ℕ)
+leave_of options = option_map_or turn_in (value_of (option_text option.Leave) options) (Some None)
+
+-- sbd(8), start modes: whether the start is a clean one, which is mode 1; mode 0 where none is written
+abbrev pub mode_in : List ℕ → Option Bool
+mode_in word = option_map (λ mode. mode == 1) (number_in 0 1 word)
+
+unfoldable pub mode_of : List (List ℕ) → Option Bool
+mode_of options = option_map_or mode_in (value_of (option_text option.StartMode) options) (Some false)
+
+-- `node`
+abbrev pub node_options : List OptionName
+node_options =
+    option.Id ∷ option.Image ∷ option.Watchdog ∷ option.Resource ∷ option.Port ∷ option.Turns ∷ option.Leave
+    ∷ option.StartMode ∷ []
+
+unfoldable pub node_words : List (List ℕ) → Option NodeWords
+node_words options = do
+  id ← id_of options
+  image ← value_of (option_text option.Image) options
+  watchdog ← value_of (option_text option.Watchdog) options
+  resource ← value_of (option_text option.Resource) options
+  port ← number_of_option option.Port 1024 65000 options
+  turns ← number_of_option option.Turns 1 MOST_TURNS options
+  leave ← leave_of options
+  clean ← mode_of options
+  Some (record {
+    id = id;
+    image = image;
+    watchdog = watchdog;
+    resource = resource;
+    port = port;
+    turns = turns;
+    leave = leave;
+    clean = clean;
+  })
+
+unfoldable pub node_of : List (List ℕ) → Option Command
+node_of options = if not (are_options node_options options) then None else option_map command.Node (node_words options)
+
 -- the command of this name, with these options
 abbrev pub command_named : List ℕ → List (List ℕ) → Option Command
 command_named name options =
@@ -132,6 +184,7 @@ command_named name options =
     else if bytes_eq name (codes "dump") then option_map command.Dump (image_alone options)
     else if bytes_eq name (codes "list") then option_map command.List (image_alone options)
     else if bytes_eq name (codes "message") then message_of options
+    else if bytes_eq name (codes "node") then node_of options
     else if bytes_eq name (codes "migrate") then option_map command.Migrate (image_alone options)
     else if bytes_eq name (codes "help") then (if are_options [] options then Some command.Help else None)
     else None
@@ -141,7 +194,7 @@ abbrev pub command_of : List (List ℕ) → Option Command
 command_of [] = None
 command_of (name ∷ options) = command_named name options
 
--- a soak has at most MOST_EVENTS events
+-- a soak has at most MOST_EVENTS events, and a node runs at least one turn
 abbrev pub IsProper : Command → Type 0
 IsProper command.Count = Unit {0}
 IsProper command.Replay = Unit {0}
@@ -151,5 +204,6 @@ IsProper (command.Create image timing) = Unit {0}
 IsProper (command.Dump image) = Unit {0}
 IsProper (command.List image) = Unit {0}
 IsProper (command.Message image id kind) = Unit {0}
+IsProper (command.Node words) = 1 ≤ words.turns
 IsProper (command.Migrate image) = Unit {0}
 IsProper command.Help = Unit {0}

@@ -2,13 +2,17 @@
 ghost use Rattle.std.specs.Prelude.{◌≡◌, ◌≤◌, ◌==◌, map, string_bytes, length, IfSome, IfNone, None, Some};
 ghost use Rattle.std.specs.Option.{option_copied};
 ghost use Rattle.qn_sched.specs.Words.{parts_left};
-ghost use Rattle.qn_top.specs.Words.{IsProper, command_named, command_of, create_of, form_named, form_of, id_of, image_alone, kind_named, kind_of, message_of, next_time, number_in, soak_of, timing_in, timing_of};
+ghost use Rattle.qn_top.specs.Words.{IsProper, command_named, command_of, create_of, form_named, form_of, id_of, image_alone, kind_named, kind_of, leave_of, message_of, mode_in, mode_of, next_time, node_of, node_words, number_in, number_of_option, soak_of, timing_in, timing_of};
 ghost use Rattle.qn_top.specs.Options.{value_of};
 
-use crate::options::{OptionName, Path, are_options, value_of};
+use crate::options::{OptionName, are_options, value_of};
 use qn_base::{LONGEST_PERIOD, MOST_EVENTS, NodeId, read_decimal};
+use qn_commands::{NodeWords, Path};
 use qn_model::{Message, Timing};
 use qn_sched::first_part;
+
+/// The most turns that a node runs.
+const MOST_TURNS: u64 = 1_000_000_000;
 
 /// A command of the program, with its options.
 #[derive(Drop)]
@@ -45,6 +49,9 @@ pub enum Command<'words> {
         id: NodeId,
         kind: Message,
     },
+    /// `node --id N --image P --watchdog P --resource P --port Q --turns K [--leave T] [--start-mode 0 or 1]`: runs the
+    /// node of that id.
+    Node(NodeWords<'words>),
     /// `migrate --image P`: makes an image of version 2 of one of version 1.
     Migrate {
         image: Path<'words>,
@@ -52,6 +59,18 @@ pub enum Command<'words> {
     /// `help`: the commands.
     Help,
 }
+
+/// The options of `node`.
+const NODE_OPTIONS: [OptionName; 8] = [
+    OptionName::Id,
+    OptionName::Image,
+    OptionName::Watchdog,
+    OptionName::Resource,
+    OptionName::Port,
+    OptionName::Turns,
+    OptionName::Leave,
+    OptionName::StartMode,
+];
 
 /// The form of a status.
 #[derive(Clone, Copy, PartialEq, Eq, Debug)]
@@ -97,6 +116,8 @@ fn command_named<'words>(name: &str, options: &'words [String]) -> Option<Comman
         Some(Command::List { image })
     } else if name == "message" {
         message_of(options)
+    } else if name == "node" {
+        node_of(options)
     } else if name == "migrate" {
         let image = image_alone(options)?;
         Some(Command::Migrate { image })
@@ -209,9 +230,90 @@ fn timing_of(options: &[String]) -> Option<Timing>
 fn id_of(options: &[String]) -> Option<NodeId>
     ensures { result ≡ id_of (map string_bytes options.now) }
 {
-    let word = value_of(options, OptionName::Id)?;
-    let id = number_in(1, 4_294_967_295, word.as_str().as_bytes())?;
+    let id = number_of_option(options, OptionName::Id, 1, 4_294_967_295)?;
     Some(NodeId(id as u32))
+}
+
+/// The number of an option, in a range.
+#[tactic(auto, unfolding(crate::specs::Words::number_of_option))]
+fn number_of_option(
+    options: &[String],
+    name: OptionName,
+    least: u64,
+    greatest: u64,
+) -> Option<u64>
+    ensures value { result ≡ number_of_option name least greatest (map string_bytes options.now) }
+    ensures within { IfSome result (λ number. (least ≤ number) × (number ≤ greatest)) }
+{
+    let word = value_of(options, name)?;
+    number_in(least, greatest, word.as_str().as_bytes())
+}
+
+/// `node` with these options.
+#[tactic(auto, unfolding(crate::specs::Words::node_of))]
+fn node_of(options: &[String]) -> Option<Command<'_>>
+    ensures command { result ≡ node_of (map string_bytes options.now) }
+    ensures proper { IfSome result IsProper }
+{
+    if !are_options(&NODE_OPTIONS, options) {
+        return None;
+    }
+    let words = node_words(options)?;
+    Some(Command::Node(words))
+}
+
+/// What the options of `node` say.
+#[tactic(auto, unfolding(crate::specs::Words::node_words))]
+fn node_words(options: &[String]) -> Option<NodeWords<'_>>
+    ensures words { result ≡ node_words (map string_bytes options.now) }
+    ensures proper { IfSome result (λ words. 1 ≤ words.turns) }
+{
+    let id = id_of(options)?;
+    let image = value_of(options, OptionName::Image)?;
+    let watchdog = value_of(options, OptionName::Watchdog)?;
+    let resource = value_of(options, OptionName::Resource)?;
+    let port = number_of_option(options, OptionName::Port, 1024, 65000)?;
+    let turns = number_of_option(options, OptionName::Turns, 1, MOST_TURNS)?;
+    let leave = leave_of(options)?;
+    let clean = mode_of(options)?;
+    Some(NodeWords {
+        id,
+        image,
+        watchdog,
+        resource,
+        port: port as u16,
+        turns,
+        leave,
+        clean,
+    })
+}
+
+/// The number of the turn from which on a node is to leave, where one is written.
+#[tactic(auto, unfolding(crate::specs::Words::leave_of))]
+fn leave_of(options: &[String]) -> Option<Option<u64>>
+    ensures { result ≡ leave_of (map string_bytes options.now) }
+{
+    match value_of(options, OptionName::Leave) {
+        None => Some(None),
+        Some(word) => {
+            let turn = number_in(1, MOST_TURNS, word.as_str().as_bytes())?;
+            Some(Some(turn))
+        }
+    }
+}
+
+/// Whether the start is a clean one, which is start mode 1; mode 0 where none is written.
+#[tactic(auto, unfolding(crate::specs::Words::mode_of))]
+fn mode_of(options: &[String]) -> Option<bool>
+    ensures { result ≡ mode_of (map string_bytes options.now) }
+{
+    match value_of(options, OptionName::StartMode) {
+        None => Some(false),
+        Some(word) => {
+            let mode = number_in(0, 1, word.as_str().as_bytes())?;
+            Some(mode == 1)
+        }
+    }
 }
 
 /// The message among the options.

@@ -4,36 +4,7 @@ ghost use Rattle.std.specs.List.{list_any};
 ghost use Rattle.std.specs.Str.{bytes_eq};
 ghost use Rattle.qn_top.specs.Options.{are_options, has_option, may_stand, option_text, value_of};
 
-use std::marker::Model;
-
-/// A path among the words.
-#[derive(Drop)]
-pub struct Path<'words> {
-    text: &'words str,
-}
-
-impl<'words> Model for Path<'words> {
-    ghost use Rattle.std.specs.Prelude.{ℕ, List};
-
-    ghost Value = { List ℕ };
-
-    ghost view = { λ p. p.text.now };
-}
-
-impl<'words> Path<'words> {
-    fn new(text: &'words str) -> Self
-        ensures { result ≡ text.now }
-    {
-        Path { text }
-    }
-
-    /// The path as it was written.
-    pub fn as_str(&self) -> &'words str
-        ensures { result.now ≡ self.now }
-    {
-        self.text
-    }
-}
+use qn_commands::Path;
 
 /// The names of options.
 #[derive(Clone, Copy)]
@@ -43,6 +14,12 @@ pub(crate) enum OptionName {
     Id,
     Kind,
     Form,
+    Watchdog,
+    Resource,
+    Port,
+    Turns,
+    Leave,
+    StartMode,
 }
 
 impl OptionName {
@@ -55,6 +32,12 @@ impl OptionName {
             OptionName::Id => "--id",
             OptionName::Kind => "--kind",
             OptionName::Form => "--form",
+            OptionName::Watchdog => "--watchdog",
+            OptionName::Resource => "--resource",
+            OptionName::Port => "--port",
+            OptionName::Turns => "--turns",
+            OptionName::Leave => "--leave",
+            OptionName::StartMode => "--start-mode",
         }
     }
 }

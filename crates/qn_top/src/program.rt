@@ -12,7 +12,7 @@ use crate::commands::help::help;
 use crate::commands::replay::run_replay;
 use crate::commands::soak::run_soak;
 use crate::commands::status::run_status;
-use qn_commands::{Fault, Status, count, create, dump, list, migrate, refuse, send};
+use qn_commands::{Fault, Status, count, create, dump, list, migrate, node, refuse, send};
 use qn_io::{Env, Sink, Source};
 use std::alloc::Global;
 
@@ -73,6 +73,7 @@ pub fn top<I: Source, O: Sink, E: Env>(
         Some(Command::Message { image, id, kind }) => {
             send(image.as_str(), id, kind, out, env).code()
         }
+        Some(Command::Node(words)) => node(alloc, &words, input, out, env).code(),
         Some(Command::Migrate { image }) => migrate(image.as_str(), out, env).code(),
     }
 }

@@ -59,6 +59,10 @@ fn reads_that_fail(rt: HostRuntime) -> Result<(), Fail> {
         ("replay", NO_EVENTS),
         ("status", NO_EVENTS),
         ("create --image d", ONE_NODE),
+        (
+            "node --id 1 --image d --watchdog w --resource r --port 7000 --turns 1",
+            ONE_NODE,
+        ),
     ] {
         for (failing, status) in [(0, 0), (1, 6), (3, 6)] {
             let run = Run {

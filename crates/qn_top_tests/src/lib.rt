@@ -8,4 +8,6 @@ mod faults;
 #[cfg(test)]
 mod images;
 #[cfg(test)]
+mod nodes;
+#[cfg(test)]
 mod runs;

@@ -215,3 +215,22 @@ returns-in-Some-Migrate g c =
       one_holder = λ other. absurd cc;
       soak_one_holder = λ seed events other. absurd cc;
     }
+
+pub returns-in-Some-Node : goal.returns-in-Some-Node
+returns-in-Some-Node g c =
+    let is : Some (command.Node c.in-Some-Node.words) ≡ command_of (map string_bytes c.args.words.now) = cc c.in-Some-Node.ensures.command in
+    let end = ends _ (Some (command.Node c.in-Some-Node.words)) _ _ _ _ is c.code-in-Some-Node.ensures c.node.ensures in
+    record {
+      does = end.does;
+      usage = end.usage;
+      usage_only = end.usage_only;
+      unread = λ no. tested reads_input _ (Some (command.Node c.in-Some-Node.words)) is refl no;
+      uncalled = λ no. tested calls_outside _ (Some (command.Node c.in-Some-Node.words)) is refl no;
+      memory = end.memory;
+      read_fault = end.causes.read_fault;
+      write_fault = end.causes.write_fault;
+      env_fault = end.causes.env_fault;
+      never_fall = (end.causes.never_fall.source, end.causes.never_fall.sink, end.causes.never_fall.env);
+      one_holder = λ other. absurd cc;
+      soak_one_holder = λ seed events other. absurd cc;
+    }

@@ -1,0 +1,142 @@
+-- The work of `node`, and the record of its run.
+use Rattle.std.proofs.Common.{◌≡◌, ◌≢◌, ◌⊎◌, inl, inr, ℕ, true, false, List, [], ◌∷◌, None, Some, Ok, Err, refl, sym, ap, ◌∙◌, subst, arith}
+use Rattle.std.specs.Option.{option_map_or}
+use Rattle.qn_base.specs.Plans.{Made}
+use Rattle.qn_base.specs.PlanSteps.{made_then}
+use Rattle.qn_live.specs.declared.live_end.LiveEnd.{LiveEnd}
+use Rattle.qn_live.specs.Running.{Ran}
+use Rattle.qn_live.specs.Runs.{live_plan}
+use Rattle.qn_model.specs.declared.configuration.Settings.{Settings}
+use Rattle.qn_model.specs.Log.{Line}
+use Rattle.qn_commands.specs.declared.commands.node.NodeWords.{NodeWords}
+use Rattle.qn_commands.specs.declared.fault.Fault.{Fault}
+use Rattle.qn_commands.specs.declared.fault.Fault.TheVariants.{EnvFault, UnknownNode}
+use Rattle.qn_commands.specs.declared.status.Status.TheVariants as status
+use Rattle.qn_commands.specs.Commands.Node.{FailsToOpen, RunsNode, node_work, opened_work, opening, rank_with, run_end, run_work}
+use Rattle.qn_commands.specs.Endings.{Refuses, Says}
+use Rattle.qn_commands.specs.Faults.{fault_line, status_of}
+use Rattle.qn_commands.specs.InputSettings.{Judges, input_settings}
+use Rattle.qn_commands.specs.NodeTexts.{end_outcome}
+use Rattle.qn_commands.specs.Seen.{Input, NeverFall, Output, Outside, ReadFails, Seen, WriteFails, seen}
+use Rattle.qn_commands.specs.Statuses.{IsOneOf}
+use Rattle.qn_commands.specs.Works.{Carries, Work, Works, refusal}
+use Rattle.qn_commands.proofs.Creating.{IsSettingsStatus, own_status, wanted_of}
+use Rattle.qn_commands.proofs.Working.{last_alone, plan_then_last}
+
+-- how a run ends once the settings are read
+abbrev RanStatus : ℕ → Type 0
+RanStatus code = IsOneOf (status.Done ∷ status.WriteFault ∷ status.EnvFault ∷ status.ClockBack ∷ status.SelfReset
+    ∷ status.BootHalted ∷ status.UnknownNode ∷ []) code
+
+abbrev NodeStatus : ℕ → Type 0
+NodeStatus code = IsOneOf (status.Done ∷ status.BadConf ∷ status.ReadFault ∷ status.WriteFault ∷ status.EnvFault ∷ status.NoMemory
+    ∷ status.ClockBack ∷ status.SelfReset ∷ status.BootHalted ∷ status.UnknownNode ∷ []) code
+
+ran_status : (code : ℕ) → RanStatus code → NodeStatus code
+ran_status code (inl done) = inl done
+ran_status code (inr (inl seven)) = inr (inr (inr (inl seven)))
+ran_status code (inr (inr (inl eight))) = inr (inr (inr (inr (inl eight))))
+ran_status code (inr (inr (inr (inl back)))) = inr (inr (inr (inr (inr (inr (inl back))))))
+ran_status code (inr (inr (inr (inr (inl reset))))) = inr (inr (inr (inr (inr (inr (inr (inl reset)))))))
+ran_status code (inr (inr (inr (inr (inr (inl halted)))))) = inr (inr (inr (inr (inr (inr (inr (inr (inl halted))))))))
+ran_status code (inr (inr (inr (inr (inr (inr unknown)))))) = inr (inr (inr (inr (inr (inr (inr (inr (inr unknown))))))))
+
+not_ran : (code : ℕ) → RanStatus code → (code ≡ 6) ⊎ (code ≡ 11) → ⊥
+not_ran code one_of (inl six) = grind arith
+not_ran code one_of (inr eleven) = grind arith
+
+refused_status : (code own : ℕ) → IsSettingsStatus own → (code ≡ own) ⊎ (code ≡ 7) → NodeStatus code
+refused_status code own (inl three) (inl same) = inr (inl (same ∙ three))
+refused_status code own (inr (inl six)) (inl same) = inr (inr (inl (same ∙ six)))
+refused_status code own (inr (inr eleven)) (inl same) = inr (inr (inr (inr (inr (inl (same ∙ eleven))))))
+refused_status code own which (inr seven) = inr (inr (inr (inl seven)))
+
+not_eight : (own : ℕ) → IsSettingsStatus own → own ≡ 8 → ⊥
+not_eight own (inl three) eight = omega arith
+not_eight own (inr (inl six)) eight = omega arith
+not_eight own (inr (inr eleven)) eight = omega arith
+
+module _ (words : NodeWords) (settings : Settings) where
+  unknown_work : None ≡ rank_with settings words.id → node_work words settings ≡ refusal (UnknownNode words.id)
+  unfolding node_work
+  unknown_work none = ap (λ place. option_map_or (opened_work words settings) place (refusal (UnknownNode words.id))) (sym none)
+
+  known_work : (rank : ℕ) → Some rank ≡ rank_with settings words.id → node_work words settings ≡ opened_work words settings rank
+  unfolding node_work
+  known_work rank some = ap (λ place. option_map_or (opened_work words settings) place (refusal (UnknownNode words.id))) (sym some)
+
+  module _ (input : Input) (before after : Output) where
+    -- no node of the settings has the id
+    pub works_unknown : (env : Outside) (code : ℕ) → None ≡ rank_with settings words.id → Refuses (UnknownNode words.id) before after code
+        → Works (node_work words settings) (seen input before env) (seen input after env) code
+    works_unknown env code none refuses =
+        subst (λ (work : Work). Works work (seen input before env) (seen input after env) code) (sym (unknown_work none))
+        (last_alone (seen input before env) (seen input after env) (fault_line (UnknownNode words.id)) 16 code refl refuses)
+
+    module _ (rank : ℕ) (some : Some rank ≡ rank_with settings words.id) (env_before : Outside) where
+      -- the opening failed
+      pub works_unopened : (env_after : Outside) (code : ℕ)
+          → Made env_before.faults env_after.faults env_before.calls env_after.calls (opening words rank false ∷ [])
+          → Refuses EnvFault before after code
+          → Works (node_work words settings) (seen input before env_before) (seen input after env_after) code
+      unfolding opened_work
+      works_unopened env_after code made refuses =
+          subst (λ (work : Work). Works work (seen input before env_before) (seen input after env_after) code) (sym (known_work rank some))
+          record { calls = opening words rank false ∷ []; made = made; performs = (refl, (refl, refuses)) }
+
+      -- the node was opened, and ran
+      pub works_ran : (env_middle env_after : Outside) (code : ℕ) (end : LiveEnd) (log : List Line)
+          → Made env_before.faults env_middle.faults env_before.calls env_middle.calls (opening words rank true ∷ [])
+          → Carries (live_plan settings rank words.clean words.leave words.turns) env_middle env_after (record { end = end; log = log })
+          → Says (end_outcome words.turns end).text (end_outcome words.turns end).status before after code
+          → Works (node_work words settings) (seen input before env_before) (seen input after env_after) code
+      unfolding opened_work run_work
+      works_ran env_middle env_after code end log made did says =
+          let left = plan_then_last (run_end words.turns) input before after env_middle env_after (end_outcome words.turns end).text
+          (end_outcome words.turns end).status code did refl says in
+          subst (λ (work : Work). Works work (seen input before env_before) (seen input after env_after) code) (sym (known_work rank some))
+          record { calls = opening words rank true ∷ left.calls; made = made_then made left.made; performs = (refl, left.performs) }
+
+module _ (words : NodeWords) (before after : Seen) (code : ℕ) (never_fall : NeverFall before after)
+    (write : code ≡ 7 → WriteFails before.output after.output) where
+  -- the settings are good
+  pub runs_node : (settings : Settings) → Judges input_settings before.input after.input (Ok settings)
+      → Works (node_work words settings) before after code → RanStatus code → (code ≡ 8 → FailsToOpen words before.env after.env)
+      → RunsNode words before after code
+  runs_node settings judges works outcomes unopened = record {
+    ran = record {
+      settings = Ok settings;
+      judges = judges;
+      works = works;
+      memory = λ eleven. absurd (not_ran code outcomes (inr eleven));
+    };
+    unopened = unopened;
+    statuses = ran_status code outcomes;
+    causes = record {
+      never_fall = never_fall;
+      read_fault = λ six. absurd (not_ran code outcomes (inl six));
+      write_fault = write;
+      env_fault = λ eight. (unopened eight).made.cause refl;
+    };
+  }
+
+  -- the settings have a fault, or could not be read
+  pub refuses_settings : (why : Fault) → Judges input_settings before.input after.input (Err why) → after.env ≡ before.env
+      → Refuses why before.output after.output code → (code ≡ status_of why) ⊎ (code ≡ 7) → IsSettingsStatus (status_of why)
+      → (status_of why ≡ 6 → ReadFails before.input after.input) → RunsNode words before after code
+  refuses_settings why judges same refuses own which read = record {
+    ran = record {
+      settings = Err why;
+      judges = judges;
+      works = last_alone before after (fault_line why) (status_of why) code same refuses;
+      memory = λ eleven. wanted_of why (own_status code (status_of why) 11 (λ seven. omega arith) own eleven);
+    };
+    unopened = λ eight. absurd (not_eight (status_of why) which (own_status code (status_of why) 8 (λ seven. omega arith) own eight));
+    statuses = refused_status code (status_of why) which own;
+    causes = record {
+      never_fall = never_fall;
+      read_fault = λ six. read (own_status code (status_of why) 6 (λ seven. omega arith) own six);
+      write_fault = write;
+      env_fault = λ eight. absurd (not_eight (status_of why) which (own_status code (status_of why) 8 (λ seven. omega arith) own eight));
+    };
+  }

@@ -1,0 +1,65 @@
+-- `node`: the member itself, a running node over its own outside. votequorum(5), sbd(8), and this project's profile for its
+-- words.
+use Rattle.std.specs.Prelude.{◌≡◌, ℕ, Bool, true, false, List, [], ◌∷◌, Option, if◌then◌else◌, position, ◌==◌}
+use Rattle.std.specs.Option.{option_map_or}
+use Rattle.qn_base.specs.declared.calls.Call.{Call}
+use Rattle.qn_base.specs.declared.calls.Call.TheVariants.{OpenNode}
+use Rattle.qn_base.specs.declared.ids.NodeId.{NodeId}
+use Rattle.qn_base.specs.Calls.{is_failed}
+use Rattle.qn_base.specs.Plans.{Made}
+use Rattle.qn_live.specs.Running.{Ran}
+use Rattle.qn_live.specs.Runs.{live_plan}
+use Rattle.qn_model.specs.declared.configuration.Settings.{Settings}
+use Rattle.qn_commands.specs.declared.commands.node.NodeWords.{NodeWords}
+use Rattle.qn_commands.specs.declared.fault.Fault.TheVariants.{EnvFault, UnknownNode}
+use Rattle.qn_commands.specs.declared.status.Status.TheVariants as status
+use Rattle.qn_commands.specs.InputSettings.{WorksOnSettings}
+use Rattle.qn_commands.specs.NodeTexts.{end_outcome}
+use Rattle.qn_commands.specs.Seen.{Outside, Seen}
+use Rattle.qn_commands.specs.Statuses.{HasCauses, IsOneOf}
+use Rattle.qn_commands.specs.Works.{Last, Makes, Work, after_plan, refusal}
+
+-- the rank of the node with that id, where the settings have one
+abbrev pub rank_with : Settings → NodeId → Option ℕ
+rank_with settings id = position (λ node. node.id.0 == id.0) settings.nodes
+
+-- the one call that opens all that the node of that rank uses, with its answer
+abbrev pub opening : NodeWords → ℕ → Bool → Call
+opening words rank ok = OpenNode 1 words.image words.watchdog words.resource words.port (record { 0 = rank }) ok
+
+-- the end of a run of so many turns
+abbrev pub run_end : ℕ → Ran → Work
+run_end turns ran = Last (end_outcome turns ran.end).text (end_outcome turns ran.end).status
+
+-- the run of the node of that rank
+unfoldable pub run_work : NodeWords → Settings → ℕ → Work
+run_work words settings rank =
+    after_plan (live_plan settings rank words.clean words.leave words.turns) (run_end words.turns)
+
+-- once it is opened
+abbrev pub after_opening : Work → Call → Work
+after_opening run call = if is_failed call then refusal EnvFault else run
+
+-- the opening of the node of that rank, and its run
+unfoldable pub opened_work : NodeWords → Settings → ℕ → Work
+opened_work words settings rank = Makes (opening words rank true) (after_opening (run_work words settings rank))
+
+-- once the settings are read: the id is looked for before anything is opened
+unfoldable pub node_work : NodeWords → Settings → Work
+node_work words settings =
+    option_map_or (opened_work words settings) (rank_with settings words.id) (refusal (UnknownNode words.id))
+
+-- the opening failed, and no other call was made
+pub record FailsToOpen (words : NodeWords) (before after : Outside) : Type 0 where
+  pub rank : ℕ
+  pub made : Made before.faults after.faults before.calls after.calls (opening words rank false ∷ [])
+
+-- The whole input is read and judged, and then the id, before anything is called. Then the node is opened and runs: exactly
+-- these calls are made, and the last line is that of the end of the run. Nothing is written before. Memory is taken for
+-- the settings text alone.
+pub record RunsNode (words : NodeWords) (before after : Seen) (code : ℕ) : Type 0 where
+  pub ran : WorksOnSettings (node_work words) before after code
+  pub unopened : code ≡ 8 → FailsToOpen words before.env after.env
+  pub statuses : IsOneOf (status.Done ∷ status.BadConf ∷ status.ReadFault ∷ status.WriteFault ∷ status.EnvFault
+      ∷ status.NoMemory ∷ status.ClockBack ∷ status.SelfReset ∷ status.BootHalted ∷ status.UnknownNode ∷ []) code
+  pub causes : HasCauses before after code

@@ -1,0 +1,128 @@
+//! `node`: the member itself, a running node over its own outside.
+ghost use Rattle.std.specs.Prelude.{◌≡◌, ◌≤◌, ◌<◌, ◌⊎◌, ◌==◌, true, false, [], ◌∷◌, IfSome, OnOk, OnErr, length, position};
+ghost use Rattle.qn_base.specs.Faults.{HasRisen};
+ghost use Rattle.qn_base.specs.Plans.{Made};
+ghost use Rattle.qn_model.specs.Settings.{IsValid};
+ghost use Rattle.qn_commands.specs.Commands.Node.{FailsToOpen, RunsNode, node_work, opening, rank_with};
+ghost use Rattle.qn_commands.specs.Seen.{Input, outside, seen, sink, source};
+ghost use Rattle.qn_commands.specs.Statuses.{IsOneOf, code_of};
+ghost use Rattle.qn_commands.specs.Works.{Works};
+
+use crate::ending::refuse;
+use crate::fault::Fault;
+use crate::node_texts::finish_node;
+use crate::path::Path;
+use crate::settings_text::read_settings;
+use crate::status::Status;
+use qn_base::{Failed, NodeId, Rank};
+use qn_io::{Env, Opening, Sink, Source};
+use qn_live::run_node;
+use qn_model::{NodeEntry, Settings};
+use std::alloc::Global;
+
+/// What the words of `node` say.
+#[derive(Drop)]
+pub struct NodeWords<'words> {
+    pub id: NodeId,
+    pub image: Path<'words>,
+    pub watchdog: Path<'words>,
+    pub resource: Path<'words>,
+    /// The first port of the cluster; the node listens at that port and its rank together.
+    pub port: u16,
+    /// How many turns the node runs at most, from 1.
+    pub turns: u64,
+    /// The number of the turn, from 1, from which on the node is to leave.
+    pub leave: Option<u64>,
+    /// Whether the boot is a clean start (start mode 1).
+    pub clean: bool,
+}
+
+/// `node`: runs the node of that id over the outside, by the settings of the input. The settings and the id are judged
+/// before anything is opened. Memory is taken for the settings text.
+pub fn node<I: Source, O: Sink, E: Env>(
+    alloc: Global,
+    words: &NodeWords<'_>,
+    input: &mut I,
+    out: &mut O,
+    env: &mut E,
+) -> Status
+    requires some_turn { 1 ≤ words.now.turns }
+    ensures { let before = seen (source I.left I.faults input.old) (sink O.written O.faults out.old)
+        (outside E.calls E.faults env.old) in
+        let after = seen (source I.left I.faults input.new) (sink O.written O.faults out.new)
+        (outside E.calls E.faults env.new) in
+        RunsNode words.now before after (code_of result) }
+{
+    match read_settings(alloc, input) {
+        Ok(settings) => open_and_run(words, &settings, out, env),
+        Err(fault) => refuse(out, fault),
+    }
+}
+
+/// Opens and runs the node, once the settings are read.
+fn open_and_run<O: Sink, E: Env>(
+    words: &NodeWords<'_>,
+    settings: &Settings,
+    out: &mut O,
+    env: &mut E,
+) -> Status
+    requires valid { IsValid settings.now }
+    requires some_turn { 1 ≤ words.now.turns }
+    ensures works { (input : Input) →
+        let before = seen input (sink O.written O.faults out.old)
+        (outside E.calls E.faults env.old) in
+        let after = seen input (sink O.written O.faults out.new)
+        (outside E.calls E.faults env.new) in
+        Works (node_work words.now settings.now) before after (code_of result) }
+    ensures unopened { code_of result ≡ 8 → FailsToOpen words.now
+        (outside E.calls E.faults env.old) (outside E.calls E.faults env.new) }
+    ensures outcomes { IsOneOf (Status.Done ∷ Status.WriteFault ∷ Status.EnvFault ∷ Status.ClockBack
+        ∷ Status.SelfReset ∷ Status.BootHalted ∷ Status.UnknownNode ∷ []) (code_of result) }
+    ensures write_fault { code_of result ≡ 7 → HasRisen (O.faults out.old) (O.faults out.new) }
+    ensures env_faults { E.faults env.old ≤ E.faults env.new }
+    ensures sink_faults { O.faults out.old ≤ O.faults out.new }
+{
+    let Some(place) = place_of(settings, words.id) else {
+        return refuse(out, Fault::UnknownNode { id: words.id });
+    };
+    let rank = Rank(place as u8);
+    match open(words, rank, env) {
+        Ok(()) => {
+            let end = run_node(env, settings, rank, words.clean, words.leave, words.turns);
+            finish_node(out, words.turns, end)
+        }
+        Err(Failed) => refuse(out, Fault::EnvFault),
+    }
+}
+
+/// The place of the node with that id, which is its rank.
+fn place_of(settings: &Settings, id: NodeId) -> Option<usize>
+    ensures value { result ≡ rank_with settings.now id }
+    ensures within { IfSome result (λ place. (place < length settings.now.nodes) × (place < 32)) }
+{
+    place_in(settings.nodes.as_slice(), id)
+}
+
+fn place_in(nodes: &[NodeEntry], id: NodeId) -> Option<usize>
+    ensures value { result ≡ position (λ node. node.id.0 == id.0) nodes.now }
+    ensures within { IfSome result (λ place. place < length nodes.now) }
+{
+    nodes.iter().position(|node| node.id.0 == id.0)
+}
+
+/// Opens all that the node of that rank uses.
+fn open<E: Env>(words: &NodeWords<'_>, rank: Rank, env: &mut E) -> Result<(), Failed>
+    ensures opened { OnOk result (Made (E.faults env.old) (E.faults env.new) (E.calls env.old) (E.calls env.new)
+        (opening words.now rank.0 true ∷ [])) }
+    ensures failed { OnErr result (Made (E.faults env.old) (E.faults env.new) (E.calls env.old) (E.calls env.new)
+        (opening words.now rank.0 false ∷ [])) }
+{
+    env.open_node(&Opening {
+        images: 1,
+        image: words.image.as_str(),
+        watchdog: words.watchdog.as_str(),
+        resource: words.resource.as_str(),
+        port: words.port,
+        rank,
+    })
+}
