@@ -62,7 +62,7 @@ whatever_told None holds = tt
 whatever_told (Some bytes) holds = if_ok_always (input_settings Ended bytes) holds
 
 -- settings that were refused, where nothing failed and memory sufficed, are not good
-refused_settings : (P : Type 0) (before after : Input) (why : Fault) → Judges input_settings before after (Err why) → status_of why ≢ 11
+pub refused_settings : (P : Type 0) (before after : Input) (why : Fault) → Judges input_settings before after (Err why) → status_of why ≢ 11
     → ¬ ReadFails before after → IfSome before.left (λ bytes. IfOk (input_settings Ended bytes) (λ settings. P))
 refused_settings P before after why judges memory no_read =
     known_whole (λ bytes. IfOk (input_settings Ended bytes) (λ settings. P)) before.left after.left judges.read judges.takes

@@ -5,6 +5,7 @@ mod Creating
 mod GivenOut
 mod ImageEnds
 mod Listing
+mod NodeEnds
 mod NodeRuns
 mod ReadTexts
 mod Turned

@@ -12,7 +12,7 @@ use Rattle.qn_commands.specs.declared.commands.node.NodeWords.{NodeWords}
 use Rattle.qn_commands.specs.declared.fault.Fault.{Fault}
 use Rattle.qn_commands.specs.declared.fault.Fault.TheVariants.{EnvFault, UnknownNode}
 use Rattle.qn_commands.specs.declared.status.Status.TheVariants as status
-use Rattle.qn_commands.specs.Commands.Node.{FailsToOpen, RunsNode, node_work, opened_work, opening, rank_with, run_end, run_work}
+use Rattle.qn_commands.specs.Commands.Node.{EndsUndisturbed, FailsToOpen, RunsNode, node_work, opened_work, opening, rank_with, run_end, run_work}
 use Rattle.qn_commands.specs.Endings.{Refuses, Says}
 use Rattle.qn_commands.specs.Faults.{fault_line, status_of}
 use Rattle.qn_commands.specs.InputSettings.{Judges, input_settings}
@@ -21,6 +21,7 @@ use Rattle.qn_commands.specs.Seen.{Input, NeverFall, Output, Outside, ReadFails,
 use Rattle.qn_commands.specs.Statuses.{IsOneOf}
 use Rattle.qn_commands.specs.Works.{Carries, Work, Works, refusal}
 use Rattle.qn_commands.proofs.Creating.{IsSettingsStatus, own_status, wanted_of}
+use Rattle.qn_commands.proofs.NodeEnds.{bad_settings, good_settings, known_work, undisturbed_node, unknown_work}
 use Rattle.qn_commands.proofs.Working.{last_alone, plan_then_last}
 
 -- how a run ends once the settings are read
@@ -57,20 +58,12 @@ not_eight own (inr (inl six)) eight = omega arith
 not_eight own (inr (inr eleven)) eight = omega arith
 
 module _ (words : NodeWords) (settings : Settings) where
-  unknown_work : None ≡ rank_with settings words.id → node_work words settings ≡ refusal (UnknownNode words.id)
-  unfolding node_work
-  unknown_work none = ap (λ place. option_map_or (opened_work words settings) place (refusal (UnknownNode words.id))) (sym none)
-
-  known_work : (rank : ℕ) → Some rank ≡ rank_with settings words.id → node_work words settings ≡ opened_work words settings rank
-  unfolding node_work
-  known_work rank some = ap (λ place. option_map_or (opened_work words settings) place (refusal (UnknownNode words.id))) (sym some)
-
   module _ (input : Input) (before after : Output) where
     -- no node of the settings has the id
     pub works_unknown : (env : Outside) (code : ℕ) → None ≡ rank_with settings words.id → Refuses (UnknownNode words.id) before after code
         → Works (node_work words settings) (seen input before env) (seen input after env) code
     works_unknown env code none refuses =
-        subst (λ (work : Work). Works work (seen input before env) (seen input after env) code) (sym (unknown_work none))
+        subst (λ (work : Work). Works work (seen input before env) (seen input after env) code) (sym (unknown_work words settings none))
         (last_alone (seen input before env) (seen input after env) (fault_line (UnknownNode words.id)) 16 code refl refuses)
 
     module _ (rank : ℕ) (some : Some rank ≡ rank_with settings words.id) (env_before : Outside) where
@@ -81,7 +74,7 @@ module _ (words : NodeWords) (settings : Settings) where
           → Works (node_work words settings) (seen input before env_before) (seen input after env_after) code
       unfolding opened_work
       works_unopened env_after code made refuses =
-          subst (λ (work : Work). Works work (seen input before env_before) (seen input after env_after) code) (sym (known_work rank some))
+          subst (λ (work : Work). Works work (seen input before env_before) (seen input after env_after) code) (sym (known_work words settings rank some))
           record { calls = opening words rank false ∷ []; made = made; performs = (refl, (refl, refuses)) }
 
       -- the node was opened, and ran
@@ -94,7 +87,7 @@ module _ (words : NodeWords) (settings : Settings) where
       works_ran env_middle env_after code end log made did says =
           let left = plan_then_last (run_end words.turns) input before after env_middle env_after (end_outcome words.turns end).text
           (end_outcome words.turns end).status code did refl says in
-          subst (λ (work : Work). Works work (seen input before env_before) (seen input after env_after) code) (sym (known_work rank some))
+          subst (λ (work : Work). Works work (seen input before env_before) (seen input after env_after) code) (sym (known_work words settings rank some))
           record { calls = opening words rank true ∷ left.calls; made = made_then made left.made; performs = (refl, left.performs) }
 
 module _ (words : NodeWords) (before after : Seen) (code : ℕ) (never_fall : NeverFall before after)
@@ -111,6 +104,9 @@ module _ (words : NodeWords) (before after : Seen) (code : ℕ) (never_fall : Ne
       memory = λ eleven. absurd (not_ran code outcomes (inr eleven));
     };
     unopened = unopened;
+    complete = λ memory no_read no_write no_call rises.
+        good_settings (EndsUndisturbed words.turns before.output after.output code) words before.input after.input settings judges no_read
+        (λ rank some. undisturbed_node words settings rank some works no_write no_call rises);
     statuses = ran_status code outcomes;
     causes = record {
       never_fall = never_fall;
@@ -132,6 +128,8 @@ module _ (words : NodeWords) (before after : Seen) (code : ℕ) (never_fall : Ne
       memory = λ eleven. wanted_of why (own_status code (status_of why) 11 (λ seven. omega arith) own eleven);
     };
     unopened = λ eight. absurd (not_eight (status_of why) which (own_status code (status_of why) 8 (λ seven. omega arith) own eight));
+    complete = λ memory no_read no_write no_call rises.
+        bad_settings (EndsUndisturbed words.turns before.output after.output code) words before.input after.input why judges (λ eleven. memory (of_own own eleven no_write)) no_read;
     statuses = refused_status code (status_of why) which own;
     causes = record {
       never_fall = never_fall;
@@ -140,3 +138,7 @@ module _ (words : NodeWords) (before after : Seen) (code : ℕ) (never_fall : Ne
       env_fault = λ eight. absurd (not_eight (status_of why) which (own_status code (status_of why) 8 (λ seven. omega arith) own eight));
     };
   }
+    where
+      of_own : (code ≡ status_of why) ⊎ (code ≡ 7) → status_of why ≡ 11 → ¬ WriteFails before.output after.output → code ≡ 11
+      of_own (inl same_code) eleven no_write = same_code ∙ eleven
+      of_own (inr seven) eleven no_write = absurd (no_write (write seven))

@@ -236,12 +236,7 @@ fn id_of(options: &[String]) -> Option<NodeId>
 
 /// The number of an option, in a range.
 #[tactic(auto, unfolding(crate::specs::Words::number_of_option))]
-fn number_of_option(
-    options: &[String],
-    name: OptionName,
-    least: u64,
-    greatest: u64,
-) -> Option<u64>
+fn number_of_option(options: &[String], name: OptionName, least: u64, greatest: u64) -> Option<u64>
     ensures value { result ≡ number_of_option name least greatest (map string_bytes options.now) }
     ensures within { IfSome result (λ number. (least ≤ number) × (number ≤ greatest)) }
 {

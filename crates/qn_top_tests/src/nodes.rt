@@ -9,7 +9,8 @@ use std::test::Fail;
 const ONE: &str = "nodelist {\nnode {\nnodeid: 1\n}\n}\n";
 
 /// The settings of two nodes, of which one alone is quorate and waits for nobody.
-const TWO: &str = "nodelist {\nnode {\nnodeid: 1\n}\nnode {\nnodeid: 2\n}\n}\nquorum {\ntwo_node: 1\nwait_for_all: 0\n}\n";
+const TWO: &str =
+    "nodelist {\nnode {\nnodeid: 1\n}\nnode {\nnodeid: 2\n}\n}\nquorum {\ntwo_node: 1\nwait_for_all: 0\n}\n";
 
 /// The settings of three nodes.
 const THREE: &str =
@@ -102,7 +103,9 @@ fn run_node<E: Env>(
     settings: &str,
     words: &str,
 ) -> Result<(u8, Vec<u8>), Fail> {
-    let words = format!(in rt.alloc(); "node --image d --watchdog w --resource r --port 7000 {words}")?;
+    let words = format!(in rt.alloc();
+        "node --image d --watchdog w --resource r --port 7000 {words}"
+    )?;
     let ended = Run::of(words.as_str(), settings).run(rt, env)?;
     Ok(ended)
 }
@@ -273,7 +276,14 @@ fn calls_of_a_boot_that_fail(rt: HostRuntime) -> Result<(), Fail> {
 /// many calls are made.
 const JUDGED: [(&str, u64, &str, u8, &str, usize); 6] = [
     (ONE, 0, "--id 2 --turns 9", 16, "fault UnknownNode 2\n", 0),
-    ("}\n", 0, "--id 2 --turns 9", 3, "fault BadConf ExtraClose line 1\n", 0),
+    (
+        "}\n",
+        0,
+        "--id 2 --turns 9",
+        3,
+        "fault BadConf ExtraClose line 1\n",
+        0,
+    ),
     ("", 0, "--id 1 --turns 9", 3, "fault BadConf NoNodes\n", 0),
     (ONE, 2, "--id 2 --turns 9", 6, "fault ReadFault\n", 0),
     ("}\n", 0, "--id 0 --turns 9", 2, "fault Usage\n", 0),
@@ -284,7 +294,9 @@ const JUDGED: [(&str, u64, &str, u8, &str, usize); 6] = [
 fn nothing_is_opened_before_the_id_is_judged(rt: HostRuntime) -> Result<(), Fail> {
     for (input, failing, words, status, text, calls) in JUDGED {
         let mut env = outside(rt.alloc(), &[], 1)?;
-        let words = format!(in rt.alloc(); "node --image d --watchdog w --resource r --port 7000 {words}")?;
+        let words = format!(in rt.alloc();
+            "node --image d --watchdog w --resource r --port 7000 {words}"
+        )?;
         let run = Run {
             failing,
             ..Run::of(words.as_str(), input)

@@ -1,21 +1,25 @@
 -- `node`: the member itself, a running node over its own outside. votequorum(5), sbd(8), and this project's profile for its
 -- words.
-use Rattle.std.specs.Prelude.{◌≡◌, ℕ, Bool, true, false, List, [], ◌∷◌, Option, if◌then◌else◌, position, ◌==◌}
+use Rattle.std.specs.Prelude.{◌≡◌, ◌≢◌, ℕ, Bool, true, false, List, [], ◌∷◌, Option, if◌then◌else◌, position, ◌==◌, IfOk, IfSome}
 use Rattle.std.specs.Option.{option_map_or}
 use Rattle.qn_base.specs.declared.calls.Call.{Call}
 use Rattle.qn_base.specs.declared.calls.Call.TheVariants.{OpenNode}
 use Rattle.qn_base.specs.declared.ids.NodeId.{NodeId}
 use Rattle.qn_base.specs.Calls.{is_failed}
 use Rattle.qn_base.specs.Plans.{Made}
+use Rattle.qn_live.specs.declared.live_end.LiveEnd.{LiveEnd}
 use Rattle.qn_live.specs.Running.{Ran}
 use Rattle.qn_live.specs.Runs.{live_plan}
+use Rattle.qn_live.specs.Undisturbed.{NeverFalls, is_undisturbed}
 use Rattle.qn_model.specs.declared.configuration.Settings.{Settings}
+use Rattle.qn_model.specs.Lines.{Ended}
 use Rattle.qn_commands.specs.declared.commands.node.NodeWords.{NodeWords}
 use Rattle.qn_commands.specs.declared.fault.Fault.TheVariants.{EnvFault, UnknownNode}
 use Rattle.qn_commands.specs.declared.status.Status.TheVariants as status
-use Rattle.qn_commands.specs.InputSettings.{WorksOnSettings}
+use Rattle.qn_commands.specs.Endings.{AnswersWhole}
+use Rattle.qn_commands.specs.InputSettings.{WorksOnSettings, input_settings}
 use Rattle.qn_commands.specs.NodeTexts.{end_outcome}
-use Rattle.qn_commands.specs.Seen.{Outside, Seen}
+use Rattle.qn_commands.specs.Seen.{CallFails, Outside, Output, ReadFails, Seen, WriteFails}
 use Rattle.qn_commands.specs.Statuses.{HasCauses, IsOneOf}
 use Rattle.qn_commands.specs.Works.{Last, Makes, Work, after_plan, refusal}
 
@@ -54,12 +58,23 @@ pub record FailsToOpen (words : NodeWords) (before after : Outside) : Type 0 whe
   pub rank : ℕ
   pub made : Made before.faults after.faults before.calls after.calls (opening words rank false ∷ [])
 
+-- the whole line of an end was written, that comes without a failed call and with a clock that does not go back
+pub record EndsUndisturbed (turns : ℕ) (before after : Output) (code : ℕ) : Type 0 where
+  pub end : LiveEnd
+  pub undisturbed : is_undisturbed end ≡ true
+  pub answers : AnswersWhole (end_outcome turns end) before after code
+
 -- The whole input is read and judged, and then the id, before anything is called. Then the node is opened and runs: exactly
 -- these calls are made, and the last line is that of the end of the run. Nothing is written before. Memory is taken for
--- the settings text alone.
+-- the settings text alone. Where nothing failed, no tick fell and memory sufficed, and the id is in good settings, the node
+-- handled its last turn, left, read a deadly message, or was halted in its boot by what stands in the image.
 pub record RunsNode (words : NodeWords) (before after : Seen) (code : ℕ) : Type 0 where
   pub ran : WorksOnSettings (node_work words) before after code
   pub unopened : code ≡ 8 → FailsToOpen words before.env after.env
+  pub complete : code ≢ 11 → ¬ ReadFails before.input after.input
+      → ¬ WriteFails before.output after.output → ¬ CallFails before.env after.env → NeverFalls 0 ran.works.calls
+      → IfSome before.input.left (λ bytes. IfOk (input_settings Ended bytes) (λ settings.
+      IfSome (rank_with settings words.id) (λ rank. EndsUndisturbed words.turns before.output after.output code)))
   pub statuses : IsOneOf (status.Done ∷ status.BadConf ∷ status.ReadFault ∷ status.WriteFault ∷ status.EnvFault
       ∷ status.NoMemory ∷ status.ClockBack ∷ status.SelfReset ∷ status.BootHalted ∷ status.UnknownNode ∷ []) code
   pub causes : HasCauses before after code
