@@ -1,4 +1,4 @@
-# The blocks of README.md and of each page of docs/, bench/ and examples/. The word after ``` says what a block is:
+# The blocks of README.md and of each page of docs/, bench/, contrib/ and examples/. The word after ``` says what a block is:
 #
 #   console          lines `$ COMMAND`, each with what it writes after it; a page's commands run one after the other in one folder
 #   console not-run  commands of whoever changes the program: no call of `quorumd`, and each of them begins with a word that exists
@@ -18,9 +18,10 @@ import subprocess
 import sys
 
 TOP = pathlib.Path(os.environ["TOP"])
-PAGES = sorted([TOP / "README.md", *TOP.glob("docs/*.md"), *TOP.glob("bench/*.md"), *TOP.glob("examples/**/*.md")])
+PAGES = sorted([TOP / "README.md", *TOP.glob("docs/*.md"), *TOP.glob("bench/*.md"), *TOP.glob("contrib/*.md"),
+                *TOP.glob("examples/**/*.md")])
 # tools that a machine may lack, and the Debian package of each
-PACKAGES = {"jq": "jq", "xxd": "xxd"}
+PACKAGES = {"jq": "jq", "xxd": "xxd", "flock": "util-linux"}
 wrong = []
 
 
