@@ -14,7 +14,7 @@ use Rattle.qn_model.specs.Fitting.{answers_op}
 use Rattle.qn_model.specs.Licences.{writes_reset}
 use Rattle.qn_model.specs.Sectors.{is_deadly}
 use Rattle.qn_model.specs.World.{failed}
-use Rattle.qn_safety.specs.TripleWorld.{Part, Pending, Landed, Lost, needs_good, counted, counting, slots_among, is_above, highest, slot_among, messages_among, first_deadly, harmless, message_among, together, answer_among, answer_of}
+use Rattle.qn_safety.specs.TripleWorld.{Part, Pending, Landed, Failed, needs_good, counted, counting, slots_among, is_above, highest, slot_among, messages_among, first_deadly, harmless, message_among, together, answer_among, answer_of}
 use Rattle.qn_safety.proofs.Tools.{and_left_of, and_right_of}
 use Rattle.qn_safety.proofs.Origins.{IsIn, First, Behind}
 use Rattle.qn_safety.proofs.Kept.{failed_answers}
@@ -27,7 +27,7 @@ data Counts (op : DiskOp) (good : Bool) (part : Part) (values : List What) : Typ
 
 counts : (op : DiskOp) (good : Bool) (part : Part) → Counts op good part (counted op good part)
 counts op good Pending = NoneCounts refl
-counts op good Lost = NoneCounts refl
+counts op good Failed = NoneCounts refl
 counts op good (Landed value) = by_test (good || not (needs_good op)) refl
   where
     good_of : (g n : Bool) → (g || not n) ≡ true → n ≡ true → g ≡ true

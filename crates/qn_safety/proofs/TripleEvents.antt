@@ -26,7 +26,7 @@ use Rattle.qn_safety.specs.declared.triple_event.TripleEvent.TheVariants as trip
 use Rattle.qn_safety.specs.Timed.{IsUp, WasSent, AllRuled, NoMoment, OneRuled, NumbersRise}
 use Rattle.qn_safety.specs.TripleWorld.{TripleWorld, nodes_of, op_of, answer_of}
 use Rattle.qn_safety.specs.TripleRules.{is_well_formed_triple, refusal_triple, may_be_done_triple}
-use Rattle.qn_safety.specs.TripleSteps.{landed_on, lost_on, done_triple, lands_late_on, step_triple, run_triple, AllAllowedTriple}
+use Rattle.qn_safety.specs.TripleSteps.{landed_on, failed_on, done_triple, lands_late_on, step_triple, run_triple, AllAllowedTriple}
 use Rattle.qn_safety.proofs.Tools.{clash, and_left_of, and_right_of, not_true, before_total}
 use Rattle.qn_safety.proofs.Outs.{plain_no_answer}
 use Rattle.qn_safety.proofs.Runs.{boots_le}
@@ -143,7 +143,7 @@ ruled_step s t (triple.LandOn rank k) w form ok ruled = by_op (op_of s rank.0 w)
     by_op (Some op) = ruled
 ruled_step s t (triple.FailOn rank k) w form ok ruled = by_op (op_of s rank.0 w)
   where
-    by_op : (o : Option DiskOp) → AllRuled s t (option_map_or (λ op. lost_on rank.0 k op w) o w).moments
+    by_op : (o : Option DiskOp) → AllRuled s t (option_map_or (λ op. failed_on rank.0 k op w) o w).moments
     by_op None = ruled
     by_op (Some op) = ruled
 ruled_step s t (triple.LateOn rank k number) w form ok ruled = by_op (numbered (w.left rank.0 k) number)
@@ -188,7 +188,7 @@ growth_step s t (triple.LandOn rank k) w = by_op (op_of s rank.0 w)
     by_op (Some op) = inl refl
 growth_step s t (triple.FailOn rank k) w = by_op (op_of s rank.0 w)
   where
-    by_op : (o : Option DiskOp) → Growth w.moments (option_map_or (λ op. lost_on rank.0 k op w) o w).moments
+    by_op : (o : Option DiskOp) → Growth w.moments (option_map_or (λ op. failed_on rank.0 k op w) o w).moments
     by_op None = inl refl
     by_op (Some op) = inl refl
 growth_step s t (triple.LateOn rank k number) w = by_op (numbered (w.left rank.0 k) number)

@@ -29,7 +29,7 @@ use Rattle.qn_safety.proofs.Origins.{IsIn}
 use Rattle.qn_safety.proofs.Kept.{booting_op}
 use Rattle.qn_safety.proofs.TripleSets.{TwoOf, meet, map_two, numbered_in}
 use Rattle.qn_safety.proofs.TripleAnswers.{CountsAt, AnswerIs, FewCount, TwoCount, answer_is, counted_at, SlotTold, slot_told, slot_in, slot_from}
-use Rattle.qn_safety.proofs.TripleSeats.{seat_of, Effect, Rests, Enters, Answers, BootsUp, GoesOff, LandsOn, LostOn, LateOn}
+use Rattle.qn_safety.proofs.TripleSeats.{seat_of, Effect, Rests, Enters, Answers, BootsUp, GoesOff, LandsOn, FailsOn, LateOn}
 use Rattle.qn_safety.proofs.TripleLogs.{close_asked}
 use Rattle.qn_safety.proofs.TripleKept.{dirty, IsOwn, Kept, slot_case}
 use Rattle.qn_safety.proofs.TripleRising.{Height}
@@ -134,7 +134,7 @@ claimed_kept {s = s} {j = j} {w = w} (Answers tick op on out e) made' up up' =
 claimed_kept {s = s} {j = j} {w = w} (BootsUp tick clean off e) made' up up' = clash (node s j w.moments).on up.on off
 claimed_kept (GoesOff on e) made' up up' = absurd (false≢true (sym (ap (λ x. x.on) e) ∙ up'.on))
 claimed_kept (LandsOn k op on out pending all e) made' up up' = ap (λ x. claimed x.log) e
-claimed_kept (LostOn k op on out e) made' up up' = ap (λ x. claimed x.log) e
+claimed_kept (FailsOn k op on out e) made' up up' = ap (λ x. claimed x.log) e
 claimed_kept (LateOn k number op there e) made' up up' = ap (λ x. claimed x.log) e
 
 -- a slot of a node that is up and open stays dirty with its number
@@ -145,7 +145,7 @@ dirty_kept (Enters tick entry on plain e) made kept is has k was = ap (λ x. x.s
 dirty_kept (Answers tick op on out e) made kept is has k was = ap (λ x. x.slots k) e ∙ was
 dirty_kept (BootsUp tick clean off e) made kept is has k was = ap (λ x. x.slots k) e ∙ was
 dirty_kept (GoesOff on e) made kept is has k was = ap (λ x. x.slots k) e ∙ was
-dirty_kept (LostOn n op on out e) made kept is has k was = ap (λ x. x.slots k) e ∙ was
+dirty_kept (FailsOn n op on out e) made kept is has k was = ap (λ x. x.slots k) e ∙ was
 dirty_kept {s = s} {j = j} {number = number} {w = w} (LandsOn n op on out pending all e) made kept is has k was =
     ap (λ x. x.slots k) e ∙ slot_case (λ c. c ≡ dirty number) n op (w.slots j) k
     (λ m same. clash (is_booting (phase s (node s j w.moments).log)) (booting_op made (disk.WriteClaim m) (out ∙ ap Some same) refl refl) is.up.booted)

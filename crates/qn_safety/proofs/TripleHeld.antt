@@ -28,9 +28,9 @@ use Rattle.qn_safety.proofs.Held.{begin_plain}
 use Rattle.qn_safety.proofs.Seats.{put_same}
 use Rattle.qn_safety.proofs.TripleSets.{TwoOf, OneTwo, meet, map_two, put_case, none_in, numbered_in, without_in, in_either}
 use Rattle.qn_safety.proofs.TripleAnswers.{CountsAt, SlotTold, answer_answers, slot_told, slot_in, claimed_two, cleared_two}
-use Rattle.qn_safety.proofs.TripleSeats.{TripleSeat, seat_of, entered, answered, fresh, gone_off, slots_after, part_lost, late, Effect, Rests, Enters, Answers, BootsUp, GoesOff, LandsOn, LostOn, LateOn}
+use Rattle.qn_safety.proofs.TripleSeats.{TripleSeat, seat_of, entered, answered, fresh, gone_off, slots_after, part_failed, late, Effect, Rests, Enters, Answers, BootsUp, GoesOff, LandsOn, FailsOn, LateOn}
 use Rattle.qn_safety.proofs.TripleLogs.{booted_back, booting_back, close_asked, closing_booted, open_before, asked_on, given_out, cleared_is, claim_first}
-use Rattle.qn_safety.proofs.TripleKept.{dirty, IsRead, Clearing, IsOwn, KeepsTop, Kept, fresh_read, not_landed, kept_enter, above_after, clean_after, kept_written, kept_landed, leaves_is, kept_lost, keeps_out}
+use Rattle.qn_safety.proofs.TripleKept.{dirty, IsRead, Clearing, IsOwn, KeepsTop, Kept, fresh_read, not_landed, kept_enter, above_after, clean_after, kept_written, kept_landed, leaves_is, kept_failed, keeps_out}
 
 -- what is always true of a seat, by the number of the last incarnation of its node that came up
 pub record Held (s : Settings) (t : Timing) (j top : ℕ) (x : TripleSeat) : Type 0 where
@@ -181,7 +181,7 @@ module _ {s : Settings} {t : Timing} {j top : ℕ} (x : TripleSeat) {line : Line
     own_up k (disk.WriteClose number) own = asked_on line x.log own
     own_up k disk.WriteClear own = record {
       out = λ booting. clash (is_booting (phase s (line ∷ x.log))) booting booted;
-      lost = λ booting. clash (is_booting (phase s (line ∷ x.log))) booting booted;
+      part = λ booting. clash (is_booting (phase s (line ∷ x.log))) booting booted;
       bad = λ b. same_good op not_clear k ∙ own.bad was_booted;
     }
     own_up k disk.ReadHeader own = tt
@@ -243,8 +243,8 @@ module _ {s : Settings} {t : Timing} {j top : ℕ} (x : TripleSeat) {line : Line
     own_risen k (disk.WriteClose number) own = asked_on line x.log own
     own_risen k disk.WriteClear own = record {
       out = λ booting. clash (is_booting (phase s (line ∷ x.log))) booting booted;
-      lost = λ booting. clash (is_booting (phase s (line ∷ x.log))) booting booted;
-      bad = λ b. good_is k ∙ ap has_landed (own.lost was_booting);
+      part = λ booting. clash (is_booting (phase s (line ∷ x.log))) booting booted;
+      bad = λ b. good_is k ∙ ap has_landed (own.part was_booting);
     }
     own_risen k disk.ReadHeader own = tt
     own_risen k (disk.ReadSlot rank) own = tt
@@ -419,9 +419,9 @@ module _ (s : Settings) (t : Timing) (j top : ℕ) (x : TripleSeat) (made : Made
         clean = clean_after k op x.slots keeps was.clean;
       }) (λ o booted. (on, booted))
 
-  next_loses : (k : ℕ) (op : DiskOp) → x.on ≡ true → op_out x.log ≡ Some op → Next s t j top x (part_lost k op x)
-  next_loses k op on out = stays (record {
-    kept = λ o. kept_lost x made (was.kept on) k op out;
+  next_fails : (k : ℕ) (op : DiskOp) → x.on ≡ true → op_out x.log ≡ Some op → Next s t j top x (part_failed k op x)
+  next_fails k op on out = stays (record {
+    kept = λ o. kept_failed x made (was.kept on) k op out;
     left = λ i o. put_case (λ l. IsIn o l → KeepsTop top o) x.left k i (x.left k ++ leaves_over (Some op) (x.parts k))
         (λ same there. left_off k o (Some op) on out (in_either (x.left k) (leaves_over (Some op) (x.parts k)) there)) (λ there. was.left i o there);
     two = was.two;
@@ -431,7 +431,7 @@ module _ (s : Settings) (t : Timing) (j top : ℕ) (x : TripleSeat) (made : Made
   own_dropped : (k number : ℕ) (slots : ℕ → Slot) (i : ℕ) (o : DiskOp) → IsOwn s (record x { slots = slots }) i o → IsOwn s (record x { left = put x.left k (without (x.left k) number); slots = slots }) i o
   own_dropped k number slots i (disk.WriteClaim n) own = own
   own_dropped k number slots i (disk.WriteClose n) own = own
-  own_dropped k number slots i disk.WriteClear own = record { out = own.out; lost = own.lost; bad = own.bad }
+  own_dropped k number slots i disk.WriteClear own = record { out = own.out; part = own.part; bad = own.bad }
   own_dropped k number slots i disk.ReadHeader own = tt
   own_dropped k number slots i (disk.ReadSlot rank) own = tt
   own_dropped k number slots i disk.CheckMail own = tt
@@ -480,7 +480,7 @@ next_effect s t j top w w' (BootsUp tick clean off e) made made' was =
 next_effect s t j top w w' (GoesOff on e) made made' was = subst (λ x. Next s t j top (seat_of s j w) x) (sym e) (next_ends s t j top (seat_of s j w) made was on)
 next_effect s t j top w w' (LandsOn k op on out pending all e) made made' was =
     subst (λ x. Next s t j top (seat_of s j w) x) (sym e) (next_lands s t j top (seat_of s j w) made was k op (image_of k w) on out pending refl)
-next_effect s t j top w w' (LostOn k op on out e) made made' was = subst (λ x. Next s t j top (seat_of s j w) x) (sym e) (next_loses s t j top (seat_of s j w) made was k op on out)
+next_effect s t j top w w' (FailsOn k op on out e) made made' was = subst (λ x. Next s t j top (seat_of s j w) x) (sym e) (next_fails s t j top (seat_of s j w) made was k op on out)
 next_effect s t j top w w' (LateOn k number op there e) made made' was = subst (λ x. Next s t j top (seat_of s j w) x) (sym e) (next_late s t j top (seat_of s j w) made was k number op there)
 
 pub first_held : (s : Settings) (t : Timing) (j : ℕ) → Held s t j 0 (seat_of s j first_triple)

@@ -3,11 +3,10 @@ use Rattle.std.proofs.Common.{◌≡◌, ℕ, true, List}
 use Rattle.qn_model.specs.declared.configuration.Settings.{Settings}
 use Rattle.qn_model.specs.declared.times.Timing.{Timing}
 use Rattle.qn_model.specs.Moments.{Itself, is_holder}
-use Rattle.qn_model.specs.Steps.{holders}
 use Rattle.qn_model.specs.Timing.{is_safe}
-use Rattle.qn_base.specs.Members.{is_member}
 use Rattle.qn_safety.specs.declared.triple_event.TripleEvent.{TripleEvent}
 use Rattle.qn_safety.specs.Timed.{IsTimedRun}
+use Rattle.qn_safety.specs.TripleReported.{OneTripleReported}
 use Rattle.qn_safety.specs.TripleWorld.{nodes_of}
 use Rattle.qn_safety.specs.TripleSteps.{run_triple, AllAllowedTriple}
 use Rattle.qn_safety.proofs.Incarnations.{reported_holder}
@@ -35,7 +34,6 @@ one_triple_holder s t events i j safe all first second =
     at_most_one (triple_run_timed s t events all) safe (run_triple s t events).moments Itself i j first second
 
 -- at most one holder is reported
-pub one_triple_reported : (s : Settings) (t : Timing) (events : List TripleEvent) (i j : ℕ) → is_safe t ≡ true → AllAllowedTriple s t events
-    → is_member (holders s (nodes_of (run_triple s t events))) i ≡ true → is_member (holders s (nodes_of (run_triple s t events))) j ≡ true → i ≡ j
+pub one_triple_reported : OneTripleReported
 one_triple_reported s t events i j safe all first second =
     one_triple_holder s t events i j safe all (reported_holder s (nodes_of (run_triple s t events)) i first) (reported_holder s (nodes_of (run_triple s t events)) j second)

@@ -14,7 +14,7 @@ use Rattle.qn_model.specs.Log.{Line, op_out, claimed, disk_of, is_answer, slot_n
 use Rattle.qn_model.specs.Phases.{phase, is_booting}
 use Rattle.qn_model.specs.World.{World, put, taken, is_write}
 use Rattle.qn_safety.specs.Closing.{asked_close}
-use Rattle.qn_safety.specs.TripleWorld.{Part, Pending, Landed, Lost, all_pending, leaves_over}
+use Rattle.qn_safety.specs.TripleWorld.{Part, Pending, Landed, Failed, all_pending, leaves_over}
 use Rattle.qn_safety.proofs.Tools.{some_same, clash}
 use Rattle.qn_safety.proofs.Logs.{Made, IsLine}
 use Rattle.qn_safety.proofs.Stays.{op_kept}
@@ -24,7 +24,7 @@ use Rattle.qn_safety.proofs.Origins.{IsIn}
 use Rattle.qn_safety.proofs.Kept.{booting_op, booted_op}
 use Rattle.qn_safety.proofs.Seats.{put_same}
 use Rattle.qn_safety.proofs.TripleSets.{TwoOf, map_two, put_case, none_in, only_in, in_either}
-use Rattle.qn_safety.proofs.TripleSeats.{TripleSeat, slots_after, part_lost}
+use Rattle.qn_safety.proofs.TripleSeats.{TripleSeat, slots_after, part_failed}
 use Rattle.qn_safety.proofs.TripleLogs.{booted_back, booting_back, plain_claimed, plain_number, close_asked, closing_booted, open_before, asked_on}
 
 -- the slot of a running incarnation, and of one that closed
@@ -69,7 +69,7 @@ pub record Standing (top : ℕ) (x : TripleSeat) : Type 0 where
 -- a clear that is left over on an image failed there in this boot: the image is no good one
 pub record ClearLeft (s : Settings) (x : TripleSeat) (k : ℕ) : Type 0 where
   pub out : is_booting (phase s x.log) ≡ true → op_out x.log ≡ Some disk.WriteClear
-  pub lost : is_booting (phase s x.log) ≡ true → x.parts k ≡ Lost
+  pub part : is_booting (phase s x.log) ≡ true → x.parts k ≡ Failed
   pub bad : is_booting (phase s x.log) ≡ false → x.good k ≡ false
 
 -- what is left over while the node runs is of this boot
@@ -114,8 +114,8 @@ fresh_read {top = top} {slots = slots} two = map_two (λ k above. record { above
 pub not_landed : {P : Type 0} (value : What) → Pending ≡ Landed value → P
 not_landed value e = absurd (cc)
 
-pub lost_not_landed : {P : Type 0} (value : What) → Lost ≡ Landed value → P
-lost_not_landed value e = absurd (cc)
+pub failed_not_landed : {P : Type 0} (value : What) → Failed ≡ Landed value → P
+failed_not_landed value e = absurd (cc)
 
 -- an entry that answers nothing
 module _ {s : Settings} {t : Timing} {j top : ℕ} (x : TripleSeat) {line : Line} (it : IsLine s j line x.log) (made : Made s j x.log) (kept : Kept s t j top x) (plain : is_answer line.what ≡ false) (on : Bool) where
@@ -143,7 +143,7 @@ module _ {s : Settings} {t : Timing} {j top : ℕ} (x : TripleSeat) {line : Line
   own_enter k (disk.WriteClose number) was = asked_on line x.log was
   own_enter k disk.WriteClear was = record {
     out = λ booting. op_kept it disk.WriteClear (was.out (booting_back it booting)) plain;
-    lost = λ booting. was.lost (booting_back it booting);
+    part = λ booting. was.part (booting_back it booting);
     bad = λ booted. was.bad (booted_back it plain booted);
   }
   own_enter k disk.ReadHeader was = tt
@@ -206,7 +206,7 @@ module _ {s : Settings} {t : Timing} {j top : ℕ} (x : TripleSeat) (made : Made
   own_written : (i : ℕ) (o : DiskOp) → IsOwn s x i o → IsOwn s (record x { slots = slots_after k op x.slots }) i o
   own_written i (disk.WriteClaim number) was = was
   own_written i (disk.WriteClose number) was = was
-  own_written i disk.WriteClear was = record { out = was.out; lost = was.lost; bad = was.bad }
+  own_written i disk.WriteClear was = record { out = was.out; part = was.part; bad = was.bad }
   own_written i disk.ReadHeader was = tt
   own_written i (disk.ReadSlot rank) was = tt
   own_written i disk.CheckMail was = tt
@@ -267,12 +267,12 @@ module _ {s : Settings} {t : Timing} {j top : ℕ} (x : TripleSeat) (kept : Kept
   own_landed i (disk.WriteClose number) was = was
   own_landed i disk.WriteClear was = record {
     out = was.out;
-    lost = λ booting. put_case (λ p. p ≡ Lost) x.parts k i (Landed value) (λ same. absurd (not_lost (sym pending ∙ ap x.parts same ∙ was.lost booting))) (was.lost booting);
+    part = λ booting. put_case (λ p. p ≡ Failed) x.parts k i (Landed value) (λ same. absurd (not_failed (sym pending ∙ ap x.parts same ∙ was.part booting))) (was.part booting);
     bad = was.bad;
   }
     where
-      not_lost : Pending ≡ Lost → ⊥
-      not_lost e = cc
+      not_failed : Pending ≡ Failed → ⊥
+      not_failed e = cc
   own_landed i disk.ReadHeader was = tt
   own_landed i (disk.ReadSlot rank) was = tt
   own_landed i disk.CheckMail was = tt
@@ -302,7 +302,7 @@ module _ {s : Settings} {t : Timing} {j top : ℕ} (x : TripleSeat) (kept : Kept
 -- what is left over where a part is given up is the operation
 pub leaves_is : (o op : DiskOp) (part : Part) → IsIn o (leaves_over (Some op) part) → o ≡ op
 leaves_is o op (Landed value) there = none_in there
-leaves_is o op Lost there = none_in there
+leaves_is o op Failed there = none_in there
 leaves_is o op Pending there = by_write (is_write op) there
   where
     by_write : (b : Bool) → IsIn o (if b then op ∷ [] else []) → o ≡ op
@@ -311,56 +311,56 @@ leaves_is o op Pending there = by_write (is_write op) there
 
 -- the part on an image fails
 module _ {s : Settings} {t : Timing} {j top : ℕ} (x : TripleSeat) (made : Made s j x.log) (kept : Kept s t j top x) (k : ℕ) (op : DiskOp) (out : op_out x.log ≡ Some op) where
-  own_lost : (i : ℕ) (o : DiskOp) → IsOwn s x i o → IsOwn s (part_lost k op x) i o
-  own_lost i (disk.WriteClaim number) was = was
-  own_lost i (disk.WriteClose number) was = was
-  own_lost i disk.WriteClear was = record {
+  own_failed : (i : ℕ) (o : DiskOp) → IsOwn s x i o → IsOwn s (part_failed k op x) i o
+  own_failed i (disk.WriteClaim number) was = was
+  own_failed i (disk.WriteClose number) was = was
+  own_failed i disk.WriteClear was = record {
     out = was.out;
-    lost = λ booting. put_case (λ p. p ≡ Lost) x.parts k i Lost (λ same. refl) (was.lost booting);
+    part = λ booting. put_case (λ p. p ≡ Failed) x.parts k i Failed (λ same. refl) (was.part booting);
     bad = was.bad;
   }
-  own_lost i disk.ReadHeader was = tt
-  own_lost i (disk.ReadSlot rank) was = tt
-  own_lost i disk.CheckMail was = tt
-  own_lost i disk.ReadMail was = tt
-  own_lost i (disk.WriteReset rank) was = tt
+  own_failed i disk.ReadHeader was = tt
+  own_failed i (disk.ReadSlot rank) was = tt
+  own_failed i disk.CheckMail was = tt
+  own_failed i disk.ReadMail was = tt
+  own_failed i (disk.WriteReset rank) was = tt
 
-  own_given : (o : DiskOp) (i : ℕ) → op_out x.log ≡ Some o → k ≡ i → IsOwn s (part_lost k op x) i o
+  own_given : (o : DiskOp) (i : ℕ) → op_out x.log ≡ Some o → k ≡ i → IsOwn s (part_failed k op x) i o
   own_given (disk.WriteClaim number) i out' same = out_claims made number out'
   own_given (disk.WriteClose number) i out' same = close_asked x.log number out'
   own_given disk.WriteClear i out' same = record {
     out = λ booting. out';
-    lost = λ booting. lost_there same;
+    part = λ booting. failed_there same;
     bad = λ booted. clash (is_booting (phase s x.log)) (booting_op made disk.WriteClear out' refl refl) booted;
   }
     where
-      lost_there : k ≡ i → put x.parts k Lost i ≡ Lost
-      lost_there same' = subst (λ n. put x.parts k Lost n ≡ Lost) same' (put_same x.parts k Lost)
+      failed_there : k ≡ i → put x.parts k Failed i ≡ Failed
+      failed_there same' = subst (λ n. put x.parts k Failed n ≡ Failed) same' (put_same x.parts k Failed)
   own_given disk.ReadHeader i out' same = tt
   own_given (disk.ReadSlot rank) i out' same = tt
   own_given disk.CheckMail i out' same = tt
   own_given disk.ReadMail i out' same = tt
   own_given (disk.WriteReset rank) i out' same = tt
 
-  pub kept_lost : Kept s t j top (part_lost k op x)
-  kept_lost = record {
-    took = λ i v. put_case (λ p. p ≡ Landed v → Took s t j (op_out x.log) v) x.parts k i Lost (λ same e. lost_not_landed v e) (kept.took i v);
+  pub kept_failed : Kept s t j top (part_failed k op x)
+  kept_failed = record {
+    took = λ i v. put_case (λ p. p ≡ Landed v → Took s t j (op_out x.log) v) x.parts k i Failed (λ same e. failed_not_landed v e) (kept.took i v);
     reading = λ booting. map_two (λ i was. record {
       above = was.above;
-      read = λ rank own. put_case (λ p. p ≡ Landed (what.SlotRead rank (slot.Read own)) → top ≤ own.incarnation) x.parts k i Lost (λ same e. lost_not_landed _ e) (was.read rank own);
+      read = λ rank own. put_case (λ p. p ≡ Landed (what.SlotRead rank (slot.Read own)) → top ≤ own.incarnation) x.parts k i Failed (λ same e. failed_not_landed _ e) (was.read rank own);
     }) (kept.reading booting);
     checking = kept.checking;
     claiming = λ number e.
         let was = kept.claiming number e in
-        record { above = was.above; stands = λ i v. put_case (λ p. p ≡ Landed v → x.slots i ≡ dirty number) x.parts k i Lost (λ same e. lost_not_landed v e) (was.stands i v) };
+        record { above = was.above; stands = λ i v. put_case (λ p. p ≡ Landed v → x.slots i ≡ dirty number) x.parts k i Failed (λ same e. failed_not_landed v e) (was.stands i v) };
     clearing = λ e. let was = kept.clearing e in record { number = was.number; claims = was.claims; above = was.above; two = was.two };
     standing = λ booted. let was = kept.standing booted in record { claims = was.claims; good = was.good; two = was.two; below = was.below };
-    own = λ i o. put_case (λ l. IsIn o l → IsOwn s (part_lost k op x) i o) x.left k i (x.left k ++ leaves_over (Some op) (x.parts k))
-        (λ same there. either i o same (in_either (x.left k) (leaves_over (Some op) (x.parts k)) there)) (λ there. own_lost i o (kept.own i o there));
+    own = λ i o. put_case (λ l. IsIn o l → IsOwn s (part_failed k op x) i o) x.left k i (x.left k ++ leaves_over (Some op) (x.parts k))
+        (λ same there. either i o same (in_either (x.left k) (leaves_over (Some op) (x.parts k)) there)) (λ there. own_failed i o (kept.own i o there));
   }
     where
-      either : (i : ℕ) (o : DiskOp) → k ≡ i → IsIn o (x.left k) ⊎ IsIn o (leaves_over (Some op) (x.parts k)) → IsOwn s (part_lost k op x) i o
-      either i o same (inl there) = own_lost i o (kept.own i o (subst (λ n. IsIn o (x.left n)) same there))
+      either : (i : ℕ) (o : DiskOp) → k ≡ i → IsIn o (x.left k) ⊎ IsIn o (leaves_over (Some op) (x.parts k)) → IsOwn s (part_failed k op x) i o
+      either i o same (inl there) = own_failed i o (kept.own i o (subst (λ n. IsIn o (x.left n)) same there))
       either i o same (inr there) = own_given o i (out ∙ ap Some (sym (leaves_is o op (x.parts k) there))) same
 
 -- an operation that is out keeps the number

@@ -11,7 +11,7 @@ use Rattle.qn_model.specs.Moments.{Before, Itself, Later, Moment, Adds, node}
 use Rattle.qn_model.specs.World.{taken}
 use Rattle.qn_safety.specs.declared.triple_event.TripleEvent.{TripleEvent}
 use Rattle.qn_safety.specs.Timed.{IsSameBoot, IsBetween, AllRuled, IsAdded}
-use Rattle.qn_safety.specs.TripleWorld.{TripleWorld, Landed, Lost, image_of, op_of, answer_of}
+use Rattle.qn_safety.specs.TripleWorld.{TripleWorld, Landed, Failed, image_of, op_of, answer_of}
 use Rattle.qn_safety.specs.TripleSteps.{landed_on, run_triple}
 use Rattle.qn_safety.proofs.Tools.{none_some, clash, before_then}
 use Rattle.qn_safety.proofs.Logs.{Made, made_line}
@@ -24,8 +24,8 @@ use Rattle.qn_safety.proofs.Events.{newest_state, only_nothing}
 use Rattle.qn_safety.proofs.Landings.{ask_place_inside}
 use Rattle.qn_safety.proofs.TripleSets.{put_case}
 use Rattle.qn_safety.proofs.TripleAnswers.{answer_answers}
-use Rattle.qn_safety.proofs.TripleSeats.{seat_of, Effect, Rests, Enters, Answers, BootsUp, GoesOff, LandsOn, LostOn, LateOn}
-use Rattle.qn_safety.proofs.TripleKept.{Kept, not_landed, lost_not_landed}
+use Rattle.qn_safety.proofs.TripleSeats.{seat_of, Effect, Rests, Enters, Answers, BootsUp, GoesOff, LandsOn, FailsOn, LateOn}
+use Rattle.qn_safety.proofs.TripleKept.{Kept, not_landed, failed_not_landed}
 use Rattle.qn_safety.proofs.TripleEvents.{IsAllowed, NoEvent, OneEvent, stage, effect_at, earlier_allowed, grows, first_moments, moments_grow}
 
 -- how a line that was added came: it answers nothing, or its parts answer the operation that was out
@@ -50,7 +50,7 @@ module _ (s : Settings) (t : Timing) (j : ℕ) (entry : What) (line : Line) (pas
   kind_of adds gave behind (Rests same) = too_long line past (sym gave ∙ ap (λ x. x.log) same ∙ sym behind)
   kind_of adds gave behind (GoesOff on same) = too_long line past (sym gave ∙ ap (λ x. x.log) same ∙ sym behind)
   kind_of adds gave behind (LandsOn k op on out pending all same) = too_long line past (sym gave ∙ ap (λ x. x.log) same ∙ sym behind)
-  kind_of adds gave behind (LostOn k op on out same) = too_long line past (sym gave ∙ ap (λ x. x.log) same ∙ sym behind)
+  kind_of adds gave behind (FailsOn k op on out same) = too_long line past (sym gave ∙ ap (λ x. x.log) same ∙ sym behind)
   kind_of adds gave behind (LateOn k number op there same) = too_long line past (sym gave ∙ ap (λ x. x.log) same ∙ sym behind)
   kind_of adds gave behind (BootsUp tick clean off same) =
       absurd (let boots : (node s j w'.moments).boots ≡ suc (node s j w.moments).boots = ap (λ x. x.boots) same in
@@ -212,13 +212,13 @@ carry {s = s} {t = t} {e = e} {earlier = earlier} i allowed on (LandsOn k op on_
       (λ own is. JustLanded op out (all ∙ ap (λ m. landed_on s t i m op (run_triple s t earlier)) own) (sym (landed_same _ _ is) ∙ ap (λ m. taken s t i op (image_of m (run_triple s t earlier))) own))
       (λ was. WasThere was) (sym (ap (λ x. x.parts n) same) ∙ landed);
 })
-carry {s = s} {t = t} {e = e} {earlier = earlier} i allowed on (LostOn k op on_before out same) = inl (record {
+carry {s = s} {t = t} {e = e} {earlier = earlier} i allowed on (FailsOn k op on_before out same) = inl (record {
   on = on_before;
   boots = ap (λ x. x.boots) same;
   place = ap (λ x. ask_place x.log) same;
   out = ap (λ x. op_out x.log) same;
   parts = λ n value landed. put_case (λ p. p ≡ Landed value → PartCase s t i (run_triple s t earlier) (run_triple s t (e ∷ earlier)) n value)
-      ((run_triple s t earlier).parts i) k n Lost (λ own is. lost_not_landed value is) (λ was. WasThere was) (sym (ap (λ x. x.parts n) same) ∙ landed);
+      ((run_triple s t earlier).parts i) k n Failed (λ own is. failed_not_landed value is) (λ was. WasThere was) (sym (ap (λ x. x.parts n) same) ∙ landed);
 })
 carry {s = s} {t = t} i allowed on (LateOn k number op there same) = inl (record {
   on = sym (ap (λ x. x.on) same) ∙ on;

@@ -27,7 +27,7 @@ use Rattle.qn_safety.specs.declared.triple_event.TripleEvent.TheVariants as trip
 use Rattle.qn_safety.specs.Timed.{IsUp, IsSameBoot, IsBetween, GetsBadMail, WrittenMeansBadMail}
 use Rattle.qn_safety.specs.TripleWorld.{TripleWorld, Part, Landed, put_on, image_of, op_of, counting, needs_good, message_among, messages_among, together, answer_of, good_after, mailboxes_on}
 use Rattle.qn_safety.specs.TripleRules.{refusal_triple}
-use Rattle.qn_safety.specs.TripleSteps.{landed_on, lost_on, done_triple, lands_late_on, step_of_one, step_triple, run_triple}
+use Rattle.qn_safety.specs.TripleSteps.{landed_on, failed_on, done_triple, lands_late_on, step_of_one, step_triple, run_triple}
 use Rattle.qn_safety.proofs.Tools.{some_same, clash, before_length, before_tail, before_total, before_same}
 use Rattle.qn_safety.proofs.Logs.{Made}
 use Rattle.qn_safety.proofs.Rests.{write_is}
@@ -39,7 +39,7 @@ use Rattle.qn_safety.proofs.Kept.{booting_op}
 use Rattle.qn_safety.proofs.Landings.{ask_place_inside}
 use Rattle.qn_safety.proofs.TripleSets.{TwoOf, meet, put_case, numbered_in}
 use Rattle.qn_safety.proofs.TripleAnswers.{CountsAt, AnswerIs, FewCount, TwoCount, answer_is, written_answer, mail_in, deadly_told}
-use Rattle.qn_safety.proofs.TripleSeats.{seat_of, Effect, Rests, Enters, Answers, BootsUp, GoesOff, LandsOn, LostOn, LateOn}
+use Rattle.qn_safety.proofs.TripleSeats.{seat_of, Effect, Rests, Enters, Answers, BootsUp, GoesOff, LandsOn, FailsOn, LateOn}
 use Rattle.qn_safety.proofs.TripleKept.{Kept}
 use Rattle.qn_safety.proofs.TripleEvents.{IsAllowed, allowed_before, stage, effect_at, earlier_allowed, newest_allowed, moments_grow, run_step}
 use Rattle.qn_safety.proofs.TripleLandings.{LineKind, Plain, Told, AddedBy, added_by, asked_le, Seen, between_of, between_here, PartCase, WasThere, JustLanded, Carried, carry, watch}
@@ -125,7 +125,7 @@ module _ (s : Settings) (t : Timing) (j k top : ℕ) (w : TripleWorld) (made : M
       by_op (Some op) e = deadly_on rank.0 n j k op w.mailboxes (λ own there clear. no_clear_out rank.0 op e own clear) deadly
   mail_step (triple.FailOn rank n) ok = by_op (op_of s rank.0 w)
     where
-      by_op : (o : Option DiskOp) → is_deadly ((option_map_or (λ op. lost_on rank.0 n op w) o w).mailboxes j k) ≡ true
+      by_op : (o : Option DiskOp) → is_deadly ((option_map_or (λ op. failed_on rank.0 n op w) o w).mailboxes j k) ≡ true
       by_op None = deadly
       by_op (Some op) = deadly
   mail_step (triple.LateOn rank n number) ok = by_op (numbered (w.left rank.0 n) number) refl
@@ -155,7 +155,7 @@ good_kept {s = s} {j = j} {w = w} (Answers tick op on out e) made up k =
 good_kept {s = s} {j = j} {w = w} (BootsUp tick clean off e) made up k = clash (node s j w.moments).on up.on off
 good_kept (GoesOff on e) made up k = ap (λ x. x.good k) e
 good_kept (LandsOn n op on out pending all e) made up k = ap (λ x. x.good k) e
-good_kept (LostOn n op on out e) made up k = ap (λ x. x.good k) e
+good_kept (FailsOn n op on out e) made up k = ap (λ x. x.good k) e
 good_kept (LateOn n number op there e) made up k = ap (λ x. x.good k) e
 
 -- over an event at whose beginning a node is up: a deadly mailbox of a good image stays deadly

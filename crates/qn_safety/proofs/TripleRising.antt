@@ -11,7 +11,7 @@ use Rattle.qn_safety.proofs.Tools.{some_same, clash}
 use Rattle.qn_safety.proofs.Runs.{sound}
 use Rattle.qn_safety.proofs.Numbers.{up_number}
 use Rattle.qn_safety.proofs.Events.{newest_state, only_nothing}
-use Rattle.qn_safety.proofs.TripleSeats.{seat_of, Effect, Rests, Enters, Answers, BootsUp, GoesOff, LandsOn, LostOn, LateOn}
+use Rattle.qn_safety.proofs.TripleSeats.{seat_of, Effect, Rests, Enters, Answers, BootsUp, GoesOff, LandsOn, FailsOn, LateOn}
 use Rattle.qn_safety.proofs.TripleHeld.{Held, Next, next_effect, first_held}
 
 -- The number of the last incarnation of a node that came up: none that was up before has a greater one, and where one is up
@@ -34,7 +34,7 @@ same_boots (Answers tick op o out e) on = ap (λ x. x.boots) e
 same_boots {s = s} {j = j} {w = w} (BootsUp tick clean off e) on = clash (node s j w.moments).on on off
 same_boots (GoesOff o e) on = ap (λ x. x.boots) e
 same_boots (LandsOn k op o out pending all e) on = ap (λ x. x.boots) e
-same_boots (LostOn k op o out e) on = ap (λ x. x.boots) e
+same_boots (FailsOn k op o out e) on = ap (λ x. x.boots) e
 same_boots (LateOn k number op there e) on = ap (λ x. x.boots) e
 
 -- a node that is up has the number

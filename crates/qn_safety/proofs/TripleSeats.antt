@@ -26,9 +26,9 @@ use Rattle.qn_model.specs.Rules.{refusal, is_on, may_be_stopped, may_be_late, ma
 use Rattle.qn_model.specs.Steps.{happens, entry_of, step}
 use Rattle.qn_safety.specs.declared.triple_event.TripleEvent.{TripleEvent}
 use Rattle.qn_safety.specs.declared.triple_event.TripleEvent.TheVariants as triple
-use Rattle.qn_safety.specs.TripleWorld.{TripleWorld, Part, Pending, Landed, Lost, all_pending, all_good, none_left, image_of, nodes_of, op_of, is_pending, is_lost, leaves_over, answer_of, good_after, slots_on}
+use Rattle.qn_safety.specs.TripleWorld.{TripleWorld, Part, Pending, Landed, Failed, all_pending, all_good, none_left, image_of, nodes_of, op_of, is_pending, has_failed, leaves_over, answer_of, good_after, slots_on}
 use Rattle.qn_safety.specs.TripleRules.{refusal_triple, may_land_on, may_fail_on, may_be_done_triple, none_pending}
-use Rattle.qn_safety.specs.TripleSteps.{happens_triple, landed_on, lost_on, done_triple, ends_triple, boots_triple, lands_late_on, step_triple}
+use Rattle.qn_safety.specs.TripleSteps.{happens_triple, landed_on, failed_on, done_triple, ends_triple, boots_triple, lands_late_on, step_triple}
 use Rattle.qn_safety.proofs.Tools.{and_left_of, and_right_of, not_true}
 use Rattle.qn_safety.proofs.Runs.{added_node, booted_node}
 use Rattle.qn_safety.proofs.Origins.{line_of}
@@ -75,8 +75,8 @@ slots_after k (disk.WriteClose number) slots = put slots k (record { incarnation
 slots_after k op slots = slots
 
 -- a seat whose part fails on an image
-abbrev pub part_lost : ℕ → DiskOp → TripleSeat → TripleSeat
-part_lost k op x = record x { parts = put x.parts k Lost; left = put x.left k (x.left k ++ leaves_over (Some op) (x.parts k)) }
+abbrev pub part_failed : ℕ → DiskOp → TripleSeat → TripleSeat
+part_failed k op x = record x { parts = put x.parts k Failed; left = put x.left k (x.left k ++ leaves_over (Some op) (x.parts k)) }
 
 -- a seat of which a leftover lands late on an image
 abbrev pub late : ℕ → ℕ → DiskOp → TripleSeat → TripleSeat
@@ -91,7 +91,7 @@ pub data Effect (s : Settings) (t : Timing) (j : ℕ) (w w' : TripleWorld) : Typ
   GoesOff : (node s j w.moments).on ≡ true → seat_of s j w' ≡ gone_off (seat_of s j w) → Effect s t j w w'
   LandsOn : (k : ℕ) (op : DiskOp) → (node s j w.moments).on ≡ true → op_of s j w ≡ Some op → w.parts j k ≡ Pending → w' ≡ landed_on s t j k op w
       → seat_of s j w' ≡ record (seat_of s j w) { parts = put (w.parts j) k (Landed (taken s t j op (image_of k w))); slots = slots_after k op (w.slots j) } → Effect s t j w w'
-  LostOn : (k : ℕ) (op : DiskOp) → (node s j w.moments).on ≡ true → op_of s j w ≡ Some op → seat_of s j w' ≡ part_lost k op (seat_of s j w) → Effect s t j w w'
+  FailsOn : (k : ℕ) (op : DiskOp) → (node s j w.moments).on ≡ true → op_of s j w ≡ Some op → seat_of s j w' ≡ part_failed k op (seat_of s j w) → Effect s t j w w'
   LateOn : (k number : ℕ) (op : DiskOp) → numbered (w.left j k) number ≡ Some op → seat_of s j w' ≡ late k number op (seat_of s j w) → Effect s t j w w'
 
 own_test : (i : ℕ) → (i == i) ≡ true
@@ -231,17 +231,17 @@ module _ (s : Settings) (t : Timing) where
       by_owner false e = Rests (seat_same (node s j w.moments) (node s j w.moments) _ _ _ _ _ _ _ _ refl
           (put_other w.parts r j (put (w.parts r) k (Landed (taken s t r op (image_of k w)))) e) refl refl (slots_other r j k op w.slots e))
 
-  effect_lost : (r j k : ℕ) (op : DiskOp) (w : TripleWorld) → (node s r w.moments).on ≡ true → op_of s r w ≡ Some op → Effect s t j w (lost_on r k op w)
-  effect_lost r j k op w on out = by_owner (r == j) refl
+  effect_failed : (r j k : ℕ) (op : DiskOp) (w : TripleWorld) → (node s r w.moments).on ≡ true → op_of s r w ≡ Some op → Effect s t j w (failed_on r k op w)
+  effect_failed r j k op w on out = by_owner (r == j) refl
     where
-      own : Effect s t r w (lost_on r k op w)
-      own = LostOn k op on out
-          (seat_same (node s r w.moments) (node s r w.moments) _ _ _ _ _ _ _ _ refl (put_same w.parts r (put (w.parts r) k Lost))
+      own : Effect s t r w (failed_on r k op w)
+      own = FailsOn k op on out
+          (seat_same (node s r w.moments) (node s r w.moments) _ _ _ _ _ _ _ _ refl (put_same w.parts r (put (w.parts r) k Failed))
           (put_same w.left r (put (w.left r) k (w.left r k ++ leaves_over (Some op) (w.parts r k)))) refl refl)
 
-      by_owner : (b : Bool) → (r == j) ≡ b → Effect s t j w (lost_on r k op w)
-      by_owner true e = subst (λ i. Effect s t i w (lost_on r k op w)) (eqb-true r j e) own
-      by_owner false e = Rests (seat_same (node s j w.moments) (node s j w.moments) _ _ _ _ _ _ _ _ refl (put_other w.parts r j (put (w.parts r) k Lost) e)
+      by_owner : (b : Bool) → (r == j) ≡ b → Effect s t j w (failed_on r k op w)
+      by_owner true e = subst (λ i. Effect s t i w (failed_on r k op w)) (eqb-true r j e) own
+      by_owner false e = Rests (seat_same (node s j w.moments) (node s j w.moments) _ _ _ _ _ _ _ _ refl (put_other w.parts r j (put (w.parts r) k Failed) e)
           (put_other w.left r j (put (w.left r) k (w.left r k ++ leaves_over (Some op) (w.parts r k))) e) refl refl)
 
   effect_late : (r j k number : ℕ) (op : DiskOp) (w : TripleWorld) → numbered (w.left r k) number ≡ Some op → Effect s t j w (lands_late_on r k number op w)
@@ -267,7 +267,7 @@ packet_plain (packet.Vote agrees) = refl
 pending_is : (part : Part) → is_pending part ≡ true → part ≡ Pending
 pending_is Pending e = refl
 pending_is (Landed value) e = absurd (false≢true e)
-pending_is Lost e = absurd (false≢true e)
+pending_is Failed e = absurd (false≢true e)
 
 -- what each event that is allowed is to the seat of each node
 pub effect : (s : Settings) (t : Timing) (j : ℕ) (e : TripleEvent) (w : TripleWorld) → refusal_triple s t e w ≡ None → Effect s t j w (step_triple s t e w)
@@ -303,8 +303,8 @@ effect s t j (triple.LandOn rank k) w ok =
     subst (λ o. Effect s t j w (option_map_or (λ op. landed_on s t rank.0 k op w) o w)) (sym out.1) (effect_lands s t rank.0 j k out.0 w rules.0 out.1 pending)
 effect s t j (triple.FailOn rank k) w ok =
     let rules = both_allow (is_on s rank.0 (nodes_of w)) (may_fail_on s rank.0 k w) 3 5 ok in
-    let out = is_there (op_of s rank.0 w) (and_left_of (is_some (op_of s rank.0 w)) (not (is_lost (w.parts rank.0 k))) rules.1) in
-    subst (λ o. Effect s t j w (option_map_or (λ op. lost_on rank.0 k op w) o w)) (sym out.1) (effect_lost s t rank.0 j k out.0 w rules.0 out.1)
+    let out = is_there (op_of s rank.0 w) (and_left_of (is_some (op_of s rank.0 w)) (not (has_failed (w.parts rank.0 k))) rules.1) in
+    subst (λ o. Effect s t j w (option_map_or (λ op. failed_on rank.0 k op w) o w)) (sym out.1) (effect_failed s t rank.0 j k out.0 w rules.0 out.1)
 effect s t j (triple.LateOn rank k number) w ok =
     let there = is_there (numbered (w.left rank.0 k) number) (allows (may_be_late rank.0 number (image_of k w)) 6 ok) in
     subst (λ o. Effect s t j w (option_map_or (λ op. lands_late_on rank.0 k number op w) o w)) (sym there.1) (effect_late s t rank.0 j k number there.0 w there.1)

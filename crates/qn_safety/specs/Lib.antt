@@ -10,3 +10,4 @@ pub mod TripleWorld
 pub mod TripleRules
 pub mod TripleSteps
 pub mod TriplePremises
+pub mod TripleReported

@@ -9,7 +9,7 @@ use Rattle.qn_model.specs.declared.events.Event.TheVariants as event
 use Rattle.qn_model.specs.Rules.{is_between, is_configured, is_on, is_well_formed, may_be_late, may_operate, refusal, unless, unless_running}
 use Rattle.qn_safety.specs.declared.triple_event.TripleEvent.{TripleEvent}
 use Rattle.qn_safety.specs.declared.triple_event.TripleEvent.TheVariants as triple
-use Rattle.qn_safety.specs.TripleWorld.{TripleWorld, image_of, nodes_of, op_of, is_pending, is_lost}
+use Rattle.qn_safety.specs.TripleWorld.{TripleWorld, image_of, nodes_of, op_of, is_pending, has_failed}
 
 abbrev pub is_image : ℕ → Bool
 is_image image = is_between 1 3 image
@@ -33,7 +33,7 @@ may_land_on s rank image w = is_some (op_of s rank w) && is_pending (w.parts ran
 
 -- rule 5: an operation is out, and its part on the image has not failed; or an operation is out, and no part is pending
 abbrev pub may_fail_on : Settings → ℕ → ℕ → TripleWorld → Bool
-may_fail_on s rank image w = is_some (op_of s rank w) && not (is_lost (w.parts rank image))
+may_fail_on s rank image w = is_some (op_of s rank w) && not (has_failed (w.parts rank image))
 
 abbrev pub none_pending : (ℕ → Bool) → Bool
 none_pending pending = not (pending 1) && not (pending 2) && not (pending 3)

@@ -12,7 +12,7 @@ use Rattle.qn_model.specs.World.{put, taken, numbered, without}
 use Rattle.qn_model.specs.Steps.{step, report}
 use Rattle.qn_safety.specs.declared.triple_event.TripleEvent.{TripleEvent}
 use Rattle.qn_safety.specs.declared.triple_event.TripleEvent.TheVariants as triple
-use Rattle.qn_safety.specs.TripleWorld.{TripleWorld, Landed, Lost, first_triple, all_pending, all_good, none_left, put_on, image_of, nodes_of, op_of, leaves_over, answer_of, good_after, slots_on, mailboxes_on}
+use Rattle.qn_safety.specs.TripleWorld.{TripleWorld, Landed, Failed, first_triple, all_pending, all_good, none_left, put_on, image_of, nodes_of, op_of, leaves_over, answer_of, good_after, slots_on, mailboxes_on}
 use Rattle.qn_safety.specs.TripleRules.{is_well_formed_triple, refusal_triple}
 
 -- the world after one more moment that touches nothing of the images
@@ -30,10 +30,10 @@ landed_on s t rank image op w =
     record (written_on rank image op w) { parts = put_on w.parts rank image (Landed (taken s t rank op (image_of image w))) }
 
 -- the part of an operation of a rank fails on an image: a write that did not land there is left over
-abbrev pub lost_on : ℕ → ℕ → DiskOp → TripleWorld → TripleWorld
-lost_on rank image op w =
+abbrev pub failed_on : ℕ → ℕ → DiskOp → TripleWorld → TripleWorld
+failed_on rank image op w =
     record w {
-      parts = put_on w.parts rank image Lost;
+      parts = put_on w.parts rank image Failed;
       left = put_on w.left rank image (w.left rank image ++ leaves_over (Some op) (w.parts rank image));
     }
 
@@ -95,7 +95,7 @@ step_of_one s t (event.Feed rank) w = moves_nodes s t (event.Feed rank) w
 unfoldable pub step_triple : Settings → Timing → TripleEvent → TripleWorld → TripleWorld
 step_triple s t (triple.One event) w = step_of_one s t event w
 step_triple s t (triple.LandOn rank image) w = option_map_or (λ op. landed_on s t rank.0 image op w) (op_of s rank.0 w) w
-step_triple s t (triple.FailOn rank image) w = option_map_or (λ op. lost_on rank.0 image op w) (op_of s rank.0 w) w
+step_triple s t (triple.FailOn rank image) w = option_map_or (λ op. failed_on rank.0 image op w) (op_of s rank.0 w) w
 step_triple s t (triple.LateOn rank image number) w =
     option_map_or (λ op. lands_late_on rank.0 image number op w) (numbered (w.left rank.0 image) number) w
 step_triple s t (triple.OperatorOn rank image message) w =

@@ -25,7 +25,7 @@ use Rattle.qn_model.specs.World.{World, first_world, put, failed, is_write}
 pub data Part : Type 0 where
   Pending : Part
   Landed : What → Part
-  Lost : Part
+  Failed : Part
 
 -- The world after some moments. By rank and image: the part of the operation that is out; the writes that are left over,
 -- oldest first; whether the image is a good one of the node; the slot; and the mailbox. The header of each image is that of
@@ -87,24 +87,24 @@ op_of s rank w = op_out (node s rank w.moments).log
 abbrev pub is_pending : Part → Bool
 is_pending Pending = true
 is_pending (Landed value) = false
-is_pending Lost = false
+is_pending Failed = false
 
 -- a part landed and did not fail
 abbrev pub has_landed : Part → Bool
 has_landed Pending = false
 has_landed (Landed value) = true
-has_landed Lost = false
+has_landed Failed = false
 
-abbrev pub is_lost : Part → Bool
-is_lost Pending = false
-is_lost (Landed value) = false
-is_lost Lost = true
+abbrev pub has_failed : Part → Bool
+has_failed Pending = false
+has_failed (Landed value) = false
+has_failed Failed = true
 
 -- what a part leaves over on its image where it is given up: a write that did not land there
 abbrev pub leaves_over : Option DiskOp → Part → List DiskOp
 leaves_over (Some op) Pending = if is_write op then op ∷ [] else []
 leaves_over (Some op) (Landed value) = []
-leaves_over (Some op) Lost = []
+leaves_over (Some op) Failed = []
 leaves_over None part = []
 
 -- whether a part counts on a good image alone: after its clear a node reads its mailbox only where the clear landed, since a
@@ -123,7 +123,7 @@ needs_good (disk.WriteClose number) = false
 abbrev pub counted : DiskOp → Bool → Part → List What
 counted op good Pending = []
 counted op good (Landed value) = if good || not (needs_good op) then value ∷ [] else []
-counted op good Lost = []
+counted op good Failed = []
 
 -- the values of the parts that count, in the order of images
 abbrev pub counting : DiskOp → (ℕ → Part) → (ℕ → Bool) → List What
