@@ -7,7 +7,7 @@ ghost use Rattle.qn_model.specs.declared.configuration.Settings.{Settings};
 ghost use Rattle.qn_model.specs.declared.entries.What.{What};
 ghost use Rattle.qn_live.specs.declared.place.Choice.{Choice};
 ghost use Rattle.qn_live.specs.Choosing.{choice_plan, failed_answer};
-ghost use Rattle.qn_live.specs.Laws.{IsHistory, takes_answer};
+ghost use Rattle.qn_live.specs.Laws.{IsHistory, outputs_among, outputs_of, takes_answer};
 ghost use Rattle.qn_live.specs.Running.{Next, Ran, RunState};
 ghost use Rattle.qn_live.specs.Runs.{handled, live_plan};
 
@@ -16,6 +16,14 @@ pub fn law_one_history()
     ensures { (s : Settings) (me : ℕ) (clean : Bool) (leave : Option ℕ) (turns : ℕ) (calls : List Call) (ran : Ran)
         → Follows (live_plan s me clean leave turns) calls ran
         → IsHistory s me ran.log }
+{}
+
+/// Law: the calls of a run, but for those that receive, look at the clock, or send a Hello or an Announce, are the outputs of
+/// what the node was handed, in order.
+pub fn law_outputs()
+    ensures { (s : Settings) (me : ℕ) (clean : Bool) (leave : Option ℕ) (turns : ℕ) (calls : List Call) (ran : Ran)
+        → Follows (live_plan s me clean leave turns) calls ran
+        → outputs_among calls ≡ outputs_of s me ran.log }
 {}
 
 /// Law: a run ends once, and in one way.
