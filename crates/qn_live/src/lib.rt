@@ -17,8 +17,10 @@ mod outputs;
 mod place;
 mod run;
 mod running;
+mod undisturbed;
 
 pub use asked::{Asked, Given, Room};
 pub use live_end::LiveEnd;
 pub use run::NodeRun;
 pub use running::run_node;
+pub use undisturbed::law_undisturbed_end;
