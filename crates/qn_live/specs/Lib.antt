@@ -1,6 +1,7 @@
 pub mod Asking
 pub mod Choosing
 pub mod Greetings
+pub mod Laws
 pub mod Machine
 pub mod Performing
 pub mod Places

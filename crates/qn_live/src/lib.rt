@@ -12,6 +12,7 @@ mod calling;
 mod choosing;
 mod disk;
 mod greeting;
+mod laws;
 mod live_end;
 mod outputs;
 mod place;
@@ -20,6 +21,7 @@ mod running;
 mod undisturbed;
 
 pub use asked::{Asked, Given, Room};
+pub use laws::{law_one_end, law_one_history, law_rest};
 pub use live_end::LiveEnd;
 pub use run::NodeRun;
 pub use running::run_node;
