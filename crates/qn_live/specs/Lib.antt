@@ -7,3 +7,5 @@ pub mod Performing
 pub mod Places
 pub mod Running
 pub mod Runs
+pub mod Undisturbed
+pub mod UndisturbedRuns
