@@ -5,6 +5,7 @@ mod Creating
 mod GivenOut
 mod ImageEnds
 mod Listing
+mod NodeCauses
 mod NodeEnds
 mod NodeRuns
 mod ReadTexts

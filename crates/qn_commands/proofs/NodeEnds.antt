@@ -1,5 +1,5 @@
 -- How a node ended whose calls did not fail, and what settings it was given.
-use Rattle.std.proofs.Common.{◌≡◌, ◌≢◌, ◌⊎◌, inl, inr, ℕ, Bool, true, false, ◌||◌, List, [], ◌∷◌, ◌++◌, Option, None, Some, Result, Ok, Err, IfOk, IfSome, refl, sym, ap, ◌∙◌, subst, if◌then◌else◌}
+use Rattle.std.proofs.Common.{◌≡◌, ◌≢◌, ◌⊎◌, inl, inr, ℕ, Bool, true, false, ◌||◌, List, [], ◌∷◌, ◌++◌, Option, None, Some, Result, Ok, Err, IfOk, IfSome, refl, sym, ap, subst, if◌then◌else◌}
 use Rattle.std.specs.Option.{option_map_or}
 use Rattle.std.specs.Io.KnownBytes.{IsAtEnd}
 use Rattle.qn_base.specs.declared.calls.Call.{Call}
@@ -9,13 +9,13 @@ use Rattle.qn_base.specs.Plans.{Plan, Ends, Asks, Follows}
 use Rattle.qn_live.specs.Running.{Ran}
 use Rattle.qn_live.specs.Runs.{live_plan}
 use Rattle.qn_live.specs.Undisturbed.{NeverFalls, tick_after}
-use Rattle.qn_live.specs.UndisturbedRuns.{undisturbed_end}
+use Rattle.qn_live.specs.UndisturbedRuns.{no_end_by_call, no_end_by_clock}
 use Rattle.qn_model.specs.declared.configuration.Settings.{Settings}
 use Rattle.qn_model.specs.Lines.{Ended}
 use Rattle.qn_commands.specs.declared.commands.node.NodeWords.{NodeWords}
 use Rattle.qn_commands.specs.declared.fault.Fault.{Fault}
 use Rattle.qn_commands.specs.declared.fault.Fault.TheVariants.{EnvFault, UnknownNode}
-use Rattle.qn_commands.specs.Commands.Node.{EndsUndisturbed, after_opening, node_work, opened_work, opening, rank_with, run_end, run_work}
+use Rattle.qn_commands.specs.Commands.Node.{EndsUndisturbed, node_work, opened_work, opening, rank_with, run_end, run_work}
 use Rattle.qn_commands.specs.Endings.{AnswersWhole, Cut, Says, Whole}
 use Rattle.qn_commands.specs.Faults.{status_of}
 use Rattle.qn_commands.specs.InputSettings.{IsWanted, Judges, input_settings}
@@ -85,12 +85,12 @@ module _ (words : NodeWords) (settings : Settings) where
   known_work rank some = ap (λ place. option_map_or (opened_work words settings) place (refusal (UnknownNode words.id))) (sym some)
 
 -- a run that was performed ended with a line
-record Performed (plan : Plan Ran) (turns : ℕ) (calls : List Call) (before after : Output) (code : ℕ) : Type 0 where
-  ran : Ran
-  follows : Follows plan calls ran
-  says : Says (end_outcome turns ran.end).text (end_outcome turns ran.end).status before after code
+pub record Performed (plan : Plan Ran) (turns : ℕ) (calls : List Call) (before after : Output) (code : ℕ) : Type 0 where
+  pub ran : Ran
+  pub follows : Follows plan calls ran
+  pub says : Says (end_outcome turns ran.end).text (end_outcome turns ran.end).status before after code
 
-performed : (plan : Plan Ran) (turns : ℕ) (calls : List Call) (before after : Output) (code : ℕ)
+pub performed : (plan : Plan Ran) (turns : ℕ) (calls : List Call) (before after : Output) (code : ℕ)
     → Performs (after_plan plan (run_end turns)) calls before after code → Performed plan turns calls before after code
 performed (Ends ran) turns calls before after code did = record { ran = ran; follows = (did.0, refl); says = did.1 }
 performed (Asks question left) turns [] before after code did = absurd did
@@ -103,7 +103,7 @@ said_whole : (text : List ℕ) (wanted : ℕ) (before after : Output) (code : �
 said_whole text wanted before after code no_write (Whole is whole) = (is, whole)
 said_whole text wanted before after code no_write (Cut is fails front) = absurd (no_write fails)
 
-or_left : (a b : Bool) → (a || b) ≡ false → a ≡ false
+pub or_left : (a b : Bool) → (a || b) ≡ false → a ≡ false
 or_left true b is = cc
 or_left false b is = refl
 
@@ -117,7 +117,7 @@ not_risen false cause calm = refl
 
 module _ (words : NodeWords) (rank : ℕ) where
   -- the opening tells no tick
-  opening_tells_none : (call : Call) → blank call ≡ opening words rank true → tick_after 0 call ≡ 0
+  pub opening_tells_none : (call : Call) → blank call ≡ opening words rank true → tick_after 0 call ≡ 0
   opening_tells_none (OpenNode images image watchdog resource port own ok) asked = refl
   opening_tells_none (OpenImage path ok) asked = refl
   opening_tells_none (Now tick) asked = absurd cc
@@ -143,8 +143,9 @@ module _ (words : NodeWords) (rank : ℕ) where
         let run = performed (live_plan settings rank words.clean words.leave words.turns) words.turns calls before after code ran_on in
         record {
           end = run.ran.end;
-          undisturbed = undisturbed_end settings rank words.clean words.leave words.turns calls run.ran run.follows
-              (or_right (is_failed call) (some_failed calls) whole)
+          no_call = no_end_by_call settings rank words.clean words.leave words.turns calls run.ran run.follows
+              (or_right (is_failed call) (some_failed calls) whole);
+          no_clock = no_end_by_clock settings rank words.clean words.leave words.turns calls run.ran run.follows
               (subst (λ (last : ℕ). NeverFalls last calls) (opening_tells_none call did.0) rises.1);
           answers = said_whole (end_outcome words.turns run.ran.end).text (end_outcome words.turns run.ran.end).status before after code no_write run.says;
         }

@@ -1,10 +1,8 @@
 -- The work of `node`, and the record of its run.
-use Rattle.std.proofs.Common.{◌≡◌, ◌≢◌, ◌⊎◌, inl, inr, ℕ, true, false, List, [], ◌∷◌, None, Some, Ok, Err, refl, sym, ap, ◌∙◌, subst, arith}
-use Rattle.std.specs.Option.{option_map_or}
+use Rattle.std.proofs.Common.{◌≡◌, ◌⊎◌, inl, inr, ℕ, true, false, List, [], ◌∷◌, None, Some, Ok, Err, refl, sym, ◌∙◌, subst, arith}
 use Rattle.qn_base.specs.Plans.{Made}
 use Rattle.qn_base.specs.PlanSteps.{made_then}
 use Rattle.qn_live.specs.declared.live_end.LiveEnd.{LiveEnd}
-use Rattle.qn_live.specs.Running.{Ran}
 use Rattle.qn_live.specs.Runs.{live_plan}
 use Rattle.qn_model.specs.declared.configuration.Settings.{Settings}
 use Rattle.qn_model.specs.Log.{Line}
@@ -19,8 +17,9 @@ use Rattle.qn_commands.specs.InputSettings.{Judges, input_settings}
 use Rattle.qn_commands.specs.NodeTexts.{end_outcome}
 use Rattle.qn_commands.specs.Seen.{Input, NeverFall, Output, Outside, ReadFails, Seen, WriteFails, seen}
 use Rattle.qn_commands.specs.Statuses.{IsOneOf}
-use Rattle.qn_commands.specs.Works.{Carries, Work, Works, refusal}
+use Rattle.qn_commands.specs.Works.{Carries, Work, Works}
 use Rattle.qn_commands.proofs.Creating.{IsSettingsStatus, own_status, wanted_of}
+use Rattle.qn_commands.proofs.NodeCauses.{boot_halted, clock_went_back}
 use Rattle.qn_commands.proofs.NodeEnds.{bad_settings, good_settings, known_work, undisturbed_node, unknown_work}
 use Rattle.qn_commands.proofs.Working.{last_alone, plan_then_last}
 
@@ -56,6 +55,14 @@ not_eight : (own : ℕ) → IsSettingsStatus own → own ≡ 8 → ⊥
 not_eight own (inl three) eight = omega arith
 not_eight own (inr (inl six)) eight = omega arith
 not_eight own (inr (inr eleven)) eight = omega arith
+
+not_ended : (own : ℕ) → IsSettingsStatus own → (own ≡ 12) ⊎ (own ≡ 14) → ⊥
+not_ended own (inl three) (inl twelve) = omega arith
+not_ended own (inl three) (inr fourteen) = omega arith
+not_ended own (inr (inl six)) (inl twelve) = omega arith
+not_ended own (inr (inl six)) (inr fourteen) = omega arith
+not_ended own (inr (inr eleven)) (inl twelve) = omega arith
+not_ended own (inr (inr eleven)) (inr fourteen) = omega arith
 
 module _ (words : NodeWords) (settings : Settings) where
   module _ (input : Input) (before after : Output) where
@@ -104,6 +111,8 @@ module _ (words : NodeWords) (before after : Seen) (code : ℕ) (never_fall : Ne
       memory = λ eleven. absurd (not_ran code outcomes (inr eleven));
     };
     unopened = unopened;
+    clock_back = λ twelve rises. clock_went_back words settings works twelve rises;
+    halted = λ fourteen. boot_halted words settings works fourteen;
     complete = λ memory no_read no_write no_call rises.
         good_settings (EndsUndisturbed words.turns before.output after.output code) words before.input after.input settings judges no_read
         (λ rank some. undisturbed_node words settings rank some works no_write no_call rises);
@@ -128,6 +137,8 @@ module _ (words : NodeWords) (before after : Seen) (code : ℕ) (never_fall : Ne
       memory = λ eleven. wanted_of why (own_status code (status_of why) 11 (λ seven. omega arith) own eleven);
     };
     unopened = λ eight. absurd (not_eight (status_of why) which (own_status code (status_of why) 8 (λ seven. omega arith) own eight));
+    clock_back = λ twelve rises. not_ended (status_of why) which (inl (own_status code (status_of why) 12 (λ seven. omega arith) own twelve));
+    halted = λ fourteen. absurd (not_ended (status_of why) which (inr (own_status code (status_of why) 14 (λ seven. omega arith) own fourteen)));
     complete = λ memory no_read no_write no_call rises.
         bad_settings (EndsUndisturbed words.turns before.output after.output code) words before.input after.input why judges (λ eleven. memory (of_own own eleven no_write)) no_read;
     statuses = refused_status code (status_of why) which own;

@@ -1,6 +1,6 @@
 -- `node`: the member itself, a running node over its own outside. votequorum(5), sbd(8), and this project's profile for its
 -- words.
-use Rattle.std.specs.Prelude.{◌≡◌, ◌≢◌, ℕ, Bool, true, false, List, [], ◌∷◌, Option, if◌then◌else◌, position, ◌==◌, IfOk, IfSome}
+use Rattle.std.specs.Prelude.{◌≡◌, ◌≢◌, ℕ, Bool, true, false, [], ◌∷◌, Option, if◌then◌else◌, position, ◌==◌, IfOk, IfSome}
 use Rattle.std.specs.Option.{option_map_or}
 use Rattle.qn_base.specs.declared.calls.Call.{Call}
 use Rattle.qn_base.specs.declared.calls.Call.TheVariants.{OpenNode}
@@ -10,15 +10,16 @@ use Rattle.qn_base.specs.Plans.{Made}
 use Rattle.qn_live.specs.declared.live_end.LiveEnd.{LiveEnd}
 use Rattle.qn_live.specs.Running.{Ran}
 use Rattle.qn_live.specs.Runs.{live_plan}
-use Rattle.qn_live.specs.Undisturbed.{NeverFalls, is_undisturbed}
+use Rattle.qn_live.specs.Undisturbed.{NeverFalls, is_by_call, is_by_clock, is_call_cause}
 use Rattle.qn_model.specs.declared.configuration.Settings.{Settings}
+use Rattle.qn_model.specs.declared.outputs.BootCause.{BootCause}
 use Rattle.qn_model.specs.Lines.{Ended}
 use Rattle.qn_commands.specs.declared.commands.node.NodeWords.{NodeWords}
-use Rattle.qn_commands.specs.declared.fault.Fault.TheVariants.{EnvFault, UnknownNode}
+use Rattle.qn_commands.specs.declared.fault.Fault.TheVariants.{BootHalted, EnvFault, UnknownNode}
 use Rattle.qn_commands.specs.declared.status.Status.TheVariants as status
 use Rattle.qn_commands.specs.Endings.{AnswersWhole}
 use Rattle.qn_commands.specs.InputSettings.{WorksOnSettings, input_settings}
-use Rattle.qn_commands.specs.NodeTexts.{end_outcome}
+use Rattle.qn_commands.specs.NodeTexts.{end_outcome, refused}
 use Rattle.qn_commands.specs.Seen.{CallFails, Outside, Output, ReadFails, Seen, WriteFails}
 use Rattle.qn_commands.specs.Statuses.{HasCauses, IsOneOf}
 use Rattle.qn_commands.specs.Works.{Last, Makes, Work, after_plan, refusal}
@@ -58,10 +59,17 @@ pub record FailsToOpen (words : NodeWords) (before after : Outside) : Type 0 whe
   pub rank : ℕ
   pub made : Made before.faults after.faults before.calls after.calls (opening words rank false ∷ [])
 
--- the whole line of an end was written, that comes without a failed call and with a clock that does not go back
+-- the boot was halted, which was written whole; a cause that a failed call gives comes only where the count of faults rose
+pub record HaltsBoot (before after : Seen) (code : ℕ) : Type 0 where
+  pub cause : BootCause
+  pub answers : AnswersWhole (refused (BootHalted cause)) before.output after.output code
+  pub fails : is_call_cause cause ≡ true → CallFails before.env after.env
+
+-- the line of an end was written whole, and neither a failed call nor the clock made that end
 pub record EndsUndisturbed (turns : ℕ) (before after : Output) (code : ℕ) : Type 0 where
   pub end : LiveEnd
-  pub undisturbed : is_undisturbed end ≡ true
+  pub no_call : is_by_call end ≡ false
+  pub no_clock : is_by_clock end ≡ false
   pub answers : AnswersWhole (end_outcome turns end) before after code
 
 -- The whole input is read and judged, and then the id, before anything is called. Then the node is opened and runs: exactly
@@ -71,6 +79,8 @@ pub record EndsUndisturbed (turns : ℕ) (before after : Output) (code : ℕ) : 
 pub record RunsNode (words : NodeWords) (before after : Seen) (code : ℕ) : Type 0 where
   pub ran : WorksOnSettings (node_work words) before after code
   pub unopened : code ≡ 8 → FailsToOpen words before.env after.env
+  pub clock_back : code ≡ 12 → ¬ NeverFalls 0 ran.works.calls
+  pub halted : code ≡ 14 → HaltsBoot before after code
   pub complete : code ≢ 11 → ¬ ReadFails before.input after.input
       → ¬ WriteFails before.output after.output → ¬ CallFails before.env after.env → NeverFalls 0 ran.works.calls
       → IfSome before.input.left (λ bytes. IfOk (input_settings Ended bytes) (λ settings.
