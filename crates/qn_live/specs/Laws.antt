@@ -55,31 +55,3 @@ outputs_among (made ∷ calls) = if_output made ++ outputs_among calls
 abbrev pub outputs_of : Settings → ℕ → List Line → List Call
 outputs_of s me [] = []
 outputs_of s me (line ∷ past) = outputs_of s me past ++ map (out_call s me (own_number (line ∷ past))) line.outs
-
--- the last tick that the clock gave, after a call
-abbrev pub tick_after : Call → ℕ → ℕ
-tick_after (call.Now tick) last = tick
-tick_after other last = last
-
--- no look at the clock gives a tick below the one before
-abbrev pub NeverFalls : ℕ → List Call → Type 0
-NeverFalls last [] = Unit {0}
-NeverFalls last (made ∷ calls) = (last ≤ tick_after made last) × NeverFalls (tick_after made last) calls
-
--- the cause is no failure of a call
-abbrev pub is_no_failure : BootCause → Bool
-is_no_failure cause.ReadFailed = false
-is_no_failure cause.NotImage = true
-is_no_failure cause.UnsafeTiming = true
-is_no_failure cause.ClaimFailed = false
-is_no_failure cause.ClearFailed = false
-is_no_failure cause.IncarnationSpent = true
-is_no_failure cause.NotClean = true
-
--- the end came though no call failed and no tick fell
-abbrev pub is_sound : LiveEnd → Bool
-is_sound (end.Turns phase holds answer why) = true
-is_sound (end.Left clean) = true
-is_sound (end.ClockBack before now) = false
-is_sound (end.SelfReset message) = true
-is_sound (end.BootHalted stopped) = is_no_failure stopped

@@ -1,15 +1,14 @@
-//! Lines of events with their first faults, and trace lines.
+//! Lines of events, and trace lines.
 ghost use Rattle.std.specs.Prelude.{◌<◌};
 ghost use Rattle.qn_model.specs.Settings.{IsValid};
 
 use arrayvec::ArrayVec;
 use qn_base::{Mask, NodeId, Rank};
 use qn_model::{
-    Answer, BootCause, DiskOp, HaltKind, LineFault, Message, NodeEntry, Nodes, Out, Outs, Report,
-    Settings, Why,
+    Answer, BootCause, DiskOp, HaltKind, Message, NodeEntry, Nodes, Out, Outs, Report, Settings,
+    Why,
 };
 use qn_sched::{read_line, write_line, write_trace};
-use std::process::Abort;
 
 /// Nodes 1 and 2, with one vote each.
 fn settings() -> Settings
@@ -36,94 +35,6 @@ fn settings() -> Settings
         expected: 2,
         tie: None,
     }
-}
-
-fn check_faults(rt: &impl Abort, fault: LineFault, lines: &[&str]) {
-    let settings = settings();
-    for line in lines {
-        let read = read_line(line.as_bytes(), &settings);
-        assert!(rt; read.err() == Some(fault));
-    }
-}
-
-#[test]
-fn first_fault_of_an_event_is_named(rt: HostRuntime) {
-    let unknown_words = [
-        "",
-        " ",
-        "Tick 1",
-        "# tick 1",
-        "tick\t1",
-        " tick 1",
-        "end 1",
-        "tock",
-        "device 1 Yes",
-        "device 1 ",
-        "device 1 maybe",
-    ];
-    check_faults(&rt, LineFault::UnknownWord, &unknown_words);
-    let bad_counts = [
-        "boot 1",
-        "boot 1 0 0",
-        "crash 1 1",
-        "deliver 1",
-        "device 1",
-        "feed",
-        "land 1 1",
-        "late 1",
-        "pass",
-        "pass 1 2=100 1=100",
-        "pass 1 1=100 1=100",
-        "tick 1 ",
-        "tick  1",
-        "view 1 1 1 1",
-        "view 1 1",
-    ];
-    check_faults(&rt, LineFault::BadCount, &bad_counts);
-    let bad_numbers = [
-        "boot 1 1000000000000001",
-        "boot 1 00",
-        "boot x x",
-        "tick 1\r",
-        "deliver 1 18446744073709551616",
-        "late 1 0",
-        "late 1 200001",
-        "pass 0",
-        "pass 1 ",
-        "pass 1 1",
-        "pass 1 =1",
-        "pass 1 1=",
-        "pass 1 1=1000000000001",
-        "pass 1 1=1=1",
-        "pass 1 1=0100",
-        "pass 0 2=100 1=100",
-        "pass 1 2=100 1=x",
-        "pass 1000000001",
-        "tick 01",
-        "view 1 18446744073709551616 1",
-        "view 1 1 1,02",
-        "view 1 1 x,9",
-    ];
-    check_faults(&rt, LineFault::BadNumber, &bad_numbers);
-    let unknown_nodes = [
-        "boot 9 x",
-        "device 9 maybe",
-        "pass 1 9=100",
-        "tick 0",
-        "tick 18446744073709551615",
-        "view 9 x ,",
-        "view 1 1 2,1,9",
-    ];
-    check_faults(&rt, LineFault::UnknownNode, &unknown_nodes);
-    let bad_views = [
-        "view 1 1 1,",
-        "view 1 1 ,",
-        "view 1 1 2,1",
-        "view 1 1 1,,2",
-        "view 1 1 ",
-        "view 1 1 1,1",
-    ];
-    check_faults(&rt, LineFault::BadView, &bad_views);
 }
 
 #[test]

@@ -1,7 +1,6 @@
-//! Times that are safe and times that are not, and timing lines.
-use qn_model::{LineFault, Timing, timing_safe};
+//! Times that are safe and times that are not, and a timing line.
+use qn_model::{Timing, timing_safe};
 use qn_sched::read_timing;
-use std::process::Abort;
 
 #[test]
 fn safe_and_unsafe_times(rt: HostRuntime) {
@@ -28,48 +27,6 @@ fn safe_and_unsafe_times(rt: HostRuntime) {
         };
         assert!(rt; timing_safe(&timing) == safe);
     }
-}
-
-fn check_faults(rt: &impl Abort, fault: LineFault, lines: &[&str]) {
-    for line in lines {
-        assert!(rt; read_timing(line.as_bytes()) == Err(fault));
-    }
-}
-
-#[test]
-fn the_first_fault_of_a_timing_line_is_named(rt: HostRuntime) {
-    let unknown_words = [
-        "",
-        "----",
-        "# timing",
-        "tick 1",
-        "Timing 1 2 3 4 5",
-        "timing5000 10000 1000 2000 1000",
-        " timing 5000 10000 1000 2000 1000",
-        "timing\t5000 10000 1000 2000 1000",
-    ];
-    check_faults(&rt, LineFault::UnknownWord, &unknown_words);
-    let bad_counts = [
-        "timing",
-        "timing 5000 10000 1000 2000",
-        "timing 5000 10000 1000 2000 1000 1",
-        "timing 5000 10000 1000 2000 1000 ",
-        "timing  5000 10000 1000 2000 1000",
-    ];
-    check_faults(&rt, LineFault::BadCount, &bad_counts);
-    let bad_numbers = [
-        "timing 05000 10000 1000 2000 1000",
-        "timing 3600001 10000 1000 2000 1000",
-        "timing 5000 x 1000 2000 1000",
-        "timing 5000 18446744073709551616 1000 2000 1000",
-        "timing 5000 10000 0 2000 1000",
-        "timing 5000 1 1000 2000 0",
-        "timing 5000 10000 1000 2000 -1",
-        "timing 5000 10000 1000 2000 3600001",
-        "timing 5000 10000 1000 2000 000000000000000001000",
-        "timing 5000 10000 1000 2000 1000\r",
-    ];
-    check_faults(&rt, LineFault::BadNumber, &bad_numbers);
 }
 
 #[test]

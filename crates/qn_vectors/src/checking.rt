@@ -2,6 +2,7 @@
 use crate::counts::check_count;
 use crate::histories::History;
 use crate::rows::row_of;
+use crate::texts::check_text;
 use crate::ties::check_tie;
 use crate::wrong::Wrong;
 use anyhow::Result;
@@ -14,6 +15,7 @@ use std::io::{BufRead, Lines};
 /// How many rows there were of each kind, and from how many of them a form differs.
 #[derive(Clone, Copy, Default)]
 struct Totals {
+    texts: u64,
     counts: u64,
     ties: u64,
     histories: u64,
@@ -52,6 +54,7 @@ pub fn check_all<R: BufRead + Drop>(
 impl Totals {
     fn write(self, rt: &impl Print) -> Result<()> {
         let Totals {
+            texts,
             counts,
             ties,
             histories,
@@ -59,6 +62,7 @@ impl Totals {
             looks,
             differ,
         } = self;
+        println!(rt; "settings texts {texts}")?;
         println!(rt; "counts {counts}")?;
         println!(rt; "calls of a tie breaker {ties}")?;
         println!(rt; "histories {histories} entries {entries} looks {looks}")?;
@@ -68,8 +72,13 @@ impl Totals {
 }
 
 impl Reader {
-    /// Checks a line: a count, a call of a tie breaker, the settings that begin a history, the rank of its node, or a row of it.
+    /// Checks a line: a settings text, a count, a call of a tie breaker, the settings that begin a history, the rank of its
+    /// node, or a row of it.
     fn check(&mut self, alloc: Global, line: &str) -> Result<(), Wrong> {
+        if let Some(text) = line.strip_prefix("text\t") {
+            self.totals.texts = self.totals.texts.saturating_add(1);
+            return check_text(alloc, text);
+        }
         if let Some(count) = line.strip_prefix("count\t") {
             self.totals.counts = self.totals.counts.saturating_add(1);
             return check_count(alloc, count);

@@ -1,5 +1,6 @@
 //! Rows that were worked out elsewhere, run through each form of a count of votes and of a node that the
-//! repository has: those from the whole list, and those in fixed memory; and through the tie breaker in fixed memory.
+//! repository has: those from the whole list, and those in fixed memory; through the tie breaker in fixed memory; and
+//! settings texts, through their reader.
 //!
 //!     qn_vectors             reads rows, and writes each from which a form differs, and how many there were
 //!     qn_vectors show        reads histories, and writes what comes out of each entry
@@ -17,6 +18,7 @@ mod counts;
 mod histories;
 mod rows;
 mod running;
+mod texts;
 mod ties;
 mod writing;
 mod wrong;
