@@ -14,7 +14,9 @@ use Rattle.qn_model.specs.Fitting.{answers_op}
 use Rattle.qn_model.specs.Licences.{writes_reset}
 use Rattle.qn_model.specs.Sectors.{is_deadly}
 use Rattle.qn_model.specs.World.{failed}
-use Rattle.qn_safety.specs.TripleWorld.{Part, Pending, Landed, Failed, needs_good, counted, counting, slots_among, is_above, highest, slot_among, messages_among, first_deadly, harmless, message_among, together, answer_among, answer_of}
+use Rattle.qn_safety.specs.declared.part.Part.{Part}
+use Rattle.qn_safety.specs.declared.part.Part.TheVariants.{Pending, Landed, Failed}
+use Rattle.qn_safety.specs.TripleWorld.{needs_good, counted, counting, slots_among, is_above, highest, slot_among, messages_among, first_deadly, harmless, message_among, together, answer_among, answer_of}
 use Rattle.qn_safety.proofs.Tools.{and_left_of, and_right_of}
 use Rattle.qn_safety.proofs.Origins.{IsIn, First, Behind}
 use Rattle.qn_safety.proofs.Kept.{failed_answers}

@@ -18,7 +18,8 @@ use Rattle.qn_model.specs.World.{World, taken, failed}
 use Rattle.qn_safety.specs.declared.triple_event.TripleEvent.{TripleEvent}
 use Rattle.qn_safety.specs.Closing.{asked_close}
 use Rattle.qn_safety.specs.Timed.{IsUp, IsBetween, HasClosed, CleanMeansClosed, HeadersAgree}
-use Rattle.qn_safety.specs.TripleWorld.{TripleWorld, Landed, image_of, op_of, counting, header_of, together, answer_of}
+use Rattle.qn_safety.specs.declared.part.Part.TheVariants.{Landed}
+use Rattle.qn_safety.specs.TripleWorld.{TripleWorld, image_of, op_of, counting, header_of, together, answer_of}
 use Rattle.qn_safety.specs.TripleSteps.{run_triple}
 use Rattle.qn_safety.proofs.Tools.{some_same, none_some, clash, and_left_of, and_right_of, before_tail}
 use Rattle.qn_safety.proofs.Logs.{Made, made_line}

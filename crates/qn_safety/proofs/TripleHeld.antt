@@ -16,7 +16,8 @@ use Rattle.qn_model.specs.Phases.{phase, next_phase, in_time, is_booting}
 use Rattle.qn_model.specs.Fitting.{answers_op}
 use Rattle.qn_model.specs.Moments.{begin_of, is_gone, node}
 use Rattle.qn_model.specs.World.{World, put, taken, numbered, without}
-use Rattle.qn_safety.specs.TripleWorld.{TripleWorld, Pending, Landed, all_pending, first_triple, image_of, leaves_over, has_landed, counting, answer_of, good_after}
+use Rattle.qn_safety.specs.declared.part.Part.TheVariants.{Pending, Landed}
+use Rattle.qn_safety.specs.TripleWorld.{TripleWorld, all_pending, first_triple, image_of, leaves_over, has_landed, counting, answer_of, good_after}
 use Rattle.qn_safety.proofs.Tools.{some_same, none_some, clash, not_true}
 use Rattle.qn_safety.proofs.Logs.{Made, NoLine, IsLine, made_line}
 use Rattle.qn_safety.proofs.Apt.{claimed_answers, check_answers}

@@ -14,7 +14,9 @@ use Rattle.qn_model.specs.Log.{Line, op_out, claimed, disk_of, is_answer, slot_n
 use Rattle.qn_model.specs.Phases.{phase, is_booting}
 use Rattle.qn_model.specs.World.{World, put, taken, is_write}
 use Rattle.qn_safety.specs.Closing.{asked_close}
-use Rattle.qn_safety.specs.TripleWorld.{Part, Pending, Landed, Failed, all_pending, leaves_over}
+use Rattle.qn_safety.specs.declared.part.Part.{Part}
+use Rattle.qn_safety.specs.declared.part.Part.TheVariants.{Pending, Landed, Failed}
+use Rattle.qn_safety.specs.TripleWorld.{all_pending, leaves_over}
 use Rattle.qn_safety.proofs.Tools.{some_same, clash}
 use Rattle.qn_safety.proofs.Logs.{Made, IsLine}
 use Rattle.qn_safety.proofs.Stays.{op_kept}

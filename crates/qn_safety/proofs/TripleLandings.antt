@@ -11,7 +11,8 @@ use Rattle.qn_model.specs.Moments.{Before, Itself, Later, Moment, Adds, node}
 use Rattle.qn_model.specs.World.{taken}
 use Rattle.qn_safety.specs.declared.triple_event.TripleEvent.{TripleEvent}
 use Rattle.qn_safety.specs.Timed.{IsSameBoot, IsBetween, AllRuled, IsAdded}
-use Rattle.qn_safety.specs.TripleWorld.{TripleWorld, Landed, Failed, image_of, op_of, answer_of}
+use Rattle.qn_safety.specs.declared.part.Part.TheVariants.{Landed, Failed}
+use Rattle.qn_safety.specs.TripleWorld.{TripleWorld, image_of, op_of, answer_of}
 use Rattle.qn_safety.specs.TripleSteps.{landed_on, run_triple}
 use Rattle.qn_safety.proofs.Tools.{none_some, clash, before_then}
 use Rattle.qn_safety.proofs.Logs.{Made, made_line}

@@ -25,7 +25,9 @@ use Rattle.qn_model.specs.Rules.{is_on, may_operate}
 use Rattle.qn_safety.specs.declared.triple_event.TripleEvent.{TripleEvent}
 use Rattle.qn_safety.specs.declared.triple_event.TripleEvent.TheVariants as triple
 use Rattle.qn_safety.specs.Timed.{IsUp, IsSameBoot, IsBetween, GetsBadMail, WrittenMeansBadMail}
-use Rattle.qn_safety.specs.TripleWorld.{TripleWorld, Part, Landed, put_on, image_of, op_of, counting, needs_good, message_among, messages_among, together, answer_of, good_after, mailboxes_on}
+use Rattle.qn_safety.specs.declared.part.Part.{Part}
+use Rattle.qn_safety.specs.declared.part.Part.TheVariants.{Landed}
+use Rattle.qn_safety.specs.TripleWorld.{TripleWorld, put_on, image_of, op_of, counting, needs_good, message_among, messages_among, together, answer_of, good_after, mailboxes_on}
 use Rattle.qn_safety.specs.TripleRules.{refusal_triple}
 use Rattle.qn_safety.specs.TripleSteps.{landed_on, failed_on, done_triple, lands_late_on, step_of_one, step_triple, run_triple}
 use Rattle.qn_safety.proofs.Tools.{some_same, clash, before_length, before_tail, before_total, before_same}

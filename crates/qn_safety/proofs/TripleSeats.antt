@@ -26,7 +26,9 @@ use Rattle.qn_model.specs.Rules.{refusal, is_on, may_be_stopped, may_be_late, ma
 use Rattle.qn_model.specs.Steps.{happens, entry_of, step}
 use Rattle.qn_safety.specs.declared.triple_event.TripleEvent.{TripleEvent}
 use Rattle.qn_safety.specs.declared.triple_event.TripleEvent.TheVariants as triple
-use Rattle.qn_safety.specs.TripleWorld.{TripleWorld, Part, Pending, Landed, Failed, all_pending, all_good, none_left, image_of, nodes_of, op_of, is_pending, has_failed, leaves_over, answer_of, good_after, slots_on}
+use Rattle.qn_safety.specs.declared.part.Part.{Part}
+use Rattle.qn_safety.specs.declared.part.Part.TheVariants.{Pending, Landed, Failed}
+use Rattle.qn_safety.specs.TripleWorld.{TripleWorld, all_pending, all_good, none_left, image_of, nodes_of, op_of, is_pending, has_failed, leaves_over, answer_of, good_after, slots_on}
 use Rattle.qn_safety.specs.TripleRules.{refusal_triple, may_land_on, may_fail_on, may_be_done_triple, none_pending}
 use Rattle.qn_safety.specs.TripleSteps.{happens_triple, landed_on, failed_on, done_triple, ends_triple, boots_triple, lands_late_on, step_triple}
 use Rattle.qn_safety.proofs.Tools.{and_left_of, and_right_of, not_true}

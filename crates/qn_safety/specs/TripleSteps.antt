@@ -12,7 +12,8 @@ use Rattle.qn_model.specs.World.{put, taken, numbered, without}
 use Rattle.qn_model.specs.Steps.{step, report}
 use Rattle.qn_safety.specs.declared.triple_event.TripleEvent.{TripleEvent}
 use Rattle.qn_safety.specs.declared.triple_event.TripleEvent.TheVariants as triple
-use Rattle.qn_safety.specs.TripleWorld.{TripleWorld, Landed, Failed, first_triple, all_pending, all_good, none_left, put_on, image_of, nodes_of, op_of, leaves_over, answer_of, good_after, slots_on, mailboxes_on}
+use Rattle.qn_safety.specs.declared.part.Part.TheVariants.{Landed, Failed}
+use Rattle.qn_safety.specs.TripleWorld.{TripleWorld, first_triple, all_pending, all_good, none_left, put_on, image_of, nodes_of, op_of, leaves_over, answer_of, good_after, slots_on, mailboxes_on}
 use Rattle.qn_safety.specs.TripleRules.{is_well_formed_triple, refusal_triple}
 
 -- the world after one more moment that touches nothing of the images

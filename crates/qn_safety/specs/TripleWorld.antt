@@ -15,17 +15,13 @@ use Rattle.qn_model.specs.declared.entries.What.{What}
 use Rattle.qn_model.specs.declared.entries.What.TheVariants as what
 use Rattle.qn_model.specs.declared.outputs.DiskOp.{DiskOp}
 use Rattle.qn_model.specs.declared.outputs.DiskOp.TheVariants as disk
+use Rattle.qn_safety.specs.declared.part.Part.{Part}
+use Rattle.qn_safety.specs.declared.part.Part.TheVariants.{Pending, Landed, Failed}
 use Rattle.qn_model.specs.Log.{op_out}
 use Rattle.qn_model.specs.Phases.{is_exit}
 use Rattle.qn_model.specs.Moments.{Moment, node}
 use Rattle.qn_model.specs.Sectors.{is_deadly}
 use Rattle.qn_model.specs.World.{World, first_world, put, failed, is_write}
-
--- the part of an operation on one image; where it landed, the entry that answers it where that image is the only one
-pub data Part : Type 0 where
-  Pending : Part
-  Landed : What → Part
-  Failed : Part
 
 -- The world after some moments. By rank and image: the part of the operation that is out; the writes that are left over,
 -- oldest first; whether the image is a good one of the node; the slot; and the mailbox. The header of each image is that of

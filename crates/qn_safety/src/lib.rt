@@ -18,6 +18,7 @@
 mod landing;
 mod laws;
 mod lemmas;
+mod part;
 mod triple_event;
 mod triple_laws;
 
@@ -27,6 +28,7 @@ pub use laws::{
     law_timed_runs, law_wait_for_all,
 };
 pub use lemmas::{law_fence, law_tells};
+pub use part::Part;
 pub use triple_event::TripleEvent;
 pub use triple_laws::{
     law_triple_no_two_holders, law_triple_premises_are_met, law_triple_runs_are_timed,
