@@ -1,16 +1,12 @@
 -- What the laws of a run say of it: this project's profile.
-use Rattle.std.specs.Prelude.{◌≡◌, ◌≤◌, ℕ, Bool, true, false, not, ◌||◌, ◌==◌, List, [], ◌∷◌, ◌++◌, map, slice_index, if◌then◌else◌}
+use Rattle.std.specs.Prelude.{◌≡◌, ℕ, Bool, true, false, not, ◌||◌, ◌==◌, List, [], ◌∷◌, ◌++◌, map, slice_index, if◌then◌else◌}
 use Rattle.qn_base.specs.declared.calls.Call.{Call}
 use Rattle.qn_base.specs.declared.calls.Call.TheVariants as call
 use Rattle.qn_base.specs.Calls.{blank}
 use Rattle.qn_model.specs.declared.configuration.Settings.{Settings}
 use Rattle.qn_model.specs.declared.entries.Entry.{Entry}
-use Rattle.qn_model.specs.declared.outputs.BootCause.{BootCause}
-use Rattle.qn_model.specs.declared.outputs.BootCause.TheVariants as cause
 use Rattle.qn_model.specs.Log.{Line, is_answer}
 use Rattle.qn_model.specs.NodeOutputs.{log_of}
-use Rattle.qn_live.specs.declared.live_end.LiveEnd.{LiveEnd}
-use Rattle.qn_live.specs.declared.live_end.LiveEnd.TheVariants as end
 use Rattle.qn_live.specs.declared.place.Choice.{Choice}
 use Rattle.qn_live.specs.declared.place.Choice.TheVariants as choice
 use Rattle.qn_live.specs.Performing.{out_call, own_number}
