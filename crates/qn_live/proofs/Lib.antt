@@ -5,5 +5,6 @@ pub mod Histories
 pub mod Ids
 pub mod Joining
 mod Rows
+pub mod Sound
 pub mod Telling
 pub mod Through
