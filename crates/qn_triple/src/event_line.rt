@@ -1,0 +1,125 @@
+//! Reads the line of an event of three images, or names its first fault.
+ghost use Rattle.std.specs.Prelude.{◌≡◌};
+ghost use Rattle.std.specs.Option.{option_copied};
+ghost use Rattle.qn_model.specs.Settings.{IsValid, ids};
+ghost use Rattle.qn_sched.specs.EventReading.{message_worded};
+ghost use Rattle.qn_sched.specs.Words.{parts_left};
+ghost use Rattle.qn_triple.specs.TripleReading.{fail_on_of, image_between, land_on_of, late_on_of, one_of, operator_on_of, triple_event_of};
+
+use qn_base::{MOST_EVENTS, MOST_LINE_BYTES};
+use qn_model::{Message, Nodes, Settings};
+use qn_safety::TripleEvent;
+use qn_sched::{
+    LineFault, first_part, known_rank, number_between, read_line, three_words, two_words,
+};
+
+/// The event that a line says. The faults are those of `qn_sched::read_line`, in its order; the lines `land ID K`,
+/// `fail ID K`, `late ID K N` and `operator ID K MESSAGE` name an image, 1 to 3, and BadNumber is another one.
+#[tactic(auto, unfolding(crate::specs::TripleReading::triple_event_of, crate::specs::TripleReading::triple_event_of_words))]
+pub fn read_triple_line(line: &[u8], settings: &Settings) -> Result<TripleEvent, LineFault>
+    requires { IsValid settings.now }
+    ensures first_fault { result ≡ triple_event_of (ids settings.now.nodes) line.now }
+{
+    if line.len() > MOST_LINE_BYTES {
+        return Err(LineFault::TooLong);
+    }
+    let (first, rest) = first_part(line, b' ');
+    let nodes = &settings.nodes;
+    if first == b"land".as_slice() {
+        read_land(nodes, rest)
+    } else if first == b"fail".as_slice() {
+        read_fail(nodes, rest)
+    } else if first == b"late".as_slice() {
+        read_late(nodes, rest)
+    } else if first == b"operator".as_slice() {
+        read_operator(nodes, rest)
+    } else {
+        read_one(line, settings)
+    }
+}
+
+/// A line that names no image.
+#[tactic(auto, unfolding(crate::specs::TripleReading::one_of))]
+fn read_one(line: &[u8], settings: &Settings) -> Result<TripleEvent, LineFault>
+    requires { IsValid settings.now }
+    ensures { result ≡ one_of (ids settings.now.nodes) line.now }
+{
+    let event = read_line(line, settings)?;
+    Ok(TripleEvent::One(event))
+}
+
+/// The number of an image.
+#[tactic(auto, unfolding(crate::specs::TripleReading::image_between))]
+fn read_image(word: &[u8]) -> Result<u8, LineFault>
+    ensures { result ≡ image_between word.now }
+{
+    let image = number_between(1, 3, word)?;
+    Ok(image as u8)
+}
+
+/// `land ID K`
+#[tactic(auto, unfolding(crate::specs::TripleReading::land_on_of))]
+fn read_land(nodes: &Nodes, rest: Option<&[u8]>) -> Result<TripleEvent, LineFault>
+    ensures { result ≡ land_on_of (ids nodes.now) (parts_left 32 (option_copied rest.entry)) }
+{
+    let (id, image) = two_words(rest)?;
+    let rank = known_rank(nodes, id)?;
+    let image = read_image(image)?;
+    Ok(TripleEvent::LandOn(rank, image))
+}
+
+/// `fail ID K`
+#[tactic(auto, unfolding(crate::specs::TripleReading::fail_on_of))]
+fn read_fail(nodes: &Nodes, rest: Option<&[u8]>) -> Result<TripleEvent, LineFault>
+    ensures { result ≡ fail_on_of (ids nodes.now) (parts_left 32 (option_copied rest.entry)) }
+{
+    let (id, image) = two_words(rest)?;
+    let rank = known_rank(nodes, id)?;
+    let image = read_image(image)?;
+    Ok(TripleEvent::FailOn(rank, image))
+}
+
+/// `late ID K N`
+#[tactic(auto, unfolding(crate::specs::TripleReading::late_on_of))]
+fn read_late(nodes: &Nodes, rest: Option<&[u8]>) -> Result<TripleEvent, LineFault>
+    ensures { result ≡ late_on_of (ids nodes.now) (parts_left 32 (option_copied rest.entry)) }
+{
+    let (id, image, number) = three_words(rest)?;
+    let rank = known_rank(nodes, id)?;
+    let image = read_image(image)?;
+    let number = number_between(1, MOST_EVENTS, number)?;
+    Ok(TripleEvent::LateOn(rank, image, number))
+}
+
+/// `operator ID K MESSAGE`
+#[tactic(auto, unfolding(crate::specs::TripleReading::operator_on_of))]
+fn read_operator(nodes: &Nodes, rest: Option<&[u8]>) -> Result<TripleEvent, LineFault>
+    ensures { result ≡ operator_on_of (ids nodes.now) (parts_left 32 (option_copied rest.entry)) }
+{
+    let (id, image, word) = three_words(rest)?;
+    let rank = known_rank(nodes, id)?;
+    let image = read_image(image)?;
+    let message = message_worded(word).ok_or(LineFault::UnknownWord)?;
+    Ok(TripleEvent::OperatorOn(rank, image, message))
+}
+
+/// The messages that an operator can send.
+const MESSAGES: [Message; 6] = [
+    Message::Empty,
+    Message::Test,
+    Message::Reset,
+    Message::Off,
+    Message::Exit,
+    Message::Crashdump,
+];
+
+/// The message that an operator sends by a word.
+#[tactic(auto, unfolding(qn_sched::specs::EventReading::message_worded))]
+fn message_worded(word: &[u8]) -> Option<Message>
+    ensures { result ≡ message_worded word.now }
+{
+    MESSAGES
+        .iter()
+        .copied()
+        .find(|message| message.operator_word().as_bytes() == word)
+}
