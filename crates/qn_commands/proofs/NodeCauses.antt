@@ -13,8 +13,8 @@ use Rattle.qn_model.specs.declared.outputs.BootCause.{BootCause}
 use Rattle.qn_commands.specs.declared.commands.node.NodeWords.{NodeWords}
 use Rattle.qn_commands.specs.declared.fault.Fault.TheVariants.{BootHalted, EnvFault, UnknownNode}
 use Rattle.qn_commands.specs.Commands.Node.{HaltsBoot, node_work, opened_work, opening, rank_with, run_work}
-use Rattle.qn_commands.specs.Endings.{AnswersWhole, Cut, Says, Whole}
-use Rattle.qn_commands.specs.NodeTexts.{end_outcome, refused}
+use Rattle.qn_commands.specs.Endings.{AnswersWhole, Cut, Says, Whole, refused}
+use Rattle.qn_commands.specs.NodeTexts.{end_outcome}
 use Rattle.qn_commands.specs.Seen.{Output, Seen}
 use Rattle.qn_commands.specs.Works.{Performs, Works, refusal}
 use Rattle.qn_commands.proofs.NodeEnds.{Performed, opening_tells_none, performed}

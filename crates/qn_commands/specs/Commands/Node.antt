@@ -17,9 +17,9 @@ use Rattle.qn_model.specs.Lines.{Ended}
 use Rattle.qn_commands.specs.declared.commands.node.NodeWords.{NodeWords}
 use Rattle.qn_commands.specs.declared.fault.Fault.TheVariants.{BootHalted, EnvFault, UnknownNode}
 use Rattle.qn_commands.specs.declared.status.Status.TheVariants as status
-use Rattle.qn_commands.specs.Endings.{AnswersWhole}
+use Rattle.qn_commands.specs.Endings.{AnswersWhole, refused}
 use Rattle.qn_commands.specs.InputSettings.{WorksOnSettings, input_settings}
-use Rattle.qn_commands.specs.NodeTexts.{end_outcome, refused}
+use Rattle.qn_commands.specs.NodeTexts.{end_outcome}
 use Rattle.qn_commands.specs.Seen.{CallFails, Outside, Output, ReadFails, Seen, WriteFails}
 use Rattle.qn_commands.specs.Statuses.{HasCauses, IsOneOf}
 use Rattle.qn_commands.specs.Works.{Last, Makes, Work, after_plan, refusal}
