@@ -1,6 +1,10 @@
 pub mod Always
 pub mod Answering
+pub mod Coming
 pub mod Histories
 pub mod Ids
 pub mod Joining
 mod Rows
+pub mod Sound
+pub mod Telling
+pub mod Through

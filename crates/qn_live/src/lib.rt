@@ -21,7 +21,7 @@ mod running;
 mod undisturbed;
 
 pub use asked::{Asked, Given, Room};
-pub use laws::{law_one_end, law_one_history, law_rest};
+pub use laws::{law_one_end, law_one_history, law_outputs, law_rest, law_sound_end};
 pub use live_end::LiveEnd;
 pub use run::NodeRun;
 pub use running::run_node;
