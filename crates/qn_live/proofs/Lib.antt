@@ -5,6 +5,5 @@ pub mod Histories
 pub mod Ids
 pub mod Joining
 mod Rows
-pub mod Sound
 pub mod Telling
 pub mod Through

@@ -76,6 +76,22 @@ is_no_failure cause.ClearFailed = false
 is_no_failure cause.IncarnationSpent = true
 is_no_failure cause.NotClean = true
 
+-- the end came by a call that failed, which halted the boot
+abbrev pub is_by_call : LiveEnd → Bool
+is_by_call (end.Turns phase holds answer why) = false
+is_by_call (end.Left clean) = false
+is_by_call (end.ClockBack before now) = false
+is_by_call (end.SelfReset message) = false
+is_by_call (end.BootHalted stopped) = not (is_no_failure stopped)
+
+-- the end came by a clock that went back
+abbrev pub is_by_clock : LiveEnd → Bool
+is_by_clock (end.Turns phase holds answer why) = false
+is_by_clock (end.Left clean) = false
+is_by_clock (end.ClockBack before now) = true
+is_by_clock (end.SelfReset message) = false
+is_by_clock (end.BootHalted stopped) = false
+
 -- the end came though no call failed and no tick fell
 abbrev pub is_sound : LiveEnd → Bool
 is_sound (end.Turns phase holds answer why) = true
