@@ -1,0 +1,195 @@
+-- What a run hands its node is one history, and a turn after a failed answer of the disk takes none.
+use Rattle.std.proofs.Common.{◌≡◌, ℕ, suc, zero, Bool, true, false, ◌+◌, ◌-◌, ◌==◌, List, [], ◌∷◌, ◌++◌, Option, None, Some, if◌then◌else◌, refl, sym, ap, subst, ◌∙◌}
+use Rattle.std.specs.Prelude.{nat_lt}
+use Rattle.std.specs.Option.{option_map_or}
+use Rattle.qn_base.specs.declared.calls.Call.{Call}
+use Rattle.qn_base.specs.Plans.{Plan, Ends, Asks, ◌>>=◌, Follows}
+use Rattle.qn_io.specs.Answered.{received_in, time_of}
+use Rattle.qn_model.specs.declared.configuration.Settings.{Settings}
+use Rattle.qn_model.specs.declared.packets.Packet.{Packet}
+use Rattle.qn_model.specs.declared.packets.Packet.TheVariants as packet
+use Rattle.qn_model.specs.declared.packets.Sent.{Sent}
+use Rattle.qn_model.specs.declared.entries.Entry.{Entry}
+use Rattle.qn_model.specs.declared.entries.What.{What}
+use Rattle.qn_model.specs.declared.entries.What.TheVariants as what
+use Rattle.qn_model.specs.declared.outputs.Out.{Out}
+use Rattle.qn_model.specs.Log.{Line, now}
+use Rattle.qn_model.specs.Moments.{begin_of}
+use Rattle.qn_model.specs.NodeOutputs.{log_from, log_of, newest_outs, with_entry}
+use Rattle.qn_member.specs.Maker.{Maker}
+use Rattle.qn_live.specs.declared.live_end.LiveEnd.{LiveEnd}
+use Rattle.qn_live.specs.declared.live_end.LiveEnd.TheVariants as end
+use Rattle.qn_live.specs.declared.place.Choice.{Choice}
+use Rattle.qn_live.specs.declared.place.Choice.TheVariants as choice
+use Rattle.qn_live.specs.declared.place.Waits.{Waits}
+use Rattle.qn_live.specs.Choosing.{choice_of, choice_plan, failed_answer, is_to_leave, looked, packet_in, ready, receive_plan}
+use Rattle.qn_live.specs.Greetings.{sends_plan}
+use Rattle.qn_live.specs.Laws.{IsHistory, takes_answer}
+use Rattle.qn_live.specs.Performing.{end_in, noted, outs_plan}
+use Rattle.qn_live.specs.Running.{RunState, Turned, Over, Next, Ran, first_state, later}
+use Rattle.qn_live.specs.Runs.{clocked, greeted, handled, live_plan, run_plan, settled, taken, timed, turn_plan}
+use Rattle.qn_live.proofs.Always.{Always, always_follows, always_then}
+
+-- a history with one more entry
+log_from-more : (s : Settings) (me : ℕ) (past : List Line) (history : List Entry) (entry : Entry) → log_from s me past (history ++ entry ∷ []) ≡ with_entry s me (log_from s me past history) entry
+unfolding log_from
+log_from-more s me past [] entry = refl
+log_from-more s me past (first ∷ history) entry = log_from-more s me (with_entry s me past first) history entry
+
+one_more : (s : Settings) (me : ℕ) (log : List Line) (entry : Entry) → IsHistory s me log → IsHistory s me (with_entry s me log entry)
+one_more s me log entry is =
+    (is.0 ++ entry ∷ [], ap (λ l. with_entry s me l entry) is.1 ∙ sym (log_from-more s me [] is.0 entry))
+
+-- a turn ends with this log, and with this word on whether the next one rests
+abbrev EndsFrom : List Line → Bool → Turned → Type 0
+EndsFrom log rests (Over end last) = last ≡ log
+EndsFrom log rests (Next next) = (next.log ≡ log) × (next.rests ≡ rests)
+
+sends_always : (sents : List Sent) → Always (λ sent. Unit {0}) (sends_plan sents)
+unfolding sends_plan
+sends_always [] = tt
+sends_always (sent ∷ sents) = λ call. sends_always sents
+
+-- the calls of outputs change what waits alone
+abbrev KeepsRest : RunState → RunState → Type 0
+KeepsRest st after = (after.log ≡ st.log) × (after.rests ≡ st.rests)
+
+outs_always : (s : Settings) (me : ℕ) (st : RunState) (outs : List Out) → Always (KeepsRest st) (outs_plan s me st outs)
+unfolding outs_plan
+outs_always s me st [] = (refl, refl)
+outs_always s me st (o ∷ outs) = λ call. outs_always s me (noted s o call st) outs
+
+greeted_always : (s : Settings) (me : ℕ) (st : RunState) (log : List Line) (rests : Bool) → st.log ≡ log → st.rests ≡ rests → Always (EndsFrom log rests) (greeted s me st)
+unfolding greeted
+greeted_always s me st log rests is_log is_rests =
+    always_then (λ sent. Unit {0}) (EndsFrom log rests) _ _ (sends_always _) (λ sent nothing. (is_log, is_rests))
+
+settled_always : (s : Settings) (me : ℕ) (entry : What) (outs : List Out) (st : RunState) (log : List Line) (rests : Bool) → st.log ≡ log → st.rests ≡ rests → Always (EndsFrom log rests) (settled s me entry outs st)
+unfolding settled
+settled_always s me entry outs st log rests is_log is_rests =
+    by_end (end_in entry outs)
+  where
+    by_end : (found : Option LiveEnd) → Always (EndsFrom log rests) (option_map_or (λ end. Ends (Over end st.log)) found (greeted s me st))
+    by_end None = greeted_always s me st log rests is_log is_rests
+    by_end (Some end) = is_log
+
+handled_always : (s : Settings) (me : ℕ) (st : RunState) (tick : ℕ) (found : Option Maker × What) → Always (EndsFrom (with_entry s me st.log (record { tick = tick; what = found.1 })) (failed_answer found.1)) (handled s me st tick found)
+unfolding handled
+handled_always s me st tick found =
+    let after = taken s me st tick found in
+    always_then (KeepsRest after) (EndsFrom after.log after.rests) (outs_plan s me after (newest_outs after.log)) (settled s me found.1 (newest_outs after.log))
+    (outs_always s me after (newest_outs after.log))
+    (λ done same. settled_always s me found.1 (newest_outs after.log) done after.log after.rests same.0 same.1)
+
+-- a turn ends with the log of a history
+abbrev KeepsHistory : Settings → ℕ → Turned → Type 0
+KeepsHistory s me (Over end log) = IsHistory s me log
+KeepsHistory s me (Next next) = IsHistory s me next.log
+
+from_log : (s : Settings) (me : ℕ) (log : List Line) (rests : Bool) (turned : Turned) → IsHistory s me log → EndsFrom log rests turned → KeepsHistory s me turned
+from_log s me log rests (Over end last) is from = (is.0, from ∙ is.1)
+from_log s me log rests (Next next) is from = (is.0, from.0 ∙ is.1)
+
+always_from : (s : Settings) (me : ℕ) (log : List Line) (rests : Bool) (plan : Plan Turned) → IsHistory s me log → Always (EndsFrom log rests) plan → Always (KeepsHistory s me) plan
+always_from s me log rests (Ends turned) is always = from_log s me log rests turned is always
+always_from s me log rests (Asks question left) is always = λ call. always_from s me log rests (left call) is (always call)
+
+clocked_always : (s : Settings) (me : ℕ) (chosen : Choice × RunState) (tick : ℕ) → IsHistory s me chosen.1.log → Always (KeepsHistory s me) (clocked s me chosen tick)
+unfolding clocked
+clocked_always s me chosen tick is =
+    by_clock (nat_lt tick (now chosen.1.log))
+  where
+    by_clock : (back : Bool) → Always (KeepsHistory s me) (if back then Ends (Over (end.ClockBack (now chosen.1.log) tick) chosen.1.log) else handled s me chosen.1 tick (looked tick chosen.0 chosen.1.maker))
+    by_clock true = is
+    by_clock false =
+        let found = looked tick chosen.0 chosen.1.maker in
+        always_from s me (with_entry s me chosen.1.log (record { tick = tick; what = found.1 })) (failed_answer found.1) (handled s me chosen.1 tick found)
+        (one_more s me chosen.1.log (record { tick = tick; what = found.1 }) is)
+        (handled_always s me chosen.1 tick found)
+
+-- what a turn takes leaves the log as it was
+abbrev KeepsLog : List Line → Choice × RunState → Type 0
+KeepsLog log chosen = chosen.1.log ≡ log
+
+choice_always : (me : ℕ) (leaves : Bool) (st : RunState) → Always (KeepsLog st.log) (choice_plan me leaves st)
+unfolding choice_plan
+choice_always me leaves st =
+    by_ready (ready leaves st.rests st.waits)
+  where
+    by_ready : (found : Option (What × Waits)) → Always (KeepsLog st.log) (option_map_or (λ taken. Ends (choice.Whole taken.0, record st { waits = taken.1 })) found (receive_plan >>= (λ packet. Ends (choice_of me packet, st))))
+    by_ready None = λ call. refl
+    by_ready (Some found) = refl
+
+turn_always : (s : Settings) (me : ℕ) (leave : Option ℕ) (turn : ℕ) (st : RunState) → IsHistory s me st.log → Always (KeepsHistory s me) (turn_plan s me leave turn st)
+turn_always s me leave turn st is =
+    always_then (KeepsLog st.log) (KeepsHistory s me) (choice_plan me (is_to_leave s leave turn st) st) (timed s me)
+    (choice_always me (is_to_leave s leave turn st) st)
+    (λ chosen same call. clocked_always s me chosen (time_of call) (is.0, same ∙ is.1))
+
+-- a run ends with the log of a history
+abbrev pub EndsHistory : Settings → ℕ → Ran → Type 0
+EndsHistory s me ran = IsHistory s me ran.log
+
+after_turn : (s : Settings) (me : ℕ) (next : RunState → Plan Ran) → ((st : RunState) → IsHistory s me st.log → Always (EndsHistory s me) (next st)) → (turned : Turned) → KeepsHistory s me turned → Always (EndsHistory s me) (later next turned)
+after_turn s me next goes_on (Over end log) kept = kept
+after_turn s me next goes_on (Next st) kept = goes_on st kept
+
+run_always : (s : Settings) (me : ℕ) (leave : Option ℕ) (turn more : ℕ) (st : RunState) → IsHistory s me st.log → Always (EndsHistory s me) (run_plan s me leave turn more st)
+unfolding run_plan
+run_always s me leave turn zero st is = is
+run_always s me leave turn (suc more) st is =
+    always_then (KeepsHistory s me) (EndsHistory s me) (turn_plan s me leave turn st) (later (run_plan s me leave (turn + 1) more))
+    (turn_always s me leave turn st is)
+    (after_turn s me (run_plan s me leave (turn + 1) more) (λ next kept. run_always s me leave (turn + 1) more next kept))
+
+pub live_always : (s : Settings) (me : ℕ) (clean : Bool) (leave : Option ℕ) (turns : ℕ) → Always (EndsHistory s me) (live_plan s me clean leave turns)
+unfolding live_plan log_from
+live_always s me clean leave turns =
+    always_then (KeepsHistory s me) (EndsHistory s me) (timed s me (choice.Whole (begin_of clean), first_state)) (later (run_plan s me leave 2 (turns - 1)))
+    (λ call. clocked_always s me (choice.Whole (begin_of clean), first_state) (time_of call) ([], refl))
+    (after_turn s me (run_plan s me leave 2 (turns - 1)) (λ next kept. run_always s me leave 2 (turns - 1) next kept))
+
+-- a turn that goes on says whether its entry was a failed answer of the disk
+pub handled_rests : (s : Settings) (me : ℕ) (st : RunState) (tick : ℕ) (found : Option Maker × What) (calls : List Call) (next : RunState) → Follows (handled s me st tick found) calls (Next next) → next.rests ≡ failed_answer found.1
+handled_rests s me st tick found calls next follows =
+    let kept = always_follows (EndsFrom (with_entry s me st.log (record { tick = tick; what = found.1 })) (failed_answer found.1)) (handled s me st tick found) calls (Next next) (handled_always s me st tick found) follows in
+    kept.1
+
+-- no packet is the answer of a disk operation
+packet_taken : (me : ℕ) (p : Option Packet) → takes_answer (choice_of me p) ≡ false
+packet_taken me None = refl
+packet_taken me (Some (packet.Ask ask)) = by_test (ask.to.0 == me)
+  where
+    by_test : (to_me : Bool) → takes_answer (if to_me then choice.Whole (what.Ask ask) else choice.Open (Some (packet.Ask ask))) ≡ false
+    by_test true = refl
+    by_test false = refl
+packet_taken me (Some (packet.Tell tell)) = by_test (tell.to.0 == me)
+  where
+    by_test : (to_me : Bool) → takes_answer (if to_me then choice.Whole (what.Tell tell) else choice.Open (Some (packet.Tell tell))) ≡ false
+    by_test true = refl
+    by_test false = refl
+packet_taken me (Some (packet.Vote agrees)) = refl
+packet_taken me (Some (packet.Hello from)) = refl
+packet_taken me (Some (packet.Announce from view)) = refl
+
+-- the turn takes no answer of the disk, and keeps the one that waits
+abbrev Rests : RunState → Choice × RunState → Type 0
+Rests st chosen = (takes_answer chosen.0 ≡ false) × (chosen.1.waits.disk ≡ st.waits.disk)
+
+rests_always : (me : ℕ) (leaves : Bool) (st : RunState) → st.rests ≡ true → Always (Rests st) (choice_plan me leaves st)
+unfolding choice_plan
+rests_always me leaves st rests =
+    subst
+    (λ (r : Bool). Always (Rests st) (option_map_or (λ taken. Ends (choice.Whole taken.0, record st { waits = taken.1 })) (ready leaves r st.waits) (receive_plan >>= (λ packet. Ends (choice_of me packet, st)))))
+    (sym rests)
+    (by_waits leaves st.waits.stopped)
+  where
+    by_waits : (leaves : Bool) (stopped : Option Bool) → Always (Rests st) (option_map_or (λ taken. Ends (choice.Whole taken.0, record st { waits = taken.1 })) (ready leaves true (record { stopped = stopped; disk = st.waits.disk })) (receive_plan >>= (λ packet. Ends (choice_of me packet, st))))
+    by_waits true None = (refl, refl)
+    by_waits false None = λ call. (packet_taken me (packet_in (received_in call)), refl)
+    by_waits true (Some ok) = (refl, refl)
+    by_waits false (Some ok) = (refl, refl)
+
+pub choice_rests : (me : ℕ) (leaves : Bool) (st : RunState) (calls : List Call) (chosen : Choice × RunState) → st.rests ≡ true → Follows (choice_plan me leaves st) calls chosen → Rests st chosen
+choice_rests me leaves st calls chosen rests follows =
+    always_follows (Rests st) (choice_plan me leaves st) calls chosen (rests_always me leaves st rests) follows

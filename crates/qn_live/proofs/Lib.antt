@@ -1,0 +1,9 @@
+pub mod Always
+pub mod Answering
+pub mod Coming
+pub mod Histories
+pub mod Ids
+pub mod Joining
+mod Rows
+pub mod Telling
+pub mod Through

@@ -1,0 +1,102 @@
+-- Runs that were worked by hand, as theorems of the definition.
+use Rattle.std.proofs.Common.{◌≡◌, ℕ, Bool, true, false, List, [], ◌∷◌, ◌++◌, length, Some, None, refl}
+use Rattle.qn_base.specs.declared.calls.Call.{Call}
+use Rattle.qn_base.specs.declared.calls.Call.TheVariants as call
+use Rattle.qn_base.specs.declared.calls.Received.TheVariants as received
+use Rattle.qn_base.specs.declared.ids.View.{View}
+use Rattle.qn_base.specs.Plans.{Follows}
+use Rattle.qn_model.specs.declared.configuration.Settings.{Settings}
+use Rattle.qn_model.specs.declared.times.Timing.{Timing}
+use Rattle.qn_model.specs.declared.disk.Message.TheVariants as message
+use Rattle.qn_model.specs.declared.seen.HeaderSeen.TheVariants as header
+use Rattle.qn_model.specs.declared.seen.SlotSeen.TheVariants as slot
+use Rattle.qn_model.specs.declared.seen.MailSeen.TheVariants as mail
+use Rattle.qn_model.specs.declared.entries.Entry.{Entry}
+use Rattle.qn_model.specs.declared.entries.What.{What}
+use Rattle.qn_model.specs.declared.entries.What.TheVariants as what
+use Rattle.qn_model.specs.declared.outputs.BootCause.TheVariants as cause
+use Rattle.qn_model.specs.Log.{op_out, ask_place, ask_tick, begins_clean, claimed, slot_number, timing}
+use Rattle.qn_model.specs.NodeVotes.{view, install, votes}
+use Rattle.qn_model.specs.Votes.{answer_at, present_view, view_tick, is_released, expected_votes, device_yes}
+use Rattle.qn_model.specs.Phases.{phase}
+use Rattle.qn_model.specs.Holding.{holds, stop_due, may_stop}
+use Rattle.qn_model.specs.Hearing.{told}
+use Rattle.qn_model.specs.Licences.{out_time, slot_read_since, reset_since}
+use Rattle.qn_model.specs.Unmet.{least_from, unmet}
+use Rattle.qn_model.specs.Wanted.{mail_tick, wanted_with_delay}
+use Rattle.qn_model.specs.NodeOutputs.{moment, acts, outs_at, with_entry, log_from, log_of}
+use Rattle.qn_model.specs.Sectors.{anonymous, header_bytes, header_bytes_in, mail_bytes, slot_bytes}
+use Rattle.qn_model.specs.World.{failed}
+use Rattle.qn_sector.specs.Reading.{header_in, mail_of, slot_of}
+use Rattle.qn_member.specs.Maker.{ranks_that}
+use Rattle.qn_live.specs.declared.live_end.LiveEnd.TheVariants as end
+use Rattle.qn_live.specs.Choosing.{choice_plan}
+use Rattle.qn_live.specs.Greetings.{sends_plan}
+use Rattle.qn_live.specs.Performing.{disk_call, done, out_call, outs_plan, waits_after}
+use Rattle.qn_live.specs.Runs.{clocked, greeted, handled, live_plan, run_plan, settled, turns_end}
+
+-- one node of one vote, with id 1
+abbrev one_node : Settings
+one_node =
+    record {
+      nodes = record { id = record { 0 = 1 }; votes = 1; fence_delay = 0 } ∷ [];
+      two_node = false;
+      wait_for_all = false;
+      last_man_standing = false;
+      window = 10000;
+      device = None;
+      expected = 1;
+      tie = None;
+    }
+
+-- watchdog 5000, msgwait 10000, loop 1000, read limit 2000, feed delay 1000
+abbrev usual : Timing
+usual = record { watchdog = 5000; msgwait = 10000; loop_ms = 1000; read_limit = 2000; feed_delay = 1000 }
+
+abbrev at : ℕ → What → Entry
+at tick entry = record { tick = tick; what = entry }
+
+-- the header can't be read: the boot halts with cause 1, which is code 11
+boot_halts : Follows (live_plan one_node 0 false None 5)
+    (call.Now 5 ∷ call.Read 0 [] false ∷ call.Now 6 ∷ call.Halt 11 ∷ [])
+    (record {
+      end = end.BootHalted cause.ReadFailed;
+      log = log_of one_node 0 (at 5 what.Begin ∷ at 6 (what.Header header.Failed) ∷ []);
+    })
+unfolding op_out ask_place begins_clean slot_number claimed phase outs_at with_entry log_from failed choice_plan disk_call done out_call outs_plan waits_after sends_plan clocked greeted handled settled live_plan run_plan
+boot_halts = (refl, (refl, (refl, (refl, (refl, refl)))))
+
+-- the clock goes back in the second turn, and nothing else is called
+clock_goes_back : Follows (live_plan one_node 0 false None 5)
+    (call.Now 50 ∷ call.Read 0 [] false ∷ call.Now 40 ∷ [])
+    (record { end = end.ClockBack 50 40; log = log_of one_node 0 (at 50 what.Begin ∷ []) })
+unfolding op_out ask_place begins_clean slot_number claimed phase outs_at with_entry log_from failed choice_plan disk_call done out_call outs_plan waits_after sends_plan clocked greeted handled settled live_plan run_plan
+clock_goes_back = (refl, (refl, (refl, (refl, refl))))
+
+-- what the node of the next row is handed
+abbrev seven_entries : List Entry
+seven_entries =
+    at 0 what.Begin
+    ∷ at 10 (what.Header (header.Read 1 usual))
+    ∷ at 20 (what.SlotRead (record { 0 = 0 }) (slot.Read (record { incarnation = 0; clean = true })))
+    ∷ at 30 (what.Claimed true)
+    ∷ at 40 (what.Cleared true)
+    ∷ at 50 (what.MailRead (mail.Read message.Empty))
+    ∷ at 60 (what.View (record { id = 1; members = record { 0 = 1 } }))
+    ∷ []
+
+-- seven turns of one node: it boots, installs its first view at the first turn that receives, and starts the resource
+starts_in_seven_turns : Follows (live_plan one_node 0 false None 7)
+    (call.Now 0 ∷ call.Read 0 (header_bytes 1 usual) true
+    ∷ call.Now 10 ∷ call.Feed true ∷ call.Read 1 (slot_bytes 1 (record { incarnation = 0; clean = true })) true
+    ∷ call.Now 20 ∷ call.Feed true ∷ call.Write 1 (slot_bytes 1 (record { incarnation = 1; clean = false })) true
+    ∷ call.Now 30 ∷ call.Feed true ∷ call.Write 512 (mail_bytes (anonymous message.Empty)) true
+    ∷ call.Now 40 ∷ call.Feed true ∷ call.Read 512 (mail_bytes (anonymous message.Empty)) true
+    ∷ call.Now 50 ∷ call.Feed true
+    ∷ call.Receive received.Nothing ∷ call.Now 60 ∷ call.Start true ∷ [])
+    (record {
+      end = turns_end one_node 0 (log_of one_node 0 seven_entries);
+      log = log_of one_node 0 seven_entries;
+    })
+unfolding op_out ask_place ask_tick begins_clean slot_number claimed timing view install votes answer_at present_view view_tick is_released expected_votes device_yes phase holds stop_due may_stop told out_time slot_read_since reset_since least_from unmet mail_tick wanted_with_delay moment acts outs_at with_entry log_from header_bytes_in mail_bytes slot_bytes header_in mail_of slot_of failed ranks_that choice_plan sends_plan disk_call done out_call outs_plan waits_after clocked greeted handled settled live_plan run_plan
+starts_in_seven_turns = (refl, (refl, (refl, (refl, (refl, (refl, (refl, (refl, (refl, (refl, (refl, (refl, (refl, (refl, (refl, (refl, (refl, (refl, (refl, (refl, refl))))))))))))))))))))

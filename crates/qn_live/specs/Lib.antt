@@ -1,0 +1,10 @@
+pub mod Asking
+pub mod Choosing
+pub mod EndLaws
+pub mod Greetings
+pub mod Laws
+pub mod Machine
+pub mod Performing
+pub mod Places
+pub mod Running
+pub mod Runs
