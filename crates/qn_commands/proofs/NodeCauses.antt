@@ -1,20 +1,20 @@
 -- Why a node ended with status 12 or 14.
-use Rattle.std.proofs.Common.{◌≡◌, ◌⊎◌, inl, inr, ℕ, Bool, true, false, ◌||◌, List, [], ◌∷◌, Option, None, Some, refl, ap, ◌∙◌, subst, if◌then◌else◌, arith}
+use Rattle.std.proofs.Common.{◌≡◌, ◌⊎◌, inl, inr, ℕ, Bool, true, false, not, ◌||◌, List, [], ◌∷◌, Option, None, Some, refl, ap, ◌∙◌, subst, if◌then◌else◌, arith}
 use Rattle.std.specs.Option.{option_map_or}
 use Rattle.qn_base.specs.declared.calls.Call.{Call}
 use Rattle.qn_base.specs.Calls.{blank, is_failed, some_failed}
 use Rattle.qn_live.specs.declared.live_end.LiveEnd.{LiveEnd}
 use Rattle.qn_live.specs.declared.live_end.LiveEnd.TheVariants as end
 use Rattle.qn_live.specs.Runs.{live_plan}
-use Rattle.qn_live.specs.Undisturbed.{NeverFalls, is_by_call, is_by_clock}
-use Rattle.qn_live.specs.UndisturbedRuns.{no_end_by_call, no_end_by_clock}
+use Rattle.qn_live.specs.Laws.{NeverFalls, is_by_call, is_by_clock}
+use Rattle.qn_live.specs.EndLaws.{no_end_by_call, no_end_by_clock}
 use Rattle.qn_model.specs.declared.configuration.Settings.{Settings}
 use Rattle.qn_model.specs.declared.outputs.BootCause.{BootCause}
 use Rattle.qn_commands.specs.declared.commands.node.NodeWords.{NodeWords}
 use Rattle.qn_commands.specs.declared.fault.Fault.TheVariants.{BootHalted, EnvFault, UnknownNode}
 use Rattle.qn_commands.specs.Commands.Node.{HaltsBoot, node_work, opened_work, opening, rank_with, run_work}
-use Rattle.qn_commands.specs.Endings.{AnswersWhole, Cut, Says, Whole}
-use Rattle.qn_commands.specs.NodeTexts.{end_outcome, refused}
+use Rattle.qn_commands.specs.Endings.{AnswersWhole, Cut, Says, Whole, refused}
+use Rattle.qn_commands.specs.NodeTexts.{end_outcome}
 use Rattle.qn_commands.specs.Seen.{Output, Seen}
 use Rattle.qn_commands.specs.Works.{Performs, Works, refusal}
 use Rattle.qn_commands.proofs.NodeEnds.{Performed, opening_tells_none, performed}
@@ -136,10 +136,10 @@ module _ (words : NodeWords) (settings : Settings) {before after : Seen} {code :
           record {
             cause = halts.cause;
             answers = halts.answers;
-            fails = λ by_call.
+            fails = λ is_failure.
                 let failed : some_failed ran.more ≡ true =
                 by_failure (some_failed ran.more) (is_by_call ran.run.ran.end)
                 (no_end_by_call settings ran.rank words.clean words.leave words.turns ran.more ran.run.ran ran.run.follows)
-                (ap is_by_call halts.is ∙ by_call) in
+                (ap is_by_call halts.is ∙ ap not is_failure) in
                 works.made.cause (ap some_failed ran.parts ∙ or_second (is_failed ran.first) (some_failed ran.more) failed);
           }

@@ -8,8 +8,8 @@ use Rattle.qn_base.specs.Calls.{blank, is_failed, some_failed}
 use Rattle.qn_base.specs.Plans.{Plan, Ends, Asks, Follows}
 use Rattle.qn_live.specs.Running.{Ran}
 use Rattle.qn_live.specs.Runs.{live_plan}
-use Rattle.qn_live.specs.Undisturbed.{NeverFalls, tick_after}
-use Rattle.qn_live.specs.UndisturbedRuns.{no_end_by_call, no_end_by_clock}
+use Rattle.qn_live.specs.Laws.{NeverFalls, tick_after}
+use Rattle.qn_live.specs.EndLaws.{no_end_by_call, no_end_by_clock}
 use Rattle.qn_model.specs.declared.configuration.Settings.{Settings}
 use Rattle.qn_model.specs.Lines.{Ended}
 use Rattle.qn_commands.specs.declared.commands.node.NodeWords.{NodeWords}
@@ -117,7 +117,7 @@ not_risen false cause calm = refl
 
 module _ (words : NodeWords) (rank : ℕ) where
   -- the opening tells no tick
-  pub opening_tells_none : (call : Call) → blank call ≡ opening words rank true → tick_after 0 call ≡ 0
+  pub opening_tells_none : (call : Call) → blank call ≡ opening words rank true → tick_after call 0 ≡ 0
   opening_tells_none (OpenNode images image watchdog resource port own ok) asked = refl
   opening_tells_none (OpenImage path ok) asked = refl
   opening_tells_none (Now tick) asked = absurd cc

@@ -23,6 +23,10 @@ Says text wanted before after status = Answers [] text wanted before after statu
 abbrev pub Refuses : Fault → Output → Output → ℕ → Type 0
 Refuses fault before after status = Says (fault_line fault) (status_of fault) before after status
 
+-- the outcome of a fault
+abbrev pub refused : Fault → Outcome
+refused why = record { text = fault_line why; status = status_of why }
+
 -- an outcome was written whole, and the status is its own
 abbrev pub AnswersWhole : Outcome → Output → Output → ℕ → Type 0
 AnswersWhole outcome before after status = (status ≡ outcome.status) × (after.written ≡ append_known before.written outcome.text)

@@ -9,9 +9,8 @@ use Rattle.qn_model.specs.declared.votes.Answer.{Answer}
 use Rattle.qn_model.specs.Lines.{Outcome}
 use Rattle.qn_sched.specs.PhaseNames.{phase_name}
 use Rattle.qn_sched.specs.TraceLines.{answer_text, why_text}
-use Rattle.qn_commands.specs.declared.fault.Fault.{Fault}
 use Rattle.qn_commands.specs.declared.fault.Fault.TheVariants.{BootHalted, ClockBack, SelfReset}
-use Rattle.qn_commands.specs.Faults.{fault_line, status_of}
+use Rattle.qn_commands.specs.Endings.{refused}
 
 -- after the last of so many turns: the phase, whether the node holds the resource, its count and its condition
 unfoldable pub turns_text : ℕ → Phase → Bool → Answer → Why → List ℕ
@@ -22,10 +21,6 @@ turns_text turns phase holds answer why =
 -- the node left, and its slot is written as clean or is not
 abbrev pub left_text : Bool → List ℕ
 left_text clean = if clean then codes "left clean\n" else codes "left dirty\n"
-
--- the outcome of a fault
-abbrev pub refused : Fault → Outcome
-refused why = record { text = fault_line why; status = status_of why }
 
 -- the outcome of a run of so many turns
 abbrev pub end_outcome : ℕ → LiveEnd → Outcome

@@ -1,5 +1,6 @@
 pub mod Asking
 pub mod Choosing
+pub mod EndLaws
 pub mod Greetings
 pub mod Laws
 pub mod Machine
@@ -7,5 +8,3 @@ pub mod Performing
 pub mod Places
 pub mod Running
 pub mod Runs
-pub mod Undisturbed
-pub mod UndisturbedRuns

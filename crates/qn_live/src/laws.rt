@@ -1,13 +1,14 @@
 //! The laws of a run.
 ghost use Rattle.std.specs.Prelude.{◌≡◌, ◌++◌, ◌∷◌, ℕ, Bool, true, false, List, Option};
 ghost use Rattle.qn_base.specs.declared.calls.Call.{Call};
+ghost use Rattle.qn_base.specs.Calls.{some_failed};
 ghost use Rattle.qn_base.specs.Plans.{Follows};
 ghost use Rattle.qn_member.specs.Maker.{Maker};
 ghost use Rattle.qn_model.specs.declared.configuration.Settings.{Settings};
 ghost use Rattle.qn_model.specs.declared.entries.What.{What};
 ghost use Rattle.qn_live.specs.declared.place.Choice.{Choice};
 ghost use Rattle.qn_live.specs.Choosing.{choice_plan, failed_answer};
-ghost use Rattle.qn_live.specs.Laws.{IsHistory, outputs_among, outputs_of, takes_answer};
+ghost use Rattle.qn_live.specs.Laws.{IsHistory, NeverFalls, is_by_call, is_by_clock, is_sound, outputs_among, outputs_of, takes_answer};
 ghost use Rattle.qn_live.specs.Running.{Next, Ran, RunState};
 ghost use Rattle.qn_live.specs.Runs.{handled, live_plan};
 
@@ -54,4 +55,27 @@ pub fn law_rest()
         (next : RunState)
         → Follows (handled s me st tick found) calls (Next next)
         → next.rests ≡ failed_answer found.1 }
+{}
+
+/// Law: a run in which no call failed was not halted in its boot by a failed call, and one in which no tick fell did not end
+/// because the clock went back.
+pub fn law_end_causes()
+    ensures calls { (s : Settings) (me : ℕ) (clean : Bool) (leave : Option ℕ) (turns : ℕ) (calls : List Call) (ran : Ran)
+        → Follows (live_plan s me clean leave turns) calls ran
+        → some_failed calls ≡ false
+        → is_by_call ran.end ≡ false }
+    ensures clock { (s : Settings) (me : ℕ) (clean : Bool) (leave : Option ℕ) (turns : ℕ) (calls : List Call) (ran : Ran)
+        → Follows (live_plan s me clean leave turns) calls ran
+        → NeverFalls 0 calls
+        → is_by_clock ran.end ≡ false }
+{}
+
+/// Law: where no call fails and no tick falls, no run ends because the clock goes back, and no boot halts because a read, its
+/// claim or its clear failed.
+pub fn law_sound_end()
+    ensures { (s : Settings) (me : ℕ) (clean : Bool) (leave : Option ℕ) (turns : ℕ) (calls : List Call) (ran : Ran)
+        → Follows (live_plan s me clean leave turns) calls ran
+        → some_failed calls ≡ false
+        → NeverFalls 0 calls
+        → is_sound ran.end ≡ true }
 {}

@@ -18,11 +18,11 @@ mod outputs;
 mod place;
 mod run;
 mod running;
-mod undisturbed;
 
 pub use asked::{Asked, Given, Room};
-pub use laws::{law_one_end, law_one_history, law_outputs, law_rest};
+pub use laws::{
+    law_end_causes, law_one_end, law_one_history, law_outputs, law_rest, law_sound_end,
+};
 pub use live_end::LiveEnd;
 pub use run::NodeRun;
 pub use running::run_node;
-pub use undisturbed::law_undisturbed_end;

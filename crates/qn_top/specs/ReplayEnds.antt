@@ -3,12 +3,8 @@ use Rattle.std.specs.Prelude.{[], ◌++◌, codes, decimal}
 use Rattle.qn_model.specs.Lines.{Outcome}
 use Rattle.qn_sched.specs.declared.replay_end.ReplayEnd.{ReplayEnd}
 use Rattle.qn_sched.specs.declared.replay_end.ReplayEnd.TheVariants as end
-use Rattle.qn_commands.specs.declared.fault.Fault.{Fault}
 use Rattle.qn_commands.specs.declared.fault.Fault.TheVariants as fault
-use Rattle.qn_commands.specs.Faults.{fault_line, status_of}
-
-abbrev pub refused : Fault → Outcome
-refused why = record { text = fault_line why; status = status_of why }
+use Rattle.qn_commands.specs.Endings.{refused}
 
 abbrev pub end_outcome : ReplayEnd → Outcome
 end_outcome (end.Done events) = record { text = codes "end " ++ decimal events ++ codes "\n"; status = 0 }

@@ -10,16 +10,16 @@ use Rattle.qn_base.specs.Plans.{Made}
 use Rattle.qn_live.specs.declared.live_end.LiveEnd.{LiveEnd}
 use Rattle.qn_live.specs.Running.{Ran}
 use Rattle.qn_live.specs.Runs.{live_plan}
-use Rattle.qn_live.specs.Undisturbed.{NeverFalls, is_by_call, is_by_clock, is_call_cause}
+use Rattle.qn_live.specs.Laws.{NeverFalls, is_by_call, is_by_clock, is_no_failure}
 use Rattle.qn_model.specs.declared.configuration.Settings.{Settings}
 use Rattle.qn_model.specs.declared.outputs.BootCause.{BootCause}
 use Rattle.qn_model.specs.Lines.{Ended}
 use Rattle.qn_commands.specs.declared.commands.node.NodeWords.{NodeWords}
 use Rattle.qn_commands.specs.declared.fault.Fault.TheVariants.{BootHalted, EnvFault, UnknownNode}
 use Rattle.qn_commands.specs.declared.status.Status.TheVariants as status
-use Rattle.qn_commands.specs.Endings.{AnswersWhole}
+use Rattle.qn_commands.specs.Endings.{AnswersWhole, refused}
 use Rattle.qn_commands.specs.InputSettings.{WorksOnSettings, input_settings}
-use Rattle.qn_commands.specs.NodeTexts.{end_outcome, refused}
+use Rattle.qn_commands.specs.NodeTexts.{end_outcome}
 use Rattle.qn_commands.specs.Seen.{CallFails, Outside, Output, ReadFails, Seen, WriteFails}
 use Rattle.qn_commands.specs.Statuses.{HasCauses, IsOneOf}
 use Rattle.qn_commands.specs.Works.{Last, Makes, Work, after_plan, refusal}
@@ -63,7 +63,7 @@ pub record FailsToOpen (words : NodeWords) (before after : Outside) : Type 0 whe
 pub record HaltsBoot (before after : Seen) (code : ℕ) : Type 0 where
   pub cause : BootCause
   pub answers : AnswersWhole (refused (BootHalted cause)) before.output after.output code
-  pub fails : is_call_cause cause ≡ true → CallFails before.env after.env
+  pub fails : is_no_failure cause ≡ false → CallFails before.env after.env
 
 -- the line of an end was written whole, and neither a failed call nor the clock made that end
 pub record EndsUndisturbed (turns : ℕ) (before after : Output) (code : ℕ) : Type 0 where

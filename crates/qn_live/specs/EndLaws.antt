@@ -1,4 +1,4 @@
--- The law of runs in which no call fails and no tick falls, proved over their plan.
+-- The laws of ends by a failed call and by the clock, proved over the plan of a run: what the crates above cite.
 use Rattle.std.proofs.Common.{◌≡◌, ◌≤◌, ℕ, zero, suc, ◌+◌, ◌-◌, ◌^◌, Bool, true, false, not, ◌||◌, ◌&&◌, ◌==◌, ◌++◌, List, [], ◌∷◌, Option, None, Some, IfSome, map, filter, length, nat_lt, refl, sym, ap, ◌∙◌, subst, if◌then◌else◌}
 use Rattle.std.specs.List.{range_with_len}
 use Rattle.std.specs.Option.{option_map_or}
@@ -56,7 +56,7 @@ use Rattle.qn_live.specs.Greetings.{sends_plan}
 use Rattle.qn_live.specs.Performing.{disk_answer, disk_call, done, end_in, noted, out_call, outs_plan, own_number, waits_after}
 use Rattle.qn_live.specs.Running.{RunState, Turned, Over, Next, Ran, first_state, later}
 use Rattle.qn_live.specs.Runs.{clocked, greeted, handled, live_plan, run_plan, settled, taken, timed, turn_plan}
-use Rattle.qn_live.specs.Undisturbed.{NeverFalls, is_by_call, is_by_clock, is_call_cause, tick_after}
+use Rattle.qn_live.specs.Laws.{NeverFalls, is_by_call, is_by_clock, is_no_failure, is_sound, tick_after}
 
 -- ## What is assumed of the calls
 
@@ -68,32 +68,32 @@ record Assumed : Type 0 where
 -- a call is as it is assumed, after the tick that was told last
 record IsAsAssumed (assumed : Assumed) (last : ℕ) (call : Call) : Type 0 where
   whole : assumed.calls ≡ true → is_failed call ≡ false
-  rises : assumed.clock ≡ true → last ≤ tick_after last call
+  rises : assumed.clock ≡ true → last ≤ tick_after call last
 
 -- all calls are
 abbrev AreAsAssumed : Assumed → ℕ → List Call → Type 0
 AreAsAssumed assumed last [] = Unit {0}
-AreAsAssumed assumed last (call ∷ calls) = IsAsAssumed assumed last call × AreAsAssumed assumed (tick_after last call) calls
+AreAsAssumed assumed last (call ∷ calls) = IsAsAssumed assumed last call × AreAsAssumed assumed (tick_after call last) calls
 
 -- every call that is as assumed leads to a value of which P holds
 abbrev Leads : {A : Type 0} → Assumed → (ℕ → A → Type 0) → ℕ → Plan A → Type 0
 Leads assumed P last (Ends value) = P last value
 Leads assumed P last (Asks question left) =
-    (call : Call) → blank call ≡ question → IsAsAssumed assumed last call → Leads assumed P (tick_after last call) (left call)
+    (call : Call) → blank call ≡ question → IsAsAssumed assumed last call → Leads assumed P (tick_after call last) (left call)
 
 leads_then : {A B : Type 0} (assumed : Assumed) (P : ℕ → A → Type 0) (Q : ℕ → B → Type 0) (last : ℕ) (plan : Plan A) (next : A → Plan B)
     → Leads assumed P last plan → ((tick : ℕ) (value : A) → P tick value → Leads assumed Q tick (next value))
     → Leads assumed Q last (plan >>= next)
 leads_then assumed P Q last (Ends value) next leads goes_on = goes_on last value leads
 leads_then assumed P Q last (Asks question left) next leads goes_on =
-    λ call asked is. leads_then assumed P Q (tick_after last call) (left call) next (leads call asked is) goes_on
+    λ call asked is. leads_then assumed P Q (tick_after call last) (left call) next (leads call asked is) goes_on
 
 leads_end : {A : Type 0} (assumed : Assumed) (P : ℕ → A → Type 0) (last : ℕ) (plan : Plan A) (calls : List Call) (value : A)
     → Leads assumed P last plan → Follows plan calls value → AreAsAssumed assumed last calls → (tick : ℕ) × P tick value
 leads_end {A} assumed P last (Ends end) calls value leads follows are = (last, subst (λ (v : A). P last v) (sym follows.1) leads)
 leads_end assumed P last (Asks question left) [] value leads follows are = absurd follows
 leads_end assumed P last (Asks question left) (call ∷ calls) value leads follows are =
-    leads_end assumed P (tick_after last call) (left call) calls value (leads call follows.0 are.0) follows.1 are.1
+    leads_end assumed P (tick_after call last) (left call) calls value (leads call follows.0 are.0) follows.1 are.1
 
 or_left : (a b : Bool) → (a || b) ≡ false → a ≡ false
 or_left true b is = cc
@@ -118,7 +118,7 @@ is_now (call.Send to bytes ok) = false
 is_now (call.Disarm ok) = false
 is_now (call.Halt code) = false
 
-tells_none : (last : ℕ) (c : Call) → is_now (blank c) ≡ false → tick_after last c ≡ last
+tells_none : (last : ℕ) (c : Call) → is_now (blank c) ≡ false → tick_after c last ≡ last
 tells_none last (call.Now tick) is = cc
 tells_none last (call.OpenImage path ok) is = refl
 tells_none last (call.OpenNode images image watchdog resource port rank ok) is = refl
@@ -132,14 +132,14 @@ tells_none last (call.Send to bytes ok) is = refl
 tells_none last (call.Disarm ok) is = refl
 tells_none last (call.Halt code) is = refl
 
-asked_none : (last : ℕ) (c question : Call) → blank c ≡ question → is_now question ≡ false → tick_after last c ≡ last
+asked_none : (last : ℕ) (c question : Call) → blank c ≡ question → is_now question ≡ false → tick_after c last ≡ last
 asked_none last c question asked is = tells_none last c (ap is_now asked ∙ is)
 
 -- ## Entries and outputs
 
 -- an end that comes where the calls are as assumed
 abbrev good_cause : Assumed → BootCause → Bool
-good_cause assumed why = not (is_call_cause why) || not assumed.calls
+good_cause assumed why = is_no_failure why || not assumed.calls
 
 abbrev is_good : Assumed → LiveEnd → Bool
 is_good assumed (end.Turns phase holds answer why) = true
@@ -380,7 +380,7 @@ module _ (assumed : Assumed) where
     where
       of_halt : (halted : Option BootCause) → calm_halt halted ≡ true
       of_halt None = refl
-      of_halt (Some why) = or_second (not (is_call_cause why)) (not assumed.calls) (ap not no_calls)
+      of_halt (Some why) = or_second (is_no_failure why) (not assumed.calls) (ap not no_calls)
 
   calm_answer : (s : Settings) (op : DiskOp) (c : Call) → (assumed.calls ≡ true → is_failed c ≡ false) → is_calm s (disk_answer s op c) ≡ true
   calm_answer s op c whole = of_calls assumed.calls refl
@@ -435,7 +435,7 @@ module _ (assumed : Assumed) where
   leads_outs s me tick log st [] last is same calm = (is, same, calm)
   leads_outs s me tick log st (o ∷ outs) last is same calm =
       λ c asked given.
-      leads_outs s me tick log (noted s o c st) outs (tick_after last c)
+      leads_outs s me tick log (noted s o c st) outs (tick_after c last)
       (asked_none last c (out_call s me (own_number st.log) o) asked (out_asks_none s me (own_number st.log) o) ∙ is) same
       (calm_after s o c st.waits given.whole calm)
 
@@ -443,7 +443,7 @@ module _ (assumed : Assumed) where
   unfolding sends_plan
   leads_sends tick [] last is = is
   leads_sends tick (one ∷ more) last is =
-      λ c asked given. leads_sends tick more (tick_after last c) (asked_none last c (call.Send one.to (packet_bytes one.packet) true) asked refl ∙ is)
+      λ c asked given. leads_sends tick more (tick_after c last) (asked_none last c (call.Send one.to (packet_bytes one.packet) true) asked refl ∙ is)
 
   -- a turn ended the run well, or another one can follow
   abbrev Turns : Settings → ℕ → Turned → Type 0
@@ -512,7 +512,7 @@ module _ (assumed : Assumed) where
       → calm_waiting s chosen.1.waits.disk ≡ true → Leads assumed (Turns s) last (timed s me chosen)
   leads_timed s me chosen last is good calm = λ c asked given. of_call c asked given
     where
-      of_call : (c : Call) → blank c ≡ call.Now 0 → IsAsAssumed assumed last c → Leads assumed (Turns s) (tick_after last c) (clocked s me chosen (time_of c))
+      of_call : (c : Call) → blank c ≡ call.Now 0 → IsAsAssumed assumed last c → Leads assumed (Turns s) (tick_after c last) (clocked s me chosen (time_of c))
       of_call (call.Now tick) asked given = leads_clocked s me chosen tick (λ clock. subst (λ (first : ℕ). first ≤ tick) (sym is) (given.rises clock)) good calm
       of_call (call.OpenImage path ok) asked given = cc
       of_call (call.OpenNode images image watchdog resource port rank ok) asked given = cc
@@ -604,16 +604,16 @@ module _ (assumed : Assumed) where
 
 -- ## The two laws
 
-none_of : (a : Bool) → (not a || false) ≡ true → a ≡ false
-none_of true is = cc
-none_of false is = refl
+none_of : (a : Bool) → (a || false) ≡ true → not a ≡ false
+none_of true is = refl
+none_of false is = cc
 
 not_by_call : (end : LiveEnd) → is_good (record { calls = true; clock = false }) end ≡ true → is_by_call end ≡ false
 not_by_call (end.Turns phase holds answer why) good = refl
 not_by_call (end.Left clean) good = refl
 not_by_call (end.ClockBack before now) good = refl
 not_by_call (end.SelfReset message) good = refl
-not_by_call (end.BootHalted why) good = none_of (is_call_cause why) good
+not_by_call (end.BootHalted why) good = none_of (is_no_failure why) good
 
 not_by_clock : (end : LiveEnd) → is_good (record { calls = false; clock = true }) end ≡ true → is_by_clock end ≡ false
 not_by_clock (end.Turns phase holds answer why) good = refl
@@ -626,13 +626,13 @@ are_whole : (last : ℕ) (calls : List Call) → some_failed calls ≡ false →
 are_whole last [] whole = tt
 are_whole last (call ∷ calls) whole = (
   record { whole = λ is. or_left (is_failed call) (some_failed calls) whole; rises = λ is. absurd cc },
-  are_whole (tick_after last call) calls (or_right (is_failed call) (some_failed calls) whole),
+  are_whole (tick_after call last) calls (or_right (is_failed call) (some_failed calls) whole),
 )
 
 are_rising : (last : ℕ) (calls : List Call) → NeverFalls last calls → AreAsAssumed (record { calls = false; clock = true }) last calls
 are_rising last [] rises = tt
 are_rising last (call ∷ calls) rises =
-    (record { whole = λ is. absurd cc; rises = λ is. rises.0 }, are_rising (tick_after last call) calls rises.1)
+    (record { whole = λ is. absurd cc; rises = λ is. rises.0 }, are_rising (tick_after call last) calls rises.1)
 
 module _ (s : Settings) (me : ℕ) (clean : Bool) (leave : Option ℕ) (turns : ℕ) (calls : List Call) (ran : Ran)
     (follows : Follows (live_plan s me clean leave turns) calls ran) where
@@ -649,3 +649,15 @@ module _ (s : Settings) (me : ℕ) (clean : Bool) (leave : Option ℕ) (turns : 
       let assumed : Assumed = record { calls = false; clock = true } in
       not_by_clock ran.end (leads_end assumed (Ended assumed) 0 (live_plan s me clean leave turns) calls ran (leads_live assumed s me clean leave turns)
       follows (are_rising 0 calls rises)).1
+
+-- an end that neither a failed call nor the clock made is a sound one
+pub sound_end : (end : LiveEnd) → is_by_call end ≡ false → is_by_clock end ≡ false → is_sound end ≡ true
+sound_end (end.Turns phase holds answer why) no_call no_clock = refl
+sound_end (end.Left clean) no_call no_clock = refl
+sound_end (end.ClockBack before now) no_call no_clock = cc
+sound_end (end.SelfReset message) no_call no_clock = refl
+sound_end (end.BootHalted why) no_call no_clock = of_test (is_no_failure why) no_call
+  where
+    of_test : (test : Bool) → not test ≡ false → test ≡ true
+    of_test true is = refl
+    of_test false is = cc
