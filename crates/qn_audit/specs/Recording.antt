@@ -1,0 +1,13 @@
+-- What a recorder writes: this project's profile.
+use Rattle.std.specs.Prelude.{◌≡◌, ℕ, Bool, true, false, List, ◌++◌, Option, codes}
+use Rattle.std.specs.Io.KnownBytes.{append_known}
+use Rattle.qn_io.specs.Outside.{HasRisen}
+use Rattle.qn_io.specs.Writes.{AppendsFront}
+
+-- The text was given to a log: `whole` says whether all writes succeeded, before and after. It was written whole, or a write
+-- failed and a prefix of it was written; after a write that failed nothing is written.
+abbrev pub Logs : Bool → Bool → Option (List ℕ) → Option (List ℕ) → Type 0 → List ℕ → Type 0
+Logs true true old new failed text = new ≡ append_known old text
+Logs true false old new failed text = AppendsFront old new text × failed
+Logs false true old new failed text = ⊥
+Logs false false old new failed text = new ≡ old

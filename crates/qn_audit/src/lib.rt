@@ -1,0 +1,15 @@
+//! The log of a running node and its audit: each call with its answer is one line, and an audit says how far the lines are
+//! a run that the definition of the running node allows.
+//!
+//! Promises: a line is read as the call that `specs/Reading` gives, or its first fault is named; an `Auditor` takes
+//! a call exactly where the run of `live_plan` asks for it, and says that the run is over exactly where its plan ends.
+#![tactic(auto)]
+
+mod answering;
+mod auditor;
+mod log_bytes;
+mod log_line;
+mod log_name;
+
+pub use auditor::{Auditor, NotNext, Verdict};
+pub use log_line::read_call;
