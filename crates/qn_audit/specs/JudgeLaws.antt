@@ -8,11 +8,11 @@ use Rattle.qn_audit.specs.Judging.{AsksWiped, GoesOn, IsFirstOther, IsNext, IsPr
 
 -- a whole run ends with a value
 pub whole_follows : {A : Type 0} (plan : Plan A) (calls : List Call) → IsWhole plan calls → (value : A) × Follows plan calls value
-whole_follows (Ends value) [] whole = (value, refl, refl)
+whole_follows (Ends value) [] whole = (value, (refl, refl))
 whole_follows (Ends value) (call ∷ calls) whole = absurd cc
 whole_follows (Asks wanted left_of) [] whole = absurd cc
 whole_follows (Asks wanted left_of) (call ∷ calls) whole =
-    let rest = whole_follows (left_of call) calls (whole.0.1, whole.1) in (rest.0, cc, rest.1)
+    let rest = whole_follows (left_of call) calls (whole.0.1, whole.1) in (rest.0, (cc, rest.1))
 
 -- calls that follow a plan are a whole run of it
 pub follows_whole : {A : Type 0} (plan : Plan A) (calls : List Call) (value : A) → Follows plan calls value → IsWhole plan calls
@@ -26,25 +26,25 @@ follows_whole (Asks wanted left_of) (call ∷ calls) value follows =
 pub front_is_prefix : {A : Type 0} (plan : Plan A) (calls : List Call) (call : Call) (more : List Call) (value : A) → Follows plan (calls ++ call ∷ more) value → IsPrefix plan calls
 front_is_prefix (Ends end) [] call more value follows = absurd cc
 front_is_prefix (Ends end) (first ∷ calls) call more value follows = absurd cc
-front_is_prefix (Asks wanted left_of) [] call more value follows = (tt, wanted, refl)
+front_is_prefix (Asks wanted left_of) [] call more value follows = (tt, (wanted, refl))
 front_is_prefix (Asks wanted left_of) (first ∷ calls) call more value follows =
     let rest = front_is_prefix (left_of first) calls call more value follows.1 in ((cc, rest.0), rest.1)
 
 -- a plan whose questions are wiped ends after some calls
 some_run : {A : Type 0} (plan : Plan A) → AsksWiped plan → (calls : List Call) × ((value : A) × Follows plan calls value)
-some_run (Ends value) wiped = ([], value, refl, refl)
+some_run (Ends value) wiped = ([], (value, (refl, refl)))
 some_run (Asks wanted left_of) wiped =
-    let rest = some_run (left_of wanted) (wiped.1 wanted) in (wanted ∷ rest.0, rest.1.0, wiped.0, rest.1.1)
+    let rest = some_run (left_of wanted) (wiped.1 wanted) in (wanted ∷ rest.0, (rest.1.0, (wiped.0, rest.1.1)))
 
 -- the beginning of a run is the front of a list that follows the plan
 pub prefix_goes_on : {A : Type 0} (plan : Plan A) (calls : List Call) → AsksWiped plan → IsPrefix plan calls → (call : Call) × ((more : List Call) × ((value : A) × Follows plan (calls ++ call ∷ more) value))
 prefix_goes_on (Ends end) [] wiped prefix = absurd cc
 prefix_goes_on (Ends end) (first ∷ calls) wiped prefix = absurd cc
 prefix_goes_on (Asks wanted left_of) [] wiped prefix =
-    let rest = some_run (left_of wanted) (wiped.1 wanted) in (wanted, rest.0, rest.1.0, wiped.0, rest.1.1)
+    let rest = some_run (left_of wanted) (wiped.1 wanted) in (wanted, (rest.0, (rest.1.0, (wiped.0, rest.1.1))))
 prefix_goes_on (Asks wanted left_of) (first ∷ calls) wiped prefix =
     let rest = prefix_goes_on (left_of first) calls (wiped.1 first) (prefix.0.1, prefix.1) in
-    (rest.0, rest.1.0, rest.1.1.0, cc, rest.1.1.1)
+    (rest.0, (rest.1.0, (rest.1.1.0, (cc, rest.1.1.1))))
 
 -- no list that follows the plan has a call that is not asked for
 pub other_is_no_run : {A : Type 0} (plan : Plan A) (before : List Call) (call : Call) (more : List Call) → IsFirstOther plan before call → (value : A) → Follows plan (before ++ call ∷ more) value → ⊥

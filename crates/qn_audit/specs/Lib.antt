@@ -5,3 +5,4 @@ pub mod Logs
 pub mod Reading
 pub mod Recording
 pub mod Auditing
+pub mod Taking

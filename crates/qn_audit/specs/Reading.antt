@@ -71,14 +71,19 @@ receive_of words = do
 abbrev pub sector_of : List ℕ → Result ℕ LineFault
 sector_of word = number_between 0 (2 ^ 32 - 1) word
 
+-- a read of a sector, which failed or gave these bytes
+unfoldable pub sector_read_of : ℕ → List ℕ → Result Call LineFault
+sector_read_of sector word =
+    if bytes_eq word (codes "failed") then Ok (call.Read sector [] false)
+    else (do
+      bytes ← bytes_between 512 512 word
+      Ok (call.Read sector bytes true))
+
 unfoldable pub read_of : List (List ℕ) → Result Call LineFault
 read_of words = do
   pair ← two_words words
   sector ← sector_of pair.0
-  if bytes_eq pair.1 (codes "failed") then Ok (call.Read sector [] false)
-  else (do
-    bytes ← bytes_between 512 512 pair.1
-    Ok (call.Read sector bytes true))
+  sector_read_of sector pair.1
 
 unfoldable pub write_of : List (List ℕ) → Result Call LineFault
 write_of words = do

@@ -1,8 +1,9 @@
 -- What a recorder writes: this project's profile.
 use Rattle.std.specs.Prelude.{◌≡◌, ℕ, Bool, true, false, List, ◌++◌, Option, codes}
 use Rattle.std.specs.Io.KnownBytes.{append_known}
-use Rattle.qn_io.specs.Outside.{HasRisen}
+use Rattle.qn_base.specs.declared.calls.Call.{Call}
 use Rattle.qn_io.specs.Writes.{AppendsFront}
+use Rattle.qn_audit.specs.Logs.{call_line}
 
 -- The text was given to a log: `whole` says whether all writes succeeded, before and after. It was written whole, or a write
 -- failed and a prefix of it was written; after a write that failed nothing is written.
@@ -11,3 +12,7 @@ Logs true true old new failed text = new ≡ append_known old text
 Logs true false old new failed text = AppendsFront old new text × failed
 Logs false true old new failed text = ⊥
 Logs false false old new failed text = new ≡ old
+
+-- a call was given to a log, as its line with its end
+abbrev pub LogsCall : Bool → Bool → Option (List ℕ) → Option (List ℕ) → Type 0 → Call → Type 0
+LogsCall before after old new failed call = Logs before after old new failed (call_line call ++ codes "\n")

@@ -65,8 +65,9 @@ impl Auditor {
         ensures other { OnErr result ((plan : Plan Ran) → StandsFor self.old plan → IsNext plan call.now → ⊥) }
         ensures kept { OnErr result ((plan : Plan Ran) → StandsFor self.old plan → StandsFor self.new plan) }
     {
-        let Ok(asked) = self.run.asks(&mut self.room) else {
-            return Err(NotNext);
+        let asked = match self.run.asks(&mut self.room) {
+            Ok(asked) => asked,
+            Err(_) => return Err(NotNext),
         };
         let Some(given) = answer_of(asked, call, &mut self.room) else {
             return Err(NotNext);

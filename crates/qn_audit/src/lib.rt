@@ -6,10 +6,22 @@
 #![tactic(auto)]
 
 mod answering;
+mod audit_end;
 mod auditor;
+mod log;
 mod log_bytes;
 mod log_line;
 mod log_name;
+mod log_place;
+mod log_text;
+mod log_writer;
+mod recorder;
 
+pub use audit_end::AuditEnd;
 pub use auditor::{Auditor, NotNext, Verdict};
+pub use log::audit_log;
 pub use log_line::read_call;
+pub use log_place::MOST_LOG_LINES;
+pub use log_text::{LOG_LINE, put_call_line};
+pub use log_writer::LogWriter;
+pub use recorder::Recorder;

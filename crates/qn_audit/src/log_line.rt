@@ -1,8 +1,9 @@
 //! Reads the line of a call, or names its first fault.
 ghost use Rattle.std.specs.Prelude.{◌≡◌, IfOk};
 ghost use Rattle.std.specs.Option.{option_copied};
+ghost use Rattle.qn_audit.specs.Auditing.{is_now};
 ghost use Rattle.qn_audit.specs.Logs.{IsLogged, IsSoundReceived};
-ghost use Rattle.qn_audit.specs.Reading.{call_named, call_of, device_of, halt_of, now_of, ok_of, read_of, receive_of, received_of, sector_of, send_of, write_of};
+ghost use Rattle.qn_audit.specs.Reading.{call_named, call_of, device_of, halt_of, now_of, ok_of, read_of, receive_of, received_of, sector_of, sector_read_of, send_of, write_of};
 ghost use Rattle.qn_sched.specs.Words.{parts_left};
 
 use crate::log_bytes::bytes_between;
@@ -87,6 +88,14 @@ fn read_read(rest: Option<&[u8]>) -> Result<Call, LineFault>
 {
     let (sector, word) = two_words(rest)?;
     let sector = sector_of(sector)?;
+    sector_read_of(sector, word)
+}
+
+#[tactic(auto, unfolding(crate::specs::Reading::sector_read_of))]
+fn sector_read_of(sector: u32, word: &[u8]) -> Result<Call, LineFault>
+    ensures call { result ≡ sector_read_of sector word.now }
+    ensures logged { IfOk result IsLogged }
+{
     if word == b"failed".as_slice() {
         return Ok(Call::Read {
             sector,
@@ -173,4 +182,11 @@ fn ok_of(word: &[u8]) -> Result<bool, LineFault>
     } else {
         Err(LineFault::UnknownWord)
     }
+}
+
+/// Whether the call looks at the clock, as each turn does once.
+pub(crate) fn looks_at_clock(call: &Call) -> bool
+    ensures { result ≡ is_now call.now }
+{
+    matches!(call, Call::Now { .. })
 }
