@@ -76,3 +76,10 @@ keeps_call plan (first ∷ calls) call kept next = (kept.0, keeps_call (left pla
 pub left_call_after : {A : Type 0} (plan : Plan A) (calls : List Call) (call : Call) → left_after plan (calls ++ call ∷ []) ≡ left (left_after plan calls) call
 left_call_after plan [] call = refl
 left_call_after plan (first ∷ calls) call = left_call_after (left plan first) calls call
+
+-- calls after which the plan is over follow it
+pub kept_follows : {A : Type 0} (plan : Plan A) (calls : List Call) (value : A) → Keeps plan calls → left_after plan calls ≡ Ends value → Follows plan calls value
+kept_follows (Ends end) [] value kept over = (refl, cc)
+kept_follows (Ends end) (call ∷ calls) value kept over = absurd cc
+kept_follows (Asks wanted left_of) [] value kept over = absurd cc
+kept_follows (Asks wanted left_of) (call ∷ calls) value kept over = (cc, kept_follows (left_of call) calls value kept.1 over)

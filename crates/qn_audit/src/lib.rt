@@ -15,6 +15,7 @@ mod log_name;
 mod log_place;
 mod log_text;
 mod log_writer;
+mod logging;
 mod recorder;
 
 pub use audit_end::AuditEnd;
@@ -24,4 +25,5 @@ pub use log_line::read_call;
 pub use log_place::MOST_LOG_LINES;
 pub use log_text::{LOG_LINE, put_call_line};
 pub use log_writer::LogWriter;
+pub use logging::run_recorded;
 pub use recorder::Recorder;

@@ -68,6 +68,7 @@ impl<E: Env + Drop, O: Sink + Drop> Env for Recorder<E, O> {
         ensures made { Made (E.faults self.old.env) (E.faults self.new.env) (E.calls self.old.env) (E.calls self.new.env) (Now result ∷ []) }
         ensures logs { LogsCall self.old.log.whole self.new.log.whole (O.written self.old.log.out) (O.written self.new.log.out)
             (HasRisen (O.faults self.old.log.out) (O.faults self.new.log.out)) (Now result) }
+        ensures sink_faults { O.faults self.old.log.out ≤ O.faults self.new.log.out }
     {
         let tick = self.env.now();
         self.log.write(&Call::Now { tick });
@@ -79,6 +80,7 @@ impl<E: Env + Drop, O: Sink + Drop> Env for Recorder<E, O> {
         ensures made { Made (E.faults self.old.env) (E.faults self.new.env) (E.calls self.old.env) (E.calls self.new.env) (Receive (received result packet.new) ∷ []) }
         ensures logs { LogsCall self.old.log.whole self.new.log.whole (O.written self.old.log.out) (O.written self.new.log.out)
             (HasRisen (O.faults self.old.log.out) (O.faults self.new.log.out)) (Receive (received result packet.new)) }
+        ensures sink_faults { O.faults self.old.log.out ≤ O.faults self.new.log.out }
     {
         let got = self.env.receive(packet);
         self.log.write(&Call::Receive {
@@ -95,6 +97,7 @@ impl<E: Env + Drop, O: Sink + Drop> Env for Recorder<E, O> {
             (HasRisen (O.faults self.old.log.out) (O.faults self.new.log.out)) (Read sector into.new true)) }
         ensures logs_failed { OnErr result (LogsCall self.old.log.whole self.new.log.whole (O.written self.old.log.out) (O.written self.new.log.out)
             (HasRisen (O.faults self.old.log.out) (O.faults self.new.log.out)) (Read sector [] false)) }
+        ensures sink_faults { O.faults self.old.log.out ≤ O.faults self.new.log.out }
     {
         let done = self.env.read(sector, into);
         let bytes = match done {
@@ -114,6 +117,7 @@ impl<E: Env + Drop, O: Sink + Drop> Env for Recorder<E, O> {
         ensures made { Made (E.faults self.old.env) (E.faults self.new.env) (E.calls self.old.env) (E.calls self.new.env) (Write sector from.now (is_ok result) ∷ []) }
         ensures logs { LogsCall self.old.log.whole self.new.log.whole (O.written self.old.log.out) (O.written self.new.log.out)
             (HasRisen (O.faults self.old.log.out) (O.faults self.new.log.out)) (Write sector from.now (is_ok result)) }
+        ensures sink_faults { O.faults self.old.log.out ≤ O.faults self.new.log.out }
     {
         let done = self.env.write(sector, from);
         self.log.write(&Call::Write {
@@ -129,6 +133,7 @@ impl<E: Env + Drop, O: Sink + Drop> Env for Recorder<E, O> {
         ensures made { Made (E.faults self.old.env) (E.faults self.new.env) (E.calls self.old.env) (E.calls self.new.env) (Send to bytes.now (is_ok result) ∷ []) }
         ensures logs { LogsCall self.old.log.whole self.new.log.whole (O.written self.old.log.out) (O.written self.new.log.out)
             (HasRisen (O.faults self.old.log.out) (O.faults self.new.log.out)) (Send to bytes.now (is_ok result)) }
+        ensures sink_faults { O.faults self.old.log.out ≤ O.faults self.new.log.out }
     {
         let done = self.env.send(to, bytes);
         self.log.write(&Call::Send {
@@ -143,6 +148,7 @@ impl<E: Env + Drop, O: Sink + Drop> Env for Recorder<E, O> {
         ensures made { Made (E.faults self.old.env) (E.faults self.new.env) (E.calls self.old.env) (E.calls self.new.env) (Feed (is_ok result) ∷ []) }
         ensures logs { LogsCall self.old.log.whole self.new.log.whole (O.written self.old.log.out) (O.written self.new.log.out)
             (HasRisen (O.faults self.old.log.out) (O.faults self.new.log.out)) (Feed (is_ok result)) }
+        ensures sink_faults { O.faults self.old.log.out ≤ O.faults self.new.log.out }
     {
         let done = self.env.feed();
         self.log.write(&Call::Feed { ok: done.is_ok() });
@@ -153,6 +159,7 @@ impl<E: Env + Drop, O: Sink + Drop> Env for Recorder<E, O> {
         ensures made { Made (E.faults self.old.env) (E.faults self.new.env) (E.calls self.old.env) (E.calls self.new.env) (Start (is_ok result) ∷ []) }
         ensures logs { LogsCall self.old.log.whole self.new.log.whole (O.written self.old.log.out) (O.written self.new.log.out)
             (HasRisen (O.faults self.old.log.out) (O.faults self.new.log.out)) (Start (is_ok result)) }
+        ensures sink_faults { O.faults self.old.log.out ≤ O.faults self.new.log.out }
     {
         let done = self.env.start();
         self.log.write(&Call::Start { ok: done.is_ok() });
@@ -163,6 +170,7 @@ impl<E: Env + Drop, O: Sink + Drop> Env for Recorder<E, O> {
         ensures made { Made (E.faults self.old.env) (E.faults self.new.env) (E.calls self.old.env) (E.calls self.new.env) (Stop (is_ok result) ∷ []) }
         ensures logs { LogsCall self.old.log.whole self.new.log.whole (O.written self.old.log.out) (O.written self.new.log.out)
             (HasRisen (O.faults self.old.log.out) (O.faults self.new.log.out)) (Stop (is_ok result)) }
+        ensures sink_faults { O.faults self.old.log.out ≤ O.faults self.new.log.out }
     {
         let done = self.env.stop();
         self.log.write(&Call::Stop { ok: done.is_ok() });
@@ -173,6 +181,7 @@ impl<E: Env + Drop, O: Sink + Drop> Env for Recorder<E, O> {
         ensures made { Made (E.faults self.old.env) (E.faults self.new.env) (E.calls self.old.env) (E.calls self.new.env) (Disarm (is_ok result) ∷ []) }
         ensures logs { LogsCall self.old.log.whole self.new.log.whole (O.written self.old.log.out) (O.written self.new.log.out)
             (HasRisen (O.faults self.old.log.out) (O.faults self.new.log.out)) (Disarm (is_ok result)) }
+        ensures sink_faults { O.faults self.old.log.out ≤ O.faults self.new.log.out }
     {
         let done = self.env.disarm();
         self.log.write(&Call::Disarm { ok: done.is_ok() });
@@ -183,6 +192,7 @@ impl<E: Env + Drop, O: Sink + Drop> Env for Recorder<E, O> {
         ensures made { Made (E.faults self.old.env) (E.faults self.new.env) (E.calls self.old.env) (E.calls self.new.env) (Halt code ∷ []) }
         ensures logs { LogsCall self.old.log.whole self.new.log.whole (O.written self.old.log.out) (O.written self.new.log.out)
             (HasRisen (O.faults self.old.log.out) (O.faults self.new.log.out)) (Halt code) }
+        ensures sink_faults { O.faults self.old.log.out ≤ O.faults self.new.log.out }
     {
         self.env.halt(code);
         self.log.write(&Call::Halt { code });
