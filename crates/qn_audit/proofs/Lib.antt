@@ -1,0 +1,3 @@
+mod Auditing
+mod LogTexts
+mod Verdicts

@@ -1,0 +1,10 @@
+use Rattle.std.proofs.Common.{◌≡◌, ◌<◌, Err, refl, sym, ◌∙◌, arith}
+use Rattle.qn_audit.specs.Auditing.{EndsAt, Bad}
+use Rattle.qn_audit.specs.Reading.{call_of}
+use Rattle.qn_audit.proofs.log_place.LogPlace.take.Goals as goal
+
+pub returns-in-Err-clause-end : goal.returns-in-Err-clause-end
+returns-in-Err-clause-end c = λ plan more stands.
+    let faulty : call_of c.args.line.now ≡ Err c.in-Err.fault = cc (c.read_call.ensures.first_fault, c.in-Err.is) in
+    let few : c.args.self.now.lines < 2000000 = omega (arith, c.if-self-eq-MOST_LOG_LINES.false, c.args.self.now.few) in
+    rw c.bad_line-in-Err.ensures (refl, Bad c.args.line.now refl few faulty)

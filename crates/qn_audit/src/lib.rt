@@ -1,0 +1,29 @@
+//! The log of a running node and its audit: each call with its answer is one line, and an audit says how far the lines are
+//! a run that the definition of the running node allows.
+//!
+//! Promises: a line is read as the call that `specs/Reading` gives, or its first fault is named; an `Auditor` takes
+//! a call exactly where the run of `live_plan` asks for it, and says that the run is over exactly where its plan ends.
+#![tactic(auto)]
+
+mod answering;
+mod audit_end;
+mod auditor;
+mod log;
+mod log_bytes;
+mod log_line;
+mod log_name;
+mod log_place;
+mod log_text;
+mod log_writer;
+mod logging;
+mod recorder;
+
+pub use audit_end::AuditEnd;
+pub use auditor::{Auditor, NotNext, Verdict};
+pub use log::audit_log;
+pub use log_line::read_call;
+pub use log_place::MOST_LOG_LINES;
+pub use log_text::{LOG_LINE, put_call_line};
+pub use log_writer::LogWriter;
+pub use logging::run_recorded;
+pub use recorder::Recorder;
