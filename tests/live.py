@@ -79,7 +79,7 @@ class Cluster:
         self.image = self.folder / "disk"
         nodes = "".join("node {\nnodeid: %d\n}\n" % ident for ident in ids)
         (self.folder / "conf").write_text("nodelist {\n%s}\nquorum {\nprovider: corosync_votequorum\n}\n" % nodes)
-        self.port = free_ports(len(ids))
+        self.port, self.started = free_ports(len(ids)), 0
         with open(self.folder / "conf") as settings:
             same("create", self.quorumd("create", "--timing", timing, stdin=settings), (0, "created nodes %d\n" % len(ids)))
 
@@ -129,7 +129,8 @@ class Node:
             "turns": turns,
         }
         self.words = {name: str(value) for name, value in words.items()}
-        number = len(STARTED)
+        cluster.started += 1
+        number = cluster.started
         self.log, self.answer = cluster.folder / ("log.%d" % number), cluster.folder / ("answer.%d" % number)
         options = [word for name, value in self.words.items() for word in ("--" + name, value)]
         with open(cluster.folder / "conf") as settings, open(self.log, "w") as log, open(self.answer, "w") as answer:
@@ -206,6 +207,9 @@ def end_all():
             process.kill()
 
 
+atexit.register(end_all)
+
+
 def gives_up(*_):
     end_all()
     print("no end in %d seconds" % ALL, flush=True)
@@ -223,7 +227,6 @@ def tried(test):
 
 def try_all(*tests):
     """Tries all of them at the same time, and ends with 1 where one is wrong."""
-    atexit.register(end_all)
     signal.signal(signal.SIGALRM, gives_up)
     signal.alarm(ALL)
     with concurrent.futures.ThreadPoolExecutor(len(tests)) as pool:

@@ -1,5 +1,8 @@
-"""Three hosts of one cluster on this machine, for the scripts beside it: how they are started, who signs the journal, and how a node is
-killed, paused or sent a message."""
+#!/usr/bin/env python3
+"""examples/live/hosts.py FOLDER
+
+Three hosts of one cluster on this machine, in this new folder, until they are interrupted. For the scripts beside it: how hosts are started,
+who signs the journal, and how a node is killed, paused or sent a message."""
 import os
 import pathlib
 import signal
@@ -10,7 +13,8 @@ import time
 HERE = pathlib.Path(__file__).resolve().parent
 TOP = HERE.parents[1]
 IDS = (1, 2, 3)
-TIMES = "1500,3600,500,1000,1000"  # short ones, so that a take-over takes some six seconds
+TIMES = "1500,3100,500,1000,500"  # short ones, so that a take-over takes some five seconds
+REBOOTS = {1: ["2"], 2: ["5"], 3: ["9"]}  # seconds: a host may be back before another node took over, or later
 FRESH = 0.5  # seconds: whoever signed within them holds the resource
 PATIENCE = 90  # seconds
 
@@ -30,10 +34,11 @@ def wait_for(what, test):
 
 
 class Hosts:
-    """Three hosts, in a folder. `with Hosts(folder) as hosts:` ends them all."""
+    """Three hosts, in a folder. `with Hosts(folder) as hosts:` switches them on, and all off at its end. `reboots` has for each the seconds
+    after which it boots again; where there are none it stays off until it is switched on."""
 
-    def __init__(self, folder):
-        self.folder = pathlib.Path(folder)
+    def __init__(self, folder, reboots=None):
+        self.folder, self.reboots = pathlib.Path(folder), reboots or {}
         self.folder.mkdir()
         self.program = os.environ.get("QUORUMD") or str(TOP / "bin" / "quorumd")
         nodes = "".join(" node {\n  nodeid: %d\n }\n" % ident for ident in IDS)
@@ -64,7 +69,7 @@ class Hosts:
         print("%8.2f > %s" % (time.monotonic() - self.began, what), flush=True)
 
     def switch_on(self, ident):
-        words = [sys.executable, HERE / "host", str(ident), self.folder, self.port]
+        words = [sys.executable, HERE / "host", str(ident), self.folder, self.port, *self.reboots.get(ident, [])]
         self.hosts[ident] = subprocess.Popen(words, env=dict(os.environ, BEGAN=str(self.began), QUORUMD=self.program))
 
     def holder(self):
@@ -107,3 +112,15 @@ class Hosts:
     def message(self, ident, kind):
         self.say("message --id %d --kind %s" % (ident, kind))
         self.quorumd("message", "--id", str(ident), "--kind", kind)
+
+
+def main(folder):
+    with Hosts(folder, REBOOTS) as hosts:
+        try:
+            signal.pause()
+        except KeyboardInterrupt:
+            hosts.say("the hosts are switched off")
+
+
+if __name__ == "__main__":
+    main(*sys.argv[1:])

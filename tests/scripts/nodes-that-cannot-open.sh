@@ -23,7 +23,7 @@ def port_in_use():
     with socket.socket(socket.AF_INET, socket.SOCK_DGRAM) as holder:
         holder.bind(("127.0.0.1", cluster.port))
         is_refused(cluster.node(1), "port: Address already in use (os error 98)")
-    same("nothing after it is touched", sorted(os.listdir(cluster.folder)), ["answer.0", "conf", "disk", "log.0"])
+    same("nothing after it is touched", sorted(os.listdir(cluster.folder)), ["answer.1", "conf", "disk", "log.1"])
 
 
 def second_start():
