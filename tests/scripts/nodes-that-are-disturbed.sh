@@ -1,6 +1,6 @@
 # Nodes that run and are disturbed: a watchdog that is full and one that is a pipe, bytes of a stranger at a port, and a node that stands
 # still for less than three loops, and for so long that another one follows it.
-PYTHONPATH=$TOP/tests python3 - <<'END'
+PYTHONPATH=$TOP/tests python3 -B - <<'END'
 import os
 import random
 import select

@@ -2,7 +2,7 @@
 # start of a node that runs leaves that one in peace. And an image that is none ends the boot.
 cp "$QUORUMD" program
 chmod 755 . program
-PYTHONPATH=$TOP/tests python3 - <<'END'
+PYTHONPATH=$TOP/tests python3 -B - <<'END'
 import os
 import pathlib
 import socket

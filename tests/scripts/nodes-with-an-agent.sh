@@ -1,6 +1,6 @@
 # Nodes whose resource is behind an agent: what the agent is sent, each answer that is none, a start and a stop that it refuses, and a stop
 # that takes 800 ms, after which the feed of its turn is not given and the next one is.
-PYTHONPATH=$TOP/tests python3 - <<'END'
+PYTHONPATH=$TOP/tests python3 -B - <<'END'
 import time
 
 from live import Agent, Cluster, same, try_all
