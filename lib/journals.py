@@ -1,10 +1,15 @@
 """A journal that several owners of one resource sign, as lanes: lines `TIME ID`, where the time is in seconds, such as `17.58 2`. An owner
 holds the resource from one signature to its next, where that comes within a second."""
 import re
+from collections import namedtuple
 
 from lanes import LaneMaker, Timeline
 
 PAUSE = 1000  # milliseconds; an owner that signs again within them went on
+
+
+# What an owner signed without a pause: from its first signature to its last one, in milliseconds.
+Holding = namedtuple("Holding", "ident first last")
 
 
 class JournalFault(Exception):
@@ -21,6 +26,27 @@ def signatures_of(text):
         seconds, fraction, ident = words.groups()
         found.append((1000 * int(seconds) + int((fraction or "").ljust(3, "0")[:3]), int(ident)))
     return sorted(found, key=lambda signature: signature[0])
+
+
+def holdings_of(signatures):
+    """Who held from when to when, in the order in which they began."""
+    holdings, last = [], {}  # of each owner: the place of its last holding
+    for time, ident in signatures:
+        place = last.get(ident)
+        if place is not None and time - holdings[place].last <= PAUSE:
+            holdings[place] = holdings[place]._replace(last=time)
+        else:
+            last[ident] = len(holdings)
+            holdings.append(Holding(ident, time, time))
+    return holdings
+
+
+def overlaps_of(holdings):
+    """The pairs of holdings of two owners that have a moment in common."""
+    found = []
+    for place, later in enumerate(holdings):
+        found += [(one, later) for one in holdings[:place] if one.ident != later.ident and later.first <= one.last]
+    return found
 
 
 def journal_lanes(title, text):

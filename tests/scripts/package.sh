@@ -35,7 +35,7 @@ doc=$PWD/root/usr/share/doc/quorumd
 diff -r "$doc/examples" "$TOP/examples"
 grep -q '^License: Apache-2.0$' "$doc/copyright"
 zcat "$doc/changelog.Debian.gz" | head -n 1 | grep -qF "quorumd ($version) "
-# there is no unit, since there is no running node yet, and nothing is run at the installation
+# there is no unit, and nothing is run at the installation
 same "$(find root -name '*.service' -o -name '*.socket')" ''
 same "$(ls control | xargs)" 'control md5sums'
 

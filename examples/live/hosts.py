@@ -1,0 +1,126 @@
+#!/usr/bin/env python3
+"""examples/live/hosts.py FOLDER
+
+Three hosts of one cluster on this machine, in this new folder, until they are interrupted. For the scripts beside it: how hosts are started,
+who signs the journal, and how a node is killed, paused or sent a message."""
+import os
+import pathlib
+import signal
+import subprocess
+import sys
+import time
+
+HERE = pathlib.Path(__file__).resolve().parent
+TOP = HERE.parents[1]
+IDS = (1, 2, 3)
+TIMES = "1500,3100,500,1000,500"  # short ones, so that a take-over takes some five seconds
+REBOOTS = {1: ["2"], 2: ["5"], 3: ["9"]}  # seconds: a host may be back before another node took over, or later
+FRESH = 0.5  # seconds: whoever signed within them holds the resource
+PATIENCE = 90  # seconds
+
+
+class NotSo(Exception):
+    """What was waited for in vain."""
+
+
+def wait_for(what, test):
+    """The first answer of the test that is true."""
+    end = time.monotonic() + PATIENCE
+    while not (found := test()):
+        if time.monotonic() > end:
+            raise NotSo("after %d seconds still not: %s" % (PATIENCE, what))
+        time.sleep(0.05)
+    return found
+
+
+class Hosts:
+    """Three hosts, in a folder. `with Hosts(folder) as hosts:` switches them on, and all off at its end. `reboots` has for each the seconds
+    after which it boots again; where there are none it stays off until it is switched on."""
+
+    def __init__(self, folder, reboots=None):
+        self.folder, self.reboots = pathlib.Path(folder), reboots or {}
+        self.folder.mkdir()
+        self.program = os.environ.get("QUORUMD") or str(TOP / "bin" / "quorumd")
+        nodes = "".join(" node {\n  nodeid: %d\n }\n" % ident for ident in IDS)
+        (self.folder / "conf").write_text("nodelist {\n%s}\nquorum {\n provider: corosync_votequorum\n}\n" % nodes)
+        with open(self.folder / "conf") as settings:
+            self.quorumd("create", "--timing", TIMES, stdin=settings)
+        (self.folder / "journal").touch()
+        self.port = str(13000 + 3 * (os.getpid() % 2000))
+        self.began = time.monotonic()
+        self.hosts = {}
+
+    def __enter__(self):
+        for ident in IDS:
+            self.switch_on(ident)
+        return self
+
+    def __exit__(self, *_):
+        for host in self.hosts.values():
+            host.terminate()
+        for host in self.hosts.values():
+            host.wait()
+
+    def quorumd(self, command, *words, stdin=subprocess.DEVNULL):
+        done = subprocess.run([self.program, command, "--image", self.folder / "disk", *words], stdin=stdin, stdout=subprocess.PIPE, check=True)
+        return done.stdout.decode()
+
+    def say(self, what):
+        print("%8.2f > %s" % (time.monotonic() - self.began, what), flush=True)
+
+    def switch_on(self, ident):
+        words = [sys.executable, HERE / "host", str(ident), self.folder, self.port, *self.reboots.get(ident, [])]
+        self.hosts[ident] = subprocess.Popen(words, env=dict(os.environ, BEGAN=str(self.began), QUORUMD=self.program))
+
+    def holder(self):
+        """Who signs the journal at present; None where nobody does."""
+        last = (self.folder / "journal").read_bytes()[-100:].splitlines()[-1:]
+        time_of_last, ident = last[0].split() if last else (0, 0)
+        return int(ident) if time.monotonic() - self.began - float(time_of_last) < FRESH else None
+
+    def other_holder(self, *than):
+        """Waits until a node holds that is none of these."""
+        return wait_for("another holder than %s" % (than,), lambda: self.holder() not in (None, *than) and self.holder())
+
+    def is_up(self, ident):
+        """Whether the node runs, has claimed its slot and emptied its mailbox, and knows no deadly message."""
+        line = self.quorumd("list").splitlines()[IDS.index(ident)]
+        return self.is_running(ident) and " dirty mail empty" in line
+
+    def is_running(self, ident):
+        return self.hosts[ident].poll() is None and pathlib.Path("/proc/%d" % self.pid(ident)).exists()
+
+    def pid(self, ident):
+        return int((self.folder / ("pid.%d" % ident)).read_text())
+
+    def send(self, ident, number):
+        """Sends a signal to the node, where it runs."""
+        try:
+            os.kill(self.pid(ident), number)
+            return True
+        except ProcessLookupError:
+            return False
+
+    def kill(self, ident):
+        self.say("kill -9 the node of host %d" % ident)
+        return self.send(ident, signal.SIGKILL)
+
+    def pause(self, ident):
+        self.say("pause the node of host %d" % ident)
+        return self.send(ident, signal.SIGSTOP)
+
+    def message(self, ident, kind):
+        self.say("message --id %d --kind %s" % (ident, kind))
+        self.quorumd("message", "--id", str(ident), "--kind", kind)
+
+
+def main(folder):
+    with Hosts(folder, REBOOTS) as hosts:
+        try:
+            signal.pause()
+        except KeyboardInterrupt:
+            hosts.say("the hosts are switched off")
+
+
+if __name__ == "__main__":
+    main(*sys.argv[1:])

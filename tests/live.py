@@ -1,0 +1,235 @@
+"""For the scripts of this folder that run nodes: free ports, clusters in folders, nodes with what they said, and agents of a resource.
+
+Nothing here compares times more tightly than a machine with much other work allows: a test waits until something is so, and fails
+only where that takes longer than PATIENCE."""
+import atexit
+import concurrent.futures
+import os
+import pathlib
+import re
+import signal
+import socket
+import subprocess
+import sys
+import threading
+import time
+
+QUORUMD = os.environ["QUORUMD"]
+PATIENCE = 90  # seconds
+ALL = 110  # seconds, after which a script gives up: less than tests/run lets it have
+TURNS = 20000  # of a node that nobody ends: about a quarter of an hour
+LONG_LOOP = "500,2100,1000,1000,500"  # a node that the machine lets wait for less than three loops is not taken for a dead one
+RESERVED = []  # a TCP socket for each UDP port that a script uses, so that two scripts never use the same one
+STARTED = []
+
+
+class Wrong(Exception):
+    """What was not as it should be."""
+
+
+def same(what, got, wanted):
+    if got != wanted:
+        raise Wrong("%s\n  wanted %r\n  got    %r" % (what, wanted, got))
+
+
+def wait_for(what, test):
+    """The first answer of the test that is true."""
+    end = time.monotonic() + PATIENCE
+    while True:
+        found = test()
+        if found:
+            return found
+        if time.monotonic() > end:
+            raise Wrong("after %d seconds still not: %s" % (PATIENCE, what))
+        time.sleep(0.02)
+
+
+def milliseconds():
+    """The time of the clock that nodes read too."""
+    return int(time.monotonic() * 1000)
+
+
+def free_ports(count):
+    """The first of so many UDP ports of 127.0.0.1 that nobody uses."""
+    for attempt in range(2000):
+        first = 20000 + (os.getpid() * 7 + attempt * 13) % 10000
+        sockets = []
+        try:
+            for port in range(first, first + count):
+                for kind in (socket.SOCK_STREAM, socket.SOCK_DGRAM):
+                    sockets.append(socket.socket(socket.AF_INET, kind))
+                    sockets[-1].bind(("127.0.0.1", port))
+        except OSError:
+            for each in sockets:
+                each.close()
+            continue
+        for each in sockets[1::2]:
+            each.close()
+        RESERVED.extend(sockets[::2])
+        return first
+    raise Wrong("no %d free ports" % count)
+
+
+class Cluster:
+    """Settings and an image in a folder of their own, and the nodes that were started of them."""
+
+    def __init__(self, name, ids=(1, 2, 3), timing=LONG_LOOP):
+        self.folder = pathlib.Path(name).absolute()
+        self.folder.mkdir()
+        self.image = self.folder / "disk"
+        nodes = "".join("node {\nnodeid: %d\n}\n" % ident for ident in ids)
+        (self.folder / "conf").write_text("nodelist {\n%s}\nquorum {\nprovider: corosync_votequorum\n}\n" % nodes)
+        self.port, self.started = free_ports(len(ids)), 0
+        with open(self.folder / "conf") as settings:
+            same("create", self.quorumd("create", "--timing", timing, stdin=settings), (0, "created nodes %d\n" % len(ids)))
+
+    def quorumd(self, command, *words, stdin=subprocess.DEVNULL):
+        """The status and the output of a command on the image."""
+        done = subprocess.run([QUORUMD, command, "--image", str(self.image), *words], stdin=stdin, stdout=subprocess.PIPE, check=False)
+        return done.returncode, done.stdout.decode()
+
+    def message(self, ident, kind):
+        same("message", self.quorumd("message", "--id", str(ident), "--kind", kind), (0, "sent %s to %d\n" % (kind, ident)))
+
+    def listed(self, ident):
+        """What `list` says of a node."""
+        status, text = self.quorumd("list")
+        same("list", status, 0)
+        return re.search(r"(?m)^node %d (.*)$" % ident, text)[1]
+
+    def resource(self, ident):
+        return self.bytes_of("resource.%d" % ident)
+
+    def watchdog(self, ident):
+        return self.bytes_of("watchdog.%d" % ident)
+
+    def bytes_of(self, name):
+        path = self.folder / name
+        return path.read_bytes().decode() if path.exists() else None
+
+    def node(self, ident, **given):
+        return Node(self, ident, **given)
+
+    def has_written_reset(self, by, to):
+        """Whether the mailbox of the node holds a reset that the other node wrote."""
+        return re.search(r" mail reset by %d:\d+$" % by, self.listed(to))
+
+
+class Node:
+    """A node that was started. What it says is kept in files."""
+
+    def __init__(self, cluster, ident, watchdog=None, resource=None, image=None, more=(), turns=TURNS, run_as=()):
+        self.cluster, self.ident = cluster, ident
+        words = {
+            "id": ident,
+            "image": image or cluster.image,
+            "watchdog": watchdog or cluster.folder / ("watchdog.%d" % ident),
+            "resource": resource or cluster.folder / ("resource.%d" % ident),
+            "port": cluster.port,
+            "turns": turns,
+        }
+        self.words = {name: str(value) for name, value in words.items()}
+        cluster.started += 1
+        number = cluster.started
+        self.log, self.answer = cluster.folder / ("log.%d" % number), cluster.folder / ("answer.%d" % number)
+        options = [word for name, value in self.words.items() for word in ("--" + name, value)]
+        with open(cluster.folder / "conf") as settings, open(self.log, "w") as log, open(self.answer, "w") as answer:
+            self.process = subprocess.Popen([*run_as, QUORUMD, "node", *options, *more], stdin=settings, stdout=answer, stderr=log)
+        STARTED.append(self.process)
+
+    def said(self):
+        """The lines on standard error so far, each after `quorumd: `, and without its tick."""
+        return [re.sub(r"^quorumd: (tick \d+: )?", "", line) for line in self.log.read_text().splitlines()]
+
+    def opened(self):
+        """The line of its opening, without its end."""
+        port = int(self.words["port"]) + self.ident - 1
+        return "open port %d image %s resource %s watchdog %s: " % (port, self.words["image"], self.words["resource"], self.words["watchdog"])
+
+    def ticks(self, line):
+        """The ticks of such lines on standard error."""
+        return [int(tick) for tick in re.findall(r"(?m)^quorumd: tick (\d+): %s$" % re.escape(line), self.log.read_text())]
+
+    def waits_for(self, line):
+        """Waits until it says this, and gives the tick of the first such line."""
+        def looked():
+            ticks = self.ticks(line)
+            if not ticks and self.process.poll() is not None:
+                raise Wrong("node %d ended before %r: %r, %r" % (self.ident, line, self.answer.read_text(), self.said()))
+            return ticks
+        return wait_for("node %d says %r" % (self.ident, line), looked)[0]
+
+    def end(self):
+        """Its status and its line, once it has ended."""
+        try:
+            status = self.process.wait(PATIENCE)
+        except subprocess.TimeoutExpired as late:
+            raise Wrong("node %d goes on: %r" % (self.ident, self.said())) from late
+        return status, self.answer.read_text()
+
+    def runs(self):
+        return self.process.poll() is None
+
+    def kill(self, number=signal.SIGKILL):
+        self.process.send_signal(number)
+
+
+class Agent:
+    """An agent behind a Unix socket. `answers(line, number)` gives the bytes of the answer to the line of the connection of that number,
+    from 1, or None for no answer; then the connection is closed. It keeps the lines that it was sent."""
+
+    def __init__(self, path, answers):
+        self.path, self.answers, self.lines = path, answers, []
+        self.listener = socket.socket(socket.AF_UNIX)
+        self.listener.bind(str(path))
+        self.listener.listen()
+        threading.Thread(target=self.serve, daemon=True).start()
+
+    def serve(self):
+        while True:
+            connection, _ = self.listener.accept()
+            line = connection.makefile("rb").readline().decode()
+            self.lines.append(line)
+            answer = self.answers(line, len(self.lines))
+            try:
+                connection.sendall(answer or b"")
+            except OSError:  # the node gave up
+                pass
+            connection.close()
+
+    def word(self):
+        return "unix:%s" % self.path
+
+
+def end_all():
+    for process in STARTED:
+        if process.poll() is None:
+            process.kill()
+
+
+atexit.register(end_all)
+
+
+def gives_up(*_):
+    end_all()
+    print("no end in %d seconds" % ALL, flush=True)
+    os._exit(1)
+
+
+def tried(test):
+    """None, or what was wrong."""
+    try:
+        test()
+        return None
+    except Wrong as wrong:
+        return "%s: %s" % (test.__name__, wrong)
+
+
+def try_all(*tests):
+    """Tries all of them at the same time, and ends with 1 where one is wrong."""
+    signal.signal(signal.SIGALRM, gives_up)
+    signal.alarm(ALL)
+    with concurrent.futures.ThreadPoolExecutor(len(tests)) as pool:
+        wrong = [said for said in pool.map(tried, tests) if said]
+    print("\n".join(wrong))
+    sys.exit(1 if wrong else 0)

@@ -1,0 +1,115 @@
+# Nodes whose resource is behind an agent: what the agent is sent, each answer that is none, a start and a stop that it refuses, and a stop
+# that takes 800 ms, after which the feed of its turn is not given and the next one is.
+PYTHONPATH=$TOP/tests python3 -B - <<'END'
+import time
+
+from live import Agent, Cluster, same, try_all
+
+OK = b"ok\n"
+SHORT_LOOP = "500,2100,400,1000,500"  # a stop of 800 ms takes longer than the loop
+
+
+def opening_fails(name, answers, why):
+    """The stop at an opening is answered like this: the opening fails, and no watchdog is opened."""
+    cluster = Cluster(name, ids=(1,))
+    agent = Agent(cluster.folder / "agent", answers)
+    node = cluster.node(1, resource=agent.word())
+    same(name, node.end(), (8, "fault EnvFault\n"))
+    same(name, node.said(), ["%s: %s" % (agent.word(), why), node.opened() + "failed"])
+    same(name, agent.lines, ["stop\n"])
+    same(name, cluster.watchdog(1), None)
+
+
+def wrong_answers():
+    for name, answer in ("no", b"no\n"), ("longer", b"okay\n"), ("capital", b"OK\n"):
+        opening_fails(name, lambda line, number, answer=answer: answer, "the answer is not ok")
+    for name, answer in ("early", None), ("unended", b"ok"):
+        opening_fails(name, lambda line, number, answer=answer: answer, "closed before an answer")
+
+
+def late_answer():
+    def answers(line, number):
+        time.sleep(21)
+        return OK
+    opening_fails("late", answers, "no answer within 20 seconds")
+
+
+def no_answer():
+    def answers(line, number):
+        time.sleep(90)
+    opening_fails("nothing", answers, "no answer within 20 seconds")
+
+
+def no_agent():
+    cluster = Cluster("nobody", ids=(1,))
+    for path, why in ("absent", "No such file or directory (os error 2)"), ("disk", "Connection refused (os error 111)"):
+        node = cluster.node(1, resource="unix:%s" % (cluster.folder / path))
+        same(path, node.end(), (8, "fault EnvFault\n"))
+        same(path, node.said(), ["unix:%s: %s" % (cluster.folder / path, why), node.opened() + "failed"])
+
+
+def refused_start():
+    """It is not asked for again, and the node says that it holds."""
+    cluster = Cluster("start", ids=(1,))
+    agent = Agent(cluster.folder / "agent", lambda line, number: b"no\n" if line == "start\n" else OK)
+    node = cluster.node(1, resource=agent.word(), turns=80)
+    same("answer", node.end(), (0, "turns 80 up holds=yes quorate=yes 1/1 why=holding\n"))
+    same("said", node.said()[1:], ["%s: the answer is not ok" % agent.path, "start: failed"])
+    same("asked", agent.lines, ["stop\n", "start\n"])
+
+
+def refused_stop():
+    """It is asked for again, a loop later."""
+    cluster = Cluster("stop", ids=(1,))
+    agent = Agent(cluster.folder / "agent", lambda line, number: b"no\n" if number == 3 else OK)
+    node = cluster.node(1, resource=agent.word())
+    node.waits_for("start: ok")
+    cluster.message(1, "exit")
+    same("answer", node.end(), (0, "left clean\n"))
+    same("said", node.said()[1:], ["start: ok", "%s: the answer is not ok" % agent.path, "stop: failed", "stop: ok", "disarm: ok"])
+    same("asked", agent.lines, ["stop\n", "start\n", "stop\n", "stop\n"])
+    first, second = node.ticks("stop: failed") + node.ticks("stop: ok")
+    same("a loop lies between", second - first >= 1000, True)
+
+
+def slow_stop():
+    """An exit is read, which has the node stop and is fed: the stop takes 800 ms, so that feed is not given. The next read of the mailbox
+    is fed."""
+    cluster = Cluster("slow", ids=(1,), timing=SHORT_LOOP)
+    fed = []
+
+    def answers(line, number):
+        if number == 3:
+            fed.append(cluster.watchdog(1))
+            time.sleep(0.8)
+            fed.append(cluster.watchdog(1))
+        return OK
+
+    agent = Agent(cluster.folder / "agent", answers)
+    node = cluster.node(1, resource=agent.word())
+    node.waits_for("start: ok")
+    cluster.message(1, "exit")
+    same("answer", node.end(), (0, "left clean\n"))
+    late = "%s: too late for a feed" % node.words["watchdog"]
+    same("said", node.said()[1:], ["start: ok", "stop: ok", late, "disarm: ok"])
+    same("fed while the agent worked", fed[1], fed[0])
+    same("fed after it", cluster.watchdog(1), fed[0] + "1V")
+
+
+def slow_start():
+    """A start that takes 800 ms, in a turn without a feed: each feed is given."""
+    cluster = Cluster("slow-start", ids=(1,), timing=SHORT_LOOP)
+
+    def answers(line, number):
+        if line == "start\n":
+            time.sleep(0.8)
+        return OK
+
+    agent = Agent(cluster.folder / "agent", answers)
+    node = cluster.node(1, resource=agent.word(), turns=40)
+    same("answer", node.end(), (0, "turns 40 up holds=yes quorate=yes 1/1 why=holding\n"))
+    same("said", node.said()[1:], ["start: ok"])
+
+
+try_all(wrong_answers, late_answer, no_answer, no_agent, refused_start, refused_stop, slow_stop, slow_start)
+END
