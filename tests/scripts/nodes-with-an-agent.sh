@@ -29,7 +29,7 @@ def wrong_answers():
 
 def late_answer():
     def answers(line, number):
-        time.sleep(21)
+        time.sleep(25)
         return OK
     opening_fails("late", answers, "no answer within 20 seconds")
 
