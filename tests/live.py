@@ -210,10 +210,13 @@ def end_all():
 atexit.register(end_all)
 
 
-def gives_up(*_):
+def gives_up(number, _):
     end_all()
-    print("no end in %d seconds" % ALL, flush=True)
+    print("no end in %d seconds" % ALL if number == signal.SIGALRM else "told to end", flush=True)
     os._exit(1)
+
+
+signal.signal(signal.SIGTERM, gives_up)
 
 
 def tried(test):
