@@ -56,6 +56,7 @@ class Hosts:
         return self
 
     def __exit__(self, *_):
+        signal.signal(signal.SIGINT, signal.SIG_IGN)  # nobody interrupts the end
         for host in self.hosts.values():
             host.terminate()
         for host in self.hosts.values():
