@@ -16,7 +16,8 @@ use Rattle.qn_sector.specs.Reading.{slot_of, mail_of}
 use Rattle.qn_image.specs.declared.fault.ImageFault.{ImageFault}
 use Rattle.qn_image.specs.declared.fault.ImageFault.TheVariants.{Disk, NotImage, DamagedSector, UnknownNode}
 use Rattle.qn_image.specs.Causes.{IsOthersSlot, slot_reads, FoundNone}
-use Rattle.qn_image.specs.Plans.{bytes_read, or_fault, header_plan, slot_plan, mail_plan, line_plan, send_plan, search_plan, message_plan}
+use Rattle.qn_io.specs.Answered.{bytes_read}
+use Rattle.qn_image.specs.Plans.{or_fault, header_plan, slot_plan, mail_plan, line_plan, send_plan, search_plan, message_plan}
 use Rattle.qn_image.specs.Versions.{any_header_of, mailbox_of, mailbox_place}
 use Rattle.qn_image.proofs.Kept.{asked_read, Stops, stopped}
 

@@ -12,7 +12,8 @@ use Rattle.qn_sector.specs.Reading.{mail_of}
 use Rattle.qn_image.specs.declared.fault.ImageFault.{ImageFault}
 use Rattle.qn_image.specs.declared.fault.ImageFault.TheVariants.{Disk, DeadlyThere, DamagedSector}
 use Rattle.qn_image.specs.Causes.{FoundDeadly, FoundNoMailbox}
-use Rattle.qn_image.specs.Plans.{bytes_read, put_plan, or_fault, mail_plan, reads_first, write_plan, replace_plan, send_plan}
+use Rattle.qn_io.specs.Answered.{bytes_read}
+use Rattle.qn_image.specs.Plans.{put_plan, or_fault, mail_plan, reads_first, write_plan, replace_plan, send_plan}
 
 -- a call that asks for a read, and did not fail, read the bytes that it tells
 pub asked_read : (call : Call) (sector : ℕ) → blank call ≡ Read sector [] true → is_failed call ≡ false → call ≡ Read sector (bytes_read call) true

@@ -14,7 +14,8 @@ use Rattle.qn_image.specs.declared.fault.ImageFault.{ImageFault}
 use Rattle.qn_image.specs.declared.fault.ImageFault.TheVariants.{Disk, NotImage, DamagedSector}
 use Rattle.qn_image.specs.Causes.{FoundDamaged, IsMailbox, mail_reads}
 use Rattle.qn_image.specs.Migration.{convert_plan, mailboxes_plan, migrate_plan, migrate_writes}
-use Rattle.qn_image.specs.Plans.{bytes_read, or_fault, header_plan, mail_plan}
+use Rattle.qn_io.specs.Answered.{bytes_read}
+use Rattle.qn_image.specs.Plans.{or_fault, header_plan, mail_plan}
 use Rattle.qn_image.specs.Versions.{any_header_of, with_version}
 use Rattle.qn_image.specs.Writes.{SectorWrite, writes_plan}
 use Rattle.qn_image.proofs.Kept.{asked_read}

@@ -16,7 +16,8 @@ use Rattle.qn_image.specs.declared.fault.ImageFault.{ImageFault}
 use Rattle.qn_image.specs.declared.fault.ImageFault.TheVariants.{Disk, NotImage, UnsafeTiming, DeadlyThere, DamagedSector, UnknownNode}
 use Rattle.qn_image.specs.Causes.{IsLineFault, IsMessageFault, IsCreateFault, IsMigrateFault}
 use Rattle.qn_image.specs.Migration.{mailboxes_plan, migrate_writes, convert_plan, migrate_plan}
-use Rattle.qn_image.specs.Plans.{bytes_read, read_plan, put_plan, or_fault, header_plan, slot_plan, mail_plan, line_plan, reads_first, send_plan, search_plan, message_plan}
+use Rattle.qn_io.specs.Answered.{bytes_read}
+use Rattle.qn_image.specs.Plans.{read_plan, put_plan, or_fault, header_plan, slot_plan, mail_plan, line_plan, reads_first, send_plan, search_plan, message_plan}
 use Rattle.qn_image.specs.Versions.{any_header_of, mailbox_of, mailbox_place}
 use Rattle.qn_image.specs.Writes.{SectorWrite, writes_plan}
 

@@ -1,9 +1,9 @@
 use Rattle.std.specs.Prelude.{ℕ, zero, suc, ◌+◌, ◌==◌, Bool, true, false, List, [], Result, Ok, Err, ok_or, if◌then◌else◌}
-use Rattle.qn_base.specs.declared.calls.Call.{Call}
 use Rattle.qn_base.specs.declared.calls.Call.TheVariants.{Read, Write}
 use Rattle.qn_base.specs.declared.ids.NodeId.{NodeId}
 use Rattle.qn_base.specs.Calls.{is_failed}
 use Rattle.qn_base.specs.Plans.{Plan, Ends, Asks, ◌>>=◌}
+use Rattle.qn_io.specs.Answered.{bytes_read}
 use Rattle.qn_model.specs.declared.disk.Message.{Message}
 use Rattle.qn_model.specs.declared.disk.Message.TheVariants.{Empty, Test, Reset, Off, Exit, Crashdump}
 use Rattle.qn_model.specs.declared.disk.Slot.{Slot}
@@ -14,11 +14,6 @@ use Rattle.qn_sector.specs.Reading.{slot_of}
 use Rattle.qn_image.specs.declared.fault.ImageFault.{ImageFault}
 use Rattle.qn_image.specs.declared.fault.ImageFault.TheVariants.{Disk, NotImage, DeadlyThere, DamagedSector, UnknownNode}
 use Rattle.qn_image.specs.Versions.{any_header_of, mailbox_of, mailbox_place}
-
--- the bytes that a call read
-abbrev pub bytes_read : Call → List ℕ
-bytes_read (Read sector bytes ok) = bytes
-bytes_read _ = []
 
 -- a read of a sector, which ends with its bytes
 abbrev pub read_plan : ℕ → Plan (Result (List ℕ) ImageFault)

@@ -1,0 +1,161 @@
+-- How a running node goes from one call to the next: what is left of its plan, moment by moment.
+use Rattle.std.proofs.Common.{◌≡◌, ◌≤◌, ◌<◌, ℕ, suc, zero, Bool, true, false, not, ◌+◌, ◌-◌, ◌==◌, List, [], ◌∷◌, ◌++◌, length, drop, filter, Option, None, Some, option_map, if◌then◌else◌, refl, sym, ap, ◌∙◌, arith}
+use Rattle.std.specs.Prelude.{slice_get, nat_lt}
+use Rattle.std.specs.List.{range_with_len}
+use Rattle.std.specs.Option.{option_map_or}
+use Rattle.std.proofs.lemmas.Bool.Decides.{nat_tests}
+use Rattle.std.proofs.lemmas.List.{drop_all, drop_more}
+use Rattle.std.proofs.lemmas.Option.{get_or_from_slice_get, slice_get_within}
+use Rattle.qn_base.specs.declared.calls.Call.{Call}
+use Rattle.qn_base.specs.Calls.{blank}
+use Rattle.qn_base.specs.Plans.{Plan, Ends, Asks, ◌>>=◌, question, left}
+use Rattle.qn_model.specs.declared.configuration.Settings.{Settings}
+use Rattle.qn_model.specs.declared.entries.What.{What}
+use Rattle.qn_model.specs.declared.outputs.Out.{Out}
+use Rattle.qn_model.specs.declared.packets.Sent.{Sent}
+use Rattle.qn_model.specs.Log.{Line, now}
+use Rattle.qn_model.specs.Moments.{begin_of}
+use Rattle.qn_model.specs.NodeOutputs.{newest_outs, with_entry}
+use Rattle.qn_model.specs.Wanted.{rank_of}
+use Rattle.qn_member.specs.Maker.{Maker, after_hello_due}
+use Rattle.qn_live.specs.declared.live_end.LiveEnd.{LiveEnd}
+use Rattle.qn_live.specs.declared.live_end.LiveEnd.TheVariants as end
+use Rattle.qn_live.specs.declared.place.Choice.{Choice}
+use Rattle.qn_live.specs.declared.place.Choice.TheVariants as choice
+use Rattle.qn_live.specs.declared.place.Greeting.{Greeting}
+use Rattle.qn_live.specs.declared.place.Greeting.TheVariants as greeting
+use Rattle.qn_live.specs.declared.place.Waits.{Waits}
+use Rattle.qn_live.specs.declared.run.NodeRun.{NodeRun}
+use Rattle.qn_live.specs.Choosing.{choice_of, choice_plan, failed_answer, is_to_leave, looked, ready, receive_plan}
+use Rattle.qn_live.specs.Greetings.{greeting_call, greeting_packet, is_due, maker_of, others_from, sends_plan, to_send}
+use Rattle.qn_live.specs.Machine.{RunFor, acting, next_of, saying, state_of}
+use Rattle.qn_live.specs.Performing.{end_in, noted, out_call, outs_plan, own_number}
+use Rattle.qn_live.specs.Running.{RunState, Turned, Over, Next, Ran, first_state, later}
+use Rattle.qn_live.specs.Runs.{clocked, greeted, handled, live_plan, loop_after, run_plan, settled, timed, turn_plan, turns_end}
+
+-- the call that was made is the one that the plan asks for
+pub asked_call : {A : Type 0} {plan : Plan A} {wanted : Call} {rest : Call → Plan A} {made : Call} → plan ≡ Asks wanted rest → question plan ≡ Some made → made ≡ wanted
+asked_call {plan} {wanted} {rest} {made} is asked =
+    let same : Some made ≡ Some wanted = sym asked ∙ ap question is in cc
+
+-- what is left after it
+pub left_call : {A : Type 0} {plan : Plan A} {wanted : Call} {rest : Call → Plan A} (made : Call) → plan ≡ Asks wanted rest → left plan made ≡ rest made
+left_call made is = ap (λ plan. left plan made) is
+
+-- a machine that stands for a plan stands for an equal one
+pub stands_too : {run : NodeRun} {plan other : Plan Ran} → other ≡ plan → RunFor run plan → RunFor run other
+stands_too same h = record { log = h.log; stands = h.stands; more = h.more; is_left = same ∙ h.is_left }
+
+module _ (s : Settings) (me : ℕ) where
+  -- the first turn takes the entry that begins the boot
+  pub live_left : (clean : Bool) (leave : Option ℕ) (turns : ℕ) (entry : What) → entry ≡ begin_of clean → live_plan s me clean leave turns ≡ timed s me (choice.Whole entry, first_state) >>= later (run_plan s me leave 2 (turns - 1))
+  unfolding live_plan
+  live_left clean leave turns entry is = rw is refl
+
+  module _ (leave : Option ℕ) (turn : ℕ) (st : RunState) (next : RunState → Plan Ran) (leaves : Bool) (to_leave : leaves ≡ is_to_leave s leave turn st) where
+    -- the test of the turn's number is known
+    by_test : turn_plan s me leave turn st >>= later next ≡ (choice_plan me leaves st >>= timed s me) >>= later next
+    by_test = ap (λ l. (choice_plan me l st >>= timed s me) >>= later next) (sym to_leave)
+
+    -- a turn that needs no packet
+    pub turn_ready : (entry : What) (waits : Waits) → ready leaves st.rests st.waits ≡ Some (entry, waits) → turn_plan s me leave turn st >>= later next ≡ timed s me (choice.Whole entry, record st { waits = waits }) >>= later next
+    unfolding choice_plan
+    turn_ready entry waits found =
+        by_test
+        ∙ ap
+        (λ found. (option_map_or (λ taken. Ends (choice.Whole taken.0, record st { waits = taken.1 })) found (receive_plan >>= (λ packet. Ends (choice_of me packet, st))) >>= timed s me) >>= later next)
+        found
+
+    -- a turn that receives
+    pub turn_open : ready leaves st.rests st.waits ≡ None → turn_plan s me leave turn st >>= later next ≡ ((receive_plan >>= (λ packet. Ends (choice_of me packet, st))) >>= timed s me) >>= later next
+    unfolding choice_plan
+    turn_open found =
+        by_test
+        ∙ ap
+        (λ found. (option_map_or (λ taken. Ends (choice.Whole taken.0, record st { waits = taken.1 })) found (receive_plan >>= (λ packet. Ends (choice_of me packet, st))) >>= timed s me) >>= later next)
+        found
+
+  -- no turn follows
+  pub run_over : (leave : Option ℕ) (turn after : ℕ) (st : RunState) → after ≡ 0 → run_plan s me leave turn after st ≡ Ends (record { end = turns_end s me st.log; log = st.log })
+  unfolding run_plan
+  run_over leave turn after st none = ap (λ n. run_plan s me leave turn n st) none
+
+  -- a turn follows
+  pub run_more : (leave : Option ℕ) (turn after : ℕ) (st : RunState) → 0 < after → run_plan s me leave turn after st ≡ turn_plan s me leave turn st >>= later (run_plan s me leave (turn + 1) (after - 1))
+  unfolding run_plan
+  run_more leave turn after st some =
+      let one : after ≡ suc (after - 1) = omega arith in ap (λ n. run_plan s me leave turn n st) one
+
+  -- the clock went back
+  pub clocked_back : (choice : Choice) (st : RunState) (before tick : ℕ) → before ≡ now st.log → tick < before → clocked s me (choice, st) tick ≡ Ends (Over (end.ClockBack before tick) st.log)
+  unfolding clocked
+  clocked_back choice st before tick at less =
+      let back : nat_lt tick (now st.log) ≡ true = grind (arith, nat_tests) in rw at (rw back refl)
+
+  -- the entry at its tick, and its outputs
+  pub clocked_on : (choice : Choice) (st : RunState) (tick : ℕ) (maker : Option Maker) (entry : What) (loop : ℕ) (rests : Bool) (outs : List Out) → now st.log ≤ tick → looked tick choice st.maker ≡ (maker, entry) → loop ≡ loop_after entry st.loop_ms → rests ≡ failed_answer entry → outs ≡ newest_outs (with_entry s me st.log (record { tick = tick; what = entry })) → clocked s me (choice, st) tick ≡ outs_plan s me (record { log = with_entry s me st.log (record { tick = tick; what = entry }); loop_ms = loop; maker = maker; waits = st.waits; rests = rests }) outs >>= settled s me entry outs
+  unfolding clocked handled
+  clocked_on choice st tick maker entry loop rests outs not_back looks is_loop is_rests is_outs =
+      let on : nat_lt tick (now st.log) ≡ false = grind (arith, nat_tests) in
+      let first : clocked s me (choice, st) tick ≡ handled s me st tick (looked tick choice st.maker) = rw on refl in
+      first ∙ ap (λ found. handled s me st tick found) looks ∙ rw (is_loop, is_rests, is_outs) refl
+
+  module _ (entry : What) (outs : List Out) (st : RunState) where
+    -- an output ended the run
+    pub settled_over : (end : LiveEnd) → end_in entry outs ≡ Some end → settled s me entry outs st ≡ Ends (Over end st.log)
+    unfolding settled
+    settled_over end ended = rw ended refl
+
+    -- none did
+    pub settled_on : end_in entry outs ≡ None → settled s me entry outs st ≡ greeted s me st
+    unfolding settled
+    settled_on goes_on = rw goes_on refl
+
+  -- the Hellos of a turn, by whether they are due
+  unfoldable pub hellos : RunState → Option Maker → Bool → Plan Turned
+  hellos st maker due =
+      sends_plan (if due then to_send s me maker greeting.Hello 0 else []) >>= (λ sent. Ends (Next (record st { maker = maker })))
+
+  pub greeted_by : (st : RunState) (tick : ℕ) (present asked : Option Maker) (due : Bool) → tick ≡ now st.log → present ≡ maker_of s me st → asked ≡ option_map (after_hello_due tick) present → due ≡ is_due tick present → greeted s me st ≡ hellos st asked due
+  unfolding greeted hellos
+  greeted_by st tick present asked due at is_present is_asked is_due = rw (is_due, is_asked, is_present, at) refl
+
+  -- the outputs of an entry are done
+  pub outs_over : (st : RunState) (outs : List Out) (at : ℕ) → length outs ≤ at → outs_plan s me st (drop at outs) ≡ Ends st
+  unfolding outs_plan
+  outs_over st outs at over = rw (drop_all at outs over) refl
+
+  -- the next output of an entry
+  pub outs_more : (st : RunState) (outs : List Out) (at : ℕ) (o : Out) → slice_get outs at ≡ Some o → outs_plan s me st (drop at outs) ≡ Asks (out_call s me (own_number st.log) o) (λ call. outs_plan s me (noted s o call st) (drop (at + 1) outs))
+  unfolding outs_plan
+  outs_more st outs at o found =
+      let within = slice_get_within outs at o found in
+      let more : drop at outs ≡ o ∷ drop (at + 1) outs =
+      drop_more outs at o within ∙ ap (λ x. x ∷ drop (at + 1) outs) (get_or_from_slice_get outs at o o found) in
+      rw more refl
+
+  -- the next rank of a greeting
+  pub others_more : (to : ℕ) → to < length s.nodes → (to == me) ≡ false → others_from s me to ≡ to ∷ others_from s me (to + 1)
+  others_more to within other =
+      let count : length s.nodes - to ≡ suc (length s.nodes - (to + 1)) = omega arith in
+      ap (λ n. filter (λ rank. not (rank == me)) (range_with_len to n)) count ∙ rw other refl
+
+  pub to_send_more : (maker : Option Maker) (said : Greeting) (to : ℕ) → to < length s.nodes → (to == me) ≡ false → to_send s me maker said to ≡ record { to = rank_of to; packet = greeting_packet me said } ∷ to_send s me maker said (to + 1)
+  to_send_more maker said to within other = rw (others_more to within other) refl
+
+module _ (run : NodeRun) (log : List Line) where
+  -- no greeting is left
+  pub said_all : saying run log [] ≡ next_of run (state_of run log)
+  unfolding sends_plan
+  said_all = refl
+
+  -- a greeting is next
+  pub saying_more : (said : Greeting) (to : ℕ) → to < length run.settings.nodes → (to == run.me.0) ≡ false → saying run log (to_send run.settings run.me.0 run.member said to) ≡ Asks (greeting_call run.me.0 said to) (λ call. saying run log (to_send run.settings run.me.0 run.member said (to + 1)))
+  unfolding sends_plan
+  saying_more said to within other =
+      ap (λ sents. saying run log sents) (to_send_more run.settings run.me.0 run.member said to within other)
+
+-- an output is next
+pub acting_more : (run : NodeRun) (st : RunState) (at : ℕ) (o : Out) → slice_get run.outs at ≡ Some o → acting run st at ≡ Asks (out_call run.settings run.me.0 (own_number st.log) o) (λ call. acting run (noted run.settings o call st) (at + 1))
+acting_more run st at o found =
+    ap (λ p. (p >>= settled run.settings run.me.0 run.entry run.outs) >>= later (next_of run)) (outs_more run.settings run.me.0 st run.outs at o found)

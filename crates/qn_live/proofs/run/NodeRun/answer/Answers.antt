@@ -1,0 +1,51 @@
+use Rattle.std.proofs.Common.{◌≡◌, ◌<◌, length, sym, ap, subst, ◌∙◌, get_or}
+use Rattle.std.proofs.lemmas.Option.{slice_get-get_or}
+use Rattle.qn_base.specs.Plans.{Plan, ◌>>=◌, left}
+use Rattle.qn_model.specs.declared.outputs.Out.TheVariants as out
+use Rattle.qn_live.specs.declared.place.Place.{Place}
+use Rattle.qn_live.specs.declared.place.Place.TheVariants as place
+use Rattle.qn_live.specs.Choosing.{choice_of, packet_in}
+use Rattle.qn_live.specs.Machine.{HasMore, acting, left_at, next_of, receiving, saying, state_of}
+use Rattle.qn_live.specs.Greetings.{to_send}
+use Rattle.qn_live.specs.Running.{later}
+use Rattle.qn_live.specs.Runs.{timed}
+use Rattle.qn_live.proofs.Joining.{acting_more, asked_call, left_call, saying_more, stands_too}
+use Rattle.qn_live.proofs.run.NodeRun.answer.Goals as goal
+
+pub returns-in-Receive-clause-runs : goal.returns-in-Receive-clause-runs
+returns-in-Receive-clause-runs c = λ plan call h tells asked.
+    let run = c.args.self.now in
+    let is : plan ≡ receiving run h.log = h.is_left ∙ ap (λ p. left_at run h.log p) c.in-Receive.is in
+    record {
+      log = h.log;
+      stands = h.stands;
+      more = tt;
+      is_left =
+          ap (λ p. left p call) is
+          ∙ ap
+          (λ chosen. timed run.settings run.me.0 (chosen, state_of run h.log) >>= later (next_of run))
+          (ap (λ got. choice_of run.me.0 (packet_in got)) tells.got ∙ sym c.choose.ensures);
+    }
+
+pub returns-in-Act-clause-runs : goal.returns-in-Act-clause-runs
+returns-in-Act-clause-runs c = λ plan call h tells asked.
+    let run = c.args.self.now in
+    let at = c.in-Act.at in
+    let P : Place → Type 0 = λ p. HasMore run.settings run.me.0 run.outs p in
+    let more : HasMore run.settings run.me.0 run.outs (place.Act at) = subst P c.in-Act.is h.more in
+    let found = slice_get-get_or run.outs at out.Stop more.0 in
+    let is : plan ≡ acting run (state_of run h.log) at = h.is_left ∙ ap (λ p. left_at run h.log p) c.in-Act.is in
+    let asks = is ∙ acting_more run (state_of run h.log) at (get_or run.outs at out.Stop) found in
+    stands_too (left_call call asks)
+    (c.performed.ensures.runs h.log (get_or run.outs at out.Stop) call h.stands more.2 found tells (asked_call asks asked))
+
+pub returns-in-Greet-clause-runs : goal.returns-in-Greet-clause-runs
+returns-in-Greet-clause-runs c = λ plan call h tells asked.
+    let run = c.args.self.now in
+    let said = c.in-Greet.greeting in
+    let to = c.in-Greet.to in
+    let P : Place → Type 0 = λ p. HasMore run.settings run.me.0 run.outs p in
+    let more : HasMore run.settings run.me.0 run.outs (place.Greet said to) = subst P c.in-Greet.is h.more in
+    let is : plan ≡ saying run h.log (to_send run.settings run.me.0 run.member said to) =
+    h.is_left ∙ ap (λ p. left_at run h.log p) c.in-Greet.is in
+    stands_too (left_call call (is ∙ saying_more run h.log said to more.0 more.1)) (c.greet.ensures.runs h.log h.stands)

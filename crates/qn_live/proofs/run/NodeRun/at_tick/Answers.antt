@@ -1,0 +1,31 @@
+use Rattle.std.proofs.Common.{◌≡◌, ◌≤◌, refl, sym, ap, ◌∙◌, arith}
+use Rattle.qn_base.specs.Plans.{◌>>=◌}
+use Rattle.qn_model.specs.Log.{now}
+use Rattle.qn_model.specs.NodeOutputs.{with_entry}
+use Rattle.qn_live.specs.Machine.{next_of, state_of}
+use Rattle.qn_live.specs.Running.{later}
+use Rattle.qn_live.proofs.Joining.{clocked_back, clocked_on, stands_too}
+use Rattle.qn_live.proofs.run.NodeRun.at_tick.Goals as goal
+
+pub returns-then-tick-self-clause-runs : goal.returns-then-tick-self-clause-runs
+returns-then-tick-self-clause-runs c = λ log stands.
+    let run = c.args.self.now in
+    record {
+      log = log;
+      stands = stands;
+      more = tt;
+      is_left =
+          ap (λ p. p >>= later (next_of run))
+          (clocked_back run.settings run.me.0 c.args.choice (state_of run log) run.tick c.args.tick stands.at c.if-tick-self.true);
+    }
+
+pub returns-clause-runs : goal.returns-clause-runs
+unfolding with_entry
+returns-clause-runs c = λ log stands.
+    let run = c.args.self.now in
+    let before : now log ≤ c.args.tick = omega (arith, c.if-tick-self.false, stands.at) in
+    let outs = c.step.ensures.outs run.settings run.me.0 log stands.stands before in
+    stands_too
+    (ap (λ p. p >>= later (next_of run))
+    (clocked_on run.settings run.me.0 c.args.choice (state_of run log) c.args.tick c.look-what.new.member c.look-what.result c.loop_after-self.result c.failed_answer-self.result c.step.new.outs before c.look-what.ensures c.loop_after-self.ensures c.failed_answer-self.ensures outs))
+    (c.act.ensures.runs (with_entry run.settings run.me.0 log (record { tick = c.args.tick; what = c.look-what.result })) (record { valid = stands.valid; stands = c.step.ensures.stands run.settings run.me.0 log stands.stands before; at = refl }) (c.step.ensures.ranks run.settings run.me.0 log stands.stands before))

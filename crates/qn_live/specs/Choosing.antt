@@ -1,0 +1,123 @@
+-- Which entry a turn takes: this project's profile.
+use Rattle.std.specs.Prelude.{ℕ, Bool, true, false, not, ◌&&◌, ◌==◌, nat_le, Option, None, Some, option_map, if◌then◌else◌}
+use Rattle.std.specs.Option.{option_or, option_map_or}
+use Rattle.qn_base.specs.declared.calls.Call.{Call}
+use Rattle.qn_base.specs.declared.calls.Call.TheVariants as call
+use Rattle.qn_base.specs.declared.calls.Received.{Received}
+use Rattle.qn_base.specs.declared.calls.Received.TheVariants as received
+use Rattle.qn_base.specs.declared.ids.View.{View}
+use Rattle.qn_base.specs.Plans.{Plan, Ends, Asks, ◌>>=◌}
+use Rattle.qn_io.specs.Answered.{received_in}
+use Rattle.qn_model.specs.declared.configuration.Settings.{Settings}
+use Rattle.qn_model.specs.declared.packets.Packet.{Packet}
+use Rattle.qn_model.specs.declared.packets.Packet.TheVariants as packet
+use Rattle.qn_model.specs.declared.seen.SlotSeen.{SlotSeen}
+use Rattle.qn_model.specs.declared.seen.SlotSeen.TheVariants as slot
+use Rattle.qn_model.specs.declared.seen.MailSeen.{MailSeen}
+use Rattle.qn_model.specs.declared.seen.MailSeen.TheVariants as mail
+use Rattle.qn_model.specs.declared.entries.What.{What}
+use Rattle.qn_model.specs.declared.entries.What.TheVariants as what
+use Rattle.qn_model.specs.Phases.{phase, is_up}
+use Rattle.qn_model.specs.Steps.{entry_of}
+use Rattle.qn_wire.specs.Reading.{packet_of}
+use Rattle.qn_member.specs.Maker.{Maker, after_announce, after_hello, after_tick, view_at}
+use Rattle.qn_live.specs.declared.place.Choice.{Choice}
+use Rattle.qn_live.specs.declared.place.Choice.TheVariants as choice
+use Rattle.qn_live.specs.declared.place.Waits.{Waits}
+use Rattle.qn_live.specs.Running.{RunState}
+
+-- what was read could not be read
+abbrev pub is_failed_slot : SlotSeen → Bool
+is_failed_slot (slot.Read own) = false
+is_failed_slot slot.Damaged = false
+is_failed_slot slot.Failed = true
+
+abbrev pub is_failed_mail : MailSeen → Bool
+is_failed_mail (mail.Read message) = false
+is_failed_mail mail.Damaged = false
+is_failed_mail mail.Failed = true
+
+-- an entry is the failed answer of a disk operation of a node that takes part; a boot whose operation failed is over
+abbrev pub failed_answer : What → Bool
+failed_answer (what.SlotRead rank seen) = is_failed_slot seen
+failed_answer (what.MailRead seen) = is_failed_mail seen
+failed_answer (what.MailWritten rank ok) = not ok
+failed_answer (what.Closed ok) = not ok
+failed_answer what.Begin = false
+failed_answer what.BeginClean = false
+failed_answer (what.Header seen) = false
+failed_answer (what.MailChecked seen) = false
+failed_answer (what.Claimed ok) = false
+failed_answer (what.Cleared ok) = false
+failed_answer (what.View view) = false
+failed_answer (what.Ask ask) = false
+failed_answer (what.Tell tell) = false
+failed_answer (what.Device agrees) = false
+failed_answer what.Tick = false
+failed_answer (what.Stopped ok) = false
+failed_answer what.Leave = false
+
+-- the node is to leave at this turn: it is up, and the number of the turn has come
+abbrev pub is_to_leave : Settings → Option ℕ → ℕ → RunState → Bool
+is_to_leave s leave turn st = is_up (phase s st.log) && option_map_or (λ from. nat_le from turn) leave false
+
+-- The entry of a turn that needs no packet, and the answers that wait then: the answer of a Stop, else of a disk operation,
+-- unless the turn before took a failed one, else the order to leave.
+abbrev pub ready : Bool → Bool → Waits → Option (What × Waits)
+ready leaves rests waits =
+    option_or
+    (option_map (λ ok. (what.Stopped ok, record waits { stopped = None })) waits.stopped)
+    (option_or
+    (if rests then None else option_map (λ answer. (answer, record waits { disk = None })) waits.disk)
+    (if leaves then Some (what.Leave, waits) else None))
+
+-- a packet is an entry of this node: a vote of the device, or an Ask or a Tell to it
+abbrev pub is_entry_for : ℕ → Packet → Bool
+is_entry_for me (packet.Ask ask) = ask.to.0 == me
+is_entry_for me (packet.Tell tell) = tell.to.0 == me
+is_entry_for me (packet.Vote agrees) = true
+is_entry_for me (packet.Hello from) = false
+is_entry_for me (packet.Announce from view) = false
+
+-- what a turn takes that received this packet, or none
+abbrev pub choice_of : ℕ → Option Packet → Choice
+choice_of me None = choice.Open None
+choice_of me (Some p) = if is_entry_for me p then choice.Whole (entry_of p) else choice.Open (Some p)
+
+-- the packet that came, where it is one
+abbrev pub packet_in : Received → Option Packet
+packet_in (received.Packet bytes) = packet_of bytes
+packet_in received.Nothing = None
+packet_in received.Failed = None
+
+abbrev pub receive_plan : Plan (Option Packet)
+receive_plan = Asks (call.Receive received.Nothing) (λ call. Ends (packet_in (received_in call)))
+
+-- what a turn takes, and what is left then
+unfoldable pub choice_plan : ℕ → Bool → RunState → Plan (Choice × RunState)
+choice_plan me leaves st =
+    option_map_or
+    (λ taken. Ends (choice.Whole taken.0, record st { waits = taken.1 }))
+    (ready leaves st.rests st.waits)
+    (receive_plan >>= (λ packet. Ends (choice_of me packet, st)))
+
+-- what the view maker hears of a packet
+abbrev pub heard : ℕ → Option Packet → Maker → Maker
+heard tick None m = m
+heard tick (Some (packet.Hello from)) m = after_hello tick from.0 m
+heard tick (Some (packet.Announce from view)) m = after_announce from.0 view m
+heard tick (Some (packet.Ask ask)) m = m
+heard tick (Some (packet.Tell tell)) m = m
+heard tick (Some (packet.Vote agrees)) m = m
+
+-- the entry of a look of the view maker
+abbrev pub view_or_tick : Option View → What
+view_or_tick None = what.Tick
+view_or_tick (Some view) = what.View view
+
+-- the entry of a turn at its tick, and the view maker then: where the choice is open, it hears the packet and looks
+abbrev pub looked : ℕ → Choice → Option Maker → Option Maker × What
+looked tick (choice.Whole entry) maker = (maker, entry)
+looked tick (choice.Open p) None = (None, what.Tick)
+looked tick (choice.Open p) (Some m) =
+    (Some (after_tick tick (heard tick p m)), view_or_tick (view_at tick (heard tick p m)))

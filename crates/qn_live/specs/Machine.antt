@@ -1,0 +1,116 @@
+-- What a running node that waits for a call stands for: what is left of its run. This project's profile.
+use Rattle.std.specs.Prelude.{◌≡◌, ◌<◌, ℕ, false, ◌+◌, ◌==◌, List, All, length, drop}
+use Rattle.qn_base.specs.Plans.{Plan, Ends, ◌>>=◌}
+use Rattle.qn_model.specs.declared.configuration.Settings.{Settings}
+use Rattle.qn_model.specs.declared.outputs.Out.{Out}
+use Rattle.qn_model.specs.declared.packets.Sent.{Sent}
+use Rattle.qn_model.specs.Log.{Line, now}
+use Rattle.qn_model.specs.Settings.{IsValid}
+use Rattle.qn_node.specs.declared.node.Node.{Node}
+use Rattle.qn_node.specs.Node.{NodeFor}
+use Rattle.qn_node.specs.Outputs.{IsNodeOutput}
+use Rattle.qn_live.specs.declared.live_end.LiveEnd.{LiveEnd}
+use Rattle.qn_live.specs.declared.place.Choice.{Choice}
+use Rattle.qn_live.specs.declared.place.Place.{Place}
+use Rattle.qn_live.specs.declared.place.Place.TheVariants as place
+use Rattle.qn_live.specs.declared.run.NodeRun.{NodeRun}
+use Rattle.qn_live.specs.Running.{RunState, Next, Ran, later}
+use Rattle.qn_live.specs.Choosing.{choice_of, receive_plan}
+use Rattle.qn_live.specs.Performing.{outs_plan}
+use Rattle.qn_live.specs.Greetings.{sends_plan, to_send}
+use Rattle.qn_live.specs.Runs.{clocked, run_plan, settled, timed, turn_plan}
+use Rattle.qn_live.specs.Places.{calls_left}
+
+-- what a machine knows of the run, beside the log
+abbrev pub state_of : NodeRun → List Line → RunState
+state_of run log =
+    record { log = log; loop_ms = run.loop_ms; maker = run.member; waits = run.waits; rests = run.rests }
+
+-- the turns that follow the present one
+abbrev pub next_of : NodeRun → RunState → Plan Ran
+next_of run = run_plan run.settings run.me.0 run.leave_at (run.turn + 1) run.after
+
+-- What is left of the run at each moment of a turn: at its beginning, ..
+abbrev pub begun : NodeRun → List Line → Plan Ran
+begun run log =
+    turn_plan run.settings run.me.0 run.leave_at run.turn (state_of run log) >>= later (next_of run)
+
+-- .. where a packet is to be received, ..
+abbrev pub receiving : NodeRun → List Line → Plan Ran
+receiving run log =
+    ((receive_plan >>= (λ packet. Ends (choice_of run.me.0 packet, state_of run log))) >>= timed run.settings run.me.0)
+    >>= later (next_of run)
+
+-- .. where it has its choice, ..
+abbrev pub timing : NodeRun → List Line → Choice → Plan Ran
+timing run log choice = timed run.settings run.me.0 (choice, state_of run log) >>= later (next_of run)
+
+-- .. at its tick, ..
+abbrev pub clocking : NodeRun → List Line → Choice → ℕ → Plan Ran
+clocking run log choice tick =
+    clocked run.settings run.me.0 (choice, state_of run log) tick >>= later (next_of run)
+
+-- .. where the outputs from a place on are to be performed, ..
+abbrev pub acting : NodeRun → RunState → ℕ → Plan Ran
+acting run st at =
+    (outs_plan run.settings run.me.0 st (drop at run.outs) >>= settled run.settings run.me.0 run.entry run.outs)
+    >>= later (next_of run)
+
+-- .. where all of them were performed, ..
+abbrev pub settling : NodeRun → List Line → Plan Ran
+settling run log =
+    settled run.settings run.me.0 run.entry run.outs (state_of run log) >>= later (next_of run)
+
+-- .. and where packets are to be sent
+abbrev pub saying : NodeRun → List Line → List Sent → Plan Ran
+saying run log sents = (sends_plan sents >>= (λ sent. Ends (Next (state_of run log)))) >>= later (next_of run)
+
+-- what is left of the run at a place
+abbrev pub left_at : NodeRun → List Line → Place → Plan Ran
+left_at run log place.Receive = receiving run log
+left_at run log (place.Now choice) = timing run log choice
+left_at run log (place.Act at) = acting run (state_of run log) at
+left_at run log (place.Greet said to) = saying run log (to_send run.settings run.me.0 run.member said to)
+left_at run log (place.Over end) = Ends (record { end = end; log = log })
+
+abbrev pub left_of : NodeRun → List Line → Plan Ran
+left_of run log = left_at run log run.place
+
+-- the node stands for the log, whose last tick is this one
+pub record StandsFor (s : Settings) (me : ℕ) (node : Node) (tick : ℕ) (log : List Line) : Type 0 where
+  pub valid : IsValid s
+  pub stands : NodeFor node s me log
+  pub at : tick ≡ now log
+
+abbrev pub Stands : NodeRun → List Line → Type 0
+Stands run log = StandsFor run.settings run.me.0 run.node run.tick log
+
+-- an output or a rank that is to come is there
+abbrev pub HasMore : Settings → ℕ → List Out → Place → Type 0
+HasMore s me outs (place.Act at) = (at < length outs) × (at < 40) × All (IsNodeOutput s) outs
+HasMore s me outs (place.Greet said to) = (to < length s.nodes) × ((to == me) ≡ false)
+HasMore s me outs place.Receive = Unit {0}
+HasMore s me outs (place.Now choice) = Unit {0}
+HasMore s me outs (place.Over end) = Unit {0}
+
+-- the machine stands for the plan: this is left of its run
+pub record RunFor (run : NodeRun) (plan : Plan Ran) : Type 0 where
+  pub log : List Line
+  pub stands : Stands run log
+  pub more : HasMore run.settings run.me.0 run.outs run.place
+  pub is_left : plan ≡ left_of run log
+
+-- the machine stands for some log, and for some plan
+abbrev pub IsStanding : NodeRun → Type 0
+IsStanding run = (log : List Line) × Stands run log
+
+abbrev pub IsUnderWay : NodeRun → Type 0
+IsUnderWay run = (plan : Plan Ran) × RunFor run plan
+
+-- the plan is over, and ends so
+abbrev pub EndsWith : Plan Ran → LiveEnd → Type 0
+EndsWith plan end = (log : List Line) × (plan ≡ Ends (record { end = end; log = log }))
+
+-- at most so many calls the machine still makes
+abbrev pub work : NodeRun → ℕ
+work run = calls_left run.place run.after

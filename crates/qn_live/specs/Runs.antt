@@ -1,0 +1,94 @@
+-- The run of a node as a plan: which calls it makes, turn by turn, and how it ends. This project's profile.
+use Rattle.std.specs.Prelude.{ℕ, zero, suc, Bool, ◌+◌, ◌-◌, nat_lt, List, [], Option, None, Some, option_map, unwrap_or, if◌then◌else◌}
+use Rattle.std.specs.Option.{option_map_or}
+use Rattle.qn_base.specs.declared.calls.Call.TheVariants as call
+use Rattle.qn_base.specs.Plans.{Plan, Ends, Asks, ◌>>=◌}
+use Rattle.qn_io.specs.Answered.{time_of}
+use Rattle.qn_model.specs.declared.configuration.Settings.{Settings}
+use Rattle.qn_model.specs.declared.entries.What.{What}
+use Rattle.qn_model.specs.declared.outputs.Out.{Out}
+use Rattle.qn_model.specs.Log.{Line, now, times_of}
+use Rattle.qn_model.specs.Phases.{phase}
+use Rattle.qn_model.specs.Holding.{holds}
+use Rattle.qn_model.specs.Moments.{begin_of}
+use Rattle.qn_model.specs.NodeVotes.{answer_with_tie}
+use Rattle.qn_model.specs.NodeOutputs.{newest_outs, with_entry}
+use Rattle.qn_model.specs.Unmet.{unmet}
+use Rattle.qn_member.specs.Maker.{Maker, after_hello_due}
+use Rattle.qn_live.specs.declared.live_end.LiveEnd.{LiveEnd}
+use Rattle.qn_live.specs.declared.live_end.LiveEnd.TheVariants as end
+use Rattle.qn_live.specs.declared.place.Choice.{Choice}
+use Rattle.qn_live.specs.declared.place.Choice.TheVariants as choice
+use Rattle.qn_live.specs.declared.place.Greeting.TheVariants as greeting
+use Rattle.qn_live.specs.Running.{RunState, first_state, Turned, Over, Next, Ran, later}
+use Rattle.qn_live.specs.Choosing.{choice_plan, failed_answer, is_to_leave, looked}
+use Rattle.qn_live.specs.Performing.{end_in, outs_plan}
+use Rattle.qn_live.specs.Greetings.{is_due, maker_of, sends_plan, to_send}
+
+-- the loop's time after an entry: that of the header that it gives
+abbrev pub loop_after : What → ℕ → ℕ
+loop_after entry before = option_map_or (λ times. times.loop_ms) (times_of entry) before
+
+-- the state after an entry was taken in, before its outputs
+abbrev pub taken : Settings → ℕ → RunState → ℕ → Option Maker × What → RunState
+taken s me st tick found =
+    record {
+      log = with_entry s me st.log (record { tick = tick; what = found.1 });
+      loop_ms = loop_after found.1 st.loop_ms;
+      maker = found.0;
+      waits = st.waits;
+      rests = failed_answer found.1;
+    }
+
+-- nothing ended the run: where a Hello is due it is sent, and after it the announcement, and the next turn follows
+abbrev pub hello_asked : ℕ → RunState → RunState
+hello_asked tick st = record st { maker = option_map (after_hello_due tick) st.maker }
+
+abbrev pub with_maker : Settings → ℕ → RunState → RunState
+with_maker s me st = record st { maker = maker_of s me st }
+
+unfoldable pub greeted : Settings → ℕ → RunState → Plan Turned
+greeted s me st =
+    let present = with_maker s me st in
+    let asked = hello_asked (now st.log) present in
+    sends_plan (if is_due (now st.log) present.maker then to_send s me asked.maker greeting.Hello 0 else [])
+    >>= (λ sent. Ends (Next asked))
+
+-- the outputs of the entry were performed
+unfoldable pub settled : Settings → ℕ → What → List Out → RunState → Plan Turned
+settled s me entry outs st = option_map_or (λ end. Ends (Over end st.log)) (end_in entry outs) (greeted s me st)
+
+-- an entry is taken in at a tick, and its outputs are performed
+unfoldable pub handled : Settings → ℕ → RunState → ℕ → Option Maker × What → Plan Turned
+handled s me st tick found =
+    let after = taken s me st tick found in
+    outs_plan s me after (newest_outs after.log) >>= settled s me found.1 (newest_outs after.log)
+
+-- the clock was looked at: a clock that goes back ends the run
+unfoldable pub clocked : Settings → ℕ → Choice × RunState → ℕ → Plan Turned
+clocked s me chosen tick =
+    if nat_lt tick (now chosen.1.log) then Ends (Over (end.ClockBack (now chosen.1.log) tick) chosen.1.log)
+    else handled s me chosen.1 tick (looked tick chosen.0 chosen.1.maker)
+
+-- what was chosen becomes the entry of the turn at its tick
+abbrev pub timed : Settings → ℕ → Choice × RunState → Plan Turned
+timed s me chosen = Asks (call.Now 0) (λ call. clocked s me chosen (time_of call))
+
+-- a turn that follows another one, of that number
+abbrev pub turn_plan : Settings → ℕ → Option ℕ → ℕ → RunState → Plan Turned
+turn_plan s me leave turn st = choice_plan me (is_to_leave s leave turn st) st >>= timed s me
+
+-- how a run ends after its last turn
+abbrev pub turns_end : Settings → ℕ → List Line → LiveEnd
+turns_end s me log = end.Turns (phase s log) (holds log) (answer_with_tie s log (now log)) (unmet s me log (now log))
+
+-- so many turns that follow others, of which the first has that number
+unfoldable pub run_plan : Settings → ℕ → Option ℕ → ℕ → ℕ → RunState → Plan Ran
+run_plan s me leave turn zero st = Ends (record { end = turns_end s me st.log; log = st.log })
+run_plan s me leave turn (suc more) st =
+    turn_plan s me leave turn st >>= later (run_plan s me leave (turn + 1) more)
+
+-- the run of a node of that many turns, 1 or more: the first one takes the entry that begins the boot
+unfoldable pub live_plan : Settings → ℕ → Bool → Option ℕ → ℕ → Plan Ran
+live_plan s me clean leave turns =
+    timed s me (choice.Whole (begin_of clean), first_state) >>= later (run_plan s me leave 2 (turns - 1))

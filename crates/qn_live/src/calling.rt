@@ -1,0 +1,44 @@
+//! Makes the call that a running node asks for.
+ghost use Rattle.std.specs.Prelude.{◌≡◌, [], ◌∷◌};
+ghost use Rattle.qn_base.specs.Plans.{Made};
+ghost use Rattle.qn_io.specs.Receives.{FitsPacket};
+ghost use Rattle.qn_live.specs.Asking.{IsWithin, told, Tells};
+
+use crate::asked::{Asked, Given, Room};
+use qn_io::{Env, Got};
+
+/// Makes the call on the outside.
+pub fn call<E: Env>(env: &mut E, asked: Asked, room: &mut Room) -> Given
+    requires { IsWithin asked }
+    ensures made { Made (E.faults env.old) (E.faults env.new) (E.calls env.old) (E.calls env.new)
+        (told asked room.old result room.new ∷ []) }
+    ensures within { FitsPacket result.got }
+    ensures tells { Tells (told asked room.old result room.new) result room.new }
+{
+    match asked {
+        Asked::Receive => {
+            let got = env.receive(&mut room.packet);
+            Given {
+                tick: 0,
+                got,
+                ok: !matches!(got, Got::Failed),
+            }
+        }
+        Asked::Now => Given {
+            tick: env.now(),
+            got: Got::Nothing,
+            ok: true,
+        },
+        Asked::Read { sector } => Given::done(env.read(sector, &mut room.sector).is_ok()),
+        Asked::Write { sector } => Given::done(env.write(sector, &room.sector).is_ok()),
+        Asked::Feed => Given::done(env.feed().is_ok()),
+        Asked::Start => Given::done(env.start().is_ok()),
+        Asked::Stop => Given::done(env.stop().is_ok()),
+        Asked::Send { to } => Given::done(env.send(to, room.sent.as_slice()).is_ok()),
+        Asked::Disarm => Given::done(env.disarm().is_ok()),
+        Asked::Halt { code } => {
+            env.halt(code);
+            Given::done(true)
+        }
+    }
+}

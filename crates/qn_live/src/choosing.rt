@@ -1,0 +1,121 @@
+//! Which entry a turn takes.
+ghost use Rattle.std.specs.Prelude.{◌≡◌, ◌≤◌, length};
+ghost use Rattle.qn_io.specs.Receives.{FitsPacket, received};
+ghost use Rattle.qn_live.specs.Choosing.{choice_of, failed_answer, is_entry_for, looked, packet_in, ready};
+ghost use Rattle.qn_live.specs.Runs.{loop_after};
+
+use crate::place::{Choice, Waits};
+use qn_base::Rank;
+use qn_io::{Got, PACKET};
+use qn_member::Member;
+use qn_model::{HeaderSeen, MailSeen, Packet, SlotSeen, What};
+use qn_wire::get_packet;
+
+/// The entry of a turn that needs no packet, and the answers that wait then. `rests` says that the turn before took a
+/// failed answer of the disk.
+pub fn ready(leaves: bool, rests: bool, waits: Waits) -> Option<(What, Waits)>
+    ensures { result ≡ ready leaves rests waits }
+{
+    if let Some(ok) = waits.stopped {
+        return Some((
+            What::Stopped(ok),
+            Waits {
+                stopped: None,
+                disk: waits.disk,
+            },
+        ));
+    }
+    match waits.disk {
+        Some(answer) if !rests => Some((
+            answer,
+            Waits {
+                stopped: None,
+                disk: None,
+            },
+        )),
+        _ => leaves.then_some((What::Leave, waits)),
+    }
+}
+
+/// What a turn takes that received this.
+pub fn choose(me: Rank, got: Got, packet: &[u8; PACKET]) -> Choice
+    requires { FitsPacket got }
+    ensures { result ≡ choice_of me.0 (packet_in (received got packet.now)) }
+{
+    match got {
+        Got::Packet(length) => choice_of(me, get_packet(&packet[..length])),
+        Got::Nothing | Got::Failed => Choice::Open(None),
+    }
+}
+
+fn choice_of(me: Rank, packet: Option<Packet>) -> Choice
+    ensures { result ≡ choice_of me.0 packet }
+{
+    match packet {
+        Some(Packet::Ask(ask)) if ask.to.0 == me.0 => Choice::Whole(What::Ask(ask)),
+        Some(Packet::Tell(tell)) if tell.to.0 == me.0 => Choice::Whole(What::Tell(tell)),
+        Some(Packet::Vote { yes }) => Choice::Whole(What::Device(yes)),
+        other => Choice::Open(other),
+    }
+}
+
+/// The entry of a turn at its tick. Where the choice is open the view maker hears the packet and looks.
+pub fn look(member: &mut Option<Member>, choice: Choice, tick: u64) -> What
+    ensures { looked tick choice member.old ≡ (member.new, result) }
+{
+    match choice {
+        Choice::Whole(entry) => entry,
+        Choice::Open(packet) => match member {
+            Some(member) => hear(member, packet, tick),
+            None => What::Tick,
+        },
+    }
+}
+
+fn hear(member: &mut Member, packet: Option<Packet>, tick: u64) -> What
+    ensures { looked tick (Choice.Open packet) (Some member.old) ≡ (Some member.new, result) }
+{
+    match packet {
+        Some(Packet::Hello { from }) => member.on_hello(tick, from),
+        Some(Packet::Announce { from, view }) => member.on_announce(tick, from, view),
+        Some(Packet::Ask(_) | Packet::Tell(_) | Packet::Vote { .. }) | None => {}
+    }
+    match member.on_tick(tick) {
+        Some(view) => What::View(view),
+        None => What::Tick,
+    }
+}
+
+/// Whether an entry is the failed answer of a disk operation of a node that takes part.
+pub fn failed_answer(entry: What) -> bool
+    ensures { result ≡ failed_answer entry }
+{
+    match entry {
+        What::SlotRead(_, seen) => matches!(seen, SlotSeen::Failed),
+        What::MailRead(seen) => matches!(seen, MailSeen::Failed),
+        What::MailWritten(_, ok) | What::Closed(ok) => !ok,
+        What::Begin
+        | What::BeginClean
+        | What::Header(_)
+        | What::MailChecked(_)
+        | What::Claimed(_)
+        | What::Cleared(_)
+        | What::View(_)
+        | What::Ask(_)
+        | What::Tell(_)
+        | What::Device(_)
+        | What::Tick
+        | What::Stopped(_)
+        | What::Leave => false,
+    }
+}
+
+/// The loop's time after an entry, in milliseconds: that of the header that it gives, else the one before.
+pub fn loop_after(entry: What, before: u64) -> u64
+    ensures { result ≡ loop_after entry before }
+{
+    match entry {
+        What::Header(HeaderSeen::Read { timing, .. }) => timing.loop_ms,
+        _ => before,
+    }
+}

@@ -1,0 +1,166 @@
+//! The disk operations of a running node: the call of each, and what its answer is to the node. This is the one place that
+//! knows how an operation is done with sectors.
+ghost use Rattle.std.specs.Prelude.{◌≡◌, ◌≤◌, ◌<◌, length, if◌then◌else◌};
+ghost use Rattle.qn_model.specs.Settings.{IsValid};
+ghost use Rattle.qn_model.specs.Unmet.{id_of};
+ghost use Rattle.qn_model.specs.World.{failed};
+ghost use Rattle.qn_node.specs.Outputs.{IsNodeOutput};
+ghost use Rattle.qn_live.specs.Asking.{IsWithin, question_of};
+ghost use Rattle.qn_live.specs.Performing.{disk_call, done, header_seen, mail_seen, reset_by, slot_seen, write_mail, write_slot};
+
+use crate::asked::{Asked, Room};
+use qn_base::{NodeId, Rank};
+use qn_io::SECTOR;
+use qn_model::{
+    DiskOp, HeaderSeen, Mail, MailSeen, Message, Out, Sender, Settings, Slot, SlotSeen, What,
+};
+use qn_sector::{get_header, get_mail, get_slot, mail_sector, put_mail, put_slot, slot_sector};
+
+/// The call of a disk operation, of the node of that rank in that incarnation.
+#[tactic(auto, unfolding(crate::specs::Performing::disk_call))]
+pub fn ask(settings: &Settings, me: Rank, incarnation: u64, op: DiskOp, room: &mut Room) -> Asked
+    requires valid { IsValid settings.now }
+    requires configured { me.0 < length settings.now.nodes }
+    requires rank { IsNodeOutput settings.now (Out.Disk op) }
+    ensures asked { question_of result room.new ≡ disk_call settings.now me.0 incarnation op }
+    ensures within { IsWithin result }
+{
+    match op {
+        DiskOp::ReadHeader => Asked::Read { sector: 0 },
+        DiskOp::ReadSlot(rank) => Asked::Read {
+            sector: slot_sector(rank),
+        },
+        DiskOp::CheckMail | DiskOp::ReadMail => Asked::Read {
+            sector: mail_sector(me),
+        },
+        DiskOp::WriteClaim(incarnation) => ask_slot(settings, me, incarnation, false, room),
+        DiskOp::WriteClose(incarnation) => ask_slot(settings, me, incarnation, true, room),
+        DiskOp::WriteClear => {
+            put_mail(&Mail::anonymous(Message::Empty), &mut room.sector);
+            Asked::Write {
+                sector: mail_sector(me),
+            }
+        }
+        DiskOp::WriteReset(rank) => ask_reset(settings, me, incarnation, rank, room),
+    }
+}
+
+/// The write of the own slot.
+fn ask_slot(settings: &Settings, me: Rank, incarnation: u64, clean: bool, room: &mut Room) -> Asked
+    requires valid { IsValid settings.now }
+    requires configured { me.0 < length settings.now.nodes }
+    ensures asked { question_of result room.new
+        ≡ write_slot settings.now me.0 (record { incarnation = incarnation; clean = clean }) }
+    ensures within { IsWithin result }
+{
+    let slot = Slot { incarnation, clean };
+    put_slot(id_of(settings, me), &slot, &mut room.sector);
+    Asked::Write {
+        sector: slot_sector(me),
+    }
+}
+
+/// The write of a reset into the mailbox of a rank, which names this node.
+fn ask_reset(settings: &Settings, me: Rank, incarnation: u64, rank: Rank, room: &mut Room) -> Asked
+    requires valid { IsValid settings.now }
+    requires configured { me.0 < length settings.now.nodes }
+    requires rank { rank.0 < length settings.now.nodes }
+    ensures asked { question_of result room.new ≡ write_mail rank.0 (reset_by settings.now me.0 incarnation) }
+    ensures within { IsWithin result }
+{
+    let by = Some(Sender {
+        id: id_of(settings, me),
+        incarnation,
+    });
+    let mail = Mail {
+        message: Message::Reset,
+        by,
+    };
+    put_mail(&mail, &mut room.sector);
+    Asked::Write {
+        sector: mail_sector(rank),
+    }
+}
+
+/// The id of a rank, 0 where it is not configured.
+fn id_of(settings: &Settings, rank: Rank) -> NodeId
+    ensures id { result ≡ id_of settings.now rank.0 }
+    ensures from_one { IsValid settings.now → rank.0 < length settings.now.nodes → 1 ≤ result.0 }
+{
+    if usize::from(rank.0) < settings.nodes.len() {
+        settings.nodes.get(usize::from(rank.0)).id
+    } else {
+        NodeId(0)
+    }
+}
+
+/// What the answer of a disk operation is to the node: `ok` says whether it was done, and `sector` is what it read.
+pub fn answer(settings: &Settings, op: DiskOp, ok: bool, sector: &[u8; SECTOR]) -> What
+    ensures { result ≡ (if ok then done settings.now op sector.now else failed op) }
+{
+    if ok {
+        done(settings, op, sector)
+    } else {
+        failed(op)
+    }
+}
+
+#[tactic(auto, unfolding(crate::specs::Performing::done))]
+fn done(settings: &Settings, op: DiskOp, sector: &[u8; SECTOR]) -> What
+    ensures { result ≡ done settings.now op sector.now }
+{
+    match op {
+        DiskOp::ReadHeader => What::Header(header_seen(sector)),
+        DiskOp::ReadSlot(rank) => What::SlotRead(rank, slot_seen(settings, rank, sector)),
+        DiskOp::CheckMail => What::MailChecked(mail_seen(sector)),
+        DiskOp::ReadMail => What::MailRead(mail_seen(sector)),
+        DiskOp::WriteClaim(_) => What::Claimed(true),
+        DiskOp::WriteClose(_) => What::Closed(true),
+        DiskOp::WriteClear => What::Cleared(true),
+        DiskOp::WriteReset(rank) => What::MailWritten(rank, true),
+    }
+}
+
+#[tactic(auto, unfolding(qn_model::specs::World::failed))]
+fn failed(op: DiskOp) -> What
+    ensures { result ≡ failed op }
+{
+    match op {
+        DiskOp::ReadHeader => What::Header(HeaderSeen::Failed),
+        DiskOp::ReadSlot(rank) => What::SlotRead(rank, SlotSeen::Failed),
+        DiskOp::CheckMail => What::MailChecked(MailSeen::Failed),
+        DiskOp::ReadMail => What::MailRead(MailSeen::Failed),
+        DiskOp::WriteClaim(_) => What::Claimed(false),
+        DiskOp::WriteClose(_) => What::Closed(false),
+        DiskOp::WriteClear => What::Cleared(false),
+        DiskOp::WriteReset(rank) => What::MailWritten(rank, false),
+    }
+}
+
+fn header_seen(sector: &[u8; SECTOR]) -> HeaderSeen
+    ensures { result ≡ header_seen sector.now }
+{
+    match get_header(sector) {
+        Some((nodes, timing)) => HeaderSeen::Read { nodes, timing },
+        None => HeaderSeen::NotImage,
+    }
+}
+
+/// A slot counts only with the id of its rank.
+fn slot_seen(settings: &Settings, rank: Rank, sector: &[u8; SECTOR]) -> SlotSeen
+    ensures { result ≡ slot_seen settings.now rank.0 sector.now }
+{
+    match get_slot(sector) {
+        Some((id, slot)) if id.0 == id_of(settings, rank).0 => SlotSeen::Read(slot),
+        _ => SlotSeen::Damaged,
+    }
+}
+
+fn mail_seen(sector: &[u8; SECTOR]) -> MailSeen
+    ensures { result ≡ mail_seen sector.now }
+{
+    match get_mail(sector) {
+        Some(mail) => MailSeen::Read(mail.message),
+        None => MailSeen::Damaged,
+    }
+}

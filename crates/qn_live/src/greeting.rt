@@ -1,0 +1,57 @@
+//! What a node that takes part sends to the others each loop, and its view maker.
+ghost use Rattle.std.specs.Prelude.{◌≡◌, ◌<◌, ◌≤◌, ◌+◌, length, option_map, option_and_then};
+ghost use Rattle.qn_live.specs.Greetings.{greeting_packet, is_due, maker_where};
+ghost use Rattle.qn_member.specs.Maker.{after_hello_due, view_to_announce};
+
+use crate::place::Greeting;
+use qn_base::{Rank, View};
+use qn_member::Member;
+use qn_model::{Packet, Settings};
+
+/// Makes the view maker of a node that takes part where there is none yet, and takes it away from one that does not.
+pub fn keep_member(
+    member: &mut Option<Member>,
+    live: bool,
+    settings: &Settings,
+    me: Rank,
+    loop_ms: u64,
+)
+    ensures { member.new ≡ maker_where live settings.now me.0 loop_ms member.old }
+{
+    if !live {
+        *member = None;
+    } else if member.is_none() {
+        *member = Some(Member::new(settings, me, loop_ms));
+    }
+}
+
+/// Whether a Hello is due at this tick.
+pub fn hello_due(member: &mut Option<Member>, tick: u64) -> bool
+    ensures due { result ≡ is_due tick member.old }
+    ensures after { member.new ≡ option_map (after_hello_due tick) member.old }
+{
+    match member {
+        Some(member) => member.hello_due(tick),
+        None => false,
+    }
+}
+
+/// The view that the node announces.
+pub fn announced(member: &Option<Member>) -> Option<View>
+    ensures { result ≡ option_and_then view_to_announce member.now }
+{
+    match member {
+        Some(member) => member.announces(),
+        None => None,
+    }
+}
+
+/// The packet of a greeting of that rank.
+pub fn greeting_packet(me: Rank, greeting: Greeting) -> Packet
+    ensures { result ≡ greeting_packet me.0 greeting }
+{
+    match greeting {
+        Greeting::Hello => Packet::Hello { from: me },
+        Greeting::Announce(view) => Packet::Announce { from: me, view },
+    }
+}

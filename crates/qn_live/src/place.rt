@@ -1,0 +1,43 @@
+//! Where a running node stands between two calls.
+use crate::live_end::LiveEnd;
+use qn_base::View;
+use qn_model::{Packet, What};
+
+/// What a turn takes, before its tick is known.
+#[derive(Clone, Copy)]
+pub enum Choice {
+    /// This entry.
+    Whole(What),
+    /// The packet that came is none for the node itself, or none came: the view maker hears it and looks.
+    Open(Option<Packet>),
+}
+
+/// The answers that wait for a turn: that of a Stop, whether it stopped, and that of a disk operation.
+#[derive(Clone, Copy)]
+pub struct Waits {
+    pub stopped: Option<bool>,
+    pub disk: Option<What>,
+}
+
+/// What a node sends to every other node where a Hello is due.
+#[derive(Clone, Copy)]
+pub enum Greeting {
+    Hello,
+    /// The view that the node announces.
+    Announce(View),
+}
+
+/// The call that comes next.
+#[derive(Clone, Copy)]
+pub enum Place {
+    /// The turn takes no answer: a packet is received.
+    Receive,
+    /// The turn has its choice, and the clock is looked at.
+    Now(Choice),
+    /// The output of that place is performed.
+    Act { at: usize },
+    /// The greeting is sent to that rank.
+    Greet { greeting: Greeting, to: u8 },
+    /// None: the run is over.
+    Over(LiveEnd),
+}

@@ -1,0 +1,383 @@
+//! The running node as a machine: it names its next call, and takes the answer of that call.
+ghost use Rattle.std.specs.Prelude.{◌≤◌, ◌+◌};
+ghost use Rattle.qn_node.specs.Node.{steps_of};
+ghost use Rattle.qn_live.specs.Places.{pending};
+
+use crate::asked::{Asked, Given, Room};
+use crate::choosing::{choose, failed_answer, look, loop_after, ready};
+use crate::greeting::{announced, greeting_packet, hello_due, keep_member};
+use crate::live_end::LiveEnd;
+use crate::outputs::{self, end_in, waits_after};
+use crate::place::{Choice, Greeting, Place, Waits};
+use qn_base::Rank;
+use qn_member::Member;
+use qn_model::{Entry, Outs, Phase, Settings, What};
+use qn_node::Node;
+use qn_wire::put_packet;
+
+/// A running node that waits for the answer of its next call, or whose run is over.
+#[derive(Drop)]
+pub struct NodeRun {
+    settings: Settings,
+    me: Rank,
+    leave_at: Option<u64>,
+    node: Node,
+    /// The view maker, where the node takes part.
+    member: Option<Member>,
+    /// The loop's time of the header that was read, in milliseconds.
+    loop_ms: u64,
+    /// The tick of the last entry.
+    tick: u64,
+    waits: Waits,
+    /// Whether the last entry was a failed answer of the disk, so that the turn after it takes none.
+    rests: bool,
+    /// The number of the present turn, from 1, and how many turns follow it.
+    turn: u64,
+    after: u64,
+    /// The last entry, and its outputs.
+    entry: What,
+    outs: Outs,
+    place: Place,
+    ghost few_turns: { turn + after ≤ 18446744073709551615 },
+    ghost enough_steps: { pending place + after ≤ steps_of node },
+}
+
+impl NodeRun {
+    ghost use Rattle.std.specs.Prelude.{◌≡◌, ◌<◌, ◌-◌, ◌*◌, ◌==◌, ℕ, List, [], Some, All, IfOk, OnOk, IfErr, IfSome, IfNone, length, slice_get, false};
+    ghost use Rattle.qn_base.specs.declared.calls.Call.{Call};
+    ghost use Rattle.qn_base.specs.Calls.{blank};
+    ghost use Rattle.qn_base.specs.Plans.{Plan, question, left};
+    ghost use Rattle.qn_io.specs.Receives.{FitsPacket};
+    ghost use Rattle.qn_model.specs.declared.outputs.Out.{Out};
+    ghost use Rattle.qn_model.specs.Log.{Line};
+    ghost use Rattle.qn_model.specs.Phases.{is_live, phase};
+    ghost use Rattle.qn_model.specs.Settings.{IsValid};
+    ghost use Rattle.qn_node.specs.Outputs.{IsNodeOutput};
+    ghost use Rattle.qn_live.specs.Asking.{IsWithin, question_of, Tells};
+    ghost use Rattle.qn_live.specs.Choosing.{is_to_leave};
+    ghost use Rattle.qn_live.specs.Greetings.{greeting_call, others_from, to_send};
+    ghost use Rattle.qn_live.specs.Machine.{EndsWith, HasMore, IsStanding, IsUnderWay, RunFor, Stands, acting, begun, clocking, next_of, saying, settling, state_of, work};
+    ghost use Rattle.qn_live.specs.Performing.{noted, out_call, own_number};
+    ghost use Rattle.qn_live.specs.Places.{calls_of_greeting};
+    ghost use Rattle.qn_live.specs.Running.{Ran};
+    ghost use Rattle.qn_live.specs.Runs.{live_plan, turns_end};
+
+    /// A run of that many turns of the node of that rank; `clean` says that its boot is a clean start, and `leave_at` is
+    /// the number of the turn from which on it is to leave.
+    pub fn new(
+        settings: Settings,
+        me: Rank,
+        clean: bool,
+        leave_at: Option<u64>,
+        turns: u64,
+    ) -> NodeRun
+        requires valid { IsValid settings }
+        requires configured { me.0 < length settings.nodes }
+        requires some_turn { 1 ≤ turns }
+        ensures { RunFor result (live_plan settings me.0 clean leave_at turns) }
+    {
+        let node = Node::new(&settings, me);
+        NodeRun {
+            settings,
+            me,
+            leave_at,
+            node,
+            member: None,
+            loop_ms: 0,
+            tick: 0,
+            waits: Waits {
+                stopped: None,
+                disk: None,
+            },
+            rests: false,
+            turn: 1,
+            after: turns - 1,
+            entry: What::Tick,
+            outs: Outs::new(),
+            place: Place::Now(Choice::Whole(What::begin(clean))),
+        }
+    }
+
+    /// The call that comes next, whose bytes are put into the room, or how the run ended.
+    pub fn asks(&self, room: &mut Room) -> Result<Asked, LiveEnd>
+        requires under_way { IsUnderWay self.now }
+        ensures asked { IfOk result (λ asked. (plan : Plan Ran)
+            → RunFor self.now plan
+            → question plan ≡ Some (question_of asked room.new)) }
+        ensures within { IfOk result IsWithin }
+        ensures work { OnOk result (0 < work self.now) }
+        ensures over { IfErr result (λ end. (plan : Plan Ran) → RunFor self.now plan → EndsWith plan end) }
+    {
+        match self.place {
+            Place::Receive => Ok(Asked::Receive),
+            Place::Now(_) => Ok(Asked::Now),
+            Place::Act { at } => Ok(self.ask_output(at, room)),
+            Place::Greet { greeting, to } => Ok(self.ask_greeting(greeting, to, room)),
+            Place::Over(end) => Err(end),
+        }
+    }
+
+    fn ask_output(&self, at: usize, room: &mut Room) -> Asked
+        requires standing { IsStanding self.now }
+        requires at { at < length self.now.outs }
+        requires ranks { All (IsNodeOutput self.now.settings) self.now.outs }
+        ensures asked { (log : List Line) (out : Out)
+            → Stands self.now log
+            → slice_get self.now.outs at ≡ Some out
+            → question_of result room.new ≡ out_call self.now.settings self.now.me.0 (own_number log) out }
+        ensures within { IsWithin result }
+    {
+        let incarnation = self.node.incarnation().unwrap_or(0);
+        outputs::ask(
+            &self.settings,
+            self.me,
+            incarnation,
+            self.outs.get(at),
+            room,
+        )
+    }
+
+    fn ask_greeting(&self, greeting: Greeting, to: u8, room: &mut Room) -> Asked
+        ensures asked { question_of result room.new ≡ greeting_call self.now.me.0 greeting to }
+        ensures within { IsWithin result }
+    {
+        put_packet(&greeting_packet(self.me, greeting), &mut room.sent);
+        Asked::Send { to: Rank(to) }
+    }
+
+    /// Takes the answer of the call that was asked for, with its bytes in the room, and goes on to the next call.
+    pub fn answer(&mut self, given: Given, room: &Room)
+        requires under_way { IsUnderWay self.old }
+        requires fits { FitsPacket given.got }
+        ensures runs { (plan : Plan Ran) (call : Call)
+            → RunFor self.old plan
+            → Tells call given room.now
+            → question plan ≡ Some (blank call)
+            → RunFor self.new (left plan call) }
+        ensures work { 0 < work self.old → work self.new < work self.old }
+    {
+        match self.place {
+            Place::Receive => {
+                self.place = Place::Now(choose(self.me, given.got, &room.packet));
+            }
+            Place::Now(choice) => self.at_tick(choice, given.tick),
+            Place::Act { at } => self.performed(at, given, room),
+            Place::Greet { greeting, to } => self.greet(greeting, to + 1),
+            Place::Over(_) => {}
+        }
+    }
+
+    /// The clock was looked at: what was chosen becomes an entry at that tick.
+    fn at_tick(&mut self, choice: Choice, tick: u64)
+        requires standing { IsStanding self.old }
+        requires pending { pending self.old.place ≡ 1 }
+        ensures runs { (log : List Line)
+            → Stands self.old log
+            → RunFor self.new (clocking self.old log choice tick) }
+        ensures work { work self.new < 128 * self.old.after + 126 }
+    {
+        if tick < self.tick {
+            self.place = Place::Over(LiveEnd::ClockBack {
+                before: self.tick,
+                now: tick,
+            });
+            return;
+        }
+        let what = look(&mut self.member, choice, tick);
+        self.place = Place::Act { at: 0 };
+        self.tick = tick;
+        self.entry = what;
+        self.loop_ms = loop_after(what, self.loop_ms);
+        self.rests = failed_answer(what);
+        self.node.step(Entry { tick, what }, &mut self.outs);
+        self.act(0);
+    }
+
+    /// The output of that place was performed.
+    fn performed(&mut self, at: usize, given: Given, room: &Room)
+        requires at { at < length self.old.outs }
+        requires few { at < 40 }
+        ensures runs { (log : List Line) (out : Out) (call : Call)
+            → Stands self.old log
+            → All (IsNodeOutput self.old.settings) self.old.outs
+            → slice_get self.old.outs at ≡ Some out
+            → Tells call given room.now
+            → blank call ≡ out_call self.old.settings self.old.me.0 (own_number log) out
+            → RunFor self.new (acting self.old (noted self.old.settings out call (state_of self.old log)) (at + 1)) }
+        ensures work { work self.new < 128 * self.old.after + 80 + (41 - at) }
+    {
+        let out = self.outs.get(at);
+        self.waits = waits_after(&self.settings, self.waits, out, given, room);
+        self.act(at + 1);
+    }
+
+    /// Goes on with the outputs from that place on.
+    fn act(&mut self, at: usize)
+        ensures runs { (log : List Line)
+            → Stands self.old log
+            → All (IsNodeOutput self.old.settings) self.old.outs
+            → RunFor self.new (acting self.old (state_of self.old log) at) }
+        ensures work { work self.new < 128 * self.old.after + 80 + (42 - at) }
+    {
+        if at < self.outs.len() {
+            self.place = Place::Act { at };
+        } else {
+            self.settle();
+        }
+    }
+
+    /// All outputs were performed: the run is over, or a Hello is due, or the turn is over.
+    fn settle(&mut self)
+        ensures runs { (log : List Line)
+            → Stands self.old log
+            → RunFor self.new (settling self.old log) }
+        ensures work { work self.new < 128 * self.old.after + 80 }
+    {
+        if let Some(end) = end_in(self.entry, &self.outs) {
+            self.place = Place::Over(end);
+            return;
+        }
+        let live = self.is_live();
+        keep_member(
+            &mut self.member,
+            live,
+            &self.settings,
+            self.me,
+            self.loop_ms,
+        );
+        if hello_due(&mut self.member, self.tick) {
+            self.greet(Greeting::Hello, 0);
+        } else {
+            self.finish();
+        }
+    }
+
+    /// Whether the node takes part.
+    fn is_live(&self) -> bool
+        ensures { (log : List Line)
+            → Stands self.now log
+            → result ≡ is_live (phase self.now.settings log) }
+    {
+        match self.node.phase() {
+            Phase::Up | Phase::Leaving => true,
+            Phase::Booting | Phase::Dying | Phase::Gone => false,
+        }
+    }
+
+    /// Goes on with this greeting to the ranks from that one on.
+    fn greet(&mut self, greeting: Greeting, from: u8)
+        ensures runs { (log : List Line)
+            → Stands self.old log
+            → RunFor self.new (saying self.old log
+            (to_send self.old.settings self.old.me.0 self.old.member greeting from)) }
+        ensures work { work self.new < 128 * self.old.after + 1 + calls_of_greeting greeting from }
+    {
+        match self.next_greeting(greeting, from) {
+            Some((greeting, to)) => self.place = Place::Greet { greeting, to },
+            None => self.finish(),
+        }
+    }
+
+    /// The greeting that comes next, and the rank that it goes to.
+    fn next_greeting(&self, greeting: Greeting, from: u8) -> Option<(Greeting, u8)>
+        ensures none { IfNone result
+            (to_send self.now.settings self.now.me.0 self.now.member greeting from ≡ []) }
+        ensures same { IfSome result (λ next.
+            to_send self.now.settings self.now.me.0 self.now.member greeting from
+            ≡ to_send self.now.settings self.now.me.0 self.now.member next.0 next.1) }
+        ensures more { IfSome result (λ next.
+            HasMore self.now.settings self.now.me.0 self.now.outs (Place.Greet next.0 next.1)) }
+        ensures work { IfSome result (λ next. calls_of_greeting next.0 next.1 ≤ calls_of_greeting greeting from) }
+    {
+        if let Some(to) = self.other_from(from) {
+            return Some((greeting, to));
+        }
+        let view = match greeting {
+            Greeting::Hello => announced(&self.member)?,
+            Greeting::Announce(_) => return None,
+        };
+        let to = self.other_from(0)?;
+        Some((Greeting::Announce(view), to))
+    }
+
+    /// The least other configured rank from that one on.
+    fn other_from(&self, from: u8) -> Option<u8>
+        ensures none { IfNone result (others_from self.now.settings self.now.me.0 from ≡ []) }
+        ensures same { IfSome result (λ to.
+            others_from self.now.settings self.now.me.0 from ≡ others_from self.now.settings self.now.me.0 to) }
+        ensures after { IfSome result (λ to. from ≤ to) }
+        ensures within { IfSome result (λ to. to < length self.now.settings.nodes) }
+        ensures other { IfSome result (λ to. (to == self.now.me.0) ≡ false) }
+    {
+        let count = self.settings.nodes.len() as u8;
+        if from >= count {
+            return None;
+        }
+        if from != self.me.0 {
+            return Some(from);
+        }
+        if from + 1 < count {
+            return Some(from + 1);
+        }
+        None
+    }
+
+    /// The turn is over: the next one begins, or the run is over.
+    fn finish(&mut self)
+        ensures runs { (log : List Line)
+            → Stands self.old log
+            → RunFor self.new (next_of self.old (state_of self.old log)) }
+        ensures work { work self.new ≤ 128 * self.old.after }
+    {
+        if self.after == 0 {
+            self.place = Place::Over(self.turns_end());
+            return;
+        }
+        self.after -= 1;
+        self.turn += 1;
+        self.begin();
+    }
+
+    /// How the run ends after its last turn.
+    fn turns_end(&self) -> LiveEnd
+        ensures { (log : List Line)
+            → Stands self.now log
+            → result ≡ turns_end self.now.settings self.now.me.0 log }
+    {
+        LiveEnd::Turns {
+            phase: self.node.phase(),
+            holds: self.node.holds(),
+            answer: self.node.answer(self.tick),
+            why: self.node.why(self.tick),
+        }
+    }
+
+    /// Begins a turn, by its number.
+    fn begin(&mut self)
+        requires { 1 + self.old.after ≤ steps_of self.old.node }
+        ensures runs { (log : List Line)
+            → Stands self.old log
+            → RunFor self.new (begun self.old log) }
+        ensures work { work self.new ≤ 128 * self.old.after + 127 }
+    {
+        match ready(self.is_to_leave(), self.rests, self.waits) {
+            Some((entry, waits)) => {
+                self.waits = waits;
+                self.place = Place::Now(Choice::Whole(entry));
+            }
+            None => self.place = Place::Receive,
+        }
+    }
+
+    /// Whether the node is to leave at the present turn.
+    fn is_to_leave(&self) -> bool
+        ensures { (log : List Line)
+            → Stands self.now log
+            → result ≡ is_to_leave self.now.settings self.now.leave_at self.now.turn (state_of self.now log) }
+    {
+        match self.leave_at {
+            Some(from) => from <= self.turn && matches!(self.node.phase(), Phase::Up),
+            None => false,
+        }
+    }
+}
