@@ -178,7 +178,7 @@ class Agent:
     """An agent behind a Unix socket. `answers(line, number)` gives the bytes of the answer to the line of the connection of that number,
     from 1, or None for no answer; then the connection is closed. It keeps the lines that it was sent."""
 
-    def __init__(self, path, answers):
+    def __init__(self, path, answers=None):
         self.path, self.answers, self.lines = path, answers, []
         self.listener = socket.socket(socket.AF_UNIX)
         self.listener.bind(str(path))
@@ -201,6 +201,20 @@ class Agent:
         return "unix:%s" % self.path
 
 
+class Program(Agent):
+    """A program behind a Unix socket: it is started for each connection, which is its standard input and output."""
+
+    def __init__(self, path, words):
+        self.words = words
+        super().__init__(path)
+
+    def serve(self):
+        while True:
+            connection, _ = self.listener.accept()
+            subprocess.Popen(self.words, stdin=connection, stdout=connection)
+            connection.close()
+
+
 def end_all():
     for process in STARTED:
         if process.poll() is None:
@@ -210,10 +224,13 @@ def end_all():
 atexit.register(end_all)
 
 
-def gives_up(*_):
+def gives_up(number, _):
     end_all()
-    print("no end in %d seconds" % ALL, flush=True)
+    print("no end in %d seconds" % ALL if number == signal.SIGALRM else "told to end", flush=True)
     os._exit(1)
+
+
+signal.signal(signal.SIGTERM, gives_up)
 
 
 def tried(test):

@@ -80,34 +80,43 @@ class Hosts:
 
     def other_holder(self, *than):
         """Waits until a node holds that is none of these."""
-        return wait_for("another holder than %s" % (than,), lambda: self.holder() not in (None, *than) and self.holder())
+        def other():
+            holder = self.holder()
+            return None if holder in than else holder
+        return wait_for("a holder that is none of %s" % (than,), other)
 
     def is_up(self, ident):
         """Whether the node runs, has claimed its slot and emptied its mailbox, and knows no deadly message."""
         line = self.quorumd("list").splitlines()[IDS.index(ident)]
-        return self.is_running(ident) and " dirty mail empty" in line
-
-    def is_running(self, ident):
-        return self.hosts[ident].poll() is None and pathlib.Path("/proc/%d" % self.pid(ident)).exists()
+        return self.pid(ident) is not None and " dirty mail empty" in line
 
     def pid(self, ident):
-        return int((self.folder / ("pid.%d" % ident)).read_text())
-
-    def send(self, ident, number):
-        """Sends a signal to the node, where it runs."""
+        """The process of the node; None where its host is off."""
         try:
-            os.kill(self.pid(ident), number)
-            return True
+            return int((self.folder / ("pid.%d" % ident)).read_text())
+        except FileNotFoundError:
+            return None
+
+    def send(self, ident, number, what):
+        """Sends a signal to the node, and says so; whether its host is on."""
+        pid = self.pid(ident)
+        if pid is None:
+            return False
+        try:
+            os.kill(pid, number)
         except ProcessLookupError:
             return False
+        self.say(what % ident)
+        return True
 
     def kill(self, ident):
-        self.say("kill -9 the node of host %d" % ident)
-        return self.send(ident, signal.SIGKILL)
+        return self.send(ident, signal.SIGKILL, "kill -9 the node of host %d")
 
     def pause(self, ident):
-        self.say("pause the node of host %d" % ident)
-        return self.send(ident, signal.SIGSTOP)
+        return self.send(ident, signal.SIGSTOP, "pause the node of host %d")
+
+    def wake(self, ident):
+        return self.send(ident, signal.SIGCONT, "the node of host %d goes on")
 
     def message(self, ident, kind):
         self.say("message --id %d --kind %s" % (ident, kind))

@@ -20,10 +20,9 @@ for line in 'host 1: the resource starts' '> kill -9 the node of host' '> pause 
 done
 "$TOP/bin/timeline" --title Hosts --journal hosts/journal > drawn.svg
 grep -q 'data-lane="node 1"' drawn.svg
-# the ends of the hosts are the ends of the nodes
-for file in hosts/pid.* storm/pid.*; do
-    ! grep -qs "$PWD" "/proc/$(cat "$file")/cmdline" || { printf 'a node goes on: %s\n' "$file"; exit 1; }
-done
+# the nodes ended with their hosts
+same "$(ls hosts storm | grep '^pid' || true)" ''
+! grep -qs "$PWD/hosts/disk" /proc/[0-9]*/cmdline
 
 # judged STATUS 'OUTPUT' LINE..: what is said of a journal
 judged() {

@@ -1,9 +1,11 @@
 # Nodes whose resource is behind an agent: what the agent is sent, each answer that is none, a start and a stop that it refuses, and a stop
 # that takes 800 ms, after which the feed of its turn is not given and the next one is.
 PYTHONPATH=$TOP/tests python3 -B - <<'END'
+import os
+import subprocess
 import time
 
-from live import Agent, Cluster, same, try_all
+from live import Agent, Cluster, Program, same, try_all, wait_for
 
 OK = b"ok\n"
 SHORT_LOOP = "500,2100,400,1000,500"  # a stop of 800 ms takes longer than the loop
@@ -29,7 +31,7 @@ def wrong_answers():
 
 def late_answer():
     def answers(line, number):
-        time.sleep(21)
+        time.sleep(25)
         return OK
     opening_fails("late", answers, "no answer within 20 seconds")
 
@@ -111,5 +113,20 @@ def slow_start():
     same("said", node.said()[1:], ["start: ok"])
 
 
-try_all(wrong_answers, late_answer, no_answer, no_agent, refused_start, refused_stop, slow_stop, slow_start)
+def agent_of_contrib():
+    """A command that the agent of contrib starts, and that runs no more once its stop is answered."""
+    cluster = Cluster("contrib", ids=(1,))
+    ran, work = cluster.folder / "ran", cluster.folder / "work"
+    command = ["sh", "-c", "while :; do echo >> %s; sleep 0.1; done" % ran]
+    agent = Program(cluster.folder / "agent", [os.environ["TOP"] + "/contrib/quorumd-agent", "command", work, *command])
+    node = cluster.node(1, resource=agent.word())
+    node.waits_for("start: ok")
+    wait_for("the command runs", ran.exists)
+    cluster.message(1, "exit")
+    same("answer", node.end(), (0, "left clean\n"))
+    same("said", node.said()[1:], ["start: ok", "stop: ok", "disarm: ok"])
+    same("the lock is free", subprocess.run(["flock", "-n", work / "lock", "true"], check=False).returncode, 0)
+
+
+try_all(agent_of_contrib, wrong_answers, late_answer, no_answer, no_agent, refused_start, refused_stop, slow_stop, slow_start)
 END
