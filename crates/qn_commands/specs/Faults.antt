@@ -12,6 +12,8 @@ use Rattle.qn_model.specs.Lines.{name_of}
 use Rattle.qn_model.specs.Messages.{message_name}
 use Rattle.qn_settings.specs.declared.faults.SettingsFault.{SettingsFault}
 use Rattle.qn_settings.specs.declared.faults.SettingsFault.TheVariants as settings
+use Rattle.qn_settings.specs.declared.faults.TextFault.{TextFault}
+use Rattle.qn_settings.specs.declared.faults.TextFault.TheVariants as text
 use Rattle.qn_settings.specs.Keys.{key_name}
 use Rattle.qn_commands.specs.declared.fault.Fault.{Fault}
 use Rattle.qn_commands.specs.declared.fault.Fault.TheVariants.{Usage, BadConf, BadSettings, BadSchedule, NotAllowed, ReadFault, EnvFault, BadImage, UnsafeTiming, NoMemory, DeadlyThere, UnknownNode}
@@ -101,6 +103,11 @@ status_of (UnsafeTiming timing) = 10
 status_of NoMemory = 11
 status_of (DeadlyThere held) = 15
 status_of (UnknownNode id) = 16
+
+-- a text that gives no settings
+abbrev pub text_fault : TextFault → Fault
+text_fault (text.Conf fault) = BadConf fault
+text_fault (text.Settings fault) = BadSettings fault
 
 -- what a call on an image met that read sectors alone: one that is no spelling, or else the disk
 abbrev pub disk_fault : ImageFault → Fault

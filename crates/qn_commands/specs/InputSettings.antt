@@ -1,31 +1,25 @@
 -- The settings text that a command reads first, corosync.conf(5), and what follows from it: this project's profile.
 use Rattle.std.specs.Prelude.{◌≡◌, ◌⊎◌, ◌≤◌, ℕ, ◌+◌, List, Result, Ok, Err, length, nat_lt, if◌then◌else◌}
 use Rattle.std.specs.Io.KnownBytes.{IsAtEnd, prepend_known}
-use Rattle.qn_conf.specs.declared.faults.ConfFault.{ConfFault}
 use Rattle.qn_conf.specs.declared.faults.ConfFault.TheVariants as conf
-use Rattle.qn_conf.specs.declared.tree.Item.{Item}
-use Rattle.qn_conf.specs.Conf.{conf_of}
 use Rattle.qn_model.specs.declared.configuration.Settings.{Settings}
 use Rattle.qn_model.specs.Lines.{Ending, Ended, ReadFailed}
-use Rattle.qn_settings.specs.declared.faults.SettingsFault.{SettingsFault}
-use Rattle.qn_settings.specs.Answer.{answer_of}
+use Rattle.qn_settings.specs.declared.faults.TextFault.{TextFault}
+use Rattle.qn_settings.specs.Text.{settings_of_text}
 use Rattle.qn_commands.specs.declared.fault.Fault.{Fault}
-use Rattle.qn_commands.specs.declared.fault.Fault.TheVariants.{BadConf, BadSettings, NoMemory, ReadFault}
+use Rattle.qn_commands.specs.declared.fault.Fault.TheVariants.{BadConf, NoMemory, ReadFault}
+use Rattle.qn_commands.specs.Faults.{text_fault}
 use Rattle.qn_commands.specs.Reads.{Tells}
 use Rattle.qn_commands.specs.Seen.{Input, ReadFails, Seen}
 use Rattle.qn_commands.specs.Works.{Work, Works, refusal}
 
 -- the settings of a text, or its first fault
-abbrev pub or_bad_settings : Result Settings SettingsFault → Result Settings Fault
-or_bad_settings (Ok settings) = Ok settings
-or_bad_settings (Err fault) = Err (BadSettings fault)
-
-abbrev pub settings_or_fault : Result (List Item) ConfFault → Result Settings Fault
-settings_or_fault (Ok tree) = or_bad_settings (answer_of tree)
-settings_or_fault (Err fault) = Err (BadConf fault)
+abbrev pub or_fault : Result Settings TextFault → Result Settings Fault
+or_fault (Ok settings) = Ok settings
+or_fault (Err fault) = Err (text_fault fault)
 
 unfoldable pub settings_in : List ℕ → Result Settings Fault
-settings_in text = settings_or_fault (conf_of text)
+settings_in bytes = or_fault (settings_of_text bytes)
 
 -- the settings text that an input is, where it was read whole
 abbrev pub text_at : Ending → List ℕ → Result (List ℕ) Fault

@@ -1,7 +1,7 @@
 //! Why a command did not do its work, and the last line that says so.
 ghost use Rattle.std.specs.Prelude.{◌≡◌, ◌≤◌, ◌++◌, length, codes, decimal};
 ghost use Rattle.qn_settings.specs.Keys.{key_name};
-ghost use Rattle.qn_commands.specs.Faults.{conf_line, deadly_line, disk_fault, fault_line, refused_line, schedule_line, settings_line, status_of, timing_line};
+ghost use Rattle.qn_commands.specs.Faults.{conf_line, deadly_line, disk_fault, fault_line, refused_line, schedule_line, settings_line, status_of, text_fault, timing_line};
 ghost use Rattle.qn_commands.specs.Statuses.{code_of};
 
 use crate::status::Status;
@@ -9,7 +9,7 @@ use qn_base::{NodeId, ShortText};
 use qn_conf::ConfFault;
 use qn_image::ImageFault;
 use qn_model::{LineFault, Message, Rule, Timing};
-use qn_settings::{Key, SettingsFault};
+use qn_settings::{Key, SettingsFault, TextFault};
 
 /// Why a command did not do its work, with what its last line says.
 #[derive(Clone, Copy, Debug)]
@@ -77,6 +77,16 @@ impl Fault {
             Fault::NoMemory => whole(b"fault NoMemory\n"),
             Fault::DeadlyThere(held) => deadly_line(held),
             Fault::UnknownNode { id } => numbered(b"fault UnknownNode ", u64::from(id.0)),
+        }
+    }
+
+    /// Why a text gives no settings.
+    pub(crate) fn of_text(fault: TextFault) -> Fault
+        ensures { result ≡ text_fault fault }
+    {
+        match fault {
+            TextFault::Conf(fault) => Fault::BadConf(fault),
+            TextFault::Settings(fault) => Fault::BadSettings(fault),
         }
     }
 

@@ -7,15 +7,12 @@ ghost use Rattle.qn_commands.specs.InputSettings.{IsWanted, Judges, input_settin
 ghost use Rattle.qn_commands.specs.Seen.{source};
 
 use crate::fault::Fault;
-use qn_conf::{ConfFault, read_tree};
+use qn_conf::{ConfFault, MOST_TEXT_BYTES};
 use qn_io::{PIECE, Source};
 use qn_model::Settings;
-use qn_settings::settings;
+use qn_settings::settings_of_text;
 use std::alloc::Global;
 use std::marker::Model;
-
-/// The most bytes of a settings text.
-const MAX_BYTES: usize = 1_048_576;
 
 /// A settings text that was read whole.
 #[derive(Drop)]
@@ -65,13 +62,7 @@ fn settings_in(alloc: Global, text: &[u8]) -> Result<Settings, Fault>
     ensures valid { IfOk result IsValid }
     ensures status { IfErr result (λ fault. (status_of fault ≡ 3) ⊎ (status_of fault ≡ 11)) }
 {
-    match read_tree(alloc, text) {
-        Ok(tree) => match settings(&tree) {
-            Ok(settings) => Ok(settings),
-            Err(fault) => Err(Fault::BadSettings(fault)),
-        },
-        Err(fault) => Err(Fault::BadConf(fault)),
-    }
+    settings_of_text(alloc, text).map_err(Fault::of_text)
 }
 
 /// Reads the whole input, up to the most bytes that a settings text may have.
@@ -96,7 +87,7 @@ fn read_text<I: Source>(alloc: Global, input: &mut I) -> Result<SettingsText, Fa
         let Ok(()) = bytes.extend_from_slice(piece.split_at(count).0) else {
             return Err(Fault::NoMemory);
         };
-        if bytes.as_slice().len() > MAX_BYTES {
+        if bytes.as_slice().len() > MOST_TEXT_BYTES {
             return Err(Fault::BadConf(ConfFault::TooLong));
         }
     }

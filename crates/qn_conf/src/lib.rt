@@ -11,5 +11,6 @@ mod reader;
 mod tree;
 
 pub use faults::ConfFault;
-pub use reader::read_tree;
+pub use line::is_blank;
+pub use reader::{MOST_TEXT_BYTES, read_tree};
 pub use tree::{Item, Tree, Word};

@@ -110,8 +110,8 @@ fn trim_end(text: &[u8]) -> &[u8]
     rest
 }
 
-/// Blanks are space, tab and carriage return.
-fn is_blank(byte: u8) -> bool
+/// Whether a byte is a blank: space, tab or carriage return (this project's profile).
+pub fn is_blank(byte: u8) -> bool
     ensures { result ≡ is_blank byte }
 {
     matches!(byte, b' ' | b'\t' | b'\r')

@@ -14,8 +14,8 @@ use crate::tree::{Item, Tree};
 use std::alloc::Global;
 use std::str::from_utf8;
 
-/// The most bytes of a settings text.
-const MAX_BYTES: usize = 1_048_576;
+/// The most bytes of a settings text (this project's profile).
+pub const MOST_TEXT_BYTES: usize = 1_048_576;
 
 /// The most sections that stand inside one another.
 const MAX_DEPTH: usize = 4;
@@ -28,7 +28,7 @@ pub fn read_tree(alloc: Global, text: &[u8]) -> Result<Tree<'_>, ConfFault>
     ensures fault { UnlessNoMemory result ((fault : ConfFault) → (result ≡ Err fault) ↔ IsFirstFault text.now fault) }
     ensures answer { UnlessNoMemory result (result ≡ conf_of text.now) }
 {
-    if text.len() > MAX_BYTES {
+    if text.len() > MOST_TEXT_BYTES {
         return Err(ConfFault::TooLong);
     }
     if from_utf8(text).is_err() {

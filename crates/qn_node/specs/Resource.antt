@@ -36,7 +36,22 @@ after_stop tick false before = resource.StopFailed tick
 -- after an entry at a tick: the answer of a Stop counts where one is unanswered
 abbrev pub after_entry : ℕ → What → Resource → Resource
 after_entry tick (what.Stopped ok) before = if is_stopping before then after_stop tick ok before else before
-after_entry tick entry before = before
+after_entry tick what.Begin before = before
+after_entry tick what.BeginClean before = before
+after_entry tick (what.Header seen) before = before
+after_entry tick (what.SlotRead rank seen) before = before
+after_entry tick (what.MailChecked seen) before = before
+after_entry tick (what.Claimed ok) before = before
+after_entry tick (what.Cleared ok) before = before
+after_entry tick (what.MailRead seen) before = before
+after_entry tick (what.MailWritten rank ok) before = before
+after_entry tick (what.View view) before = before
+after_entry tick (what.Ask ask) before = before
+after_entry tick (what.Tell tell) before = before
+after_entry tick (what.Device agrees) before = before
+after_entry tick what.Tick before = before
+after_entry tick what.Leave before = before
+after_entry tick (what.Closed ok) before = before
 
 -- after a Stop and a Start, each where it was given
 abbrev pub after_outs : Bool → Bool → Resource → Resource

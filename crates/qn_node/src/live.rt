@@ -179,7 +179,20 @@ impl Live {
                 feeds: false,
                 leaving: true,
             },
-            _ => Course::Act {
+            What::Begin
+            | What::BeginClean
+            | What::Header(_)
+            | What::SlotRead(..)
+            | What::MailChecked(_)
+            | What::Claimed(_)
+            | What::Cleared(_)
+            | What::MailWritten(..)
+            | What::View(_)
+            | What::Ask(_)
+            | What::Tell(_)
+            | What::Device(_)
+            | What::Tick
+            | What::Stopped(_) => Course::Act {
                 feeds: false,
                 leaving: self.leaving,
             },
@@ -260,7 +273,18 @@ impl Live {
                 self.fence.written(rank, tick, ok);
                 VoteWhat::Tick
             }
-            _ => VoteWhat::Tick,
+            What::Begin
+            | What::BeginClean
+            | What::Header(_)
+            | What::MailChecked(_)
+            | What::Claimed(_)
+            | What::Cleared(_)
+            | What::MailRead(_)
+            | What::Ask(_)
+            | What::Tick
+            | What::Stopped(_)
+            | What::Leave
+            | What::Closed(_) => VoteWhat::Tick,
         }
     }
 

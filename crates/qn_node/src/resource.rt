@@ -48,10 +48,26 @@ impl Resource {
     pub fn after_entry(self, tick: u64, what: What) -> Self
         ensures { result ≡ after_entry tick what self }
     {
-        match (self, what) {
-            (Resource::Stopping, What::Stopped(true)) => Resource::Free,
-            (Resource::Stopping, What::Stopped(false)) => Resource::StopFailed { tick },
-            _ => self,
+        match what {
+            What::Stopped(true) if self.is_stopping() => Resource::Free,
+            What::Stopped(false) if self.is_stopping() => Resource::StopFailed { tick },
+            What::Begin
+            | What::BeginClean
+            | What::Header(_)
+            | What::SlotRead(..)
+            | What::MailChecked(_)
+            | What::Claimed(_)
+            | What::Cleared(_)
+            | What::MailRead(_)
+            | What::MailWritten(..)
+            | What::View(_)
+            | What::Ask(_)
+            | What::Tell(_)
+            | What::Device(_)
+            | What::Tick
+            | What::Stopped(_)
+            | What::Leave
+            | What::Closed(_) => self,
         }
     }
 

@@ -22,11 +22,13 @@ use Rattle.qn_sched.specs.declared.replay_end.ReplayEnd.{ReplayEnd}
 use Rattle.qn_sched.specs.declared.replay_end.ReplayEnd.TheVariants.{UnsafeTiming}
 use Rattle.qn_sched.specs.EventLines.{event_line}
 use Rattle.qn_sched.specs.EventReading.{event_of}
-use Rattle.qn_sched.specs.Head.{dashes, or_bad_settings, safe_or_not, safe_timing_in, settings_in, settings_of_tree}
+use Rattle.qn_sched.specs.Head.{dashes, or_bad_text, safe_or_not, safe_timing_in, settings_in}
 use Rattle.qn_sched.specs.TimingLine.{timing_of}
 use Rattle.qn_sched.specs.TraceLines.{trace_line}
 use Rattle.qn_settings.specs.declared.faults.SettingsFault.{SettingsFault}
+use Rattle.qn_settings.specs.declared.faults.TextFault.{TextFault}
 use Rattle.qn_settings.specs.Answer.{answer_of}
+use Rattle.qn_settings.specs.Text.{of_answer, of_tree, settings_of_text}
 use Rattle.qn_replay.specs.Replay.{Progress, Replayed, allowed_in, at_start, counted_bytes, cut_in, end_of_events, event_in, event_lines, event_text, go_on, last_event, last_of_text, last_timing, or_bad_line, replay_of, text_lines, timing_lines, unless_refused, with_event}
 use Rattle.qn_replay.specs.RunTrace.{Empty, IsRunTrace, Lines, trace_of}
 
@@ -194,17 +196,21 @@ timing_good : (number : ℕ) (line : List ℕ) → IfOk (safe_timing_in number l
 unfolding safe_timing_in
 timing_good number line = times_good number (timing_of line)
 
-tree_good : (answer : Result Settings SettingsFault) → IfOk answer IsValid → IfOk (or_bad_settings answer) IsValid
-tree_good (Ok settings) valid = valid
-tree_good (Err fault) valid = tt
+answer_good : (answer : Result Settings SettingsFault) → IfOk answer IsValid → IfOk (of_answer answer) IsValid
+answer_good (Ok settings) valid = valid
+answer_good (Err fault) valid = tt
 
-conf_good : Laws → (conf : Result (List Item) ConfFault) → IfOk (settings_of_tree conf) IsValid
-conf_good laws (Ok tree) = tree_good (answer_of tree) (laws.valid tree)
-conf_good laws (Err fault) = tt
+tree_good : Laws → (conf : Result (List Item) ConfFault) → IfOk (of_tree conf) IsValid
+tree_good laws (Ok tree) = answer_good (answer_of tree) (laws.valid tree)
+tree_good laws (Err fault) = tt
 
-settings_good : Laws → (text : List ℕ) → IfOk (settings_in text) IsValid
-unfolding settings_in
-settings_good laws text = conf_good laws (conf_of text)
+text_good : (judged : Result Settings TextFault) → IfOk judged IsValid → IfOk (or_bad_text judged) IsValid
+text_good (Ok settings) valid = valid
+text_good (Err fault) valid = tt
+
+settings_good : Laws → (bytes : List ℕ) → IfOk (settings_in bytes) IsValid
+unfolding settings_in settings_of_text
+settings_good laws bytes = text_good (of_tree (conf_of bytes)) (tree_good laws (conf_of bytes))
 
 last_timing_tells : (before : ℕ) (ending : Ending) (rest : List ℕ) → IsRunTrace (last_timing before ending rest).trace
 unfolding last_timing

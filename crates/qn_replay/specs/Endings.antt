@@ -2,9 +2,6 @@
 use Rattle.std.specs.Prelude.{ℕ, ◌+◌, ◌==◌, None, Some, Option, Bool, true, false, cond, List, [], ◌∷◌, ◌++◌, length, nat_lt, Result, Ok, Err, IfErr}
 use Rattle.std.specs.Str.{bytes_eq}
 use Rattle.qn_base.specs.declared.limits.TheConstants.{MOST_EVENTS, MOST_LINE_BYTES}
-use Rattle.qn_conf.specs.declared.faults.ConfFault.{ConfFault}
-use Rattle.qn_conf.specs.declared.tree.Item.{Item}
-use Rattle.qn_conf.specs.Conf.{conf_of}
 use Rattle.qn_model.specs.declared.configuration.Settings.{Settings}
 use Rattle.qn_model.specs.declared.events.Event.{Event}
 use Rattle.qn_model.specs.declared.line_fault.LineFault.{LineFault}
@@ -14,11 +11,12 @@ use Rattle.qn_model.specs.Rules.{refusal}
 use Rattle.qn_model.specs.Settings.{ids}
 use Rattle.qn_model.specs.Timing.{is_safe}
 use Rattle.qn_sched.specs.EventReading.{event_of}
-use Rattle.qn_settings.specs.declared.faults.SettingsFault.{SettingsFault}
-use Rattle.qn_settings.specs.Answer.{answer_of}
+use Rattle.qn_settings.specs.declared.faults.TextFault.{TextFault}
+use Rattle.qn_settings.specs.declared.faults.TextFault.TheVariants as text
+use Rattle.qn_settings.specs.Text.{settings_of_text}
 use Rattle.qn_sched.specs.declared.replay_end.ReplayEnd.{ReplayEnd}
 use Rattle.qn_sched.specs.declared.replay_end.ReplayEnd.TheVariants.{Done, BadConf, BadSettings, BadSchedule, NotAllowed, ReadFault, WriteFault, UnsafeTiming, NoMemory}
-use Rattle.qn_sched.specs.Head.{dashes, or_bad_settings, safe_or_not, safe_timing_in, settings_in, settings_of_tree}
+use Rattle.qn_sched.specs.Head.{dashes, or_bad_text, safe_or_not, safe_timing_in, settings_in}
 use Rattle.qn_sched.specs.TimingLine.{timing_of}
 use Rattle.qn_replay.specs.Replay.{Progress, Replayed, allowed_in, at_start, counted_bytes, cut_in, end_of_events, event_in, event_lines, go_on, last_event, last_of_text, last_timing, or_bad_line, replay_of, text_lines, timing_lines, unless_refused, with_event}
 
@@ -55,17 +53,14 @@ judged_fits : {A : Type 0} (last : Option Progress) (ending : Ending) (judged : 
 judged_fits last ending (Ok value) next at_fault fits = fits value
 judged_fits last ending (Err end) next at_fault fits = at_fault
 
-tree_fits : (ending : Ending) (answer : Result Settings SettingsFault) → IfErr (or_bad_settings answer) (λ end. EndFits end ending)
-tree_fits ending (Ok settings) = tt
-tree_fits ending (Err fault) = tt
+text_fits : (ending : Ending) (judged : Result Settings TextFault) → IfErr (or_bad_text judged) (λ end. EndFits end ending)
+text_fits ending (Ok settings) = tt
+text_fits ending (Err (text.Conf fault)) = tt
+text_fits ending (Err (text.Settings fault)) = tt
 
-conf_fits : (ending : Ending) (conf : Result (List Item) ConfFault) → IfErr (settings_of_tree conf) (λ end. EndFits end ending)
-conf_fits ending (Ok tree) = tree_fits ending (answer_of tree)
-conf_fits ending (Err fault) = tt
-
-settings_fit : (ending : Ending) (text : List ℕ) → IfErr (settings_in text) (λ end. EndFits end ending)
+settings_fit : (ending : Ending) (bytes : List ℕ) → IfErr (settings_in bytes) (λ end. EndFits end ending)
 unfolding settings_in
-settings_fit ending text = conf_fits ending (conf_of text)
+settings_fit ending bytes = text_fits ending (settings_of_text bytes)
 
 times_fit : (ending : Ending) (number : ℕ) (times : Result Timing LineFault) → IfErr (safe_or_not number times) (λ end. EndFits end ending)
 times_fit ending number (Ok timing) =

@@ -1,5 +1,5 @@
 //! Reads the head of a schedule: the settings, the dashes and the times.
-ghost use Rattle.std.specs.Prelude.{◌≡◌, ◌⊎◌, ◌≤◌, ◌<◌, ◌+◌, ◌^◌, [], true, length, None, Err, IfOk, IfErr};
+ghost use Rattle.std.specs.Prelude.{◌≡◌, ◌≤◌, ◌<◌, ◌+◌, ◌^◌, [], true, length, None, IfOk, IfErr};
 ghost use Rattle.std.specs.Io.KnownBytes.{IsAtEnd, prepend_known};
 ghost use Rattle.qn_io.specs.Outside.{HasRisen};
 ghost use Rattle.qn_model.specs.declared.configuration.Settings.{Settings};
@@ -9,17 +9,17 @@ ghost use Rattle.qn_replay.specs.Playing.{Begins, start_of};
 ghost use Rattle.qn_replay.specs.Reading.{Anywhere, GoesOn, Stops, event_rest, settings_rest, timing_rest};
 ghost use Rattle.qn_replay.specs.Replay.{at_start, replay_of};
 ghost use Rattle.qn_replay.specs.Runs.{IsFault};
-ghost use Rattle.qn_sched.specs.Head.{safe_timing_in, settings_in};
+ghost use Rattle.qn_sched.specs.Head.{safe_timing_in};
 
 use crate::part_text::{PartText, Taken};
 use crate::playback::Playback;
 use crate::schedule::Schedule;
 use arrayvec::ArrayVec;
-use qn_conf::{ConfFault, read_tree};
+use qn_conf::ConfFault;
 use qn_io::{LineRead, Next, PIECE, Pieces, Source, read_line};
-use qn_model::{LineFault, Settings, Timing, timing_safe};
+use qn_model::{LineFault, Timing, timing_safe};
 use qn_sched::{ReplayEnd, read_timing};
-use qn_settings::settings;
+use qn_settings::settings_of_text;
 use std::alloc::Global;
 
 /// Reads the head of a schedule, at the beginning of the input, and makes its world.
@@ -63,7 +63,7 @@ fn read_head<I: Source>(
     ensures never_falls { I.faults input.old ≤ I.faults input.new }
 {
     let text = read_text(alloc, pieces, input)?;
-    let settings = read_settings(alloc, text.whole())?;
+    let settings = settings_of_text(alloc, text.whole())?;
     let lines = text.next_line();
     let timing = read_timing_line(pieces, input, lines)?;
     Ok(Schedule {
@@ -140,16 +140,6 @@ fn bad_line(line: u64, fault: LineFault) -> ReplayEnd
     ensures { result ≡ ReplayEnd.BadSchedule line fault }
 {
     ReplayEnd::BadSchedule { line, fault }
-}
-
-/// The settings that a whole text gives.
-fn read_settings(alloc: Global, text: &[u8]) -> Result<Settings, ReplayEnd>
-    ensures settings { (result ≡ settings_in text.now) ⊎ (result ≡ Err ReplayEnd.NoMemory) }
-    ensures valid { IfOk result IsValid }
-    ensures fault { IfErr result IsFault }
-{
-    let tree = read_tree(alloc, text)?;
-    Ok(settings(&tree)?)
 }
 
 /// The times that the line of this number gives, where they are safe.

@@ -1,9 +1,7 @@
 //! The settings text of a schedule while it is read, up to the line of dashes.
+use qn_conf::MOST_TEXT_BYTES;
 use std::alloc::{AllocError, Global};
 use std::marker::Model;
-
-/// The most bytes of a settings text.
-const MAX_TEXT_BYTES: usize = 1_048_576;
 
 /// The line after the settings text.
 const DASHES: &[u8; 4] = b"----";
@@ -134,7 +132,7 @@ impl PartText {
     fn progress(&self) -> Taken
         ensures { Progresses result self.now }
     {
-        if self.counted_bytes() > MAX_TEXT_BYTES {
+        if self.counted_bytes() > MOST_TEXT_BYTES {
             Taken::TooLong
         } else {
             Taken::More

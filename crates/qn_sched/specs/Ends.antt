@@ -1,10 +1,17 @@
 -- How a replay ends at a fault of its settings text: this project's profile.
-use Rattle.qn_conf.specs.declared.faults.ConfFault.{ConfFault}
 use Rattle.qn_conf.specs.declared.faults.ConfFault.TheVariants as conf
+use Rattle.qn_settings.specs.declared.faults.TextFault.{TextFault}
+use Rattle.qn_settings.specs.declared.faults.TextFault.TheVariants as text
 use Rattle.qn_sched.specs.declared.replay_end.ReplayEnd.{ReplayEnd}
-use Rattle.qn_sched.specs.declared.replay_end.ReplayEnd.TheVariants.{BadConf, NoMemory}
+use Rattle.qn_sched.specs.declared.replay_end.ReplayEnd.TheVariants.{BadConf, BadSettings, NoMemory}
 
--- out of memory is no fault of the text
-abbrev pub end_of_conf : ConfFault → ReplayEnd
-end_of_conf conf.NoMemory = NoMemory
-end_of_conf fault = BadConf fault
+-- the fault of the text
+abbrev pub bad_text : TextFault → ReplayEnd
+bad_text (text.Conf fault) = BadConf fault
+bad_text (text.Settings fault) = BadSettings fault
+
+-- the same, but out of memory is no fault of the text
+abbrev pub end_of_text : TextFault → ReplayEnd
+end_of_text (text.Conf conf.NoMemory) = NoMemory
+end_of_text (text.Conf fault) = BadConf fault
+end_of_text (text.Settings fault) = BadSettings fault

@@ -1,33 +1,27 @@
 -- The head of a schedule: the settings text (corosync.conf(5)), a line `----`, and the timing line; this project's profile.
 use Rattle.std.specs.Prelude.{ℕ, if◌then◌else◌, List, Result, Ok, Err, codes}
-use Rattle.qn_conf.specs.declared.faults.ConfFault.{ConfFault}
-use Rattle.qn_conf.specs.declared.tree.Item.{Item}
-use Rattle.qn_conf.specs.Conf.{conf_of}
 use Rattle.qn_model.specs.declared.configuration.Settings.{Settings}
 use Rattle.qn_model.specs.declared.line_fault.LineFault.{LineFault}
 use Rattle.qn_model.specs.declared.times.Timing.{Timing}
 use Rattle.qn_model.specs.Timing.{is_safe}
-use Rattle.qn_settings.specs.declared.faults.SettingsFault.{SettingsFault}
-use Rattle.qn_settings.specs.Answer.{answer_of}
+use Rattle.qn_settings.specs.declared.faults.TextFault.{TextFault}
+use Rattle.qn_settings.specs.Text.{settings_of_text}
 use Rattle.qn_sched.specs.declared.replay_end.ReplayEnd.{ReplayEnd}
-use Rattle.qn_sched.specs.declared.replay_end.ReplayEnd.TheVariants.{BadConf, BadSettings, BadSchedule, UnsafeTiming}
+use Rattle.qn_sched.specs.declared.replay_end.ReplayEnd.TheVariants.{BadSchedule, UnsafeTiming}
+use Rattle.qn_sched.specs.Ends.{bad_text}
 use Rattle.qn_sched.specs.TimingLine.{timing_of}
 
 -- the line after the settings text
 abbrev pub dashes : List ℕ
 dashes = codes "----"
 
-abbrev pub or_bad_settings : Result Settings SettingsFault → Result Settings ReplayEnd
-or_bad_settings (Ok settings) = Ok settings
-or_bad_settings (Err fault) = Err (BadSettings fault)
-
-abbrev pub settings_of_tree : Result (List Item) ConfFault → Result Settings ReplayEnd
-settings_of_tree (Ok tree) = or_bad_settings (answer_of tree)
-settings_of_tree (Err fault) = Err (BadConf fault)
+abbrev pub or_bad_text : Result Settings TextFault → Result Settings ReplayEnd
+or_bad_text (Ok settings) = Ok settings
+or_bad_text (Err fault) = Err (bad_text fault)
 
 -- the settings that a whole text gives, or its first fault
 unfoldable pub settings_in : List ℕ → Result Settings ReplayEnd
-settings_in text = settings_of_tree (conf_of text)
+settings_in bytes = or_bad_text (settings_of_text bytes)
 
 abbrev pub safe_or_not : ℕ → Result Timing LineFault → Result Timing ReplayEnd
 safe_or_not number (Ok timing) = if is_safe timing then Ok timing else Err (UnsafeTiming timing)

@@ -1,7 +1,7 @@
 //! How a replay ends.
 use qn_conf::ConfFault;
 use qn_model::{LineFault, Rule, Timing};
-use qn_settings::SettingsFault;
+use qn_settings::{SettingsFault, TextFault};
 
 /// How a replay ended. Lines are those of the whole input, from 1.
 #[derive(Clone, Copy, PartialEq, Eq, Debug)]
@@ -26,27 +26,17 @@ pub enum ReplayEnd {
     NoMemory,
 }
 
-impl From<ConfFault> for ReplayEnd {
+impl From<TextFault> for ReplayEnd {
     ghost use Rattle.std.specs.Prelude.{◌≡◌};
-    ghost use Rattle.qn_sched.specs.Ends.{end_of_conf};
+    ghost use Rattle.qn_sched.specs.Ends.{end_of_text};
 
-    ghost from_gives = { λ fault end. end ≡ end_of_conf fault };
+    ghost from_gives = { λ fault end. end ≡ end_of_text fault };
 
-    fn from(fault: ConfFault) -> ReplayEnd {
+    fn from(fault: TextFault) -> ReplayEnd {
         match fault {
-            ConfFault::NoMemory => ReplayEnd::NoMemory,
-            fault => ReplayEnd::BadConf(fault),
+            TextFault::Conf(ConfFault::NoMemory) => ReplayEnd::NoMemory,
+            TextFault::Conf(fault) => ReplayEnd::BadConf(fault),
+            TextFault::Settings(fault) => ReplayEnd::BadSettings(fault),
         }
-    }
-}
-
-impl From<SettingsFault> for ReplayEnd {
-    ghost use Rattle.std.specs.Prelude.{◌≡◌};
-    ghost use Rattle.qn_sched.specs.declared.replay_end.ReplayEnd.TheVariants.{BadSettings};
-
-    ghost from_gives = { λ fault end. end ≡ BadSettings fault };
-
-    fn from(fault: SettingsFault) -> ReplayEnd {
-        ReplayEnd::BadSettings(fault)
     }
 }

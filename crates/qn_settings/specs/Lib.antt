@@ -5,3 +5,4 @@ pub mod Values
 pub mod Nodes
 pub mod TieOrder
 pub mod Answer
+pub mod Text

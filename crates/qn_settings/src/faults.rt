@@ -1,6 +1,7 @@
-//! Why a tree gives no settings.
+//! Why a tree, or a text, gives no settings.
 use crate::key::Key;
 use qn_base::NodeId;
+use qn_conf::ConfFault;
 use thiserror::Error;
 
 /// Why a tree gives no settings. The faults are tried in this order, and the first one is answered.
@@ -55,4 +56,15 @@ pub enum SettingsFault {
     /// configured nodes, each once.
     #[error("quorum.auto_tie_breaker_node: neither lowest nor highest nor configured nodes, each once")]
     BadTieNode,
+}
+
+/// Why a text gives no settings.
+#[derive(Clone, Copy, PartialEq, Eq, Debug, Error)]
+pub enum TextFault {
+    /// The text is no configuration, or there was no memory for it.
+    #[error("{0}")]
+    Conf(ConfFault),
+    /// The text is a configuration, and gives no settings.
+    #[error("{0}")]
+    Settings(SettingsFault),
 }

@@ -1,6 +1,5 @@
 //! The order in which nodes break a tie (votequorum(5), `auto_tie_breaker_node`).
 ghost use Rattle.std.specs.Prelude.{◌≡◌, ◌≤◌, ◌<◌, ◌==◌, IfSome, length, position};
-ghost use Rattle.qn_conf.specs.Line.{is_blank};
 ghost use Rattle.qn_settings.specs.Entries.{entries_of};
 ghost use Rattle.qn_settings.specs.TieOrder.{highest, listed, lowest, named, order_in, tie_of, with_id};
 
@@ -8,7 +7,7 @@ use crate::entries::Entries;
 use crate::key::Key;
 use crate::values::{flag, last_value};
 use qn_base::{Rank, read_decimal};
-use qn_conf::Tree;
+use qn_conf::{Tree, is_blank};
 use qn_model::{NodeEntry, Order};
 
 /// The nodes in order of preference, where the breaker is on and its node is given in one of the three forms:
@@ -104,11 +103,4 @@ fn place_of(nodes: &[NodeEntry], id: u64) -> Option<usize>
     ensures within { IfSome result (λ place. place < length nodes.now) }
 {
     nodes.iter().position(|node| u64::from(node.id.0) == id)
-}
-
-/// Blanks are space, tab and carriage return.
-fn is_blank(byte: u8) -> bool
-    ensures { result ≡ is_blank byte }
-{
-    byte == b' ' || byte == b'\t' || byte == b'\r'
 }

@@ -24,12 +24,12 @@ returns-in_default-extend_from_slice-clause-judges g c =
     (c.in-Ok.ensures.takes ∙ ap (λ piece. prepend_known piece (g.I.Source.left c.read.new.self)) (sym c.split_at.ensures.front))
     (omega arith)
 
-pub returns-then-as_slice-gt-MAX_BYTES-clause-judges : goal.returns-then-as_slice-gt-MAX_BYTES-clause-judges
-returns-then-as_slice-gt-MAX_BYTES-clause-judges g c =
+pub returns-then-as_slice-gt-MOST_TEXT_BYTES-clause-judges : goal.returns-then-as_slice-gt-MOST_TEXT_BYTES-clause-judges
+returns-then-as_slice-gt-MOST_TEXT_BYTES-clause-judges g c =
     text_too_long c.pieces.bytes.items _ (source g.I.Source.left g.I.Source.faults c.pieces.input) (source g.I.Source.left g.I.Source.faults c.read.new.self) c.pieces.invariant.0 c.pieces.invariant.2
     c.split_at.result.0.now
     (c.in-Ok.ensures.takes ∙ ap (λ piece. prepend_known piece (g.I.Source.left c.read.new.self)) (sym c.split_at.ensures.front))
     (omega arith)
     c.as_slice.result.now
     (c.as_slice.ensures.value ∙ c.in-Ok-extend_from_slice.ensures.items)
-    c.if-as_slice-gt-MAX_BYTES.true
+    c.if-as_slice-gt-MOST_TEXT_BYTES.true

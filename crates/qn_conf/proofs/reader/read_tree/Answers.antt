@@ -16,20 +16,20 @@ accepted :
 accepted (Ok text) P Q R e cases = cases.1
 accepted (Err fault) P Q R e cases = cc
 
-pub returns-then-text-gt-MAX_BYTES : goal.returns-then-text-gt-MAX_BYTES
-returns-then-text-gt-MAX_BYTES c =
-    let is = long_answer c.args.text.now c.if-text-gt-MAX_BYTES.true
+pub returns-then-text-gt-MOST_TEXT_BYTES : goal.returns-then-text-gt-MOST_TEXT_BYTES
+returns-then-text-gt-MOST_TEXT_BYTES c =
+    let is = long_answer c.args.text.now c.if-text-gt-MOST_TEXT_BYTES.true
     in record { tree = tree_exactly _ _ is; fault = fault_exactly _ _ is; answer = is }
 
 pub returns-then-is_err : goal.returns-then-is_err
 returns-then-is_err c =
-    let is = not_text_answer c.args.text.now c.if-text-gt-MAX_BYTES.false (refused c.from_utf8.result _ _ _ (cc) c.from_utf8.ensures.cases)
+    let is = not_text_answer c.args.text.now c.if-text-gt-MOST_TEXT_BYTES.false (refused c.from_utf8.result _ _ _ (cc) c.from_utf8.ensures.cases)
     in record { tree = tree_exactly _ _ is; fault = fault_exactly _ _ is; answer = is }
 
 pub returns : goal.returns
 returns c =
     let utf8 = accepted c.from_utf8.result _ _ _ (cc) c.from_utf8.ensures.cases
-    in let answer = weaker _ _ _ (lines_answer c.read_lines.result c.args.text.now c.if-text-gt-MAX_BYTES.false utf8) c.read_lines.ensures
+    in let answer = weaker _ _ _ (lines_answer c.read_lines.result c.args.text.now c.if-text-gt-MOST_TEXT_BYTES.false utf8) c.read_lines.ensures
     in record {
       tree = weaker _ _ _ (tree_exactly _ _) answer;
       fault = weaker _ _ _ (fault_exactly _ _) answer;

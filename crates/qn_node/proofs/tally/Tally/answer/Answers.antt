@@ -4,7 +4,6 @@ use Rattle.qn_model.specs.declared.votes.Answer.{Answer}
 use Rattle.qn_model.specs.declared.votes.VoteEntry.{VoteEntry}
 use Rattle.qn_model.specs.Tie.{answer_with_tie_at, breaks_tie}
 use Rattle.qn_model.specs.Votes.{answer_at, expected_votes, is_quorate, is_released}
-use Rattle.qn_node.specs.Tally.{TallyFor}
 use Rattle.qn_node.proofs.tally.Tally.answer.Goals as goal
 
 -- the count with another truth of "quorate"

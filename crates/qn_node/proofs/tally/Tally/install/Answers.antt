@@ -1,4 +1,4 @@
-use Rattle.std.proofs.Common.{◌∷◌, refl, ap, ◌∙◌}
+use Rattle.std.proofs.Common.{◌∷◌, refl, ap}
 use Rattle.qn_model.specs.Votes.{answer_at, present_view, view_tick}
 use Rattle.qn_tie.specs.Tie.{installs}
 use Rattle.qn_node.proofs.tally.Tally.install.Goals as goal
