@@ -19,9 +19,6 @@ use Rattle.qn_cluster.proofs.Lists.{found, rank_cases}
 pub seat_configured : (w : Nodes) (d : List Moment) (i : ℕ) (seat : Seat) → ClusterFor w d → slice_get w.seats i ≡ Some seat → i < length w.settings.nodes
 seat_configured w d i seat is here = subst (λ count. i < count) is.count (slice_get_within w.seats i seat here)
 
-pub rank_seated : (w : Nodes) (i : ℕ) → IsStanding w → i < length w.seats → i < length w.settings.nodes
-rank_seated w i standing within = subst (λ count. i < count) standing.1.count within
-
 -- one node of the definitions changed, and what it sent
 pub record OneNode (s : Settings) (d e : List Moment) (i : ℕ) (more : List Sent) : Type 0 where
   pub same_time : time e ≡ time d

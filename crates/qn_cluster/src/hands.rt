@@ -14,7 +14,7 @@ impl Cluster {
     ghost use Rattle.qn_node.specs.Node.{phase_of};
     ghost use Rattle.qn_cluster.specs.declared.seat.Seat.{Seat};
     ghost use Rattle.qn_cluster.specs.Seats.{SeatFor};
-    ghost use Rattle.qn_cluster.specs.Standing.{HasRoom, IsStanding};
+    ghost use Rattle.qn_cluster.specs.Standing.{HasRoom};
     ghost use Rattle.qn_cluster.specs.Stepping.{Booted, Ended, Fed, Handed, IsPassable, Passed, Unhanded};
 
     /// Time passes, in milliseconds, and the clocks of the running nodes advance.
@@ -30,8 +30,8 @@ impl Cluster {
 
     /// A node boots, as a clean start or not, and its clock stands at this base.
     pub fn boot(&mut self, i: Rank, base: u64, clean: bool, outs: &mut Outs)
-        requires standing { IsStanding self.old }
         requires within { i.0 < length self.old.seats }
+        requires configured { i.0 < length self.old.settings.nodes }
         requires few { self.old.steps < 18446744073709551615 }
         requires early { base ≤ 1000000000000000 }
         ensures { Booted self.old self.new i.0 base clean outs.new }

@@ -3,8 +3,8 @@ ghost use Rattle.std.specs.Prelude.{◌≡◌, ◌<◌, ◌≤◌, ℕ, None, So
 ghost use Rattle.qn_model.specs.Rules.{is_within_bounds, outlives, unless};
 
 use crate::clocks::advance_of;
-use crate::seat::Seat;
 use crate::cluster::Cluster;
+use crate::seat::Seat;
 use qn_base::{Rank, View};
 use qn_model::{Clocks, Timing};
 
@@ -87,7 +87,10 @@ impl Cluster {
         requires early { self.now.time ≤ LATEST_TIME }
         ensures { (d : World) → ClusterFor self.now d.moments → result ≡ unless (may_pass self.now.settings timing.now dt clocks.now d) 1 }
     {
-        unless(self.are_on(clocks) && self.all_pass(dt, clocks, timing.watchdog), 1)
+        unless(
+            self.are_on(clocks) && self.all_pass(dt, clocks, timing.watchdog),
+            1,
+        )
     }
 
     /// Whether every named clock is that of a running node.
@@ -137,8 +140,7 @@ impl Cluster {
         ensures { result ≡ passes_at watchdog self.now dt clocks.now i.0 }
     {
         let advance = advance_of(dt, clocks, i);
-        self.seat(i)
-            .passes(dt, advance, self.time + dt, watchdog)
+        self.seat(i).passes(dt, advance, self.time + dt, watchdog)
     }
 
     /// Rule 2: the node is off.

@@ -1,13 +1,5 @@
-use Rattle.qn_cluster.proofs.ClusterSteps.{rank_seated}
 use Rattle.qn_cluster.proofs.PassSteps.{boot_stepped}
 use Rattle.qn_cluster.proofs.cluster.Cluster.boot.Goals as goal
-
-pub boot_seat-requires : goal.boot_seat-requires
-boot_seat-requires c =
-    record {
-      within = c.requires.within;
-      configured = rank_seated c.args.self.now c.args.i.0 c.requires.standing c.requires.within;
-    }
 
 pub returns : goal.returns
 returns c =
