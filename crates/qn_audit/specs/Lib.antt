@@ -6,3 +6,4 @@ pub mod Reading
 pub mod Recording
 pub mod Auditing
 pub mod Taking
+pub mod Inputs

@@ -7,7 +7,9 @@
 
 mod answering;
 mod audit_end;
+mod audit_input;
 mod auditor;
+mod head;
 mod log;
 mod log_bytes;
 mod log_line;
@@ -19,6 +21,7 @@ mod logging;
 mod recorder;
 
 pub use audit_end::AuditEnd;
+pub use audit_input::audit;
 pub use auditor::{Auditor, NotNext, Verdict};
 pub use log::audit_log;
 pub use log_line::read_call;

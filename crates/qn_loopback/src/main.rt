@@ -1,5 +1,5 @@
 //! Two real outsides of one process over one image, in a folder of its own: packets and sectors both ways, bytes from
-//! somebody else, watchdogs, resources and agents, and openings that fail. It takes the first range of ports that opens, and
+//! somebody else, watchdogs, resources and agents, openings that fail, and a run of each node on the image. It takes the first range of ports that opens, and
 //! says of each thing that it tries whether it is as it should be.
 //!
 //! Promises: nothing. It is a test: what it must write stands beside it.
@@ -13,6 +13,7 @@ mod openings;
 mod pair;
 mod place;
 mod report;
+mod runs;
 mod sectors;
 
 use anyhow::{Context, Result};
@@ -44,8 +45,11 @@ fn try_all<R: Files<File = File> + Net + Clock + Eprint + Print>(
     let mut report = Report::new(rt);
     let words = words_of_two(place)?;
     let mut pair = Pair::open(rt, &words).context("no range of ports opens")?;
+    let port = pair.port;
     try_pair(rt, place, &words[0], &mut pair, &mut report)?;
-    try_openings(rt, place, pair.port, &mut report)?;
+    try_openings(rt, place, port, &mut report)?;
+    drop(pair);
+    runs::check_runs(&mut report, rt, place, port)?;
     report.end()?;
     Ok(())
 }

@@ -49,6 +49,13 @@ impl Place {
         Ok(held.as_str() == text)
     }
 
+    /// Whether the text of a file ends in that character.
+    pub fn ends_in<R: Files>(&self, rt: &R, name: &str, last: char) -> io::Result<bool> {
+        let path = self.path(name)?;
+        let held = fs::read_to_string(&(rt, self.alloc), path.as_str())?;
+        Ok(held.as_str().ends_with(last))
+    }
+
     /// Whether something has that name.
     pub fn has<R: Files>(&self, rt: &R, name: &str) -> io::Result<bool> {
         let path = self.path(name)?;

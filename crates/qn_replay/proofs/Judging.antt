@@ -68,14 +68,14 @@ time-step s t (event.Operator rank message) w formed = omega arith
 -- a playback begins early
 pub starts_early : (w : Whole) → WorldFor w first_world → w.time ≤ 0
 unfolding time
-starts_early w stands = let same = stands.times in omega (arith, same)
+starts_early w stands = let same = stands.cluster.times in omega (arith, same)
 
 -- a playback with one more event
 pub going_on : (old new : Playback) (e : Event) (world : World) → IsGoing old → old.events < 200000 → is_well_formed old.world.settings e ≡ true → WorldFor old.world world
     → WorldFor new.world (stepped (progress_at old world) e) → new.world.steps + 1 ≡ old.world.steps → new.head ≡ old.head → new.events ≡ old.events + 1 → IsGoing new
 going_on old new e world going few formed stands stood steps head events =
-    let before = stands.times in
-    let after = stood.times in
+    let before = stands.cluster.times in
+    let after = stood.cluster.times in
     let later = time-step old.world.settings old.world.timing e world formed in
     let numbered = going.numbered in
     let left = going.steps in

@@ -1,35 +1,38 @@
 -- What a world stands for after an event that hands no node an entry by itself.
-use Rattle.std.proofs.Common.{◌≡◌, ◌≢◌, ℕ, suc, ◌<◌, ◌≤◌, Bool, true, false, List, [], ◌∷◌, ◌++◌, length, Some, None, refl, if◌then◌else◌, ◌&&◌, ◌||◌, ◌⊎◌, inl, inr, sym, ◌∙◌, ap, subst, arith, length-append, drop, take}
+use Rattle.std.proofs.Common.{◌≡◌, ◌≢◌, ℕ, suc, ◌<◌, ◌≤◌, Bool, true, false, List, [], ◌∷◌, ◌++◌, length, Some, None, refl, if◌then◌else◌, not, ◌&&◌, ◌||◌, ◌⊎◌, inl, inr, sym, ◌∙◌, ap, subst, arith, length-append, drop, take}
 use Rattle.std.specs.Prelude.{All, Option, is_some, slice_get, slice_set, ◌==◌, nat_lt}
 use Rattle.std.specs.List.{remove}
 use Rattle.std.specs.Option.{option_map_or, option_or}
 use Rattle.std.proofs.lemmas.Bool.Decides.{nat_tests}
-use Rattle.std.proofs.lemmas.List.{append-nil, length-set}
-use Rattle.std.proofs.lemmas.List.Elements.{All-append, All-cons, All-drop, All-nil, All-take}
-use Rattle.std.proofs.lemmas.Option.{slice_get_within}
+use Rattle.std.proofs.lemmas.List.{append-nil}
+use Rattle.std.proofs.lemmas.List.Elements.{All-append, All-cons, All-drop, All-filter, All-nil, All-take}
 use Rattle.qn_base.specs.declared.ids.Rank.{Rank}
+use Rattle.qn_cluster.specs.Nodes.{Nodes}
+use Rattle.qn_cluster.specs.Standing.{ClusterFor, IsOpWithin, IsWithin}
+use Rattle.qn_cluster.specs.Stepping.{Booted, Ended, Fed, IsPassable, Passed}
 use Rattle.qn_model.specs.declared.configuration.Settings.{Settings}
 use Rattle.qn_model.specs.declared.entries.What.{What}
 use Rattle.qn_model.specs.declared.events.Event.TheVariants as event
 use Rattle.qn_model.specs.declared.outputs.DiskOp.{DiskOp}
 use Rattle.qn_model.specs.declared.outputs.DiskOp.TheVariants as disk
+use Rattle.qn_model.specs.declared.outputs.Out.{Out}
+use Rattle.qn_model.specs.declared.times.Timing.{Timing}
 use Rattle.qn_model.specs.Fitting.{answers_op}
-use Rattle.qn_model.specs.Moments.{Ends, Feeds, given_out, node, packets, time}
+use Rattle.qn_model.specs.Moments.{Boots, Ends}
+use Rattle.qn_model.specs.NodeOutputs.{newest_outs}
 use Rattle.qn_model.specs.World.{World, given_up, is_write, leftover_at, node_at, numbered, op_at, put, taken, without}
-use Rattle.qn_model.specs.Rules.{is_on, may_be_late, may_land, refusal, unless}
-use Rattle.qn_model.specs.Steps.{gives_up, happens, landed, lands_late, step, written}
+use Rattle.qn_model.specs.Rules.{is_configured, is_on, is_well_formed, may_be_late, may_land, may_pass, refusal, unless}
+use Rattle.qn_model.specs.Steps.{boots, gives_up, happens, landed, lands_late, outs_after, step, touched, written}
 use Rattle.qn_node.specs.Outputs.{IsNodeOutput}
 use Rattle.qn_world.specs.declared.leftover.Leftover.{Leftover}
-use Rattle.qn_world.specs.declared.seat.Seat.{Seat}
-use Rattle.qn_world.specs.Leftovers.{place_in}
-use Rattle.qn_world.specs.Outputs.{leftovers}
-use Rattle.qn_world.specs.Seats.{SeatFor}
-use Rattle.qn_world.specs.Standing.{IsOpWithin, IsStanding, IsWithin, WorldFor, latest_clock, left_of}
-use Rattle.qn_world.specs.Stepping.{OutOfMemory, SameFrame, Stepped}
-use Rattle.qn_world.specs.Whole.{Whole}
-use Rattle.qn_world.proofs.LeftoverSteps.{FoundLeft, found_left, left_of-apart, left_of-append, left_of-own}
+use Rattle.qn_world.specs.Leftovers.{leftovers, others_of, place_in}
+use Rattle.qn_world.specs.Standing.{IsStanding, WorldFor, left_of}
+use Rattle.qn_world.specs.Stepping.{IsReady, OutOfMemory, SameFrame, Stepped, boot_event}
+use Rattle.qn_world.specs.Whole.{Whole, cluster_of, with_nodes}
+use Rattle.qn_world.proofs.LeftoverSteps.{FoundLeft, found_left, left_of-apart, left_of-append, left_of-dropped, left_of-others, left_of-own}
 use Rattle.qn_world.proofs.Lists.{all_at, rank_cases, same_rank}
-use Rattle.qn_world.proofs.WorldSteps.{OneNode, seat_configured, seated, with_left, with_seat}
+use Rattle.qn_world.proofs.RuleSteps.{first_true, le-true, second_true}
+use Rattle.qn_world.proofs.WorldSteps.{boots_others, ends_others, frame_of, put_here, same_frames, took_put, with_feed, with_left, with_none, with_pass, with_took}
 
 -- ---- what the rules leave
 
@@ -47,48 +50,6 @@ passed_first false rest e = absurd (cc)
 
 pub no_outputs : (s : Settings) → All (IsNodeOutput s) []
 no_outputs s = All-nil (IsNodeOutput s)
-
--- ---- a seat that stands for another state of its node
-
--- the answer that an operation took
-with_took : (w : Whole) (d : World) (i : ℕ) (seat : Seat) (took : Option What) → WorldFor w d → slice_get w.seats i ≡ Some seat
-    → ((entry : What) → took ≡ Some entry → answers_op seat.op entry ≡ true)
-    → WorldFor (seated w i (record seat { took = took }) []) (record d { took = put d.took i took })
-with_took w d i seat took is here answers =
-    let own = is.nodes i seat here in
-    with_seat w d (record d { took = put d.took i took }) i (record seat { took = took }) [] is (slice_get_within w.seats i seat here)
-    (record {
-      same_time = refl;
-      others = λ j apart. (refl, ap (λ b. if b then took else d.took j) apart);
-      sends = sym (append-nil (packets w.settings d.moments));
-      same_slots = λ j. refl;
-      same_mailboxes = λ j. refl;
-      same_left = λ j. refl;
-    })
-    (record {
-      own = record {
-        runs = own.runs;
-        taken = sym (ap (λ b. if b then took else d.took i) (same_rank i));
-        running = λ on. let r = own.running on in
-            record { stands = r.stands; clocks = r.clocks; feeds = r.feeds; decisions = r.decisions; ops = r.ops; stops = r.stops; ticks = r.ticks };
-      };
-      clock = λ on. is.clocks i (seat_configured w d i seat is here) on;
-      receive = All-nil (λ sent. sent.to.0 < length w.settings.nodes);
-      target = is.targets i seat here;
-      answer = answers;
-      room = is.rooms i seat here;
-    })
-
-pub seated_nothing : (w : Whole) (i : ℕ) (new : Seat) → seated w i new [] ≡ record w { seats = slice_set w.seats i new }
-seated_nothing w i new = ap (λ sent. record w { seats = slice_set w.seats i new; packets = sent }) (append-nil w.packets)
-
-pub took_world : (w new : Whole) (d : World) (i : ℕ) (seat : Seat) (took : Option What) → WorldFor w d → slice_get w.seats i ≡ Some seat
-    → ((entry : What) → took ≡ Some entry → answers_op seat.op entry ≡ true)
-    → new ≡ record w { seats = slice_set w.seats i (record seat { took = took }) }
-    → WorldFor new (record d { took = put d.took i took })
-took_world w new d i seat took is here answers e =
-    subst (λ n. WorldFor n (record d { took = put d.took i took })) (seated_nothing w i (record seat { took = took }) ∙ sym e)
-    (with_took w d i seat took is here answers)
 
 -- ---- leftovers
 
@@ -117,67 +78,39 @@ left_after w d rank ops j is (inr apart) =
     ∙ (append-nil (left_of j w.left) ∙ (is.lefts j ∙ sym (ap (λ b. if b then d.left rank.0 ++ ops else d.left j) apart))))
 
 -- what is given up is that of the definitions
-pub given_up_same : (w : Whole) (d : World) (i : ℕ) (seat : Seat) → WorldFor w d → slice_get w.seats i ≡ Some seat → is_on w.settings i d ≡ true
-    → given_up seat.op seat.took ≡ leftover_at w.settings i d
-given_up_same w d i seat is here on =
-    let own = is.nodes i seat here in
-    ap (λ op. given_up op seat.took) (own.running on).ops ∙ ap (λ took. given_up (op_at w.settings i d) took) own.taken
+pub given_up_same : (s : Settings) (d : World) (i : ℕ) (op : Option DiskOp) (took : Option What) → op ≡ op_at s i d → took ≡ d.took i
+    → given_up op took ≡ leftover_at s i d
+given_up_same s d i op took op_is took_is = ap (λ op. given_up op took) op_is ∙ ap (λ took. given_up (op_at s i d) took) took_is
 
-pub gave_up : (w new : Whole) (d : World) (rank : Rank) (seat : Seat) → WorldFor w d → slice_get w.seats rank.0 ≡ Some seat → is_on w.settings rank.0 d ≡ true
-    → new ≡ record w { left = w.left ++ leftovers rank (given_up seat.op seat.took) }
+pub gave_up : (w new : Whole) (d : World) (rank : Rank) (op : Option DiskOp) (took : Option What) → WorldFor w d → IsOpWithin (length w.settings.nodes) op
+    → op ≡ op_at w.settings rank.0 d → took ≡ d.took rank.0
+    → new ≡ record w { left = w.left ++ leftovers rank (given_up op took) }
     → WorldFor new (record d { left = put d.left rank.0 (d.left rank.0 ++ leftover_at w.settings rank.0 d) })
-gave_up w new d rank seat is here on e =
-    let ops = given_up seat.op seat.took in
+gave_up w new d rank op took is within op_is took_is e =
+    let ops = given_up op took in
     subst (λ n. WorldFor n (record d { left = put d.left rank.0 (d.left rank.0 ++ leftover_at w.settings rank.0 d) })) (sym e)
-    (subst (λ given. WorldFor (record w { left = w.left ++ leftovers rank ops }) (record d { left = put d.left rank.0 (d.left rank.0 ++ given) })) (given_up_same w d rank.0 seat is here on)
+    (subst (λ given. WorldFor (record w { left = w.left ++ leftovers rank ops }) (record d { left = put d.left rank.0 (d.left rank.0 ++ given) })) (given_up_same w.settings d rank.0 op took op_is took_is)
     (with_left w d (w.left ++ leftovers rank ops) (put d.left rank.0 (d.left rank.0 ++ ops)) is
     (λ j. left_after w d rank ops j is (rank_cases rank.0 j))
     (All-append (λ leftover. IsWithin (length w.settings.nodes) leftover.op) w.left (leftovers rank ops) is.left_targets
-    (given_up_within (length w.settings.nodes) seat.op seat.took rank (is.targets rank.0 seat here)))))
+    (given_up_within (length w.settings.nodes) op took rank within))))
+
+-- what a world says of the operation of a rank that is out, and of what it took
+pub record IsOut (w : Whole) (i : ℕ) (op : Option DiskOp) (took : Option What) : Type 0 where
+  pub below : i < 32
+  pub op_is : (d : World) → WorldFor w d → is_on w.settings i d ≡ true → op ≡ op_at w.settings i d
+  pub within : (d : World) → WorldFor w d → IsOpWithin (length w.settings.nodes) op
+  pub took_is : (d : World) → WorldFor w d → took ≡ d.took i
+
+pub took_same : (w : Whole) (i : ℕ) (took : Option What) → i < 32 → ((seen : Option What) → slice_get w.took i ≡ Some seen → took ≡ seen)
+    → (d : World) → WorldFor w d → took ≡ d.took i
+took_same w i took below reads d is = reads (d.took i) (is.landings i below)
 
 -- ---- crash
 
-ends_node : (s : Settings) (d : World) (i : ℕ) → node_at s i (happens (Ends i) d) ≡ record (node_at s i d) { on = false }
-unfolding node
-ends_node s d i = ap (λ b. if b then record (node_at s i d) { on = false } else node_at s i d) (same_rank i)
-
-one_ends : (s : Settings) (d : World) (i : ℕ) → OneNode s d (record (happens (Ends i) d) { took = put d.took i None }) i []
-unfolding node time packets given_out
-one_ends s d i =
-    record {
-      same_time = refl;
-      others = λ j apart. (ap (λ b. if b then record (node_at s j d) { on = false } else node_at s j d) apart, ap (λ b. if b then None else d.took j) apart);
-      sends = refl;
-      same_slots = λ j. refl;
-      same_mailboxes = λ j. refl;
-      same_left = λ j. refl;
-    }
-
-ended : (w new : Whole) (d : World) (i : ℕ) (seat : Seat) → WorldFor w d → slice_get w.seats i ≡ Some seat
-    → new ≡ record w { seats = slice_set w.seats i (record seat { on = false; took = None }) }
-    → WorldFor new (record (happens (Ends i) d) { took = put d.took i None })
-ended w new d i seat is here e =
-    let after = ends_node w.settings d i in
-    let off : (node_at w.settings i (happens (Ends i) d)).on ≡ false = ap (λ n. n.on) after in
-    let gone = record seat { on = false; took = None } in
-    subst (λ n. WorldFor n (record (happens (Ends i) d) { took = put d.took i None })) (seated_nothing w i gone ∙ sym e)
-    (with_seat w d (record (happens (Ends i) d) { took = put d.took i None }) i gone [] is (slice_get_within w.seats i seat here) (one_ends w.settings d i)
-    (record {
-      own = record {
-        runs = sym off;
-        taken = sym (ap (λ b. if b then None else d.took i) (same_rank i));
-        running = λ on. absurd (let z : false ≡ true = sym off ∙ on in cc);
-      };
-      clock = λ on. absurd (let z : false ≡ true = sym off ∙ on in cc);
-      receive = All-nil (λ sent. sent.to.0 < length w.settings.nodes);
-      target = is.targets i seat here;
-      answer = λ entry e. absurd (cc);
-      room = is.rooms i seat here;
-    }))
-
-crash_on : (s : Settings) (w : Whole) (d : World) (rank : Rank) → refusal w.settings w.timing (event.Crash rank) d ≡ None → is_on w.settings rank.0 d ≡ true
+crash_on : (w : Whole) (d : World) (rank : Rank) → refusal w.settings w.timing (event.Crash rank) d ≡ None → is_on w.settings rank.0 d ≡ true
 unfolding refusal
-crash_on s w d rank e = passed_first (is_on w.settings rank.0 d) None e
+crash_on w d rank e = passed_first (is_on w.settings rank.0 d) None e
 
 longer_back : {A : Type 0} (front back : List A) → back ≢ [] → nat_lt (length front) (length (front ++ back)) ≡ true
 longer_back front [] some = absurd (some refl)
@@ -187,47 +120,45 @@ pub or_true : (a b : Bool) → b ≡ true → (a || b) ≡ true
 or_true true b e = refl
 or_true false b e = e
 
-pub put_here : {A : Type 0} (f : ℕ → A) (i : ℕ) (value : A) → put f i value i ≡ value
-put_here f i value = ap (λ b. if b then value else f i) (same_rank i)
-
-pub crash_stepped : (w mid new : Whole) (rank : Rank) (seat : Seat) → slice_get w.seats rank.0 ≡ Some seat
-    → mid ≡ record w { left = w.left ++ leftovers rank (given_up seat.op seat.took) }
-    → new ≡ record mid { seats = slice_set mid.seats rank.0 (record seat { on = false; took = None }) }
+pub crash_stepped : (w left mid new : Whole) (rank : Rank) (op : Option DiskOp) (took : Option What) → IsOut w rank.0 op took
+    → left ≡ record w { left = w.left ++ leftovers rank (given_up op took) }
+    → mid ≡ record left { took = slice_set left.took rank.0 None }
+    → new ≡ with_nodes mid (cluster_of new) → Ended (cluster_of mid) (cluster_of new) rank.0
     → Stepped w new (event.Crash rank) []
 unfolding step
-crash_stepped w mid new rank seat here e f =
-    let all : new ≡ record w { left = w.left ++ leftovers rank (given_up seat.op seat.took); seats = slice_set w.seats rank.0 (record seat { on = false; took = None }) } =
-    f ∙ ap (λ (m : Whole). record m { seats = slice_set m.seats rank.0 (record seat { on = false; took = None }) }) e in
+crash_stepped w left mid new rank op took out e f g ends =
+    let nodes : cluster_of mid ≡ cluster_of w = ap cluster_of f ∙ ap cluster_of e in
+    let ended : Ended (cluster_of w) (cluster_of new) rank.0 = subst (λ c. Ended c (cluster_of new) rank.0) nodes ends in
     record {
-      frame = record {
-        settings = ap (λ w. w.settings) all;
-        timing = ap (λ w. w.timing) all;
-        steps = ap (λ w. w.steps) all;
-        count = ap (λ w. length w.seats) all ∙ length-set w.seats rank.0 (record seat { on = false; took = None });
-      };
+      frame =
+          same_frames w mid new
+          (record { settings = ap (λ c. c.settings) nodes; timing = ap (λ w. w.timing) f ∙ ap (λ w. w.timing) e; steps = ap (λ c. c.steps) nodes; count = ap (λ c. length c.seats) nodes })
+          (frame_of mid new g ends.frame);
       stands = λ d is allowed.
-          let on = crash_on w.settings w d rank allowed in
-          let left = put d.left rank.0 (d.left rank.0 ++ leftover_at w.settings rank.0 d) in
-          subst (λ s. WorldFor new (happens (Ends rank.0) (gives_up s rank.0 d))) refl
-          (ended mid new (record d { left = left }) rank.0 seat (gave_up w mid d rank seat is here on e) (ap (λ m. slice_get m.seats rank.0) e ∙ here) f);
+          let on = crash_on w d rank allowed in
+          let i = rank.0 in
+          let d1 = record d { left = put d.left i (d.left i ++ leftover_at w.settings i d) } in
+          with_none left new (cluster_of new) d1 (Ends i) i (gave_up w left d rank op took is (out.within d is) (out.op_is d is on) (out.took_is d is) e) out.below
+          (ended.frame.settings ∙ sym (ap (λ w. w.settings) e)) (ended.stands d.moments is.cluster)
+          (ends_others left.settings d.moments i) (g ∙ ap (λ m. with_nodes m (cluster_of new)) f);
       gives = λ d is allowed. refl;
       ranks = λ d is allowed. no_outputs w.settings;
     }
 
-pub leaves_more : (s : Settings) (d after : World) (rank : Rank) (ops : List DiskOp) → ops ≢ [] → after.left rank.0 ≡ d.left rank.0 ++ ops
+pub leaves_more : (d after : World) (rank : Rank) (ops : List DiskOp) → ops ≢ [] → after.left rank.0 ≡ d.left rank.0 ++ ops
     → nat_lt (length (d.left rank.0)) (length (after.left rank.0)) ≡ true
-leaves_more s d after rank ops some e = ap (λ left. nat_lt (length (d.left rank.0)) (length left)) e ∙ longer_back (d.left rank.0) ops some
+leaves_more d after rank ops some e = ap (λ left. nat_lt (length (d.left rank.0)) (length left)) e ∙ longer_back (d.left rank.0) ops some
 
-pub crash_starved : (w new : Whole) (rank : Rank) (seat : Seat) → slice_get w.seats rank.0 ≡ Some seat → new ≡ w → given_up seat.op seat.took ≢ []
+pub crash_starved : (w new : Whole) (rank : Rank) (op : Option DiskOp) (took : Option What) → IsOut w rank.0 op took → new ≡ w → given_up op took ≢ []
     → OutOfMemory w new (event.Crash rank)
 unfolding step
-crash_starved w new rank seat here e some =
+crash_starved w new rank op took out e some =
     record {
       same = e;
       cause = λ d is allowed.
-          let on = crash_on w.settings w d rank allowed in
-          or_true _ _ (leaves_more w.settings d (happens (Ends rank.0) (gives_up w.settings rank.0 d)) rank (leftover_at w.settings rank.0 d)
-          (λ none. some (given_up_same w d rank.0 seat is here on ∙ none)) (put_here d.left rank.0 (d.left rank.0 ++ leftover_at w.settings rank.0 d)));
+          let on = crash_on w d rank allowed in
+          or_true _ _ (leaves_more d (happens (Ends rank.0) (gives_up w.settings rank.0 d)) rank (leftover_at w.settings rank.0 d)
+          (λ none. some (given_up_same w.settings d rank.0 op took (out.op_is d is on) (out.took_is d is) ∙ none)) (put_here d.left rank.0 (d.left rank.0 ++ leftover_at w.settings rank.0 d)));
     }
 
 -- ---- land
@@ -248,32 +179,42 @@ answers_itself w d i disk.ReadMail = refl
 answers_itself w d i (disk.WriteReset other) = same_rank other.0
 answers_itself w d i (disk.WriteClose number) = refl
 
-pub land_stepped : (w mid new : Whole) (rank : Rank) (seat : Seat) (op : DiskOp) (entry : What) → slice_get w.seats rank.0 ≡ Some seat → seat.op ≡ Some op
+land_answers : (w : Whole) (d : World) (i : ℕ) (op : DiskOp) → WorldFor w d → op_at w.settings i d ≡ Some op
+    → (j : ℕ) (entry : What) → put d.took i (Some (taken w.settings w.timing i op d)) j ≡ Some entry → is_on w.settings j d ≡ true
+    → answers_op (op_at w.settings j d) entry ≡ true
+land_answers w d i op is op_is j entry took on = land_by (rank_cases i j)
+  where
+    land_by : (i ≡ j) ⊎ ((i == j) ≡ false) → answers_op (op_at w.settings j d) entry ≡ true
+    land_by (inl same) =
+        let here : put d.took i (Some (taken w.settings w.timing i op d)) i ≡ Some entry = subst (λ k. put d.took i (Some (taken w.settings w.timing i op d)) k ≡ Some entry) (sym same) took in
+        let z : Some (taken w.settings w.timing i op d) ≡ Some entry = sym (put_here d.took i (Some (taken w.settings w.timing i op d))) ∙ here in
+        let y : taken w.settings w.timing i op d ≡ entry = cc in
+        subst (λ k. answers_op (op_at w.settings k d) entry ≡ true) same
+        (ap (λ op. answers_op op entry) op_is ∙ (ap (λ entry. answers_op (Some op) entry) (sym y) ∙ answers_itself w d i op))
+    land_by (inr apart) = is.answers j entry (sym (ap (λ b. if b then Some (taken w.settings w.timing i op d) else d.took j) apart) ∙ took) on
+
+pub land_stepped : (w mid new : Whole) (rank : Rank) (op : DiskOp) (entry : What) → rank.0 < 32
+    → ((d : World) → WorldFor w d → is_on w.settings rank.0 d ≡ true → Some op ≡ op_at w.settings rank.0 d)
     → ((d : World) → WorldFor w d → entry ≡ taken w.settings w.timing rank.0 op d)
-    → SameFrame w mid → mid.seats ≡ w.seats → ((d : World) → WorldFor w d → WorldFor mid (written rank.0 op d))
-    → ((seat : Seat) → slice_get mid.seats rank.0 ≡ Some seat → new ≡ record mid { seats = slice_set mid.seats rank.0 (record seat { took = Some entry }) })
+    → SameFrame w mid → ((d : World) → WorldFor w d → WorldFor mid (written rank.0 op d))
+    → new ≡ record mid { took = slice_set mid.took rank.0 (Some entry) }
     → Stepped w new (event.Land rank) []
 unfolding step
-land_stepped w mid new rank seat op entry here out takes frame seats writes made =
-    let there : slice_get mid.seats rank.0 ≡ Some seat = ap (λ seats. slice_get seats rank.0) seats ∙ here in
-    let e = made seat there in
+land_stepped w mid new rank op entry below out takes frame writes e =
     record {
-      frame = record {
-        settings = ap (λ w. w.settings) e ∙ frame.settings;
-        timing = ap (λ w. w.timing) e ∙ frame.timing;
-        steps = ap (λ w. w.steps) e ∙ frame.steps;
-        count = ap (λ w. length w.seats) e ∙ (length-set mid.seats rank.0 (record seat { took = Some entry }) ∙ frame.count);
-      };
+      frame = same_frames w mid new frame (record { settings = ap (λ w. w.settings) e; timing = ap (λ w. w.timing) e; steps = ap (λ w. w.steps) e; count = ap (λ w. length w.seats) e });
       stands = λ d is allowed.
+          let i = rank.0 in
           let ready = land_ready w d rank allowed in
-          let own = is.nodes rank.0 seat here in
-          let op_is : op_at w.settings rank.0 d ≡ Some op = sym (own.running ready.0).ops ∙ out in
-          let lands : WorldFor new (record (written rank.0 op d) { took = put d.took rank.0 (Some entry) }) =
-          took_world mid new (written rank.0 op d) rank.0 seat (Some entry) (writes d is) there
-          (λ answer same. let z : entry ≡ answer = cc in
-          ap (λ op. answers_op op answer) out ∙ (ap (λ answer. answers_op (Some op) answer) (sym z ∙ takes d is) ∙ answers_itself w d rank.0 op)) e in
-          subst (λ o. WorldFor new (option_map_or (λ op. landed w.settings w.timing rank.0 op d) o d)) (sym op_is)
-          (subst (λ entry. WorldFor new (record (written rank.0 op d) { took = put d.took rank.0 (Some entry) })) (takes d is) lands);
+          let op_is : op_at w.settings i d ≡ Some op = sym (out d is ready.0) in
+          let value = taken w.settings w.timing i op d in
+          let middle = writes d is in
+          let made : new ≡ record mid { took = slice_set mid.took i (Some value) } = e ∙ ap (λ entry. record mid { took = slice_set mid.took i (Some entry) }) (takes d is) in
+          let lands : WorldFor new (record (written i op d) { took = put d.took i (Some value) }) =
+          subst (λ n. WorldFor n (record (written i op d) { took = put d.took i (Some value) })) (sym made)
+          (with_took mid (written i op d) (slice_set mid.took i (Some value)) (put d.took i (Some value)) middle (took_put mid (written i op d) i (Some value) middle below)
+          (λ j entry f. subst (λ s. is_on s j d ≡ true → answers_op (op_at s j d) entry ≡ true) (sym frame.settings) (land_answers w d i op is op_is j entry f))) in
+          subst (λ o. WorldFor new (option_map_or (λ op. landed w.settings w.timing i op d) o d)) (sym op_is) lands;
       gives = λ d is allowed. refl;
       ranks = λ d is allowed. no_outputs w.settings;
     }
@@ -286,80 +227,116 @@ pub some_op : (o : Option DiskOp) → is_some o ≡ true → (op : DiskOp) × (o
 some_op None e = absurd (cc)
 some_op (Some op) e = (op, refl)
 
-none_out : (w : Whole) (d : World) (rank : Rank) (seat : Seat) → WorldFor w d → slice_get w.seats rank.0 ≡ Some seat → ((op : DiskOp) → seat.op ≡ Some op → ⊥)
+none_out : (w : Whole) (d : World) (rank : Rank) (op : Option DiskOp) → WorldFor w d → (is_on w.settings rank.0 d ≡ true → op ≡ op_at w.settings rank.0 d)
+    → ((out : DiskOp) → op ≡ Some out → ⊥)
     → refusal w.settings w.timing (event.Land rank) d ≡ None → ⊥
-none_out w d rank seat is here none allowed =
+none_out w d rank op is op_is none allowed =
     let ready = land_ready w d rank allowed in
-    let own = is.nodes rank.0 seat here in
     let found = some_op (op_at w.settings rank.0 d) (first_some (op_at w.settings rank.0 d) _ ready.1) in
-    none found.0 ((own.running ready.0).ops ∙ found.1)
+    none found.0 (op_is ready.0 ∙ found.1)
 
-pub not_landed : (w : Whole) (rank : Rank) (seat : Seat) → slice_get w.seats rank.0 ≡ Some seat → ((op : DiskOp) → seat.op ≡ Some op → ⊥) → Stepped w w (event.Land rank) []
-not_landed w rank seat here none =
+pub not_landed : (w : Whole) (rank : Rank) (op : Option DiskOp) → ((d : World) → WorldFor w d → is_on w.settings rank.0 d ≡ true → op ≡ op_at w.settings rank.0 d)
+    → ((out : DiskOp) → op ≡ Some out → ⊥) → Stepped w w (event.Land rank) []
+not_landed w rank op op_is none =
     record {
       frame = record { settings = refl; timing = refl; steps = refl; count = refl };
-      stands = λ d is allowed. absurd (none_out w d rank seat is here none allowed);
+      stands = λ d is allowed. absurd (none_out w d rank op is (op_is d is) none allowed);
       gives = λ d is allowed. refl;
       ranks = λ d is allowed. no_outputs w.settings;
     }
 
 -- ---- feed
 
-feeds_node : (s : Settings) (d : World) (i : ℕ) → node_at s i (happens (Feeds i) d) ≡ record (node_at s i d) { fed = time d.moments }
-unfolding node
-feeds_node s d i = ap (λ b. if b then record (node_at s i d) { fed = time d.moments } else node_at s i d) (same_rank i)
-
-one_feeds : (s : Settings) (d : World) (i : ℕ) → OneNode s d (happens (Feeds i) d) i []
-unfolding node time packets given_out
-one_feeds s d i =
-    record {
-      same_time = refl;
-      others = λ j apart. (ap (λ b. if b then record (node_at s j d) { fed = time d.moments } else node_at s j d) apart, refl);
-      sends = refl;
-      same_slots = λ j. refl;
-      same_mailboxes = λ j. refl;
-      same_left = λ j. refl;
-    }
-
-fed_seat : (w : Whole) (d : World) (i : ℕ) (seat : Seat) → WorldFor w d → slice_get w.seats i ≡ Some seat
-    → SeatFor (record seat { fed = w.time }) w.settings i (record (node_at w.settings i d) { fed = time d.moments }) (d.took i)
-fed_seat w d i seat is here =
-    let own = is.nodes i seat here in
-    record {
-      runs = own.runs;
-      taken = own.taken;
-      running = λ on. let r = own.running on in
-          record { stands = r.stands; clocks = r.clocks; feeds = is.times; decisions = r.decisions; ops = r.ops; stops = r.stops; ticks = r.ticks };
-    }
-
-pub feed_stepped : (w new : Whole) (rank : Rank) (seat : Seat) → slice_get w.seats rank.0 ≡ Some seat
-    → new ≡ record w { seats = slice_set w.seats rank.0 (record seat { fed = w.time }) }
+pub feed_stepped : (w new : Whole) (rank : Rank) → new ≡ with_nodes w (cluster_of new) → Fed (cluster_of w) (cluster_of new) rank.0
     → Stepped w new (event.Feed rank) []
 unfolding step
-feed_stepped w new rank seat here e =
+feed_stepped w new rank e feeds =
     record {
-      frame = record {
-        settings = ap (λ w. w.settings) e;
-        timing = ap (λ w. w.timing) e;
-        steps = ap (λ w. w.steps) e;
-        count = ap (λ w. length w.seats) e ∙ length-set w.seats rank.0 (record seat { fed = w.time });
-      };
-      stands = λ d is allowed.
-          let i = rank.0 in
-          let after = feeds_node w.settings d i in
-          subst (λ n. WorldFor n (happens (Feeds i) d)) (seated_nothing w i (record seat { fed = w.time }) ∙ sym e)
-          (with_seat w d (happens (Feeds i) d) i (record seat { fed = w.time }) [] is (slice_get_within w.seats i seat here) (one_feeds w.settings d i)
-          (record {
-            own = subst (λ n. SeatFor (record seat { fed = w.time }) w.settings i n (d.took i)) (sym after) (fed_seat w d i seat is here);
-            clock = λ on. subst (λ n. n.on ≡ true → n.clock ≤ latest_clock (time (happens (Feeds i) d).moments)) (sym after)
-                (λ on. subst (λ t. (node_at w.settings i d).clock ≤ latest_clock t) (sym (one_feeds w.settings d i).same_time) (is.clocks i (seat_configured w d i seat is here) on)) on;
-            receive = All-nil (λ sent. sent.to.0 < length w.settings.nodes);
-            target = is.targets i seat here;
-            answer = λ entry e. is.answers i seat entry here e;
-            room = is.rooms i seat here;
-          }));
+      frame = frame_of w new e feeds.frame;
+      stands = λ d is allowed. with_feed w new d rank.0 is e feeds.frame.settings (feeds.stands d.moments is.cluster);
       gives = λ d is allowed. refl;
       ranks = λ d is allowed. no_outputs w.settings;
+    }
+
+-- ---- pass
+
+pass_ready : (w : Whole) (d : World) (dt : ℕ) (clocks : List (Rank × ℕ)) → refusal w.settings w.timing (event.Pass dt clocks) d ≡ None
+    → may_pass w.settings w.timing dt clocks d ≡ true
+unfolding refusal
+pass_ready w d dt clocks e = passed (may_pass w.settings w.timing dt clocks d) 1 e
+
+pub passable : (w : Whole) (dt : ℕ) (clocks : List (Rank × ℕ)) → IsReady w (event.Pass dt clocks) → IsPassable (cluster_of w) dt clocks
+passable w dt clocks ready =
+    record { timing = w.timing; world = ready.standing.0; stands = ready.standing.1.cluster; allowed = pass_ready w ready.standing.0 dt clocks ready.allowed }
+
+pub pass_stepped : (w new : Whole) (dt : ℕ) (clocks : List (Rank × ℕ)) → new ≡ with_nodes w (cluster_of new) → Passed (cluster_of w) (cluster_of new) dt clocks
+    → Stepped w new (event.Pass dt clocks) []
+unfolding step
+pass_stepped w new dt clocks e passes =
+    record {
+      frame = frame_of w new e passes.frame;
+      stands = λ d is allowed. with_pass w new d dt clocks is e passes.frame.settings (passes.stands w.timing d is.cluster (pass_ready w d dt clocks allowed));
+      gives = λ d is allowed. refl;
+      ranks = λ d is allowed. no_outputs w.settings;
+    }
+
+-- ---- boot
+
+dropped : (w : Whole) (d : World) (i j : ℕ) → WorldFor w d → (i ≡ j) ⊎ ((i == j) ≡ false) → left_of j (others_of i w.left) ≡ put d.left i [] j
+dropped w d i j is (inl same) =
+    subst (λ k. left_of k (others_of i w.left) ≡ put d.left i [] k) same (left_of-dropped i w.left ∙ sym (put_here d.left i []))
+dropped w d i j is (inr apart) = left_of-others i j w.left apart ∙ (is.lefts j ∙ sym (ap (λ b. if b then [] else d.left j) apart))
+
+pub few_base : (s : Settings) (rank : Rank) (base : ℕ) (clean : Bool) → is_well_formed s (boot_event rank base clean) ≡ true → base ≤ 1000000000000000
+unfolding is_well_formed
+few_base s rank base false formed = le-true base 1000000000000000 (second_true (is_configured s rank.0) _ formed)
+few_base s rank base true formed = le-true base 1000000000000000 (second_true (is_configured s rank.0) _ formed)
+
+-- both events that boot a rank touch it, make its boot, and report what comes out of it
+pub boot_touches : (rank : Rank) (base : ℕ) (clean : Bool) → touched (boot_event rank base clean) ≡ Some rank
+boot_touches rank base false = refl
+boot_touches rank base true = refl
+
+boot_steps : (s : Settings) (t : Timing) (rank : Rank) (base : ℕ) (clean : Bool) (d : World)
+    → step s t (boot_event rank base clean) d ≡ boots rank.0 base clean d
+unfolding step
+boot_steps s t rank base false d = refl
+boot_steps s t rank base true d = refl
+
+boot_reports : (s : Settings) (rank : Rank) (base : ℕ) (clean : Bool) (after : World)
+    → outs_after s (boot_event rank base clean) after ≡ newest_outs (node_at s rank.0 after).log
+boot_reports s rank base false after = refl
+boot_reports s rank base true after = refl
+
+pub boot_stepped : (w left mid new : Whole) (rank : Rank) (base : ℕ) (clean : Bool) (outs : List Out) → rank.0 < 32
+    → left ≡ record w { left = others_of rank.0 w.left }
+    → mid ≡ record left { took = slice_set left.took rank.0 None }
+    → new ≡ with_nodes mid (cluster_of new) → Booted (cluster_of mid) (cluster_of new) rank.0 base clean outs
+    → Stepped w new (boot_event rank base clean) outs
+boot_stepped w left mid new rank base clean outs below e f g booting =
+    let i = rank.0 in
+    let nodes : cluster_of mid ≡ cluster_of w = ap cluster_of f ∙ ap cluster_of e in
+    let booted : Booted (cluster_of w) (cluster_of new) i base clean outs = subst (λ c. Booted c (cluster_of new) i base clean outs) nodes booting in
+    record {
+      frame =
+          same_frames w mid new
+          (record { settings = ap (λ c. c.settings) nodes; timing = ap (λ w. w.timing) f ∙ ap (λ w. w.timing) e; steps = ap (λ c. c.steps) nodes; count = ap (λ c. length c.seats) nodes })
+          (frame_of mid new g booting.frame);
+      stands = λ d is allowed.
+          let d1 = record d { left = put d.left i [] } in
+          let middle : WorldFor left d1 =
+          subst (λ m. WorldFor m d1) (sym e)
+          (with_left w d (others_of i w.left) (put d.left i []) is (λ j. dropped w d i j is (rank_cases i j))
+          (All-filter (λ leftover. not (leftover.of.0 == i)) (λ leftover. IsWithin (length w.settings.nodes) leftover.op) w.left is.left_targets)) in
+          subst (λ after. WorldFor new after) (sym (boot_steps w.settings w.timing rank base clean d))
+          (with_none left new (cluster_of new) d1 (Boots i base clean) i middle below
+          (booted.frame.settings ∙ sym (ap (λ w. w.settings) e)) (booted.stands d.moments is.cluster)
+          (boots_others left.settings d.moments i base clean) (g ∙ ap (λ m. with_nodes m (cluster_of new)) f));
+      gives = λ d is allowed.
+          booted.gives d.moments is.cluster
+          ∙ (sym (boot_reports w.settings rank base clean (boots i base clean d))
+          ∙ ap (λ after. outs_after w.settings (boot_event rank base clean) after) (sym (boot_steps w.settings w.timing rank base clean d)));
+      ranks = λ d is allowed. booted.ranks;
     }
 
 -- ---- late
@@ -428,7 +405,7 @@ not_late w rank number some none =
 
 -- ---- ranks of the other node that an operation is about
 
-pub wider : (count : ℕ) (op : DiskOp) → count ≤ 32 → IsWithin count op → IsWithin 32 op
+wider : (count : ℕ) (op : DiskOp) → count ≤ 32 → IsWithin count op → IsWithin 32 op
 wider count disk.ReadHeader few p = tt
 wider count (disk.ReadSlot other) few p = omega arith
 wider count disk.CheckMail few p = tt
@@ -438,11 +415,10 @@ wider count disk.ReadMail few p = tt
 wider count (disk.WriteReset other) few p = omega arith
 wider count (disk.WriteClose number) few p = tt
 
-pub op_target : (w : Whole) (i : ℕ) (seat : Seat) (op : DiskOp) → IsStanding w → slice_get w.seats i ≡ Some seat → seat.op ≡ Some op → IsWithin 32 op
-op_target w i seat op standing here out =
-    wider (length w.settings.nodes) op standing.1.valid.few_nodes (subst (IsOpWithin (length w.settings.nodes)) out (standing.1.targets i seat here))
+pub op_target : (w : Whole) (op : DiskOp) → IsStanding w → IsOpWithin (length w.settings.nodes) (Some op) → IsWithin 32 op
+op_target w op standing within = wider (length w.settings.nodes) op standing.1.cluster.valid.few_nodes within
 
 pub left_target : (w : Whole) (place : ℕ) (leftover : Leftover) → IsStanding w → slice_get w.left place ≡ Some leftover → IsWithin 32 leftover.op
 left_target w place leftover standing here =
-    wider (length w.settings.nodes) leftover.op standing.1.valid.few_nodes
+    wider (length w.settings.nodes) leftover.op standing.1.cluster.valid.few_nodes
     (all_at (λ leftover. IsWithin (length w.settings.nodes) leftover.op) w.left place leftover standing.1.left_targets here)

@@ -8,8 +8,7 @@ use Rattle.qn_base.specs.declared.ids.Rank.{Rank}
 use Rattle.qn_model.specs.declared.outputs.DiskOp.{DiskOp}
 use Rattle.qn_model.specs.World.{numbered, without}
 use Rattle.qn_world.specs.declared.leftover.Leftover.{Leftover}
-use Rattle.qn_world.specs.Leftovers.{others_of, place_in}
-use Rattle.qn_world.specs.Outputs.{leftovers}
+use Rattle.qn_world.specs.Leftovers.{leftovers, others_of, place_in}
 use Rattle.qn_world.specs.Standing.{left_of}
 use Rattle.qn_world.proofs.Lists.{same_rank}
 

@@ -1,16 +1,10 @@
 pub mod AnswerSteps
 pub mod ApplySteps
 pub mod EventSteps
-pub mod HandSteps
-pub mod Holders
 pub mod LeftCounts
 pub mod LeftoverSteps
 pub mod Lists
 pub mod Looks
-pub mod OutputSteps
-pub mod PassSteps
 pub mod RuleSteps
-pub mod SeatSteps
 pub mod SectorSteps
-pub mod Silence
 pub mod WorldSteps

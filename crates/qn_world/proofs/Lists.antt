@@ -35,21 +35,6 @@ get_set_apart (first ∷ items) (suc i) (suc j) item apart = get_set_apart items
 pub get_set_other : {A : Type 0} (items : List A) (i j : ℕ) (item : A) → (i == j) ≡ false → slice_get (slice_set items i item) j ≡ slice_get items j
 get_set_other items i j item e = get_set_apart items i j item (other_rank i j e)
 
--- the item that a list has at a place after one of its items was replaced
-pub found : {A : Type 0} (items : List A) (i j : ℕ) (item seen : A) → i < length items → slice_get (slice_set items i item) j ≡ Some seen
-    → ((i ≡ j) × (seen ≡ item)) ⊎ (((i == j) ≡ false) × (slice_get items j ≡ Some seen))
-found items i j item seen within e = found_by (rank_cases i j)
-  where
-    found_by : (i ≡ j) ⊎ ((i == j) ≡ false) → ((i ≡ j) × (seen ≡ item)) ⊎ (((i == j) ≡ false) × (slice_get items j ≡ Some seen))
-    found_by (inl same) = inl (same, (let q : Some seen ≡ Some item = sym (subst (λ k. slice_get (slice_set items i item) k ≡ Some seen) (sym same) e) ∙ get_set_same items i item within in cc))
-    found_by (inr apart) = inr (apart, sym (get_set_other items i j item apart) ∙ e)
-
--- a list has an item at each place below its length
-pub item_there : {A : Type 0} (items : List A) (i : ℕ) → i < length items → (item : A) × (slice_get items i ≡ Some item)
-item_there [] i within = absurd (omega arith)
-item_there (first ∷ items) zero within = (first, refl)
-item_there (first ∷ items) (suc i) within = item_there items i (omega arith)
-
 -- the item at a place is the one that is read there
 pub read_at : {A : Type 0} (items others : List A) (place i : ℕ) (item d : A) → items ≡ others → place ≡ i → slice_get others i ≡ Some item → get_or items place d ≡ item
 read_at items others place i item d same at here =

@@ -1,41 +1,43 @@
--- What is reported of an event, and shown of a node.
-use Rattle.std.proofs.Common.{◌≡◌, ℕ, Bool, true, List, Some, None, length, sym, ◌∙◌, ap}
-use Rattle.std.specs.Prelude.{Option}
-use Rattle.std.specs.Option.{option_map_or}
-use Rattle.qn_base.specs.declared.ids.Mask.{Mask}
-use Rattle.qn_base.specs.declared.ids.Rank.{Rank}
+-- What is shown of a node.
+use Rattle.std.proofs.Common.{◌≡◌, ℕ, Bool, true, false, Some, None, length, refl, ◌&&◌, if◌then◌else◌, ◌∙◌, ap}
+use Rattle.std.specs.Prelude.{Option, is_some}
+use Rattle.qn_cluster.specs.declared.waiting.Waiting.{Waiting}
+use Rattle.qn_cluster.specs.Seen.{waiting_of}
 use Rattle.qn_model.specs.declared.configuration.Settings.{Settings}
-use Rattle.qn_model.specs.declared.events.Event.{Event}
+use Rattle.qn_model.specs.declared.entries.What.{What}
 use Rattle.qn_model.specs.declared.life.Phase.{Phase}
 use Rattle.qn_model.specs.declared.life.Why.{Why}
-use Rattle.qn_model.specs.declared.life.Why.TheVariants.{Down}
-use Rattle.qn_model.specs.declared.outputs.Out.{Out}
+use Rattle.qn_model.specs.declared.outputs.DiskOp.{DiskOp}
 use Rattle.qn_model.specs.declared.votes.Answer.{Answer}
-use Rattle.qn_model.specs.Moments.{is_holder, time}
-use Rattle.qn_model.specs.Rules.{is_well_formed}
-use Rattle.qn_model.specs.Steps.{answer_now, answer_off, holders, outs_after, report, touched, why_now}
+use Rattle.qn_model.specs.Log.{op_out}
+use Rattle.qn_model.specs.Moments.{is_holder}
+use Rattle.qn_model.specs.Steps.{answer_now, why_now}
 use Rattle.qn_model.specs.World.{World, node_at}
 use Rattle.qn_world.specs.declared.pending.Pending.{Pending}
-use Rattle.qn_world.specs.Pending.{pending_of}
-use Rattle.qn_world.specs.Seen.{IsConfigured, phase_now, seen_of}
-use Rattle.qn_world.proofs.RuleSteps.{rank_configured}
+use Rattle.qn_world.specs.Pending.{is_op_out, pending_of}
+use Rattle.qn_world.specs.Seen.{phase_now, seen_of}
 
--- the node of a well formed event is configured
-pub touched_configured : (s : Settings) (event : Event) (node : Option Rank) → is_well_formed s event ≡ true → node ≡ touched event → IsConfigured s node
-touched_configured s event None formed is = tt
-touched_configured s event (Some rank) formed is = rank_configured s event rank formed (sym is)
+out_if : (on : Bool) (op : Option DiskOp) → is_some (if on then op else None) ≡ (on && is_some op)
+out_if true op = refl
+out_if false op = refl
 
--- a report is that of the definitions where each part is
-pub report-parts : (s : Settings) (event : Event) (d : World) (at : ℕ) (who : Option Rank) (outs : List Out) (held : Mask) (count : Answer) (lacks : Why)
-    → at ≡ time d.moments → who ≡ touched event → outs ≡ outs_after s event d → held ≡ holders s d
-    → count ≡ option_map_or (λ rank. answer_now s (node_at s rank.0 d)) who (answer_off s)
-    → lacks ≡ option_map_or (λ rank. why_now s rank.0 (node_at s rank.0 d)) who Down
-    → record { time = at; touched = who; outs = outs; holders = held; answer = count; why = lacks } ≡ report s event d
-unfolding report
-report-parts s event d at who outs held count lacks times touches gives holds counts whys =
-    let answers = counts ∙ ap (λ node. option_map_or (λ rank. answer_now s (node_at s rank.0 d)) node (answer_off s)) touches in
-    let reasons = whys ∙ ap (λ node. option_map_or (λ rank. why_now s rank.0 (node_at s rank.0 d)) node Down) touches in
-    rw (times, touches, gives, holds, answers, reasons)
+-- what is pending at a node is that of the definitions where each part is
+pub pending-parts : (s : Settings) (i : ℕ) (d : World) (waiting : Waiting) (took : Option What) (out landed : Bool)
+    → waiting ≡ waiting_of (node_at s i d) → took ≡ d.took i → out ≡ is_some waiting.op → landed ≡ (is_some waiting.op && is_some took)
+    → record {
+      running = waiting.running;
+      fed = waiting.fed;
+      decided = waiting.decided;
+      out = out;
+      landed = landed;
+      stop_due = waiting.stop_due;
+    } ≡ pending_of s i d
+pending-parts s i d waiting took out landed waits takes outs lands =
+    let op_is : is_some waiting.op ≡ is_op_out (node_at s i d) = ap (λ w. is_some w.op) waits ∙ out_if (node_at s i d).on (op_out (node_at s i d).log) in
+    let all_out : out ≡ is_op_out (node_at s i d) = outs ∙ op_is in
+    let all_landed : landed ≡ (is_op_out (node_at s i d) && is_some (d.took i)) =
+    lands ∙ (ap (λ b. b && is_some took) op_is ∙ ap (λ took. is_op_out (node_at s i d) && is_some took) takes) in
+    rw (waits, all_out, all_landed)
 
 -- what is shown of a node is that of the definitions where each part is
 pub seen-parts : (s : Settings) (rank : ℕ) (d : World) (pending : Pending) (life : Phase) (left : ℕ) (count : Answer) (lacks : Why) (held : Bool)

@@ -1,103 +1,20 @@
--- The rules, by the seats of a world.
-use Rattle.std.proofs.Common.{◌≡◌, ℕ, suc, zero, ◌+◌, ◌-◌, ◌*◌, ◌<◌, ◌≤◌, Bool, true, false, List, [], ◌∷◌, length, Some, None, refl, not, if◌then◌else◌, ◌&&◌, ◌||◌, sym, ◌∙◌, ap, subst, arith, add-one, drop}
-use Rattle.std.specs.Prelude.{Option, slice_get, is_some, nat_le, nat_lt}
-use Rattle.std.specs.List.{list_all, range_with_len}
-use Rattle.std.specs.Option.{option_map_or, option_or}
+-- The rules that look at the disk, and the ranks of well formed events.
+use Rattle.std.proofs.Common.{◌≡◌, ℕ, ◌<◌, ◌≤◌, Bool, true, false, List, length, Some, refl, not, ◌&&◌, ◌||◌, sym, ◌∙◌, ap, subst, arith}
+use Rattle.std.specs.Prelude.{slice_get, nat_le, nat_lt}
+use Rattle.std.specs.List.{list_all}
 use Rattle.std.proofs.lemmas.Bool.Decides.{nat_tests}
 use Rattle.qn_base.specs.declared.ids.Rank.{Rank}
-use Rattle.qn_base.specs.declared.limits.TheConstants.{LONGEST_PERIOD}
+use Rattle.qn_cluster.specs.Nodes.{Nodes}
 use Rattle.qn_model.specs.declared.configuration.Settings.{Settings}
 use Rattle.qn_model.specs.declared.disk.Message.{Message}
 use Rattle.qn_model.specs.declared.events.Event.{Event}
 use Rattle.qn_model.specs.declared.events.Event.TheVariants as event
-use Rattle.qn_model.specs.Log.{op_out}
-use Rattle.qn_model.specs.Moments.{advance_of, time}
-use Rattle.qn_model.specs.World.{World, node_at}
-use Rattle.qn_model.specs.Rules.{is_between, is_clock, is_configured, is_on, is_well_formed, is_within_bounds, may_be_done, may_be_stopped, may_fail, may_feed, may_land, may_operate, may_pass, outlives, passes, unless, unless_running}
+use Rattle.qn_model.specs.World.{World}
+use Rattle.qn_model.specs.Rules.{is_between, is_clock, is_configured, is_on, is_well_formed, may_operate}
 use Rattle.qn_model.specs.Sectors.{is_deadly}
 use Rattle.qn_model.specs.Steps.{touched}
-use Rattle.qn_world.specs.declared.seat.Seat.{Seat}
-use Rattle.qn_world.specs.Seats.{RunsFor}
 use Rattle.qn_world.specs.Standing.{IsStanding, WorldFor}
-use Rattle.qn_world.specs.Tests.{decided_lately, lives_through, on_at, passes_at}
-use Rattle.qn_world.specs.Whole.{Whole}
-use Rattle.qn_world.proofs.Lists.{item_there}
-
--- rule 3 first: what another rule says matters of a running node alone
-after_running : (on : Bool) (mine theirs : Option ℕ) → (on ≡ true → mine ≡ theirs) → option_or (unless on 3) mine ≡ option_or (unless on 3) theirs
-after_running true mine theirs same = same refl
-after_running false mine theirs same = refl
-
-pub running_rule : (w : Whole) (d : World) (i : ℕ) (seat : Seat) (mine theirs : Option ℕ) → WorldFor w d → slice_get w.seats i ≡ Some seat
-    → (RunsFor seat w.settings i (node_at w.settings i d) → seat.took ≡ d.took i → mine ≡ theirs)
-    → option_or (unless seat.on 3) mine ≡ unless_running w.settings i d theirs
-running_rule w d i seat mine theirs is here same =
-    let own = is.nodes i seat here in
-    ap (λ on. option_or (unless on 3) mine) own.runs
-    ∙ after_running (node_at w.settings i d).on mine theirs (λ on. same (own.running on) own.taken)
-
-pub off_rule : (w : Whole) (d : World) (i : ℕ) (seat : Seat) → WorldFor w d → slice_get w.seats i ≡ Some seat
-    → option_or (unless seat.on 3) None ≡ unless_running w.settings i d None
-off_rule w d i seat is here = running_rule w d i seat None None is here (λ runs took. refl)
-
-pub land_rule : (w : Whole) (d : World) (i : ℕ) (seat : Seat) → WorldFor w d → slice_get w.seats i ≡ Some seat
-    → option_or (unless seat.on 3) (unless (is_some seat.op && not (is_some seat.took)) 4) ≡ unless_running w.settings i d (unless (may_land w.settings i d) 4)
-land_rule w d i seat is here =
-    running_rule w d i seat _ _ is here (λ runs took.
-    ap (λ op. unless (is_some op && not (is_some seat.took)) 4) runs.ops ∙ ap (λ took. unless (is_some (op_out (node_at w.settings i d).log) && not (is_some took)) 4) took)
-
-pub done_rule : (w : Whole) (d : World) (i : ℕ) (seat : Seat) → WorldFor w d → slice_get w.seats i ≡ Some seat
-    → option_or (unless seat.on 3) (unless (is_some seat.op && is_some seat.took) 5) ≡ unless_running w.settings i d (unless (may_be_done w.settings i d) 5)
-done_rule w d i seat is here =
-    running_rule w d i seat _ _ is here (λ runs took.
-    ap (λ op. unless (is_some op && is_some seat.took) 5) runs.ops ∙ ap (λ took. unless (is_some (op_out (node_at w.settings i d).log) && is_some took) 5) took)
-
-pub fail_rule : (w : Whole) (d : World) (i : ℕ) (seat : Seat) → WorldFor w d → slice_get w.seats i ≡ Some seat
-    → option_or (unless seat.on 3) (unless (is_some seat.op) 5) ≡ unless_running w.settings i d (unless (may_fail w.settings i d) 5)
-fail_rule w d i seat is here = running_rule w d i seat _ _ is here (λ runs took. ap (λ op. unless (is_some op) 5) runs.ops)
-
-pub stop_rule : (w : Whole) (d : World) (i : ℕ) (seat : Seat) → WorldFor w d → slice_get w.seats i ≡ Some seat
-    → option_or (unless seat.on 3) (unless seat.stop_due 5) ≡ unless_running w.settings i d (unless (may_be_stopped w.settings i d) 5)
-stop_rule w d i seat is here = running_rule w d i seat _ _ is here (λ runs took. ap (λ due. unless due 5) runs.stops)
-
-pub other_rule : (w : Whole) (d : World) (i : ℕ) (seat : Seat) (mine theirs : Bool) (rule : ℕ) → WorldFor w d → slice_get w.seats i ≡ Some seat → mine ≡ theirs
-    → option_or (unless seat.on 3) (unless mine rule) ≡ unless_running w.settings i d (unless theirs rule)
-other_rule w d i seat mine theirs rule is here same = running_rule w d i seat _ _ is here (λ runs took. ap (λ b. unless b rule) same)
-
--- a feed at most so long ago
-lately : (now delay : ℕ) (decided : Option ℕ) → decided_lately now delay decided ≡ option_map_or (λ decided. nat_le now (decided + delay)) decided false
-lately now delay None = refl
-lately now delay (Some decided) = grind (arith, nat_tests)
-
-pub feed_rule : (w : Whole) (d : World) (i : ℕ) (seat : Seat) → WorldFor w d → slice_get w.seats i ≡ Some seat
-    → option_or (unless seat.on 3) (unless (decided_lately w.time w.timing.feed_delay seat.decided) 9) ≡ unless_running w.settings i d (unless (may_feed w.settings w.timing i d) 9)
-feed_rule w d i seat is here =
-    running_rule w d i seat _ _ is here (λ runs took.
-    ap (λ b. unless b 9)
-    (ap (λ decided. decided_lately w.time w.timing.feed_delay decided) runs.decisions
-    ∙ (ap (λ now. decided_lately now w.timing.feed_delay (node_at w.settings i d).decided) is.times
-    ∙ lately (time d.moments) w.timing.feed_delay (node_at w.settings i d).decided)))
-
--- a running node lives through a pass
-lives_by : (watchdog dt advance later fed : ℕ) (on : Bool) → (not on || is_within_bounds dt advance && nat_le (99 * (later - fed)) (100 * watchdog))
-    ≡ (if on then is_within_bounds dt advance && nat_le (99 * (later - fed)) (100 * watchdog) else true)
-lives_by watchdog dt advance later fed true = refl
-lives_by watchdog dt advance later fed false = refl
-
-fed_if_on : (on : Bool) (mine theirs : Bool) → (on ≡ true → mine ≡ theirs) → (if on then mine else true) ≡ (if on then theirs else true)
-fed_if_on true mine theirs same = same refl
-fed_if_on false mine theirs same = refl
-
-pub lives_rule : (w : Whole) (d : World) (i : ℕ) (seat : Seat) (dt advance later : ℕ) → WorldFor w d → slice_get w.seats i ≡ Some seat → later ≡ w.time + dt
-    → lives_through w.timing.watchdog dt advance later seat ≡ passes w.timing dt advance (time d.moments) (node_at w.settings i d)
-lives_rule w d i seat dt advance later is here at =
-    let own = is.nodes i seat here in
-    let at_end : later ≡ time d.moments + dt = at ∙ ap (λ t. t + dt) is.times in
-    lives_by w.timing.watchdog dt advance later seat.fed seat.on
-    ∙ (ap (λ on. if on then is_within_bounds dt advance && nat_le (99 * (later - seat.fed)) (100 * w.timing.watchdog) else true) own.runs
-    ∙ fed_if_on (node_at w.settings i d).on _ _ (λ on.
-    ap (λ fed. is_within_bounds dt advance && nat_le (99 * (later - fed)) (100 * w.timing.watchdog)) (own.running on).feeds
-    ∙ ap (λ later. is_within_bounds dt advance && outlives w.timing later (node_at w.settings i d).fed) at_end))
+use Rattle.qn_world.specs.Whole.{Whole, cluster_of}
 
 -- ---- ranks
 
@@ -141,54 +58,11 @@ rank_configured s event rank formed e = lt-true rank.0 (length s.nodes) (configu
 
 pub rank_within : (w : Whole) (event : Event) (rank : Rank) → IsStanding w → is_well_formed w.settings event ≡ true → touched event ≡ Some rank
     → rank.0 < length w.seats
-rank_within w event rank standing formed e = subst (λ count. rank.0 < count) (sym standing.1.count) (rank_configured w.settings event rank formed e)
+rank_within w event rank standing formed e = subst (λ count. rank.0 < count) (sym standing.1.cluster.count) (rank_configured w.settings event rank formed e)
 
 pub rank_few : (w : Whole) (event : Event) (rank : Rank) → IsStanding w → is_well_formed w.settings event ≡ true → touched event ≡ Some rank → rank.0 < 32
 rank_few w event rank standing formed e =
-    let few = standing.1.valid.few_nodes in let below = rank_configured w.settings event rank formed e in omega arith
-
--- ---- tests of all ranks
-
-all_split : (p : ℕ → Bool) (rank count : ℕ) → rank < count
-    → list_all p (range_with_len rank (count - rank)) ≡ (p rank && list_all p (range_with_len (rank + 1) (count - (rank + 1))))
-all_split p rank count below =
-    let one_more : count - rank ≡ suc (count - (rank + 1)) = omega arith in
-    ap (λ n. list_all p (range_with_len rank n)) one_more
-
-pub all_so_far : (p : ℕ → Bool) (rank count : ℕ) (all : Bool) → rank < count → p rank ≡ true
-    → list_all p (range_with_len rank (count - rank)) ≡ all → list_all p (range_with_len (rank + 1) (count - (rank + 1))) ≡ all
-all_so_far p rank count all below passes was =
-    sym (all_split p rank count below ∙ ap (λ b. b && list_all p (range_with_len (rank + 1) (count - (rank + 1)))) passes) ∙ was
-
-pub one_fails : (p : ℕ → Bool) (rank count : ℕ) (all : Bool) → rank < count → p rank ≡ false
-    → list_all p (range_with_len rank (count - rank)) ≡ all → all ≡ false
-one_fails p rank count all below fails was =
-    sym was ∙ (all_split p rank count below ∙ ap (λ b. b && list_all p (range_with_len (rank + 1) (count - (rank + 1)))) fails)
-
--- tests that agree on what a third one lets pass
-same_by : (p q : Bool) (rest others : Bool) (guard more : Bool) → (guard && more) ≡ true → (guard ≡ true → p ≡ q) → (more ≡ true → rest ≡ others)
-    → (p && rest) ≡ (q && others)
-same_by p q rest others true more e same behind = cc (same refl, behind e)
-same_by p q rest others false more e same behind = absurd (cc)
-
-pub list_all_same : {A : Type 0} (guard p q : A → Bool) (items : List A) → list_all guard items ≡ true → ((item : A) → guard item ≡ true → p item ≡ q item)
-    → list_all p items ≡ list_all q items
-list_all_same guard p q [] e same = refl
-list_all_same guard p q (item ∷ items) e same =
-    same_by (p item) (q item) (list_all p items) (list_all q items) (guard item) (list_all guard items) e (same item) (λ e. list_all_same guard p q items e same)
-
-pub list_all_at : {A : Type 0} (p : A → Bool) (items : List A) (i : ℕ) (item : A) → list_all p items ≡ true → slice_get items i ≡ Some item → p item ≡ true
-list_all_at p [] i item e here = absurd (cc)
-list_all_at p (first ∷ items) zero item e here = let z : first ≡ item = cc in subst (λ x. p x ≡ true) z (first_true (p first) (list_all p items) e)
-list_all_at p (first ∷ items) (suc i) item e here = list_all_at p items i item (second_true (p first) (list_all p items) e) here
-
-range_same : (p q : ℕ → Bool) (from count limit : ℕ) → from + count ≤ limit → ((rank : ℕ) → rank < limit → p rank ≡ q rank)
-    → list_all p (range_with_len from count) ≡ list_all q (range_with_len from count)
-range_same p q from zero limit fits same = refl
-range_same p q from (suc count) limit fits same =
-    let here : p from ≡ q from = same from (omega arith) in
-    let behind : list_all p (range_with_len (from + 1) count) ≡ list_all q (range_with_len (from + 1) count) = range_same p q (from + 1) count limit (omega arith) same in
-    cc
+    let few = standing.1.cluster.valid.few_nodes in let below = rank_configured w.settings event rank formed e in omega arith
 
 -- the clocks of a well formed pass
 pub short_pass : (s : Settings) (dt : ℕ) (clocks : List (Rank × ℕ)) → is_well_formed s (event.Pass dt clocks) ≡ true → dt ≤ 1000000000
@@ -197,93 +71,27 @@ short_pass s dt clocks formed =
     let in_range : is_between 1 1000000000 dt ≡ true = first_true _ (list_all (is_clock s) clocks) (first_true _ _ formed) in
     le-true dt 1000000000 (second_true (nat_le 1 dt) _ in_range)
 
-pub clocks_configured : (s : Settings) (dt : ℕ) (clocks : List (Rank × ℕ)) → is_well_formed s (event.Pass dt clocks) ≡ true → list_all (is_clock s) clocks ≡ true
-unfolding is_well_formed
-clocks_configured s dt clocks formed = second_true (is_between 1 1000000000 dt) _ (first_true _ _ formed)
-
 -- the number of a leftover is 1 or more
 pub late_number : (s : Settings) (rank : Rank) (number : ℕ) → is_well_formed s (event.Late rank number) ≡ true → 1 ≤ number
 unfolding is_well_formed
 late_number s rank number formed = le-true 1 number (first_true (nat_le 1 number) _ (second_true (is_configured s rank.0) _ formed))
 
--- a node that boots is off
-pub boot_rule : (w : Whole) (d : World) (i : ℕ) (seat : Seat) → WorldFor w d → slice_get w.seats i ≡ Some seat
-    → unless (not seat.on) 2 ≡ unless (not (is_on w.settings i d)) 2
-boot_rule w d i seat is here = ap (λ on. unless (not on) 2) (is.nodes i seat here).runs
+-- a rank that is known to a world
+pub seat_few : (w : Whole) (i : ℕ) → IsStanding w → i < length w.seats → i < 32
+seat_few w i standing within = let few = standing.1.cluster.valid.few_nodes in let count = standing.1.cluster.count in omega arith
 
--- rule 10, by the mailbox and the seat of a rank
-pub operator_rule : (w : Whole) (d : World) (i : ℕ) (sent there : Message) (seat : Seat) → WorldFor w d → i < 32
-    → ((value : Message) → slice_get w.mailboxes i ≡ Some value → there ≡ value) → slice_get w.seats i ≡ Some seat
-    → (is_deadly sent || not (is_deadly there) || not seat.on) ≡ may_operate w.settings i sent d
-operator_rule w d i sent there seat is few holds here =
-    ap (λ message. is_deadly sent || not (is_deadly message) || not seat.on) (holds (d.mailboxes i) (is.letters i few))
-    ∙ ap (λ on. is_deadly sent || not (is_deadly (d.mailboxes i)) || not on) (is.nodes i seat here).runs
-
--- every clock that is named is that of a seat
-pub clock_within : (w : Whole) (dt : ℕ) (clocks : List (Rank × ℕ)) (place : ℕ) (clock : Rank × ℕ) → IsStanding w
-    → is_well_formed w.settings (event.Pass dt clocks) ≡ true → slice_get clocks place ≡ Some clock → clock.0.0 < length w.seats
-clock_within w dt clocks place clock standing formed here =
-    subst (λ count. clock.0.0 < count) (sym standing.1.count)
-    (lt-true clock.0.0 (length w.settings.nodes)
-    (first_true (is_configured w.settings clock.0.0) _ (list_all_at (is_clock w.settings) clocks place clock (clocks_configured w.settings dt clocks formed) here)))
-
-on_same : (w : Whole) (d : World) (rank : ℕ) → WorldFor w d → rank < length w.seats → on_at w rank ≡ is_on w.settings rank d
-on_same w d rank is within =
-    let there = item_there w.seats rank within in
-    ap (λ seat. option_map_or (λ seat. seat.on) seat false) there.1 ∙ (is.nodes rank there.0 there.1).runs
-
-passes_same : (w : Whole) (d : World) (dt : ℕ) (clocks : List (Rank × ℕ)) (rank : ℕ) → WorldFor w d → rank < length w.seats
-    → passes_at w dt clocks rank ≡ passes w.timing dt (advance_of dt clocks rank) (time d.moments) (node_at w.settings rank d)
-passes_same w d dt clocks rank is within =
-    let there = item_there w.seats rank within in
-    ap (λ seat. option_map_or (λ seat. lives_through w.timing.watchdog dt (advance_of dt clocks rank) (w.time + dt) seat) seat true) there.1
-    ∙ lives_rule w d rank there.0 dt (advance_of dt clocks rank) (w.time + dt) is there.1 refl
-
--- rule 1
-pub pass_rule : (w : Whole) (d : World) (dt : ℕ) (clocks : List (Rank × ℕ)) → WorldFor w d → is_well_formed w.settings (event.Pass dt clocks) ≡ true
-    → (list_all (λ clock. on_at w clock.0.0) clocks && list_all (passes_at w dt clocks) (range_with_len 0 (length w.seats)))
-    ≡ may_pass w.settings w.timing dt clocks d
-pass_rule w d dt clocks is formed =
-    let clocks_same : list_all (λ clock. on_at w clock.0.0) clocks ≡ list_all (λ clock. is_on w.settings clock.0.0 d) clocks =
-    list_all_same (is_clock w.settings) (λ clock. on_at w clock.0.0) (λ clock. is_on w.settings clock.0.0 d) clocks (clocks_configured w.settings dt clocks formed)
-    (λ clock good. on_same w d clock.0.0 is
-    (subst (λ count. clock.0.0 < count) (sym is.count) (lt-true clock.0.0 (length w.settings.nodes) (first_true (is_configured w.settings clock.0.0) _ good)))) in
-    let ranks_same : list_all (passes_at w dt clocks) (range_with_len 0 (length w.seats))
-    ≡ list_all (λ rank. passes w.timing dt (advance_of dt clocks rank) (time d.moments) (node_at w.settings rank d)) (range_with_len 0 (length w.settings.nodes)) =
-    range_same (passes_at w dt clocks) (λ rank. passes w.timing dt (advance_of dt clocks rank) (time d.moments) (node_at w.settings rank d)) 0 (length w.seats) (length w.seats)
-    (omega arith) (λ rank below. passes_same w d dt clocks rank is below)
-    ∙ ap (λ count. list_all (λ rank. passes w.timing dt (advance_of dt clocks rank) (time d.moments) (node_at w.settings rank d)) (range_with_len 0 count)) is.count in
-    cc
-
--- the watchdog of safe timing
-pub short_watchdog : (w : Whole) → IsStanding w → w.timing.watchdog ≤ LONGEST_PERIOD
-short_watchdog w standing =
-    let safe = standing.1.safe in
-    le-true w.timing.watchdog LONGEST_PERIOD (second_true (nat_le 1 w.timing.watchdog) _ (first_true _ _ (first_true _ _ (first_true _ _ (first_true _ _ (first_true _ _ safe))))))
+-- rule 10, by the mailbox of a rank
+pub operator_rule : (w : Whole) (d : World) (i : ℕ) (sent there : Message) (on : Bool) → WorldFor w d → i < 32
+    → ((value : Message) → slice_get w.mailboxes i ≡ Some value → there ≡ value) → on ≡ is_on w.settings i d
+    → (is_deadly sent || not (is_deadly there) || not on) ≡ may_operate w.settings i sent d
+operator_rule w d i sent there on is few holds runs =
+    ap (λ message. is_deadly sent || not (is_deadly message) || not on) (holds (d.mailboxes i) (is.letters i few))
+    ∙ ap (λ on. is_deadly sent || not (is_deadly (d.mailboxes i)) || not on) runs
 
 pub few_seats : (w : Whole) → IsStanding w → length w.seats ≤ 32
-few_seats w standing = subst (λ count. count ≤ 32) (sym standing.1.count) standing.1.valid.few_nodes
+few_seats w standing = subst (λ count. count ≤ 32) (sym standing.1.cluster.count) standing.1.cluster.valid.few_nodes
 
-all_behind : {A : Type 0} (p : A → Bool) (items : List A) (place : ℕ) (item : A) → slice_get items place ≡ Some item
-    → list_all p (drop place items) ≡ (p item && list_all p (drop (suc place) items))
-all_behind p [] place item here = absurd (cc)
-all_behind p (first ∷ items) zero item here = let z : first ≡ item = cc in ap (λ x. p x && list_all p items) z
-all_behind p (first ∷ items) (suc place) item here = all_behind p items place item here
-
--- one item more passes
-pub all_of_more : {A : Type 0} (p : A → Bool) (items : List A) (place : ℕ) (item : A) (all : Bool) → slice_get items place ≡ Some item → p item ≡ true
-    → list_all p (drop place items) ≡ all → list_all p (drop (place + 1) items) ≡ all
-all_of_more p items place item all here passes was =
-    rw add-one (sym (all_behind p items place item here ∙ ap (λ b. b && list_all p (drop (suc place) items)) passes) ∙ was)
-
-pub one_of_all_fails : {A : Type 0} (p : A → Bool) (items : List A) (place : ℕ) (item : A) (all : Bool) → slice_get items place ≡ Some item → p item ≡ false
-    → list_all p (drop place items) ≡ all → false ≡ all
-one_of_all_fails p items place item all here fails was =
-    sym (all_behind p items place item here ∙ ap (λ b. b && list_all p (drop (suc place) items)) fails) ∙ was
-
--- both halves of a test
-pub both_tests : (r on lives : Bool) → (on ≡ true) → r ≡ lives → r ≡ (on && lives)
-both_tests r on lives e same = same ∙ ap (λ on. on && lives) (sym e)
-
-pub first_test : (r on lives : Bool) → (on ≡ false) → r ≡ false → r ≡ (on && lives)
-first_test r on lives e same = same ∙ ap (λ on. on && lives) (sym e)
+-- the rank of a well formed event has a seat in the nodes of a world
+pub rank_inside : (w : Whole) (n : Nodes) (event : Event) (rank : Rank) → n ≡ cluster_of w → IsStanding w → is_well_formed w.settings event ≡ true
+    → touched event ≡ Some rank → rank.0 < length n.seats
+rank_inside w n event rank same standing formed e = subst (λ n. rank.0 < length n.seats) (sym same) (rank_within w event rank standing formed e)

@@ -20,7 +20,7 @@ use Rattle.qn_world.specs.Standing.{WorldFor}
 use Rattle.qn_world.specs.Stepping.{Stepped}
 use Rattle.qn_world.specs.Whole.{Whole}
 use Rattle.qn_world.proofs.EventSteps.{no_outputs}
-use Rattle.qn_world.proofs.WorldSteps.{sector_put, with_sectors}
+use Rattle.qn_world.proofs.WorldSteps.{rank_put, with_sectors}
 
 -- what is read
 pub takes_header : (w : Whole) (d : World) (rank : ℕ) (op : DiskOp) (seen : HeaderSeen) → op ≡ disk.ReadHeader
@@ -74,14 +74,14 @@ slot_put : (w new : Whole) (d : World) (rank : ℕ) (value : Slot) → WorldFor 
 slot_put w new d rank value is below e =
     subst (λ n. WorldFor n (record d { slots = put d.slots rank value })) (sym e)
     (with_sectors w d (slice_set w.slots rank value) w.mailboxes (put d.slots rank value) d.mailboxes is
-    (sector_put w.slots d.slots rank value (slots_within w d rank is below) is.sectors) is.letters)
+    (rank_put w.slots d.slots rank value (slots_within w d rank is below) is.sectors) is.letters)
 
 mailbox_put : (w new : Whole) (d : World) (rank : ℕ) (value : Message) → WorldFor w d → rank < 32 → new ≡ record w { mailboxes = slice_set w.mailboxes rank value }
     → WorldFor new (record d { mailboxes = put d.mailboxes rank value })
 mailbox_put w new d rank value is below e =
     subst (λ n. WorldFor n (record d { mailboxes = put d.mailboxes rank value })) (sym e)
     (with_sectors w d w.slots (slice_set w.mailboxes rank value) d.slots (put d.mailboxes rank value) is is.sectors
-    (sector_put w.mailboxes d.mailboxes rank value (mailboxes_within w d rank is below) is.letters))
+    (rank_put w.mailboxes d.mailboxes rank value (mailboxes_within w d rank is below) is.letters))
 
 pub writes_claim : (w new : Whole) (d : World) (rank : ℕ) (op : DiskOp) (number : ℕ) → WorldFor w d → rank < 32 → op ≡ disk.WriteClaim number
     → new ≡ record w { slots = slice_set w.slots rank (record { incarnation = number; clean = false }) }

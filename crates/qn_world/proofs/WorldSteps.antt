@@ -1,113 +1,81 @@
 -- What a world stands for after one of its parts changed.
-use Rattle.std.proofs.Common.{◌≡◌, ℕ, ◌<◌, ◌≤◌, true, false, List, ◌++◌, length, Some, refl, if◌then◌else◌, ◌⊎◌, inl, inr, sym, ◌∙◌, ap, subst}
-use Rattle.std.specs.Prelude.{All, slice_get, slice_set, ◌==◌}
-use Rattle.std.proofs.lemmas.List.{length-set}
+use Rattle.std.proofs.Common.{◌≡◌, ℕ, ◌<◌, ◌≤◌, Bool, true, false, List, ◌∷◌, length, Some, None, refl, if◌then◌else◌, ◌⊎◌, inl, inr, sym, ◌∙◌, ap, subst}
+use Rattle.std.specs.Prelude.{All, Option, is_some, slice_get, slice_set, ◌==◌}
 use Rattle.std.proofs.lemmas.Option.{slice_get_within}
-use Rattle.std.proofs.lemmas.List.Elements.{All-append}
+use Rattle.qn_base.specs.declared.ids.Rank.{Rank}
+use Rattle.qn_cluster.specs.Nodes.{Nodes}
+use Rattle.qn_cluster.specs.Standing.{ClusterFor, IsWithin}
+use Rattle.qn_cluster.specs.Stepping.{Handed, SameFrame as SameNodes}
 use Rattle.qn_model.specs.declared.configuration.Settings.{Settings}
 use Rattle.qn_model.specs.declared.disk.Message.{Message}
 use Rattle.qn_model.specs.declared.disk.Slot.{Slot}
 use Rattle.qn_model.specs.declared.entries.What.{What}
 use Rattle.qn_model.specs.declared.outputs.DiskOp.{DiskOp}
-use Rattle.qn_model.specs.declared.packets.Sent.{Sent}
+use Rattle.qn_model.specs.declared.outputs.Out.{Out}
 use Rattle.qn_model.specs.Fitting.{answers_op}
-use Rattle.qn_model.specs.Moments.{packets, time}
-use Rattle.qn_model.specs.World.{World, node_at, put}
-use Rattle.qn_node.specs.Node.{steps_of}
+use Rattle.qn_model.specs.Log.{is_answer, op_out}
+use Rattle.qn_model.specs.Moments.{Adds, Boots, Ends, Feeds, Moment, Passes, booted, handed, node, time}
+use Rattle.qn_model.specs.Rules.{is_on}
+use Rattle.qn_model.specs.Steps.{happens}
+use Rattle.qn_model.specs.World.{World, op_at, put}
 use Rattle.qn_world.specs.declared.leftover.Leftover.{Leftover}
-use Rattle.qn_world.specs.declared.seat.Seat.{Seat}
-use Rattle.qn_world.specs.Seats.{SeatFor}
-use Rattle.qn_world.specs.Standing.{IsOpWithin, IsWithin, WorldFor, latest_clock, left_of}
-use Rattle.qn_world.specs.Whole.{Whole}
-use Rattle.qn_world.proofs.Lists.{found, get_set_other, get_set_same, rank_cases, same_rank}
+use Rattle.qn_world.specs.Standing.{WorldFor, left_of}
+use Rattle.qn_world.specs.Stepping.{SameFrame}
+use Rattle.qn_world.specs.Whole.{Whole, cluster_of, with_nodes}
+use Rattle.qn_world.proofs.Lists.{get_set_other, get_set_same, rank_cases, same_rank}
 
--- a seat is that of a configured rank
-pub seat_configured : (w : Whole) (d : World) (i : ℕ) (seat : Seat) → WorldFor w d → slice_get w.seats i ≡ Some seat → i < length w.settings.nodes
-seat_configured w d i seat is here = subst (λ count. i < count) is.count (slice_get_within w.seats i seat here)
+pub put_here : {A : Type 0} (f : ℕ → A) (i : ℕ) (value : A) → put f i value i ≡ value
+put_here f i value = ap (λ b. if b then value else f i) (same_rank i)
 
--- one node of the definitions' world changed, and what it sent
-pub record OneNode (s : Settings) (d e : World) (i : ℕ) (more : List Sent) : Type 0 where
-  pub same_time : time e.moments ≡ time d.moments
-  pub others : (j : ℕ) → (i == j) ≡ false → (node_at s j e ≡ node_at s j d) × (e.took j ≡ d.took j)
-  pub sends : packets s e.moments ≡ packets s d.moments ++ more
-  pub same_slots : (j : ℕ) → e.slots j ≡ d.slots j
-  pub same_mailboxes : (j : ℕ) → e.mailboxes j ≡ d.mailboxes j
-  pub same_left : (j : ℕ) → e.left j ≡ d.left j
+-- other nodes, and the disk as it was
+pub frame_of : (w new : Whole) → new ≡ with_nodes w (cluster_of new) → SameNodes (cluster_of w) (cluster_of new) → SameFrame w new
+frame_of w new disk same = record { settings = same.settings; timing = ap (λ w. w.timing) disk; steps = same.steps; count = same.count }
 
--- the seat of that node stands for it
-pub record OneSeat (w : Whole) (e : World) (i : ℕ) (new : Seat) (more : List Sent) : Type 0 where
-  pub own : SeatFor new w.settings i (node_at w.settings i e) (e.took i)
-  pub clock : (node_at w.settings i e).on ≡ true → (node_at w.settings i e).clock ≤ latest_clock (time e.moments)
-  pub receive : All (λ sent. sent.to.0 < length w.settings.nodes) more
-  pub target : IsOpWithin (length w.settings.nodes) new.op
-  pub answer : (entry : What) → new.took ≡ Some entry → answers_op new.op entry ≡ true
-  pub room : w.steps ≤ steps_of new.node
-
--- the world with one seat replaced
-abbrev pub seated : Whole → ℕ → Seat → List Sent → Whole
-seated w i new more = record w { seats = slice_set w.seats i new; packets = w.packets ++ more }
-
-node_of : (s : Settings) (d e : World) (w : Whole) (i j : ℕ) (new seat : Seat) (more : List Sent) → w.settings ≡ w.settings
-    → WorldFor w d → OneNode w.settings d e i more → OneSeat w e i new more
-    → ((i ≡ j) × (seat ≡ new)) ⊎ (((i == j) ≡ false) × (slice_get w.seats j ≡ Some seat))
-    → SeatFor seat w.settings j (node_at w.settings j e) (e.took j)
-node_of s d e w i j new seat more same is one own (inl here) =
-    subst (λ n. SeatFor n w.settings j (node_at w.settings j e) (e.took j)) (sym here.1)
-    (subst (λ k. SeatFor new w.settings k (node_at w.settings k e) (e.took k)) here.0 own.own)
-node_of s d e w i j new seat more same is one own (inr there) =
-    let kept = one.others j there.0 in
-    subst (λ took. SeatFor seat w.settings j (node_at w.settings j e) took) (sym kept.1)
-    (subst (λ node. SeatFor seat w.settings j node (d.took j)) (sym kept.0) (is.nodes j seat there.1))
-
-target_of : (w : Whole) (d : World) (i j : ℕ) (new seat : Seat) → WorldFor w d → IsOpWithin (length w.settings.nodes) new.op
-    → ((i ≡ j) × (seat ≡ new)) ⊎ (((i == j) ≡ false) × (slice_get w.seats j ≡ Some seat))
-    → IsOpWithin (length w.settings.nodes) seat.op
-target_of w d i j new seat is own (inl here) = subst (λ n. IsOpWithin (length w.settings.nodes) n.op) (sym here.1) own
-target_of w d i j new seat is own (inr there) = is.targets j seat there.1
-
-answer_of : (w : Whole) (d : World) (i j : ℕ) (new seat : Seat) (entry : What) → WorldFor w d → (new.took ≡ Some entry → answers_op new.op entry ≡ true)
-    → ((i ≡ j) × (seat ≡ new)) ⊎ (((i == j) ≡ false) × (slice_get w.seats j ≡ Some seat))
-    → seat.took ≡ Some entry → answers_op seat.op entry ≡ true
-answer_of w d i j new seat entry is own (inl here) e =
-    ap (λ n. answers_op n.op entry) here.1 ∙ own (sym (ap (λ n. n.took) here.1) ∙ e)
-answer_of w d i j new seat entry is own (inr there) e = is.answers j seat entry there.1 e
-
-room_of : (w : Whole) (d : World) (i j : ℕ) (new seat : Seat) → WorldFor w d → w.steps ≤ steps_of new.node
-    → ((i ≡ j) × (seat ≡ new)) ⊎ (((i == j) ≡ false) × (slice_get w.seats j ≡ Some seat))
-    → w.steps ≤ steps_of seat.node
-room_of w d i j new seat is own (inl here) = subst (λ n. w.steps ≤ steps_of n.node) (sym here.1) own
-room_of w d i j new seat is own (inr there) = is.rooms j seat there.1
-
-clock_of : (w : Whole) (d e : World) (i j : ℕ) (new : Seat) (more : List Sent) → WorldFor w d → OneNode w.settings d e i more → OneSeat w e i new more
-    → j < length w.settings.nodes → (i ≡ j) ⊎ ((i == j) ≡ false) → (node_at w.settings j e).on ≡ true → (node_at w.settings j e).clock ≤ latest_clock (time e.moments)
-clock_of w d e i j new more is one own below (inl here) on =
-    subst (λ k. (node_at w.settings k e).on ≡ true → (node_at w.settings k e).clock ≤ latest_clock (time e.moments)) here own.clock on
-clock_of w d e i j new more is one own below (inr there) on =
-    let kept = (one.others j there).0 in
-    let before = is.clocks j below (ap (λ node. node.on) (sym kept) ∙ on) in
-    subst (λ t. (node_at w.settings j e).clock ≤ latest_clock t) (sym one.same_time)
-    (subst (λ node. node.clock ≤ latest_clock (time d.moments)) (sym kept) before)
-
-pub with_seat : (w : Whole) (d e : World) (i : ℕ) (new : Seat) (more : List Sent)
-    → WorldFor w d → i < length w.seats → OneNode w.settings d e i more → OneSeat w e i new more
-    → WorldFor (seated w i new more) e
-with_seat w d e i new more is within one own =
+pub same_frames : (w mid new : Whole) → SameFrame w mid → SameFrame mid new → SameFrame w new
+same_frames w mid new first second =
     record {
-      valid = is.valid;
+      settings = second.settings ∙ first.settings;
+      timing = second.timing ∙ first.timing;
+      steps = second.steps ∙ first.steps;
+      count = second.count ∙ first.count;
+    }
+
+-- an answer that an operation took answers it, of each running node
+abbrev pub Answers : Settings → World → (ℕ → Option What) → Type 0
+Answers s d took = (j : ℕ) (entry : What) → took j ≡ Some entry → is_on s j d ≡ true → answers_op (op_at s j d) entry ≡ true
+
+-- the nodes after one more moment, and what their operations took
+pub with_moment : (w : Whole) (c : Nodes) (d : World) (moment : Moment) (took : List (Option What)) (new_took : ℕ → Option What)
+    → WorldFor w d → c.settings ≡ w.settings → ClusterFor c (moment ∷ d.moments)
+    → ((j : ℕ) → j < 32 → slice_get took j ≡ Some (new_took j))
+    → Answers w.settings (happens moment d) new_took
+    → WorldFor (record (with_nodes w c) { took = took }) (record (happens moment d) { took = new_took })
+with_moment w c d moment took new_took is same cluster landings answers =
+    record {
       safe = is.safe;
-      count = length-set w.seats i new ∙ is.count;
-      times = is.times ∙ sym one.same_time;
-      nodes = λ j seat here. node_of w.settings d e w i j new seat more refl is one own (found w.seats i j new seat within here);
-      sectors = λ j below. is.sectors j below ∙ ap Some (sym (one.same_slots j));
-      letters = λ j below. is.letters j below ∙ ap Some (sym (one.same_mailboxes j));
-      sent = ap (λ sent. sent ++ more) is.sent ∙ sym one.sends;
-      lefts = λ j. is.lefts j ∙ sym (one.same_left j);
-      clocks = λ j below on. clock_of w d e i j new more is one own below (rank_cases i j) on;
-      receivers = All-append (λ sent. sent.to.0 < length w.settings.nodes) w.packets more is.receivers own.receive;
-      targets = λ j seat here. target_of w d i j new seat is own.target (found w.seats i j new seat within here);
+      cluster = cluster;
+      landings = landings;
+      answers = λ j entry e. subst (λ s. is_on s j (happens moment d) ≡ true → answers_op (op_at s j (happens moment d)) entry ≡ true) (sym same) (answers j entry e);
+      sectors = is.sectors;
+      letters = is.letters;
+      lefts = is.lefts;
+      left_targets = subst (λ s. All (λ leftover. IsWithin (length s.nodes) leftover.op) w.left) (sym same) is.left_targets;
+    }
+
+-- what an operation took changed
+pub with_took : (w : Whole) (d : World) (took : List (Option What)) (new_took : ℕ → Option What)
+    → WorldFor w d → ((j : ℕ) → j < 32 → slice_get took j ≡ Some (new_took j)) → Answers w.settings d new_took
+    → WorldFor (record w { took = took }) (record d { took = new_took })
+with_took w d took new_took is landings answers =
+    record {
+      safe = is.safe;
+      cluster = is.cluster;
+      landings = landings;
+      answers = answers;
+      sectors = is.sectors;
+      letters = is.letters;
+      lefts = is.lefts;
       left_targets = is.left_targets;
-      answers = λ j seat entry here e. answer_of w d i j new seat entry is (own.answer entry) (found w.seats i j new seat within here) e;
-      rooms = λ j seat here. room_of w d i j new seat is own.room (found w.seats i j new seat within here);
     }
 
 -- the sectors changed
@@ -118,34 +86,15 @@ pub with_sectors : (w : Whole) (d : World) (slots : List Slot) (mailboxes : List
     → WorldFor (record w { slots = slots; mailboxes = mailboxes }) (record d { slots = new_slots; mailboxes = new_mailboxes })
 with_sectors w d slots mailboxes new_slots new_mailboxes is in_slots in_mailboxes =
     record {
-      valid = is.valid;
       safe = is.safe;
-      count = is.count;
-      times = is.times;
-      nodes = is.nodes;
+      cluster = is.cluster;
+      landings = is.landings;
+      answers = is.answers;
       sectors = in_slots;
       letters = in_mailboxes;
-      sent = is.sent;
       lefts = is.lefts;
-      clocks = is.clocks;
-      receivers = is.receivers;
-      targets = is.targets;
       left_targets = is.left_targets;
-      answers = is.answers;
-      rooms = is.rooms;
     }
-
--- a sector that is replaced
-pub sector_put : {A : Type 0} (items : List A) (values : ℕ → A) (i : ℕ) (value : A) → i < length items
-    → ((j : ℕ) → j < 32 → slice_get items j ≡ Some (values j))
-    → (j : ℕ) → j < 32 → slice_get (slice_set items i value) j ≡ Some (put values i value j)
-sector_put items values i value within before j below = put_by (rank_cases i j)
-  where
-    put_by : (i ≡ j) ⊎ ((i == j) ≡ false) → slice_get (slice_set items i value) j ≡ Some (put values i value j)
-    put_by (inl same) =
-        subst (λ k. slice_get (slice_set items i value) k ≡ Some (put values i value k)) same
-        (get_set_same items i value within ∙ ap (λ b. Some (if b then value else values i)) (sym (same_rank i)))
-    put_by (inr apart) = get_set_other items i j value apart ∙ (before j below ∙ ap (λ b. Some (if b then value else values j)) (sym apart))
 
 -- the leftovers changed
 pub with_left : (w : Whole) (d : World) (left : List Leftover) (new_left : ℕ → List DiskOp)
@@ -154,19 +103,133 @@ pub with_left : (w : Whole) (d : World) (left : List Leftover) (new_left : ℕ �
     → WorldFor (record w { left = left }) (record d { left = new_left })
 with_left w d left new_left is lefts targets =
     record {
-      valid = is.valid;
       safe = is.safe;
-      count = is.count;
-      times = is.times;
-      nodes = is.nodes;
+      cluster = is.cluster;
+      landings = is.landings;
+      answers = is.answers;
       sectors = is.sectors;
       letters = is.letters;
-      sent = is.sent;
       lefts = lefts;
-      clocks = is.clocks;
-      receivers = is.receivers;
-      targets = is.targets;
       left_targets = targets;
-      answers = is.answers;
-      rooms = is.rooms;
     }
+
+-- a value of a rank that is replaced
+pub rank_put : {A : Type 0} (items : List A) (values : ℕ → A) (i : ℕ) (value : A) → i < length items
+    → ((j : ℕ) → j < 32 → slice_get items j ≡ Some (values j))
+    → (j : ℕ) → j < 32 → slice_get (slice_set items i value) j ≡ Some (put values i value j)
+rank_put items values i value within before j below = put_by (rank_cases i j)
+  where
+    put_by : (i ≡ j) ⊎ ((i == j) ≡ false) → slice_get (slice_set items i value) j ≡ Some (put values i value j)
+    put_by (inl same) =
+        subst (λ k. slice_get (slice_set items i value) k ≡ Some (put values i value k)) same
+        (get_set_same items i value within ∙ ap (λ b. Some (if b then value else values i)) (sym (same_rank i)))
+    put_by (inr apart) = get_set_other items i j value apart ∙ (before j below ∙ ap (λ b. Some (if b then value else values j)) (sym apart))
+
+took_within : (w : Whole) (d : World) (i : ℕ) → WorldFor w d → i < 32 → i < length w.took
+took_within w d i is below = slice_get_within w.took i (d.took i) (is.landings i below)
+
+pub took_put : (w : Whole) (d : World) (i : ℕ) (value : Option What) → WorldFor w d → i < 32
+    → (j : ℕ) → j < 32 → slice_get (slice_set w.took i value) j ≡ Some (put d.took i value j)
+took_put w d i value is below = rank_put w.took d.took i value (took_within w d i is below) is.landings
+
+-- ---- the nodes that a moment does not touch
+
+-- a moment of one node is none of the others
+abbrev pub OthersStay : Settings → List Moment → Moment → ℕ → Type 0
+OthersStay s moments moment i = (j : ℕ) → (i == j) ≡ false → node s j (moment ∷ moments) ≡ node s j moments
+
+pub adds_others : (s : Settings) (moments : List Moment) (i : ℕ) (entry : What) → OthersStay s moments (Adds i entry) i
+unfolding node
+adds_others s moments i entry j apart = ap (λ b. if b then handed s j (time moments) entry (node s j moments) else node s j moments) apart
+
+pub boots_others : (s : Settings) (moments : List Moment) (i base : ℕ) (clean : Bool) → OthersStay s moments (Boots i base clean) i
+unfolding node
+boots_others s moments i base clean j apart = ap (λ b. if b then booted s j (time moments) base clean (node s j moments) else node s j moments) apart
+
+pub ends_others : (s : Settings) (moments : List Moment) (i : ℕ) → OthersStay s moments (Ends i) i
+unfolding node
+ends_others s moments i j apart = ap (λ b. if b then record (node s j moments) { on = false } else node s j moments) apart
+
+others_by : (w : Whole) (d : World) (moment : Moment) (i j : ℕ) (entry : What) → WorldFor w d → OthersStay w.settings d.moments moment i
+    → (i == j) ≡ false → d.took j ≡ Some entry → is_on w.settings j (happens moment d) ≡ true
+    → answers_op (op_at w.settings j (happens moment d)) entry ≡ true
+others_by w d moment i j entry is others apart took on =
+    let kept = others j apart in
+    ap (λ n. answers_op (op_out n.log) entry) kept ∙ is.answers j entry took (sym (ap (λ n. n.on) kept) ∙ on)
+
+-- a moment of a node whose operation has no answer any more
+none_put : (d : World) (i j : ℕ) (entry : What) → i ≡ j → put d.took i None j ≡ Some entry → ⊥
+none_put d i j entry same took =
+    let here : (i == j) ≡ true = subst (λ k. (i == k) ≡ true) same (same_rank i) in
+    let z : None ≡ Some entry = sym (ap (λ b. if b then None else d.took j) here) ∙ took in
+    cc
+
+none_answers : (w : Whole) (d : World) (moment : Moment) (i : ℕ) → WorldFor w d → OthersStay w.settings d.moments moment i
+    → Answers w.settings (happens moment d) (put d.took i None)
+none_answers w d moment i is others j entry took on = none_by (rank_cases i j)
+  where
+    none_by : (i ≡ j) ⊎ ((i == j) ≡ false) → answers_op (op_at w.settings j (happens moment d)) entry ≡ true
+    none_by (inl same) = absurd (none_put d i j entry same took)
+    none_by (inr apart) = others_by w d moment i j entry is others apart (sym (ap (λ b. if b then None else d.took j) apart) ∙ took) on
+
+pub with_none : (w new : Whole) (c : Nodes) (d : World) (moment : Moment) (i : ℕ) → WorldFor w d → i < 32 → c.settings ≡ w.settings
+    → ClusterFor c (moment ∷ d.moments) → OthersStay w.settings d.moments moment i
+    → new ≡ record (with_nodes w c) { took = slice_set w.took i None }
+    → WorldFor new (record (happens moment d) { took = put d.took i None })
+with_none w new c d moment i is below same cluster others e =
+    subst (λ n. WorldFor n (record (happens moment d) { took = put d.took i None })) (sym e)
+    (with_moment w c d moment (slice_set w.took i None) (put d.took i None) is same cluster (took_put w d i None is below) (none_answers w d moment i is others))
+
+op_some : (op : Option DiskOp) (entry : What) → answers_op op entry ≡ true → is_some op ≡ true
+op_some None entry e = absurd (cc)
+op_some (Some op) entry e = refl
+
+-- an entry that is no answer leaves each operation with its answer
+plain_answers : (w : Whole) (c : Nodes) (d : World) (i : ℕ) (entry : What) {outs : List Out} → WorldFor w d → Handed (cluster_of w) c i entry outs
+    → is_on w.settings i d ≡ true → is_answer entry ≡ false
+    → Answers w.settings (happens (Adds i entry) d) d.took
+plain_answers w c d i entry is made on plain j seen took on_after = plain_by (rank_cases i j)
+  where
+    plain_by : (i ≡ j) ⊎ ((i == j) ≡ false) → answers_op (op_at w.settings j (happens (Adds i entry) d)) seen ≡ true
+    plain_by (inl same) =
+        let own : answers_op (op_at w.settings i d) seen ≡ true = is.answers i seen (subst (λ k. d.took k ≡ Some seen) (sym same) took) on in
+        let kept = made.keeps d.moments is.cluster on plain (op_some (op_at w.settings i d) seen own) in
+        subst (λ k. answers_op (op_at w.settings k (happens (Adds i entry) d)) seen ≡ true) same (ap (λ op. answers_op op seen) kept ∙ own)
+    plain_by (inr apart) = others_by w d (Adds i entry) i j seen is (adds_others w.settings d.moments i entry) apart took on_after
+
+pub with_plain : (w new : Whole) (d : World) (i : ℕ) (entry : What) {outs : List Out} → WorldFor w d → new ≡ with_nodes w (cluster_of new)
+    → Handed (cluster_of w) (cluster_of new) i entry outs → ClusterFor (cluster_of new) (Adds i entry ∷ d.moments)
+    → is_on w.settings i d ≡ true → is_answer entry ≡ false
+    → WorldFor new (happens (Adds i entry) d)
+with_plain w new d i entry is disk made cluster on plain =
+    subst (λ n. WorldFor n (happens (Adds i entry) d)) (sym disk)
+    (with_moment w (cluster_of new) d (Adds i entry) w.took d.took is made.frame.settings cluster is.landings (plain_answers w (cluster_of new) d i entry is made on plain))
+
+-- a feed and a pass change no log
+feeds_kept : (s : Settings) (moments : List Moment) (i j : ℕ)
+    → ((node s j (Feeds i ∷ moments)).log ≡ (node s j moments).log) × ((node s j (Feeds i ∷ moments)).on ≡ (node s j moments).on)
+unfolding node
+feeds_kept s moments i j = feeds_by (i == j)
+  where
+    feeds_by : (b : Bool) → ((if b then record (node s j moments) { fed = time moments } else node s j moments).log ≡ (node s j moments).log)
+        × ((if b then record (node s j moments) { fed = time moments } else node s j moments).on ≡ (node s j moments).on)
+    feeds_by true = (refl, refl)
+    feeds_by false = (refl, refl)
+
+pub with_feed : (w new : Whole) (d : World) (i : ℕ) → WorldFor w d → new ≡ with_nodes w (cluster_of new) → new.settings ≡ w.settings
+    → ClusterFor (cluster_of new) (Feeds i ∷ d.moments) → WorldFor new (happens (Feeds i) d)
+with_feed w new d i is disk same cluster =
+    subst (λ n. WorldFor n (happens (Feeds i) d)) (sym disk)
+    (with_moment w (cluster_of new) d (Feeds i) w.took d.took is same cluster is.landings
+    (λ j entry took on. let kept = feeds_kept w.settings d.moments i j in
+    ap (λ log. answers_op (op_out log) entry) kept.0 ∙ is.answers j entry took (sym kept.1 ∙ on)))
+
+passes_answer : (w : Whole) (d : World) (dt : ℕ) (clocks : List (Rank × ℕ)) → WorldFor w d → Answers w.settings (happens (Passes dt clocks) d) d.took
+unfolding node
+passes_answer w d dt clocks is j entry took on = is.answers j entry took on
+
+pub with_pass : (w new : Whole) (d : World) (dt : ℕ) (clocks : List (Rank × ℕ)) → WorldFor w d → new ≡ with_nodes w (cluster_of new) → new.settings ≡ w.settings
+    → ClusterFor (cluster_of new) (Passes dt clocks ∷ d.moments) → WorldFor new (happens (Passes dt clocks) d)
+with_pass w new d dt clocks is disk same cluster =
+    subst (λ n. WorldFor n (happens (Passes dt clocks) d)) (sym disk)
+    (with_moment w (cluster_of new) d (Passes dt clocks) w.took d.took is same cluster is.landings (passes_answer w d dt clocks is))

@@ -1,6 +1,8 @@
 -- Leftovers of all ranks in one list, oldest first.
-use Rattle.std.specs.Prelude.{ℕ, suc, List, [], ◌∷◌, Option, None, Some, ◌==◌, ◌-◌, not, filter, if◌then◌else◌}
+use Rattle.std.specs.Prelude.{ℕ, suc, List, [], ◌∷◌, Option, None, Some, ◌==◌, ◌-◌, not, filter, map, if◌then◌else◌}
 use Rattle.std.specs.Option.{option_map}
+use Rattle.qn_base.specs.declared.ids.Rank.{Rank}
+use Rattle.qn_model.specs.declared.outputs.DiskOp.{DiskOp}
 use Rattle.qn_world.specs.declared.leftover.Leftover.{Leftover}
 
 -- the place of the leftover of a rank with that number, from 1
@@ -13,3 +15,7 @@ place_in rank number (leftover ∷ others) =
 -- the leftovers of the other ranks
 abbrev pub others_of : ℕ → List Leftover → List Leftover
 others_of rank left = filter (λ leftover. not (leftover.of.0 == rank)) left
+
+-- the writes of a rank as leftovers
+abbrev pub leftovers : Rank → List DiskOp → List Leftover
+leftovers rank ops = map (λ op. record { of = rank; op = op }) ops

@@ -1,10 +1,7 @@
 pub mod Leftovers
 pub mod Memory
-pub mod Outputs
 pub mod Pending
-pub mod Seats
 pub mod Seen
 pub mod Standing
 pub mod Stepping
-pub mod Tests
 pub mod Whole

@@ -1,6 +1,8 @@
 -- What a call that steps the world promises.
 use Rattle.std.specs.Prelude.{◌≡◌, ◌<◌, ◌≤◌, ◌+◌, ℕ, Bool, true, false, List, Option, Some, None, All, length}
 use Rattle.qn_base.specs.declared.ids.Rank.{Rank}
+use Rattle.qn_cluster.specs.Standing.{HasRoom}
+use Rattle.qn_cluster.specs.Stepping.{Handed, Unhanded}
 use Rattle.qn_base.specs.declared.limits.TheConstants.{LATEST_TIME}
 use Rattle.qn_model.specs.declared.entries.What.{What}
 use Rattle.qn_model.specs.declared.entries.What.TheVariants as what
@@ -9,16 +11,13 @@ use Rattle.qn_model.specs.declared.events.Event.TheVariants as event
 use Rattle.qn_model.specs.declared.outputs.Out.{Out}
 use Rattle.qn_model.specs.declared.reports.Refused.{Refused}
 use Rattle.qn_model.specs.declared.reports.Refused.TheVariants as refused
-use Rattle.qn_model.specs.NodeOutputs.{newest_outs}
-use Rattle.qn_model.specs.Moments.{Adds}
-use Rattle.qn_model.specs.World.{World, node_at}
+use Rattle.qn_model.specs.World.{World}
 use Rattle.qn_model.specs.Rules.{is_well_formed, refusal}
-use Rattle.qn_model.specs.Steps.{happens, outs_after, step}
+use Rattle.qn_model.specs.Steps.{outs_after, step}
 use Rattle.qn_node.specs.Outputs.{IsNodeOutput}
-use Rattle.qn_world.specs.Memory.{needs_memory, sends_between}
-use Rattle.qn_world.specs.Seats.{IsDue, IsFree}
-use Rattle.qn_world.specs.Standing.{HasRoom, IsStanding, WorldFor}
-use Rattle.qn_world.specs.Whole.{Whole}
+use Rattle.qn_world.specs.Memory.{needs_memory}
+use Rattle.qn_world.specs.Standing.{IsStanding, WorldFor}
+use Rattle.qn_world.specs.Whole.{Whole, cluster_of, with_nodes}
 
 -- settings, timing and the counts of steps and of nodes stay
 pub record SameFrame (old new : Whole) : Type 0 where
@@ -31,7 +30,7 @@ pub record SameFrame (old new : Whole) : Type 0 where
 pub record IsReady (w : Whole) (event : Event) : Type 0 where
   pub formed : is_well_formed w.settings event ≡ true
   pub standing : IsStanding w
-  pub room : HasRoom w
+  pub room : HasRoom (cluster_of w)
   pub few : w.steps < 18446744073709551615
   pub early : w.time ≤ LATEST_TIME
   pub allowed : refusal w.settings w.timing event standing.0 ≡ None
@@ -71,20 +70,15 @@ pub record Refuses (old new : Whole) (event : Event) (answer : Refused) : Type 0
   pub why : (d : World) → WorldFor old d → RefusedBy (refusal old.settings old.timing event d) answer
   pub memory : answer ≡ refused.NoMemory → (d : World) → WorldFor old d → needs_memory old.settings old.timing event d ≡ true
 
--- a running node was handed an entry that is due, and gave these outputs
-pub record Handed (old new : Whole) (rank : ℕ) (entry : What) (outs : List Out) : Type 0 where
-  pub frame : SameFrame old new
-  pub stands : (d : World) → WorldFor old d → (node_at old.settings rank d).on ≡ true → IsDue (node_at old.settings rank d) entry → IsFree (d.took rank) entry
-      → WorldFor new (happens (Adds rank entry) d)
-  pub gives : (d : World) → WorldFor old d → (node_at old.settings rank d).on ≡ true
-      → outs ≡ newest_outs (node_at old.settings rank (happens (Adds rank entry) d)).log
-  pub ranks : (d : World) → WorldFor old d → (node_at old.settings rank d).on ≡ true → All (IsNodeOutput old.settings) outs
+-- a running node was handed an entry, and the disk is as it was
+pub record Hands (old new : Whole) (rank : ℕ) (entry : What) (outs : List Out) : Type 0 where
+  pub disk : new ≡ with_nodes old (cluster_of new)
+  pub hands : Handed (cluster_of old) (cluster_of new) rank entry outs
 
 -- there was no memory for what a node sends
-pub record Unhanded (old new : Whole) (rank : ℕ) (entry : What) : Type 0 where
+pub record HandsNot (old new : Whole) (rank : ℕ) (entry : What) : Type 0 where
   pub same : new ≡ old
-  pub cause : (d : World) → WorldFor old d → (node_at old.settings rank d).on ≡ true
-      → sends_between old.settings d (happens (Adds rank entry) d) ≡ true
+  pub hands : Unhanded (cluster_of old) (cluster_of new) rank entry
 
 -- the event that boots a rank, as a clean start or not
 abbrev pub boot_event : Rank → ℕ → Bool → Event
@@ -92,21 +86,21 @@ boot_event rank base false = event.Boot rank base
 boot_event rank base true = event.BootClean rank base
 
 -- an event that hands a rank this entry, whatever came before it
-abbrev pub Hands : Event → Rank → What → Type 0
-Hands (event.View rank view) i entry = (rank ≡ i) × (entry ≡ what.View view)
-Hands (event.Device rank agrees) i entry = (rank ≡ i) × (entry ≡ what.Device agrees)
-Hands (event.Tick rank) i entry = (rank ≡ i) × (entry ≡ what.Tick)
-Hands (event.Stopped rank) i entry = (rank ≡ i) × (entry ≡ what.Stopped true)
-Hands (event.Unstopped rank) i entry = (rank ≡ i) × (entry ≡ what.Stopped false)
-Hands (event.Leave rank) i entry = (rank ≡ i) × (entry ≡ what.Leave)
-Hands (event.Pass dt clocks) i entry = ⊥
-Hands (event.Boot rank base) i entry = ⊥
-Hands (event.BootClean rank base) i entry = ⊥
-Hands (event.Crash rank) i entry = ⊥
-Hands (event.Land rank) i entry = ⊥
-Hands (event.Done rank) i entry = ⊥
-Hands (event.Fail rank) i entry = ⊥
-Hands (event.Late rank number) i entry = ⊥
-Hands (event.Deliver rank number) i entry = ⊥
-Hands (event.Feed rank) i entry = ⊥
-Hands (event.Operator rank message) i entry = ⊥
+abbrev pub HandsEntry : Event → Rank → What → Type 0
+HandsEntry (event.View rank view) i entry = (rank ≡ i) × (entry ≡ what.View view)
+HandsEntry (event.Device rank agrees) i entry = (rank ≡ i) × (entry ≡ what.Device agrees)
+HandsEntry (event.Tick rank) i entry = (rank ≡ i) × (entry ≡ what.Tick)
+HandsEntry (event.Stopped rank) i entry = (rank ≡ i) × (entry ≡ what.Stopped true)
+HandsEntry (event.Unstopped rank) i entry = (rank ≡ i) × (entry ≡ what.Stopped false)
+HandsEntry (event.Leave rank) i entry = (rank ≡ i) × (entry ≡ what.Leave)
+HandsEntry (event.Pass dt clocks) i entry = ⊥
+HandsEntry (event.Boot rank base) i entry = ⊥
+HandsEntry (event.BootClean rank base) i entry = ⊥
+HandsEntry (event.Crash rank) i entry = ⊥
+HandsEntry (event.Land rank) i entry = ⊥
+HandsEntry (event.Done rank) i entry = ⊥
+HandsEntry (event.Fail rank) i entry = ⊥
+HandsEntry (event.Late rank number) i entry = ⊥
+HandsEntry (event.Deliver rank number) i entry = ⊥
+HandsEntry (event.Feed rank) i entry = ⊥
+HandsEntry (event.Operator rank message) i entry = ⊥

@@ -1,11 +1,13 @@
 -- What a world keeps.
-use Rattle.std.specs.Prelude.{ℕ, List}
+use Rattle.std.specs.Prelude.{ℕ, List, Option}
+use Rattle.qn_cluster.specs.Nodes.{Nodes}
+use Rattle.qn_cluster.specs.declared.seat.Seat.{Seat}
 use Rattle.qn_model.specs.declared.configuration.Settings.{Settings}
 use Rattle.qn_model.specs.declared.times.Timing.{Timing}
 use Rattle.qn_model.specs.declared.disk.Message.{Message}
 use Rattle.qn_model.specs.declared.disk.Slot.{Slot}
+use Rattle.qn_model.specs.declared.entries.What.{What}
 use Rattle.qn_model.specs.declared.packets.Sent.{Sent}
-use Rattle.qn_world.specs.declared.seat.Seat.{Seat}
 use Rattle.qn_world.specs.declared.leftover.Leftover.{Leftover}
 
 pub record Whole : Type 0 where
@@ -13,8 +15,19 @@ pub record Whole : Type 0 where
   pub timing : Timing
   pub time : ℕ
   pub seats : List Seat
+  pub took : List (Option What)
   pub slots : List Slot
   pub mailboxes : List Message
   pub packets : List Sent
   pub left : List Leftover
   pub steps : ℕ
+
+-- the nodes of a world
+abbrev pub cluster_of : Whole → Nodes
+cluster_of w =
+    record { settings = w.settings; time = w.time; seats = w.seats; packets = w.packets; steps = w.steps }
+
+-- a world with other nodes
+abbrev pub with_nodes : Whole → Nodes → Whole
+with_nodes w c =
+    record w { settings = c.settings; time = c.time; seats = c.seats; packets = c.packets; steps = c.steps }

@@ -1,9 +1,10 @@
 //! Writes that were given up before they landed.
-ghost use Rattle.std.specs.Prelude.{◌≡◌, ◌≤◌};
+ghost use Rattle.std.specs.Prelude.{◌≡◌, ◌≤◌, option_to_list};
+ghost use Rattle.qn_model.specs.World.{given_up};
 ghost use Rattle.qn_world.specs.Leftovers.{others_of, place_in};
 
 use qn_base::Rank;
-use qn_model::DiskOp;
+use qn_model::{DiskOp, What};
 
 /// A write that was given up before it landed, and whose it was.
 #[derive(Clone, Copy, PartialEq, Eq, Debug)]
@@ -40,5 +41,15 @@ pub(crate) fn drop_left(left: &mut Vec<Leftover>, i: Rank)
         } else {
             place += 1;
         }
+    }
+}
+
+/// What an operation leaves over where it is given up now: a write that did not land.
+pub(crate) fn given_up(op: Option<DiskOp>, took: Option<What>) -> Option<DiskOp>
+    ensures { option_to_list result ≡ given_up op took }
+{
+    match (op, took) {
+        (Some(op), None) if op.is_write() => Some(op),
+        _ => None,
     }
 }

@@ -1,18 +1,13 @@
 //! What a world shows of its nodes, and the reports that it gives.
-ghost use Rattle.std.specs.Prelude.{◌≡◌, ◌<◌, ◌≤◌, ℕ, Some, false, length, slice_get};
-ghost use Rattle.qn_model.specs.declared.configuration.Settings.{Settings};
-ghost use Rattle.qn_model.specs.Steps.{answer_off, holders, touched};
-ghost use Rattle.qn_model.specs.World.{World, node_at};
-ghost use Rattle.qn_world.specs.declared.seat.Seat.{Seat};
-ghost use Rattle.qn_world.specs.Seats.{SeatFor};
-ghost use Rattle.qn_world.specs.Seen.{blank_report, seen_of};
+ghost use Rattle.std.specs.Prelude.{◌≡◌, length};
+ghost use Rattle.qn_world.specs.Seen.{blank_report};
 ghost use Rattle.qn_world.specs.Standing.{left_of};
 
 use crate::leftover::Leftover;
-use crate::seat::Seat;
 use crate::state::State;
 use qn_base::{Mask, Rank};
-use qn_model::{Answer, Event, Outs, Phase, Report, Settings, Why};
+use qn_cluster::Waiting;
+use qn_model::{Answer, Event, Outs, Phase, Report, Sent, Why};
 use qn_safety::law_no_two_holders;
 
 /// What a world shows of one node. Of a node that is off, running, out, landed, stop_due and holds are
@@ -41,127 +36,103 @@ pub struct NodeSeen {
     pub holds: bool,
 }
 
-impl Seat {
-    ghost use Rattle.std.specs.Prelude.{◌≡◌, ◌<◌, ◌&&◌, ℕ, Option, is_some, length, true};
-    ghost use Rattle.qn_model.specs.declared.configuration.Settings.{Settings};
-    ghost use Rattle.qn_model.specs.declared.entries.What.{What};
-    ghost use Rattle.qn_model.specs.Holding.{holds};
-    ghost use Rattle.qn_model.specs.Moments.{Running};
-    ghost use Rattle.qn_model.specs.Steps.{answer_now, why_now};
+impl State {
+    ghost use Rattle.std.specs.Prelude.{◌≡◌, ◌<◌, ℕ, List, IfSome, IsTrue, length, slice_get, true};
+    ghost use Rattle.std.specs.Option.{option_map};
+    ghost use Rattle.qn_base.specs.Members.{is_member};
+    ghost use Rattle.qn_cluster.specs.Seen.{phase_now, waiting_of};
+    ghost use Rattle.qn_model.specs.Moments.{is_holder, packets};
+    ghost use Rattle.qn_model.specs.Rules.{is_well_formed};
+    ghost use Rattle.qn_model.specs.Steps.{answer_now, holders, outs_after, report, why_now};
     ghost use Rattle.qn_model.specs.World.{World, node_at};
-    ghost use Rattle.qn_world.specs.Seats.{SeatFor};
-    ghost use Rattle.qn_world.specs.Seen.{phase_now, seen_of};
+    ghost use Rattle.qn_world.specs.Seen.{seen_of};
+    ghost use Rattle.qn_world.specs.Standing.{IsReached, IsStanding, WorldFor};
 
-    /// Whether the node is running and holds the resource.
-    pub(crate) fn holds(&self) -> bool
-        ensures { (s : Settings) (me : ℕ) (node : Running) (took : Option What)
-            → SeatFor self.now s me node took
-            → result ≡ (node.on && holds node.log) }
+    /// The nodes that hold the resource.
+    pub(crate) fn holders(&self) -> Mask
+        requires { IsStanding self.now }
+        ensures exact { (d : World) → WorldFor self.now d → result ≡ holders self.now.settings d }
+        ensures one { IsReached self.now → (i j : ℕ) → IsTrue (is_member result i) → IsTrue (is_member result j) → i ≡ j }
     {
-        self.on && self.node.holds()
+        law_no_two_holders();
+        self.cluster.holders()
     }
 
-    /// The count of votes at the node's present tick; that of the empty history where it is off.
-    pub(crate) fn answer(&self, settings: &Settings) -> Answer
-        ensures { (me : ℕ) (node : Running) (took : Option What)
-            → SeatFor self.now settings.now me node took
-            → result ≡ answer_now settings.now node }
+    /// What the node of a rank waits for.
+    pub(crate) fn waiting(&self, i: Rank) -> Waiting
+        requires { i.0 < length self.now.seats }
+        ensures { (d : World) → WorldFor self.now d → result ≡ waiting_of (node_at self.now.settings i.0 d) }
     {
-        if self.on {
-            self.node.answer(self.tick())
-        } else {
-            answer_off(settings)
-        }
+        self.cluster.waiting(i)
     }
 
-    /// The first condition that blocks a start at the node's present tick, where the count of votes is known; Down where
-    /// the node is off.
-    pub(crate) fn why(&self, count: Answer) -> Why
-        ensures { (s : Settings) (me : ℕ) (node : Running) (took : Option What)
-            → SeatFor self.now s me node took
-            → count ≡ answer_now s node
-            → result ≡ why_now s me node }
+    /// What is shown of the node of a rank.
+    pub(crate) fn seen(&self, i: Rank) -> NodeSeen
+        requires within { i.0 < length self.now.seats }
+        requires few { i.0 < 32 }
+        ensures { (d : World) → WorldFor self.now d → result ≡ seen_of self.now.settings i.0 d }
     {
-        if self.on {
-            self.node.why_with(self.tick(), count)
-        } else {
-            Why::Down
-        }
-    }
-
-    /// What the seat shows of its node, of which so many writes are left over.
-    fn seen(&self, settings: &Settings, leftovers: u64) -> NodeSeen
-        ensures { (me : ℕ) (d : World)
-            → SeatFor self.now settings.now me (node_at settings.now me d) (d.took me)
-            → leftovers ≡ length (d.left me)
-            → result ≡ seen_of settings.now me d }
-    {
-        let pending = self.pending();
-        let count = self.answer(settings);
+        let pending = self.pending(i);
+        let count = self.answer(i);
         NodeSeen {
             running: pending.running,
-            phase: self.phase(),
+            phase: self.phase(i),
             fed: pending.fed,
             decided: pending.decided,
             out: pending.out,
             landed: pending.landed,
             stop_due: pending.stop_due,
-            leftovers,
+            leftovers: leftovers_of(self.left.as_slice(), i),
             answer: count,
-            why: self.why(count),
-            holds: self.holds(),
+            why: self.why(i, count),
+            holds: self.holds(i),
         }
     }
 
-    /// The phase of the node; Gone where it is off.
-    fn phase(&self) -> Phase
-        ensures { (s : Settings) (me : ℕ) (node : Running) (took : Option What)
-            → SeatFor self.now s me node took
-            → result ≡ phase_now s node }
-    {
-        if self.on {
-            self.node.phase()
-        } else {
-            Phase::Gone
-        }
-    }
-}
-
-impl State {
-    ghost use Rattle.std.specs.Prelude.{◌≡◌, ◌<◌, ◌≤◌, ℕ, IfSome, IsTrue, length, slice_get, true};
-    ghost use Rattle.std.specs.Option.{option_map};
-    ghost use Rattle.qn_base.specs.Members.{is_member};
-    ghost use Rattle.qn_model.specs.Moments.{packets};
-    ghost use Rattle.qn_model.specs.Rules.{is_well_formed};
-    ghost use Rattle.qn_model.specs.Steps.{holders, outs_after, report};
-    ghost use Rattle.qn_model.specs.World.{World};
-    ghost use Rattle.qn_world.specs.Seen.{IsConfigured, answer_shown, seen_of, why_shown};
-    ghost use Rattle.qn_world.specs.Standing.{IsReached, IsStanding, WorldFor};
-
-    /// The nodes that hold the resource.
-    pub(crate) fn holders(&self) -> Mask
-        requires { length self.now.seats ≤ 32 }
-        ensures exact { (d : World) → WorldFor self.now d → result ≡ holders self.now.settings d }
-        ensures one { IsReached self.now → (i j : ℕ) → IsTrue (is_member result i) → IsTrue (is_member result j) → i ≡ j }
-    {
-        law_no_two_holders();
-        holders_of(self.seats.as_slice())
-    }
-
-    /// What is shown of the node of a rank.
-    pub(crate) fn seen(&self, i: Rank) -> NodeSeen
+    fn answer(&self, i: Rank) -> Answer
         requires { i.0 < length self.now.seats }
-        ensures { (d : World) → WorldFor self.now d → result ≡ seen_of self.now.settings i.0 d }
+        ensures { (d : World) → WorldFor self.now d → result ≡ answer_now self.now.settings (node_at self.now.settings i.0 d) }
     {
-        let leftovers = leftovers_of(self.left.as_slice(), i);
-        self.seat(i).seen(&self.settings, leftovers)
+        self.cluster.answer(i)
+    }
+
+    fn why(&self, i: Rank, count: Answer) -> Why
+        requires { i.0 < length self.now.seats }
+        ensures { (d : World)
+            → WorldFor self.now d
+            → count ≡ answer_now self.now.settings (node_at self.now.settings i.0 d)
+            → result ≡ why_now self.now.settings i.0 (node_at self.now.settings i.0 d) }
+    {
+        self.cluster.why(i, count)
+    }
+
+    fn phase(&self, i: Rank) -> Phase
+        requires { i.0 < length self.now.seats }
+        ensures { (d : World) → WorldFor self.now d → result ≡ phase_now self.now.settings (node_at self.now.settings i.0 d) }
+    {
+        self.cluster.phase(i)
+    }
+
+    fn holds(&self, i: Rank) -> bool
+        requires { i.0 < length self.now.seats }
+        ensures { (d : World) → WorldFor self.now d → result ≡ is_holder self.now.settings d.moments i.0 }
+    {
+        self.cluster.holds(i)
     }
 
     /// How many packets were ever sent.
     pub(crate) fn packets(&self) -> u64
         ensures { (d : World) → WorldFor self.now d → result ≡ length (packets self.now.settings d.moments) }
     {
-        self.packets.len() as u64
+        self.cluster.packets()
+    }
+
+    /// The packet of that number, from 0.
+    pub(crate) fn packet(&self, number: u64) -> Option<Sent>
+        ensures exact { (d : World) → WorldFor self.now d → result ≡ slice_get (packets self.now.settings d.moments) number }
+        ensures configured { (d : World) → WorldFor self.now d → IfSome result (λ sent. sent.to.0 < length self.now.settings.nodes) }
+    {
+        self.cluster.packet(number)
     }
 
     /// To whom the packet of that number, from 0, was sent.
@@ -188,42 +159,7 @@ impl State {
             → into.old.outs ≡ outs_after self.now.settings event.now d
             → into.new ≡ report self.now.settings event.now d }
     {
-        let touched = touched(event);
-        into.time = self.time;
-        into.touched = touched;
-        into.holders = self.holders();
-        into.answer = self.answer_of(touched);
-        into.why = self.why_of(touched, into.answer);
-    }
-
-    /// The count of votes of a node at its present tick; that of a node that is off where there is none.
-    fn answer_of(&self, node: Option<Rank>) -> Answer
-        requires standing { IsStanding self.now }
-        requires configured { IsConfigured self.now.settings node }
-        ensures { (d : World)
-            → WorldFor self.now d
-            → result ≡ answer_shown self.now.settings node d }
-    {
-        match node {
-            Some(i) => self.seat(i).answer(&self.settings),
-            None => answer_off(&self.settings),
-        }
-    }
-
-    /// The first condition that blocks a start at a node's present tick, where its count of votes is known; Down where there
-    /// is none.
-    fn why_of(&self, node: Option<Rank>, count: Answer) -> Why
-        requires standing { IsStanding self.now }
-        requires configured { IsConfigured self.now.settings node }
-        ensures { (d : World)
-            → WorldFor self.now d
-            → count ≡ answer_shown self.now.settings node d
-            → result ≡ why_shown self.now.settings node d }
-    {
-        match node {
-            Some(i) => self.seat(i).why(count),
-            None => Why::Down,
-        }
+        self.cluster.fill(event, into);
     }
 }
 
@@ -247,44 +183,6 @@ pub fn blank_report() -> Report
     }
 }
 
-/// The node of an event; none at a pass.
-pub(crate) fn touched(event: &Event) -> Option<Rank>
-    ensures { result ≡ touched event.now }
-{
-    match event {
-        Event::Pass { .. } => None,
-        Event::Boot(rank, _)
-        | Event::BootClean(rank, _)
-        | Event::Crash(rank)
-        | Event::Land(rank)
-        | Event::Done(rank)
-        | Event::Fail(rank)
-        | Event::Late(rank, _)
-        | Event::View(rank, _)
-        | Event::Deliver(rank, _)
-        | Event::Device(rank, _)
-        | Event::Tick(rank)
-        | Event::Stopped(rank)
-        | Event::Unstopped(rank)
-        | Event::Leave(rank)
-        | Event::Feed(rank)
-        | Event::Operator(rank, _) => Some(*rank),
-    }
-}
-
-/// The count of votes of the empty history.
-fn answer_off(settings: &Settings) -> Answer
-    ensures { result ≡ answer_off settings.now }
-{
-    Answer {
-        quorate: false,
-        votes: 0,
-        quorum: settings.quorum(settings.expected),
-        expected: settings.expected,
-        released: !settings.wait_for_all,
-    }
-}
-
 /// How many of the leftovers are those of a rank.
 fn leftovers_of(left: &[Leftover], i: Rank) -> u64
     ensures { result ≡ length (left_of i.0 left.now) }
@@ -296,22 +194,4 @@ fn leftovers_of(left: &[Leftover], i: Rank) -> u64
         }
     }
     count
-}
-
-/// Which of these seats, by rank, hold the resource.
-fn holders_of(seats: &[Seat]) -> Mask
-    requires { length seats.now ≤ 32 }
-    ensures { (d : World) (s : Settings)
-        → ((rank : ℕ) (seat : Seat) → slice_get seats.now rank ≡ Some seat → SeatFor seat s rank (node_at s rank d) (d.took rank))
-        → length seats.now ≡ length s.nodes
-        → result ≡ holders s d }
-{
-    let mut holders = 0u32;
-    for rank in 0..seats.len() {
-        let seat = &seats[rank];
-        if seat.holds() {
-            holders |= 1 << rank;
-        }
-    }
-    Mask(holders)
 }

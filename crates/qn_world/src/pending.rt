@@ -1,8 +1,9 @@
 //! What is pending at a node of the world: what is known of it without a count of votes.
+ghost use Rattle.std.specs.Prelude.{◌≡◌, ◌&&◌, is_some};
 
-use crate::seat::Seat;
 use crate::state::State;
 use qn_base::Rank;
+use qn_model::{DiskOp, What};
 
 /// What is pending at one node. Of a node that is off, running, out, landed and stop_due are false, fed is 0 and
 /// decided is None.
@@ -21,48 +22,6 @@ pub struct Pending {
     pub stop_due: bool,
 }
 
-impl Seat {
-    ghost use Rattle.std.specs.Prelude.{◌≡◌, ◌&&◌, ℕ, is_some};
-    ghost use Rattle.qn_model.specs.declared.configuration.Settings.{Settings};
-    ghost use Rattle.qn_model.specs.World.{World, node_at};
-    ghost use Rattle.qn_world.specs.Pending.{pending_of};
-    ghost use Rattle.qn_world.specs.Seats.{SeatFor};
-
-    /// What is pending at the node.
-    pub(crate) fn pending(&self) -> Pending
-        ensures { (s : Settings) (me : ℕ) (d : World)
-            → SeatFor self.now s me (node_at s me d) (d.took me)
-            → result ≡ pending_of s me d }
-    {
-        if self.on {
-            Pending {
-                running: true,
-                fed: self.fed,
-                decided: self.decided,
-                out: self.op.is_some(),
-                landed: self.has_landed(),
-                stop_due: self.stop_due,
-            }
-        } else {
-            Pending {
-                running: false,
-                fed: 0,
-                decided: None,
-                out: false,
-                landed: false,
-                stop_due: false,
-            }
-        }
-    }
-
-    /// Whether an operation is out and has landed.
-    fn has_landed(&self) -> bool
-        ensures { result ≡ (is_some self.now.op && is_some self.now.took) }
-    {
-        self.op.is_some() && self.took.is_some()
-    }
-}
-
 impl State {
     ghost use Rattle.std.specs.Prelude.{◌≡◌, ◌<◌, length};
     ghost use Rattle.qn_model.specs.World.{World};
@@ -71,9 +30,26 @@ impl State {
 
     /// What is pending at the node of a rank.
     pub(crate) fn pending(&self, i: Rank) -> Pending
-        requires { i.0 < length self.now.seats }
+        requires within { i.0 < length self.now.seats }
+        requires few { i.0 < 32 }
         ensures { (d : World) → WorldFor self.now d → result ≡ pending_of self.now.settings i.0 d }
     {
-        self.seat(i).pending()
+        let waiting = self.waiting(i);
+        let took = self.took(i);
+        Pending {
+            running: waiting.running,
+            fed: waiting.fed,
+            decided: waiting.decided,
+            out: waiting.op.is_some(),
+            landed: has_landed(waiting.op, took),
+            stop_due: waiting.stop_due,
+        }
     }
+}
+
+/// Whether an operation is out and has landed.
+pub(crate) fn has_landed(op: Option<DiskOp>, took: Option<What>) -> bool
+    ensures { result ≡ (is_some op && is_some took) }
+{
+    op.is_some() && took.is_some()
 }

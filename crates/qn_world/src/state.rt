@@ -1,27 +1,21 @@
 //! What a world keeps, and the small changes of it.
-use crate::clocks::advance_all;
-use crate::leftover::{Leftover, drop_left, place_of};
-use crate::outputs::{MOST_OUTPUTS, sends};
-use crate::seat::{Seat, hand_with_room};
+use crate::leftover::{Leftover, drop_left, given_up, place_of};
 use qn_base::{NoMemory, Rank};
+use qn_cluster::Cluster;
 use qn_model::{
-    Clocks, DiskOp, HeaderSeen, MailSeen, Message, Outs, Sent, Settings, Slot, SlotSeen, Timing,
-    What,
+    Clocks, DiskOp, HeaderSeen, MailSeen, Message, Outs, Settings, Slot, SlotSeen, Timing, What,
 };
 use std::marker::Model;
 
-/// What a world keeps: all that the nodes share, and the seat of each node by rank.
+/// What a world keeps: its nodes, what the operation of each took, and the image that they share.
 #[derive(Drop)]
 pub(crate) struct State {
-    pub(crate) settings: Settings,
+    pub(crate) cluster: Cluster,
     pub(crate) timing: Timing,
-    pub(crate) time: u64,
-    pub(crate) seats: Vec<Seat>,
+    pub(crate) took: [Option<What>; 32],
     pub(crate) slots: [Slot; 32],
     pub(crate) mailboxes: [Message; 32],
-    pub(crate) packets: Vec<Sent>,
     pub(crate) left: Vec<Leftover>,
-    pub(crate) steps: u64,
 }
 
 impl Model for State {
@@ -30,44 +24,66 @@ impl Model for State {
     ghost Value = { Whole };
 
     ghost view = { λ w. record {
-      settings = w.settings;
+      settings = w.cluster.settings;
       timing = w.timing;
-      time = w.time;
-      seats = w.seats.items;
+      time = w.cluster.time;
+      seats = w.cluster.seats;
+      took = w.took;
       slots = w.slots;
       mailboxes = w.mailboxes;
-      packets = w.packets.items;
+      packets = w.cluster.packets;
       left = w.left.items;
-      steps = w.steps;
+      steps = w.cluster.steps;
     } };
 }
 
 impl State {
-    ghost use Rattle.std.specs.Prelude.{◌≡◌, ◌≢◌, ◌<◌, ◌+◌, ◌-◌, ◌^◌, ◌≤◌, ◌++◌, ◌∷◌, [], ℕ, true, false, not, None, Some, Option, OnOk, OnErr, length, remove, slice_get, slice_set, take};
-    ghost use Rattle.std.specs.Option.{option_map};
+    ghost use Rattle.std.specs.Prelude.{◌≡◌, ◌≢◌, ◌<◌, ◌+◌, ◌-◌, ◌≤◌, ◌++◌, ◌∷◌, [], true, Some, Option, OnOk, OnErr, length, remove, slice_get, slice_set, take};
+    ghost use Rattle.qn_base.specs.declared.limits.TheConstants.{LATEST_TIME};
+    ghost use Rattle.qn_cluster.specs.Standing.{HasRoom, IsOpWithin, IsWithin};
+    ghost use Rattle.qn_cluster.specs.Stepping.{Booted, Ended, Fed, IsPassable, Passed};
     ghost use Rattle.qn_model.specs.declared.configuration.Settings.{Settings};
     ghost use Rattle.qn_model.specs.declared.disk.Message.{Message};
     ghost use Rattle.qn_model.specs.declared.disk.Slot.{Slot};
     ghost use Rattle.qn_model.specs.declared.entries.What.{What};
-    ghost use Rattle.qn_model.specs.Moments.{Running, advance_of, packets_of};
-    ghost use Rattle.qn_model.specs.Phases.{is_live, phase};
-    ghost use Rattle.qn_model.specs.World.{World, given_up, taken};
+    ghost use Rattle.qn_model.specs.Rules.{is_on};
     ghost use Rattle.qn_model.specs.Steps.{written};
-    ghost use Rattle.qn_node.specs.Node.{phase_of};
-    ghost use Rattle.qn_world.specs.declared.seat.Seat.{Seat};
-    ghost use Rattle.qn_world.specs.Leftovers.{others_of, place_in};
-    ghost use Rattle.qn_world.specs.Outputs.{leftovers};
-    ghost use Rattle.qn_world.specs.Seats.{BootedSeat, HandedSeat, SeatFor, advanced_seat};
-    ghost use Rattle.qn_world.specs.Standing.{HasRoom, IsWithin, WorldFor};
-    ghost use Rattle.qn_world.specs.Stepping.{Handed, SameFrame, Unhanded};
+    ghost use Rattle.qn_model.specs.World.{World, given_up, op_at, taken};
+    ghost use Rattle.qn_world.specs.Leftovers.{leftovers, others_of, place_in};
+    ghost use Rattle.qn_world.specs.Standing.{IsStanding, WorldFor};
+    ghost use Rattle.qn_world.specs.Stepping.{Hands, HandsNot, SameFrame};
+    ghost use Rattle.qn_world.specs.Whole.{cluster_of, with_nodes};
+
+    /// The settings of the world.
+    pub(crate) fn settings(&self) -> &Settings
+        ensures { result.now ≡ self.now.settings }
+    {
+        self.cluster.settings()
+    }
+
+    /// The true time, in milliseconds.
+    pub(crate) fn time(&self) -> u64
+        ensures { result ≡ self.now.time }
+    {
+        self.cluster.time()
+    }
+
+    /// How many steps are left.
+    pub(crate) fn steps_left(&self) -> u64
+        ensures { result ≡ self.now.steps }
+    {
+        self.cluster.steps_left()
+    }
 
     /// One step is taken from those that are left.
     pub(crate) fn spend(&mut self)
         requires { 0 < self.old.steps }
         ensures spent { self.new ≡ record self.old { steps = self.old.steps - 1 } }
         ensures few { self.new.steps < 18446744073709551615 }
+        ensures stands { (d : World) → WorldFor self.old d → WorldFor self.new d }
+        ensures room { IsStanding self.old → HasRoom (cluster_of self.new) }
     {
-        self.steps -= 1;
+        self.cluster.spend();
     }
 
     /// One step is given back.
@@ -75,55 +91,83 @@ impl State {
         requires { self.old.steps < 18446744073709551615 }
         ensures { self.new ≡ record self.old { steps = self.old.steps + 1 } }
     {
-        self.steps += 1;
+        self.cluster.give_back();
     }
 
-    /// The seat of a rank.
-    pub(crate) fn seat(&self, i: Rank) -> &Seat
+    /// The disk operation of a running node that is out.
+    pub(crate) fn op(&self, i: Rank) -> Option<DiskOp>
         requires { i.0 < length self.now.seats }
-        ensures { slice_get self.now.seats i.0 ≡ Some result.now }
+        ensures exact { (d : World) → WorldFor self.now d → is_on self.now.settings i.0 d ≡ true → result ≡ op_at self.now.settings i.0 d }
+        ensures within { (d : World) → WorldFor self.now d → IsOpWithin (length self.now.settings.nodes) result }
     {
-        &self.seats[usize::from(i.0)]
+        self.cluster.op(i)
     }
 
-    /// Another seat in place of that of a rank.
-    pub(crate) fn reseat(&mut self, i: Rank, seat: Seat)
-        requires { i.0 < length self.old.seats }
-        ensures { self.new ≡ record self.old { seats = slice_set self.old.seats i.0 seat } }
+    /// The running node of a rank is handed an entry.
+    pub(crate) fn hand(&mut self, i: Rank, what: What, outs: &mut Outs) -> Result<(), NoMemory>
+        requires within { i.0 < length self.old.seats }
+        requires room { HasRoom (cluster_of self.old) }
+        ensures ok { OnOk result (Hands self.old self.new i.0 what outs.new) }
+        ensures err { OnErr result (HandsNot self.old self.new i.0 what) }
     {
-        self.seats[usize::from(i.0)] = seat;
+        self.cluster.hand(i, what, outs)
     }
 
-    /// The node is off.
-    pub(crate) fn switch_off(&mut self, i: Rank)
-        requires { i.0 < length self.old.seats }
-        ensures { (seat : Seat) → slice_get self.old.seats i.0 ≡ Some seat
-            → self.new ≡ record self.old { seats = slice_set self.old.seats i.0 (record seat { on = false; took = None }) } }
+    /// The node of a rank boots, as a clean start or not.
+    pub(crate) fn boot_node(&mut self, i: Rank, base: u64, clean: bool, outs: &mut Outs)
+        requires within { i.0 < length self.old.seats }
+        requires configured { i.0 < length self.old.settings.nodes }
+        requires few { self.old.steps < 18446744073709551615 }
+        requires early { base ≤ 1000000000000000 }
+        ensures disk { self.new ≡ with_nodes self.old (cluster_of self.new) }
+        ensures boots { Booted (cluster_of self.old) (cluster_of self.new) i.0 base clean outs.new }
     {
-        let seat = &mut self.seats[usize::from(i.0)];
-        seat.on = false;
-        seat.took = None;
+        self.cluster.boot(i, base, clean, outs);
+    }
+
+    /// The node of a rank is off at once.
+    pub(crate) fn end_node(&mut self, i: Rank)
+        requires { i.0 < length self.old.seats }
+        ensures disk { self.new ≡ with_nodes self.old (cluster_of self.new) }
+        ensures ends { Ended (cluster_of self.old) (cluster_of self.new) i.0 }
+    {
+        self.cluster.end(i);
+    }
+
+    /// The last feed that the node of a rank decided takes effect.
+    pub(crate) fn feed_node(&mut self, i: Rank)
+        requires { i.0 < length self.old.seats }
+        ensures disk { self.new ≡ with_nodes self.old (cluster_of self.new) }
+        ensures feeds { Fed (cluster_of self.old) (cluster_of self.new) i.0 }
+    {
+        self.cluster.feed(i);
+    }
+
+    /// Time passes, in milliseconds, and the clocks of the running nodes advance.
+    pub(crate) fn pass_time(&mut self, dt: u64, clocks: &Clocks)
+        requires short { dt ≤ 1000000000 }
+        requires early { self.old.time ≤ LATEST_TIME }
+        requires allowed { IsPassable (cluster_of self.old) dt clocks.now }
+        ensures disk { self.new ≡ with_nodes self.old (cluster_of self.new) }
+        ensures passes { Passed (cluster_of self.old) (cluster_of self.new) dt clocks.now }
+    {
+        self.cluster.pass(dt, clocks);
+    }
+
+    /// What the operation of a rank took.
+    pub(crate) fn took(&self, i: Rank) -> Option<What>
+        requires { i.0 < 32 }
+        ensures { (took : Option What) → slice_get self.now.took i.0 ≡ Some took → result ≡ took }
+    {
+        self.took[usize::from(i.0)]
     }
 
     /// What the operation of a rank took is this.
     pub(crate) fn take(&mut self, i: Rank, took: Option<What>)
-        requires { i.0 < length self.old.seats }
-        ensures { (seat : Seat) → slice_get self.old.seats i.0 ≡ Some seat
-            → self.new ≡ record self.old { seats = slice_set self.old.seats i.0 (record seat { took = took }) } }
+        requires { i.0 < 32 }
+        ensures { self.new ≡ record self.old { took = slice_set self.old.took i.0 took } }
     {
-        let seat = &mut self.seats[usize::from(i.0)];
-        seat.took = took;
-    }
-
-    /// The last feed of a rank that was decided takes effect.
-    pub(crate) fn take_feed(&mut self, i: Rank)
-        requires { i.0 < length self.old.seats }
-        ensures { (seat : Seat) → slice_get self.old.seats i.0 ≡ Some seat
-            → self.new ≡ record self.old { seats = slice_set self.old.seats i.0 (record seat { fed = self.old.time }) } }
-    {
-        let time = self.time;
-        let seat = &mut self.seats[usize::from(i.0)];
-        seat.fed = time;
+        self.took[usize::from(i.0)] = took;
     }
 
     /// A write is left over.
@@ -137,25 +181,21 @@ impl State {
         }
     }
 
-    /// The present operation of a rank is given up: a write that did not land is left over.
-    pub(crate) fn give_up(&mut self, i: Rank) -> Result<(), NoMemory>
-        requires { i.0 < length self.old.seats }
-        ensures ok { OnOk result ((seat : Seat) → slice_get self.old.seats i.0 ≡ Some seat
-            → self.new ≡ record self.old { left = self.old.left ++ leftovers i (given_up seat.op seat.took) }) }
+    /// An operation of a rank, which took this, is given up: a write that did not land is left over.
+    pub(crate) fn give_up(
+        &mut self,
+        i: Rank,
+        op: Option<DiskOp>,
+        took: Option<What>,
+    ) -> Result<(), NoMemory>
+        ensures ok { OnOk result (self.new ≡ record self.old { left = self.old.left ++ leftovers i (given_up op took) }) }
         ensures err { OnErr result (self.new ≡ self.old) }
-        ensures cause { OnErr result ((seat : Seat) → slice_get self.old.seats i.0 ≡ Some seat → given_up seat.op seat.took ≢ []) }
+        ensures cause { OnErr result (given_up op took ≢ []) }
     {
-        match self.seat(i).leftover() {
+        match given_up(op, took) {
             Some(op) => self.leave_over(i, op),
             None => Ok(()),
         }
-    }
-
-    /// The packet of that number, from 0.
-    pub(crate) fn packet(&self, number: u64) -> Option<Sent>
-        ensures { result ≡ slice_get self.now.packets number }
-    {
-        self.packets.get(number as usize).copied()
     }
 
     /// The place of the leftover of a rank with that number, from 1.
@@ -201,7 +241,7 @@ impl State {
         ensures { result ≡ HeaderSeen.Read (length self.now.settings.nodes) self.now.timing }
     {
         HeaderSeen::Read {
-            nodes: self.settings.nodes.len() as u32,
+            nodes: self.settings().nodes.len() as u32,
             timing: self.timing,
         }
     }
@@ -232,114 +272,6 @@ impl State {
         ensures { self.new ≡ record self.old { mailboxes = slice_set self.old.mailboxes i.0 message } }
     {
         self.mailboxes[usize::from(i.0)] = message;
-    }
-
-    /// The running node of a rank is handed an entry.
-    pub(crate) fn hand(&mut self, i: Rank, what: What, outs: &mut Outs) -> Result<(), NoMemory>
-        requires within { i.0 < length self.old.seats }
-        requires room { HasRoom self.old }
-        ensures ok { OnOk result (Handed self.old self.new i.0 what outs.new) }
-        ensures err { OnErr result (Unhanded self.old self.new i.0 what) }
-    {
-        if self.seat(i).is_live() {
-            self.hand_live(i, what, outs)
-        } else {
-            self.hand_quiet(i, what, outs);
-            Ok(())
-        }
-    }
-
-    /// The same, where the node takes part in the cluster: it may send.
-    fn hand_live(&mut self, i: Rank, what: What, outs: &mut Outs) -> Result<(), NoMemory>
-        requires within { i.0 < length self.old.seats }
-        requires room { HasRoom self.old }
-        requires live { (seat : Seat) → slice_get self.old.seats i.0 ≡ Some seat → is_live (phase_of seat.node) ≡ true }
-        ensures ok { OnOk result (Handed self.old self.new i.0 what outs.new) }
-        ensures err { OnErr result (Unhanded self.old self.new i.0 what) }
-    {
-        if self.packets.reserve(MOST_OUTPUTS).is_err() {
-            return self.hand_copy(i, what, outs);
-        }
-        let time = self.time;
-        let seat = &mut self.seats[usize::from(i.0)];
-        hand_with_room(seat, &mut self.packets, time, what, outs);
-        Ok(())
-    }
-
-    /// The same, where there was no memory for the packets of an entry: a copy of the node is handed the entry,
-    /// and stands in its place where it sent nothing.
-    fn hand_copy(&mut self, i: Rank, what: What, outs: &mut Outs) -> Result<(), NoMemory>
-        requires within { i.0 < length self.old.seats }
-        requires room { HasRoom self.old }
-        requires live { (seat : Seat) → slice_get self.old.seats i.0 ≡ Some seat → is_live (phase_of seat.node) ≡ true }
-        ensures ok { OnOk result (Handed self.old self.new i.0 what outs.new) }
-        ensures err { OnErr result (Unhanded self.old self.new i.0 what) }
-    {
-        let mut seat = self.seat(i).copy();
-        seat.hand(self.time, what, outs);
-        if sends(outs.as_slice()) {
-            return Err(NoMemory);
-        }
-        self.reseat(i, seat);
-        Ok(())
-    }
-
-    /// The same, where it does not: it sends nothing.
-    fn hand_quiet(&mut self, i: Rank, what: What, outs: &mut Outs)
-        requires within { i.0 < length self.old.seats }
-        requires room { HasRoom self.old }
-        requires quiet { (seat : Seat) (s : Settings) (me : ℕ) (node : Running) (took : Option What)
-            → slice_get self.old.seats i.0 ≡ Some seat
-            → SeatFor seat s me node took
-            → node.on ≡ true
-            → is_live (phase s node.log) ≡ false }
-        ensures { Handed self.old self.new i.0 what outs.new }
-    {
-        self.hand_seat(i, what, outs);
-    }
-
-    /// The seat of a running node is handed an entry.
-    fn hand_seat(&mut self, i: Rank, what: What, outs: &mut Outs)
-        requires within { i.0 < length self.old.seats }
-        requires room { HasRoom self.old }
-        ensures { (old : Seat) → slice_get self.old.seats i.0 ≡ Some old
-            → (new : Seat) × (self.new ≡ record self.old { seats = slice_set self.old.seats i.0 new }) × HandedSeat old new self.old.time what outs.new }
-    {
-        let time = self.time;
-        let seat = &mut self.seats[usize::from(i.0)];
-        seat.hand(time, what, outs);
-    }
-
-    /// The seat of a node that is off boots, as a clean start or not.
-    pub(crate) fn boot_seat(&mut self, i: Rank, base: u64, clean: bool, outs: &mut Outs)
-        requires within { i.0 < length self.old.seats }
-        requires configured { i.0 < length self.old.settings.nodes }
-        ensures { (new : Seat) × (self.new ≡ record self.old { seats = slice_set self.old.seats i.0 new }) × BootedSeat new self.old.settings i.0 self.old.time base clean outs.new }
-    {
-        let time = self.time;
-        let seat = &mut self.seats[usize::from(i.0)];
-        seat.boot(&self.settings, i, time, base, clean, outs);
-    }
-
-    /// Each running node's clock advances.
-    pub(crate) fn advance(&mut self, dt: u64, clocks: &Clocks)
-        requires short { dt ≤ 1000000000 }
-        requires few { length self.old.seats ≤ 32 }
-        requires fits { (rank : ℕ) (seat : Seat) → slice_get self.old.seats rank ≡ Some seat → seat.on ≡ true
-            → seat.clock + advance_of dt clocks.now rank < 2 ^ 64 }
-        ensures rest { self.new ≡ record self.old { seats = self.new.seats } }
-        ensures count { length self.new.seats ≡ length self.old.seats }
-        ensures seats { (rank : ℕ) → slice_get self.new.seats rank ≡ option_map (advanced_seat (advance_of dt clocks.now rank)) (slice_get self.old.seats rank) }
-    {
-        advance_all(self.seats.as_mut_slice(), dt, clocks);
-    }
-
-    /// So many milliseconds pass.
-    pub(crate) fn add_time(&mut self, dt: u64)
-        requires { self.old.time + dt < 2 ^ 64 }
-        ensures { self.new ≡ record self.old { time = self.old.time + dt } }
-    {
-        self.time += dt;
     }
 
     /// The entry that answers an operation of a rank that lands: a read takes the value of its sector.

@@ -1,13 +1,12 @@
 //! The step of each event.
 ghost use Rattle.std.specs.Prelude.{◌≡◌};
 ghost use Rattle.qn_model.specs.World.{failed};
-ghost use Rattle.qn_model.specs.Steps.{entry_of};
 
-use crate::clocks::advance_all;
 use crate::state::State;
 use qn_base::{NoMemory, Rank};
+use qn_cluster::entry_of;
 use qn_model::{
-    Clocks, DiskOp, Event, HeaderSeen, MailSeen, Message, Outs, Packet, Refused, SlotSeen, What,
+    Clocks, DiskOp, Event, HeaderSeen, MailSeen, Message, Outs, Refused, SlotSeen, What,
 };
 
 /// The entry of an operation that failed.
@@ -27,22 +26,10 @@ fn failed(op: DiskOp) -> What
     }
 }
 
-/// The entry that a packet is to its receiver.
-fn entry_of(packet: Packet) -> What
-    ensures { result ≡ entry_of packet }
-{
-    match packet {
-        Packet::Ask(ask) => What::Ask(ask),
-        Packet::Tell(tell) => What::Tell(tell),
-        Packet::Hello { .. } | Packet::Announce { .. } => What::Tick,
-        Packet::Vote { yes } => What::Device(yes),
-    }
-}
-
 impl State {
     ghost use Rattle.std.specs.Prelude.{◌≡◌, ◌≤◌, ◌<◌, [], true, IfErr, OnOk, OnErr, length};
     ghost use Rattle.qn_base.specs.declared.limits.TheConstants.{LATEST_TIME};
-    ghost use Rattle.qn_world.specs.Stepping.{Applied, Hands, IsReady, OutOfMemory, Refuses, Stepped, boot_event};
+    ghost use Rattle.qn_world.specs.Stepping.{Applied, HandsEntry, IsReady, OutOfMemory, Refuses, Stepped, boot_event};
     ghost use Rattle.qn_model.specs.Rules.{is_well_formed};
     ghost use Rattle.qn_world.specs.Standing.{IsStanding};
 
@@ -121,8 +108,7 @@ impl State {
         requires { IsReady self.old (Event.Pass dt clocks.now) }
         ensures { Stepped self.old self.new (Event.Pass dt clocks.now) [] }
     {
-        self.advance(dt, clocks);
-        self.add_time(dt);
+        self.pass_time(dt, clocks);
     }
 
     /// A node boots, as a clean start or not; its leftovers are dropped.
@@ -131,7 +117,8 @@ impl State {
         ensures { Stepped self.old self.new (boot_event i base clean) outs.new }
     {
         self.drop_left(i);
-        self.boot_seat(i, base, clean, outs);
+        self.take(i, None);
+        self.boot_node(i, base, clean, outs);
     }
 
     /// A node is off at once.
@@ -140,8 +127,11 @@ impl State {
         ensures ok { OnOk result (Stepped self.old self.new (Event.Crash i) []) }
         ensures err { OnErr result (OutOfMemory self.old self.new (Event.Crash i)) }
     {
-        self.give_up(i)?;
-        self.switch_off(i);
+        let op = self.op(i);
+        let took = self.took(i);
+        self.give_up(i, op, took)?;
+        self.take(i, None);
+        self.end_node(i);
         Ok(())
     }
 
@@ -150,7 +140,7 @@ impl State {
         requires { IsReady self.old (Event.Land i) }
         ensures { Stepped self.old self.new (Event.Land i) [] }
     {
-        if let Some(op) = self.seat(i).op {
+        if let Some(op) = self.op(i) {
             let entry = self.taken(i, op);
             self.write(i, op);
             self.take(i, Some(entry));
@@ -163,12 +153,9 @@ impl State {
         ensures ok { OnOk result (Stepped self.old self.new (Event.Done i) outs.new) }
         ensures err { OnErr result (OutOfMemory self.old self.new (Event.Done i)) }
     {
-        if let Some(entry) = self.seat(i).took {
+        if let Some(entry) = self.took(i) {
+            self.hand(i, entry, outs)?;
             self.take(i, None);
-            if let Err(error) = self.hand(i, entry, outs) {
-                self.take(i, Some(entry));
-                return Err(error);
-            }
         }
         Ok(())
     }
@@ -179,16 +166,15 @@ impl State {
         ensures ok { OnOk result (Stepped self.old self.new (Event.Fail i) outs.new) }
         ensures err { OnErr result (OutOfMemory self.old self.new (Event.Fail i)) }
     {
-        if let Some(op) = self.seat(i).op {
-            let took = self.seat(i).took;
+        if let Some(op) = self.op(i) {
+            let took = self.took(i);
             let before = self.left_count();
-            self.give_up(i)?;
-            self.take(i, None);
+            self.give_up(i, Some(op), took)?;
             if let Err(error) = self.hand(i, failed(op), outs) {
-                self.take(i, took);
                 self.keep_left(before);
                 return Err(error);
             }
+            self.take(i, None);
         }
         Ok(())
     }
@@ -213,7 +199,7 @@ impl State {
         outs: &mut Outs,
     ) -> Result<(), NoMemory>
         requires ready { IsReady self.old event.now }
-        requires entry { Hands event.now i what }
+        requires entry { HandsEntry event.now i what }
         ensures ok { OnOk result (Stepped self.old self.new event.now outs.new) }
         ensures err { OnErr result (OutOfMemory self.old self.new event.now) }
     {
@@ -237,7 +223,7 @@ impl State {
         requires { IsReady self.old (Event.Feed i) }
         ensures { Stepped self.old self.new (Event.Feed i) [] }
     {
-        self.take_feed(i);
+        self.feed_node(i);
     }
 
     /// An operator writes a message to the mailbox of a node.

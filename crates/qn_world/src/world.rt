@@ -146,21 +146,21 @@ impl World {
         ensures same { result.now ≡ self.now.settings }
         ensures valid { IsValid self.now.settings }
     {
-        &self.state.settings
+        self.state.settings()
     }
 
     /// The true time, in milliseconds.
     pub fn time(&self) -> u64
         ensures { result ≡ self.now.time }
     {
-        self.state.time
+        self.state.time()
     }
 
     /// How many events can still be applied.
     pub fn steps_left(&self) -> u64
         ensures { result ≡ self.now.steps }
     {
-        self.state.steps
+        self.state.steps_left()
     }
 
     /// How many packets were ever sent.

@@ -10,7 +10,7 @@ use Rattle.qn_replay.proofs.soaking.tally_of.Goals as goal
 pub events-init : goal.events-init
 unfolding soaked time
 events-init c =
-    let early = c.in_ok-world.ensures.first.times in
+    let early = c.in_ok-world.ensures.first.cluster.times in
     let most = ap (λ t. t.most_holders) c.new-tally.ensures in
     record {
       stands = c.in_ok-world.ensures.first;
@@ -34,8 +34,8 @@ events-preserved c =
     let stood = c.in-Ok.ensures.stands d before.stands in
     let said = c.in-Ok.ensures.report d before.stands in
     let formed : is_well_formed c.events.world.settings event ≡ true = ap (λ s. is_well_formed s event) before.settings ∙ c.next_into.ensures.formed in
-    let then = before.stands.times in
-    let now = stood.times in
+    let then = before.stands.cluster.times in
+    let now = stood.cluster.times in
     let later = time-step c.events.world.settings c.events.world.timing event d formed in
     let early = before.early in
     let left = before.steps in

@@ -6,7 +6,7 @@ pub returns-in-Step-clause-drawn : goal.returns-in-Step-clause-drawn
 returns-in-Step-clause-drawn c =
     λ d stands.
     step_drawn d c.args.choice c.args.rank c.args.self.now _ c.pending.result c.time.result c.in-Step.is c.requires.settings (c.pending.ensures d stands)
-    (c.time.ensures ∙ stands.times) c.next_step.ensures.drawn
+    (c.time.ensures ∙ stands.cluster.times) c.next_step.ensures.drawn
 
 pub returns-in-Pass-clause-drawn : goal.returns-in-Pass-clause-drawn
 returns-in-Pass-clause-drawn c =

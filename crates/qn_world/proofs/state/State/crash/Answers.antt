@@ -1,30 +1,46 @@
-use Rattle.std.proofs.Common.{◌∙◌, ◌<◌, ap, subst, sym, refl, length}
-use Rattle.std.specs.Prelude.{slice_get}
-use Rattle.std.proofs.lemmas.Result.{err_from_is_err_and}
+use Rattle.std.proofs.Common.{◌≡◌, ◌<◌, ◌∙◌, ap, length, refl, subst, sym, Some, true}
+use Rattle.std.specs.Prelude.{Option}
+use Rattle.qn_model.specs.declared.entries.What.{What}
 use Rattle.qn_model.specs.declared.events.Event.TheVariants as event
-use Rattle.qn_world.proofs.EventSteps.{crash_starved, crash_stepped}
-use Rattle.qn_world.proofs.Lists.{item_there}
-use Rattle.qn_world.proofs.RuleSteps.{rank_within}
+use Rattle.std.proofs.lemmas.Result.{err_from_is_err_and}
+use Rattle.qn_world.proofs.EventSteps.{IsOut, crash_starved, crash_stepped, took_same}
+use Rattle.qn_world.proofs.RuleSteps.{rank_few, rank_within}
 use Rattle.qn_world.proofs.state.State.crash.Goals as goal
 
-pub give_up-requires : goal.give_up-requires
-give_up-requires c = rank_within c.args.self.now (event.Crash c.args.i) c.args.i c.requires.standing c.requires.formed refl
+pub op-op-requires : goal.op-op-requires
+op-op-requires c = rank_within c.args.self.now (event.Crash c.args.i) c.args.i c.requires.standing c.requires.formed refl
 
-pub switch_off-requires : goal.switch_off-requires
-switch_off-requires c =
-    let there = item_there c.args.self.now.seats c.args.i.0 (rank_within c.args.self.now (event.Crash c.args.i) c.args.i c.requires.standing c.requires.formed refl) in
-    subst (λ w. c.args.i.0 < length w.seats) (sym (c.in_ok-give_up.ensures.ok there.0 there.1)) (rank_within c.args.self.now (event.Crash c.args.i) c.args.i c.requires.standing c.requires.formed refl)
+pub took-took-requires : goal.took-took-requires
+took-took-requires c = rank_few c.args.self.now (event.Crash c.args.i) c.args.i c.requires.standing c.requires.formed refl
+
+pub take-requires : goal.take-requires
+take-requires c = rank_few c.args.self.now (event.Crash c.args.i) c.args.i c.requires.standing c.requires.formed refl
+
+pub end_node-requires : goal.end_node-requires
+end_node-requires c =
+    subst (λ w. c.args.i.0 < length w.seats) (sym c.take.ensures)
+    (subst (λ w. c.args.i.0 < length w.seats) (sym c.in_ok-give_up.ensures.ok)
+    (rank_within c.args.self.now (event.Crash c.args.i) c.args.i c.requires.standing c.requires.formed refl))
 
 pub returns-in_err-give_up-clause-err : goal.returns-in_err-give_up-clause-err
 returns-in_err-give_up-clause-err c =
-    let there = item_there c.args.self.now.seats c.args.i.0 (rank_within c.args.self.now (event.Crash c.args.i) c.args.i c.requires.standing c.requires.formed refl) in
     let p = err_from_is_err_and c.from_residual.result c.from_residual.ensures.1 in
+    let out : IsOut c.args.self.now c.args.i.0 c.op-op.result c.took-took.result = record {
+      below = rank_few c.args.self.now (event.Crash c.args.i) c.args.i c.requires.standing c.requires.formed refl;
+      op_is = c.op-op.ensures.exact;
+      within = c.op-op.ensures.within;
+      took_is = took_same c.args.self.now c.args.i.0 c.took-took.result (rank_few c.args.self.now (event.Crash c.args.i) c.args.i c.requires.standing c.requires.formed refl) c.took-took.ensures;
+    } in
     rw p.1
-    (crash_starved c.args.self.now c.give_up.new.self c.args.i there.0 there.1 c.in_err-give_up.ensures.err (c.in_err-give_up.ensures.cause there.0 there.1))
+    (crash_starved c.args.self.now c.give_up.new.self c.args.i c.op-op.result c.took-took.result out c.in_err-give_up.ensures.err c.in_err-give_up.ensures.cause)
 
 pub returns-clause-ok : goal.returns-clause-ok
 returns-clause-ok c =
-    let there = item_there c.args.self.now.seats c.args.i.0 (rank_within c.args.self.now (event.Crash c.args.i) c.args.i c.requires.standing c.requires.formed refl) in
-    let mid = c.in_ok-give_up.ensures.ok there.0 there.1 in
-    crash_stepped c.args.self.now c.give_up.new.self c.switch_off.new.self c.args.i there.0 there.1 mid
-    (c.switch_off.ensures there.0 (ap (λ w. slice_get w.seats c.args.i.0) mid ∙ there.1))
+    let out : IsOut c.args.self.now c.args.i.0 c.op-op.result c.took-took.result = record {
+      below = rank_few c.args.self.now (event.Crash c.args.i) c.args.i c.requires.standing c.requires.formed refl;
+      op_is = c.op-op.ensures.exact;
+      within = c.op-op.ensures.within;
+      took_is = took_same c.args.self.now c.args.i.0 c.took-took.result (rank_few c.args.self.now (event.Crash c.args.i) c.args.i c.requires.standing c.requires.formed refl) c.took-took.ensures;
+    } in
+    crash_stepped c.args.self.now c.give_up.new.self c.take.new.self c.end_node.new.self c.args.i c.op-op.result c.took-took.result out c.in_ok-give_up.ensures.ok
+    c.take.ensures c.end_node.ensures.disk c.end_node.ensures.ends

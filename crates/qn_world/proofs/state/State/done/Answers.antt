@@ -1,37 +1,35 @@
-use Rattle.std.proofs.Common.{◌<◌, subst, sym, refl, length}
+use Rattle.std.proofs.Common.{◌≡◌, ◌<◌, ◌∙◌, ap, length, refl, subst, sym, Some, true}
+use Rattle.std.specs.Prelude.{Option}
+use Rattle.qn_model.specs.declared.entries.What.{What}
 use Rattle.qn_model.specs.declared.events.Event.TheVariants as event
-use Rattle.qn_world.proofs.AnswerSteps.{done_starved, done_stepped, not_done, room_kept, still_within}
-use Rattle.qn_world.proofs.RuleSteps.{rank_within}
+use Rattle.std.proofs.lemmas.Result.{err_from_is_err_and}
+use Rattle.qn_world.proofs.AnswerSteps.{done_starved, done_stepped, not_done}
+use Rattle.qn_world.proofs.EventSteps.{took_same}
+use Rattle.qn_world.proofs.RuleSteps.{rank_few, rank_within}
 use Rattle.qn_world.proofs.state.State.done.Goals as goal
 
-pub seat-requires : goal.seat-requires
-seat-requires c = rank_within c.args.self.now (event.Done c.args.i) c.args.i c.requires.standing c.requires.formed refl
-
-pub take-requires : goal.take-requires
-take-requires c = rank_within c.args.self.now (event.Done c.args.i) c.args.i c.requires.standing c.requires.formed refl
+pub took-requires : goal.took-requires
+took-requires c = rank_few c.args.self.now (event.Done c.args.i) c.args.i c.requires.standing c.requires.formed refl
 
 pub hand-requires : goal.hand-requires
-hand-requires c =
-    let made = c.take.ensures c.seat.result.now c.seat.ensures in
-    record {
-      within = still_within c.args.self.now c.take.new.self c.args.i.0 _ (rank_within c.args.self.now (event.Done c.args.i) c.args.i c.requires.standing c.requires.formed refl) made;
-      room = room_kept c.args.self.now c.take.new.self c.args.i.0 c.seat.result.now _ c.requires.room c.seat.ensures refl made;
-    }
+hand-requires c = record { within = rank_within c.args.self.now (event.Done c.args.i) c.args.i c.requires.standing c.requires.formed refl; room = c.requires.room }
 
-pub take-requires-in-Err : goal.take-requires-in-Err
-take-requires-in-Err c =
-    subst (λ w. c.args.i.0 < length w.seats) (sym c.in-Err.ensures.err.same)
-    (still_within c.args.self.now c.take.new.self c.args.i.0 _ (rank_within c.args.self.now (event.Done c.args.i) c.args.i c.requires.standing c.requires.formed refl) (c.take.ensures c.seat.result.now c.seat.ensures))
+pub take-requires : goal.take-requires
+take-requires c = rank_few c.args.self.now (event.Done c.args.i) c.args.i c.requires.standing c.requires.formed refl
 
-pub returns-in-Err-clause-err : goal.returns-in-Err-clause-err
-returns-in-Err-clause-err c =
-    done_starved c.args.self.now c.take.new.self c.hand.new.self c.take-in-Err.new.self c.args.i c.seat.result.now c.in-Some.entry c.seat.ensures c.in-Some.is
-    (c.take.ensures c.seat.result.now c.seat.ensures) c.in-Err.ensures.err c.take-in-Err.ensures
+pub returns-in_err-hand-clause-err : goal.returns-in_err-hand-clause-err
+returns-in_err-hand-clause-err c =
+    let p = err_from_is_err_and c.from_residual.result c.from_residual.ensures.1 in
+    rw p.1
+    (done_starved c.args.self.now c.hand.new.self c.args.i c.in-Some.entry
+    (λ d is. sym c.in-Some.is ∙ took_same c.args.self.now c.args.i.0 c.took.result (rank_few c.args.self.now (event.Done c.args.i) c.args.i c.requires.standing c.requires.formed refl) c.took.ensures d is) c.in_err-hand.ensures.err)
 
-pub returns-in_default-hand-clause-ok : goal.returns-in_default-hand-clause-ok
-returns-in_default-hand-clause-ok c =
-    done_stepped c.args.self.now c.take.new.self c.hand.new.self c.args.i c.seat.result.now c.in-Some.entry c.hand.new.outs c.seat.ensures c.in-Some.is
-    (c.take.ensures c.seat.result.now c.seat.ensures) c.in_default-hand.ensures.ok
+pub returns-in_ok-hand-clause-ok : goal.returns-in_ok-hand-clause-ok
+returns-in_ok-hand-clause-ok c =
+    done_stepped c.args.self.now c.hand.new.self c.take.new.self c.args.i c.in-Some.entry c.hand.new.outs (rank_few c.args.self.now (event.Done c.args.i) c.args.i c.requires.standing c.requires.formed refl)
+    (λ d is. sym c.in-Some.is ∙ took_same c.args.self.now c.args.i.0 c.took.result (rank_few c.args.self.now (event.Done c.args.i) c.args.i c.requires.standing c.requires.formed refl) c.took.ensures d is) c.in_ok-hand.ensures.ok c.take.ensures
 
 pub returns-in_default-clause-ok : goal.returns-in_default-clause-ok
-returns-in_default-clause-ok c = not_done c.args.self.now c.args.i c.seat.result.now c.args.outs.now c.seat.ensures (λ entry e. c.in_default.not-Some entry e)
+returns-in_default-clause-ok c =
+    not_done c.args.self.now c.args.i c.took.result c.args.outs.now (took_same c.args.self.now c.args.i.0 c.took.result (rank_few c.args.self.now (event.Done c.args.i) c.args.i c.requires.standing c.requires.formed refl) c.took.ensures)
+    (λ entry e. c.in_default.not-Some entry e)

@@ -1,16 +1,19 @@
-use Rattle.std.proofs.Common.{ap, ◌∙◌}
-use Rattle.qn_world.proofs.Looks.{touched_configured, report-parts}
+use Rattle.std.proofs.Common.{◌≡◌, ap, subst, sym, true}
+use Rattle.qn_cluster.specs.Standing.{ClusterFor, IsStanding}
+use Rattle.qn_model.specs.Rules.{is_well_formed}
+use Rattle.qn_model.specs.Steps.{outs_after, report}
+use Rattle.qn_model.specs.World.{World}
+use Rattle.qn_world.specs.Whole.{cluster_of}
 use Rattle.qn_world.proofs.state.State.fill.Goals as goal
 
-pub answer_of-into-requires-clause-configured : goal.answer_of-into-requires-clause-configured
-answer_of-into-requires-clause-configured c =
-    touched_configured c.args.self.now.settings c.args.event.now c.touched-touched.result c.requires.formed c.touched-touched.ensures
-
-pub why_of-into-requires-clause-configured : goal.why_of-into-requires-clause-configured
-why_of-into-requires-clause-configured c =
-    touched_configured c.args.self.now.settings c.args.event.now c.touched-touched.result c.requires.formed c.touched-touched.ensures
+pub fill-requires : goal.fill-requires
+fill-requires c =
+    record {
+      formed = subst (λ n. is_well_formed n.settings c.args.event.now ≡ true) (sym (ap cluster_of c.self.view_is)) c.requires.formed;
+      standing = subst IsStanding (sym (ap cluster_of c.self.view_is)) (c.requires.standing.0.moments, c.requires.standing.1.cluster);
+    }
 
 pub returns : goal.returns
 returns c = λ d is gives.
-    report-parts c.args.self.now.settings c.args.event.now d c.self.inside.time c.touched-touched.result c.args.into.now.outs c.holders-into.result c.answer_of-into.result c.why_of-into.result
-    (ap (λ w. w.time) c.self.view_is ∙ is.times) c.touched-touched.ensures gives (c.holders-into.ensures.exact d is) (c.answer_of-into.ensures d is) (c.why_of-into.ensures d is (c.answer_of-into.ensures d is))
+    subst (λ n. (d : World) → ClusterFor n d.moments → c.args.into.now.outs ≡ outs_after n.settings c.args.event.now d → c.fill.new.into ≡ report n.settings c.args.event.now d)
+    (ap cluster_of c.self.view_is) c.fill.ensures d is.cluster gives

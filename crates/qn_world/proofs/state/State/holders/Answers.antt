@@ -1,15 +1,19 @@
-use Rattle.std.proofs.Common.{◌≡◌, ap, ◌∙◌, length, sym, subst}
-use Rattle.std.specs.Prelude.{slice_get, IsTrue}
+use Rattle.std.proofs.Common.{◌≡◌, ◌≤◌, ap, length, subst, sym}
+use Rattle.std.specs.Prelude.{IsTrue}
 use Rattle.qn_base.specs.Members.{is_member}
-use Rattle.qn_model.specs.Steps.{run}
+use Rattle.qn_cluster.specs.Standing.{ClusterFor}
+use Rattle.qn_model.specs.Steps.{holders, run}
+use Rattle.qn_model.specs.World.{World}
+use Rattle.qn_world.specs.Whole.{cluster_of}
+use Rattle.qn_world.proofs.RuleSteps.{few_seats}
 use Rattle.qn_world.proofs.state.State.holders.Goals as goal
+
+pub holders-requires : goal.holders-requires
+holders-requires c = subst (λ n. length n.seats ≤ 32) (sym (ap cluster_of c.self.view_is)) (few_seats c.args.self.now c.requires)
 
 pub returns-clause-exact : goal.returns-clause-exact
 returns-clause-exact c = λ d is.
-    let same : c.as_slice.result.now ≡ c.args.self.now.seats = c.as_slice.ensures.value ∙ ap (λ w. w.seats) c.self.view_is in
-    c.holders_of.ensures d c.args.self.now.settings
-    (λ rank seat here. is.nodes rank seat (ap (λ seats. slice_get seats rank) (sym same) ∙ here))
-    (ap length same ∙ is.count)
+    subst (λ n. (d : World) → ClusterFor n d.moments → c.holders.result ≡ holders n.settings d) (ap cluster_of c.self.view_is) c.holders.ensures d is.cluster
 
 pub returns-clause-one : goal.returns-clause-one
 returns-clause-one c = λ reached i j first second.

@@ -1,11 +1,15 @@
-use Rattle.std.proofs.Common.{◌∙◌, ap}
-use Rattle.std.specs.Option.{option_or}
-use Rattle.qn_model.specs.Rules.{unless}
-use Rattle.qn_world.proofs.RuleSteps.{done_rule}
+use Rattle.std.proofs.Common.{◌≡◌, ◌∙◌, ap, length, subst, sym}
+use Rattle.qn_cluster.specs.Standing.{ClusterFor}
+use Rattle.qn_model.specs.Rules.{is_on, may_be_done, unless, unless_running}
+use Rattle.qn_world.specs.Whole.{cluster_of}
 use Rattle.qn_world.proofs.state.State.refuses_done.Goals as goal
 
 pub returns : goal.returns
 returns c d is =
-    c.unless_running.ensures c.seat.result.now c.seat.ensures
-    ∙ (ap (λ other. option_or (unless c.seat.result.now.on 3) other) (c.unless.ensures ∙ ap (λ b. unless b 5) c.may_be_done.ensures)
-    ∙ done_rule c.args.self.now d c.args.i.0 c.seat.result.now is c.seat.ensures)
+    let s = c.args.self.now.settings in
+    let i = c.args.i.0 in
+    let same = ap (λ w. w.settings) c.self.view_is in
+    let theirs = unless (may_be_done s i d) 5 in
+    c.unless_running.ensures d theirs (subst (λ n. ClusterFor n d.moments) (sym (ap cluster_of c.self.view_is)) is.cluster)
+    (λ on. let on_here = sym (ap (λ s. is_on s i d) same) ∙ on in c.unless.ensures ∙ ap (λ b. unless b 5) (c.may_be_done.ensures d is on_here))
+    ∙ ap (λ s. unless_running s i d theirs) same

@@ -1,5 +1,5 @@
 use Rattle.std.proofs.Common.{subst}
-use Rattle.qn_world.specs.Standing.{IsWithin}
+use Rattle.qn_cluster.specs.Standing.{IsWithin}
 use Rattle.qn_world.proofs.SectorSteps.{takes_check, takes_claim, takes_clear, takes_close, takes_header, takes_mail, takes_reset, takes_slot}
 use Rattle.qn_world.proofs.state.State.taken.Goals as goal
 

@@ -1,5 +1,5 @@
 use Rattle.std.proofs.Common.{subst}
-use Rattle.qn_world.specs.Standing.{IsWithin}
+use Rattle.qn_cluster.specs.Standing.{IsWithin}
 use Rattle.qn_world.proofs.SectorSteps.{writes_claim, writes_clear, writes_close, writes_reset}
 use Rattle.qn_world.proofs.state.State.write.Goals as goal
 

@@ -1,0 +1,56 @@
+//! Audits the log of a recorded node behind its settings.
+ghost use Rattle.std.specs.Prelude.{◌≡◌, ◌≤◌, ◌<◌, length, IfSome};
+
+use crate::audit_end::AuditEnd;
+use crate::auditor::Auditor;
+use crate::head::read_head;
+use crate::log::audit_log;
+use qn_base::{NodeId, Rank};
+use qn_io::{Pieces, Source};
+use qn_model::{NodeEntry, Nodes};
+use std::alloc::Global;
+
+/// Judges an input of a settings text, a line `----` and a log: whether the log is a whole run of so many turns, or the
+/// beginning of one, of the node with that id. `clean` says that its boot is a clean start, and `leave_at` is the number
+/// of the turn from which on it is to leave. Memory is taken for the settings alone.
+pub fn audit<I: Source>(
+    alloc: Global,
+    input: &mut I,
+    id: NodeId,
+    turns: u64,
+    leave_at: Option<u64>,
+    clean: bool,
+) -> AuditEnd
+    requires some_turn { 1 ≤ turns }
+    ensures never_falls { I.faults input.old ≤ I.faults input.new }
+{
+    let mut pieces = Pieces::new();
+    let head = match read_head(alloc, &mut pieces, input) {
+        Ok(head) => head,
+        Err(end) => return end,
+    };
+    let Some(me) = rank_of(&head.settings.nodes, id) else {
+        return AuditEnd::UnknownNode;
+    };
+    let lines = head.lines;
+    let mut auditor = Auditor::new(head.settings, me, clean, leave_at, turns);
+    audit_log(&mut auditor, lines, &mut pieces, input)
+}
+
+/// The rank of the node with that id.
+fn rank_of(nodes: &Nodes, id: NodeId) -> Option<Rank>
+    ensures within { IfSome result (λ rank. rank.0 < length nodes.now) }
+{
+    let place = place_in(nodes.as_slice(), id)?;
+    if place < nodes.len() {
+        Some(Rank(place as u8))
+    } else {
+        None
+    }
+}
+
+fn place_in(nodes: &[NodeEntry], id: NodeId) -> Option<usize>
+    ensures within { IfSome result (λ place. place < length nodes.now) }
+{
+    nodes.iter().position(|node| node.id.0 == id.0)
+}

@@ -1,0 +1,10 @@
+pub mod ClusterSteps
+pub mod HandSteps
+pub mod Holders
+pub mod Lists
+pub mod Looks
+pub mod OutputSteps
+pub mod PassSteps
+pub mod RuleSteps
+pub mod SeatSteps
+pub mod Silence

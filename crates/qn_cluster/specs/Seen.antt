@@ -1,0 +1,44 @@
+-- What a cluster shows of its nodes.
+use Rattle.std.specs.Prelude.{◌<◌, ℕ, Bool, List, Option, None, Some, length, ◌&&◌, if◌then◌else◌}
+use Rattle.std.specs.Option.{option_map_or}
+use Rattle.qn_base.specs.declared.ids.Rank.{Rank}
+use Rattle.qn_model.specs.declared.configuration.Settings.{Settings}
+use Rattle.qn_model.specs.declared.life.Phase.{Phase}
+use Rattle.qn_model.specs.declared.life.Phase.TheVariants.{Gone}
+use Rattle.qn_model.specs.declared.life.Why.{Why}
+use Rattle.qn_model.specs.declared.life.Why.TheVariants.{Down}
+use Rattle.qn_model.specs.declared.votes.Answer.{Answer}
+use Rattle.qn_model.specs.Holding.{stop_due}
+use Rattle.qn_model.specs.Log.{op_out}
+use Rattle.qn_model.specs.Moments.{Moment, Running, node}
+use Rattle.qn_model.specs.Phases.{phase}
+use Rattle.qn_model.specs.Steps.{answer_now, answer_off, why_now}
+use Rattle.qn_cluster.specs.declared.waiting.Waiting.{Waiting}
+
+-- the phase of a node; one that is off is gone
+abbrev pub phase_now : Settings → Running → Phase
+phase_now s node = if node.on then phase s node.log else Gone
+
+-- what a node waits for
+abbrev pub waiting_of : Running → Waiting
+waiting_of node =
+    record {
+      running = node.on;
+      fed = (if node.on then node.fed else 0);
+      decided = (if node.on then node.decided else None);
+      op = (if node.on then op_out node.log else None);
+      stop_due = node.on && stop_due node.log;
+    }
+
+-- the count of votes of a node at its present tick; that of a node that is off where there is none
+abbrev pub answer_shown : Settings → Option Rank → List Moment → Answer
+answer_shown s who moments = option_map_or (λ rank. answer_now s (node s rank.0 moments)) who (answer_off s)
+
+-- the first condition that blocks a start of a node at its present tick; Down where there is none
+abbrev pub why_shown : Settings → Option Rank → List Moment → Why
+why_shown s who moments = option_map_or (λ rank. why_now s rank.0 (node s rank.0 moments)) who Down
+
+-- a rank, where there is one, is configured
+abbrev pub IsConfigured : Settings → Option Rank → Type 0
+IsConfigured s None = Unit {0}
+IsConfigured s (Some rank) = rank.0 < length s.nodes

@@ -1,0 +1,24 @@
+//! The nodes of a cluster in true time, and the packets that were sent: a cluster without its disk.
+//!
+//! Promises: a `Cluster` stands for the nodes of the definitions after a list of moments (`specs/Standing`).
+//! Each call that changes it is one moment more, or has no memory for what a node sends and changes nothing.
+//! What a node asks of the disk is what it waits for: the worlds above this crate keep the disk, and hand the
+//! node its answer. The calls `refuses_..` are the rules that look at nodes alone.
+#![tactic(auto)]
+
+mod clocks;
+mod cluster;
+mod entries;
+mod first;
+mod hands;
+mod looking;
+mod outputs;
+mod rules;
+mod seat;
+mod waiting;
+
+pub use cluster::Cluster;
+pub use entries::entry_of;
+pub use looking::touched;
+pub use rules::unless;
+pub use waiting::Waiting;

@@ -1,0 +1,256 @@
+//! What a cluster shows of its nodes, and what is reported of an event.
+ghost use Rattle.std.specs.Prelude.{◌≡◌, ◌<◌, ◌≤◌, ℕ, Some, false, length, slice_get};
+ghost use Rattle.qn_model.specs.declared.configuration.Settings.{Settings};
+ghost use Rattle.qn_model.specs.Steps.{answer_off, holders, touched};
+ghost use Rattle.qn_model.specs.World.{World, node_at};
+ghost use Rattle.qn_cluster.specs.declared.seat.Seat.{Seat};
+ghost use Rattle.qn_cluster.specs.Seats.{SeatFor};
+
+use crate::cluster::Cluster;
+use crate::seat::Seat;
+use qn_base::{Mask, Rank};
+use qn_model::{Answer, Event, Phase, Report, Sent, Settings, Why};
+
+impl Seat {
+    ghost use Rattle.std.specs.Prelude.{◌≡◌, ◌&&◌, ℕ};
+    ghost use Rattle.qn_model.specs.declared.configuration.Settings.{Settings};
+    ghost use Rattle.qn_model.specs.Holding.{holds};
+    ghost use Rattle.qn_model.specs.Moments.{Running};
+    ghost use Rattle.qn_model.specs.Steps.{answer_now, why_now};
+    ghost use Rattle.qn_cluster.specs.Seats.{SeatFor};
+    ghost use Rattle.qn_cluster.specs.Seen.{phase_now};
+
+    /// Whether the node is running and holds the resource.
+    fn holds(&self) -> bool
+        ensures { (s : Settings) (me : ℕ) (node : Running)
+            → SeatFor self.now s me node
+            → result ≡ (node.on && holds node.log) }
+    {
+        self.on && self.node.holds()
+    }
+
+    /// The count of votes at the node's present tick; that of the empty history where it is off.
+    fn answer(&self, settings: &Settings) -> Answer
+        ensures { (me : ℕ) (node : Running)
+            → SeatFor self.now settings.now me node
+            → result ≡ answer_now settings.now node }
+    {
+        if self.on {
+            self.node.answer(self.tick())
+        } else {
+            answer_off(settings)
+        }
+    }
+
+    /// The first condition that blocks a start at the node's present tick, where the count of votes is known; Down where
+    /// the node is off.
+    fn why(&self, count: Answer) -> Why
+        ensures { (s : Settings) (me : ℕ) (node : Running)
+            → SeatFor self.now s me node
+            → count ≡ answer_now s node
+            → result ≡ why_now s me node }
+    {
+        if self.on {
+            self.node.why_with(self.tick(), count)
+        } else {
+            Why::Down
+        }
+    }
+
+    /// The phase of the node; Gone where it is off.
+    fn phase(&self) -> Phase
+        ensures { (s : Settings) (me : ℕ) (node : Running)
+            → SeatFor self.now s me node
+            → result ≡ phase_now s node }
+    {
+        if self.on {
+            self.node.phase()
+        } else {
+            Phase::Gone
+        }
+    }
+}
+
+impl Cluster {
+    ghost use Rattle.std.specs.Prelude.{◌≡◌, ◌<◌, ◌≤◌, ℕ, List, IfSome, length, slice_get, true};
+    ghost use Rattle.qn_model.specs.Moments.{Moment, is_holder, node, packets};
+    ghost use Rattle.qn_model.specs.Rules.{is_well_formed};
+    ghost use Rattle.qn_model.specs.Steps.{answer_now, holders, outs_after, report, why_now};
+    ghost use Rattle.qn_model.specs.World.{World};
+    ghost use Rattle.qn_cluster.specs.Seen.{IsConfigured, answer_shown, phase_now, why_shown};
+    ghost use Rattle.qn_cluster.specs.Standing.{ClusterFor, IsStanding};
+
+    /// The nodes that hold the resource.
+    pub fn holders(&self) -> Mask
+        requires { length self.now.seats ≤ 32 }
+        ensures { (d : World) → ClusterFor self.now d.moments → result ≡ holders self.now.settings d }
+    {
+        holders_of(self.seats.as_slice())
+    }
+
+    /// Whether the node of a rank holds the resource.
+    pub fn holds(&self, i: Rank) -> bool
+        requires { i.0 < length self.now.seats }
+        ensures { (moments : List Moment)
+            → ClusterFor self.now moments
+            → result ≡ is_holder self.now.settings moments i.0 }
+    {
+        self.seat(i).holds()
+    }
+
+    /// The phase of the node of a rank; Gone where it is off.
+    pub fn phase(&self, i: Rank) -> Phase
+        requires { i.0 < length self.now.seats }
+        ensures { (moments : List Moment)
+            → ClusterFor self.now moments
+            → result ≡ phase_now self.now.settings (node self.now.settings i.0 moments) }
+    {
+        self.seat(i).phase()
+    }
+
+    /// The count of votes of the node of a rank at its present tick; that of the empty history where it is off.
+    pub fn answer(&self, i: Rank) -> Answer
+        requires { i.0 < length self.now.seats }
+        ensures { (moments : List Moment)
+            → ClusterFor self.now moments
+            → result ≡ answer_now self.now.settings (node self.now.settings i.0 moments) }
+    {
+        self.seat(i).answer(&self.settings)
+    }
+
+    /// The first condition that blocks a start of the node of a rank at its present tick, where its count of votes is known;
+    /// Down where it is off.
+    pub fn why(&self, i: Rank, count: Answer) -> Why
+        requires { i.0 < length self.now.seats }
+        ensures { (moments : List Moment)
+            → ClusterFor self.now moments
+            → count ≡ answer_now self.now.settings (node self.now.settings i.0 moments)
+            → result ≡ why_now self.now.settings i.0 (node self.now.settings i.0 moments) }
+    {
+        self.seat(i).why(count)
+    }
+
+    /// How many packets were ever sent.
+    pub fn packets(&self) -> u64
+        ensures { (moments : List Moment)
+            → ClusterFor self.now moments
+            → result ≡ length (packets self.now.settings moments) }
+    {
+        self.packets.len() as u64
+    }
+
+    /// The packet of that number, from 0.
+    pub fn packet(&self, number: u64) -> Option<Sent>
+        ensures exact { (moments : List Moment)
+            → ClusterFor self.now moments
+            → result ≡ slice_get (packets self.now.settings moments) number }
+        ensures configured { (moments : List Moment)
+            → ClusterFor self.now moments
+            → IfSome result (λ sent. sent.to.0 < length self.now.settings.nodes) }
+    {
+        self.packets.get(number as usize).copied()
+    }
+
+    /// Fills in what is reported of an event once its step is made, beside the outputs that it gave.
+    pub fn fill(&self, event: &Event, into: &mut Report)
+        requires formed { is_well_formed self.now.settings event.now ≡ true }
+        requires standing { IsStanding self.now }
+        ensures { (d : World)
+            → ClusterFor self.now d.moments
+            → into.old.outs ≡ outs_after self.now.settings event.now d
+            → into.new ≡ report self.now.settings event.now d }
+    {
+        let touched = touched(event);
+        into.time = self.time;
+        into.touched = touched;
+        into.holders = self.holders();
+        into.answer = self.answer_of(touched);
+        into.why = self.why_of(touched, into.answer);
+    }
+
+    /// The count of votes of a node at its present tick; that of a node that is off where there is none.
+    fn answer_of(&self, node: Option<Rank>) -> Answer
+        requires standing { IsStanding self.now }
+        requires configured { IsConfigured self.now.settings node }
+        ensures { (d : World)
+            → ClusterFor self.now d.moments
+            → result ≡ answer_shown self.now.settings node d.moments }
+    {
+        match node {
+            Some(i) => self.answer(i),
+            None => answer_off(&self.settings),
+        }
+    }
+
+    /// The first condition that blocks a start at a node's present tick, where its count of votes is known; Down where there
+    /// is none.
+    fn why_of(&self, node: Option<Rank>, count: Answer) -> Why
+        requires standing { IsStanding self.now }
+        requires configured { IsConfigured self.now.settings node }
+        ensures { (d : World)
+            → ClusterFor self.now d.moments
+            → count ≡ answer_shown self.now.settings node d.moments
+            → result ≡ why_shown self.now.settings node d.moments }
+    {
+        match node {
+            Some(i) => self.why(i, count),
+            None => Why::Down,
+        }
+    }
+}
+
+/// The node of an event; none at a pass.
+pub fn touched(event: &Event) -> Option<Rank>
+    ensures { result ≡ touched event.now }
+{
+    match event {
+        Event::Pass { .. } => None,
+        Event::Boot(rank, _)
+        | Event::BootClean(rank, _)
+        | Event::Crash(rank)
+        | Event::Land(rank)
+        | Event::Done(rank)
+        | Event::Fail(rank)
+        | Event::Late(rank, _)
+        | Event::View(rank, _)
+        | Event::Deliver(rank, _)
+        | Event::Device(rank, _)
+        | Event::Tick(rank)
+        | Event::Stopped(rank)
+        | Event::Unstopped(rank)
+        | Event::Leave(rank)
+        | Event::Feed(rank)
+        | Event::Operator(rank, _) => Some(*rank),
+    }
+}
+
+/// The count of votes of the empty history.
+fn answer_off(settings: &Settings) -> Answer
+    ensures { result ≡ answer_off settings.now }
+{
+    Answer {
+        quorate: false,
+        votes: 0,
+        quorum: settings.quorum(settings.expected),
+        expected: settings.expected,
+        released: !settings.wait_for_all,
+    }
+}
+
+/// Which of these seats, by rank, hold the resource.
+fn holders_of(seats: &[Seat]) -> Mask
+    requires { length seats.now ≤ 32 }
+    ensures { (d : World) (s : Settings)
+        → ((rank : ℕ) (seat : Seat) → slice_get seats.now rank ≡ Some seat → SeatFor seat s rank (node_at s rank d))
+        → length seats.now ≡ length s.nodes
+        → result ≡ holders s d }
+{
+    let mut holders = 0u32;
+    for rank in 0..seats.len() {
+        let seat = &seats[rank];
+        if seat.holds() {
+            holders |= 1 << rank;
+        }
+    }
+    Mask(holders)
+}

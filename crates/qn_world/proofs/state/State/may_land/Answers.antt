@@ -1,0 +1,12 @@
+use Rattle.std.proofs.Common.{◌∙◌, ◌&&◌, not, ap}
+use Rattle.std.specs.Prelude.{is_some}
+use Rattle.qn_model.specs.World.{op_at}
+use Rattle.qn_world.proofs.EventSteps.{took_same}
+use Rattle.qn_world.proofs.state.State.may_land.Goals as goal
+
+pub returns : goal.returns
+returns c d is on =
+    let took_is = took_same c.args.self.now c.args.i.0 c.took-took.result c.requires.few c.took-took.ensures d is in
+    c.is_under_way.ensures
+    ∙ (ap (λ op. is_some op && not (is_some c.took-took.result)) (c.op-op.ensures.exact d is on)
+    ∙ ap (λ took. is_some (op_at c.args.self.now.settings c.args.i.0 d) && not (is_some took)) took_is)
