@@ -14,7 +14,17 @@ requested() {
 
 # runs FOLDER: whether the command of that folder runs
 runs() {
-    ! flock -n "$1/lock" true
+    ! flock -n -s "$1/lock" true
+}
+
+# written FILE: waits until something stands in the file
+written() {
+    for _ in $(seq 100); do
+        [ ! -s "$1" ] || return 0
+        sleep 0.1
+    done
+    printf 'nothing was written to %s\n' "$1"
+    return 1
 }
 
 # what does not run is stopped, and a line that is no request is refused
@@ -25,6 +35,7 @@ requested '' no command work sleep 1000
 # a command runs until it is stopped, and a second start starts no second one
 requested start ok command work sh -c 'sleep 1000 & wait'
 runs work
+written work/group
 group=$(cat work/group)
 requested start ok command work sh -c 'touch second'
 requested stop ok command work sleep 1000
@@ -34,18 +45,12 @@ requested stop ok command work sleep 1000
 
 # what it writes is kept, and its words come whole
 requested start ok command work printf '%s|' 'a b' c
-for _ in $(seq 100); do
-    [ ! -s work/log ] || break
-    sleep 0.1
-done
+written work/log
 same "$(cat work/log)" 'a b|c|'
 
 # a command that does not end when it is asked to is ended by force
-requested start ok command work sh -c 'trap "" TERM; touch ready; while :; do sleep 1; done'
-for _ in $(seq 100); do
-    [ ! -e ready ] || break
-    sleep 0.1
-done
+requested start ok command work sh -c 'trap "" TERM; echo > ready; while :; do sleep 1; done'
+written ready
 AGENT_GRACE=5 requested stop ok command work sleep 1000
 ! runs work
 
