@@ -1,3 +1,4 @@
 mod Auditing
+mod InputEnds
 mod LogTexts
 mod Verdicts

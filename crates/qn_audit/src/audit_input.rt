@@ -1,5 +1,6 @@
 //! Audits the log of a recorded node behind its settings.
-ghost use Rattle.std.specs.Prelude.{◌≡◌, ◌≤◌, ◌<◌, length, IfSome};
+ghost use Rattle.std.specs.Prelude.{◌≡◌, ◌≤◌, ◌<◌, ◌==◌, length, position, Some, IfSome};
+ghost use Rattle.qn_audit.specs.Inputs.{JudgesInput};
 
 use crate::audit_end::AuditEnd;
 use crate::auditor::Auditor;
@@ -22,6 +23,7 @@ pub fn audit<I: Source>(
     clean: bool,
 ) -> AuditEnd
     requires some_turn { 1 ≤ turns }
+    ensures judges { JudgesInput id clean leave_at turns (I.left input.old) (I.left input.new) result }
     ensures never_falls { I.faults input.old ≤ I.faults input.new }
 {
     let mut pieces = Pieces::new();
@@ -39,17 +41,22 @@ pub fn audit<I: Source>(
 
 /// The rank of the node with that id.
 fn rank_of(nodes: &Nodes, id: NodeId) -> Option<Rank>
+    ensures named { IfSome result (λ rank. position (λ node. node.id.0 == id.0) nodes.now ≡ Some rank.0) }
     ensures within { IfSome result (λ rank. rank.0 < length nodes.now) }
 {
-    let place = place_in(nodes.as_slice(), id)?;
-    if place < nodes.len() {
-        Some(Rank(place as u8))
-    } else {
-        None
-    }
+    let place = place_of(nodes, id)?;
+    Some(Rank(place as u8))
+}
+
+fn place_of(nodes: &Nodes, id: NodeId) -> Option<usize>
+    ensures value { result ≡ position (λ node. node.id.0 == id.0) nodes.now }
+    ensures within { IfSome result (λ place. (place < length nodes.now) × (place < 32)) }
+{
+    place_in(nodes.as_slice(), id)
 }
 
 fn place_in(nodes: &[NodeEntry], id: NodeId) -> Option<usize>
+    ensures value { result ≡ position (λ node. node.id.0 == id.0) nodes.now }
     ensures within { IfSome result (λ place. place < length nodes.now) }
 {
     nodes.iter().position(|node| node.id.0 == id.0)

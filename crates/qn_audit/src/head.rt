@@ -1,10 +1,10 @@
 //! Reads the settings text at the beginning of an audit's input, up to the line of dashes.
-ghost use Rattle.std.specs.Prelude.{◌≡◌, ◌≤◌, ◌<◌, ◌+◌, ◌++◌, ◌∷◌, ◌^◌, [], true, length, take, drop, codes, Ok, OnOk, IfOk};
+ghost use Rattle.std.specs.Prelude.{◌≡◌, ◌≤◌, ◌<◌, ◌+◌, ◌++◌, ◌∷◌, ◌^◌, [], true, length, take, drop, codes, Ok, OnOk, IfOk, IfErr};
 ghost use Rattle.std.specs.Io.KnownBytes.{prepend_known};
 ghost use Rattle.qn_io.specs.Outside.{HasRisen};
 ghost use Rattle.qn_model.specs.Settings.{IsValid};
 ghost use Rattle.qn_sched.specs.Head.{settings_in};
-ghost use Rattle.qn_audit.specs.Inputs.{HasHead};
+ghost use Rattle.qn_audit.specs.Inputs.{HasHead, IsHeadFault};
 
 use crate::audit_end::AuditEnd;
 use qn_conf::{ConfFault, read_tree};
@@ -34,6 +34,7 @@ pub(crate) fn read_head<I: Source>(
 ) -> Result<Head, AuditEnd>
     ensures valid { IfOk result (λ head. IsValid head.settings) }
     ensures few_lines { IfOk result (λ head. head.lines < 2 ^ 63) }
+    ensures fault { IfErr result IsHeadFault }
     ensures head { IfOk result (λ head. HasHead head.settings
         (prepend_known pieces.old (I.left input.old)) (prepend_known pieces.new (I.left input.new))) }
     ensures never_falls { I.faults input.old ≤ I.faults input.new }
@@ -49,6 +50,7 @@ pub(crate) fn read_head<I: Source>(
 /// The settings that a whole text gives.
 #[tactic(auto, unfolding(qn_sched::specs::Head::settings_in))]
 fn settings_of(alloc: Global, text: &[u8]) -> Result<Settings, AuditEnd>
+    ensures fault { IfErr result IsHeadFault }
     ensures settings { IfOk result (λ settings. settings_in text.now ≡ Ok settings) }
     ensures valid { IfOk result IsValid }
 {
@@ -76,6 +78,7 @@ struct Text {
 fn read_text<I: Source>(alloc: Global, pieces: &mut Pieces, input: &mut I) -> Result<Text, AuditEnd>
     ensures takes { IfOk result (λ text.
         prepend_known pieces.old (I.left input.old) ≡ prepend_known text.bytes.items (prepend_known pieces.new (I.left input.new))) }
+    ensures fault { IfErr result IsHeadFault }
     ensures whole { IfOk result (λ text. drop text.line_start text.bytes.items ≡ codes "----\n") }
     ensures never_falls { I.faults input.old ≤ I.faults input.new }
 {
@@ -106,6 +109,7 @@ impl Text {
     /// Takes the next byte of the input, and says whether it ended the line `----`.
     fn take(&mut self, byte: u8) -> Result<bool, AuditEnd>
         ensures adds { OnOk result (self.new.bytes.items ≡ self.old.bytes.items ++ byte ∷ []) }
+        ensures fault { IfErr result IsHeadFault }
         ensures whole { IfOk result (λ whole. whole ≡ true → drop self.new.line_start self.new.bytes.items ≡ codes "----\n") }
     {
         if self.bytes.push(byte).is_err() {

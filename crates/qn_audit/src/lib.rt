@@ -2,7 +2,11 @@
 //! a run that the definition of the running node allows.
 //!
 //! Promises: a line is read as the call that `specs/Reading` gives, or its first fault is named; an `Auditor` takes
-//! a call exactly where the run of `live_plan` asks for it, and says that the run is over exactly where its plan ends.
+//! a call exactly where the run of `live_plan` asks for it. `audit_log` says whole, prefix or the first line that is not
+//! the next call exactly as that plan does, and `audit` says so of an input with settings. A `Recorder` changes no
+//! call, answer or fault of its outside and writes each call as the line of `specs/Logs` while no write failed, and then
+//! nothing more; `run_recorded` makes the calls of the plan and logs just these. The laws of audits are in
+//! `specs/JudgeLaws`. Memory is taken for the settings alone.
 #![tactic(auto)]
 
 mod answering;
