@@ -1,4 +1,4 @@
-# The examples of docs/SCHEDULES.md: lines at fault by their fault, and events that a rule refuses, in a cluster of the
+# Lines of a schedule at fault by their fault, and events that a rule refuses, in a cluster of the
 # nodes 1 and 2.
 . "$TOP/tests/expect.sh"
 

@@ -1,12 +1,12 @@
 //! Text that waits to be written, so that many short lines make one write.
-ghost use Rattle.std.specs.Prelude.{◌≡◌, ◌≤◌, ◌+◌, ◌++◌, [], List, ℕ, length, decimal, OnOk, OnErr};
+ghost use Rattle.std.specs.Prelude.{◌≡◌, ◌≤◌, ◌+◌, ◌++◌, [], List, ℕ, length, OnOk, OnErr};
 ghost use Rattle.std.specs.Io.KnownBytes.{append_known};
 ghost use Rattle.qn_io.specs.Outside.{HasRisen};
 ghost use Rattle.qn_io.specs.Writes.{AppendsFront};
 ghost use Rattle.qn_commands.specs.Writing.{GivesOut};
 
 use arrayvec::ArrayVec;
-use qn_base::{Failed, write_decimal};
+use qn_base::Failed;
 use qn_io::{Sink, put_all};
 use std::marker::Model;
 
