@@ -7,14 +7,11 @@ ghost use Rattle.qn_sched.specs.Head.{settings_in};
 ghost use Rattle.qn_audit.specs.Inputs.{HasHead, IsHeadFault};
 
 use crate::audit_end::AuditEnd;
-use qn_conf::{ConfFault, read_tree};
+use qn_conf::{ConfFault, MOST_TEXT_BYTES};
 use qn_io::{Next, Pieces, Source};
 use qn_model::{LineFault, Settings};
-use qn_settings::settings;
+use qn_settings::{TextFault, settings_of_text};
 use std::alloc::Global;
-
-/// The most bytes of a settings text.
-const MAX_BYTES: usize = 1_048_576;
 
 /// The line after the settings text, with its end.
 const DASHES: &[u8; 5] = b"----\n";
@@ -54,13 +51,11 @@ fn settings_of(alloc: Global, text: &[u8]) -> Result<Settings, AuditEnd>
     ensures settings { IfOk result (λ settings. settings_in text.now ≡ Ok settings) }
     ensures valid { IfOk result IsValid }
 {
-    match read_tree(alloc, text) {
-        Ok(tree) => match settings(&tree) {
-            Ok(settings) => Ok(settings),
-            Err(fault) => Err(AuditEnd::BadSettings(fault)),
-        },
-        Err(ConfFault::NoMemory) => Err(AuditEnd::NoMemory),
-        Err(fault) => Err(AuditEnd::BadConf(fault)),
+    match settings_of_text(alloc, text) {
+        Ok(settings) => Ok(settings),
+        Err(TextFault::Conf(ConfFault::NoMemory)) => Err(AuditEnd::NoMemory),
+        Err(TextFault::Conf(fault)) => Err(AuditEnd::BadConf(fault)),
+        Err(TextFault::Settings(fault)) => Err(AuditEnd::BadSettings(fault)),
     }
 }
 
@@ -87,7 +82,7 @@ fn read_text<I: Source>(alloc: Global, pieces: &mut Pieces, input: &mut I) -> Re
         line_start: 0,
         lines: 0,
     };
-    'bytes: for _ in 0..=MAX_BYTES + DASHES.len() {
+    'bytes: for _ in 0..=MOST_TEXT_BYTES + DASHES.len() {
         let byte = match pieces.next(input) {
             Next::Byte(byte) => byte,
             Next::End => {
@@ -122,7 +117,7 @@ impl Text {
             }
             self.line_start = self.bytes.len();
         }
-        if self.counted() > MAX_BYTES {
+        if self.counted() > MOST_TEXT_BYTES {
             return Err(AuditEnd::BadConf(ConfFault::TooLong));
         }
         Ok(false)
