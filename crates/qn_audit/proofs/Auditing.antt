@@ -1,20 +1,19 @@
 -- How an audit goes on over the lines of a log.
-use Rattle.std.proofs.Common.{◌≡◌, ◌≤◌, ◌<◌, ℕ, ◌+◌, Bool, true, false, List, [], ◌∷◌, ◌++◌, Ok, Option, None, Some, map, filter, length, Result, refl, sym, ap, subst, ◌∙◌, append_assoc, append-nil, arith}
+use Rattle.std.proofs.Common.{◌≡◌, ◌≤◌, ℕ, ◌+◌, Bool, true, false, List, [], ◌∷◌, ◌++◌, Ok, Option, map, length, refl, sym, ap, ◌∙◌, append_assoc, append-nil, arith}
 use Rattle.std.specs.Io.KnownBytes.{prepend_known}
 use Rattle.std.proofs.lemmas.List.{length-append}
 use Rattle.qn_base.specs.declared.calls.Call.{Call}
-use Rattle.qn_base.specs.Plans.{Plan, left}
+use Rattle.qn_base.specs.Plans.{Plan}
 use Rattle.qn_io.specs.declared.lines.LineRead.{LineRead}
 use Rattle.qn_io.specs.declared.lines.LineRead.TheVariants as read
 use Rattle.qn_io.specs.Lines.{OnFailedLine, ReadsLine}
 use Rattle.qn_base.specs.Rising.{HasRisen-within}
 use Rattle.qn_io.specs.Outside.{HasRisen, prepend_known-append, prepend_known-nil}
 use Rattle.qn_live.specs.Running.{Ran}
-use Rattle.qn_model.specs.declared.line_fault.LineFault.{LineFault}
 use Rattle.qn_audit.specs.declared.audit_end.AuditEnd.{AuditEnd}
 use Rattle.qn_audit.specs.Auditing.{Audited, EndsAt, Further, HasFailed, WasRead, is_now, lines_text, turns_in}
 use Rattle.qn_audit.specs.Judging.{IsNext, Keeps, left_after}
-use Rattle.qn_audit.specs.JudgeLaws.{keeps_call, left_call_after}
+use Rattle.qn_audit.specs.JudgeLaws.{keeps_call}
 use Rattle.qn_audit.specs.Reading.{call_of}
 
 -- so many lines and turns were good: these lines were taken, which say calls of the plan

@@ -5,7 +5,6 @@ use Rattle.std.specs.Io.KnownBytes.{append_known}
 use Rattle.qn_base.specs.declared.calls.Call.{Call}
 use Rattle.qn_base.specs.Rising.{HasRisen-within}
 use Rattle.qn_io.specs.Outside.{HasRisen, append_known-append, append_known-nil}
-use Rattle.qn_io.specs.Writes.{AppendsFront}
 use Rattle.qn_base.specs.Calls.{blank}
 use Rattle.qn_live.specs.declared.asked.Asked.{Asked}
 use Rattle.qn_live.specs.declared.asked.Asked.TheVariants as asked

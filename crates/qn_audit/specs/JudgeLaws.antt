@@ -1,10 +1,10 @@
 -- Laws of audits: a list of calls is exactly one of a whole run, the beginning of a run, and none, and the first call that
 -- is not asked for stands at one place. This project's profile.
-use Rattle.std.proofs.Common.{◌≡◌, Option, None, Some, List, [], ◌∷◌, ◌++◌, refl, sym, ap, subst, ◌∙◌}
+use Rattle.std.proofs.Common.{◌≡◌, Some, List, [], ◌∷◌, ◌++◌, refl, sym, ap, subst, ◌∙◌}
 use Rattle.qn_base.specs.declared.calls.Call.{Call}
 use Rattle.qn_base.specs.Calls.{blank}
-use Rattle.qn_base.specs.Plans.{Plan, Ends, Asks, Follows, question, left}
-use Rattle.qn_audit.specs.Judging.{AsksWiped, GoesOn, IsFirstOther, IsNext, IsPrefix, IsWhole, Keeps, left_after}
+use Rattle.qn_base.specs.Plans.{Plan, Ends, Asks, Follows, left}
+use Rattle.qn_audit.specs.Judging.{AsksWiped, IsFirstOther, IsNext, IsPrefix, IsWhole, Keeps, left_after}
 
 -- a whole run ends with a value
 pub whole_follows : {A : Type 0} (plan : Plan A) (calls : List Call) → IsWhole plan calls → (value : A) × Follows plan calls value

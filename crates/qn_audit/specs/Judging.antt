@@ -1,5 +1,5 @@
 -- How far a list of calls with their answers is a run of a plan: this project's profile.
-use Rattle.std.specs.Prelude.{◌≡◌, Option, None, Some, List, [], ◌∷◌}
+use Rattle.std.specs.Prelude.{◌≡◌, None, Some, List, [], ◌∷◌}
 use Rattle.qn_base.specs.declared.calls.Call.{Call}
 use Rattle.qn_base.specs.Calls.{blank}
 use Rattle.qn_base.specs.Plans.{Plan, Ends, Asks, question, left}

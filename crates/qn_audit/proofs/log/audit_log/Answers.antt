@@ -1,13 +1,13 @@
-use Rattle.std.proofs.Common.{◌≡◌, ◌≤◌, List, ℕ, Option, arith, ap, subst, sym, refl, ◌∙◌}
+use Rattle.std.proofs.Common.{arith, subst, sym, ◌∙◌}
 use Rattle.std.specs.Io.KnownBytes.{prepend_known}
 use Rattle.qn_base.specs.Plans.{left}
 use Rattle.qn_io.specs.declared.lines.LineRead.{LineRead}
 use Rattle.qn_io.specs.declared.lines.LineRead.TheVariants as read
 use Rattle.qn_io.specs.Lines.{ReadsLine}
-use Rattle.qn_audit.specs.Auditing.{StandsFor, further}
+use Rattle.qn_audit.specs.Auditing.{further}
 use Rattle.qn_audit.specs.Judging.{left_after}
 use Rattle.qn_audit.specs.JudgeLaws.{left_call_after}
-use Rattle.qn_audit.proofs.Auditing.{IsTaken, audited, failed_wider, last_read, taken_more, taken_none}
+use Rattle.qn_audit.proofs.Auditing.{audited, failed_wider, last_read, taken_more, taken_none}
 use Rattle.qn_audit.proofs.log.audit_log.Goals as goal
 
 pub lines-init : goal.lines-init

@@ -1,14 +1,10 @@
-use Rattle.std.proofs.Common.{◌≡◌, ◌∷◌, ◌++◌, [], List, Some, refl, sym, ap, subst, ◌∙◌, arith}
-use Rattle.qn_base.specs.declared.calls.Call.{Call}
-use Rattle.qn_base.specs.Calls.{blank}
-use Rattle.qn_base.specs.Plans.{left, question}
+use Rattle.std.proofs.Common.{◌∷◌, ◌++◌, [], Some, sym, ap, ◌∙◌, arith}
 use Rattle.qn_base.specs.PlanSteps.{made_none, made_then}
-use Rattle.qn_live.specs.Asking.{question_of, told}
+use Rattle.qn_live.specs.Asking.{told}
 use Rattle.qn_live.specs.Runs.{live_plan}
 use Rattle.qn_audit.specs.Judging.{IsNext, left_after}
 use Rattle.qn_audit.specs.JudgeLaws.{keeps_call, kept_follows, left_call_after}
 use Rattle.qn_audit.specs.Logs.{log_text}
-use Rattle.qn_audit.specs.Recording.{Logs}
 use Rattle.qn_audit.proofs.LogTexts.{blank-told, logs_none, logs_then, log_text-append}
 use Rattle.qn_audit.proofs.logging.run_recorded.Goals as goal
 

@@ -1,4 +1,4 @@
-use Rattle.std.proofs.Common.{◌≡◌, sym, ap, ◌∙◌}
+use Rattle.std.proofs.Common.{sym, ap, ◌∙◌}
 use Rattle.qn_base.specs.Plans.{question}
 use Rattle.qn_audit.proofs.auditor.Auditor.take.Goals as goal
 

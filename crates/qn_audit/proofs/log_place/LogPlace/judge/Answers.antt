@@ -1,7 +1,7 @@
-use Rattle.std.proofs.Common.{◌≡◌, List, ℕ, sym, refl, subst}
+use Rattle.std.proofs.Common.{refl, subst}
 use Rattle.qn_io.specs.declared.lines.LineRead.{LineRead}
 use Rattle.qn_io.specs.declared.lines.LineRead.TheVariants as read
-use Rattle.qn_audit.specs.Auditing.{EndsAt, Further, WasRead, Long}
+use Rattle.qn_audit.specs.Auditing.{WasRead, Long}
 use Rattle.qn_audit.proofs.log_place.LogPlace.judge.Goals as goal
 
 pub returns-in-Rest-clause-end : goal.returns-in-Rest-clause-end

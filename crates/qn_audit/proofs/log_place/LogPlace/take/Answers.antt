@@ -1,5 +1,5 @@
-use Rattle.std.proofs.Common.{◌≡◌, ◌<◌, Err, refl, sym, ◌∙◌, arith}
-use Rattle.qn_audit.specs.Auditing.{EndsAt, Bad}
+use Rattle.std.proofs.Common.{◌≡◌, ◌<◌, Err, refl, arith}
+use Rattle.qn_audit.specs.Auditing.{Bad}
 use Rattle.qn_audit.specs.Reading.{call_of}
 use Rattle.qn_audit.proofs.log_place.LogPlace.take.Goals as goal
 
