@@ -46,7 +46,11 @@ impl Agent {
             stream,
             clock: rt,
             end,
-        })
+        })?;
+        match end.left(rt)? {
+            Some(_) => Ok(()),
+            None => Err(late()),
+        }
     }
 }
 

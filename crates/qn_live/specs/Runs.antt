@@ -40,13 +40,16 @@ taken s me st tick found =
       rests = failed_answer found.1;
     }
 
--- nothing ended the run: where a Hello is due it is sent, and after it the announcement, and the next turn follows
+-- the state once the view maker was asked at a tick whether a Hello is due
 abbrev pub hello_asked : ℕ → RunState → RunState
 hello_asked tick st = record st { maker = option_map (after_hello_due tick) st.maker }
 
+-- the state with the view maker that the node has then
 abbrev pub with_maker : Settings → ℕ → RunState → RunState
 with_maker s me st = record st { maker = maker_of s me st }
 
+-- the outputs ended nothing: where a Hello is due it is sent to each other node, and then the announcement, and the next turn
+-- follows
 unfoldable pub greeted : Settings → ℕ → RunState → Plan Turned
 greeted s me st =
     let present = with_maker s me st in
