@@ -17,7 +17,7 @@ use Rattle.qn_model.specs.declared.outputs.Out.TheVariants as out
 use Rattle.qn_model.specs.declared.packets.Packet.TheVariants as packet
 use Rattle.qn_model.specs.Log.{Line, disk_of, is_answer, op_out}
 use Rattle.qn_model.specs.Phases.{boot_halt, deadly_of, is_booting, is_live, message_of, phase}
-use Rattle.qn_model.specs.Fitting.{answers_op, read_as}
+use Rattle.qn_model.specs.Fitting.{read_as}
 use Rattle.qn_model.specs.Wanted.{boot_op}
 use Rattle.qn_model.specs.NodeOutputs.{boot_outs, boot_step_outs, disk_outs, is_begin, is_boot_step, live_outs, mail_feeds, newest_outs, outs_at, taken_in, when, with_entry}
 use Rattle.qn_model.specs.Moments.{Adds, Moment, Running, given_out, handed, logged, node, packets, packets_of, tick_of, time}

@@ -1,5 +1,5 @@
 -- What is reported of an event.
-use Rattle.std.proofs.Common.{◌≡◌, ℕ, Bool, true, List, Some, None, length, sym, ◌∙◌, ap}
+use Rattle.std.proofs.Common.{◌≡◌, ℕ, true, List, Some, None, sym, ◌∙◌, ap}
 use Rattle.std.specs.Prelude.{Option}
 use Rattle.std.specs.Option.{option_map_or}
 use Rattle.qn_base.specs.declared.ids.Mask.{Mask}

@@ -16,17 +16,17 @@ use Rattle.qn_model.specs.Log.{now}
 use Rattle.qn_model.specs.Phases.{phase}
 use Rattle.qn_model.specs.NodeOutputs.{newest_outs, outs_at, with_entry}
 use Rattle.qn_model.specs.Moments.{Boots, Ends, Feeds, Moment, Passes, Running, advance_of, advanced, begin_of, booted, given_out, handed, logged, node, packets, packets_of, tick_of, time}
-use Rattle.qn_model.specs.Rules.{is_on, is_within_bounds, may_pass, outlives, passes}
+use Rattle.qn_model.specs.Rules.{is_within_bounds, may_pass, outlives, passes}
 use Rattle.qn_model.specs.World.{World}
 use Rattle.qn_node.specs.Node.{steps_of}
 use Rattle.qn_cluster.specs.declared.seat.Seat.{Seat}
 use Rattle.qn_cluster.specs.Nodes.{Nodes}
 use Rattle.qn_cluster.specs.Seats.{BootedSeat, SeatFor, advanced_seat}
 use Rattle.qn_cluster.specs.Standing.{ClusterFor, IsOpWithin, latest_clock}
-use Rattle.qn_cluster.specs.Stepping.{Booted, Ended, Fed, IsPassable, Passed, SameFrame, outs_of}
+use Rattle.qn_cluster.specs.Stepping.{Booted, Ended, Fed, IsPassable, Passed, SameFrame}
 use Rattle.qn_cluster.proofs.ClusterSteps.{OneNode, seat_configured, with_quiet_seat}
 use Rattle.qn_cluster.proofs.HandSteps.{op_within}
-use Rattle.qn_cluster.proofs.Lists.{item_there, rank_cases, same_rank}
+use Rattle.qn_cluster.proofs.Lists.{rank_cases, same_rank}
 use Rattle.qn_cluster.proofs.RuleSteps.{first_true, le-true, second_true}
 
 -- one seat is replaced

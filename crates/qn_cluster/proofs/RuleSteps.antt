@@ -1,6 +1,6 @@
 -- The rules that look at nodes alone, by the seats of a cluster.
 use Rattle.std.proofs.Common.{◌≡◌, ℕ, suc, zero, ◌+◌, ◌-◌, ◌*◌, ◌<◌, ◌≤◌, Bool, true, false, List, [], ◌∷◌, length, Some, None, refl, not, if◌then◌else◌, ◌&&◌, ◌||◌, sym, ◌∙◌, ap, subst, arith, add-one, drop}
-use Rattle.std.specs.Prelude.{Option, slice_get, is_some, nat_le, nat_lt}
+use Rattle.std.specs.Prelude.{Option, slice_get, nat_le, nat_lt}
 use Rattle.std.specs.List.{list_all, range_with_len}
 use Rattle.std.specs.Option.{option_map_or, option_or}
 use Rattle.std.proofs.lemmas.Bool.Decides.{nat_tests}

@@ -1,6 +1,6 @@
 -- What a world stands for after an event that hands a node an entry.
 use Rattle.std.proofs.Common.{◌≡◌, ◌≢◌, ℕ, ◌<◌, Bool, true, false, List, [], ◌++◌, length, Some, None, refl, ◌&&◌, ◌||◌, sym, ◌∙◌, ap, subst, take}
-use Rattle.std.specs.Prelude.{All, Option, Result, Ok, Err, OnOk, OnErr, is_some, slice_get, slice_set, ◌==◌}
+use Rattle.std.specs.Prelude.{Option, Result, Ok, Err, OnOk, OnErr, is_some, slice_get, slice_set, ◌==◌}
 use Rattle.std.specs.Option.{option_map_or}
 use Rattle.std.specs.Result.{is_err}
 use Rattle.std.proofs.lemmas.List.{take_at}
@@ -25,12 +25,11 @@ use Rattle.qn_model.specs.Moments.{Adds, Running, packets}
 use Rattle.qn_model.specs.World.{World, failed, given_up, leftover_at, node_at, op_at, put}
 use Rattle.qn_model.specs.Rules.{is_on, may_be_done, may_deliver, may_fail, refusal}
 use Rattle.qn_model.specs.Steps.{answered, entry_of, fails, gives_up, happens, outs_after, step, touched}
-use Rattle.qn_node.specs.Outputs.{IsNodeOutput}
 use Rattle.qn_world.specs.Leftovers.{leftovers}
 use Rattle.qn_world.specs.Memory.{leaves_between, sends_between}
 use Rattle.qn_world.specs.Standing.{WorldFor}
 use Rattle.qn_world.specs.Stepping.{Hands, HandsEntry, HandsNot, OutOfMemory, SameFrame, Stepped}
-use Rattle.qn_world.specs.Whole.{Whole, cluster_of, with_nodes}
+use Rattle.qn_world.specs.Whole.{Whole, cluster_of}
 use Rattle.qn_world.proofs.EventSteps.{IsOut, gave_up, given_up_same, leaves_more, or_true, passed_both, passed_first, some_op}
 use Rattle.qn_world.proofs.Lists.{same_rank}
 use Rattle.qn_world.proofs.WorldSteps.{adds_others, frame_of, put_here, same_frames, with_none, with_plain}

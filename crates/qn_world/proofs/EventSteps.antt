@@ -7,8 +7,7 @@ use Rattle.std.proofs.lemmas.Bool.Decides.{nat_tests}
 use Rattle.std.proofs.lemmas.List.{append-nil}
 use Rattle.std.proofs.lemmas.List.Elements.{All-append, All-cons, All-drop, All-filter, All-nil, All-take}
 use Rattle.qn_base.specs.declared.ids.Rank.{Rank}
-use Rattle.qn_cluster.specs.Nodes.{Nodes}
-use Rattle.qn_cluster.specs.Standing.{ClusterFor, IsOpWithin, IsWithin}
+use Rattle.qn_cluster.specs.Standing.{IsOpWithin, IsWithin}
 use Rattle.qn_cluster.specs.Stepping.{Booted, Ended, Fed, IsPassable, Passed}
 use Rattle.qn_model.specs.declared.configuration.Settings.{Settings}
 use Rattle.qn_model.specs.declared.entries.What.{What}
@@ -31,7 +30,7 @@ use Rattle.qn_world.specs.Stepping.{IsReady, OutOfMemory, SameFrame, Stepped, bo
 use Rattle.qn_world.specs.Whole.{Whole, cluster_of, with_nodes}
 use Rattle.qn_world.proofs.LeftoverSteps.{FoundLeft, found_left, left_of-apart, left_of-append, left_of-dropped, left_of-others, left_of-own}
 use Rattle.qn_world.proofs.Lists.{all_at, rank_cases, same_rank}
-use Rattle.qn_world.proofs.RuleSteps.{first_true, le-true, second_true}
+use Rattle.qn_world.proofs.RuleSteps.{le-true, second_true}
 use Rattle.qn_world.proofs.WorldSteps.{boots_others, ends_others, frame_of, put_here, same_frames, took_put, with_feed, with_left, with_none, with_pass, with_took}
 
 -- ---- what the rules leave

@@ -1,5 +1,5 @@
 -- What is shown of a node.
-use Rattle.std.proofs.Common.{◌≡◌, ℕ, Bool, true, false, Some, None, length, refl, ◌&&◌, if◌then◌else◌, ◌∙◌, ap}
+use Rattle.std.proofs.Common.{◌≡◌, ℕ, Bool, true, false, None, length, refl, ◌&&◌, if◌then◌else◌, ◌∙◌, ap}
 use Rattle.std.specs.Prelude.{Option, is_some}
 use Rattle.qn_cluster.specs.declared.waiting.Waiting.{Waiting}
 use Rattle.qn_cluster.specs.Seen.{waiting_of}

@@ -1,4 +1,4 @@
-use Rattle.std.proofs.Common.{◌∙◌, ◌≤◌, ◌<◌, ap, length, subst, sym}
+use Rattle.std.proofs.Common.{◌<◌, length, subst, sym}
 use Rattle.qn_world.specs.Stepping.{boot_event}
 use Rattle.qn_world.proofs.EventSteps.{boot_stepped, boot_touches, few_base}
 use Rattle.qn_world.proofs.RuleSteps.{rank_configured, rank_few, rank_within}

@@ -1,4 +1,4 @@
-use Rattle.std.proofs.Common.{◌≡◌, ◌∙◌, sym, refl}
+use Rattle.std.proofs.Common.{◌∙◌, sym, refl}
 use Rattle.std.proofs.lemmas.Result.{err_from_is_err_and}
 use Rattle.qn_model.specs.declared.events.Event.TheVariants as event
 use Rattle.qn_world.proofs.AnswerSteps.{deliver_starved, deliver_stepped, not_delivered}

@@ -1,6 +1,4 @@
-use Rattle.std.proofs.Common.{◌≡◌, ◌<◌, ◌∙◌, ap, length, refl, subst, sym, Some, true}
-use Rattle.std.specs.Prelude.{Option}
-use Rattle.qn_model.specs.declared.entries.What.{What}
+use Rattle.std.proofs.Common.{◌∙◌, refl, sym, Some}
 use Rattle.qn_model.specs.declared.events.Event.TheVariants as event
 use Rattle.std.proofs.lemmas.Result.{err_from_is_err_and}
 use Rattle.qn_world.proofs.AnswerSteps.{done_starved, done_stepped, not_done}

@@ -1,11 +1,9 @@
-use Rattle.std.proofs.Common.{◌≡◌, ◌<◌, ◌∙◌, ap, length, refl, subst, sym, Some, true}
-use Rattle.std.specs.Prelude.{Option}
-use Rattle.qn_model.specs.declared.entries.What.{What}
+use Rattle.std.proofs.Common.{◌<◌, ◌∙◌, ap, length, refl, subst, sym, Some}
 use Rattle.qn_model.specs.declared.events.Event.TheVariants as event
 use Rattle.std.proofs.Common.{take}
 use Rattle.std.proofs.lemmas.Result.{err_from_is_err_and}
 use Rattle.qn_cluster.specs.Standing.{HasRoom, IsOpWithin}
-use Rattle.qn_world.specs.Whole.{Whole, cluster_of}
+use Rattle.qn_world.specs.Whole.{cluster_of}
 use Rattle.qn_world.proofs.AnswerSteps.{fail_starved, fail_starved_left, fail_stepped, not_failed}
 use Rattle.qn_world.proofs.EventSteps.{IsOut, took_same}
 use Rattle.qn_world.proofs.RuleSteps.{rank_few, rank_within}

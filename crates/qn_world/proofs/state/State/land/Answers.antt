@@ -1,12 +1,7 @@
-use Rattle.std.proofs.Common.{◌≡◌, ◌<◌, ◌∙◌, ap, length, refl, subst, sym, Some, true}
-use Rattle.std.specs.Prelude.{Option}
-use Rattle.qn_model.specs.declared.entries.What.{What}
+use Rattle.std.proofs.Common.{◌∙◌, length, refl, subst, sym, Some}
 use Rattle.qn_model.specs.declared.events.Event.TheVariants as event
 use Rattle.qn_cluster.specs.Standing.{IsOpWithin}
-use Rattle.qn_model.specs.Rules.{is_on}
-use Rattle.qn_model.specs.World.{World, op_at}
-use Rattle.qn_world.specs.Standing.{WorldFor}
-use Rattle.qn_world.proofs.EventSteps.{IsOut, land_stepped, not_landed, op_target}
+use Rattle.qn_world.proofs.EventSteps.{land_stepped, not_landed, op_target}
 use Rattle.qn_world.proofs.RuleSteps.{rank_few, rank_within}
 use Rattle.qn_world.proofs.state.State.land.Goals as goal
 

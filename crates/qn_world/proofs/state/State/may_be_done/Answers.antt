@@ -1,4 +1,4 @@
-use Rattle.std.proofs.Common.{◌∙◌, ◌&&◌, not, ap}
+use Rattle.std.proofs.Common.{◌∙◌, ◌&&◌, ap}
 use Rattle.std.specs.Prelude.{is_some}
 use Rattle.qn_model.specs.World.{op_at}
 use Rattle.qn_world.proofs.EventSteps.{took_same}

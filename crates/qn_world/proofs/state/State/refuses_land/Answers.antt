@@ -1,4 +1,4 @@
-use Rattle.std.proofs.Common.{◌≡◌, ◌∙◌, ap, length, subst, sym}
+use Rattle.std.proofs.Common.{◌∙◌, ap, subst, sym}
 use Rattle.qn_cluster.specs.Standing.{ClusterFor}
 use Rattle.qn_model.specs.Rules.{is_on, may_land, unless, unless_running}
 use Rattle.qn_world.specs.Whole.{cluster_of}

@@ -1,4 +1,4 @@
-use Rattle.std.proofs.Common.{◌≡◌, ◌-◌, ◌∙◌, ap, subst, sym}
+use Rattle.std.proofs.Common.{◌-◌, ◌∙◌, ap, subst, sym}
 use Rattle.qn_cluster.specs.Nodes.{Nodes}
 use Rattle.qn_cluster.specs.Standing.{ClusterFor, IsStanding}
 use Rattle.qn_world.specs.Standing.{WorldFor}
