@@ -14,6 +14,9 @@
 //! the number of that call, the number of calls, the SHA-256 of the log, the end and the status. A row `quiet` is a run over an
 //! outside in memory that never fails and hears nothing: its name, settings, words, end, status, number of calls, and SHA-256.
 //!
+//! With a number of turns as its word it runs one node for so many turns over such an outside and writes how that ends, to be
+//! timed by `bench/live`.
+//!
 //! Promises: nothing. It is a test: what it is run on, and what it must write, stand beside it.
 #![tactic(auto)]
 
@@ -23,6 +26,7 @@ mod end_text;
 mod in_memory;
 mod played;
 mod reading;
+mod timed;
 mod words;
 mod wrong;
 
@@ -30,7 +34,9 @@ use case::Case;
 use in_memory::{Want, check_quiet};
 use qn_history::read_number;
 use std::alloc::Global;
+use std::env;
 use std::io;
+use timed::run_turns;
 use wrong::Wrong;
 
 /// What was read so far: the present case and whether its log was run, and how many cases, calls of their logs and rows there
@@ -46,6 +52,19 @@ struct Reader {
 }
 
 fn main(rt: HostRuntime) -> io::Result<()> {
+    let mut words = env::args(&rt)?;
+    let _program = words.next();
+    if let Some(turns) = words.next() {
+        return match run_turns(rt.alloc(), turns.as_str()) {
+            Ok(end) => println!(rt; "{end}"),
+            Err(wrong) => println!(rt; "{wrong}"),
+        };
+    }
+    check_all(&rt)
+}
+
+/// Runs what standard input has.
+fn check_all(rt: &HostRuntime) -> io::Result<()> {
     let mut reader = Reader::default();
     for line in rt.lines(rt.alloc()) {
         let line = line?;

@@ -4,17 +4,15 @@ ghost use Rattle.qn_model.specs.Settings.{IsValid};
 
 use crate::wrong::Wrong;
 use qn_base::Rank;
-use qn_conf::read_tree;
 use qn_model::Settings;
-use qn_settings::settings;
+use qn_settings::settings_of_text;
 use std::alloc::Global;
 
 /// The settings of a text.
 pub fn settings_of(alloc: Global, text: &str) -> Result<Settings, Wrong>
     ensures { IfOk result IsValid }
 {
-    let tree = read_tree(alloc, text.as_bytes()).map_err(|_| Wrong::Settings)?;
-    settings(&tree).map_err(|_| Wrong::Settings)
+    settings_of_text(alloc, text.as_bytes()).map_err(|_| Wrong::Settings)
 }
 
 /// The rank of the node with that id.
