@@ -34,8 +34,7 @@ use case::Case;
 use in_memory::{Want, check_quiet};
 use qn_history::read_number;
 use std::alloc::Global;
-use std::env;
-use std::io;
+use std::{env, io};
 use timed::run_turns;
 use wrong::Wrong;
 

@@ -10,7 +10,8 @@ use qn_model::Timing;
 use std::alloc::Global;
 
 /// Three nodes with one vote each.
-const THREE: &str = "nodelist {\nnode {\nnodeid: 1\n}\nnode {\nnodeid: 2\n}\nnode {\nnodeid: 3\n}\n}\n";
+const THREE: &str =
+    "nodelist {\nnode {\nnodeid: 1\n}\nnode {\nnodeid: 2\n}\nnode {\nnodeid: 3\n}\n}\n";
 
 /// Runs the first of three nodes for so many turns, and gives the line of its end.
 pub fn run_turns(alloc: Global, turns: &str) -> Result<String, Wrong> {
