@@ -28,13 +28,12 @@ wrong() {
 }
 
 # refused FILE WORD..: the program with these words, which reads FILE, is refused one allocation after the other, until it has
-# them all. The file `whole` has then what it writes, and `places` how many lines stand before the fault line of each other run.
+# them all. The file `whole` has then what it writes, and `places` gets how many lines stand before the fault line of each other run.
 refused() {
     local begun=no
     input=$1
     shift
     "$QUORUMD" "$@" < "$input" > whole
-    : > places
     to_the_least "$@"
     while :; do
         limited "$@"
@@ -54,9 +53,26 @@ refused() {
     [ "$begun" = yes ] && cmp -s got whole || wrong "$@"
 }
 
-# was_refused_after LINES: one of the runs was refused after so many lines
+# was_refused_after LINES..: one of the runs was refused after each of these numbers of lines
 was_refused_after() {
-    grep -qx "$1" places || same "after $(sort -nu places | tr '\n' ' ')lines" "also after $1 lines"
+    local lines
+    for lines in "$@"; do
+        grep -qx "$lines" places || return 1
+    done
+}
+
+# refused_after 'LINES..' FILE WORD..: the same, and one of the runs was refused after each of these numbers of lines. The system puts
+# the stack elsewhere in each run, which can take a page more or less: so it is tried up to five times.
+refused_after() {
+    local wanted=$1 tries
+    shift
+    : > places
+    for tries in 1 2 3 4 5; do
+        refused "$@"
+        # shellcheck disable=SC2086
+        was_refused_after $wanted && return
+    done
+    same "after $(sort -nu places | tr '\n' ' ')lines" "also after $wanted lines"
 }
 
 # Node 1 asks node 2 at each view that it is told; node 2 crashes while the claim of its slot is out, which is then left over.
@@ -71,15 +87,9 @@ was_refused_after() {
 } > schedule
 
 # in the head, at the first packets, at the write that is left over, and at two later packets or more
-refused schedule replay
-was_refused_after 0
-was_refused_after 9
-was_refused_after 15
-[ "$(sort -nu places | awk '$1 > 15' | wc -l)" -ge 2 ] || was_refused_after 'more than 15'
+refused_after '0 9 15' schedule replay
+[ "$(sort -nu places | awk '$1 > 15' | wc -l)" -ge 2 ] || same "after $(sort -nu places | tr '\n' ' ')lines" 'two after 15 lines or more'
 
-refused schedule status
-was_refused_after 0
-refused schedule status --form json
-was_refused_after 0
-refused /dev/null soak 7 2000
-was_refused_after 0
+refused_after 0 schedule status
+refused_after 0 schedule status --form json
+refused_after 0 /dev/null soak 7 2000
