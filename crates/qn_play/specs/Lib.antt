@@ -1,8 +1,10 @@
+pub mod EndLaws
+pub mod Endings
+pub mod Judging
 pub mod Lines
 pub mod Played
 pub mod Reading
+pub mod RunLaws
+pub mod Runs
 pub mod Steps
 pub mod Writing
-pub mod Judging
-pub mod Runs
-pub mod RunLaws

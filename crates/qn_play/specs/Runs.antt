@@ -54,3 +54,27 @@ pub data Finishes (end : ReplayEnd) (waiting : List ℕ) (old new : Option (List
 -- the trace and the end are those of the whole input
 abbrev pub AnswersWhole : {Last : Type 0} → Played Last → Option (List ℕ) → Option (List ℕ) → ReplayEnd → Type 0
 AnswersWhole played old new end = (end ≡ played.end) × (new ≡ append_known old played.trace)
+
+-- out of memory after this trace, which is all that was written
+pub record OutOfMemory {Last : Type 0} (played_of : Rest Last) (wanted : List ℕ → List ℕ → Type 0) (left_old left_new old new : Option (List ℕ)) : Type 0 where
+  pub taken : List ℕ
+  pub waiting : List ℕ
+  pub trace : List ℕ
+  pub takes : left_old ≡ prepend_known (taken ++ waiting) left_new
+  pub needed : IsNeeded played_of taken
+  pub within : length waiting ≤ PIECE
+  pub writes : new ≡ append_known old trace
+  pub why : wanted taken trace
+
+-- the whole input was read, and all of its trace was written
+pub record ReadsWhole {Last : Type 0} (played_of : Rest Last) (left_old left_new old new : Option (List ℕ)) (end : ReplayEnd) : Type 0 where
+  pub read : List ℕ
+  pub takes : left_old ≡ prepend_known read left_new
+  pub at_end : IsAtEnd left_new
+  pub ends : end ≡ (played_of Ended read).end
+  pub writes : new ≡ append_known old (played_of Ended read).trace
+
+-- a fact for an end that is good
+abbrev pub IfDone : ReplayEnd → Type 0 → Type 0
+IfDone (Done events) P = P
+IfDone _ P = Unit {0}

@@ -113,14 +113,18 @@ fn add_touched(into: &mut ArrayVec<u8, 4096>, nodes: &Nodes, report: &Report, ra
     add_why(into, &report.why);
 }
 
-/// Adds the count of a node.
-fn add_answer(into: &mut ArrayVec<u8, 4096>, answer: &Answer)
-    requires { length into.old.items ≤ 3000 }
+/// Adds the count of a node, at the end of a list that has room for 60 bytes.
+fn add_answer<const N: usize>(into: &mut ArrayVec<u8, N>, answer: &Answer)
+    requires { length into.old.items + 60 ≤ N }
     ensures text { into.new.items ≡ into.old.items ++ answer_text answer.now }
     ensures len { length into.new.items ≤ length into.old.items + 60 }
 {
-    let text = answer_text(answer);
-    add(into, text.as_slice());
+    add(into, b" quorate=");
+    add(into, yes_no(answer.quorate));
+    add(into, b" ");
+    add_number(into, answer.votes);
+    add(into, b"/");
+    add_number(into, answer.quorum);
 }
 
 /// The count of a node, as a trace, a status and the line of a running node print it, after what stands before it.
@@ -128,13 +132,10 @@ pub fn answer_text(answer: &Answer) -> ShortText
     ensures text { result ≡ answer_text answer.now }
     ensures len { length result ≤ 60 }
 {
+    let mut bytes = ArrayVec::<u8, 60>::new();
+    add_answer(&mut bytes, answer);
     let mut text = ShortText::new();
-    text.add(b" quorate=");
-    text.add(yes_no(answer.quorate));
-    text.add(b" ");
-    text.add_number(answer.votes);
-    text.add(b"/");
-    text.add_number(answer.quorum);
+    text.add(bytes.as_slice());
     text
 }
 

@@ -1,0 +1,6 @@
+mod HeadSteps
+mod LineSteps
+mod SettingsSteps
+mod Taken
+mod TextLines
+mod TextSteps

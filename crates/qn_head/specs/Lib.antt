@@ -1,0 +1,6 @@
+pub mod Faults
+pub mod HeadLaws
+pub mod Heads
+pub mod PartLaws
+pub mod Parts
+pub mod Texts
