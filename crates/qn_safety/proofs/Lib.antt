@@ -43,3 +43,4 @@ pub mod TripleMail
 pub mod TripleHolders
 pub mod TripleRows
 pub mod TriplePremises
+pub mod LogMoves

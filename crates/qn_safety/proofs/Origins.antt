@@ -51,11 +51,11 @@ pub handed_log : (s : Settings) (i now : ℕ) (entry : What) (n : Running) → (
 unfolding handed logged with_entry line_of
 handed_log s i now entry n = refl
 
-booted_log : (s : Settings) (i now base : ℕ) (clean : Bool) (n : Running) → (booted s i now base clean n).log ≡ line_of s i (tick_of base) (begin_of clean) [] ∷ []
+pub booted_log : (s : Settings) (i now base : ℕ) (clean : Bool) (n : Running) → (booted s i now base clean n).log ≡ line_of s i (tick_of base) (begin_of clean) [] ∷ []
 unfolding booted handed logged with_entry line_of
 booted_log s i now base clean n = refl
 
-begin_line : (s : Settings) (i tick : ℕ) (clean : Bool) → (line_of s i tick (begin_of clean) []).what ≡ begin_of clean
+pub begin_line : (s : Settings) (i tick : ℕ) (clean : Bool) → (line_of s i tick (begin_of clean) []).what ≡ begin_of clean
 unfolding line_of
 begin_line s i tick false = refl
 begin_line s i tick true = refl
@@ -147,7 +147,7 @@ pub contains : {A : Type 0} {x : A} {xs : List A} → IsIn x xs → Contains xs 
 contains First = (0, omega arith, refl)
 contains (Behind y there) = let rest = contains there in (suc rest.0, omega (arith, rest.1), rest.2)
 
-get_in : {A : Type 0} (xs : List A) (n : ℕ) (x : A) → slice_get xs n ≡ Some x → IsIn x xs
+pub get_in : {A : Type 0} (xs : List A) (n : ℕ) (x : A) → slice_get xs n ≡ Some x → IsIn x xs
 get_in [] n x e = none_some x e
 get_in (y ∷ ys) zero x e = subst (λ z. IsIn z (y ∷ ys)) (some_same _ _ e) First
 get_in (y ∷ ys) (suc n) x e = Behind y (get_in ys n x e)
@@ -286,7 +286,7 @@ sent_given {s = s} sent (Adds rank entry) earlier ruled there =
     let now = sent_now rank sent ruled (node s rank (Adds rank entry ∷ earlier)).log refl (sent_in sent _ there) in
     (rank, sent_by_entry sent entry ruled now.0 now.1 now.2 now.3 now.4)
 
-sent_among : {s : Settings} {t : Timing} (sent : Sent) (moments : List Moment) → AllRuled s t moments → IsIn sent (packets s moments) → (k : ℕ) × Sending s k sent moments
+pub sent_among : {s : Settings} {t : Timing} (sent : Sent) (moments : List Moment) → AllRuled s t moments → IsIn sent (packets s moments) → (k : ℕ) × Sending s k sent moments
 unfolding packets
 sent_among sent [] ruled there = none_in there
 sent_among {s = s} {t = t} sent (moment ∷ earlier) ruled there =

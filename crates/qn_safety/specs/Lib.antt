@@ -5,6 +5,7 @@ pub mod Releases
 pub mod Reported
 pub mod Landing
 pub mod Lemmas
+pub mod LogMoves
 pub mod Premises
 pub mod TripleWorld
 pub mod TripleRules

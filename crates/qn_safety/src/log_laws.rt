@@ -1,0 +1,41 @@
+//! What holds of the log of one node from one moment to a later one.
+ghost use Rattle.std.specs.Prelude.{◌≡◌, ◌≤◌, ℕ, List, ◌∷◌};
+ghost use Rattle.qn_model.specs.declared.configuration.Settings.{Settings};
+ghost use Rattle.qn_model.specs.declared.events.Event.{Event};
+ghost use Rattle.qn_model.specs.declared.times.Timing.{Timing};
+ghost use Rattle.qn_model.specs.Log.{incarnation};
+ghost use Rattle.qn_model.specs.Moments.{Before, Moment, node, time};
+ghost use Rattle.qn_model.specs.Steps.{AllAllowed, run};
+ghost use Rattle.qn_safety.specs.Clocks.{RunsOn};
+ghost use Rattle.qn_safety.specs.LogMoves.{LogMove};
+ghost use Rattle.qn_safety.specs.Timed.{IsTimedRun, IsUp};
+
+/// Time, boots and logs from an old moment to a new one. Time and the count of boots never fall; in one boot
+/// the log of a node that runs only grows, and once the node is up its incarnation stays.
+pub fn law_boots()
+    ensures time { (old new : List Moment) → Before old new → time old ≤ time new }
+    ensures count { (s : Settings) (rank : ℕ) (old new : List Moment)
+        → Before old new
+        → (node s rank old).boots ≤ (node s rank new).boots }
+    ensures log { (s : Settings) (t : Timing) (rank : ℕ) (old new moments : List Moment)
+        → IsTimedRun s t moments
+        → RunsOn s rank old new moments
+        → Before (node s rank old).log (node s rank new).log }
+    ensures incarnation { (s : Settings) (t : Timing) (rank : ℕ) (old new moments : List Moment)
+        → IsTimedRun s t moments
+        → RunsOn s rank old new moments
+        → IsUp s rank old
+        → incarnation (node s rank new).log ≡ incarnation (node s rank old).log }
+{}
+
+/// What an event that is allowed is to the moments and to the log of each node: no moment goes, and a log stays, has
+/// one line more, or begins with a boot. A view, and an answer of the device, come of no event but the one that
+/// hands it: no node sends one.
+pub fn law_log_moves()
+    ensures moments { (s : Settings) (t : Timing) (earlier events : List Event)
+        → Before earlier events
+        → Before (run s t earlier).moments (run s t events).moments }
+    ensures log { (s : Settings) (t : Timing) (event : Event) (earlier : List Event) (rank : ℕ)
+        → AllAllowed s t (event ∷ earlier)
+        → LogMove s rank event (run s t earlier).moments (run s t (event ∷ earlier)).moments }
+{}
