@@ -1,0 +1,6 @@
+pub mod Lease
+pub mod Arbiter
+pub mod Poller
+pub mod ArbiterWorld
+pub mod ArbiterRules
+pub mod ArbiterSteps

@@ -1,0 +1,16 @@
+//! The leased vote of a quorum device: an arbiter that gives its yes to one side at a time, as definitions and laws.
+//!
+//! Promises: `lease_safe` is exactly the definition of a safe lease. `specs/Arbiter` and `specs/Poller` say what an
+//! arbiter answers and which reply a node takes; `specs/ArbiterWorld`, `specs/ArbiterRules` and `specs/ArbiterSteps`
+//! are the world of a cluster beside its arbiter, its rules and its runs. Nothing here says how anything is computed.
+#![tactic(auto)]
+
+mod events;
+mod lease;
+mod polls;
+mod reports;
+
+pub use events::ArbiterEvent;
+pub use lease::{LONGEST_LEASE, Lease, lease_safe};
+pub use polls::{Poll, Reply};
+pub use reports::{ArbiterReport, Said};
