@@ -8,7 +8,7 @@ ghost use Rattle.qn_cluster.specs.Seats.{SeatFor};
 
 use crate::cluster::Cluster;
 use crate::seat::Seat;
-use qn_base::{Mask, Rank};
+use qn_base::{Mask, Rank, View};
 use qn_model::{Answer, Event, Phase, Report, Sent, Settings, Why};
 
 impl Seat {
@@ -16,9 +16,10 @@ impl Seat {
     ghost use Rattle.qn_model.specs.declared.configuration.Settings.{Settings};
     ghost use Rattle.qn_model.specs.Holding.{holds};
     ghost use Rattle.qn_model.specs.Moments.{Running};
+    ghost use Rattle.qn_model.specs.Phases.{is_up, phase};
     ghost use Rattle.qn_model.specs.Steps.{answer_now, why_now};
     ghost use Rattle.qn_cluster.specs.Seats.{SeatFor};
-    ghost use Rattle.qn_cluster.specs.Seen.{phase_now};
+    ghost use Rattle.qn_cluster.specs.Seen.{phase_now, polls_now, tick_now};
 
     /// Whether the node is running and holds the resource.
     fn holds(&self) -> bool
@@ -69,15 +70,47 @@ impl Seat {
             Phase::Gone
         }
     }
+
+    /// The tick of the node's clock; None where it is off.
+    fn tick_now(&self) -> Option<u64>
+        ensures { (s : Settings) (me : ℕ) (node : Running)
+            → SeatFor self.now s me node
+            → result ≡ tick_now node }
+    {
+        if self.on { Some(self.tick()) } else { None }
+    }
+
+    /// The node's tick, incarnation, install number and view; None where it is not up or has no view.
+    fn polls(&self) -> Option<(u64, u64, u64, View)>
+        ensures { (s : Settings) (me : ℕ) (node : Running)
+            → SeatFor self.now s me node
+            → result ≡ polls_now s node }
+    {
+        if !self.is_up() {
+            return None;
+        }
+        let present = self.node.present()?;
+        let incarnation = self.node.incarnation().unwrap_or(0);
+        Some((self.tick(), incarnation, present.0, present.1))
+    }
+
+    /// Whether the node is up.
+    fn is_up(&self) -> bool
+        ensures { (s : Settings) (me : ℕ) (node : Running)
+            → SeatFor self.now s me node
+            → result ≡ (node.on && is_up (phase s node.log)) }
+    {
+        self.on && matches!(self.node.phase(), Phase::Up)
+    }
 }
 
 impl Cluster {
-    ghost use Rattle.std.specs.Prelude.{◌≡◌, ◌<◌, ◌≤◌, ℕ, List, IfSome, length, slice_get, true};
+    ghost use Rattle.std.specs.Prelude.{◌≡◌, ◌<◌, ◌≤◌, ℕ, List, [], IfSome, length, slice_get, true};
     ghost use Rattle.qn_model.specs.Moments.{Moment, is_holder, node, packets};
     ghost use Rattle.qn_model.specs.Rules.{is_well_formed};
     ghost use Rattle.qn_model.specs.Steps.{answer_now, holders, outs_after, report, why_now};
     ghost use Rattle.qn_model.specs.World.{World};
-    ghost use Rattle.qn_cluster.specs.Seen.{IsConfigured, answer_shown, phase_now, why_shown};
+    ghost use Rattle.qn_cluster.specs.Seen.{IsConfigured, answer_shown, phase_now, polls_now, report_at, tick_now, why_shown};
     ghost use Rattle.qn_cluster.specs.Standing.{ClusterFor, IsStanding};
 
     /// The nodes that hold the resource.
@@ -106,6 +139,27 @@ impl Cluster {
             → result ≡ phase_now self.now.settings (node self.now.settings i.0 moments) }
     {
         self.seat(i).phase()
+    }
+
+    /// The tick of the clock of the node of a rank, in milliseconds; None where it is off.
+    pub fn tick(&self, i: Rank) -> Option<u64>
+        requires { i.0 < length self.now.seats }
+        ensures { (moments : List Moment)
+            → ClusterFor self.now moments
+            → result ≡ tick_now (node self.now.settings i.0 moments) }
+    {
+        self.seat(i).tick_now()
+    }
+
+    /// The tick, the incarnation, the install number and the view of the node of a rank; None where it is not up or has no
+    /// view.
+    pub fn polls(&self, i: Rank) -> Option<(u64, u64, u64, View)>
+        requires { i.0 < length self.now.seats }
+        ensures { (moments : List Moment)
+            → ClusterFor self.now moments
+            → result ≡ polls_now self.now.settings (node self.now.settings i.0 moments) }
+    {
+        self.seat(i).polls()
     }
 
     /// The count of votes of the node of a rank at its present tick; that of the empty history where it is off.
@@ -160,7 +214,29 @@ impl Cluster {
             → into.old.outs ≡ outs_after self.now.settings event.now d
             → into.new ≡ report self.now.settings event.now d }
     {
-        let touched = touched(event);
+        self.fill_of(touched(event), into);
+    }
+
+    /// Fills in what is reported where nothing came out of a node, or no node was touched.
+    pub fn fill_quiet(&self, node: Option<Rank>, into: &mut Report)
+        requires standing { IsStanding self.now }
+        requires configured { IsConfigured self.now.settings node }
+        ensures { (d : World)
+            → ClusterFor self.now d.moments
+            → into.new ≡ report_at self.now.settings node [] d }
+    {
+        into.outs.clear();
+        self.fill_of(node, into);
+    }
+
+    /// Fills in what is reported of a node, if one was touched, beside the outputs.
+    fn fill_of(&self, touched: Option<Rank>, into: &mut Report)
+        requires standing { IsStanding self.now }
+        requires configured { IsConfigured self.now.settings touched }
+        ensures { (d : World)
+            → ClusterFor self.now d.moments
+            → into.new ≡ report_at self.now.settings touched into.old.outs d }
+    {
         into.time = self.time;
         into.touched = touched;
         into.holders = self.holders();

@@ -12,3 +12,4 @@ pub mod Asking
 pub mod BootEntries
 pub mod Conditions
 pub mod Stages
+pub mod Presence

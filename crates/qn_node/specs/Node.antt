@@ -1,9 +1,11 @@
 -- What a node in fixed memory stands for: the log of a member.
-use Rattle.std.specs.Prelude.{◌≡◌, ◌<◌, ℕ, List, length}
+use Rattle.std.specs.Prelude.{◌≡◌, ◌<◌, ℕ, List, Option, length}
+use Rattle.std.specs.Option.{option_map}
+use Rattle.qn_base.specs.declared.ids.View.{View}
 use Rattle.qn_model.specs.declared.configuration.Settings.{Settings}
 use Rattle.qn_model.specs.declared.life.Phase.{Phase}
 use Rattle.qn_model.specs.Log.{Line, incarnation}
-use Rattle.qn_model.specs.NodeVotes.{votes}
+use Rattle.qn_model.specs.NodeVotes.{install, view, votes}
 use Rattle.qn_fence.specs.Fence.{IsAskedInside}
 use Rattle.qn_node.specs.declared.node.Node.{Node}
 use Rattle.qn_node.specs.Stage.{StageFor, stage_phase}
@@ -16,6 +18,10 @@ steps_of node = node.steps_left
 -- the phase of a node
 abbrev pub phase_of : Node → Phase
 phase_of node = stage_phase node.stage
+
+-- the install number and the present view
+abbrev pub present : List Line → Option (ℕ × View)
+present log = option_map (λ installed. (install log, installed)) (view log)
 
 -- the node stands for the log of the configured member of that rank
 pub record NodeFor (node : Node) (s : Settings) (me : ℕ) (log : List Line) : Type 0 where

@@ -88,8 +88,10 @@ impl Live {
         outs: &mut Outs,
     ) -> Option<Rest>
         requires few { installs_of self.old.heard < u64.MAX }
+        requires few_counted { tally.old.installs < u64.MAX }
         requires empty { outs.old ≡ [] }
         ensures few { installs_in (stage_after self.new result) ≤ installs_of self.old.heard + 1 }
+        ensures few_counted { tally.new.installs ≤ tally.old.installs + 1 }
         ensures counts { (log : List Line)
             → LiveFor self.old own.now.settings own.now.me.0 log
             → TallyFor tally.old own.now.settings (votes log)

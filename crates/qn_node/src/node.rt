@@ -5,7 +5,7 @@ ghost use Rattle.qn_node.specs.Stage.{installs_in};
 use crate::own::Own;
 use crate::stage::Stage;
 use crate::tally::Tally;
-use qn_base::Rank;
+use qn_base::{Rank, View};
 use qn_model::{Answer, Entry, Outs, Phase, Settings, Why};
 
 /// One member of the cluster. Ticks are milliseconds of its clock.
@@ -17,6 +17,7 @@ pub struct Node {
     tally: Tally,
     stage: Stage,
     ghost few_views: { installs_in stage + steps_left ≤ 18446744073709551615 },
+    ghost few_counted: { tally.installs + steps_left ≤ 18446744073709551615 },
 }
 
 impl Node {
@@ -28,7 +29,7 @@ impl Node {
     ghost use Rattle.qn_model.specs.NodeVotes.{answer_with_tie};
     ghost use Rattle.qn_model.specs.NodeOutputs.{newest_outs, with_entry};
     ghost use Rattle.qn_model.specs.Unmet.{unmet};
-    ghost use Rattle.qn_node.specs.Node.{NodeFor, phase_of, steps_of};
+    ghost use Rattle.qn_node.specs.Node.{NodeFor, phase_of, present, steps_of};
     ghost use Rattle.qn_node.specs.Outputs.{IsNodeOutput};
 
     /// The node of that rank before its first entry.
@@ -106,6 +107,15 @@ impl Node {
             → result ≡ answer_with_tie s log tick }
     {
         self.tally.answer(&self.own, tick)
+    }
+
+    /// The install number of the present view, which counts the views since the boot from 1, and that view; None
+    /// without a view.
+    pub fn present(&self) -> Option<(u64, View)>
+        ensures { (s : Settings) (me : ℕ) (log : List Line) → NodeFor self.now s me log → result ≡ present log }
+    {
+        qn_model::law_present_view();
+        self.tally.present()
     }
 
     /// Whether the node holds the resource.

@@ -44,8 +44,10 @@ impl Stage {
     /// Takes an entry in, and gives its outputs.
     pub fn step(&mut self, own: &Own, tally: &mut Tally, entry: Entry, outs: &mut Outs)
         requires few { installs_in self.old < u64.MAX }
+        requires few_counted { tally.old.installs < u64.MAX }
         requires empty { outs.old ≡ [] }
         ensures few { installs_in self.new ≤ installs_in self.old + 1 }
+        ensures few_counted { tally.new.installs ≤ tally.old.installs + 1 }
         ensures counts { (log : List Line)
             → StageFor self.old own.now.settings own.now.me.0 log
             → TallyFor tally.old own.now.settings (votes log)

@@ -7,39 +7,45 @@ use qn_quorum::Quorum;
 use qn_tie::Tie;
 
 /// The votes of a node: the count, the tie breaker, and the present view with the tick at which it was installed,
-/// in milliseconds of the node's clock; 0 without a view.
+/// in milliseconds of the node's clock, 0 without a view; and how many views were installed.
 #[derive(Drop)]
 pub struct Tally {
     quorum: Quorum,
     tie: Tie,
     view: Option<View>,
     view_tick: u64,
+    installs: u64,
 }
 
 impl Tally {
-    ghost use Rattle.std.specs.Prelude.{◌≡◌, ◌∷◌, [], List};
+    ghost use Rattle.std.specs.Prelude.{◌≡◌, ◌≤◌, ◌<◌, ◌+◌, ◌∷◌, [], List};
+    ghost use Rattle.std.specs.Option.{option_map};
     ghost use Rattle.qn_model.specs.declared.configuration.Settings.{Settings};
     ghost use Rattle.qn_model.specs.declared.votes.VoteEntry.{VoteEntry};
     ghost use Rattle.qn_model.specs.declared.votes.VoteWhat.{VoteWhat};
     ghost use Rattle.qn_model.specs.Tie.{answer_with_tie_at, breaks_tie};
-    ghost use Rattle.qn_model.specs.Votes.{expected_votes, view_tick};
-    ghost use Rattle.qn_node.specs.Tally.{TallyFor};
+    ghost use Rattle.qn_model.specs.Votes.{expected_votes, present_view, view_tick};
+    ghost use Rattle.qn_node.specs.Tally.{TallyFor, view_count};
 
     /// The votes of a node before its first entry.
     pub fn new(own: &Own) -> Self
-        ensures { TallyFor result own.now.settings [] }
+        ensures stands { TallyFor result own.now.settings [] }
+        ensures none { result.installs ≡ 0 }
     {
         Tally {
             quorum: Quorum::new(&own.settings),
             tie: Tie::new(&own.settings),
             view: None,
             view_tick: 0,
+            installs: 0,
         }
     }
 
     /// Takes in what an entry at this tick is to the votes.
     pub fn count(&mut self, own: &Own, tick: u64, vote: VoteWhat)
-        ensures { (past : List VoteEntry)
+        requires few { self.old.installs < u64.MAX }
+        ensures few { self.new.installs ≤ self.old.installs + 1 }
+        ensures stands { (past : List VoteEntry)
             → TallyFor self.old own.now.settings past
             → TallyFor self.new own.now.settings (record { tick = tick; what = vote } ∷ past) }
     {
@@ -54,7 +60,9 @@ impl Tally {
 
     /// A view is installed at this tick. The breaker is told of the expected votes after it.
     fn install(&mut self, own: &Own, tick: u64, view: View)
-        ensures { (past : List VoteEntry)
+        requires few { self.old.installs < u64.MAX }
+        ensures few { self.new.installs ≡ self.old.installs + 1 }
+        ensures stands { (past : List VoteEntry)
             → TallyFor self.old own.now.settings past
             → TallyFor self.new own.now.settings (record { tick = tick; what = VoteWhat.View view } ∷ past) }
     {
@@ -64,6 +72,7 @@ impl Tally {
             .on_view(view, votes, self.quorum.answer(tick).expected);
         self.view = Some(view);
         self.view_tick = tick;
+        self.installs += 1;
     }
 
     /// The count at this tick, after the entries so far, with the tie breaker (votequorum(5), `auto_tie_breaker`).
@@ -103,6 +112,15 @@ impl Tally {
         self.view_tick
     }
 
+    /// The install number of the present view, which counts the views from 1, and the view; None without a view.
+    pub fn present(&self) -> Option<(u64, View)>
+        ensures { (s : Settings) (past : List VoteEntry)
+            → TallyFor self.now s past
+            → result ≡ option_map (λ view. (view_count past, view)) (present_view past) }
+    {
+        self.view.map(|view| (self.installs, view))
+    }
+
     /// An equal one: it stands for each vote list that this one stands for.
     pub fn copy(&self) -> Self
         ensures { result ≡ self.now }
@@ -112,6 +130,7 @@ impl Tally {
             tie: self.tie.copy(),
             view: self.view,
             view_tick: self.view_tick,
+            installs: self.installs,
         }
     }
 }

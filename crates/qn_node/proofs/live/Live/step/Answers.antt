@@ -23,7 +23,7 @@ returns-in-Halt-clause-counts c = λ log h counts.
     let r = c.read-what.result in
     let reading = reads_same c.args.self.now s me log c.args.entry.what h ∙ sym c.read-what.ensures in
     let still = subst (λ x. LiveFor x s me log) (sym c.course-course.ensures.same) h in
-    let counted_so = c.count.ensures (votes log) counts in
+    let counted_so = c.count.ensures.stands (votes log) counts in
     let vote = c.hear-vote.ensures.vote s me log still.hears in
     subst (λ v. TallyFor c.count.new.self s (votes (with_read s me log tick v))) (sym reading)
     (counted c.count.new.self s me log tick c.hear-vote.result r counted_so vote)
@@ -37,7 +37,7 @@ returns-in-End-clause-counts c = λ log h counts.
     let r = c.read-what.result in
     let reading = reads_same c.args.self.now s me log c.args.entry.what h ∙ sym c.read-what.ensures in
     let still = subst (λ x. LiveFor x s me log) (sym c.course-course.ensures.same) h in
-    let counted_so = c.count.ensures (votes log) counts in
+    let counted_so = c.count.ensures.stands (votes log) counts in
     let vote = c.hear-vote.ensures.vote s me log still.hears in
     subst (λ v. TallyFor c.count.new.self s (votes (with_read s me log tick v))) (sym reading)
     (counted c.count.new.self s me log tick c.hear-vote.result r counted_so vote)
@@ -51,7 +51,7 @@ returns-in-Act-clause-counts c = λ log h counts.
     let r = c.read-what.result in
     let reading = reads_same c.args.self.now s me log c.args.entry.what h ∙ sym c.read-what.ensures in
     let still = subst (λ x. LiveFor x s me log) (sym c.course-course.ensures.same) h in
-    let counted_so = c.count.ensures (votes log) counts in
+    let counted_so = c.count.ensures.stands (votes log) counts in
     let vote = c.hear-vote.ensures.vote s me log still.hears in
     subst (λ v. TallyFor c.count.new.self s (votes (with_read s me log tick v))) (sym reading)
     (counted c.count.new.self s me log tick c.hear-vote.result r counted_so vote)
@@ -131,7 +131,7 @@ returns-in-Act-clause-stands c = λ log h counts before.
     let reads = subst (Reads log) (sym c.read-what.ensures) (reads_live c.args.self.now s me log c.args.entry.what h) in
     let still = subst (λ x. LiveFor x s me log) (sym c.course-course.ensures.same) h in
     let goes = sym (c.course-course.ensures.exact s log h.watches h.phases reads.plain reads.answers) ∙ c.in-Act.is in
-    let counted_so = c.count.ensures (votes log) counts in
+    let counted_so = c.count.ensures.stands (votes log) counts in
     let vote = c.hear-vote.ensures.vote s me log still.hears in
     let fences = c.hear-vote.ensures.fences s log _ still.fences reads.plain refl refl (λ e. (ap (λ b. if b then ask_place log else 0) e, reads.answers e)) before refl in
     let took_in = took c.course-course.new.self s me log tick r c.in-Act.feeds c.in-Act.leaving c.hear-vote.new.self.heard c.hear-vote.new.self.fence still reads goes
@@ -159,7 +159,7 @@ returns-in-Act-clause-outs c = λ log h counts before.
     let reads = subst (Reads log) (sym c.read-what.ensures) (reads_live c.args.self.now s me log c.args.entry.what h) in
     let still = subst (λ x. LiveFor x s me log) (sym c.course-course.ensures.same) h in
     let goes = sym (c.course-course.ensures.exact s log h.watches h.phases reads.plain reads.answers) ∙ c.in-Act.is in
-    let counted_so = c.count.ensures (votes log) counts in
+    let counted_so = c.count.ensures.stands (votes log) counts in
     let vote = c.hear-vote.ensures.vote s me log still.hears in
     let fences = c.hear-vote.ensures.fences s log _ still.fences reads.plain refl refl (λ e. (ap (λ b. if b then ask_place log else 0) e, reads.answers e)) before refl in
     let took_in = took c.course-course.new.self s me log tick r c.in-Act.feeds c.in-Act.leaving c.hear-vote.new.self.heard c.hear-vote.new.self.fence still reads goes

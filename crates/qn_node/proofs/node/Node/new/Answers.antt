@@ -11,6 +11,6 @@ returns-clause-stands c = record {
   is_configured = c.requires;
   knows = refl;
   is_inside = c.law_asked_inside.ensures.none;
-  counts = subst (λ s. TallyFor c.new-tally.result s []) c.copy.ensures c.new-tally.ensures;
+  counts = subst (λ s. TallyFor c.new-tally.result s []) c.copy.ensures c.new-tally.ensures.stands;
   stands = refl;
 }

@@ -14,7 +14,7 @@ unfolding with_entry
 returns-clause-counts c = λ log h counts.
     let s = c.args.own.now.settings in
     let me = c.args.own.now.me.0 in
-    quiet_counted c.count.new.self s me log c.args.entry.tick c.args.entry.what (c.count.ensures (votes log) counts) (quiet_at c.args.self.now s me log h c.in_default.not-Live)
+    quiet_counted c.count.new.self s me log c.args.entry.tick c.args.entry.what (c.count.ensures.stands (votes log) counts) (quiet_at c.args.self.now s me log h c.in_default.not-Live)
 
 pub returns-clause-stands : goal.returns-clause-stands
 unfolding with_entry
