@@ -19,9 +19,9 @@ pub const PACKET: usize = 129;
 /// The most bytes of a packet that is sent.
 pub const SENT_PACKET: usize = 128;
 
-/// What a running node opens: how many images it has, 1 for now, the path of its image, of its watchdog
-/// and of its resource, and the first port of the cluster with its own rank, which together give the port
-/// that it listens at.
+/// What a running node opens: how many images it has, 1 or 3, the path of its image, or those of its three
+/// images with a comma between each two, the paths of its watchdog and of its resource, and the first port of
+/// the cluster with its own rank, which together give the port that it listens at.
 #[derive(Clone, Copy, Debug)]
 pub struct Opening<'a> {
     pub images: u8,

@@ -15,6 +15,7 @@ mod buffered;
 mod calls;
 mod deadline;
 mod devices;
+mod disk;
 mod env_memory;
 mod failing;
 mod image_file;

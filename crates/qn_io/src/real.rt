@@ -1,10 +1,10 @@
-//! The real outside: an image file, the monotonic clock, a port on 127.0.0.1, a watchdog and a resource.
+//! The real outside: image files, the monotonic clock, a port on 127.0.0.1, a watchdog and a resource.
 ghost use Rattle.std.specs.Prelude.{◌≡◌, ◌↔◌, ◌+◌, ◌<◌, ◌≤◌, IsTrue, IsSomeAnd};
 
 use crate::action::{Action, noted};
 use crate::calls::{Env, Got, Opening, PACKET, SECTOR};
 use crate::devices::Devices;
-use crate::image_file::ImageFile;
+use crate::disk::Disk;
 use crate::reported::reported;
 use crate::resource::Order;
 use qn_base::{Failed, Rank};
@@ -19,13 +19,13 @@ use std::time::Clock;
 /// within the feed delay of its decision, and a stop or a start before it may have taken long.
 const FEED_LIMIT: u64 = 500;
 
-/// The outside of a node over the runtime: an image file, the monotonic clock in milliseconds, UDP on 127.0.0.1, a
+/// The outside of a node over the runtime: one image file or three, the monotonic clock in milliseconds, UDP on 127.0.0.1, a
 /// watchdog and a resource. It does not tell its calls, and is seen as its count of faults. Of each call that failed
 /// a line on standard error says why, and of what a node opens, starts, stops, disarms and ends one says when.
 #[derive(Drop)]
 pub struct RealEnv<R: Files<File = File> + Net + Clock + Eprint + Drop> {
     rt: R,
-    image: Option<ImageFile>,
+    disk: Disk,
     devices: Option<Devices>,
     last_tick: Option<u64>,
     faults: u64,
@@ -49,10 +49,19 @@ impl<R: Files<File = File> + Net + Clock + Eprint + Drop> RealEnv<R> {
     {
         RealEnv {
             rt,
-            image: None,
+            disk: Disk::closed(),
             devices: None,
             last_tick: None,
             faults: 0,
+        }
+    }
+
+    /// Counts a fault where one of three images is lost.
+    fn count_lost(&mut self, disk: &Disk)
+        ensures { self.old ≤ self.new }
+    {
+        if disk.has_lost() {
+            self.faults = self.faults.saturating_add(1);
         }
     }
 
@@ -66,20 +75,6 @@ impl<R: Files<File = File> + Net + Clock + Eprint + Drop> RealEnv<R> {
             self.faults = self.faults.saturating_add(1);
         }
         done
-    }
-
-    /// Takes the exclusive lock of the image. Where it is not to be had the image is closed, since its shared
-    /// lock is lost.
-    fn lock_image(&mut self)
-        ensures { self.new ≡ self.old }
-    {
-        let is_locked = match &self.image {
-            Some(image) => reported(&self.rt, image.path(), image.lock()).is_ok(),
-            None => false,
-        };
-        if !is_locked {
-            self.image = None;
-        }
     }
 
     /// The time of the monotonic clock in milliseconds, where it can be read.
@@ -135,25 +130,28 @@ impl<R: Files<File = File> + Net + Clock + Eprint + Drop> Env for RealEnv<R> {
     /// Opens the file of that path for reading and writing, under a shared lock that is held while it is
     /// open, and makes it where it is absent.
     fn open_image(&mut self, path: &str) -> Result<(), Failed> {
-        self.image = None;
-        self.image = reported(&self.rt, path, ImageFile::open(&self.rt, path)).ok();
-        let done = if self.image.is_some() {
-            Ok(())
-        } else {
-            Err(Failed)
+        self.disk = Disk::closed();
+        let done = match Disk::open(&self.rt, 1, path) {
+            Ok(disk) => {
+                self.disk = disk;
+                Ok(())
+            }
+            Err(failed) => Err(failed),
         };
         self.counted(done)
     }
 
-    /// Opens the port, the image, the resource, which is stopped, and the watchdog, in this order. Where one of
-    /// them fails the others are closed, and those after it are not touched.
+    /// Opens the port, the images, the resource, which is stopped, and the watchdog, in this order. Where one of
+    /// them fails the others are closed, and those after it are not touched. Of three images one may fail, which is
+    /// counted, and each later call on it fails.
     fn open_node(&mut self, opening: &Opening<'_>) -> Result<(), Failed> {
-        self.image = None;
+        self.disk = Disk::closed();
         self.devices = None;
         let opened = Devices::open(&self.rt, opening);
         let done = match opened {
-            Ok((image, devices)) => {
-                self.image = Some(image);
+            Ok((disk, devices)) => {
+                self.count_lost(&disk);
+                self.disk = disk;
                 self.devices = Some(devices);
                 Ok(())
             }
@@ -194,23 +192,14 @@ impl<R: Files<File = File> + Net + Clock + Eprint + Drop> Env for RealEnv<R> {
 
     /// Reads the sector; what lies past the end of the file reads as zeros.
     fn read(&mut self, sector: u32, into: &mut [u8; SECTOR]) -> Result<(), Failed> {
-        let done = match &self.image {
-            Some(image) => reported(&self.rt, image.path(), image.read(sector, into)),
-            None => Err(Failed),
-        };
+        let done = self.disk.read(&self.rt, sector, into);
         self.counted(done)
     }
 
     /// Writes the sector and has it pushed to the disk. Sector 0 is written only under the exclusive lock,
     /// which is then held while the image is open; where that lock is not to be had, the image is closed.
     fn write(&mut self, sector: u32, from: &[u8; SECTOR]) -> Result<(), Failed> {
-        if sector == 0 {
-            self.lock_image();
-        }
-        let done = match &self.image {
-            Some(image) => reported(&self.rt, image.path(), image.write(sector, from)),
-            None => Err(Failed),
-        };
+        let done = self.disk.write(&self.rt, sector, from);
         self.counted(done)
     }
 
