@@ -1,5 +1,5 @@
 -- What a cluster shows of its nodes.
-use Rattle.std.specs.Prelude.{◌<◌, ℕ, Bool, List, Option, None, Some, length, ◌&&◌, if◌then◌else◌}
+use Rattle.std.specs.Prelude.{◌<◌, ℕ, Bool, false, List, [], Option, None, Some, length, ◌&&◌, if◌then◌else◌}
 use Rattle.std.specs.Option.{option_map_or}
 use Rattle.qn_base.specs.declared.ids.Rank.{Rank}
 use Rattle.qn_model.specs.declared.configuration.Settings.{Settings}
@@ -7,6 +7,7 @@ use Rattle.qn_model.specs.declared.life.Phase.{Phase}
 use Rattle.qn_model.specs.declared.life.Phase.TheVariants.{Gone}
 use Rattle.qn_model.specs.declared.life.Why.{Why}
 use Rattle.qn_model.specs.declared.life.Why.TheVariants.{Down}
+use Rattle.qn_model.specs.declared.reports.Report.{Report}
 use Rattle.qn_model.specs.declared.votes.Answer.{Answer}
 use Rattle.qn_model.specs.Holding.{stop_due}
 use Rattle.qn_model.specs.Log.{op_out}
@@ -42,3 +43,15 @@ why_shown s who moments = option_map_or (λ rank. why_now s rank.0 (node s rank.
 abbrev pub IsConfigured : Settings → Option Rank → Type 0
 IsConfigured s None = Unit {0}
 IsConfigured s (Some rank) = rank.0 < length s.nodes
+
+-- a report of nothing
+abbrev pub blank_report : Report
+blank_report =
+    record {
+      time = 0;
+      touched = None;
+      outs = [];
+      holders = record { 0 = 0 };
+      answer = record { quorate = false; votes = 0; quorum = 0; expected = 0; released = false };
+      why = Down;
+    }
