@@ -3,15 +3,14 @@ use Rattle.std.specs.Prelude.{ℕ, suc, zero, Bool, List, [], ◌∷◌, ◌++�
 use Rattle.std.specs.Option.{option_map}
 use Rattle.qn_base.specs.declared.ids.Rank.{Rank}
 use Rattle.qn_disk.specs.declared.leftovers.Leftover.{Leftover}
-use Rattle.qn_disk.specs.Standing.{is_of}
 use Rattle.qn_model.specs.declared.outputs.DiskOp.{DiskOp}
 
--- the place of the leftover of a rank on an image with that number, from 1
-abbrev pub place_in : ℕ → ℕ → ℕ → List Leftover → Option ℕ
-place_in rank image number [] = None
-place_in rank image number (leftover ∷ others) =
-    if is_of rank image leftover then (if number == 1 then Some 0 else option_map suc (place_in rank image (number - 1) others))
-    else option_map suc (place_in rank image number others)
+-- the place of the leftover with that number, from 1, among those that pass a test
+abbrev pub place_in : (Leftover → Bool) → ℕ → List Leftover → Option ℕ
+place_in mine number [] = None
+place_in mine number (leftover ∷ others) =
+    if mine leftover then (if number == 1 then Some 0 else option_map suc (place_in mine (number - 1) others))
+    else option_map suc (place_in mine number others)
 
 -- the leftovers of the other ranks
 abbrev pub others_of : ℕ → List Leftover → List Leftover

@@ -18,11 +18,14 @@ pub record SectorsFor (c : Contents) (slots : ℕ → Slot) (mailboxes : ℕ →
 abbrev pub is_of : ℕ → ℕ → Leftover → Bool
 is_of rank image leftover = leftover.of.0 == rank && leftover.image == image
 
--- the writes of a rank that are left over on an image, oldest first
+-- the writes of the leftovers that pass a test, oldest first
+abbrev pub left_where : (Leftover → Bool) → List Leftover → List DiskOp
+left_where mine [] = []
+left_where mine (leftover ∷ others) = if mine leftover then leftover.op ∷ left_where mine others else left_where mine others
+
+-- the writes of a rank that are left over on an image
 abbrev pub left_of : ℕ → ℕ → List Leftover → List DiskOp
-left_of rank image [] = []
-left_of rank image (leftover ∷ others) =
-    if is_of rank image leftover then leftover.op ∷ left_of rank image others else left_of rank image others
+left_of rank image left = left_where (is_of rank image) left
 
 -- the leftovers stand for those of each rank on each image; each other node that one is about has a rank below the count
 pub record LeftFor (count : ℕ) (items : List Leftover) (left : ℕ → ℕ → List DiskOp) : Type 0 where

@@ -1,6 +1,7 @@
 //! Writes that were given up before they landed.
 ghost use Rattle.std.specs.Prelude.{◌≡◌, ◌≤◌, ◌+◌, ◌++◌, length, OnErr, OnOk};
 ghost use Rattle.qn_disk.specs.Places.{marked_on, others_of, place_in};
+ghost use Rattle.qn_disk.specs.Standing.{is_of};
 
 use qn_base::{NoMemory, Rank};
 use qn_model::DiskOp;
@@ -85,8 +86,13 @@ impl Leftovers {
             → LeftFor count self.new (put_on left i.0 image (without (left i.0 image) number))) }
         ensures none { result ≡ None → self.new ≡ self.old }
     {
-        let place = place_of(self.items.as_slice(), i, image, number)?;
-        Some(self.items.remove(place).op)
+        match place_of(self.items.as_slice(), i, image, number) {
+            Some(place) => {
+                let leftover = self.items.remove(place);
+                Some(leftover.op)
+            }
+            None => None,
+        }
     }
 
     /// The leftovers of a rank are dropped.
@@ -102,7 +108,7 @@ impl Leftovers {
 /// The place of the leftover of a rank on an image with that number, from 1.
 fn place_of(left: &[Leftover], i: Rank, image: u8, number: u64) -> Option<usize>
     requires { 1 ≤ number }
-    ensures { result ≡ place_in i.0 image number left.now }
+    ensures { result ≡ place_in (is_of i.0 image) number left.now }
 {
     let mut wanted = number;
     for (place, leftover) in left.iter().enumerate() {

@@ -64,6 +64,13 @@ impl Sectors {
         self.slots[usize::from(i.0)] = slot;
     }
 
+    fn put_message(&mut self, i: Rank, message: Message)
+        requires { i.0 < 32 }
+        ensures { self.new ≡ record self.old { mailboxes = slice_set self.old.mailboxes i.0 message } }
+    {
+        self.mailboxes[usize::from(i.0)] = message;
+    }
+
     /// A message replaces what the mailbox of a rank holds.
     pub fn set_mailbox(&mut self, i: Rank, message: Message)
         requires { i.0 < 32 }
@@ -71,7 +78,7 @@ impl Sectors {
             → SectorsFor self.old slots mailboxes
             → SectorsFor self.new slots (put mailboxes i.0 message) }
     {
-        self.mailboxes[usize::from(i.0)] = message;
+        self.put_message(i, message);
     }
 
     /// The entry that answers an operation of a rank that lands: a read takes the value of its sector, and the header is
