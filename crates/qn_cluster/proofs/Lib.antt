@@ -3,6 +3,7 @@ pub mod HandSteps
 pub mod Holders
 pub mod Lists
 pub mod Looks
+pub mod NodeEvents
 pub mod OutputSteps
 pub mod PassSteps
 pub mod RuleSteps

@@ -1,5 +1,5 @@
 -- What a cluster shows of its nodes.
-use Rattle.std.specs.Prelude.{◌<◌, ℕ, Bool, List, Option, None, Some, length, ◌&&◌, if◌then◌else◌, unwrap_or}
+use Rattle.std.specs.Prelude.{◌<◌, ℕ, Bool, false, List, [], Option, None, Some, length, ◌&&◌, if◌then◌else◌, unwrap_or}
 use Rattle.std.specs.Option.{option_map, option_map_or}
 use Rattle.qn_base.specs.declared.ids.Rank.{Rank}
 use Rattle.qn_base.specs.declared.ids.View.{View}
@@ -8,13 +8,13 @@ use Rattle.qn_model.specs.declared.life.Phase.{Phase}
 use Rattle.qn_model.specs.declared.life.Phase.TheVariants.{Gone}
 use Rattle.qn_model.specs.declared.life.Why.{Why}
 use Rattle.qn_model.specs.declared.life.Why.TheVariants.{Down}
+use Rattle.qn_model.specs.declared.reports.Report.{Report}
 use Rattle.qn_model.specs.declared.votes.Answer.{Answer}
 use Rattle.qn_model.specs.Holding.{stop_due}
 use Rattle.qn_model.specs.Log.{incarnation, op_out}
 use Rattle.qn_model.specs.Moments.{Moment, Running, node, tick_of, time}
 use Rattle.qn_model.specs.Phases.{is_up, phase}
 use Rattle.qn_model.specs.declared.outputs.Out.{Out}
-use Rattle.qn_model.specs.declared.reports.Report.{Report}
 use Rattle.qn_model.specs.Steps.{answer_now, answer_off, holders, why_now}
 use Rattle.qn_model.specs.World.{World}
 use Rattle.qn_node.specs.Node.{present}
@@ -72,3 +72,15 @@ report_at s who outs d =
 abbrev pub IsConfigured : Settings → Option Rank → Type 0
 IsConfigured s None = Unit {0}
 IsConfigured s (Some rank) = rank.0 < length s.nodes
+
+-- a report of nothing
+abbrev pub blank_report : Report
+blank_report =
+    record {
+      time = 0;
+      touched = None;
+      outs = [];
+      holders = record { 0 = 0 };
+      answer = record { quorate = false; votes = 0; quorum = 0; expected = 0; released = false };
+      why = Down;
+    }

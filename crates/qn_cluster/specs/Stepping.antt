@@ -21,6 +21,10 @@ pub record SameFrame (old new : Nodes) : Type 0 where
   pub steps : new.steps ≡ old.steps
   pub count : length new.seats ≡ length old.seats
 
+-- more packets were sent after some moments than after others
+abbrev pub grows : Settings → List Moment → List Moment → Bool
+grows s earlier later = nat_lt (length (packets s earlier)) (length (packets s later))
+
 -- a moment sends packets
 abbrev pub sends_at : Settings → Moment → List Moment → Bool
 sends_at s moment earlier = nat_lt (length (packets s earlier)) (length (packets s (moment ∷ earlier)))

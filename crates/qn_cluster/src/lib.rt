@@ -9,6 +9,7 @@
 mod clocks;
 mod cluster;
 mod entries;
+mod events;
 mod first;
 mod hands;
 mod looking;
@@ -19,6 +20,6 @@ mod waiting;
 
 pub use cluster::Cluster;
 pub use entries::entry_of;
-pub use looking::touched;
+pub use looking::{blank_report, touched};
 pub use rules::unless;
 pub use waiting::Waiting;

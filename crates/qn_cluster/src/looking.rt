@@ -5,11 +5,12 @@ ghost use Rattle.qn_model.specs.Steps.{answer_off, holders, touched};
 ghost use Rattle.qn_model.specs.World.{World, node_at};
 ghost use Rattle.qn_cluster.specs.declared.seat.Seat.{Seat};
 ghost use Rattle.qn_cluster.specs.Seats.{SeatFor};
+ghost use Rattle.qn_cluster.specs.Seen.{blank_report};
 
 use crate::cluster::Cluster;
 use crate::seat::Seat;
 use qn_base::{Mask, Rank, View};
-use qn_model::{Answer, Event, Phase, Report, Sent, Settings, Why};
+use qn_model::{Answer, Event, Outs, Phase, Report, Sent, Settings, Why};
 
 impl Seat {
     ghost use Rattle.std.specs.Prelude.{◌≡◌, ◌&&◌, ℕ};
@@ -297,6 +298,26 @@ pub fn touched(event: &Event) -> Option<Rank>
         | Event::Leave(rank)
         | Event::Feed(rank)
         | Event::Operator(rank, _) => Some(*rank),
+    }
+}
+
+/// A report of nothing, to write the first report over.
+pub fn blank_report() -> Report
+    ensures { result ≡ blank_report }
+{
+    Report {
+        time: 0,
+        touched: None,
+        outs: Outs::new(),
+        holders: Mask(0),
+        answer: Answer {
+            quorate: false,
+            votes: 0,
+            quorum: 0,
+            expected: 0,
+            released: false,
+        },
+        why: Why::Down,
     }
 }
 

@@ -1,1 +1,5 @@
+pub mod Memory
+pub mod Standing
+pub mod Stepping
 pub mod TripleReading
+pub mod Whole

@@ -1,10 +1,22 @@
-//! The world of three images. So far: the lines of its schedules.
+//! The world of three images: the nodes of a cluster, the three images that they share, and the ten rules that an event
+//! has to obey; and the lines of its schedules. The nodes and the packets are those of `qn_cluster`.
 //!
-//! Promises: a line is read as the event that it says, or as its first fault, exactly as `specs/TripleReading`
-//! says; the lines that name no image are those of `qn_sched`.
+//! Promises: a `TripleWorld` stands for a world of the definitions (`specs/Standing`). `allowed` is exactly the rules;
+//! `apply` answers the rule that refuses an event, or makes exactly the step of the definitions and reports the new world.
+//! After a refusal the world is as it was. It runs out of memory only where a step appends a packet or a leftover. Every
+//! world was reached by well formed events, each allowed in its turn, and so at most one node holds, though any one image
+//! may fail, lag behind or come back. A line is read as the event that it says, or as its first fault, exactly as
+//! `specs/TripleReading` says; the lines that name no image are those of `qn_sched`.
 #![tactic(auto)]
 
+mod disk;
 mod event_line;
+mod rules;
+mod state;
+mod steps;
+mod world;
 
 pub use event_line::read_triple_line;
+pub use qn_cluster::blank_report;
 pub use qn_safety::TripleEvent;
+pub use world::TripleWorld;

@@ -1,0 +1,4 @@
+pub mod LeftoverSteps
+pub mod Lists
+pub mod Marks
+pub mod SectorSteps

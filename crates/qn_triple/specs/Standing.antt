@@ -1,0 +1,50 @@
+-- What a world of three images of the code stands for: one of the definitions.
+use Rattle.std.specs.Prelude.{◌≡◌, ◌<◌, ◌-◌, ℕ, Bool, true, List, Some, length, slice_get}
+use Rattle.qn_cluster.specs.Standing.{ClusterFor}
+use Rattle.qn_disk.specs.Contents.{Contents}
+use Rattle.qn_disk.specs.Standing.{LeftFor, SectorsFor}
+use Rattle.qn_model.specs.Timing.{is_safe}
+use Rattle.qn_parts.specs.Parts.{is_good_on, part_on}
+use Rattle.qn_safety.specs.declared.part.Part.{Part}
+use Rattle.qn_safety.specs.declared.triple_event.TripleEvent.{TripleEvent}
+use Rattle.qn_safety.specs.TripleRules.{is_image}
+use Rattle.qn_safety.specs.TripleSteps.{AllAllowedTriple, run_triple}
+use Rattle.qn_safety.specs.TripleWorld.{TripleWorld}
+use Rattle.qn_triple.specs.Whole.{Whole, cluster_of}
+
+-- the parts of the operation of a rank
+pub record PartsAt (all : List (List Part)) (rank : ℕ) (parts : ℕ → Part) : Type 0 where
+  pub own : List Part
+  pub here : slice_get all rank ≡ Some own
+  pub each : (image : ℕ) → is_image image ≡ true → part_on own image ≡ parts image
+
+-- the good images of a rank
+pub record GoodAt (all : List (List Bool)) (rank : ℕ) (good : ℕ → Bool) : Type 0 where
+  pub own : List Bool
+  pub here : slice_get all rank ≡ Some own
+  pub each : (image : ℕ) → is_image image ≡ true → is_good_on own image ≡ good image
+
+-- the sectors of an image
+pub record SectorsAt (all : List Contents) (image : ℕ) (w : TripleWorld) : Type 0 where
+  pub own : Contents
+  pub here : slice_get all (image - 1) ≡ Some own
+  pub stands : SectorsFor own (λ rank. w.slots rank image) (λ rank. w.mailboxes rank image)
+
+-- The world stands for a world of the definitions, part by part.
+pub record TripleFor (w : Whole) (d : TripleWorld) : Type 0 where
+  pub safe : is_safe w.timing ≡ true
+  pub cluster : ClusterFor (cluster_of w) d.moments
+  pub parts : (rank : ℕ) → rank < 32 → PartsAt w.parts rank (d.parts rank)
+  pub good : (rank : ℕ) → rank < 32 → GoodAt w.good rank (d.good rank)
+  pub images : (image : ℕ) → is_image image ≡ true → SectorsAt w.sectors image d
+  pub lefts : LeftFor (length w.settings.nodes) w.left d.left
+
+-- the world stands for one of the definitions
+abbrev pub IsStanding : Whole → Type 0
+IsStanding w = (d : TripleWorld) × TripleFor w d
+
+-- a list of events, each well formed and allowed in its turn, led to this world
+pub record IsReached (w : Whole) : Type 0 where
+  pub events : List TripleEvent
+  pub allowed : AllAllowedTriple w.settings w.timing events
+  pub stands : TripleFor w (run_triple w.settings w.timing events)

@@ -1,0 +1,260 @@
+//! The disk of a world of three images: the parts of the operations, the good images, the sectors and the leftovers.
+ghost use Rattle.std.specs.Prelude.{◌≡◌, ◌&&◌, not};
+ghost use Rattle.qn_model.specs.World.{is_write};
+ghost use Rattle.qn_safety.specs.TripleWorld.{has_failed, is_pending};
+
+use crate::state::State;
+use qn_base::{NoMemory, Rank};
+use qn_model::{DiskOp, Message, What};
+use qn_parts::{Part, answer_of, good_after};
+
+/// Whether a part is pending.
+pub(crate) fn is_pending(part: Part) -> bool
+    ensures { result ≡ is_pending part }
+{
+    matches!(part, Part::Pending)
+}
+
+/// Whether a part failed.
+pub(crate) fn has_failed(part: Part) -> bool
+    ensures { result ≡ has_failed part }
+{
+    matches!(part, Part::Failed)
+}
+
+/// Whether an operation is left over on an image where it is given up: a write whose part there is pending.
+pub(crate) fn is_left_over(op: DiskOp, part: Part) -> bool
+    ensures { result ≡ (is_write op && is_pending part) }
+{
+    op.is_write() && is_pending(part)
+}
+
+impl State {
+    ghost use Rattle.std.specs.Prelude.{◌≡◌, ◌<◌, ◌≤◌, ℕ, Bool, true, None, OnOk, OnErr, OnSome, is_some, length};
+    ghost use Rattle.qn_cluster.specs.Standing.{IsOpWithin, IsWithin};
+    ghost use Rattle.qn_disk.specs.Standing.{is_marked, left_over};
+    ghost use Rattle.qn_model.specs.World.{numbered, put, taken, without};
+    ghost use Rattle.qn_parts.specs.Parts.{is_good_on, part_on};
+    ghost use Rattle.qn_safety.specs.declared.part.Part.{Part};
+    ghost use Rattle.qn_safety.specs.TripleRules.{is_image, none_pending};
+    ghost use Rattle.qn_safety.specs.TripleSteps.{written_on};
+    ghost use Rattle.qn_safety.specs.TripleWorld.{TripleWorld, all_good, all_pending, answer_of, good_after, image_of, is_pending, none_left, put_on};
+    ghost use Rattle.qn_triple.specs.Standing.{TripleFor};
+    ghost use Rattle.qn_triple.specs.Stepping.{GivesUp, KeepsOn, OtherDisk, Turns};
+
+    /// The part of the operation of a rank on an image.
+    pub(crate) fn part(&self, i: Rank, image: u8) -> Part
+        requires within { i.0 < 32 }
+        requires image { is_image image ≡ true }
+        ensures { (d : TripleWorld) → TripleFor self.now d → result ≡ d.parts i.0 image }
+    {
+        self.parts[usize::from(i.0)][usize::from(image) - 1]
+    }
+
+    /// The parts of the operation of a rank.
+    pub(crate) fn parts(&self, i: Rank) -> [Part; 3]
+        requires { i.0 < 32 }
+        ensures { (d : TripleWorld)
+            → TripleFor self.now d
+            → (image : ℕ)
+            → is_image image ≡ true
+            → part_on result image ≡ d.parts i.0 image }
+    {
+        self.parts[usize::from(i.0)]
+    }
+
+    /// The parts of the operation of a rank are these.
+    pub(crate) fn set_parts(&mut self, i: Rank, parts: [Part; 3])
+        requires { i.0 < 32 }
+        ensures rest { OtherDisk self.old self.new }
+        ensures stands { (d : TripleWorld) (wanted : ℕ → Part)
+            → TripleFor self.old d
+            → ((image : ℕ) → is_image image ≡ true → part_on parts image ≡ wanted image)
+            → TripleFor self.new (record d { parts = put d.parts i.0 wanted }) }
+    {
+        self.parts[usize::from(i.0)] = parts;
+    }
+
+    /// The good images of a rank.
+    pub(crate) fn good(&self, i: Rank) -> [bool; 3]
+        requires { i.0 < 32 }
+        ensures { (d : TripleWorld)
+            → TripleFor self.now d
+            → (image : ℕ)
+            → is_image image ≡ true
+            → is_good_on result image ≡ d.good i.0 image }
+    {
+        self.good[usize::from(i.0)]
+    }
+
+    /// The good images of a rank are these.
+    pub(crate) fn set_good(&mut self, i: Rank, good: [bool; 3])
+        requires { i.0 < 32 }
+        ensures rest { OtherDisk self.old self.new }
+        ensures stands { (d : TripleWorld) (wanted : ℕ → Bool)
+            → TripleFor self.old d
+            → ((image : ℕ) → is_image image ≡ true → is_good_on good image ≡ wanted image)
+            → TripleFor self.new (record d { good = put d.good i.0 wanted }) }
+    {
+        self.good[usize::from(i.0)] = good;
+    }
+
+    /// The part of the operation of a rank on an image is this.
+    pub(crate) fn set_part(&mut self, i: Rank, image: u8, part: Part)
+        requires within { i.0 < 32 }
+        requires image { is_image image ≡ true }
+        ensures { Turns self.old self.new (λ d. record d { parts = put_on d.parts i.0 image part }) }
+    {
+        let mut parts = self.parts(i);
+        parts[usize::from(image) - 1] = part;
+        self.set_parts(i, parts);
+    }
+
+    /// No part of a rank has landed or failed any more.
+    pub(crate) fn forget_parts(&mut self, i: Rank)
+        requires { i.0 < 32 }
+        ensures { Turns self.old self.new (λ d. record d { parts = put d.parts i.0 all_pending }) }
+    {
+        self.set_parts(i, [Part::Pending; 3]);
+    }
+
+    /// Each image is a good one of a rank.
+    pub(crate) fn trust_all(&mut self, i: Rank)
+        requires { i.0 < 32 }
+        ensures { Turns self.old self.new (λ d. record d { good = put d.good i.0 all_good }) }
+    {
+        self.set_good(i, [true; 3]);
+    }
+
+    /// The entry that answers an operation of a rank by its parts.
+    pub(crate) fn answer(&self, i: Rank, op: DiskOp) -> What
+        requires { i.0 < 32 }
+        ensures { (d : TripleWorld) → TripleFor self.now d → result ≡ answer_of op (d.parts i.0) (d.good i.0) }
+    {
+        answer_of(op, &self.parts(i), &self.good(i))
+    }
+
+    /// The operation of a rank was answered: no part of it is left, and its good images are those after the answer.
+    pub(crate) fn close(&mut self, i: Rank, op: DiskOp)
+        requires { i.0 < 32 }
+        ensures { Turns self.old self.new (λ d. record d {
+          parts = put d.parts i.0 all_pending;
+          good = put d.good i.0 (good_after op (d.parts i.0) (d.good i.0));
+        }) }
+    {
+        let good = good_after(op, &self.parts(i), &self.good(i));
+        self.set_good(i, good);
+        self.forget_parts(i);
+    }
+
+    /// Whether no part of the operation of a rank is pending.
+    pub(crate) fn none_pending(&self, i: Rank) -> bool
+        requires { i.0 < 32 }
+        ensures { (d : TripleWorld)
+            → TripleFor self.now d
+            → result ≡ none_pending (λ image. is_pending (d.parts i.0 image)) }
+    {
+        let parts = self.parts(i);
+        !is_pending(parts[0]) && !is_pending(parts[1]) && !is_pending(parts[2])
+    }
+
+    /// The entry that a part of an operation of a rank takes where it lands on an image.
+    pub(crate) fn taken(&self, i: Rank, image: u8, op: DiskOp) -> What
+        requires within { i.0 < 32 }
+        requires image { is_image image ≡ true }
+        requires target { IsWithin 32 op }
+        ensures { (d : TripleWorld)
+            → TripleFor self.now d
+            → result ≡ taken self.now.settings self.now.timing i.0 op (image_of image d) }
+    {
+        let settings = self.cluster.settings();
+        self.sectors[usize::from(image) - 1].taken(settings, self.timing, i, op)
+    }
+
+    /// A write of a rank lands on an image.
+    pub(crate) fn write(&mut self, i: Rank, image: u8, op: DiskOp)
+        requires within { i.0 < 32 }
+        requires image { is_image image ≡ true }
+        requires target { IsWithin 32 op }
+        ensures { Turns self.old self.new (written_on i.0 image op) }
+    {
+        let sectors = &mut self.sectors[usize::from(image) - 1];
+        sectors.write(i, op);
+    }
+
+    /// The message in the mailbox of a rank on an image.
+    pub(crate) fn mailbox(&self, i: Rank, image: u8) -> Message
+        requires within { i.0 < 32 }
+        requires image { is_image image ≡ true }
+        ensures { (d : TripleWorld) → TripleFor self.now d → result ≡ d.mailboxes i.0 image }
+    {
+        self.sectors[usize::from(image) - 1].mailbox(i)
+    }
+
+    /// A message replaces what the mailbox of a rank on an image holds.
+    pub(crate) fn set_mailbox(&mut self, i: Rank, image: u8, message: Message)
+        requires within { i.0 < 32 }
+        requires image { is_image image ≡ true }
+        ensures { Turns self.old self.new (λ d. record d { mailboxes = put_on d.mailboxes i.0 image message }) }
+    {
+        let sectors = &mut self.sectors[usize::from(image) - 1];
+        sectors.set_mailbox(i, message);
+    }
+
+    /// A write of a rank is left over on the images that are marked.
+    pub(crate) fn leave_over(&mut self, i: Rank, op: DiskOp, on: [bool; 3]) -> Result<(), NoMemory>
+        requires { (d : TripleWorld) → TripleFor self.old d → IsWithin (length self.old.settings.nodes) op }
+        ensures ok { OnOk result (Turns self.old self.new (λ d. record d { left = left_over d.left i.0 op on })) }
+        ensures err { OnErr result (self.new ≡ self.old) }
+        ensures cause { OnErr result ((image : ℕ) × (is_image image ≡ true) × (is_marked on image ≡ true)) }
+    {
+        self.left.leave(i, op, &on)
+    }
+
+    /// The operation of a running node is given up: a write is left over on the images where its part is pending.
+    pub(crate) fn give_up(&mut self, i: Rank) -> Result<(), NoMemory>
+        requires within { i.0 < length self.old.seats }
+        requires few { i.0 < 32 }
+        ensures ok { OnOk result (GivesUp self.old self.new i.0) }
+        ensures err { OnErr result (KeepsOn self.old self.new i.0) }
+    {
+        if let Some(op) = self.op(i) {
+            let parts = self.parts(i);
+            let on = [
+                is_left_over(op, parts[0]),
+                is_left_over(op, parts[1]),
+                is_left_over(op, parts[2]),
+            ];
+            self.leave_over(i, op, on)?;
+        }
+        Ok(())
+    }
+
+    /// Whether there is a leftover of a rank on an image with that number, from 1.
+    pub(crate) fn has_left(&self, i: Rank, image: u8, number: u64) -> bool
+        requires image { is_image image ≡ true }
+        requires number { 1 ≤ number }
+        ensures { (d : TripleWorld) → TripleFor self.now d → result ≡ is_some (numbered (d.left i.0 image) number) }
+    {
+        self.left.has(i, image, number)
+    }
+
+    /// The leftover of a rank on an image with that number, from 1, leaves the list.
+    pub(crate) fn take_left(&mut self, i: Rank, image: u8, number: u64) -> Option<DiskOp>
+        requires image { is_image image ≡ true }
+        requires number { 1 ≤ number }
+        ensures op { (d : TripleWorld) → TripleFor self.old d → result ≡ numbered (d.left i.0 image) number }
+        ensures within { (d : TripleWorld) → TripleFor self.old d → IsOpWithin (length self.old.settings.nodes) result }
+        ensures rest { OnSome result (Turns self.old self.new (λ d. record d { left = put_on d.left i.0 image (without (d.left i.0 image) number) })) }
+        ensures none { result ≡ None → self.new ≡ self.old }
+    {
+        self.left.take(i, image, number)
+    }
+
+    /// The leftovers of a rank are dropped.
+    pub(crate) fn drop_left(&mut self, i: Rank)
+        ensures { Turns self.old self.new (λ d. record d { left = put d.left i.0 none_left }) }
+    {
+        self.left.drop_of(i);
+    }
+}
