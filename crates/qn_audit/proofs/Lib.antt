@@ -1,4 +1,3 @@
 mod Auditing
-mod InputEnds
 mod LogTexts
 mod Verdicts

@@ -12,40 +12,46 @@ use Rattle.qn_live.specs.declared.asked.Given.{Given}
 use Rattle.qn_live.specs.declared.asked.Room.{Room}
 use Rattle.qn_live.specs.Asking.{question_of, told}
 use Rattle.qn_audit.specs.Logs.{call_line, log_text}
-use Rattle.qn_audit.specs.Recording.{Logs}
+use Rattle.qn_audit.specs.Recording.{LogSink, Logs, LogsWhen}
 
 -- nothing was given to a log
-pub logs_none : (whole : Bool) (written : Option (List ℕ)) (failed : Type 0) → Logs whole whole written written failed []
-logs_none true written failed = sym (append_known-nil written)
-logs_none false written failed = refl
+pub logs_none : (log : LogSink) → Logs log log []
+logs_none log = none_when log.whole log
+  where
+    none_when : (whole : Bool) (log : LogSink) → LogsWhen whole whole log log []
+    none_when true log = sym (append_known-nil log.written)
+    none_when false log = refl
 
 -- a text, and then another one
-pub logs_then : (first second third : Bool) (a b c : Option (List ℕ)) (before between after : ℕ) (text more : List ℕ) → before ≤ between → between ≤ after
-    → Logs first second a b (HasRisen before between) text → Logs second third b c (HasRisen between after) more → Logs first third a c (HasRisen before after) (text ++ more)
-logs_then true true true a b c before between after text more low high one two =
-    two ∙ ap (λ w. append_known w more) one ∙ sym (append_known-append a text more)
-logs_then true true false a b c before between after text more low high one two = (
-  record {
-    front = text ++ two.0.front;
-    rest = two.0.rest;
-    parts = ap (λ t. text ++ t) two.0.parts ∙ sym (append_assoc text two.0.front two.0.rest);
-    adds = two.0.adds ∙ ap (λ w. append_known w two.0.front) one ∙ sym (append_known-append a text two.0.front);
-  },
-  HasRisen-within before between after after low high (omega arith) two.1,
-)
-logs_then true false true a b c before between after text more low high one two = absurd two
-logs_then true false false a b c before between after text more low high one two = (
-  record {
-    front = one.0.front;
-    rest = one.0.rest ++ more;
-    parts = ap (λ t. t ++ more) one.0.parts ∙ append_assoc one.0.front one.0.rest more;
-    adds = two ∙ one.0.adds;
-  },
-  HasRisen-within before before between after (omega arith) low high one.1,
-)
-logs_then false true third a b c before between after text more low high one two = absurd one
-logs_then false false true a b c before between after text more low high one two = absurd two
-logs_then false false false a b c before between after text more low high one two = two ∙ one
+module _ (a b c : LogSink) (text more : List ℕ) (low : a.faults ≤ b.faults) (high : b.faults ≤ c.faults) where
+  then_when : (first second third : Bool) → LogsWhen first second a b text → LogsWhen second third b c more → LogsWhen first third a c (text ++ more)
+  then_when true true true one two =
+      two ∙ ap (λ w. append_known w more) one ∙ sym (append_known-append a.written text more)
+  then_when true true false one two = (
+    record {
+      front = text ++ two.0.front;
+      rest = two.0.rest;
+      parts = ap (λ t. text ++ t) two.0.parts ∙ sym (append_assoc text two.0.front two.0.rest);
+      adds = two.0.adds ∙ ap (λ w. append_known w two.0.front) one ∙ sym (append_known-append a.written text two.0.front);
+    },
+    HasRisen-within a.faults b.faults c.faults c.faults low high (omega arith) two.1,
+  )
+  then_when true false true one two = absurd two
+  then_when true false false one two = (
+    record {
+      front = one.0.front;
+      rest = one.0.rest ++ more;
+      parts = ap (λ t. t ++ more) one.0.parts ∙ append_assoc one.0.front one.0.rest more;
+      adds = two ∙ one.0.adds;
+    },
+    HasRisen-within a.faults a.faults b.faults c.faults (omega arith) low high one.1,
+  )
+  then_when false true third one two = absurd one
+  then_when false false true one two = absurd two
+  then_when false false false one two = two ∙ one
+
+  pub logs_then : Logs a b text → Logs b c more → Logs a c (text ++ more)
+  logs_then one two = then_when a.whole b.whole c.whole one two
 
 -- the text of calls and of one more
 pub log_text-append : (calls : List Call) (call : Call) → log_text (calls ++ call ∷ []) ≡ log_text calls ++ (call_line call ++ codes "\n")

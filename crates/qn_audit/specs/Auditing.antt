@@ -105,7 +105,6 @@ EndsAt plan head lines turns last more end.ReadFault = HasFailed more
 EndsAt plan head lines turns last more end.UnknownNode = ⊥
 EndsAt plan head lines turns last more (end.BadConf fault) = ⊥
 EndsAt plan head lines turns last more (end.BadSettings fault) = ⊥
-EndsAt plan head lines turns last more end.WriteFault = ⊥
 EndsAt plan head lines turns last more end.NoMemory = ⊥
 
 -- The audit of a log against a plan: its first lines say calls, each the one that the plan asks for after those before it, and

@@ -3,26 +3,52 @@ use Rattle.std.specs.Prelude.{◌≡◌, ℕ, Bool, true, false, List, ◌++◌,
 use Rattle.std.specs.Io.KnownBytes.{append_known}
 use Rattle.qn_base.specs.declared.calls.Call.{Call}
 use Rattle.qn_base.specs.Plans.{Follows, Made, Plan}
+use Rattle.qn_io.specs.Outside.{HasRisen}
 use Rattle.qn_io.specs.Writes.{AppendsFront}
+use Rattle.qn_audit.specs.declared.recorder.Recorder.{Recorder}
 use Rattle.qn_audit.specs.Logs.{call_line, log_text}
 
--- The text was given to a log: `whole` says whether all writes succeeded, before and after. It was written whole, or a write
--- failed and a prefix of it was written; after a write that failed nothing is written.
-abbrev pub Logs : Bool → Bool → Option (List ℕ) → Option (List ℕ) → Type 0 → List ℕ → Type 0
-Logs true true old new failed text = new ≡ append_known old text
-Logs true false old new failed text = AppendsFront old new text × failed
-Logs false true old new failed text = ⊥
-Logs false false old new failed text = new ≡ old
+-- a log: the bytes of its sink, where it tells them, the count of the sink's faults, and whether each write of the log
+-- succeeded
+pub record LogSink : Type 0 where
+  pub written : Option (List ℕ)
+  pub faults : ℕ
+  pub whole : Bool
+
+-- the log of a recorder
+abbrev pub log_of : {E O : Type 0} → (O → Option (List ℕ)) → (O → ℕ) → Recorder E O → LogSink
+log_of written faults recorder =
+    record { written = written recorder.out.now; faults = faults recorder.out.now; whole = recorder.whole }
+
+-- The text was given to a log, which was whole before or was not, and is whole after or is not: it was written whole, or a
+-- write failed and a prefix of it was written; after a write that failed nothing is written.
+abbrev pub LogsWhen : Bool → Bool → LogSink → LogSink → List ℕ → Type 0
+LogsWhen true true before after text = after.written ≡ append_known before.written text
+LogsWhen true false before after text =
+    AppendsFront before.written after.written text × HasRisen before.faults after.faults
+LogsWhen false true before after text = ⊥
+LogsWhen false false before after text = after.written ≡ before.written
+
+abbrev pub Logs : LogSink → LogSink → List ℕ → Type 0
+Logs before after text = LogsWhen before.whole after.whole before after text
 
 -- a call was given to a log, as its line with its end
-abbrev pub LogsCall : Bool → Bool → Option (List ℕ) → Option (List ℕ) → Type 0 → Call → Type 0
-LogsCall before after old new failed call = Logs before after old new failed (call_line call ++ codes "\n")
+abbrev pub LogsCall : LogSink → LogSink → Call → Type 0
+LogsCall before after call = Logs before after (call_line call ++ codes "\n")
 
--- The calls of the plan were made, with these answers and no others, it ended with the value, and they were given to a log in
--- that order: `faults` and `told` are those of the outside, `whole` and `written` those of the log, each before and after.
-pub record DidLogged {A : Type 0} (faults_old faults_new : ℕ) (told_old told_new : Option (List Call))
-    (whole_old whole_new : Bool) (written_old written_new : Option (List ℕ)) (failed : Type 0) (plan : Plan A) (value : A) : Type 0 where
+-- what a recorder shows: the faults and the calls of its outside, where they are told, and its log
+pub record Recorded : Type 0 where
+  pub faults : ℕ
+  pub calls : Option (List Call)
+  pub log : LogSink
+
+abbrev pub recorded : ℕ → Option (List Call) → LogSink → Recorded
+recorded faults calls log = record { faults = faults; calls = calls; log = log }
+
+-- the calls of the plan were made, with these answers and no others, it ended with the value, and they were given to the log
+-- in that order
+pub record DidLogged {A : Type 0} (plan : Plan A) (value : A) (before after : Recorded) : Type 0 where
   pub calls : List Call
-  pub made : Made faults_old faults_new told_old told_new calls
-  pub logs : Logs whole_old whole_new written_old written_new failed (log_text calls)
+  pub made : Made before.faults after.faults before.calls after.calls calls
+  pub logs : Logs before.log after.log (log_text calls)
   pub follows : Follows plan calls value

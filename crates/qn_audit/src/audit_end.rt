@@ -22,8 +22,6 @@ pub enum AuditEnd {
     BadSchedule { line: u64, fault: LineFault },
     /// A read failed, and no line before it is at fault.
     ReadFault,
-    /// A write failed.
-    WriteFault,
     /// Out of memory.
     NoMemory,
 }

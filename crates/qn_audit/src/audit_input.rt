@@ -1,6 +1,6 @@
 //! Audits the log of a recorded node behind its settings.
-ghost use Rattle.std.specs.Prelude.{◌≡◌, ◌≤◌, ◌<◌, ◌==◌, length, position, Some, IfSome};
-ghost use Rattle.qn_audit.specs.Inputs.{JudgesInput};
+ghost use Rattle.std.specs.Prelude.{◌≡◌, ◌≤◌, ◌<◌, ◌==◌, length, position, None, Some, IfNone, IfSome};
+ghost use Rattle.qn_audit.specs.Inputs.{JudgesInput, input_at};
 
 use crate::audit_end::AuditEnd;
 use crate::auditor::Auditor;
@@ -23,7 +23,9 @@ pub fn audit<I: Source>(
     clean: bool,
 ) -> AuditEnd
     requires some_turn { 1 ≤ turns }
-    ensures judges { JudgesInput id clean leave_at turns (I.left input.old) (I.left input.new) result }
+    ensures judges { JudgesInput
+        (record { id = id; clean = clean; leave = leave_at; turns = turns })
+        (input_at I.left I.faults input.old) (input_at I.left I.faults input.new) result }
     ensures never_falls { I.faults input.old ≤ I.faults input.new }
 {
     let mut pieces = Pieces::new();
@@ -42,6 +44,7 @@ pub fn audit<I: Source>(
 /// The rank of the node with that id.
 fn rank_of(nodes: &Nodes, id: NodeId) -> Option<Rank>
     ensures named { IfSome result (λ rank. position (λ node. node.id.0 == id.0) nodes.now ≡ Some rank.0) }
+    ensures unnamed { IfNone result (position (λ node. node.id.0 == id.0) nodes.now ≡ None) }
     ensures within { IfSome result (λ rank. rank.0 < length nodes.now) }
 {
     let place = place_of(nodes, id)?;

@@ -1,5 +1,5 @@
 //! Reads the settings text at the beginning of an audit's input, up to the line of dashes.
-ghost use Rattle.std.specs.Prelude.{◌≡◌, ◌≤◌, ◌<◌, ◌+◌, ◌++◌, ◌∷◌, ◌^◌, [], true, length, take, drop, codes, Ok, OnOk, IfOk, IfErr};
+ghost use Rattle.std.specs.Prelude.{◌≡◌, ◌≢◌, ◌≤◌, ◌<◌, ◌+◌, ◌++◌, ◌∷◌, ◌^◌, [], true, length, take, drop, codes, Ok, OnOk, IfOk, IfErr};
 ghost use Rattle.std.specs.Io.KnownBytes.{prepend_known};
 ghost use Rattle.qn_io.specs.Outside.{HasRisen};
 ghost use Rattle.qn_model.specs.Settings.{IsValid};
@@ -32,6 +32,7 @@ pub(crate) fn read_head<I: Source>(
     ensures valid { IfOk result (λ head. IsValid head.settings) }
     ensures few_lines { IfOk result (λ head. head.lines < 2 ^ 63) }
     ensures fault { IfErr result IsHeadFault }
+    ensures cause { IfErr result (λ end. end ≡ AuditEnd.ReadFault → HasRisen (I.faults input.old) (I.faults input.new)) }
     ensures head { IfOk result (λ head. HasHead head.settings
         (prepend_known pieces.old (I.left input.old)) (prepend_known pieces.new (I.left input.new))) }
     ensures never_falls { I.faults input.old ≤ I.faults input.new }
@@ -48,6 +49,7 @@ pub(crate) fn read_head<I: Source>(
 #[tactic(auto, unfolding(qn_sched::specs::Head::settings_in))]
 fn settings_of(alloc: Global, text: &[u8]) -> Result<Settings, AuditEnd>
     ensures fault { IfErr result IsHeadFault }
+    ensures read { IfErr result (λ end. end ≢ AuditEnd.ReadFault) }
     ensures settings { IfOk result (λ settings. settings_in text.now ≡ Ok settings) }
     ensures valid { IfOk result IsValid }
 {
@@ -74,6 +76,7 @@ fn read_text<I: Source>(alloc: Global, pieces: &mut Pieces, input: &mut I) -> Re
     ensures takes { IfOk result (λ text.
         prepend_known pieces.old (I.left input.old) ≡ prepend_known text.bytes.items (prepend_known pieces.new (I.left input.new))) }
     ensures fault { IfErr result IsHeadFault }
+    ensures cause { IfErr result (λ end. end ≡ AuditEnd.ReadFault → HasRisen (I.faults input.old) (I.faults input.new)) }
     ensures whole { IfOk result (λ text. drop text.line_start text.bytes.items ≡ codes "----\n") }
     ensures never_falls { I.faults input.old ≤ I.faults input.new }
 {
@@ -105,6 +108,7 @@ impl Text {
     fn take(&mut self, byte: u8) -> Result<bool, AuditEnd>
         ensures adds { OnOk result (self.new.bytes.items ≡ self.old.bytes.items ++ byte ∷ []) }
         ensures fault { IfErr result IsHeadFault }
+        ensures read { IfErr result (λ end. end ≢ AuditEnd.ReadFault) }
         ensures whole { IfOk result (λ whole. whole ≡ true → drop self.new.line_start self.new.bytes.items ≡ codes "----\n") }
     {
         if self.bytes.push(byte).is_err() {

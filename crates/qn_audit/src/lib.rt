@@ -20,7 +20,6 @@ mod log_line;
 mod log_name;
 mod log_place;
 mod log_text;
-mod log_writer;
 mod logging;
 mod recorder;
 
@@ -31,6 +30,5 @@ pub use log::audit_log;
 pub use log_line::read_call;
 pub use log_place::MOST_LOG_LINES;
 pub use log_text::{LOG_LINE, put_call_line};
-pub use log_writer::LogWriter;
 pub use logging::run_recorded;
 pub use recorder::Recorder;

@@ -1,13 +1,12 @@
 //! Runs a node over an outside and records its calls.
 ghost use Rattle.std.specs.Prelude.{◌≡◌, ◌≤◌, ◌<◌, ◌∷◌, [], List, length};
 ghost use Rattle.qn_base.specs.Plans.{Made};
-ghost use Rattle.qn_io.specs.Outside.{HasRisen};
 ghost use Rattle.qn_io.specs.Receives.{FitsPacket};
 ghost use Rattle.qn_live.specs.Asking.{IsWithin, told, Tells};
 ghost use Rattle.qn_live.specs.Runs.{live_plan};
 ghost use Rattle.qn_model.specs.Log.{Line};
 ghost use Rattle.qn_model.specs.Settings.{IsValid};
-ghost use Rattle.qn_audit.specs.Recording.{DidLogged, LogsCall};
+ghost use Rattle.qn_audit.specs.Recording.{DidLogged, LogsCall, log_of, recorded};
 
 use crate::recorder::Recorder;
 use qn_base::Rank;
@@ -17,8 +16,8 @@ use qn_model::Settings;
 
 /// Runs the node of that rank for that many turns at most, over an outside whose calls are recorded, as
 /// `qn_live::run_node` does. The calls that were made are those of the plan, and they were given to the log in that order.
-pub fn run_recorded<E: Env + Drop, O: Sink + Drop>(
-    recorder: &mut Recorder<E, O>,
+pub fn run_recorded<E: Env, O: Sink>(
+    recorder: &mut Recorder<'_, E, O>,
     settings: &Settings,
     me: Rank,
     clean: bool,
@@ -28,12 +27,16 @@ pub fn run_recorded<E: Env + Drop, O: Sink + Drop>(
     requires valid { IsValid settings.now }
     requires configured { me.0 < length settings.now.nodes }
     requires some_turn { 1 ≤ turns }
-    ensures did { (log : List Line) × DidLogged (E.faults recorder.old.env) (E.faults recorder.new.env)
-        (E.calls recorder.old.env) (E.calls recorder.new.env)
-        recorder.old.log.whole recorder.new.log.whole (O.written recorder.old.log.out) (O.written recorder.new.log.out)
-        (HasRisen (O.faults recorder.old.log.out) (O.faults recorder.new.log.out))
-        (live_plan settings.now me.0 clean leave_at turns) (record { end = result; log = log }) }
-    ensures never_falls { O.faults recorder.old.log.out ≤ O.faults recorder.new.log.out }
+    ensures did { let before = recorded (E.faults recorder.old.env.now) (E.calls recorder.old.env.now)
+        (log_of O.written O.faults recorder.old) in
+        let after = recorded (E.faults recorder.new.env.now) (E.calls recorder.new.env.now)
+        (log_of O.written O.faults recorder.new) in
+        (log : List Line) × DidLogged (live_plan settings.now me.0 clean leave_at turns)
+        (record { end = result; log = log }) before after }
+    ensures same_env { recorder.new.env.ghost_name ≡ recorder.old.env.ghost_name }
+    ensures same_out { recorder.new.out.ghost_name ≡ recorder.old.out.ghost_name }
+    ensures env_faults { E.faults recorder.old.env.now ≤ E.faults recorder.new.env.now }
+    ensures sink_faults { O.faults recorder.old.out.now ≤ O.faults recorder.new.out.now }
 {
     let mut run = NodeRun::new(settings.copy(), me, clean, leave_at, turns);
     let mut room = Room::new();
@@ -48,17 +51,16 @@ pub fn run_recorded<E: Env + Drop, O: Sink + Drop>(
 }
 
 /// Makes the call on the outside, and records it.
-fn call<E: Env + Drop, O: Sink + Drop>(
-    recorder: &mut Recorder<E, O>,
-    asked: Asked,
-    room: &mut Room,
-) -> Given
+fn call<E: Env, O: Sink>(recorder: &mut Recorder<'_, E, O>, asked: Asked, room: &mut Room) -> Given
     requires { IsWithin asked }
-    ensures made { Made (E.faults recorder.old.env) (E.faults recorder.new.env) (E.calls recorder.old.env) (E.calls recorder.new.env)
+    ensures made { Made (E.faults recorder.old.env.now) (E.faults recorder.new.env.now)
+        (E.calls recorder.old.env.now) (E.calls recorder.new.env.now)
         (told asked room.old result room.new ∷ []) }
-    ensures logs { LogsCall recorder.old.log.whole recorder.new.log.whole (O.written recorder.old.log.out) (O.written recorder.new.log.out)
-        (HasRisen (O.faults recorder.old.log.out) (O.faults recorder.new.log.out)) (told asked room.old result room.new) }
-    ensures never_falls { O.faults recorder.old.log.out ≤ O.faults recorder.new.log.out }
+    ensures logs { LogsCall (log_of O.written O.faults recorder.old) (log_of O.written O.faults recorder.new)
+        (told asked room.old result room.new) }
+    ensures same_env { recorder.new.env.ghost_name ≡ recorder.old.env.ghost_name }
+    ensures same_out { recorder.new.out.ghost_name ≡ recorder.old.out.ghost_name }
+    ensures sink_faults { O.faults recorder.old.out.now ≤ O.faults recorder.new.out.now }
     ensures within { FitsPacket result.got }
     ensures tells { Tells (told asked room.old result room.new) result room.new }
 {

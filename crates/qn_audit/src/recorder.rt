@@ -2,88 +2,123 @@
 ghost use Rattle.std.specs.Prelude.{◌≡◌, true};
 ghost use Rattle.qn_io.specs.Receives.{FitsPacket, received};
 
-use crate::log_writer::LogWriter;
-use qn_base::{Bytes, Call, Failed, Rank, Received};
-use qn_io::{Env, Got, Opening, PACKET, SECTOR, Sink};
+use crate::log_text::{LOG_LINE, put_call_line};
+use arrayvec::ArrayVec;
+use qn_base::{Bytes, Call, Failed, Rank, Received, add};
+use qn_io::{Env, Got, Opening, PACKET, SECTOR, Sink, put_all};
 
 /// An outside that passes each call on to another one, and writes it with its answer to a log before the next call.
 /// The answers, the faults and the calls that are told are those of the other one. The openings are not recorded.
+/// After a write that failed nothing more is written.
 #[derive(Drop)]
-pub struct Recorder<E: Drop, O: Drop> {
-    env: E,
-    log: LogWriter<O>,
+pub struct Recorder<'a, E, O> {
+    env: &'a mut E,
+    out: &'a mut O,
+    /// Whether each write succeeded so far.
+    whole: bool,
 }
 
-impl<E: Env + Drop, O: Sink + Drop> Recorder<E, O> {
+impl<'a, E: Env, O: Sink> Recorder<'a, E, O> {
+    ghost use Rattle.std.specs.Prelude.{◌≤◌};
+    ghost use Rattle.qn_audit.specs.Recording.{LogsCall, log_of};
+
     /// Records the calls of an outside to a sink.
-    pub fn new(env: E, out: O) -> Recorder<E, O>
-        ensures env { result.env ≡ env }
-        ensures out { result.log.out ≡ out }
-        ensures whole { result.log.whole ≡ true }
+    pub fn new(env: &'a mut E, out: &'a mut O) -> Recorder<'a, E, O>
+        ensures same_env { result.env.ghost_name ≡ env.entry.ghost_name }
+        ensures env { result.env.now ≡ env.old }
+        ensures same_out { result.out.ghost_name ≡ out.entry.ghost_name }
+        ensures out { result.out.now ≡ out.old }
+        ensures whole { result.whole ≡ true }
     {
         Recorder {
             env,
-            log: LogWriter::new(out),
+            out,
+            whole: true,
         }
     }
 
-    /// The outside, the sink, and whether each write succeeded.
-    pub fn finish(self) -> (E, O, bool)
-        ensures { result ≡ (self.env, self.log.out, self.log.whole) }
+    /// Whether each write succeeded so far.
+    pub fn is_whole(&self) -> bool
+        ensures { result ≡ self.now.whole }
     {
-        let (out, whole) = self.log.finish();
-        (self.env, out, whole)
+        self.whole
+    }
+
+    /// Writes the line of a call, where no write has failed so far.
+    fn log(&mut self, call: &Call)
+        ensures logs { LogsCall (log_of O.written O.faults self.old) (log_of O.written O.faults self.new) call.now }
+        ensures env { self.new.env.now ≡ self.old.env.now }
+        ensures same_env { self.new.env.ghost_name ≡ self.old.env.ghost_name }
+        ensures same_out { self.new.out.ghost_name ≡ self.old.out.ghost_name }
+        ensures never_falls { O.faults self.old.out.now ≤ O.faults self.new.out.now }
+    {
+        if self.whole {
+            let mut line = ArrayVec::<u8, LOG_LINE>::new();
+            put_call_line(call, &mut line);
+            add(&mut line, b"\n");
+            self.whole = put_all(self.out, line.as_slice()).is_ok();
+        }
     }
 }
 
-impl<E: Env + Drop, O: Sink + Drop> Env for Recorder<E, O> {
+impl<'a, E: Env, O: Sink> Env for Recorder<'a, E, O> {
     ghost use Rattle.std.specs.Prelude.{◌≤◌, ◌<◌, ◌∷◌, [], true, false, is_ok, length, OnOk, OnErr};
     ghost use Rattle.qn_base.specs.declared.calls.Call.TheVariants.{OpenImage, Now, Receive, Read, Write, Feed, Start, Stop, Send, Disarm, Halt};
     ghost use Rattle.qn_base.specs.Plans.{Made};
     ghost use Rattle.qn_io.specs.Openings.{node_opening};
-    ghost use Rattle.qn_io.specs.Outside.{HasRisen};
     ghost use Rattle.qn_io.specs.Receives.{FitsPacket, received};
-    ghost use Rattle.qn_audit.specs.Recording.{LogsCall};
+    ghost use Rattle.qn_audit.specs.Recording.{LogsCall, log_of};
 
-    ghost faults = { λ r. E.faults r.env };
+    ghost faults = { λ r. E.faults r.env.now };
 
-    ghost calls = { λ r. E.calls r.env };
+    ghost calls = { λ r. E.calls r.env.now };
 
     fn open_image(&mut self, path: &str) -> Result<(), Failed>
-        ensures made { Made (E.faults self.old.env) (E.faults self.new.env) (E.calls self.old.env) (E.calls self.new.env) (OpenImage path.now (is_ok result) ∷ []) }
-        ensures unwritten { self.new.log ≡ self.old.log }
+        ensures made { Made (E.faults self.old.env.now) (E.faults self.new.env.now)
+            (E.calls self.old.env.now) (E.calls self.new.env.now) (OpenImage path.now (is_ok result) ∷ []) }
+        ensures unwritten { log_of O.written O.faults self.new ≡ log_of O.written O.faults self.old }
+        ensures same_env { self.new.env.ghost_name ≡ self.old.env.ghost_name }
+        ensures same_out { self.new.out.ghost_name ≡ self.old.out.ghost_name }
     {
         self.env.open_image(path)
     }
 
     fn open_node(&mut self, opening: &Opening<'_>) -> Result<(), Failed>
-        ensures made { Made (E.faults self.old.env) (E.faults self.new.env) (E.calls self.old.env) (E.calls self.new.env)
-            (node_opening opening.now (is_ok result) ∷ []) }
-        ensures unwritten { self.new.log ≡ self.old.log }
+        ensures made { Made (E.faults self.old.env.now) (E.faults self.new.env.now)
+            (E.calls self.old.env.now) (E.calls self.new.env.now) (node_opening opening.now (is_ok result) ∷ []) }
+        ensures unwritten { log_of O.written O.faults self.new ≡ log_of O.written O.faults self.old }
+        ensures same_env { self.new.env.ghost_name ≡ self.old.env.ghost_name }
+        ensures same_out { self.new.out.ghost_name ≡ self.old.out.ghost_name }
     {
         self.env.open_node(opening)
     }
 
     fn now(&mut self) -> u64
-        ensures made { Made (E.faults self.old.env) (E.faults self.new.env) (E.calls self.old.env) (E.calls self.new.env) (Now result ∷ []) }
-        ensures logs { LogsCall self.old.log.whole self.new.log.whole (O.written self.old.log.out) (O.written self.new.log.out)
-            (HasRisen (O.faults self.old.log.out) (O.faults self.new.log.out)) (Now result) }
-        ensures sink_faults { O.faults self.old.log.out ≤ O.faults self.new.log.out }
+        ensures made { Made (E.faults self.old.env.now) (E.faults self.new.env.now)
+            (E.calls self.old.env.now) (E.calls self.new.env.now) (Now result ∷ []) }
+        ensures logs { LogsCall (log_of O.written O.faults self.old) (log_of O.written O.faults self.new)
+            (Now result) }
+        ensures sink_faults { O.faults self.old.out.now ≤ O.faults self.new.out.now }
+        ensures same_env { self.new.env.ghost_name ≡ self.old.env.ghost_name }
+        ensures same_out { self.new.out.ghost_name ≡ self.old.out.ghost_name }
     {
         let tick = self.env.now();
-        self.log.write(&Call::Now { tick });
+        self.log(&Call::Now { tick });
         tick
     }
 
     fn receive(&mut self, packet: &mut [u8; PACKET]) -> Got
         ensures within { FitsPacket result }
-        ensures made { Made (E.faults self.old.env) (E.faults self.new.env) (E.calls self.old.env) (E.calls self.new.env) (Receive (received result packet.new) ∷ []) }
-        ensures logs { LogsCall self.old.log.whole self.new.log.whole (O.written self.old.log.out) (O.written self.new.log.out)
-            (HasRisen (O.faults self.old.log.out) (O.faults self.new.log.out)) (Receive (received result packet.new)) }
-        ensures sink_faults { O.faults self.old.log.out ≤ O.faults self.new.log.out }
+        ensures made { Made (E.faults self.old.env.now) (E.faults self.new.env.now)
+            (E.calls self.old.env.now) (E.calls self.new.env.now) (Receive (received result packet.new) ∷ []) }
+        ensures logs { LogsCall (log_of O.written O.faults self.old) (log_of O.written O.faults self.new)
+            (Receive (received result packet.new)) }
+        ensures sink_faults { O.faults self.old.out.now ≤ O.faults self.new.out.now }
+        ensures same_env { self.new.env.ghost_name ≡ self.old.env.ghost_name }
+        ensures same_out { self.new.out.ghost_name ≡ self.old.out.ghost_name }
     {
         let got = self.env.receive(packet);
-        self.log.write(&Call::Receive {
+        self.log(&Call::Receive {
             got: told_packet(got, packet),
         });
         got
@@ -91,20 +126,24 @@ impl<E: Env + Drop, O: Sink + Drop> Env for Recorder<E, O> {
 
     fn read(&mut self, sector: u32, into: &mut [u8; SECTOR]) -> Result<(), Failed>
         requires { sector < 3072 }
-        ensures ok { OnOk result (Made (E.faults self.old.env) (E.faults self.new.env) (E.calls self.old.env) (E.calls self.new.env) (Read sector into.new true ∷ [])) }
-        ensures failed { OnErr result (Made (E.faults self.old.env) (E.faults self.new.env) (E.calls self.old.env) (E.calls self.new.env) (Read sector [] false ∷ [])) }
-        ensures logs_bytes { OnOk result (LogsCall self.old.log.whole self.new.log.whole (O.written self.old.log.out) (O.written self.new.log.out)
-            (HasRisen (O.faults self.old.log.out) (O.faults self.new.log.out)) (Read sector into.new true)) }
-        ensures logs_failed { OnErr result (LogsCall self.old.log.whole self.new.log.whole (O.written self.old.log.out) (O.written self.new.log.out)
-            (HasRisen (O.faults self.old.log.out) (O.faults self.new.log.out)) (Read sector [] false)) }
-        ensures sink_faults { O.faults self.old.log.out ≤ O.faults self.new.log.out }
+        ensures ok { OnOk result (Made (E.faults self.old.env.now) (E.faults self.new.env.now)
+            (E.calls self.old.env.now) (E.calls self.new.env.now) (Read sector into.new true ∷ [])) }
+        ensures failed { OnErr result (Made (E.faults self.old.env.now) (E.faults self.new.env.now)
+            (E.calls self.old.env.now) (E.calls self.new.env.now) (Read sector [] false ∷ [])) }
+        ensures logs_bytes { OnOk result (LogsCall (log_of O.written O.faults self.old) (log_of O.written O.faults self.new)
+            (Read sector into.new true)) }
+        ensures logs_failed { OnErr result (LogsCall (log_of O.written O.faults self.old) (log_of O.written O.faults self.new)
+            (Read sector [] false)) }
+        ensures sink_faults { O.faults self.old.out.now ≤ O.faults self.new.out.now }
+        ensures same_env { self.new.env.ghost_name ≡ self.old.env.ghost_name }
+        ensures same_out { self.new.out.ghost_name ≡ self.old.out.ghost_name }
     {
         let done = self.env.read(sector, into);
         let bytes = match done {
             Ok(()) => Bytes::new(into),
             Err(_) => Bytes::empty(),
         };
-        self.log.write(&Call::Read {
+        self.log(&Call::Read {
             sector,
             bytes,
             ok: done.is_ok(),
@@ -114,13 +153,16 @@ impl<E: Env + Drop, O: Sink + Drop> Env for Recorder<E, O> {
 
     fn write(&mut self, sector: u32, from: &[u8; SECTOR]) -> Result<(), Failed>
         requires { sector < 3072 }
-        ensures made { Made (E.faults self.old.env) (E.faults self.new.env) (E.calls self.old.env) (E.calls self.new.env) (Write sector from.now (is_ok result) ∷ []) }
-        ensures logs { LogsCall self.old.log.whole self.new.log.whole (O.written self.old.log.out) (O.written self.new.log.out)
-            (HasRisen (O.faults self.old.log.out) (O.faults self.new.log.out)) (Write sector from.now (is_ok result)) }
-        ensures sink_faults { O.faults self.old.log.out ≤ O.faults self.new.log.out }
+        ensures made { Made (E.faults self.old.env.now) (E.faults self.new.env.now)
+            (E.calls self.old.env.now) (E.calls self.new.env.now) (Write sector from.now (is_ok result) ∷ []) }
+        ensures logs { LogsCall (log_of O.written O.faults self.old) (log_of O.written O.faults self.new)
+            (Write sector from.now (is_ok result)) }
+        ensures sink_faults { O.faults self.old.out.now ≤ O.faults self.new.out.now }
+        ensures same_env { self.new.env.ghost_name ≡ self.old.env.ghost_name }
+        ensures same_out { self.new.out.ghost_name ≡ self.old.out.ghost_name }
     {
         let done = self.env.write(sector, from);
-        self.log.write(&Call::Write {
+        self.log(&Call::Write {
             sector,
             bytes: Bytes::new(from),
             ok: done.is_ok(),
@@ -130,13 +172,16 @@ impl<E: Env + Drop, O: Sink + Drop> Env for Recorder<E, O> {
 
     fn send(&mut self, to: Rank, bytes: &[u8]) -> Result<(), Failed>
         requires { length bytes.now ≤ 128 }
-        ensures made { Made (E.faults self.old.env) (E.faults self.new.env) (E.calls self.old.env) (E.calls self.new.env) (Send to bytes.now (is_ok result) ∷ []) }
-        ensures logs { LogsCall self.old.log.whole self.new.log.whole (O.written self.old.log.out) (O.written self.new.log.out)
-            (HasRisen (O.faults self.old.log.out) (O.faults self.new.log.out)) (Send to bytes.now (is_ok result)) }
-        ensures sink_faults { O.faults self.old.log.out ≤ O.faults self.new.log.out }
+        ensures made { Made (E.faults self.old.env.now) (E.faults self.new.env.now)
+            (E.calls self.old.env.now) (E.calls self.new.env.now) (Send to bytes.now (is_ok result) ∷ []) }
+        ensures logs { LogsCall (log_of O.written O.faults self.old) (log_of O.written O.faults self.new)
+            (Send to bytes.now (is_ok result)) }
+        ensures sink_faults { O.faults self.old.out.now ≤ O.faults self.new.out.now }
+        ensures same_env { self.new.env.ghost_name ≡ self.old.env.ghost_name }
+        ensures same_out { self.new.out.ghost_name ≡ self.old.out.ghost_name }
     {
         let done = self.env.send(to, bytes);
-        self.log.write(&Call::Send {
+        self.log(&Call::Send {
             to,
             bytes: Bytes::new(bytes),
             ok: done.is_ok(),
@@ -145,57 +190,72 @@ impl<E: Env + Drop, O: Sink + Drop> Env for Recorder<E, O> {
     }
 
     fn feed(&mut self) -> Result<(), Failed>
-        ensures made { Made (E.faults self.old.env) (E.faults self.new.env) (E.calls self.old.env) (E.calls self.new.env) (Feed (is_ok result) ∷ []) }
-        ensures logs { LogsCall self.old.log.whole self.new.log.whole (O.written self.old.log.out) (O.written self.new.log.out)
-            (HasRisen (O.faults self.old.log.out) (O.faults self.new.log.out)) (Feed (is_ok result)) }
-        ensures sink_faults { O.faults self.old.log.out ≤ O.faults self.new.log.out }
+        ensures made { Made (E.faults self.old.env.now) (E.faults self.new.env.now)
+            (E.calls self.old.env.now) (E.calls self.new.env.now) (Feed (is_ok result) ∷ []) }
+        ensures logs { LogsCall (log_of O.written O.faults self.old) (log_of O.written O.faults self.new)
+            (Feed (is_ok result)) }
+        ensures sink_faults { O.faults self.old.out.now ≤ O.faults self.new.out.now }
+        ensures same_env { self.new.env.ghost_name ≡ self.old.env.ghost_name }
+        ensures same_out { self.new.out.ghost_name ≡ self.old.out.ghost_name }
     {
         let done = self.env.feed();
-        self.log.write(&Call::Feed { ok: done.is_ok() });
+        self.log(&Call::Feed { ok: done.is_ok() });
         done
     }
 
     fn start(&mut self) -> Result<(), Failed>
-        ensures made { Made (E.faults self.old.env) (E.faults self.new.env) (E.calls self.old.env) (E.calls self.new.env) (Start (is_ok result) ∷ []) }
-        ensures logs { LogsCall self.old.log.whole self.new.log.whole (O.written self.old.log.out) (O.written self.new.log.out)
-            (HasRisen (O.faults self.old.log.out) (O.faults self.new.log.out)) (Start (is_ok result)) }
-        ensures sink_faults { O.faults self.old.log.out ≤ O.faults self.new.log.out }
+        ensures made { Made (E.faults self.old.env.now) (E.faults self.new.env.now)
+            (E.calls self.old.env.now) (E.calls self.new.env.now) (Start (is_ok result) ∷ []) }
+        ensures logs { LogsCall (log_of O.written O.faults self.old) (log_of O.written O.faults self.new)
+            (Start (is_ok result)) }
+        ensures sink_faults { O.faults self.old.out.now ≤ O.faults self.new.out.now }
+        ensures same_env { self.new.env.ghost_name ≡ self.old.env.ghost_name }
+        ensures same_out { self.new.out.ghost_name ≡ self.old.out.ghost_name }
     {
         let done = self.env.start();
-        self.log.write(&Call::Start { ok: done.is_ok() });
+        self.log(&Call::Start { ok: done.is_ok() });
         done
     }
 
     fn stop(&mut self) -> Result<(), Failed>
-        ensures made { Made (E.faults self.old.env) (E.faults self.new.env) (E.calls self.old.env) (E.calls self.new.env) (Stop (is_ok result) ∷ []) }
-        ensures logs { LogsCall self.old.log.whole self.new.log.whole (O.written self.old.log.out) (O.written self.new.log.out)
-            (HasRisen (O.faults self.old.log.out) (O.faults self.new.log.out)) (Stop (is_ok result)) }
-        ensures sink_faults { O.faults self.old.log.out ≤ O.faults self.new.log.out }
+        ensures made { Made (E.faults self.old.env.now) (E.faults self.new.env.now)
+            (E.calls self.old.env.now) (E.calls self.new.env.now) (Stop (is_ok result) ∷ []) }
+        ensures logs { LogsCall (log_of O.written O.faults self.old) (log_of O.written O.faults self.new)
+            (Stop (is_ok result)) }
+        ensures sink_faults { O.faults self.old.out.now ≤ O.faults self.new.out.now }
+        ensures same_env { self.new.env.ghost_name ≡ self.old.env.ghost_name }
+        ensures same_out { self.new.out.ghost_name ≡ self.old.out.ghost_name }
     {
         let done = self.env.stop();
-        self.log.write(&Call::Stop { ok: done.is_ok() });
+        self.log(&Call::Stop { ok: done.is_ok() });
         done
     }
 
     fn disarm(&mut self) -> Result<(), Failed>
-        ensures made { Made (E.faults self.old.env) (E.faults self.new.env) (E.calls self.old.env) (E.calls self.new.env) (Disarm (is_ok result) ∷ []) }
-        ensures logs { LogsCall self.old.log.whole self.new.log.whole (O.written self.old.log.out) (O.written self.new.log.out)
-            (HasRisen (O.faults self.old.log.out) (O.faults self.new.log.out)) (Disarm (is_ok result)) }
-        ensures sink_faults { O.faults self.old.log.out ≤ O.faults self.new.log.out }
+        ensures made { Made (E.faults self.old.env.now) (E.faults self.new.env.now)
+            (E.calls self.old.env.now) (E.calls self.new.env.now) (Disarm (is_ok result) ∷ []) }
+        ensures logs { LogsCall (log_of O.written O.faults self.old) (log_of O.written O.faults self.new)
+            (Disarm (is_ok result)) }
+        ensures sink_faults { O.faults self.old.out.now ≤ O.faults self.new.out.now }
+        ensures same_env { self.new.env.ghost_name ≡ self.old.env.ghost_name }
+        ensures same_out { self.new.out.ghost_name ≡ self.old.out.ghost_name }
     {
         let done = self.env.disarm();
-        self.log.write(&Call::Disarm { ok: done.is_ok() });
+        self.log(&Call::Disarm { ok: done.is_ok() });
         done
     }
 
     fn halt(&mut self, code: u8)
-        ensures made { Made (E.faults self.old.env) (E.faults self.new.env) (E.calls self.old.env) (E.calls self.new.env) (Halt code ∷ []) }
-        ensures logs { LogsCall self.old.log.whole self.new.log.whole (O.written self.old.log.out) (O.written self.new.log.out)
-            (HasRisen (O.faults self.old.log.out) (O.faults self.new.log.out)) (Halt code) }
-        ensures sink_faults { O.faults self.old.log.out ≤ O.faults self.new.log.out }
+        ensures made { Made (E.faults self.old.env.now) (E.faults self.new.env.now)
+            (E.calls self.old.env.now) (E.calls self.new.env.now) (Halt code ∷ []) }
+        ensures logs { LogsCall (log_of O.written O.faults self.old) (log_of O.written O.faults self.new)
+            (Halt code) }
+        ensures sink_faults { O.faults self.old.out.now ≤ O.faults self.new.out.now }
+        ensures same_env { self.new.env.ghost_name ≡ self.old.env.ghost_name }
+        ensures same_out { self.new.out.ghost_name ≡ self.old.out.ghost_name }
     {
         self.env.halt(code);
-        self.log.write(&Call::Halt { code });
+        self.log(&Call::Halt { code });
     }
 }
 

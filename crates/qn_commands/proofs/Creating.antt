@@ -47,6 +47,7 @@ wanted_of (fault.SelfReset message) is = absurd (omega arith)
 wanted_of (fault.BootHalted cause) is = absurd (omega arith)
 wanted_of (fault.DeadlyThere held) is = absurd (omega arith)
 wanted_of (fault.UnknownNode id) is = absurd (omega arith)
+wanted_of (fault.NotARun line) is = absurd (omega arith)
 
 wanted_memory : (why : Fault) → IsWanted {A = Settings} (Err why) → status_of why ≡ 11
 wanted_memory why (inl is) = let same : why ≡ fault.NoMemory = cc in ap status_of same

@@ -1,3 +1,4 @@
+mod AuditEnds
 mod CountEnds
 mod CountLines
 mod Counted
@@ -7,6 +8,7 @@ mod ImageEnds
 mod Listing
 mod NodeCauses
 mod NodeEnds
+mod NodeLogging
 mod NodeRuns
 mod ReadTexts
 mod Turned

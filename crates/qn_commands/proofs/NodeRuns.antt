@@ -21,10 +21,10 @@ use Rattle.qn_commands.specs.Works.{Carries, Work, Works}
 use Rattle.qn_commands.proofs.Creating.{IsSettingsStatus, own_status, wanted_of}
 use Rattle.qn_commands.proofs.NodeCauses.{boot_halted, clock_went_back}
 use Rattle.qn_commands.proofs.NodeEnds.{bad_settings, good_settings, known_work, undisturbed_node, unknown_work}
-use Rattle.qn_commands.proofs.Working.{last_alone, plan_then_last}
+use Rattle.qn_commands.proofs.Working.{last_alone, plan_then_last, recast}
 
 -- how a run ends once the settings are read
-abbrev RanStatus : ℕ → Type 0
+abbrev pub RanStatus : ℕ → Type 0
 RanStatus code = IsOneOf (status.Done ∷ status.WriteFault ∷ status.EnvFault ∷ status.ClockBack ∷ status.SelfReset
     ∷ status.BootHalted ∷ status.UnknownNode ∷ []) code
 
@@ -32,7 +32,7 @@ abbrev NodeStatus : ℕ → Type 0
 NodeStatus code = IsOneOf (status.Done ∷ status.BadConf ∷ status.ReadFault ∷ status.WriteFault ∷ status.EnvFault ∷ status.NoMemory
     ∷ status.ClockBack ∷ status.SelfReset ∷ status.BootHalted ∷ status.UnknownNode ∷ []) code
 
-ran_status : (code : ℕ) → RanStatus code → NodeStatus code
+pub ran_status : (code : ℕ) → RanStatus code → NodeStatus code
 ran_status code (inl done) = inl done
 ran_status code (inr (inl seven)) = inr (inr (inr (inl seven)))
 ran_status code (inr (inr (inl eight))) = inr (inr (inr (inr (inl eight))))
@@ -70,7 +70,7 @@ module _ (words : NodeWords) (settings : Settings) where
     pub works_unknown : (env : Outside) (code : ℕ) → None ≡ rank_with settings words.id → Refuses (UnknownNode words.id) before after code
         → Works (node_work words settings) (seen input before env) (seen input after env) code
     works_unknown env code none refuses =
-        subst (λ (work : Work). Works work (seen input before env) (seen input after env) code) (sym (unknown_work words settings none))
+        recast (sym (unknown_work words settings none))
         (last_alone (seen input before env) (seen input after env) (fault_line (UnknownNode words.id)) 16 code refl refuses)
 
     module _ (rank : ℕ) (some : Some rank ≡ rank_with settings words.id) (env_before : Outside) where
@@ -81,7 +81,7 @@ module _ (words : NodeWords) (settings : Settings) where
           → Works (node_work words settings) (seen input before env_before) (seen input after env_after) code
       unfolding opened_work
       works_unopened env_after code made refuses =
-          subst (λ (work : Work). Works work (seen input before env_before) (seen input after env_after) code) (sym (known_work words settings rank some))
+          recast (sym (known_work words settings rank some))
           record { calls = opening words rank false ∷ []; made = made; performs = (refl, (refl, refuses)) }
 
       -- the node was opened, and ran
@@ -94,7 +94,7 @@ module _ (words : NodeWords) (settings : Settings) where
       works_ran env_middle env_after code end log made did says =
           let left = plan_then_last (run_end words.turns) input before after env_middle env_after (end_outcome words.turns end).text
           (end_outcome words.turns end).status code did refl says in
-          subst (λ (work : Work). Works work (seen input before env_before) (seen input after env_after) code) (sym (known_work words settings rank some))
+          recast (sym (known_work words settings rank some))
           record { calls = opening words rank true ∷ left.calls; made = made_then made left.made; performs = (refl, left.performs) }
 
 module _ (words : NodeWords) (before after : Seen) (code : ℕ) (never_fall : NeverFall before after)

@@ -76,6 +76,14 @@ module _ {A : Type 0} {plan : Plan A} {value : A} (next : A → Work) where
     performs = performs_after plan next did.calls left.calls value before after status did.follows left.performs;
   }
 
+-- the work of another name
+pub recast : {work other : Work} {before after : Seen} {status : ℕ} → work ≡ other → Works work before after status → Works other before after status
+recast {work} {other} {before} {after} {status} same works = record {
+  calls = works.calls;
+  made = works.made;
+  performs = subst (λ (w : Work). Performs w works.calls before.output after.output status) same works.performs;
+}
+
 -- no call, and a last text
 pub last_alone : (before after : Seen) (text : List ℕ) (wanted status : ℕ) → after.env ≡ before.env
     → Says text wanted before.output after.output status → Works (Last text wanted) before after status

@@ -1,4 +1,5 @@
 -- The record of each command: all that it promises.
+pub mod Audit
 pub mod Count
 pub mod Create
 pub mod Dump
@@ -6,3 +7,4 @@ pub mod List
 pub mod Message
 pub mod Migrate
 pub mod Node
+pub mod NodeLogged

@@ -17,7 +17,7 @@ use Rattle.qn_settings.specs.declared.faults.TextFault.{TextFault}
 use Rattle.qn_settings.specs.declared.faults.TextFault.TheVariants as text
 use Rattle.qn_settings.specs.Keys.{key_name}
 use Rattle.qn_commands.specs.declared.fault.Fault.{Fault}
-use Rattle.qn_commands.specs.declared.fault.Fault.TheVariants.{Usage, BadConf, BadSettings, BadSchedule, NotAllowed, ReadFault, EnvFault, BadImage, UnsafeTiming, NoMemory, ClockBack, SelfReset, BootHalted, DeadlyThere, UnknownNode}
+use Rattle.qn_commands.specs.declared.fault.Fault.TheVariants.{Usage, BadConf, BadSettings, BadSchedule, NotAllowed, ReadFault, EnvFault, BadImage, UnsafeTiming, NoMemory, ClockBack, SelfReset, BootHalted, DeadlyThere, UnknownNode, NotARun}
 
 -- a settings text that is no configuration
 abbrev pub conf_line : ConfFault → List ℕ
@@ -91,6 +91,7 @@ fault_line (SelfReset message) = reset_line message
 fault_line (BootHalted cause) = codes "fault BootHalted " ++ decimal (cause_number cause) ++ codes "\n"
 fault_line (DeadlyThere held) = deadly_line held
 fault_line (UnknownNode id) = codes "fault UnknownNode " ++ decimal id.0 ++ codes "\n"
+fault_line (NotARun line) = codes "fault NotARun line " ++ decimal line ++ codes "\n"
 
 -- the exit status
 abbrev pub conf_status : ConfFault → ℕ
@@ -118,6 +119,7 @@ status_of (SelfReset message) = 13
 status_of (BootHalted cause) = 14
 status_of (DeadlyThere held) = 15
 status_of (UnknownNode id) = 16
+status_of (NotARun line) = 18
 
 -- a text that gives no settings
 abbrev pub text_fault : TextFault → Fault

@@ -1,4 +1,5 @@
 //! The commands, one in each file.
+pub mod audit;
 pub mod count;
 pub mod create;
 pub mod dump;
@@ -6,3 +7,4 @@ pub mod list;
 pub mod message;
 pub mod migrate;
 pub mod node;
+pub mod node_logged;

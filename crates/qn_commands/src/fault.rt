@@ -45,6 +45,8 @@ pub enum Fault {
     DeadlyThere(Message),
     /// No slot of the image, or no node of the settings, has the id.
     UnknownNode { id: NodeId },
+    /// The call of the line is the first of a log that the run does not ask for.
+    NotARun { line: u64 },
 }
 
 impl Fault {
@@ -67,6 +69,7 @@ impl Fault {
             Fault::BootHalted(_) => Status::BootHalted,
             Fault::DeadlyThere(_) => Status::DeadlyThere,
             Fault::UnknownNode { .. } => Status::UnknownNode,
+            Fault::NotARun { .. } => Status::NotARun,
         }
     }
 
@@ -90,6 +93,7 @@ impl Fault {
             Fault::BootHalted(cause) => numbered(b"fault BootHalted ", cause_number(cause)),
             Fault::DeadlyThere(held) => deadly_line(held),
             Fault::UnknownNode { id } => numbered(b"fault UnknownNode ", u64::from(id.0)),
+            Fault::NotARun { line } => numbered(b"fault NotARun line ", line),
         }
     }
 

@@ -17,6 +17,7 @@ mod path;
 mod settings_text;
 mod status;
 
+pub use commands::audit::{AuditWords, run_audit};
 pub use commands::count::count;
 pub use commands::create::create;
 pub use commands::dump::dump;
@@ -24,6 +25,7 @@ pub use commands::list::list;
 pub use commands::message::send;
 pub use commands::migrate::migrate;
 pub use commands::node::{NodeWords, node};
+pub use commands::node_logged::node_logged;
 pub use ending::{refuse, say};
 pub use fault::Fault;
 pub use path::Path;

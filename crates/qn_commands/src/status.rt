@@ -37,6 +37,8 @@ pub enum Status {
     DeadlyThere,
     /// No node has the id.
     UnknownNode,
+    /// A log is no run of a node.
+    NotARun,
 }
 
 impl Status {
@@ -61,6 +63,7 @@ impl Status {
             Status::BootHalted => 14,
             Status::DeadlyThere => 15,
             Status::UnknownNode => 16,
+            Status::NotARun => 18,
         }
     }
 }

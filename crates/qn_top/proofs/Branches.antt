@@ -26,6 +26,8 @@ module _ (before later : Seen) (status : ℕ) where
   causes (Some (command.Message image id kind)) does = does.causes
   causes (Some (command.Node words)) does = does.causes
   causes (Some (command.Migrate image)) does = does.causes
+  causes (Some (command.NodeLogged words)) does = does.causes
+  causes (Some (command.Audit words)) does = does.causes
   causes (Some command.Help) does = does.causes
 
   -- no command ends with status 2
@@ -40,6 +42,8 @@ module _ (before later : Seen) (status : ℕ) where
   no_usage (command.Message image id kind) does two = let one_of = does.statuses in grind arith
   no_usage (command.Node words) does two = let one_of = does.statuses in grind arith
   no_usage (command.Migrate image) does two = let one_of = does.statuses in grind arith
+  no_usage (command.NodeLogged words) does two = let one_of = does.statuses in grind arith
+  no_usage (command.Audit words) does two = let one_of = does.statuses in grind arith
   no_usage command.Help does two = let one_of = does.statuses in grind arith
 
   -- out of memory comes only to a command that takes memory
@@ -55,6 +59,8 @@ module _ (before later : Seen) (status : ℕ) where
   enough (Some (command.Message image id kind)) does takes eleven = let one_of = does.statuses in grind arith
   enough (Some (command.Node words)) does takes eleven = cc
   enough (Some (command.Migrate image)) does takes eleven = let one_of = does.statuses in grind arith
+  enough (Some (command.NodeLogged words)) does takes eleven = cc
+  enough (Some (command.Audit words)) does takes eleven = cc
   enough (Some command.Help) does takes eleven = let one_of = does.statuses in grind arith
 
   usage : (words : Option Command) → Does words before later status → words ≡ None → (status ≡ 2) ⊎ (status ≡ 7)

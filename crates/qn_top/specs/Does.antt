@@ -1,6 +1,7 @@
 -- What the program does for a command: this project's profile. Each command has a record of its own.
 use Rattle.std.specs.Prelude.{ℕ, Bool, true, false, Option, None, Some}
 use Rattle.qn_model.specs.Timing.{is_safe}
+use Rattle.qn_commands.specs.Commands.Audit.{Audits}
 use Rattle.qn_commands.specs.Commands.Count.{Counts}
 use Rattle.qn_commands.specs.Commands.Create.{Creates}
 use Rattle.qn_commands.specs.Commands.Dump.{Dumps}
@@ -8,6 +9,7 @@ use Rattle.qn_commands.specs.Commands.List.{Lists}
 use Rattle.qn_commands.specs.Commands.Message.{Sends}
 use Rattle.qn_commands.specs.Commands.Migrate.{Migrates}
 use Rattle.qn_commands.specs.Commands.Node.{RunsNode}
+use Rattle.qn_commands.specs.Commands.NodeLogged.{LogsNode}
 use Rattle.qn_commands.specs.Seen.{Seen}
 use Rattle.qn_top.specs.declared.command.Command.{Command}
 use Rattle.qn_top.specs.declared.command.Command.TheVariants as command
@@ -30,6 +32,8 @@ Does (Some (command.List image)) = Lists image
 Does (Some (command.Message image id kind)) = Sends image id kind
 Does (Some (command.Node words)) = RunsNode words
 Does (Some (command.Migrate image)) = Migrates image
+Does (Some (command.NodeLogged words)) = LogsNode words
+Does (Some (command.Audit words)) = Audits words
 Does (Some command.Help) = Helps
 
 -- whether a command reads the input; `create` does not where its times are not safe
@@ -45,6 +49,8 @@ reads_input (Some (command.List image)) = false
 reads_input (Some (command.Message image id kind)) = false
 reads_input (Some (command.Node words)) = true
 reads_input (Some (command.Migrate image)) = false
+reads_input (Some (command.NodeLogged words)) = true
+reads_input (Some (command.Audit words)) = true
 reads_input (Some command.Help) = false
 
 -- whether a command calls the outside of a node
@@ -60,6 +66,8 @@ calls_outside (Some (command.List image)) = true
 calls_outside (Some (command.Message image id kind)) = true
 calls_outside (Some (command.Node words)) = true
 calls_outside (Some (command.Migrate image)) = true
+calls_outside (Some (command.NodeLogged words)) = true
+calls_outside (Some (command.Audit words)) = false
 calls_outside (Some command.Help) = false
 
 -- whether a command takes memory
@@ -75,4 +83,6 @@ takes_memory (Some (command.List image)) = false
 takes_memory (Some (command.Message image id kind)) = false
 takes_memory (Some (command.Node words)) = true
 takes_memory (Some (command.Migrate image)) = false
+takes_memory (Some (command.NodeLogged words)) = true
+takes_memory (Some (command.Audit words)) = true
 takes_memory (Some command.Help) = false

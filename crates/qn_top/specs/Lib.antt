@@ -3,3 +3,4 @@ pub mod Does
 pub mod Options
 pub mod ReplayEnds
 pub mod Words
+pub mod Names

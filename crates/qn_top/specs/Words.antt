@@ -11,14 +11,18 @@ use Rattle.qn_model.specs.declared.times.Timing.{Timing}
 use Rattle.qn_model.specs.Lines.{parts}
 use Rattle.qn_model.specs.Messages.{operator_word}
 use Rattle.qn_model.specs.Timing.{usual_times}
+use Rattle.qn_commands.specs.declared.commands.audit.AuditWords.{AuditWords}
 use Rattle.qn_commands.specs.declared.commands.node.NodeWords.{NodeWords}
 use Rattle.qn_top.specs.declared.command.Command.{Command}
 use Rattle.qn_top.specs.declared.command.Command.TheVariants as command
 use Rattle.qn_top.specs.declared.command.Form.{Form}
 use Rattle.qn_top.specs.declared.command.Form.TheVariants as form
 use Rattle.qn_top.specs.declared.command.TheConstants.{MOST_TURNS}
+use Rattle.qn_top.specs.declared.command_name.CommandName.{CommandName}
+use Rattle.qn_top.specs.declared.command_name.CommandName.TheVariants as name
 use Rattle.qn_top.specs.declared.options.OptionName.{OptionName}
 use Rattle.qn_top.specs.declared.options.OptionName.TheVariants as option
+use Rattle.qn_top.specs.Names.{name_of}
 use Rattle.qn_top.specs.Options.{are_options, option_text, value_of}
 
 -- go on with the value, where there is one
@@ -143,58 +147,73 @@ mode_in word = option_map (λ mode. mode == 1) (number_in 0 1 word)
 unfoldable pub mode_of : List (List ℕ) → Option Bool
 mode_of options = option_map_or mode_in (value_of (option_text option.StartMode) options) (Some false)
 
--- `node`
+-- `node` and `node-logged`
 abbrev pub node_options : List OptionName
 node_options =
     option.Id ∷ option.Image ∷ option.Watchdog ∷ option.Resource ∷ option.Port ∷ option.Turns ∷ option.Leave
     ∷ option.StartMode ∷ []
 
 unfoldable pub node_words : List (List ℕ) → Option NodeWords
-node_words options = do
-  id ← id_of options
-  image ← value_of (option_text option.Image) options
-  watchdog ← value_of (option_text option.Watchdog) options
-  resource ← value_of (option_text option.Resource) options
-  port ← number_of_option option.Port 1024 65000 options
-  turns ← number_of_option option.Turns 1 MOST_TURNS options
-  leave ← leave_of options
-  clean ← mode_of options
-  Some (record {
-    id = id;
-    image = image;
-    watchdog = watchdog;
-    resource = resource;
-    port = port;
-    turns = turns;
-    leave = leave;
-    clean = clean;
-  })
+node_words options =
+    if not (are_options node_options options) then None
+    else do
+      id ← id_of options
+      image ← value_of (option_text option.Image) options
+      watchdog ← value_of (option_text option.Watchdog) options
+      resource ← value_of (option_text option.Resource) options
+      port ← number_of_option option.Port 1024 65000 options
+      turns ← number_of_option option.Turns 1 MOST_TURNS options
+      leave ← leave_of options
+      clean ← mode_of options
+      Some (record {
+        id = id;
+        image = image;
+        watchdog = watchdog;
+        resource = resource;
+        port = port;
+        turns = turns;
+        leave = leave;
+        clean = clean;
+      })
 
-unfoldable pub node_of : List (List ℕ) → Option Command
-node_of options = if not (are_options node_options options) then None else option_map command.Node (node_words options)
+-- `audit`
+abbrev pub audit_options : List OptionName
+audit_options = option.Id ∷ option.Turns ∷ option.Leave ∷ option.StartMode ∷ []
+
+unfoldable pub audit_words : List (List ℕ) → Option AuditWords
+audit_words options =
+    if not (are_options audit_options options) then None
+    else do
+      id ← id_of options
+      turns ← number_of_option option.Turns 1 MOST_TURNS options
+      leave ← leave_of options
+      clean ← mode_of options
+      Some (record { id = id; turns = turns; leave = leave; clean = clean })
 
 -- the command of this name, with these options
-abbrev pub command_named : List ℕ → List (List ℕ) → Option Command
-command_named name options =
-    if bytes_eq name (codes "count") then (if are_options [] options then Some command.Count else None)
-    else if bytes_eq name (codes "replay") then (if are_options [] options then Some command.Replay else None)
-    else if bytes_eq name (codes "status") then option_map command.Status (form_of options)
-    else if bytes_eq name (codes "soak") then soak_of options
-    else if bytes_eq name (codes "create") then create_of options
-    else if bytes_eq name (codes "dump") then option_map command.Dump (image_alone options)
-    else if bytes_eq name (codes "list") then option_map command.List (image_alone options)
-    else if bytes_eq name (codes "message") then message_of options
-    else if bytes_eq name (codes "node") then node_of options
-    else if bytes_eq name (codes "migrate") then option_map command.Migrate (image_alone options)
-    else if bytes_eq name (codes "help") then (if are_options [] options then Some command.Help else None)
-    else None
+abbrev pub command_with : CommandName → List (List ℕ) → Option Command
+command_with name.Count options = if are_options [] options then Some command.Count else None
+command_with name.Replay options = if are_options [] options then Some command.Replay else None
+command_with name.Status options = option_map command.Status (form_of options)
+command_with name.Soak options = soak_of options
+command_with name.Create options = create_of options
+command_with name.Dump options = option_map command.Dump (image_alone options)
+command_with name.List options = option_map command.List (image_alone options)
+command_with name.Message options = message_of options
+command_with name.Node options = option_map command.Node (node_words options)
+command_with name.Migrate options = option_map command.Migrate (image_alone options)
+command_with name.NodeLogged options = option_map command.NodeLogged (node_words options)
+command_with name.Audit options = option_map command.Audit (audit_words options)
+command_with name.Help options = if are_options [] options then Some command.Help else None
 
 -- the command that the words are, where they are one
 abbrev pub command_of : List (List ℕ) → Option Command
 command_of [] = None
-command_of (name ∷ options) = command_named name options
+command_of (word ∷ options) = do
+  name ← name_of word
+  command_with name options
 
--- a soak has at most MOST_EVENTS events, and a node runs at least one turn
+-- a soak has at most MOST_EVENTS events, and a node runs at least one turn, or is to have run one
 abbrev pub IsProper : Command → Type 0
 IsProper command.Count = Unit {0}
 IsProper command.Replay = Unit {0}
@@ -206,4 +225,6 @@ IsProper (command.List image) = Unit {0}
 IsProper (command.Message image id kind) = Unit {0}
 IsProper (command.Node words) = 1 ≤ words.turns
 IsProper (command.Migrate image) = Unit {0}
+IsProper (command.NodeLogged words) = 1 ≤ words.turns
+IsProper (command.Audit words) = 1 ≤ words.turns
 IsProper command.Help = Unit {0}

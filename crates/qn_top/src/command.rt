@@ -2,12 +2,13 @@
 ghost use Rattle.std.specs.Prelude.{◌≡◌, ◌≤◌, ◌==◌, map, string_bytes, length, IfSome, IfNone, None, Some};
 ghost use Rattle.std.specs.Option.{option_copied};
 ghost use Rattle.qn_sched.specs.Words.{parts_left};
-ghost use Rattle.qn_top.specs.Words.{IsProper, command_named, command_of, create_of, form_named, form_of, id_of, image_alone, kind_named, kind_of, leave_of, message_of, mode_in, mode_of, next_time, node_of, node_words, number_in, number_of_option, soak_of, timing_in, timing_of};
+ghost use Rattle.qn_top.specs.Words.{IsProper, audit_words, command_of, command_with, create_of, form_named, form_of, id_of, image_alone, kind_named, kind_of, leave_of, message_of, mode_in, mode_of, next_time, node_words, number_in, number_of_option, soak_of, timing_in, timing_of};
 ghost use Rattle.qn_top.specs.Options.{value_of};
 
+use crate::command_name::{CommandName, name_of};
 use crate::options::{OptionName, are_options, value_of};
 use qn_base::{LONGEST_PERIOD, MOST_EVENTS, NodeId, read_decimal};
-use qn_commands::{NodeWords, Path};
+use qn_commands::{AuditWords, NodeWords, Path};
 use qn_model::{Message, Timing};
 use qn_sched::first_part;
 
@@ -56,17 +57,29 @@ pub enum Command<'words> {
     Migrate {
         image: Path<'words>,
     },
+    /// `node-logged`, with the options of `node`: the same, and each call with its answer as a line of a log.
+    NodeLogged(NodeWords<'words>),
+    /// `audit --id N --turns K [--leave T] [--start-mode 0 or 1]`: whether a log is a run of that node.
+    Audit(AuditWords),
     /// `help`: the commands.
     Help,
 }
 
-/// The options of `node`.
+/// The options of `node` and `node-logged`.
 const NODE_OPTIONS: [OptionName; 8] = [
     OptionName::Id,
     OptionName::Image,
     OptionName::Watchdog,
     OptionName::Resource,
     OptionName::Port,
+    OptionName::Turns,
+    OptionName::Leave,
+    OptionName::StartMode,
+];
+
+/// The options of `audit`.
+const AUDIT_OPTIONS: [OptionName; 4] = [
+    OptionName::Id,
     OptionName::Turns,
     OptionName::Leave,
     OptionName::StartMode,
@@ -87,44 +100,45 @@ pub fn command_of(words: &[String]) -> Option<Command<'_>>
     ensures proper { IfSome result IsProper }
 {
     match words {
-        [name, options @ ..] => command_named(name.as_str(), options),
+        [word, options @ ..] => {
+            let name = name_of(word.as_str().as_bytes())?;
+            command_with(name, options)
+        }
         [] => None,
     }
 }
 
 /// The command of this name with these options.
-fn command_named<'words>(name: &str, options: &'words [String]) -> Option<Command<'words>>
-    ensures command { result ≡ command_named name.now (map string_bytes options.now) }
+fn command_with(name: CommandName, options: &[String]) -> Option<Command<'_>>
+    ensures command { result ≡ command_with name (map string_bytes options.now) }
     ensures proper { IfSome result IsProper }
 {
-    if name == "count" {
-        are_options(&[], options).then_some(Command::Count)
-    } else if name == "replay" {
-        are_options(&[], options).then_some(Command::Replay)
-    } else if name == "status" {
-        let form = form_of(options)?;
-        Some(Command::Status { form })
-    } else if name == "soak" {
-        soak_of(options)
-    } else if name == "create" {
-        create_of(options)
-    } else if name == "dump" {
-        let image = image_alone(options)?;
-        Some(Command::Dump { image })
-    } else if name == "list" {
-        let image = image_alone(options)?;
-        Some(Command::List { image })
-    } else if name == "message" {
-        message_of(options)
-    } else if name == "node" {
-        node_of(options)
-    } else if name == "migrate" {
-        let image = image_alone(options)?;
-        Some(Command::Migrate { image })
-    } else if name == "help" {
-        are_options(&[], options).then_some(Command::Help)
-    } else {
-        None
+    match name {
+        CommandName::Count => are_options(&[], options).then_some(Command::Count),
+        CommandName::Replay => are_options(&[], options).then_some(Command::Replay),
+        CommandName::Status => {
+            let form = form_of(options)?;
+            Some(Command::Status { form })
+        }
+        CommandName::Soak => soak_of(options),
+        CommandName::Create => create_of(options),
+        CommandName::Dump => {
+            let image = image_alone(options)?;
+            Some(Command::Dump { image })
+        }
+        CommandName::List => {
+            let image = image_alone(options)?;
+            Some(Command::List { image })
+        }
+        CommandName::Message => message_of(options),
+        CommandName::Node => node_words(options).map(Command::Node),
+        CommandName::Migrate => {
+            let image = image_alone(options)?;
+            Some(Command::Migrate { image })
+        }
+        CommandName::NodeLogged => node_words(options).map(Command::NodeLogged),
+        CommandName::Audit => audit_words(options).map(Command::Audit),
+        CommandName::Help => are_options(&[], options).then_some(Command::Help),
     }
 }
 
@@ -244,25 +258,15 @@ fn number_of_option(options: &[String], name: OptionName, least: u64, greatest: 
     number_in(least, greatest, word.as_str().as_bytes())
 }
 
-/// `node` with these options.
-#[tactic(auto, unfolding(crate::specs::Words::node_of))]
-fn node_of(options: &[String]) -> Option<Command<'_>>
-    ensures command { result ≡ node_of (map string_bytes options.now) }
-    ensures proper { IfSome result IsProper }
-{
-    if !are_options(&NODE_OPTIONS, options) {
-        return None;
-    }
-    let words = node_words(options)?;
-    Some(Command::Node(words))
-}
-
-/// What the options of `node` say.
+/// What the options of `node` or `node-logged` say.
 #[tactic(auto, unfolding(crate::specs::Words::node_words))]
 fn node_words(options: &[String]) -> Option<NodeWords<'_>>
     ensures words { result ≡ node_words (map string_bytes options.now) }
     ensures proper { IfSome result (λ words. 1 ≤ words.turns) }
 {
+    if !are_options(&NODE_OPTIONS, options) {
+        return None;
+    }
     let id = id_of(options)?;
     let image = value_of(options, OptionName::Image)?;
     let watchdog = value_of(options, OptionName::Watchdog)?;
@@ -277,6 +281,27 @@ fn node_words(options: &[String]) -> Option<NodeWords<'_>>
         watchdog,
         resource,
         port: port as u16,
+        turns,
+        leave,
+        clean,
+    })
+}
+
+/// What the options of `audit` say.
+#[tactic(auto, unfolding(crate::specs::Words::audit_words))]
+fn audit_words(options: &[String]) -> Option<AuditWords>
+    ensures words { result ≡ audit_words (map string_bytes options.now) }
+    ensures proper { IfSome result (λ words. 1 ≤ words.turns) }
+{
+    if !are_options(&AUDIT_OPTIONS, options) {
+        return None;
+    }
+    let id = id_of(options)?;
+    let turns = number_of_option(options, OptionName::Turns, 1, MOST_TURNS)?;
+    let leave = leave_of(options)?;
+    let clean = mode_of(options)?;
+    Some(AuditWords {
+        id,
         turns,
         leave,
         clean,

@@ -96,7 +96,7 @@ fn open_and_run<O: Sink, E: Env>(
 }
 
 /// The place of the node with that id, which is its rank.
-fn place_of(settings: &Settings, id: NodeId) -> Option<usize>
+pub(crate) fn place_of(settings: &Settings, id: NodeId) -> Option<usize>
     ensures value { result ≡ rank_with settings.now id }
     ensures within { IfSome result (λ place. (place < length settings.now.nodes) × (place < 32)) }
 {
@@ -111,7 +111,7 @@ fn place_in(nodes: &[NodeEntry], id: NodeId) -> Option<usize>
 }
 
 /// Opens all that the node of that rank uses.
-fn open<E: Env>(words: &NodeWords<'_>, rank: Rank, env: &mut E) -> Result<(), Failed>
+pub(crate) fn open<E: Env>(words: &NodeWords<'_>, rank: Rank, env: &mut E) -> Result<(), Failed>
     ensures opened { OnOk result (Made (E.faults env.old) (E.faults env.new) (E.calls env.old) (E.calls env.new)
         (opening words.now rank.0 true ∷ [])) }
     ensures failed { OnErr result (Made (E.faults env.old) (E.faults env.new) (E.calls env.old) (E.calls env.new)

@@ -15,6 +15,8 @@ pub(crate) fn help<O: Sink>(out: &mut O) -> Status
         Helps before after (code_of result) }
 {
     let mut text = ShortText::new();
-    text.add(b"commands count replay status soak create dump list message node migrate help\n");
+    text.add(
+        b"commands count replay status soak create dump list message node migrate node-logged audit help\n",
+    );
     say(out, &text)
 }

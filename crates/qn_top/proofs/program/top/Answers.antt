@@ -234,3 +234,41 @@ returns-in-Some-Node g c =
       one_holder = λ other. absurd cc;
       soak_one_holder = λ seed events other. absurd cc;
     }
+
+pub returns-in-Some-NodeLogged : goal.returns-in-Some-NodeLogged
+returns-in-Some-NodeLogged g c =
+    let is : Some (command.NodeLogged c.in-Some-NodeLogged.words) ≡ command_of (map string_bytes c.args.words.now) = cc c.in-Some-NodeLogged.ensures.command in
+    let end = ends _ (Some (command.NodeLogged c.in-Some-NodeLogged.words)) _ _ _ _ is c.code-in-Some-NodeLogged.ensures c.node_logged.ensures in
+    record {
+      does = end.does;
+      usage = end.usage;
+      usage_only = end.usage_only;
+      unread = λ no. tested reads_input _ (Some (command.NodeLogged c.in-Some-NodeLogged.words)) is refl no;
+      uncalled = λ no. tested calls_outside _ (Some (command.NodeLogged c.in-Some-NodeLogged.words)) is refl no;
+      memory = end.memory;
+      read_fault = end.causes.read_fault;
+      write_fault = end.causes.write_fault;
+      env_fault = end.causes.env_fault;
+      never_fall = (end.causes.never_fall.source, end.causes.never_fall.sink, end.causes.never_fall.env);
+      one_holder = λ other. absurd cc;
+      soak_one_holder = λ seed events other. absurd cc;
+    }
+
+pub returns-in-Some-Audit : goal.returns-in-Some-Audit
+returns-in-Some-Audit g c =
+    let is : Some (command.Audit c.in-Some-Audit.words) ≡ command_of (map string_bytes c.args.words.now) = cc c.in-Some-Audit.ensures.command in
+    let end = ends _ (Some (command.Audit c.in-Some-Audit.words)) _ _ _ _ is c.code-in-Some-Audit.ensures (c.run_audit.ensures (outside g.E.Env.calls g.E.Env.faults c.args.env.now)) in
+    record {
+      does = end.does;
+      usage = end.usage;
+      usage_only = end.usage_only;
+      unread = λ no. tested reads_input _ (Some (command.Audit c.in-Some-Audit.words)) is refl no;
+      uncalled = λ no. refl;
+      memory = end.memory;
+      read_fault = end.causes.read_fault;
+      write_fault = end.causes.write_fault;
+      env_fault = end.causes.env_fault;
+      never_fall = (end.causes.never_fall.source, end.causes.never_fall.sink, end.causes.never_fall.env);
+      one_holder = λ other. absurd cc;
+      soak_one_holder = λ seed events other. absurd cc;
+    }
