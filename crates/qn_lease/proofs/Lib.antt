@@ -9,3 +9,4 @@ pub mod Standings
 pub mod Remembering
 pub mod Granting
 pub mod Leases
+pub mod Premises

@@ -5,3 +5,4 @@ pub mod ArbiterWorld
 pub mod ArbiterRules
 pub mod ArbiterSteps
 pub mod Law
+pub mod Premises

@@ -8,6 +8,7 @@ ghost use Rattle.qn_lease.specs.declared.events.ArbiterEvent.{ArbiterEvent};
 ghost use Rattle.qn_lease.specs.declared.lease.Lease.{Lease};
 ghost use Rattle.qn_lease.specs.ArbiterSteps.{AllAllowedBeside, run_beside};
 ghost use Rattle.qn_lease.specs.Law.{IsQuorateIn, LeasesVote};
+ghost use Rattle.qn_lease.specs.Premises.{VoteGoesOver};
 
 use qn_model::{law_disjoint_votes, law_present_view};
 use qn_safety::{law_boots, law_clocks, law_incarnations, law_log_moves, law_runs_are_timed};
@@ -33,3 +34,10 @@ pub fn law_one_lease()
     law_disjoint_votes();
     law_present_view();
 }
+
+/// The premises are met: there are valid settings, safe timing, a safe lease and events, each allowed in its
+/// turn, in which the vote goes from one half to the other: first a node is quorate by it, and later another
+/// one, while the first still runs with its view.
+pub fn law_leased_vote_goes_over()
+    ensures { VoteGoesOver }
+{}
