@@ -4,3 +4,5 @@ pub mod Poller
 pub mod ArbiterWorld
 pub mod ArbiterRules
 pub mod ArbiterSteps
+pub mod Law
+pub mod Premises

@@ -1,0 +1,43 @@
+//! The law of one leased vote.
+ghost use Rattle.std.specs.Prelude.{◌≡◌, ℕ, List, IsTrue};
+ghost use Rattle.qn_base.specs.declared.ids.View.{View};
+ghost use Rattle.qn_model.specs.declared.configuration.Settings.{Settings};
+ghost use Rattle.qn_model.specs.declared.times.Timing.{Timing};
+ghost use Rattle.qn_model.specs.Laws.{AreDisjoint};
+ghost use Rattle.qn_lease.specs.declared.events.ArbiterEvent.{ArbiterEvent};
+ghost use Rattle.qn_lease.specs.declared.lease.Lease.{Lease};
+ghost use Rattle.qn_lease.specs.ArbiterSteps.{AllAllowedBeside, run_beside};
+ghost use Rattle.qn_lease.specs.Law.{IsQuorateIn, LeasesVote};
+ghost use Rattle.qn_lease.specs.Premises.{VoteGoesOver};
+
+use qn_model::{law_disjoint_votes, law_present_view};
+use qn_safety::{law_boots, law_clocks, law_incarnations, law_log_moves, law_runs_are_timed};
+
+/// In the world beside an arbiter after any events, each well formed and allowed in its turn, no two running
+/// nodes with disjoint present views are both quorate at their present ticks: for all valid settings with a
+/// device and without last_man_standing, with expected votes of at least those of all nodes and of the device,
+/// and every safe lease. It holds for every timing. The events stand newest first.
+pub fn law_one_lease()
+    ensures { (s : Settings) (t : Timing) (times : Lease) (events : List ArbiterEvent) (i j : ℕ) (left right : View)
+        → LeasesVote s times
+        → AllAllowedBeside s t times events
+        → ¬ (i ≡ j)
+        → AreDisjoint left right
+        → IsQuorateIn s i left (run_beside s t times events)
+        → ¬ IsQuorateIn s j right (run_beside s t times events) }
+{
+    law_runs_are_timed();
+    law_clocks();
+    law_incarnations();
+    law_boots();
+    law_log_moves();
+    law_disjoint_votes();
+    law_present_view();
+}
+
+/// The premises are met: there are valid settings, safe timing, a safe lease and events, each allowed in its
+/// turn, in which the vote goes from one half to the other: first a node is quorate by it, and later another
+/// one, while the first still runs with its view.
+pub fn law_leased_vote_goes_over()
+    ensures { VoteGoesOver }
+{}
