@@ -5,6 +5,8 @@
 #![tactic(auto)]
 
 mod event_line;
+mod laws;
 
 pub use event_line::read_triple_line;
+pub use laws::law_triple_lines;
 pub use qn_safety::TripleEvent;
