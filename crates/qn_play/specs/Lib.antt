@@ -7,4 +7,6 @@ pub mod Reading
 pub mod RunLaws
 pub mod Runs
 pub mod Steps
+pub mod WorldLaws
+pub mod Worlds
 pub mod Writing

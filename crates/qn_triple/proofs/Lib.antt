@@ -1,1 +1,2 @@
+mod LineForms
 pub mod LineRows

@@ -11,12 +11,14 @@
 
 mod disk;
 mod event_line;
+mod laws;
 mod rules;
 mod state;
 mod steps;
 mod world;
 
 pub use event_line::read_triple_line;
+pub use laws::law_triple_lines;
 pub use qn_cluster::blank_report;
 pub use qn_safety::TripleEvent;
 pub use world::TripleWorld;
