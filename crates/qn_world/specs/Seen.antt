@@ -8,7 +8,7 @@ use Rattle.qn_model.specs.Moments.{is_holder}
 use Rattle.qn_model.specs.Steps.{answer_now, why_now}
 use Rattle.qn_model.specs.World.{World, node_at}
 use Rattle.qn_world.specs.declared.looking.NodeSeen.{NodeSeen}
-pub use Rattle.qn_cluster.specs.Seen.{phase_now}
+pub use Rattle.qn_cluster.specs.Seen.{IsConfigured, phase_now, polls_now, report_at, tick_now}
 pub use Rattle.qn_world.specs.Pending.{is_op_out}
 
 -- what a world shows of the node of a rank

@@ -5,7 +5,7 @@ ghost use Rattle.qn_world.specs.Standing.{left_of};
 
 use crate::leftover::Leftover;
 use crate::state::State;
-use qn_base::{Mask, Rank};
+use qn_base::{Mask, Rank, View};
 use qn_cluster::Waiting;
 use qn_model::{Answer, Event, Outs, Phase, Report, Sent, Why};
 use qn_safety::law_no_two_holders;
@@ -37,10 +37,10 @@ pub struct NodeSeen {
 }
 
 impl State {
-    ghost use Rattle.std.specs.Prelude.{◌≡◌, ◌<◌, ℕ, List, IfSome, IsTrue, length, slice_get, true};
+    ghost use Rattle.std.specs.Prelude.{◌≡◌, ◌<◌, ℕ, List, [], IfSome, IsTrue, length, slice_get, true};
     ghost use Rattle.std.specs.Option.{option_map};
     ghost use Rattle.qn_base.specs.Members.{is_member};
-    ghost use Rattle.qn_cluster.specs.Seen.{phase_now, waiting_of};
+    ghost use Rattle.qn_cluster.specs.Seen.{IsConfigured, phase_now, polls_now, report_at, tick_now, waiting_of};
     ghost use Rattle.qn_model.specs.Moments.{is_holder, packets};
     ghost use Rattle.qn_model.specs.Rules.{is_well_formed};
     ghost use Rattle.qn_model.specs.Steps.{answer_now, holders, outs_after, report, why_now};
@@ -64,6 +64,22 @@ impl State {
         ensures { (d : World) → WorldFor self.now d → result ≡ waiting_of (node_at self.now.settings i.0 d) }
     {
         self.cluster.waiting(i)
+    }
+
+    /// The tick of the clock of the node of a rank; None where it is off.
+    pub(crate) fn tick(&self, i: Rank) -> Option<u64>
+        requires { i.0 < length self.now.seats }
+        ensures { (d : World) → WorldFor self.now d → result ≡ tick_now (node_at self.now.settings i.0 d) }
+    {
+        self.cluster.tick(i)
+    }
+
+    /// The tick, the incarnation, the install number and the view of the node of a rank; None where it is not up or has no view.
+    pub(crate) fn polls(&self, i: Rank) -> Option<(u64, u64, u64, View)>
+        requires { i.0 < length self.now.seats }
+        ensures { (d : World) → WorldFor self.now d → result ≡ polls_now self.now.settings (node_at self.now.settings i.0 d) }
+    {
+        self.cluster.polls(i)
     }
 
     /// What is shown of the node of a rank.
@@ -160,6 +176,17 @@ impl State {
             → into.new ≡ report self.now.settings event.now d }
     {
         self.cluster.fill(event, into);
+    }
+
+    /// Fills in what is reported where nothing came out of a node, or no node was touched.
+    pub(crate) fn fill_quiet(&self, node: Option<Rank>, into: &mut Report)
+        requires standing { IsStanding self.now }
+        requires configured { IsConfigured self.now.settings node }
+        ensures { (d : World)
+            → WorldFor self.now d
+            → into.new ≡ report_at self.now.settings node [] d }
+    {
+        self.cluster.fill_quiet(node, into);
     }
 }
 

@@ -2,7 +2,7 @@
 use crate::looking::{NodeSeen, blank_report};
 use crate::pending::Pending;
 use crate::state::State;
-use qn_base::{Mask, NoMemory, Rank};
+use qn_base::{Mask, NoMemory, Rank, View};
 use qn_model::{Event, Refused, Report, Rule, Settings, Timing};
 use qn_safety::law_no_two_holders;
 use std::alloc::Global;
@@ -29,20 +29,20 @@ impl Model for World {
 }
 
 impl World {
-    ghost use Rattle.std.specs.Prelude.{◌≡◌, ◌<◌, ◌≤◌, ◌+◌, ℕ, true, None, Some, All, IfErr, IfOk, IfSome, IsTrue, MatchResult, OnErr, OnOk, length, slice_get};
+    ghost use Rattle.std.specs.Prelude.{◌≡◌, ◌<◌, ◌≤◌, ◌+◌, ℕ, [], true, None, Some, All, IfErr, IfOk, IfSome, IsTrue, MatchResult, OnErr, OnOk, length, slice_get};
     ghost use Rattle.std.specs.Option.{option_map};
     ghost use Rattle.qn_base.specs.declared.limits.TheConstants.{LATEST_TIME};
     ghost use Rattle.qn_base.specs.Members.{is_member};
     ghost use Rattle.qn_model.specs.Moments.{packets};
     ghost use Rattle.qn_model.specs.Settings.{IsValid};
     ghost use Rattle.qn_model.specs.Timing.{is_safe};
-    ghost use Rattle.qn_model.specs.World.{World as Cluster, first_world};
+    ghost use Rattle.qn_model.specs.World.{World as Cluster, first_world, node_at};
     ghost use Rattle.qn_model.specs.Rules.{is_well_formed, refusal};
     ghost use Rattle.qn_model.specs.Steps.{holders, report, step};
     ghost use Rattle.qn_node.specs.Outputs.{IsNodeOutput};
     ghost use Rattle.qn_world.specs.Memory.{needs_memory};
     ghost use Rattle.qn_world.specs.Pending.{pending_of};
-    ghost use Rattle.qn_world.specs.Seen.{seen_of};
+    ghost use Rattle.qn_world.specs.Seen.{IsConfigured, polls_now, report_at, seen_of, tick_now};
     ghost use Rattle.qn_world.specs.Standing.{WorldFor};
     ghost use Rattle.qn_world.specs.Stepping.{RefusedBy};
 
@@ -176,6 +176,37 @@ impl World {
         ensures configured { IfSome result (λ rank. rank.0 < length self.now.settings.nodes) }
     {
         self.state.packet_to(n)
+    }
+
+    /// The tick of the clock of the node of a rank, in milliseconds; None exactly where it is off.
+    pub fn tick(&self, i: Rank) -> Option<u64>
+        requires { i.0 < length self.now.settings.nodes }
+        ensures { (d : Cluster)
+            → WorldFor self.now d
+            → result ≡ tick_now (node_at self.now.settings i.0 d) }
+    {
+        self.state.tick(i)
+    }
+
+    /// The tick, the incarnation, the install number and the view of the node of a rank, with which it polls an
+    /// arbiter; None exactly where it is not up or has no view.
+    pub fn polls(&self, i: Rank) -> Option<(u64, u64, u64, View)>
+        requires { i.0 < length self.now.settings.nodes }
+        ensures { (d : Cluster)
+            → WorldFor self.now d
+            → result ≡ polls_now self.now.settings (node_at self.now.settings i.0 d) }
+    {
+        self.state.polls(i)
+    }
+
+    /// Writes what is reported of a node from which nothing came out, or of no node, over a report that is there.
+    pub fn report_quiet(&self, node: Option<Rank>, into: &mut Report)
+        requires { IsConfigured self.now.settings node }
+        ensures { (d : Cluster)
+            → WorldFor self.now d
+            → into.new ≡ report_at self.now.settings node [] d }
+    {
+        self.state.fill_quiet(node, into);
     }
 
     /// The nodes that hold the resource: at most one.
