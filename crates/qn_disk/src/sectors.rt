@@ -1,4 +1,7 @@
 //! The slots and mailboxes of an image.
+ghost use Rattle.std.specs.Prelude.{◌≡◌, length};
+ghost use Rattle.qn_model.specs.declared.seen.HeaderSeen.TheVariants as seen;
+
 use qn_base::Rank;
 use qn_model::{
     DiskOp, HeaderSeen, MailSeen, Message, Settings, Slot, SlotSeen, Timing, What,
@@ -129,9 +132,6 @@ impl Sectors {
         }
     }
 }
-
-ghost use Rattle.std.specs.Prelude.{◌≡◌, length};
-ghost use Rattle.qn_model.specs.declared.seen.HeaderSeen.TheVariants as seen;
 
 /// What a read of the header gives.
 fn header(settings: &Settings, timing: Timing) -> HeaderSeen
