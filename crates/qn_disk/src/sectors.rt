@@ -6,21 +6,12 @@ use qn_base::Rank;
 use qn_model::{
     DiskOp, HeaderSeen, MailSeen, Message, Settings, Slot, SlotSeen, Timing, What,
 };
-use std::marker::Model;
 
 /// The slots and mailboxes of an image, by rank.
-#[derive(Drop)]
+#[derive(Clone, Copy)]
 pub struct Sectors {
     slots: [Slot; 32],
     mailboxes: [Message; 32],
-}
-
-impl Model for Sectors {
-    ghost use Rattle.qn_disk.specs.Contents.{Contents};
-
-    ghost Value = { Contents };
-
-    ghost view = { λ s. record { slots = s.slots; mailboxes = s.mailboxes } };
 }
 
 impl Sectors {
