@@ -3,7 +3,7 @@ use Rattle.std.proofs.Common.{◌≡◌, ℕ, ◌<◌, true, false, List, [], �
 use Rattle.std.specs.Prelude.{replicate, slice_get, slice_set}
 use Rattle.std.proofs.lemmas.Option.{slice_get_within}
 use Rattle.qn_base.specs.declared.ids.Rank.{Rank}
-use Rattle.qn_disk.specs.Contents.{Contents}
+use Rattle.qn_disk.specs.declared.sectors.Sectors.{Sectors}
 use Rattle.qn_disk.specs.Standing.{SectorsFor}
 use Rattle.qn_disk.proofs.Lists.{rank_put}
 use Rattle.qn_model.specs.declared.configuration.Settings.{Settings}
@@ -34,7 +34,7 @@ new_sectors =
     }
 
 -- what is read
-module _ (c : Contents) (s : Settings) (t : Timing) (d : World) (rank : ℕ) (op : DiskOp) where
+module _ (c : Sectors) (s : Settings) (t : Timing) (d : World) (rank : ℕ) (op : DiskOp) where
   pub takes_header : (seen : HeaderSeen) → op ≡ disk.ReadHeader → seen ≡ header.Read (length s.nodes) t → what.Header seen ≡ taken s t rank op d
   unfolding taken
   takes_header seen e read = ap what.Header read ∙ ap (λ op. taken s t rank op d) (sym e)
@@ -70,7 +70,7 @@ module _ (c : Contents) (s : Settings) (t : Timing) (d : World) (rank : ℕ) (op
   takes_close number e = ap (λ op. taken s t rank op d) (sym e)
 
 -- what is written
-pub slot_put : (c new : Contents) (slots : ℕ → Slot) (mailboxes : ℕ → Message) (rank : ℕ) (value : Slot) → SectorsFor c slots mailboxes → rank < 32
+pub slot_put : (c new : Sectors) (slots : ℕ → Slot) (mailboxes : ℕ → Message) (rank : ℕ) (value : Slot) → SectorsFor c slots mailboxes → rank < 32
     → new ≡ record c { slots = slice_set c.slots rank value } → SectorsFor new (put slots rank value) mailboxes
 slot_put c new slots mailboxes rank value is below e =
     subst (λ n. SectorsFor n (put slots rank value) mailboxes) (sym e)
@@ -79,7 +79,7 @@ slot_put c new slots mailboxes rank value is below e =
       letters = is.letters;
     })
 
-pub mailbox_put : (c new : Contents) (slots : ℕ → Slot) (mailboxes : ℕ → Message) (rank : ℕ) (value : Message) → SectorsFor c slots mailboxes → rank < 32
+pub mailbox_put : (c new : Sectors) (slots : ℕ → Slot) (mailboxes : ℕ → Message) (rank : ℕ) (value : Message) → SectorsFor c slots mailboxes → rank < 32
     → new ≡ record c { mailboxes = slice_set c.mailboxes rank value } → SectorsFor new slots (put mailboxes rank value)
 mailbox_put c new slots mailboxes rank value is below e =
     subst (λ n. SectorsFor n slots (put mailboxes rank value)) (sym e)
@@ -89,16 +89,16 @@ mailbox_put c new slots mailboxes rank value is below e =
     })
 
 -- the sectors after an operation landed
-abbrev pub Written : Contents → (ℕ → Slot) → (ℕ → Message) → ℕ → DiskOp → Type 0
+abbrev pub Written : Sectors → (ℕ → Slot) → (ℕ → Message) → ℕ → DiskOp → Type 0
 Written new slots mailboxes rank op = SectorsFor new (slots_with rank op slots) (mailboxes_with rank op mailboxes)
 
-pub writes_claim : (c new : Contents) (slots : ℕ → Slot) (mailboxes : ℕ → Message) (rank : ℕ) (op : DiskOp) (number : ℕ) → SectorsFor c slots mailboxes → rank < 32
+pub writes_claim : (c new : Sectors) (slots : ℕ → Slot) (mailboxes : ℕ → Message) (rank : ℕ) (op : DiskOp) (number : ℕ) → SectorsFor c slots mailboxes → rank < 32
     → op ≡ disk.WriteClaim number → new ≡ record c { slots = slice_set c.slots rank (record { incarnation = number; clean = false }) }
     → Written new slots mailboxes rank op
 writes_claim c new slots mailboxes rank op number is below e made =
     subst (Written new slots mailboxes rank) (sym e) (slot_put c new slots mailboxes rank (record { incarnation = number; clean = false }) is below made)
 
-pub writes_close : (c new : Contents) (slots : ℕ → Slot) (mailboxes : ℕ → Message) (rank : ℕ) (op : DiskOp) (number : ℕ) → SectorsFor c slots mailboxes → rank < 32
+pub writes_close : (c new : Sectors) (slots : ℕ → Slot) (mailboxes : ℕ → Message) (rank : ℕ) (op : DiskOp) (number : ℕ) → SectorsFor c slots mailboxes → rank < 32
     → op ≡ disk.WriteClose number → new ≡ record c { slots = slice_set c.slots rank (record { incarnation = number; clean = true }) }
     → Written new slots mailboxes rank op
 writes_close c new slots mailboxes rank op number is below e made =

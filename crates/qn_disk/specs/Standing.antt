@@ -1,7 +1,7 @@
 -- What the sectors of an image and the leftovers of the code stand for. Image numbers are 1 to 3. This project's profile.
 use Rattle.std.specs.Prelude.{◌≡◌, ◌<◌, ◌-◌, ◌++◌, ◌==◌, ◌&&◌, ℕ, Bool, true, false, List, [], ◌∷◌, Some, All, slice_get, slice_index_or, if◌then◌else◌}
 use Rattle.qn_cluster.specs.Standing.{IsWithin}
-use Rattle.qn_disk.specs.Contents.{Contents}
+use Rattle.qn_disk.specs.declared.sectors.Sectors.{Sectors}
 use Rattle.qn_disk.specs.declared.leftovers.Leftover.{Leftover}
 use Rattle.qn_model.specs.declared.disk.Message.{Message}
 use Rattle.qn_model.specs.declared.disk.Slot.{Slot}
@@ -10,7 +10,7 @@ use Rattle.qn_model.specs.World.{put}
 use Rattle.qn_safety.specs.TripleRules.{is_image}
 
 -- the sectors stand for slots and mailboxes by rank
-pub record SectorsFor (c : Contents) (slots : ℕ → Slot) (mailboxes : ℕ → Message) : Type 0 where
+pub record SectorsFor (c : Sectors) (slots : ℕ → Slot) (mailboxes : ℕ → Message) : Type 0 where
   pub sectors : (rank : ℕ) → rank < 32 → slice_get c.slots rank ≡ Some (slots rank)
   pub letters : (rank : ℕ) → rank < 32 → slice_get c.mailboxes rank ≡ Some (mailboxes rank)
 

@@ -1,7 +1,8 @@
 //! Writes that were given up before they landed.
-ghost use Rattle.std.specs.Prelude.{◌≡◌, ◌≤◌, ◌+◌, ◌++◌, length, OnErr, OnOk};
+ghost use Rattle.std.specs.Prelude.{◌≡◌, ◌≤◌, ◌++◌, [], ◌∷◌, ℕ, true, OnErr, OnOk};
 ghost use Rattle.qn_disk.specs.Places.{marked_on, others_of, place_in};
-ghost use Rattle.qn_disk.specs.Standing.{is_of};
+ghost use Rattle.qn_disk.specs.Standing.{is_marked, is_of};
+ghost use Rattle.qn_safety.specs.TripleRules.{is_image};
 
 use qn_base::{NoMemory, Rank};
 use qn_model::DiskOp;
@@ -32,7 +33,8 @@ impl Model for Leftovers {
 }
 
 impl Leftovers {
-    ghost use Rattle.std.specs.Prelude.{◌≡◌, ◌≤◌, ℕ, List, [], true, None, IfSome, OnErr, OnOk, OnSome, is_some};
+    ghost use Rattle.std.specs.Prelude.{◌≡◌, ◌<◌, ◌≤◌, ℕ, List, [], true, None, Some, OnErr, OnOk, OnSome, is_some, length, slice_get};
+    ghost use Rattle.std.specs.List.{remove};
     ghost use Rattle.qn_cluster.specs.Standing.{IsOpWithin, IsWithin};
     ghost use Rattle.qn_disk.specs.Standing.{LeftFor, is_marked, left_over};
     ghost use Rattle.qn_model.specs.declared.outputs.DiskOp.{DiskOp};
@@ -88,11 +90,20 @@ impl Leftovers {
     {
         match place_of(self.items.as_slice(), i, image, number) {
             Some(place) => {
-                let leftover = self.items.remove(place);
+                let leftover = self.take_at(place);
                 Some(leftover.op)
             }
             None => None,
         }
+    }
+
+    /// The leftover at a place leaves the list.
+    fn take_at(&mut self, place: usize) -> Leftover
+        requires { place < length self.old }
+        ensures item { slice_get self.old place ≡ Some result }
+        ensures others { self.new ≡ remove self.old place }
+    {
+        self.items.remove(place)
     }
 
     /// The leftovers of a rank are dropped.
@@ -145,7 +156,7 @@ fn leave_all(
 ) -> Result<(), NoMemory>
     ensures ok { OnOk result (left.new.items ≡ left.old.items ++ marked_on i op on.now 3) }
     ensures err { OnErr result (left.new.items ≡ left.old.items) }
-    ensures cause { OnErr result (1 ≤ length (marked_on i op on.now 3)) }
+    ensures cause { OnErr result ((image : ℕ) × (is_image image ≡ true) × (is_marked on.now image ≡ true)) }
 {
     let before = left.len();
     for image in 0..3 {
@@ -156,8 +167,6 @@ fn leave_all(
     }
     Ok(())
 }
-
-ghost use Rattle.std.specs.Prelude.{[], ◌∷◌};
 
 /// A write of a rank is left over on an image.
 fn leave_one(left: &mut Vec<Leftover>, i: Rank, image: u8, op: DiskOp) -> Result<(), NoMemory>

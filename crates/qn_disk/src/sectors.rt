@@ -1,23 +1,17 @@
 //! The slots and mailboxes of an image.
+ghost use Rattle.std.specs.Prelude.{◌≡◌, length};
+ghost use Rattle.qn_model.specs.declared.seen.HeaderSeen.TheVariants as seen;
+
 use qn_base::Rank;
 use qn_model::{
     DiskOp, HeaderSeen, MailSeen, Message, Settings, Slot, SlotSeen, Timing, What,
 };
-use std::marker::Model;
 
 /// The slots and mailboxes of an image, by rank.
-#[derive(Drop)]
+#[derive(Clone, Copy)]
 pub struct Sectors {
     slots: [Slot; 32],
     mailboxes: [Message; 32],
-}
-
-impl Model for Sectors {
-    ghost use Rattle.qn_disk.specs.Contents.{Contents};
-
-    ghost Value = { Contents };
-
-    ghost view = { λ s. record { slots = s.slots; mailboxes = s.mailboxes } };
 }
 
 impl Sectors {
@@ -129,9 +123,6 @@ impl Sectors {
         }
     }
 }
-
-ghost use Rattle.std.specs.Prelude.{◌≡◌, length};
-ghost use Rattle.qn_model.specs.declared.seen.HeaderSeen.TheVariants as seen;
 
 /// What a read of the header gives.
 fn header(settings: &Settings, timing: Timing) -> HeaderSeen

@@ -1,2 +1,7 @@
 mod LineForms
+pub mod ApplySteps
+pub mod DiskSteps
+pub mod EventSteps
 pub mod LineRows
+pub mod Lists
+pub mod RuleSteps

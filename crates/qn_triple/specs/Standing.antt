@@ -1,8 +1,10 @@
 -- What a world of three images of the code stands for: one of the definitions.
 use Rattle.std.specs.Prelude.{◌≡◌, ◌<◌, ◌-◌, ℕ, Bool, true, List, Some, length, slice_get}
 use Rattle.qn_cluster.specs.Standing.{ClusterFor}
-use Rattle.qn_disk.specs.Contents.{Contents}
+use Rattle.qn_disk.specs.declared.sectors.Sectors.{Sectors}
 use Rattle.qn_disk.specs.Standing.{LeftFor, SectorsFor}
+use Rattle.qn_model.specs.declared.disk.Message.{Message}
+use Rattle.qn_model.specs.declared.disk.Slot.{Slot}
 use Rattle.qn_model.specs.Timing.{is_safe}
 use Rattle.qn_parts.specs.Parts.{is_good_on, part_on}
 use Rattle.qn_safety.specs.declared.part.Part.{Part}
@@ -25,10 +27,10 @@ pub record GoodAt (all : List (List Bool)) (rank : ℕ) (good : ℕ → Bool) : 
   pub each : (image : ℕ) → is_image image ≡ true → is_good_on own image ≡ good image
 
 -- the sectors of an image
-pub record SectorsAt (all : List Contents) (image : ℕ) (w : TripleWorld) : Type 0 where
-  pub own : Contents
+pub record SectorsAt (all : List Sectors) (image : ℕ) (slots : ℕ → Slot) (mailboxes : ℕ → Message) : Type 0 where
+  pub own : Sectors
   pub here : slice_get all (image - 1) ≡ Some own
-  pub stands : SectorsFor own (λ rank. w.slots rank image) (λ rank. w.mailboxes rank image)
+  pub stands : SectorsFor own slots mailboxes
 
 -- The world stands for a world of the definitions, part by part.
 pub record TripleFor (w : Whole) (d : TripleWorld) : Type 0 where
@@ -36,7 +38,8 @@ pub record TripleFor (w : Whole) (d : TripleWorld) : Type 0 where
   pub cluster : ClusterFor (cluster_of w) d.moments
   pub parts : (rank : ℕ) → rank < 32 → PartsAt w.parts rank (d.parts rank)
   pub good : (rank : ℕ) → rank < 32 → GoodAt w.good rank (d.good rank)
-  pub images : (image : ℕ) → is_image image ≡ true → SectorsAt w.sectors image d
+  pub images : (image : ℕ) → is_image image ≡ true
+      → SectorsAt w.sectors image (λ rank. d.slots rank image) (λ rank. d.mailboxes rank image)
   pub lefts : LeftFor (length w.settings.nodes) w.left d.left
 
 -- the world stands for one of the definitions

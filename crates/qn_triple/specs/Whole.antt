@@ -2,7 +2,7 @@
 use Rattle.std.specs.Prelude.{ℕ, Bool, List}
 use Rattle.qn_cluster.specs.Nodes.{Nodes}
 use Rattle.qn_cluster.specs.declared.seat.Seat.{Seat}
-use Rattle.qn_disk.specs.Contents.{Contents}
+use Rattle.qn_disk.specs.declared.sectors.Sectors.{Sectors}
 use Rattle.qn_disk.specs.declared.leftovers.Leftover.{Leftover}
 use Rattle.qn_model.specs.declared.configuration.Settings.{Settings}
 use Rattle.qn_model.specs.declared.packets.Sent.{Sent}
@@ -19,7 +19,7 @@ pub record Whole : Type 0 where
   pub steps : ℕ
   pub parts : List (List Part)
   pub good : List (List Bool)
-  pub sectors : List Contents
+  pub sectors : List Sectors
   pub left : List Leftover
 
 -- the nodes of a world
