@@ -1,5 +1,5 @@
 # The scripts of examples/live: the story of three hosts, some strikes of the storm, and the judge of a journal. In none of them two owners
-# overlap, each change of the story has another owner, and the journal has a picture.
+# overlap, each change of the story has another owner, the journal has a picture, and the record of each node is a run.
 . "$TOP/tests/expect.sh"
 
 export QUORUMD
@@ -20,6 +20,13 @@ for line in 'host 1: the resource starts' '> kill -9 the node of host' '> pause 
 done
 "$TOP/bin/timeline" --title Hosts --journal hosts/journal > drawn.svg
 grep -q 'data-lane="node 1"' drawn.svg
+# each node was recorded, and each record is a whole run, or the beginning of one of a node that was killed
+for folder in hosts storm; do
+    "$live/audit" "$folder" > audited || { cat audited; exit 1; }
+    grep -q ': run prefix turns ' audited
+    [ "$(wc -l < audited)" -ge 3 ]
+done
+"$live/audit" hosts | grep -q ': run whole turns '
 # the nodes ended with their hosts
 same "$(ls hosts storm | grep '^pid' || true)" ''
 ! grep -qs "$PWD/hosts/disk" /proc/[0-9]*/cmdline

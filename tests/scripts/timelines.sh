@@ -179,9 +179,9 @@ refused() {
     grep -qE "$pattern" errors || { printf 'timeline %s: %s\n' "$*" "$(cat errors)"; exit 1; }
 }
 
-refused 2 '^usage: timeline \[--title TITLE\] \[--journal\] \[FILE\]' --colour < "$TOP/examples/letting-time-pass.schedule"
-refused 2 '^usage: timeline \[--title TITLE\] \[--journal\] \[FILE\]' one two
-refused 2 '^usage: timeline \[--title TITLE\] \[--journal\] \[FILE\]' no-such-file
+refused 2 '^usage: timeline \[--title TITLE\] \[--journal | --record\] \[FILE\]' --colour < "$TOP/examples/letting-time-pass.schedule"
+refused 2 '^usage: timeline \[--title TITLE\] \[--journal | --record\] \[FILE\]' one two
+refused 2 '^usage: timeline \[--title TITLE\] \[--journal | --record\] \[FILE\]' no-such-file
 refused 4 '^timeline: fault BadSchedule line 1 Unended$' < /dev/null
 refused 3 '^timeline: fault BadConf ' < <(printf 'nodelist {\n----\n')
 refused 5 '^timeline: fault NotAllowed line 19 rule 1$' < <(sed '1,/^boot/!d' "$TOP/examples/letting-time-pass.schedule"; echo 'pass 5051')
@@ -202,6 +202,18 @@ timeline --journal < /dev/null | grep -q '<title>journal</title>'
 for line in '1 1.5' '1,5 1' '1.5' '1.5 1 2' '' '-1 1'; do
     refused 2 "^timeline: line 2: $line: not a time in seconds and an id$" --journal < <(printf '0.5 1\n%s\n' "$line")
 done
+
+# a record of a node: from its start to its stop, and its end; its own line at the end is passed over
+printf '%s\n' 'now 100' 'read 0 failed' 'now 200' 'feed ok' 'start ok' 'now 300' 'receive nothing' 'now 400' 'stop failed' 'now 500' 'stop ok' \
+    'write 1 00ff ok' 'now 600' 'send 1 - failed' 'disarm ok' 'left clean' > record
+timeline --record record > drawn.svg
+same "$(grep -o 'data-lane="[^"]*"\|data-kind="[a-z]*" data-\(first="[0-9]*" data-last\|point\)="[0-9]*"' drawn.svg | tr -d '"' | xargs)" \
+    'data-lane=node data-kind=left data-point=6 data-kind=holds data-first=2 data-last=5'
+timeline --record < /dev/null | grep -q '<title>record</title>'
+for line in 'now x' 'feed' 'FEED ok' '' 'read 1 0G' 'left clean'; do
+    refused 2 "^timeline: line 2: $line: no line of a record$" --record < <(printf 'now 1\n%s\nnow 2\n' "$line")
+done
+refused 2 '^usage: timeline ' --record --journal record
 
 # it can be called itself, and through a link
 ln -s "$TOP/bin/timeline" link

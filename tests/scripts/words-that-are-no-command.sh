@@ -43,6 +43,22 @@ node --id 1 --image d --watchdog w --resource r --port 7000 --turns 9 --start-mo
 node --id 1 --image d --watchdog w --resource r --port 7000 --turns 9 --turns 9
 node --id 1 --image d --watchdog w --resource r --port 7000 --turns 9 --timing 5000,10000,1000,2000,1000
 node --id 1 --image d --watchdog w --resource r --port 7000 --turns 9 --leave
+node-logged
+node-logged --id 1 --turns 9
+node-logged --id 1 --image d --watchdog w --resource r --port 7000 --turns 0
+node-logged --id 1 --image d --watchdog w --resource r --port 7000 --turns 9 --turns 9
+audit
+audit --id 1
+audit --turns 9
+audit --id 0 --turns 9
+audit --id 4294967296 --turns 9
+audit --id 1 --turns 0
+audit --id 1 --turns 1000000001
+audit --id 1 --turns 9 --leave 0
+audit --id 1 --turns 9 --leave 1000000001
+audit --id 1 --turns 9 --start-mode 2
+audit --id 1 --turns 9 --image d
+audit --id 1 --turns 9 --id 1
 migrate
 migrate d
 migrate --image d --id 1

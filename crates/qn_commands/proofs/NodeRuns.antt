@@ -41,22 +41,22 @@ ran_status code (inr (inr (inr (inr (inl reset))))) = inr (inr (inr (inr (inr (i
 ran_status code (inr (inr (inr (inr (inr (inl halted)))))) = inr (inr (inr (inr (inr (inr (inr (inr (inl halted))))))))
 ran_status code (inr (inr (inr (inr (inr (inr unknown)))))) = inr (inr (inr (inr (inr (inr (inr (inr (inr unknown))))))))
 
-not_ran : (code : ℕ) → RanStatus code → (code ≡ 6) ⊎ (code ≡ 11) → ⊥
+pub not_ran : (code : ℕ) → RanStatus code → (code ≡ 6) ⊎ (code ≡ 11) → ⊥
 not_ran code one_of (inl six) = grind arith
 not_ran code one_of (inr eleven) = grind arith
 
-refused_status : (code own : ℕ) → IsSettingsStatus own → (code ≡ own) ⊎ (code ≡ 7) → NodeStatus code
+pub refused_status : (code own : ℕ) → IsSettingsStatus own → (code ≡ own) ⊎ (code ≡ 7) → NodeStatus code
 refused_status code own (inl three) (inl same) = inr (inl (same ∙ three))
 refused_status code own (inr (inl six)) (inl same) = inr (inr (inl (same ∙ six)))
 refused_status code own (inr (inr eleven)) (inl same) = inr (inr (inr (inr (inr (inl (same ∙ eleven))))))
 refused_status code own which (inr seven) = inr (inr (inr (inl seven)))
 
-not_eight : (own : ℕ) → IsSettingsStatus own → own ≡ 8 → ⊥
+pub not_eight : (own : ℕ) → IsSettingsStatus own → own ≡ 8 → ⊥
 not_eight own (inl three) eight = omega arith
 not_eight own (inr (inl six)) eight = omega arith
 not_eight own (inr (inr eleven)) eight = omega arith
 
-not_ended : (own : ℕ) → IsSettingsStatus own → (own ≡ 12) ⊎ (own ≡ 14) → ⊥
+pub not_ended : (own : ℕ) → IsSettingsStatus own → (own ≡ 12) ⊎ (own ≡ 14) → ⊥
 not_ended own (inl three) (inl twelve) = omega arith
 not_ended own (inl three) (inr fourteen) = omega arith
 not_ended own (inr (inl six)) (inl twelve) = omega arith
@@ -67,7 +67,7 @@ not_ended own (inr (inr eleven)) (inr fourteen) = omega arith
 module _ (words : NodeWords) (settings : Settings) where
   module _ (input : Input) (before after : Output) where
     -- no node of the settings has the id
-    pub works_unknown : (env : Outside) (code : ℕ) → None ≡ rank_with settings words.id → Refuses (UnknownNode words.id) before after code
+    unfoldable pub works_unknown : (env : Outside) (code : ℕ) → None ≡ rank_with settings words.id → Refuses (UnknownNode words.id) before after code
         → Works (node_work words settings) (seen input before env) (seen input after env) code
     works_unknown env code none refuses =
         recast (sym (unknown_work words settings none))
@@ -75,7 +75,7 @@ module _ (words : NodeWords) (settings : Settings) where
 
     module _ (rank : ℕ) (some : Some rank ≡ rank_with settings words.id) (env_before : Outside) where
       -- the opening failed
-      pub works_unopened : (env_after : Outside) (code : ℕ)
+      unfoldable pub works_unopened : (env_after : Outside) (code : ℕ)
           → Made env_before.faults env_after.faults env_before.calls env_after.calls (opening words rank false ∷ [])
           → Refuses EnvFault before after code
           → Works (node_work words settings) (seen input before env_before) (seen input after env_after) code
@@ -85,7 +85,7 @@ module _ (words : NodeWords) (settings : Settings) where
           record { calls = opening words rank false ∷ []; made = made; performs = (refl, (refl, refuses)) }
 
       -- the node was opened, and ran
-      pub works_ran : (env_middle env_after : Outside) (code : ℕ) (end : LiveEnd) (log : List Line)
+      unfoldable pub works_ran : (env_middle env_after : Outside) (code : ℕ) (end : LiveEnd) (log : List Line)
           → Made env_before.faults env_middle.faults env_before.calls env_middle.calls (opening words rank true ∷ [])
           → Carries (live_plan settings rank words.clean words.leave words.turns) env_middle env_after (record { end = end; log = log })
           → Says (end_outcome words.turns end).text (end_outcome words.turns end).status before after code
@@ -100,7 +100,7 @@ module _ (words : NodeWords) (settings : Settings) where
 module _ (words : NodeWords) (before after : Seen) (code : ℕ) (never_fall : NeverFall before after)
     (write : code ≡ 7 → WriteFails before.output after.output) where
   -- the settings are good
-  pub runs_node : (settings : Settings) → Judges input_settings before.input after.input (Ok settings)
+  unfoldable pub runs_node : (settings : Settings) → Judges input_settings before.input after.input (Ok settings)
       → Works (node_work words settings) before after code → RanStatus code → (code ≡ 8 → FailsToOpen words before.env after.env)
       → RunsNode words before after code
   runs_node settings judges works outcomes unopened = record {
@@ -126,7 +126,7 @@ module _ (words : NodeWords) (before after : Seen) (code : ℕ) (never_fall : Ne
   }
 
   -- the settings have a fault, or could not be read
-  pub refuses_settings : (why : Fault) → Judges input_settings before.input after.input (Err why) → after.env ≡ before.env
+  unfoldable pub refuses_settings : (why : Fault) → Judges input_settings before.input after.input (Err why) → after.env ≡ before.env
       → Refuses why before.output after.output code → (code ≡ status_of why) ⊎ (code ≡ 7) → IsSettingsStatus (status_of why)
       → (status_of why ≡ 6 → ReadFails before.input after.input) → RunsNode words before after code
   refuses_settings why judges same refuses own which read = record {

@@ -11,7 +11,7 @@ use Rattle.qn_commands.specs.Seen.{Input, Output, Outside, Seen, WriteFails, see
 use Rattle.qn_commands.specs.Works.{Carries, Last, Makes, Performs, Work, Works, Writes, after_plan}
 
 -- the calls of a plan, and then the work that follows from its value
-performs_after : {A : Type 0} (plan : Plan A) (next : A → Work) (calls more : List Call) (value : A) (before after : Output) (status : ℕ)
+pub performs_after : {A : Type 0} (plan : Plan A) (next : A → Work) (calls more : List Call) (value : A) (before after : Output) (status : ℕ)
     → Follows plan calls value → Performs (next value) more before after status → Performs (after_plan plan next) (calls ++ more) before after status
 performs_after {A} (Ends end) next calls more value before after status did left =
     rw did.0 (subst (λ (x : A). Performs (next x) more before after status) did.1 left)
@@ -43,7 +43,7 @@ performs_wider (Writes text next) calls written first faults after status before
 
 module _ {A : Type 0} {plan : Plan A} {value : A} (next : A → Work) where
   -- a plan, and then a last text
-  pub plan_then_last : (input : Input) (before after : Output) (env_before env_after : Outside) (text : List ℕ) (wanted status : ℕ)
+  abbrev pub plan_then_last : (input : Input) (before after : Output) (env_before env_after : Outside) (text : List ℕ) (wanted status : ℕ)
       → Carries plan env_before env_after value → next value ≡ Last text wanted → Says text wanted before after status
       → Works (after_plan plan next) (seen input before env_before) (seen input after env_after) status
   plan_then_last input before after env_before env_after text wanted status did is says = record {
@@ -77,7 +77,7 @@ module _ {A : Type 0} {plan : Plan A} {value : A} (next : A → Work) where
   }
 
 -- the work of another name
-pub recast : {work other : Work} {before after : Seen} {status : ℕ} → work ≡ other → Works work before after status → Works other before after status
+abbrev pub recast : {work other : Work} {before after : Seen} {status : ℕ} → work ≡ other → Works work before after status → Works other before after status
 recast {work} {other} {before} {after} {status} same works = record {
   calls = works.calls;
   made = works.made;
@@ -85,7 +85,7 @@ recast {work} {other} {before} {after} {status} same works = record {
 }
 
 -- no call, and a last text
-pub last_alone : (before after : Seen) (text : List ℕ) (wanted status : ℕ) → after.env ≡ before.env
+abbrev pub last_alone : (before after : Seen) (text : List ℕ) (wanted status : ℕ) → after.env ≡ before.env
     → Says text wanted before.output after.output status → Works (Last text wanted) before after status
 last_alone before after text wanted status same says = record {
   calls = [];

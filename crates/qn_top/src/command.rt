@@ -1,5 +1,5 @@
 //! The commands of the program, and the words that each of them is.
-ghost use Rattle.std.specs.Prelude.{◌≡◌, ◌≤◌, ◌==◌, map, string_bytes, length, IfSome, IfNone, None, Some};
+ghost use Rattle.std.specs.Prelude.{◌≡◌, ◌≤◌, ◌==◌, map, option_map, string_bytes, length, IfSome, IfNone, None, Some};
 ghost use Rattle.std.specs.Option.{option_copied};
 ghost use Rattle.qn_sched.specs.Words.{parts_left};
 ghost use Rattle.qn_top.specs.Words.{IsProper, audit_words, command_of, command_with, create_of, form_named, form_of, id_of, image_alone, kind_named, kind_of, leave_of, message_of, mode_in, mode_of, next_time, node_words, number_in, number_of_option, soak_of, timing_in, timing_of};
@@ -131,13 +131,13 @@ fn command_with(name: CommandName, options: &[String]) -> Option<Command<'_>>
             Some(Command::List { image })
         }
         CommandName::Message => message_of(options),
-        CommandName::Node => node_words(options).map(Command::Node),
+        CommandName::Node => node_of(options),
         CommandName::Migrate => {
             let image = image_alone(options)?;
             Some(Command::Migrate { image })
         }
-        CommandName::NodeLogged => node_words(options).map(Command::NodeLogged),
-        CommandName::Audit => audit_words(options).map(Command::Audit),
+        CommandName::NodeLogged => node_logged_of(options),
+        CommandName::Audit => audit_of(options),
         CommandName::Help => are_options(&[], options).then_some(Command::Help),
     }
 }
@@ -256,6 +256,33 @@ fn number_of_option(options: &[String], name: OptionName, least: u64, greatest: 
 {
     let word = value_of(options, name)?;
     number_in(least, greatest, word.as_str().as_bytes())
+}
+
+/// `node` with these options.
+fn node_of(options: &[String]) -> Option<Command<'_>>
+    ensures command { result ≡ option_map Command.Node (node_words (map string_bytes options.now)) }
+    ensures proper { IfSome result IsProper }
+{
+    let words = node_words(options)?;
+    Some(Command::Node(words))
+}
+
+/// `node-logged` with these options.
+fn node_logged_of(options: &[String]) -> Option<Command<'_>>
+    ensures command { result ≡ option_map Command.NodeLogged (node_words (map string_bytes options.now)) }
+    ensures proper { IfSome result IsProper }
+{
+    let words = node_words(options)?;
+    Some(Command::NodeLogged(words))
+}
+
+/// `audit` with these options.
+fn audit_of(options: &[String]) -> Option<Command<'_>>
+    ensures command { result ≡ option_map Command.Audit (audit_words (map string_bytes options.now)) }
+    ensures proper { IfSome result IsProper }
+{
+    let words = audit_words(options)?;
+    Some(Command::Audit(words))
 }
 
 /// What the options of `node` or `node-logged` say.

@@ -1,14 +1,19 @@
 use Rattle.std.proofs.Common.{refl, arith}
-use Rattle.qn_commands.specs.Seen.{source}
-use Rattle.qn_commands.proofs.NodeLogging.{logs_no_settings, logs_node}
+use Rattle.qn_commands.specs.Seen.{outside, seen, sink, source}
+use Rattle.qn_commands.proofs.NodeLogging.{logs_no_settings, logs_node, with_input}
 use Rattle.qn_commands.proofs.commands.node_logged.node_logged.Goals as goal
 
 pub returns-in-Ok : goal.returns-in-Ok
 returns-in-Ok g c =
-    logs_node c.args.words.now _ _ _
+    let before = seen (source g.I.Source.left g.I.Source.faults c.args.input.now) (sink g.O.Sink.written g.O.Sink.faults c.args.out.now)
+    (outside g.E.Env.calls g.E.Env.faults c.args.env.now) in
+    let after = seen (source g.I.Source.left g.I.Source.faults c.read_settings.new.input) (sink g.O.Sink.written g.O.Sink.faults c.open_and_record.new.out)
+    (outside g.E.Env.calls g.E.Env.faults c.open_and_record.new.env) in
+    logs_node c.args.words.now before after _
     (record { source = c.in-Ok.ensures.source_faults; sink = c.open_and_record.ensures.sink_faults; env = c.open_and_record.ensures.env_faults })
     c.open_and_record.ensures.write_fault c.in-Ok.settings c.in-Ok.ensures.judges
-    (c.open_and_record.ensures.works (source g.I.Source.left g.I.Source.faults c.args.input.now))
+    (with_input c.args.words.now c.in-Ok.settings (source g.I.Source.left g.I.Source.faults c.read_settings.new.input)
+    (c.open_and_record.ensures.works (source g.I.Source.left g.I.Source.faults c.args.input.now)))
     c.open_and_record.ensures.outcomes c.open_and_record.ensures.unopened
 
 pub returns-in-Err : goal.returns-in-Err
