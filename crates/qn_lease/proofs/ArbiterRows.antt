@@ -8,6 +8,8 @@ use Rattle.qn_model.specs.declared.events.Event.TheVariants as event
 use Rattle.qn_model.specs.declared.life.Why.{Why}
 use Rattle.qn_model.specs.declared.life.Why.TheVariants as why
 use Rattle.qn_model.specs.declared.votes.Answer.{Answer}
+use Rattle.qn_model.specs.declared.votes.VoteWhat.TheVariants as vote
+use Rattle.qn_model.specs.Tie.{answer_with_tie_at}
 use Rattle.qn_model.specs.Log.{op_out, ask_place, ask_tick, begins_clean, claimed, slot_number, timing}
 use Rattle.qn_model.specs.NodeVotes.{view, install, votes}
 use Rattle.qn_model.specs.Votes.{answer_at, present_view, view_tick, is_released, expected_votes, device_yes}
@@ -102,6 +104,29 @@ yes_still_binds = refl
 
 yes_binds_no_longer : gives_yes (with_poll 24487 (first_poll 2 12) bound) 24488 (first_poll 2 12) ≡ true
 yes_binds_no_longer = refl
+
+-- the first node alone has the vote from 12244 on, for 10000 milliseconds; the second one, alone as well, gets it a lease later
+abbrev bound_alone : Memory
+bound_alone = with_poll 12244 (first_poll 0 1) (with_poll 12243 (first_poll 0 1) began_at_0)
+
+other_half_waits : gives_yes bound_alone 24487 (first_poll 1 2) ≡ false
+other_half_waits = refl
+
+other_half_has_it : gives_yes (with_poll 24487 (first_poll 1 2) bound_alone) 24488 (first_poll 1 2) ≡ true
+other_half_has_it = refl
+
+-- what the first node counts at a tick
+abbrev counts_at : ℕ → Answer
+counts_at tick =
+    answer_with_tie_at with_device (record { tick = 12244; what = vote.Device true } ∷ record { tick = 12244; what = vote.View (seen 1 1) } ∷ []) tick
+
+first_counts_it : counts_at 22243 ≡ record { quorate = true; votes = 2; quorum = 2; expected = 3; released = true }
+unfolding answer_at present_view view_tick is_released expected_votes device_yes
+first_counts_it = refl
+
+its_yes_ends : counts_at 22244 ≡ record { quorate = false; votes = 1; quorum = 2; expected = 3; released = true }
+unfolding answer_at present_view view_tick is_released expected_votes device_yes
+its_yes_ends = refl
 
 -- a poll of an earlier incarnation, or of an earlier view, gets no yes once a later one was heard, be that one refused
 abbrev heard_later : Memory
