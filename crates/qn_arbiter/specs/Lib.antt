@@ -1,0 +1,2 @@
+pub mod Arbiter
+pub mod Poller
