@@ -1,5 +1,5 @@
 -- Two nodes with disjoint views that are both quorate both count the device.
-use Rattle.std.proofs.Common.{◌≡◌, ℕ, ◌+◌, ◌/◌, ◌<◌, ◌≤◌, Bool, true, false, List, Some, None, Option, refl, sym, ap, ◌∙◌, arith, is_some, ◌&&◌, ◌||◌, if◌then◌else◌, ◌⊎◌, inl, inr, nat_lt}
+use Rattle.std.proofs.Common.{◌≡◌, ℕ, ◌+◌, ◌/◌, ◌<◌, ◌≤◌, Bool, true, false, List, Some, None, Option, refl, sym, ap, ◌∙◌, arith, is_some, ◌&&◌, ◌||◌, if◌then◌else◌, ◌⊎◌, inl, inr, nat_lt, ◌*◌, ◌==◌}
 use Rattle.std.specs.Option.{option_map_or}
 use Rattle.std.proofs.lemmas.Bool.{leb-true, ltb-true, false≢true, true≢false}
 use Rattle.qn_base.specs.declared.ids.View.{View}
@@ -9,6 +9,7 @@ use Rattle.qn_model.specs.declared.votes.VoteEntry.{VoteEntry}
 use Rattle.qn_model.specs.Settings.{IsValid, all_votes}
 use Rattle.qn_model.specs.Tie.{breaks_tie, is_quorate_with_tie, is_seen, tie_node}
 use Rattle.qn_model.specs.Votes.{counted_votes, device_votes, device_yes, expected_votes, is_quorate, is_released, present_view, quorum_of, view_votes, votes_among, votes_of_device}
+use Rattle.qn_base.specs.declared.ids.Rank.{Rank}
 
 -- the device's yes of a node still counts at a tick
 pub record CountsDevice (past : List VoteEntry) (device : Device) (now : ℕ) : Type 0 where
@@ -24,8 +25,8 @@ last_of false b c all = absurd (false≢true all)
 -- without an order no tie is broken
 no_tie_node : (s : Settings) (past : List VoteEntry) → s.tie ≡ None → breaks_tie s past ≡ false
 no_tie_node s past none =
-    ap (λ (o : Option Rattle.qn_base.specs.declared.ids.Rank.Rank). (Rattle.std.specs.Prelude.◌==◌ (Rattle.std.specs.Prelude.◌*◌ 2 (view_votes s past)) (expected_votes s past)) && option_map_or (λ rank. is_seen past rank.0) o false)
-    (node_none s past none) ∙ and_false (Rattle.std.specs.Prelude.◌==◌ (Rattle.std.specs.Prelude.◌*◌ 2 (view_votes s past)) (expected_votes s past))
+    ap (λ (o : Option Rank). (2 * view_votes s past == expected_votes s past) && option_map_or (λ rank. is_seen past rank.0) o false)
+    (node_none s past none) ∙ and_false (2 * view_votes s past == expected_votes s past)
   where
     node_none : (s : Settings) (past : List VoteEntry) → s.tie ≡ None → tie_node s past ≡ None
     node_none s past none = rw none refl
@@ -50,7 +51,7 @@ pub record Leased (s : Settings) (device : Device) : Type 0 where
 tie_of : (s : Settings) (device : Device) → IsValid s → s.device ≡ Some device → s.tie ≡ None
 tie_of s device valid has = by_tie s.tie refl
   where
-    by_tie : (o : Option (List Rattle.qn_base.specs.declared.ids.Rank.Rank)) → s.tie ≡ o → o ≡ None
+    by_tie : (o : Option (List Rank)) → s.tie ≡ o → o ≡ None
     by_tie None e = refl
     by_tie (Some order) e = absurd (true≢false (sym (ap is_some has) ∙ (valid.tie_alone (ap is_some e)).1))
 

@@ -1,7 +1,7 @@
 -- A yes of the device that a node counts was given by the arbiter to a poll that the node sent in its present boot and view.
 use Rattle.std.proofs.Common.{◌≡◌, ℕ, suc, ◌+◌, ◌<◌, ◌≤◌, Bool, true, false, List, [], ◌∷◌, Some, None, Option, refl, sym, ap, ◌∙◌, subst, arith, ◌&&◌, ◌==◌, not, ◌⊎◌, inl, inr, if◌then◌else◌, nat_le}
-use Rattle.std.specs.Prelude.{slice_get}
-use Rattle.std.specs.Option.{option_map, option_map_or, option_or, option_to_list}
+use Rattle.std.specs.Prelude.{slice_get, is_some}
+use Rattle.std.specs.Option.{option_map, option_map_or}
 use Rattle.std.proofs.lemmas.Bool.{cases_order, eqb-true, leb-true, false≢true, true≢false}
 use Rattle.qn_base.specs.declared.ids.Rank.{Rank}
 use Rattle.qn_base.specs.declared.ids.View.{View}
@@ -11,7 +11,6 @@ use Rattle.qn_model.specs.declared.entries.What.TheVariants as what
 use Rattle.qn_model.specs.declared.events.Event.{Event}
 use Rattle.qn_model.specs.declared.events.Event.TheVariants as met
 use Rattle.qn_model.specs.declared.times.Timing.{Timing}
-use Rattle.qn_model.specs.declared.votes.VoteWhat.{VoteWhat}
 use Rattle.qn_model.specs.Log.{Line, incarnation, is_view, view_of}
 use Rattle.qn_model.specs.Moments.{Before, Itself, Later, Moment, node, tick_of}
 use Rattle.qn_model.specs.NodeOutputs.{is_begin}
@@ -37,6 +36,7 @@ use Rattle.qn_lease.proofs.Tools.{some_same, none_some, and_left_of, and_right_o
 use Rattle.qn_lease.proofs.Playing.{IsRun, NoEvent, OneEvent, Hears, hear_there, moments_at, moments_grow, newest_allowed, replies_now, reply_there, timed_of}
 use Rattle.qn_lease.proofs.Sendings.{PollerMove, Keeps, Forgets, Fresh, RankStep, Idle, Sends, Acts, pass_is, rank_step}
 use Rattle.qn_lease.proofs.Standings.{SentFrom, Numbered, last_stands, numbered_step, same_install, same_view, was_sent}
+use Rattle.qn_model.specs.declared.votes.VoteWhat.TheVariants.{Released, Tick}
 
 -- the arbiter gave its yes to a poll that was sent at some moments
 pub record Granted (s : Settings) (t : Timing) (times : Lease) (poll : Poll) (sent : List Moment) (events : List ArbiterEvent) : Type 0 where
@@ -210,7 +210,7 @@ view_stays {old = old} (Later newest {new = rest} more) same = by_view (view_of 
     by_view : (o : Option View) → view_of newest.what ≡ o → (install old ≡ install rest → view rest ≡ view old) → view (newest ∷ rest) ≡ view old
     by_view None e deeper = same_view newest rest e ∙ deeper (same ∙ same_install newest rest e)
     by_view (Some seen) e deeper =
-        absurd (let p = install_le more in let q = installs_more newest rest (ap Rattle.std.specs.Prelude.is_some e) in omega arith)
+        absurd (let p = install_le more in let q = installs_more newest rest (ap is_some e) in omega arith)
 
 -- the device's yes that a rank counts: the poll that got it was sent in the present boot and view, and the reply was taken within
 -- the limit
@@ -232,7 +232,7 @@ data VoteStep (past : List Line) (tick : ℕ) (w : What) : Type 0 where
   GivesYes : w ≡ what.Device true → VoteStep past tick w
 
 told : (past : List Line) (tick : ℕ) (b : Bool) (before : Option ℕ)
-    → newer_yes tick (if b then Rattle.qn_model.specs.declared.votes.VoteWhat.TheVariants.Released else Rattle.qn_model.specs.declared.votes.VoteWhat.TheVariants.Tick) before ≡ before
+    → newer_yes tick (if b then Released else Tick) before ≡ before
 told past tick true before = refl
 told past tick false before = refl
 

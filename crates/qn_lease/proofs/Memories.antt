@@ -3,13 +3,14 @@
 use Rattle.std.proofs.Common.{◌≡◌, ℕ, ◌+◌, ◌<◌, ◌≤◌, Bool, true, false, List, [], ◌∷◌, Some, refl, sym, ap, ◌∙◌, arith, ◌&&◌, ◌||◌, ◌==◌, not, cond, nat_le, nat_lt}
 use Rattle.std.specs.Option.{option_map_or}
 use Rattle.std.specs.List.{range_with_len}
-use Rattle.std.proofs.lemmas.Bool.{eq-eqb, eqb-true, leb-true, lt-ltb, false≢true}
+use Rattle.std.proofs.lemmas.Bool.{eq-eqb, eqb-true, leb-true, lt-ltb, ltb-true, true≢false}
 use Rattle.qn_base.specs.Members.{is_member}
 use Rattle.qn_model.specs.Laws.{AreDisjoint}
 use Rattle.qn_model.specs.Moments.{Before, Itself, Later}
 use Rattle.qn_lease.specs.declared.polls.Poll.{Poll}
 use Rattle.qn_lease.specs.Arbiter.{HeardPoll, Memory, do_meet, gives_yes, is_live_yes, is_newest, is_of_same_rank, is_older, is_vote_left, last_yes, leaves_vote}
 use Rattle.qn_lease.proofs.Tools.{and_left_of, and_right_of, not_true, or_right_of, in_range, some_item, each_item}
+use Rattle.qn_base.specs.declared.ids.View.{View}
 
 -- the tick of the newest poll that was heard, 0 where none was
 abbrev pub newest_tick : List HeardPoll → ℕ
@@ -32,7 +33,7 @@ not_below n = by_test (nat_lt n n) refl
   where
     by_test : (b : Bool) → nat_lt n n ≡ b → b ≡ false
     by_test false e = refl
-    by_test true e = absurd (let p = Rattle.std.proofs.lemmas.Bool.ltb-true n n e in omega arith)
+    by_test true e = absurd (let p = ltb-true n n e in omega arith)
 
 own_order : (p : Poll) → is_older p p ≡ false
 own_order p = by_tests (nat_lt p.incarnation p.incarnation) (p.incarnation == p.incarnation) (nat_lt p.install p.install) (not_below p.incarnation) (not_below p.install)
@@ -40,7 +41,7 @@ own_order p = by_tests (nat_lt p.incarnation p.incarnation) (p.incarnation == p.
     by_tests : (a b c : Bool) → a ≡ false → c ≡ false → (a || (b && c)) ≡ false
     by_tests false true c e f = f
     by_tests false false c e f = refl
-    by_tests true b c e f = absurd (Rattle.std.proofs.lemmas.Bool.true≢false e)
+    by_tests true b c e f = absurd (true≢false e)
 
 -- the last yes to a rank, beside an earlier yes to it
 pub record LastYes (g : HeardPoll) (heard : List HeardPoll) : Type 0 where
@@ -99,7 +100,7 @@ last_after {lease = lease} {began = began} {g = g} {rest = rest} (OnePoll {newes
     }
 
 -- nodes that meet have one in common
-meet_in : (left right : Rattle.qn_base.specs.declared.ids.View.View) → AreDisjoint left right → do_meet left.members right.members ≡ true → ⊥
+meet_in : (left right : View) → AreDisjoint left right → do_meet left.members right.members ≡ true → ⊥
 meet_in left right apart e =
     let at = some_item (λ rank. is_member left.members rank && is_member right.members rank) (range_with_len 0 32) e in
     apart at.0 (and_left_of (is_member left.members at.0) (is_member right.members at.0) at.1) (and_right_of (is_member left.members at.0) (is_member right.members at.0) at.1)

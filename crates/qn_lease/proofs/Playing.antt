@@ -22,6 +22,7 @@ use Rattle.qn_lease.specs.ArbiterRules.{is_well_formed_beside, is_yes_of_device,
 use Rattle.qn_lease.specs.ArbiterSteps.{AllAllowedBeside, arbiter_after, device_event, played, plays, poll_sent, pollers_after, reply_event, reply_sent, reply_to, run_beside, step_beside, world_after}
 use Rattle.qn_lease.proofs.Below.{Below}
 use Rattle.qn_lease.proofs.Tools.{some_same, none_some, and_right_of, some_of, test_there, allows, first_allows, added_item}
+use Rattle.std.specs.Prelude.{slice_get}
 
 -- the moments of the nodes after events
 abbrev pub moments_at : Settings → Timing → Lease → List ArbiterEvent → List Moment
@@ -200,8 +201,8 @@ first_plays s t times = record {
 known_step : (s : Settings) (t : Timing) (times : Lease) (event : ArbiterEvent) (earlier : List ArbiterEvent) → is_well_formed_beside s event ≡ true
     → Known s (run_beside s t times earlier) → Known s (run_beside s t times (event ∷ earlier))
 known_step s t times event earlier form known = record {
-  polls = λ number poll e. by_poll number poll (added_item w.polls (poll_sent s event w) number poll (sym (ap (λ ps. Rattle.std.specs.Prelude.slice_get ps number) (polls_now s t times event earlier)) ∙ e));
-  replies = λ number reply e. by_reply number reply (added_item w.replies (reply_sent event w) number reply (sym (ap (λ rs. Rattle.std.specs.Prelude.slice_get rs number) (replies_now s t times event earlier)) ∙ e));
+  polls = λ number poll e. by_poll number poll (added_item w.polls (poll_sent s event w) number poll (sym (ap (λ ps. slice_get ps number) (polls_now s t times event earlier)) ∙ e));
+  replies = λ number reply e. by_reply number reply (added_item w.replies (reply_sent event w) number reply (sym (ap (λ rs. slice_get rs number) (replies_now s t times event earlier)) ∙ e));
 }
   where
     w : ArbiterWorld

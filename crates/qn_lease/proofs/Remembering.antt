@@ -9,7 +9,7 @@ use Rattle.qn_model.specs.declared.entries.What.{What}
 use Rattle.qn_model.specs.declared.outputs.DiskOp.{DiskOp}
 use Rattle.qn_model.specs.declared.packets.Sent.{Sent}
 use Rattle.qn_model.specs.declared.times.Timing.{Timing}
-use Rattle.qn_model.specs.Moments.{Before, Itself, Later, Moment, packets, tick_of, time}
+use Rattle.qn_model.specs.Moments.{Before, Itself, Later, Moment, packets, time, Adds}
 use Rattle.qn_model.specs.Rules.{is_within_bounds}
 use Rattle.qn_model.specs.Steps.{answered, entry_of, fails, happens, landed, lands_late, step}
 use Rattle.qn_model.specs.World.{World, numbered, op_at}
@@ -27,6 +27,7 @@ use Rattle.qn_lease.proofs.Memories.{WasHeard, NoPoll, OnePoll, newest_tick}
 use Rattle.qn_lease.proofs.Playing.{IsRun, NoEvent, OneEvent, Hears, arbiter_now, hear_there, moments_at, moments_grow, newest_allowed, world_now}
 use Rattle.qn_lease.proofs.Sendings.{pass_is}
 use Rattle.qn_lease.proofs.Standings.{SentFrom, was_sent}
+use Rattle.std.specs.Prelude.{slice_get}
 
 -- what an event is to the arbiter that runs behind it
 pub data ArbiterMove (s : Settings) (t : Timing) (times : Lease) (event : ArbiterEvent) (w : ArbiterWorld) (after : Arbiter) : Type 0 where
@@ -74,9 +75,9 @@ pass_time s t (event.Late rank number) w = by_op (numbered (w.left rank.0) numbe
     by_op : (o : Option DiskOp) → time w.moments + 0 ≡ time (option_map_or (λ op. lands_late rank.0 number op w) o w).moments
     by_op None = omega arith
     by_op (Some op) = omega arith
-pass_time s t (event.Deliver rank number) w = by_sent (Rattle.std.specs.Prelude.slice_get (packets s w.moments) number)
+pass_time s t (event.Deliver rank number) w = by_sent (slice_get (packets s w.moments) number)
   where
-    by_sent : (o : Option Sent) → time w.moments + 0 ≡ time (option_map_or (λ sent. happens (Rattle.qn_model.specs.Moments.Adds rank.0 (entry_of sent.packet)) w) o w).moments
+    by_sent : (o : Option Sent) → time w.moments + 0 ≡ time (option_map_or (λ sent. happens (Adds rank.0 (entry_of sent.packet)) w) o w).moments
     by_sent None = omega arith
     by_sent (Some sent) = unfold time in (omega arith)
 

@@ -9,7 +9,7 @@ use Rattle.qn_model.specs.declared.events.Event.{Event}
 use Rattle.qn_model.specs.declared.events.Event.TheVariants as event
 use Rattle.qn_model.specs.declared.times.Timing.{Timing}
 use Rattle.qn_model.specs.Moments.{Moment}
-use Rattle.qn_model.specs.World.{node_at}
+use Rattle.qn_model.specs.World.{put}
 use Rattle.qn_model.specs.Steps.{run}
 use Rattle.qn_safety.specs.LogMoves.{LogMove, is_boot_of}
 use Rattle.qn_lease.specs.declared.events.ArbiterEvent.{ArbiterEvent}
@@ -23,6 +23,7 @@ use Rattle.qn_lease.specs.ArbiterSteps.{device_event, played, poll_sent, pollers
 use Rattle.qn_lease.proofs.Below.{Below}
 use Rattle.qn_lease.proofs.Tools.{some_same, none_some, first_allows, test_there}
 use Rattle.qn_lease.proofs.Playing.{IsRun, NodeMove, NoMove, Moves, moments_at, newest_allowed, node_move, poll_there, pollers_now, reply_there}
+use Rattle.qn_model.specs.Rules.{is_within_bounds, refusal}
 
 -- what an event of the nodes is to the poller of a rank
 pub data PollerMove (times : Lease) (rank : ℕ) (one : Event) (before after : Poller) : Type 0 where
@@ -88,11 +89,11 @@ pass_keeps times rank (event.Operator other message) dt poller e = none_some dt 
 
 -- a pass that is allowed with a clock of the arbiter's
 pub pass_is : (s : Settings) (t : Timing) (advance : ℕ) (one : Event) (w : ArbiterWorld) → refusal_beside s t (beside.PassWith advance one) w ≡ None
-    → (dt : ℕ) × ((pass_of one ≡ Some dt) × ((is_arbiter_on w && Rattle.qn_model.specs.Rules.is_within_bounds dt advance) ≡ true))
+    → (dt : ℕ) × ((pass_of one ≡ Some dt) × ((is_arbiter_on w && is_within_bounds dt advance) ≡ true))
 unfolding refusal_beside
 pass_is s t advance one w ok =
-    let may = (first_allows (may_pass_with advance one w) 15 (Rattle.qn_model.specs.Rules.refusal s t one w.world) ok).0 in
-    let is = test_there (λ dt. is_arbiter_on w && Rattle.qn_model.specs.Rules.is_within_bounds dt advance) (pass_of one) may in
+    let may = (first_allows (may_pass_with advance one w) 15 (refusal s t one w.world) ok).0 in
+    let is = test_there (λ dt. is_arbiter_on w && is_within_bounds dt advance) (pass_of one) may in
     (is.0, (is.1, is.2))
 
 -- what an event is to a rank: nothing, the sending of a poll, or an event of the nodes
@@ -172,7 +173,7 @@ step_of s t times (beside.Reply number) earlier rank ok moved =
 step_of s t times (beside.Poll own) earlier rank ok moved =
     let it = poll_there s t own (run_beside s t times earlier) ok in
     subst (λ o. RankStep s times (beside.Poll own) (run_beside s t times earlier) rank (moments_at s t times earlier) (moments_at s t times (beside.Poll own ∷ earlier))
-    ((run_beside s t times earlier).pollers rank) (option_map_or (λ at. Rattle.qn_model.specs.World.put (run_beside s t times earlier).pollers own.0 (with_sent own at ((run_beside s t times earlier).pollers own.0))) o (run_beside s t times earlier).pollers rank))
+    ((run_beside s t times earlier).pollers rank) (option_map_or (λ at. put (run_beside s t times earlier).pollers own.0 (with_sent own at ((run_beside s t times earlier).pollers own.0))) o (run_beside s t times earlier).pollers rank))
     (sym it.1) (polled s t times own earlier rank it.0 (own.0 == rank) it.1 refl moved)
 
 pub rank_step : {s : Settings} {t : Timing} {times : Lease} {event : ArbiterEvent} {earlier : List ArbiterEvent} → Below → IsRun s t times (event ∷ earlier) → (rank : ℕ)

@@ -1,7 +1,7 @@
 -- Where each poll was sent, and what a poller keeps of its last one.
 use Rattle.std.proofs.Common.{◌≡◌, ℕ, suc, ◌<◌, ◌≤◌, Bool, true, false, List, ◌∷◌, Some, None, Option, refl, sym, ap, ◌∙◌, subst, arith, ◌&&◌, ◌⊎◌, inl, inr, if◌then◌else◌, unwrap_or}
-use Rattle.std.specs.Prelude.{slice_get}
-use Rattle.std.specs.Option.{option_map, option_to_list}
+use Rattle.std.specs.Prelude.{slice_get, is_some}
+use Rattle.std.specs.Option.{option_map, option_or}
 use Rattle.std.proofs.lemmas.Bool.{false≢true}
 use Rattle.qn_base.specs.declared.ids.Rank.{Rank}
 use Rattle.qn_base.specs.declared.ids.View.{View}
@@ -90,12 +90,12 @@ shows s n at e = by_up (n.on && is_up (phase s n.log)) refl e
 -- the poll that a rank sends tells what it has
 sends_from : {s : Settings} {t : Timing} {times : Lease} {earlier : List ArbiterEvent} → Below → IsRun s t times earlier → (rank : ℕ) (own : Rank) (at : Standing) (poller : Poller)
     → own.0 ≡ rank → standing_at s rank (run_beside s t times earlier) ≡ Some at → SentFrom s rank (next_poll own at poller) (moments_at s t times earlier)
-sends_from {s = s} {t = t} {times = times} {earlier = earlier} law run rank own at poller is stands =
+sends_from {s = s} {t = t} {times = times} {earlier = earlier} law allowed rank own at poller is stands =
     let n = node s rank (moments_at s t times earlier) in
     let it = shows s n at stands in
     let up : IsUp s rank (moments_at s t times earlier) = record { on = it.on; booted = up_booted (phase s n.log) it.up } in
-    let plain = plays_of s t times earlier run in
-    let has = subst (λ w. incarnation (node s rank w.moments).log ≡ Some ((Rattle.qn_model.specs.Steps.run s t (plays s t times earlier)).slots rank).incarnation) (sym plain.same)
+    let plain = plays_of s t times earlier allowed in
+    let has = subst (λ w. incarnation (node s rank w.moments).log ≡ Some ((run s t (plays s t times earlier)).slots rank).incarnation) (sym plain.same)
     (law.number s t (plays s t times earlier) rank plain.allowed (subst (λ w. IsUp s rank w.moments) plain.same up)) in
     let shown : at.incarnation ≡ unwrap_or (incarnation n.log) 0 = ap (λ (x : Standing). x.incarnation) it.shown in
     record {
@@ -187,11 +187,11 @@ unseen_entry one rank (what.Closed ok) comes unseen = refl
 
 pub same_install : (line : Line) (past : List Line) → view_of line.what ≡ None → install (line ∷ past) ≡ install past
 unfolding install
-same_install line past none = ap (λ o. if Rattle.std.specs.Prelude.is_some o then suc (install past) else install past) none
+same_install line past none = ap (λ o. if is_some o then suc (install past) else install past) none
 
 pub same_view : (line : Line) (past : List Line) → view_of line.what ≡ None → view (line ∷ past) ≡ view past
 unfolding view
-same_view line past none = ap (λ o. Rattle.std.specs.Option.option_or o (view past)) none
+same_view line past none = ap (λ o. option_or o (view past)) none
 
 -- the last poll stands while it is kept
 pub last_stands : {s : Settings} {t : Timing} {times : Lease} {events : List ArbiterEvent} → Below → IsRun s t times events → (rank : ℕ) (last : SentPoll)

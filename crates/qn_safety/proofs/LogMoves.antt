@@ -25,16 +25,17 @@ use Rattle.qn_safety.specs.Clocks.{RunsOn}
 use Rattle.qn_safety.specs.LogMoves.{ComesOf, LogMove, Rests, Enters, Begins, is_boot_of}
 use Rattle.qn_safety.specs.Timed.{AllRuled, IsTimedRun, IsUp}
 use Rattle.qn_safety.proofs.Tools.{clash}
-use Rattle.qn_safety.proofs.Logs.{Made, OneMore, NoLine, made_before}
+use Rattle.qn_safety.proofs.Logs.{Made, OneMore, before_outs}
 use Rattle.qn_safety.proofs.Outs.{plain_no_answer}
 use Rattle.qn_safety.proofs.Stays.{boot_past_later}
 use Rattle.qn_safety.proofs.Numbers.{claimed_same, up_number}
 use Rattle.qn_safety.proofs.Runs.{Turn, IsApart, IsPass, IsBoot, IsAdd, IsFeed, IsEnd, turn, booted_node, boots_le, ruled_before, sound, span}
-use Rattle.qn_safety.proofs.Origins.{IsIn, booted_log, get_in, handed_log, line_of, line_tick, line_what, begin_line, same_boots, sent_among}
+use Rattle.qn_safety.proofs.Origins.{booted_log, get_in, handed_log, line_of, line_tick, line_what, begin_line, same_boots, sent_among, Sending}
 use Rattle.qn_safety.proofs.Seats.{both_allow, seat_of, test_there}
 use Rattle.qn_safety.proofs.Held.{Held}
 use Rattle.qn_safety.proofs.Kept.{failed_answers}
 use Rattle.qn_safety.proofs.Events.{allowed_of, earlier_allowed, newest_allowed, run_step, stage}
+use Rattle.qn_safety.proofs.Says.{PacketReason}
 
 -- true time never falls
 time_step : (moment : Moment) (earlier : List Moment) → time earlier ≤ time (moment ∷ earlier)
@@ -163,7 +164,7 @@ packet_comes : {s : Settings} {t : Timing} (of : Event) (rank number : ℕ) (sen
     → slice_get (packets s moments) number ≡ Some sent → ComesOf of rank (entry_of sent.packet)
 packet_comes {s = s} {t = t} of rank number sent moments ruled there = by_content sent.packet refl
   where
-    reason : (k : ℕ) × Rattle.qn_safety.proofs.Origins.Sending s k sent moments
+    reason : (k : ℕ) × Sending s k sent moments
     reason = sent_among {t = t} sent moments ruled (get_in (packets s moments) number sent there)
 
     by_content : (content : Packet) → sent.packet ≡ content → ComesOf of rank (entry_of content)
@@ -172,7 +173,7 @@ packet_comes {s = s} {t = t} of rank number sent moments ruled there = by_conten
     by_content (packet.Hello from) e = tt
     by_content (packet.Announce from seen) e = tt
     by_content (packet.Vote agrees) e =
-        absurd (subst (λ content. Rattle.qn_safety.proofs.Says.PacketReason s (reason.0) (reason.1.past) (Rattle.qn_safety.proofs.Logs.before_outs reason.1.line reason.1.past) reason.1.line.what sent.to content) e reason.1.reason)
+        absurd (subst (λ content. PacketReason s (reason.0) (reason.1.past) (before_outs reason.1.line reason.1.past) reason.1.line.what sent.to content) e reason.1.reason)
 
 -- what each event that is allowed is to a log
 move_step : (s : Settings) (t : Timing) (rank : ℕ) (e : Event) (w : World) → refusal s t e w ≡ None → ((j : ℕ) → Held s (seat_of s j w)) → AllRuled s t w.moments
