@@ -1,8 +1,9 @@
 -- What the record of a command says of the exit status, whatever the command is.
-use Rattle.std.proofs.Common.{◌≡◌, ◌≢◌, ◌≤◌, ◌⊎◌, ℕ, Bool, false, true, List, Option, None, Some, refl, sym, ap, ◌∙◌, subst, arith}
+use Rattle.std.proofs.Common.{◌≡◌, ◌≢◌, ◌≤◌, ◌⊎◌, inl, inr, ℕ, Bool, false, true, List, [], ◌∷◌, Option, None, Some, refl, sym, ap, ◌∙◌, subst, arith}
 use Rattle.qn_commands.specs.Endings.{Cut, Says, Whole}
 use Rattle.qn_commands.specs.Seen.{Output, Seen}
-use Rattle.qn_commands.specs.Statuses.{HasCauses}
+use Rattle.qn_commands.specs.declared.status.Status.TheVariants.{Done, BadConf, BadSchedule, ReadFault, WriteFault, EnvFault, NoMemory, ClockBack, SelfReset, BootHalted, UnknownNode, NotARun}
+use Rattle.qn_commands.specs.Statuses.{HasCauses, IsOneOf}
 use Rattle.qn_replay.specs.Soak.{soaked}
 use Rattle.qn_top.specs.declared.command.Command.{Command}
 use Rattle.qn_top.specs.declared.command.Command.TheVariants as command
@@ -11,6 +12,30 @@ use Rattle.qn_top.specs.Does.{Does, takes_memory}
 says_other : {text : List ℕ} {first last : Output} {status : ℕ} → Says text 10 first last status → status ≢ 11
 says_other (Whole is whole) eleven = omega arith
 says_other (Cut is fails prefix) eleven = omega arith
+
+-- `node-logged` is a command
+node_not_two : (code : ℕ) → IsOneOf (Done ∷ BadConf ∷ ReadFault ∷ WriteFault ∷ EnvFault ∷ NoMemory ∷ ClockBack ∷ SelfReset ∷ BootHalted ∷ UnknownNode ∷ []) code → code ≢ 2
+node_not_two code (inl is) two = omega arith
+node_not_two code (inr (inl is)) two = omega arith
+node_not_two code (inr (inr (inl is))) two = omega arith
+node_not_two code (inr (inr (inr (inl is)))) two = omega arith
+node_not_two code (inr (inr (inr (inr (inl is))))) two = omega arith
+node_not_two code (inr (inr (inr (inr (inr (inl is)))))) two = omega arith
+node_not_two code (inr (inr (inr (inr (inr (inr (inl is))))))) two = omega arith
+node_not_two code (inr (inr (inr (inr (inr (inr (inr (inl is)))))))) two = omega arith
+node_not_two code (inr (inr (inr (inr (inr (inr (inr (inr (inl is))))))))) two = omega arith
+node_not_two code (inr (inr (inr (inr (inr (inr (inr (inr (inr is))))))))) two = omega arith
+
+-- `audit` is a command
+audit_not_two : (code : ℕ) → IsOneOf (Done ∷ BadConf ∷ BadSchedule ∷ ReadFault ∷ WriteFault ∷ NoMemory ∷ UnknownNode ∷ NotARun ∷ []) code → code ≢ 2
+audit_not_two code (inl is) two = omega arith
+audit_not_two code (inr (inl is)) two = omega arith
+audit_not_two code (inr (inr (inl is))) two = omega arith
+audit_not_two code (inr (inr (inr (inl is)))) two = omega arith
+audit_not_two code (inr (inr (inr (inr (inl is))))) two = omega arith
+audit_not_two code (inr (inr (inr (inr (inr (inl is)))))) two = omega arith
+audit_not_two code (inr (inr (inr (inr (inr (inr (inl is))))))) two = omega arith
+audit_not_two code (inr (inr (inr (inr (inr (inr (inr is))))))) two = omega arith
 
 module _ (before later : Seen) (status : ℕ) where
   -- each fault has its cause
@@ -42,8 +67,8 @@ module _ (before later : Seen) (status : ℕ) where
   no_usage (command.Message image id kind) does two = let one_of = does.statuses in grind arith
   no_usage (command.Node words) does two = let one_of = does.statuses in grind arith
   no_usage (command.Migrate image) does two = let one_of = does.statuses in grind arith
-  no_usage (command.NodeLogged words) does two = let one_of = does.statuses in grind arith
-  no_usage (command.Audit words) does two = let one_of = does.statuses in grind arith
+  no_usage (command.NodeLogged words) does two = node_not_two status does.statuses two
+  no_usage (command.Audit words) does two = audit_not_two status does.statuses two
   no_usage command.Help does two = let one_of = does.statuses in grind arith
 
   -- out of memory comes only to a command that takes memory
