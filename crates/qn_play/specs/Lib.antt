@@ -7,6 +7,7 @@ pub mod Reading
 pub mod RunLaws
 pub mod Runs
 pub mod Steps
+pub mod Times
 pub mod WorldLaws
 pub mod Worlds
 pub mod Writing

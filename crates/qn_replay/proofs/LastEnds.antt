@@ -18,9 +18,10 @@ use Rattle.qn_replay.specs.declared.playback.Playback.{Playback}
 use Rattle.qn_replay.specs.Playing.{IsAfter, progress_at, start_of}
 use Rattle.qn_replay.specs.Replay.{Progress, Replayed, ends, replay_of}
 use Rattle.qn_replay.specs.Runs.{GivesWorld, IsFault, Reaches, Unwritten, Wanted, WantsMemory, WroteAll, last_of}
-use Rattle.qn_replay.proofs.RunEnds.{ends_unwritten, fits, tells_unwritten}
+use Rattle.qn_play.specs.EndLaws.{fits, run_unwritten, tells_unwritten}
+use Rattle.qn_replay.specs.Endings.{replay_fits}
 use Rattle.qn_replay.proofs.SameReplay.{place_of}
-use Rattle.qn_replay.proofs.TextSteps.{nothing_decides}
+use Rattle.qn_replay.proofs.Starts.{nothing_decides}
 
 abbrev no_world : ReplayEnd → Result Whole ReplayEnd
 no_world end = Err end
@@ -84,7 +85,7 @@ module _ (playback : Playback) where
     timing = place.timing;
     stands = place.stands;
   }
-  gives played a WriteFault tells is place same = absurd (tells_unwritten played tells (sym is))
+  gives played a WriteFault tells is place same = absurd (tells_unwritten replay_of replay_fits played tells (sym is))
   gives played a _ tells is place same = (ap (λ (x : Replayed). x.end) same ∙ sym is, tt)
 
   run_gives : {taken : List ℕ} {at_end failed write_failed : Type 0} {old new : Option (List ℕ)} (end : ReplayEnd) → (write_failed → ⊥)
@@ -110,7 +111,7 @@ module _ (playback : Playback) where
 -- a run of which nothing is written does not fail to write
 pub is_written : {left left_new old new : Option (List ℕ)} {failed write_failed : Type 0} {end : ReplayEnd} (playback : Playback) → (write_failed → ⊥)
     → runs.Runs replay_of (IsPlaceOf playback) WantsMemory left left_new failed old new write_failed end → end ≢ WriteFault
-is_written playback wrote run is = wrote (ends_unwritten run.ends is)
+is_written {end} playback wrote run is = wrote (run_unwritten replay_of replay_fits end _ _ run is)
 
 -- the end of a run is a fault where it gives no world
 pub out_fault : (world : Whole) (end : ReplayEnd) → end ≢ WriteFault → IfErr (last_of world end) IsFault
@@ -129,8 +130,8 @@ last_complete (Some bytes) (Some rest) failed result run no_failure memory =
     elim run.ends [ inl wanted ↦ absurd (memory wanted) | inr tells ↦ tells_all (GivesWorld result) parts no_failure tells ]
 
 unread : {taken : List ℕ} {at_end failed : Type 0} → Tells replay_of taken at_end failed (GivesWorld (no_world ReadFault)) → failed
-unread {taken} (Anyway always) = absurd (fits Ended (taken ++ []) (replay_of Ended (taken ++ [])) ReadFault refl (always Ended []).0)
-unread {taken} (AtEnd at_end holds) = absurd (fits Ended taken (replay_of Ended taken) ReadFault refl holds.0)
+unread {taken} (Anyway always) = absurd (fits replay_of replay_fits Ended (taken ++ []) (replay_of Ended (taken ++ [])) ReadFault refl (always Ended []).0)
+unread {taken} (AtEnd at_end holds) = absurd (fits replay_of replay_fits Ended taken (replay_of Ended taken) ReadFault refl holds.0)
 unread (AtFailure fails holds) = fails
 
 -- ReadFault comes only where a read failed

@@ -5,13 +5,7 @@ mod Forced
 mod Judging
 mod LastEnds
 mod Playbacks
-mod RunEnds
 mod RunTraces
 mod SameReplay
-mod SettingsSteps
 mod SoakSteps
-mod Taken
-mod TextLines
-mod TextSteps
-mod TimingLines
-mod TimingSteps
+mod Starts

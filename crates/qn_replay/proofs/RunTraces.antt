@@ -2,16 +2,14 @@
 use Rattle.std.proofs.Common.{◌≡◌, ◌+◌, ◌==◌, ℕ, Bool, true, false, cond, List, [], ◌∷◌, ◌++◌, Option, None, Some, Result, Ok, Err, IfOk, length, refl, sym, ap, subst, ◌∙◌, append_assoc, arith}
 use Rattle.std.proofs.lemmas.List.{append-nil}
 use Rattle.std.specs.Prelude.{◌↔◌, IsTrue, nat_lt}
-use Rattle.std.specs.Str.{bytes_eq}
 use Rattle.qn_base.specs.Members.{is_member}
-use Rattle.qn_conf.specs.declared.faults.ConfFault.{ConfFault}
-use Rattle.qn_conf.specs.declared.tree.Item.{Item}
-use Rattle.qn_conf.specs.Conf.{conf_of}
+use Rattle.qn_head.specs.Heads.{head_part}
+use Rattle.qn_head.specs.HeadLaws.{IsGood, TreesAreValid, head_good}
 use Rattle.qn_model.specs.declared.configuration.Settings.{Settings}
 use Rattle.qn_model.specs.declared.events.Event.{Event}
 use Rattle.qn_model.specs.declared.line_fault.LineFault.{LineFault}
 use Rattle.qn_model.specs.declared.times.Timing.{Timing}
-use Rattle.qn_model.specs.Lines.{Ending, Ended, ReadFailed, lines_of}
+use Rattle.qn_model.specs.Lines.{Ending, Ended, ReadFailed}
 use Rattle.qn_model.specs.Rules.{is_well_formed, refusal}
 use Rattle.qn_model.specs.Settings.{IsValid, ids}
 use Rattle.qn_model.specs.Steps.{AllAllowed, report, run, step}
@@ -19,22 +17,15 @@ use Rattle.qn_model.specs.Timing.{is_safe}
 use Rattle.qn_model.specs.World.{World}
 use Rattle.qn_safety.specs.Reported.{OneReported}
 use Rattle.qn_sched.specs.declared.replay_end.ReplayEnd.{ReplayEnd}
-use Rattle.qn_sched.specs.declared.replay_end.ReplayEnd.TheVariants.{UnsafeTiming}
 use Rattle.qn_sched.specs.EventLines.{event_line}
 use Rattle.qn_sched.specs.EventReading.{event_of}
-use Rattle.qn_sched.specs.Head.{dashes, or_bad_text, safe_or_not, safe_timing_in, settings_in}
-use Rattle.qn_sched.specs.TimingLine.{timing_of}
 use Rattle.qn_sched.specs.TraceLines.{trace_line}
-use Rattle.qn_settings.specs.declared.faults.SettingsFault.{SettingsFault}
-use Rattle.qn_settings.specs.declared.faults.TextFault.{TextFault}
-use Rattle.qn_settings.specs.Answer.{answer_of}
-use Rattle.qn_settings.specs.Text.{of_answer, of_tree, settings_of_text}
-use Rattle.qn_replay.specs.Replay.{Progress, Replayed, allowed_in, at_start, counted_bytes, cut_in, end_of_events, event_in, event_lines, event_text, go_on, last_event, last_of_text, last_timing, or_bad_line, replay_of, text_lines, timing_lines, unless_refused, with_event}
+use Rattle.qn_replay.specs.Replay.{Progress, Replayed, allowed_in, at_start, end_of_events, event_in, event_lines, event_text, go_on, last_event, or_bad_line, replay_of, unless_refused, with_event}
 use Rattle.qn_replay.specs.RunTrace.{Empty, IsRunTrace, Lines, trace_of}
 
 -- what the crates below say of a tree, of the line of an event, and of the holders after events
 pub record Laws : Type 0 where
-  pub valid : (tree : List Item) → IfOk (answer_of tree) IsValid
+  pub valid : TreesAreValid
   pub spelled : (s : Settings) (line : List ℕ) (event : Event) → IsValid s
       → (event_of (ids s.nodes) line ≡ Ok event) ↔ (IsTrue (is_well_formed s event) × (line ≡ event_line (ids s.nodes) event))
   pub one_holder : OneReported
@@ -48,10 +39,6 @@ judged_goes Q P last (Err end) next holds at_fault goes = at_fault end
 either_is : (Q : Replayed → Type 0) (test : Bool) (first second : Replayed) → Q first → Q second → Q (cond test first second)
 either_is Q true first second is others = is
 either_is Q false first second is others = others
-
-cut_silent : (last : Option Progress) (number : ℕ) (ending : Ending) → (cut_in last number ending).trace ≡ []
-cut_silent last number Ended = refl
-cut_silent last number ReadFailed = refl
 
 end_silent : (so_far : Progress) (ending : Ending) (rest : List ℕ) → (end_of_events so_far ending rest).trace ≡ []
 end_silent so_far Ended [] = refl
@@ -184,61 +171,8 @@ whole laws settings timing before valid safe ending lines =
     Lines settings timing goes.all
     (record { valid = valid; safe = safe; allowed = goes.allowed; lines = goes.lines; one_holder = reports_one laws settings timing goes.all safe goes.allowed })
 
-safe_good : (timing : Timing) (safe : Bool) → is_safe timing ≡ safe → IfOk (cond safe (Ok timing) (Err (UnsafeTiming timing))) (λ t. is_safe t ≡ true)
-safe_good timing true is = is
-safe_good timing false is = tt
-
-times_good : (number : ℕ) (times : Result Timing LineFault) → IfOk (safe_or_not number times) (λ t. is_safe t ≡ true)
-times_good number (Ok timing) = safe_good timing (is_safe timing) refl
-times_good number (Err fault) = tt
-
-timing_good : (number : ℕ) (line : List ℕ) → IfOk (safe_timing_in number line) (λ t. is_safe t ≡ true)
-unfolding safe_timing_in
-timing_good number line = times_good number (timing_of line)
-
-answer_good : (answer : Result Settings SettingsFault) → IfOk answer IsValid → IfOk (of_answer answer) IsValid
-answer_good (Ok settings) valid = valid
-answer_good (Err fault) valid = tt
-
-tree_good : Laws → (conf : Result (List Item) ConfFault) → IfOk (of_tree conf) IsValid
-tree_good laws (Ok tree) = answer_good (answer_of tree) (laws.valid tree)
-tree_good laws (Err fault) = tt
-
-text_good : (judged : Result Settings TextFault) → IfOk judged IsValid → IfOk (or_bad_text judged) IsValid
-text_good (Ok settings) valid = valid
-text_good (Err fault) valid = tt
-
-settings_good : Laws → (bytes : List ℕ) → IfOk (settings_in bytes) IsValid
-unfolding settings_in settings_of_text
-settings_good laws bytes = text_good (of_tree (conf_of bytes)) (tree_good laws (conf_of bytes))
-
-last_timing_tells : (before : ℕ) (ending : Ending) (rest : List ℕ) → IsRunTrace (last_timing before ending rest).trace
-unfolding last_timing
-last_timing_tells before ending rest =
-    either_is (λ answer. IsRunTrace answer.trace) (nat_lt 4096 (length rest)) _ _ (Empty refl) (Empty (cut_silent None (before + 1) ending))
-
-timing_lines_tell : Laws → (settings : Settings) (before : ℕ) → IsValid settings → (ending : Ending) (lines : List (List ℕ)) → IsRunTrace (timing_lines settings before ending lines).trace
-timing_lines_tell laws settings before valid ending [] = last_timing_tells before ending []
-timing_lines_tell laws settings before valid ending (rest ∷ []) = last_timing_tells before ending rest
-timing_lines_tell laws settings before valid ending (line ∷ next ∷ lines) =
-    judged_goes (λ answer. IsRunTrace answer.trace) (λ t. is_safe t ≡ true) None (safe_timing_in (before + 1) line) _ (timing_good (before + 1) line)
-    (λ end. Empty refl) (λ timing safe. whole laws settings timing (before + 1) valid safe ending (next ∷ lines))
-
-last_of_text_tells : (text : List ℕ) (before : ℕ) (ending : Ending) (rest : List ℕ) → IsRunTrace (last_of_text text before ending rest).trace
-unfolding last_of_text
-last_of_text_tells text before ending rest =
-    either_is (λ answer. IsRunTrace answer.trace) (nat_lt 1048576 (counted_bytes text rest)) _ _ (Empty refl) (Empty (cut_silent None (before + 1) ending))
-
-text_lines_tell : Laws → (text : List ℕ) (before : ℕ) (ending : Ending) (lines : List (List ℕ)) → IsRunTrace (text_lines text before ending lines).trace
-text_lines_tell laws text before ending [] = last_of_text_tells text before ending []
-text_lines_tell laws text before ending (rest ∷ []) = last_of_text_tells text before ending rest
-text_lines_tell laws text before ending (line ∷ next ∷ lines) =
-    either_is (λ answer. IsRunTrace answer.trace) (bytes_eq line dashes) _ _
-    (judged_goes (λ answer. IsRunTrace answer.trace) IsValid None (settings_in text) _ (settings_good laws text) (λ end. Empty refl)
-    (λ settings valid. timing_lines_tell laws settings (before + 1) valid ending (next ∷ lines)))
-    (either_is (λ answer. IsRunTrace answer.trace) (nat_lt 1048576 (length (text ++ line ++ 10 ∷ []))) _ _ (Empty refl)
-    (text_lines_tell laws (text ++ line ++ 10 ∷ []) (before + 1) ending (next ∷ lines)))
-
 -- the trace of each replay
 pub traces_are_runs : Laws → (ending : Ending) (bytes : List ℕ) → IsRunTrace (replay_of ending bytes).trace
-traces_are_runs laws ending bytes = text_lines_tell laws [] 0 ending (lines_of bytes)
+traces_are_runs laws ending bytes =
+    judged_goes (λ answer. IsRunTrace answer.trace) (λ given. IsGood given.0) None (head_part ending bytes) _ (head_good laws.valid ending bytes) (λ end. Empty refl)
+    (λ given good. whole laws given.0.settings given.0.timing given.0.lines good.0 good.1 ending given.1)

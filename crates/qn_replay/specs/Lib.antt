@@ -7,4 +7,3 @@ pub mod Replay
 pub mod RunTrace
 pub mod Runs
 pub mod Soak
-pub mod Taking

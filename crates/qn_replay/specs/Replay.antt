@@ -1,23 +1,22 @@
 -- What a replay answers for its whole input: this project's profile.
-use Rattle.std.specs.Prelude.{ℕ, ◌+◌, ◌==◌, nat_eq, nat_lt, if◌then◌else◌, List, [], ◌∷◌, ◌++◌, length, Option, None, Some, Result, Ok, Err}
-use Rattle.std.specs.List.{starts_with}
-use Rattle.std.specs.Str.{bytes_eq}
+use Rattle.std.specs.Prelude.{ℕ, ◌+◌, ◌==◌, nat_lt, if◌then◌else◌, List, [], ◌∷◌, ◌++◌, length, Option, None, Some, Result, Ok, Err}
 use Rattle.qn_base.specs.declared.limits.TheConstants.{MOST_EVENTS, MOST_LINE_BYTES}
-use Rattle.qn_conf.specs.declared.faults.ConfFault.TheVariants as conf
+use Rattle.qn_head.specs.declared.head.Head.{Head}
+use Rattle.qn_head.specs.Heads.{head_part}
+use Rattle.qn_head.specs.PartLaws.{after_part}
 use Rattle.qn_model.specs.declared.configuration.Settings.{Settings}
 use Rattle.qn_model.specs.declared.events.Event.{Event}
 use Rattle.qn_model.specs.declared.line_fault.LineFault.{LineFault}
 use Rattle.qn_model.specs.declared.line_fault.LineFault.TheVariants.{TooLong, TooMany, Unended}
 use Rattle.qn_model.specs.declared.times.Timing.{Timing}
-use Rattle.qn_model.specs.Lines.{Ending, Ended, ReadFailed, lines_of}
+use Rattle.qn_model.specs.Lines.{Ending, Ended, ReadFailed}
 use Rattle.qn_model.specs.Rules.{refusal}
 use Rattle.qn_model.specs.Settings.{ids}
 use Rattle.qn_model.specs.Steps.{report, step}
 use Rattle.qn_model.specs.World.{World, first_world}
 use Rattle.qn_sched.specs.declared.replay_end.ReplayEnd.{ReplayEnd}
-use Rattle.qn_sched.specs.declared.replay_end.ReplayEnd.TheVariants.{BadConf, BadSchedule, Done, NotAllowed, ReadFault}
+use Rattle.qn_sched.specs.declared.replay_end.ReplayEnd.TheVariants.{BadSchedule, Done, NotAllowed, ReadFault}
 use Rattle.qn_sched.specs.EventReading.{event_of}
-use Rattle.qn_sched.specs.Head.{dashes, safe_timing_in, settings_in}
 use Rattle.qn_sched.specs.TraceLines.{trace_line}
 pub use Rattle.qn_play.specs.Played.{Played, ended, go_on, traced}
 
@@ -107,37 +106,10 @@ event_lines so_far ending (line ∷ next ∷ lines) =
     go_on (Some so_far) (event_in so_far line)
     (λ event. after_event so_far (allowed_in so_far event) (λ further. event_lines further ending (next ∷ lines)))
 
--- the input after `before` lines, where the timing line is due and not ended
-unfoldable pub last_timing : ℕ → Ending → List ℕ → Replayed
-last_timing before ending rest =
-    if nat_lt MOST_LINE_BYTES (length rest) then ends (BadSchedule (before + 1) TooLong) else cut_in None (before + 1) ending
-
--- the timing line and the lines after it
-abbrev pub timing_lines : Settings → ℕ → Ending → List (List ℕ) → Replayed
-timing_lines settings before ending [] = last_timing before ending []
-timing_lines settings before ending (rest ∷ []) = last_timing before ending rest
-timing_lines settings before ending (line ∷ next ∷ lines) =
-    go_on None (safe_timing_in (before + 1) line)
-    (λ timing. event_lines (at_start settings timing (before + 1)) ending (next ∷ lines))
-
--- how many bytes are counted of a settings text and an unended rest, which may become `----`
-abbrev pub counted_bytes : List ℕ → List ℕ → ℕ
-counted_bytes text rest = if starts_with nat_eq dashes rest then length text else length text + length rest
-
--- the input after the `before` lines of a settings text, where `----` is due and not ended
-unfoldable pub last_of_text : List ℕ → ℕ → Ending → List ℕ → Replayed
-last_of_text text before ending rest =
-    if nat_lt 1048576 (counted_bytes text rest) then ends (BadConf conf.TooLong) else cut_in None (before + 1) ending
-
--- the lines after the `before` lines of a settings text: it goes up to the first line `----`
-abbrev pub text_lines : List ℕ → ℕ → Ending → List (List ℕ) → Replayed
-text_lines text before ending [] = last_of_text text before ending []
-text_lines text before ending (rest ∷ []) = last_of_text text before ending rest
-text_lines text before ending (line ∷ next ∷ lines) =
-    if bytes_eq line dashes then go_on None (settings_in text) (λ settings. timing_lines settings (before + 1) ending (next ∷ lines))
-    else if nat_lt 1048576 (length (text ++ line ++ 10 ∷ [])) then ends (BadConf conf.TooLong)
-    else text_lines (text ++ line ++ 10 ∷ []) (before + 1) ending (next ∷ lines)
+-- a run of the lines after a head
+abbrev pub after_head : Head → Ending → List (List ℕ) → Replayed
+after_head head ending lines = event_lines (at_start head.settings head.timing head.lines) ending lines
 
 -- what a replay answers for the bytes that were read and the way in which the input ended
 abbrev pub replay_of : Ending → List ℕ → Replayed
-replay_of ending bytes = text_lines [] 0 ending (lines_of bytes)
+replay_of ending bytes = after_part None head_part after_head ending bytes

@@ -2,14 +2,14 @@
 use Rattle.std.specs.Prelude.{◌≡◌, ◌≤◌, ◌⊎◌, ℕ, length, List, [], ◌++◌, Option, Some, Result, Ok, Err}
 use Rattle.qn_world.specs.Standing.{WorldFor}
 use Rattle.qn_world.specs.Whole.{Whole}
-use Rattle.std.specs.Io.KnownBytes.{IsAtEnd, prepend_known, append_known}
+use Rattle.std.specs.Io.KnownBytes.{IsAtEnd, prepend_known}
 use Rattle.qn_io.specs.declared.buffered.TheConstants.{PIECE}
 use Rattle.qn_model.specs.Inputs.{Tells}
 use Rattle.qn_model.specs.Lines.{Ended}
 use Rattle.qn_sched.specs.declared.replay_end.ReplayEnd.{ReplayEnd}
 use Rattle.qn_sched.specs.declared.replay_end.ReplayEnd.TheVariants.{Done, NoMemory, WriteFault}
 use Rattle.qn_play.specs.Runs as runs
-pub use Rattle.qn_play.specs.Runs.{AnswersWhole, Unwritten, Wanted, WroteAll}
+pub use Rattle.qn_play.specs.Runs.{AnswersWhole, IfDone, Unwritten, Wanted, WroteAll}
 use Rattle.qn_replay.specs.Reading.{IsNeeded, WantsAt}
 use Rattle.qn_replay.specs.Replay.{Progress, Replayed, replay_of}
 
@@ -34,28 +34,12 @@ abbrev pub Replays : Option (List ℕ) → Option (List ℕ) → Type 0 → Opti
 Replays left_old left_new read_failed old new write_failed end = runs.Runs replay_of AnyPlace WantsMemory left_old left_new read_failed old new write_failed end
 
 -- out of memory after this trace, which is all that was written
-pub record Wants (left_old left_new old new : Option (List ℕ)) : Type 0 where
-  pub taken : List ℕ
-  pub waiting : List ℕ
-  pub trace : List ℕ
-  pub takes : left_old ≡ prepend_known (taken ++ waiting) left_new
-  pub needed : IsNeeded replay_of taken
-  pub within : length waiting ≤ PIECE
-  pub writes : new ≡ append_known old trace
-  pub why : WantsMemory taken trace
+abbrev pub Wants : Option (List ℕ) → Option (List ℕ) → Option (List ℕ) → Option (List ℕ) → Type 0
+Wants left_old left_new old new = runs.OutOfMemory replay_of WantsMemory left_old left_new old new
 
 -- the whole input was read, and all of its trace was written
-pub record Completes (left_old left_new old new : Option (List ℕ)) (end : ReplayEnd) : Type 0 where
-  pub read : List ℕ
-  pub takes : left_old ≡ prepend_known read left_new
-  pub at_end : IsAtEnd left_new
-  pub ends : end ≡ (replay_of Ended read).end
-  pub writes : new ≡ append_known old (replay_of Ended read).trace
-
--- a fact for an end that is good
-abbrev pub IfDone : ReplayEnd → Type 0 → Type 0
-IfDone (Done events) P = P
-IfDone _ P = Unit {0}
+abbrev pub Completes : Option (List ℕ) → Option (List ℕ) → Option (List ℕ) → Option (List ℕ) → ReplayEnd → Type 0
+Completes left_old left_new old new end = runs.ReadsWhole replay_of left_old left_new old new end
 
 -- an end that is a fault of the input, or out of memory
 abbrev pub IsFault : ReplayEnd → Type 0

@@ -5,7 +5,7 @@ ghost use Rattle.qn_model.specs.Lines.{Ended};
 ghost use Rattle.qn_replay.specs.Replay.{replay_of};
 ghost use Rattle.qn_replay.specs.Runs.{GivesWorld, IsFault, Reaches};
 
-use crate::head::start;
+use crate::start::start;
 use qn_io::{Pieces, Source};
 use qn_play::{NullSink, Output, play};
 use qn_sched::ReplayEnd;

@@ -1,4 +1,4 @@
-//! The replay of a schedule over any source: a head is read, and the lines after it are played by qn_play.
+//! The replay of a schedule over any source: a head is read by qn_head, and the lines after it are played by qn_play.
 //!
 //! Promises, on `replay`: the trace and the end are exactly the defined ones of the bytes that were read, and
 //! nothing is read after the piece in which the first fault stood; ReadFault comes only where the count of faults
@@ -13,16 +13,14 @@
 mod choice;
 mod drawn_events;
 mod generator;
-mod head;
 mod in_place;
 mod last;
-mod part_text;
 mod playback;
 mod rows;
 mod run;
-mod schedule;
 mod soak_settings;
 mod soaking;
+mod start;
 mod tally;
 
 pub use generator::Gen;

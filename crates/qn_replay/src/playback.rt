@@ -1,7 +1,7 @@
 //! A replay after its head, as a world that qn_play plays.
-use crate::schedule::Schedule;
 use arrayvec::ArrayVec;
 use qn_base::{MOST_LINE_BYTES, Rank};
+use qn_head::Head;
 use qn_model::{Event, LineFault, Refused, Report};
 use qn_play::Plays;
 use qn_sched::{ReplayEnd, read_line_into, write_trace};
@@ -28,24 +28,24 @@ impl Playback {
     ghost use Rattle.qn_replay.specs.Runs.{last_of};
 
     /// A replay whose head was read: nothing has happened.
-    pub(crate) fn new(alloc: Global, schedule: Schedule) -> Result<Playback, ReplayEnd>
-        requires valid { IsValid schedule.settings }
-        requires safe { is_safe schedule.timing ≡ true }
-        requires few_lines { schedule.lines ≤ 4294967296 }
+    pub(crate) fn new(alloc: Global, head: Head) -> Result<Playback, ReplayEnd>
+        requires valid { IsValid head.settings }
+        requires safe { is_safe head.timing ≡ true }
+        requires few_lines { head.lines ≤ 4294967296 }
         ensures begins { IfOk result Begins }
-        ensures settings { IfOk result (λ playback. playback.world.settings ≡ schedule.settings) }
-        ensures timing { IfOk result (λ playback. playback.world.timing ≡ schedule.timing) }
-        ensures lines { IfOk result (λ playback. playback.head ≡ schedule.lines) }
+        ensures settings { IfOk result (λ playback. playback.world.settings ≡ head.settings) }
+        ensures timing { IfOk result (λ playback. playback.world.timing ≡ head.timing) }
+        ensures lines { IfOk result (λ playback. playback.head ≡ head.lines) }
         ensures memory { IfErr result (λ end. end ≡ ReplayEnd.NoMemory) }
     {
-        let Ok(world) = World::new(alloc, schedule.settings, schedule.timing) else {
+        let Ok(world) = World::new(alloc, head.settings, head.timing) else {
             return Err(ReplayEnd::NoMemory);
         };
         Ok(Playback {
             world,
             event: Event::Tick(Rank(0)),
             report: blank_report(),
-            head: schedule.lines,
+            head: head.lines,
             events: 0,
         })
     }

@@ -5,7 +5,7 @@ ghost use Rattle.qn_model.specs.Lines.{Ended};
 ghost use Rattle.qn_replay.specs.Replay.{replay_of};
 ghost use Rattle.qn_replay.specs.Runs.{AnswersWhole, Completes, IfDone, Replays, Wants};
 
-use crate::head::start;
+use crate::start::start;
 use qn_io::{Pieces, Sink, Source};
 use qn_play::{Output, play};
 use qn_sched::ReplayEnd;

@@ -1,7 +1,7 @@
 //! How a replay ends.
 use qn_conf::ConfFault;
 use qn_model::{LineFault, Rule, Timing};
-use qn_settings::{SettingsFault, TextFault};
+use qn_settings::SettingsFault;
 
 /// How a replay ended. Lines are those of the whole input, from 1.
 #[derive(Clone, Copy, PartialEq, Eq, Debug)]
@@ -24,19 +24,4 @@ pub enum ReplayEnd {
     UnsafeTiming(Timing),
     /// Out of memory.
     NoMemory,
-}
-
-impl From<TextFault> for ReplayEnd {
-    ghost use Rattle.std.specs.Prelude.{◌≡◌};
-    ghost use Rattle.qn_sched.specs.Ends.{end_of_text};
-
-    ghost from_gives = { λ fault end. end ≡ end_of_text fault };
-
-    fn from(fault: TextFault) -> ReplayEnd {
-        match fault {
-            TextFault::Conf(ConfFault::NoMemory) => ReplayEnd::NoMemory,
-            TextFault::Conf(fault) => ReplayEnd::BadConf(fault),
-            TextFault::Settings(fault) => ReplayEnd::BadSettings(fault),
-        }
-    }
 }

@@ -11,21 +11,22 @@ use Rattle.qn_settings.specs.Sections.{key_in}
 use Rattle.qn_settings.specs.Text.{settings_of_text}
 use Rattle.qn_sched.specs.Head.{safe_timing_in, settings_in}
 use Rattle.qn_sched.specs.TimingLine.{time_of, times_of, times_of_words, timing_of, timing_of_words}
-use Rattle.qn_replay.specs.Replay.{last_event, last_of_text, last_timing}
+use Rattle.qn_head.specs.Heads.{last_line, last_of_text, within_bound}
+use Rattle.qn_replay.specs.Replay.{last_event}
 use Rattle.qn_replay.proofs.rows.law_texts.Goals as goal
 
 pub returns-clause-empty : goal.returns-clause-empty
-unfolding lib.Utf8.encode chars is_utf8 settings_in settings_of_text conf_of meaning_of trim is_name section_of pair_of fault_of settings_of entries_of key_in number_in last_of_text last_timing last_event safe_timing_in timing_of timing_of_words times_of_words times_of time_of number_between
+unfolding lib.Utf8.encode chars is_utf8 settings_in settings_of_text conf_of meaning_of trim is_name section_of pair_of fault_of settings_of entries_of key_in number_in last_of_text last_line within_bound last_event safe_timing_in timing_of timing_of_words times_of_words times_of time_of number_between
 returns-clause-empty c = refl
 
 pub returns-clause-no_nodes : goal.returns-clause-no_nodes
-unfolding lib.Utf8.encode chars is_utf8 settings_in settings_of_text conf_of meaning_of trim is_name section_of pair_of fault_of settings_of entries_of key_in number_in last_of_text last_timing last_event safe_timing_in timing_of timing_of_words times_of_words times_of time_of number_between
+unfolding lib.Utf8.encode chars is_utf8 settings_in settings_of_text conf_of meaning_of trim is_name section_of pair_of fault_of settings_of entries_of key_in number_in last_of_text last_line within_bound last_event safe_timing_in timing_of timing_of_words times_of_words times_of time_of number_between
 returns-clause-no_nodes c = refl
 
 pub returns-clause-extra_close : goal.returns-clause-extra_close
-unfolding lib.Utf8.encode chars is_utf8 settings_in settings_of_text conf_of meaning_of trim is_name section_of pair_of fault_of settings_of entries_of key_in number_in last_of_text last_timing last_event safe_timing_in timing_of timing_of_words times_of_words times_of time_of number_between
+unfolding lib.Utf8.encode chars is_utf8 settings_in settings_of_text conf_of meaning_of trim is_name section_of pair_of fault_of settings_of entries_of key_in number_in last_of_text last_line within_bound last_event safe_timing_in timing_of timing_of_words times_of_words times_of time_of number_between
 returns-clause-extra_close c = refl
 
 pub returns-clause-no_end : goal.returns-clause-no_end
-unfolding lib.Utf8.encode chars is_utf8 settings_in settings_of_text conf_of meaning_of trim is_name section_of pair_of fault_of settings_of entries_of key_in number_in last_of_text last_timing last_event safe_timing_in timing_of timing_of_words times_of_words times_of time_of number_between
+unfolding lib.Utf8.encode chars is_utf8 settings_in settings_of_text conf_of meaning_of trim is_name section_of pair_of fault_of settings_of entries_of key_in number_in last_of_text last_line within_bound last_event safe_timing_in timing_of timing_of_words times_of_words times_of time_of number_between
 returns-clause-no_end c = refl

@@ -5,7 +5,7 @@ use Rattle.qn_replay.specs.Replay.{replay_of}
 use Rattle.qn_replay.specs.Runs.{AnyPlace, AtHead, WantsMemory}
 use Rattle.qn_replay.proofs.AfterHead.{replay_in_head, replay_run}
 use Rattle.qn_replay.proofs.Playbacks.{begins_after}
-use Rattle.qn_replay.proofs.TextSteps.{nothing_decides}
+use Rattle.qn_replay.proofs.Starts.{nothing_decides}
 use Rattle.qn_replay.proofs.run.run.Goals as goal
 
 pub returns-in_default-clause-replays : goal.returns-in_default-clause-replays
