@@ -11,10 +11,10 @@ use Rattle.qn_live.specs.declared.asked.Asked.TheVariants as asked
 use Rattle.qn_live.specs.declared.asked.Given.{Given}
 use Rattle.qn_live.specs.declared.asked.Room.{Room}
 
--- a sector is one of the image
+-- a sector is one of an image
 abbrev pub IsWithin : Asked → Type 0
-IsWithin (asked.Read sector) = sector < 3072
-IsWithin (asked.Write sector) = sector < 3072
+IsWithin (asked.Read sector) = sector < 1024
+IsWithin (asked.Write sector) = sector < 1024
 IsWithin asked.Receive = Unit {0}
 IsWithin asked.Now = Unit {0}
 IsWithin asked.Feed = Unit {0}

@@ -83,7 +83,7 @@ fn ask_reset(settings: &Settings, me: Rank, incarnation: u64, rank: Rank, room: 
 }
 
 /// The id of a rank, 0 where it is not configured.
-fn id_of(settings: &Settings, rank: Rank) -> NodeId
+pub fn id_of(settings: &Settings, rank: Rank) -> NodeId
     ensures id { result ≡ id_of settings.now rank.0 }
     ensures from_one { IsValid settings.now → rank.0 < length settings.now.nodes → 1 ≤ result.0 }
 {
@@ -105,8 +105,9 @@ pub fn answer(settings: &Settings, op: DiskOp, ok: bool, sector: &[u8; SECTOR]) 
     }
 }
 
+/// The answer of a disk operation that was done, and that read this sector.
 #[tactic(auto, unfolding(crate::specs::Performing::done))]
-fn done(settings: &Settings, op: DiskOp, sector: &[u8; SECTOR]) -> What
+pub fn done(settings: &Settings, op: DiskOp, sector: &[u8; SECTOR]) -> What
     ensures { result ≡ done settings.now op sector.now }
 {
     match op {

@@ -21,6 +21,8 @@ mod run;
 mod running;
 
 pub use asked::{Asked, Given, Room};
+pub use calling::call;
+pub use disk::{done, id_of};
 pub use laws::{
     law_end_causes, law_one_end, law_one_history, law_outputs, law_rest, law_sound_end,
 };

@@ -1,0 +1,80 @@
+//! The laws of a run on three images: they are those of a run on one.
+ghost use Rattle.std.specs.Prelude.{◌≡◌, ◌++◌, ◌∷◌, [], ℕ, Bool, false, true, List, Option};
+ghost use Rattle.qn_base.specs.declared.calls.Call.{Call};
+ghost use Rattle.qn_base.specs.Calls.{some_failed};
+ghost use Rattle.qn_base.specs.Plans.{Follows};
+ghost use Rattle.qn_model.specs.declared.configuration.Settings.{Settings};
+ghost use Rattle.qn_base.specs.declared.ids.Rank.{Rank};
+ghost use Rattle.qn_model.specs.declared.outputs.DiskOp.{DiskOp};
+ghost use Rattle.qn_safety.specs.declared.part.Part.{Part};
+ghost use Rattle.qn_live.specs.Laws.{IsHistory, NeverFalls, is_by_call, is_by_clock, is_sound};
+ghost use Rattle.qn_live.specs.Running.{Ran};
+ghost use Rattle.qn_live3.specs.Disk.{part_of, read_entry};
+ghost use Rattle.qn_live3.specs.Laws.{IsTold, taken_from};
+ghost use Rattle.qn_live3.specs.Runs.{triple_plan};
+
+use qn_live::{law_end_causes, law_one_history, law_sound_end};
+use qn_sector::law_read_back;
+
+/// Law: what a node is handed in a run on three images is one history.
+pub fn law_triple_history()
+    ensures { (s : Settings) (me : ℕ) (clean : Bool) (leave : Option ℕ) (turns : ℕ) (calls : List Call) (ran : Ran)
+        → Follows (triple_plan s me clean leave turns) calls ran
+        → IsHistory s me ran.log }
+{
+    law_one_history();
+}
+
+/// Law: a run on three images ends once, and in one way.
+pub fn law_triple_end()
+    ensures one { (s : Settings) (me : ℕ) (clean : Bool) (leave : Option ℕ) (turns : ℕ) (calls : List Call) (ran other : Ran)
+        → Follows (triple_plan s me clean leave turns) calls ran
+        → Follows (triple_plan s me clean leave turns) calls other
+        → ran ≡ other }
+    ensures once { (s : Settings) (me : ℕ) (clean : Bool) (leave : Option ℕ) (turns : ℕ) (calls : List Call) (call : Call)
+        (more : List Call) (ran other : Ran)
+        → Follows (triple_plan s me clean leave turns) calls ran
+        → Follows (triple_plan s me clean leave turns) (calls ++ call ∷ more) other
+        → ⊥ }
+{}
+
+/// Law: a run on three images in which no call failed was not halted in its boot by a failed call, and one in which no tick
+/// fell did not end because the clock went back.
+pub fn law_triple_end_causes()
+    ensures calls { (s : Settings) (me : ℕ) (clean : Bool) (leave : Option ℕ) (turns : ℕ) (calls : List Call) (ran : Ran)
+        → Follows (triple_plan s me clean leave turns) calls ran
+        → some_failed calls ≡ false
+        → is_by_call ran.end ≡ false }
+    ensures clock { (s : Settings) (me : ℕ) (clean : Bool) (leave : Option ℕ) (turns : ℕ) (calls : List Call) (ran : Ran)
+        → Follows (triple_plan s me clean leave turns) calls ran
+        → NeverFalls 0 calls
+        → is_by_clock ran.end ≡ false }
+    ensures sound { (s : Settings) (me : ℕ) (clean : Bool) (leave : Option ℕ) (turns : ℕ) (calls : List Call) (ran : Ran)
+        → Follows (triple_plan s me clean leave turns) calls ran
+        → some_failed calls ≡ false
+        → NeverFalls 0 calls
+        → is_sound ran.end ≡ true }
+{
+    law_end_causes();
+    law_sound_end();
+}
+
+/// Law: what a node on one image takes from the sector that stands for three is the entry that the three give together. Each
+/// part is what an image told.
+pub fn law_triple_answers()
+    ensures told { (s : Settings) (op : DiskOp) (call : Call) → IsTold s op (part_of s op call) }
+    ensures header { (s : Settings) (sector : ℕ) (one two three : Part) (good : List Bool)
+        → IsTold s DiskOp.ReadHeader one → IsTold s DiskOp.ReadHeader two → IsTold s DiskOp.ReadHeader three
+        → taken_from s DiskOp.ReadHeader sector (read_entry DiskOp.ReadHeader (one ∷ two ∷ three ∷ []) good)
+        ≡ read_entry DiskOp.ReadHeader (one ∷ two ∷ three ∷ []) good }
+    ensures slot { (s : Settings) (rank : Rank) (sector : ℕ) (one two three : Part) (good : List Bool)
+        → IsTold s (DiskOp.ReadSlot rank) one → IsTold s (DiskOp.ReadSlot rank) two → IsTold s (DiskOp.ReadSlot rank) three
+        → taken_from s (DiskOp.ReadSlot rank) sector (read_entry (DiskOp.ReadSlot rank) (one ∷ two ∷ three ∷ []) good)
+        ≡ read_entry (DiskOp.ReadSlot rank) (one ∷ two ∷ three ∷ []) good }
+    ensures mailbox { (s : Settings) (sector : ℕ) (one two three : Part) (good : List Bool)
+        → IsTold s DiskOp.ReadMail one → IsTold s DiskOp.ReadMail two → IsTold s DiskOp.ReadMail three
+        → taken_from s DiskOp.ReadMail sector (read_entry DiskOp.ReadMail (one ∷ two ∷ three ∷ []) good)
+        ≡ read_entry DiskOp.ReadMail (one ∷ two ∷ three ∷ []) good }
+{
+    law_read_back();
+}

@@ -1,0 +1,41 @@
+//! Runs a node over an outside with three images.
+ghost use Rattle.std.specs.Prelude.{◌≤◌, ◌<◌, List, length};
+ghost use Rattle.qn_base.specs.Plans.{Did};
+ghost use Rattle.qn_model.specs.Log.{Line};
+ghost use Rattle.qn_model.specs.Settings.{IsValid};
+ghost use Rattle.qn_live3.specs.Runs.{triple_plan};
+
+use crate::images::Images;
+use qn_base::Rank;
+use qn_io::Env;
+use qn_live::{LiveEnd, NodeRun, Room};
+use qn_model::Settings;
+
+/// Runs the node of that rank for that many turns at most, on three images. `clean` says that its boot is a clean start,
+/// and `leave_at` is the number of the turn, from 1, from which on it is to leave.
+pub fn run_node3<E: Env>(
+    env: &mut E,
+    settings: &Settings,
+    me: Rank,
+    clean: bool,
+    leave_at: Option<u64>,
+    turns: u64,
+) -> LiveEnd
+    requires valid { IsValid settings.now }
+    requires configured { me.0 < length settings.now.nodes }
+    requires some_turn { 1 ≤ turns }
+    ensures did { (log : List Line) × Did (E.faults env.old) (E.faults env.new) (E.calls env.old) (E.calls env.new)
+        (triple_plan settings.now me.0 clean leave_at turns) (record { end = result; log = log }) }
+{
+    let mut run = NodeRun::new(settings.copy(), me, clean, leave_at, turns);
+    let mut images = Images::new();
+    let mut room = Room::new();
+    'calls: loop {
+        let asked = match run.asks(&mut room) {
+            Ok(asked) => asked,
+            Err(end) => return end,
+        };
+        let given = images.call(env, settings, me, asked, &mut room);
+        run.answer(given, &room);
+    }
+}
