@@ -1,6 +1,5 @@
-pub mod ApplySteps
 pub mod DiskSteps
-pub mod EventSteps
 pub mod LineRows
 pub mod Lists
 pub mod RuleSteps
+pub mod ApplySteps
