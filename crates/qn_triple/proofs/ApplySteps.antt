@@ -1,21 +1,30 @@
 -- The first world of three images, and the step of an event that is allowed.
 use Rattle.std.proofs.Common.{◌≡◌, ℕ, suc, zero, ◌+◌, ◌-◌, ◌<◌, ◌≤◌, true, List, [], ◌∷◌, length, Some, None, refl, sym, ◌∙◌, ap, subst, arith}
-use Rattle.std.specs.Prelude.{All}
+use Rattle.std.specs.Prelude.{All, Bool, replicate, slice_get}
+use Rattle.std.proofs.lemmas.List.Elements.{All-nil}
 use Rattle.qn_base.specs.declared.limits.TheConstants.{LATEST_TIME}
-use Rattle.qn_cluster.specs.Standing.{ClusterFor, HasRoom}
+use Rattle.qn_cluster.specs.Standing.{ClusterFor, HasRoom, IsWithin}
+use Rattle.qn_disk.specs.declared.sectors.Sectors.{Sectors}
+use Rattle.qn_disk.specs.Standing.{LeftFor, SectorsFor}
 use Rattle.qn_model.specs.declared.outputs.Out.{Out}
 use Rattle.qn_model.specs.declared.reports.Report.{Report}
 use Rattle.qn_model.specs.declared.reports.Refused.TheVariants as refused
 use Rattle.qn_model.specs.declared.rules.Rule.{Rule}
 use Rattle.qn_model.specs.Steps.{holders, outs_after, report}
+use Rattle.qn_model.specs.Timing.{is_safe}
+use Rattle.qn_model.specs.World.{first_world}
 use Rattle.qn_node.specs.Outputs.{IsNodeOutput}
+use Rattle.qn_parts.specs.Parts.{is_good_on, part_on}
+use Rattle.qn_safety.specs.declared.part.Part.{Part}
+use Rattle.qn_safety.specs.declared.part.Part.TheVariants.{Pending}
 use Rattle.qn_safety.specs.declared.triple_event.TripleEvent.{TripleEvent}
-use Rattle.qn_safety.specs.TripleRules.{is_well_formed_triple, refusal_triple}
+use Rattle.qn_safety.specs.TripleRules.{is_image, is_well_formed_triple, refusal_triple}
 use Rattle.qn_safety.specs.TripleSteps.{AllAllowedTriple, as_one, report_triple, run_triple, step_triple}
 use Rattle.qn_safety.specs.TripleWorld.{TripleWorld, first_triple, nodes_of}
 use Rattle.qn_triple.specs.Standing.{IsReached, IsStanding, TripleFor}
 use Rattle.qn_triple.specs.Stepping.{Applied, IsReady, OutOfMemory, Refuses, Stepped}
 use Rattle.qn_triple.specs.Whole.{Whole, cluster_of}
+use Rattle.qn_triple.proofs.DiskSteps.{place_below}
 
 pub first_reached : (w : Whole) → TripleFor w first_triple → IsReached w
 unfolding run_triple AllAllowedTriple
@@ -129,3 +138,25 @@ pub holders_at_report : (w : Whole) (event : TripleEvent) (r : Report) (reached 
     → r.holders ≡ holders w.settings (nodes_of (run_triple w.settings w.timing (event ∷ reached.events)))
 unfolding report report_triple run_triple
 holders_at_report w event r reached e = ap (λ r. r.holders) e
+
+-- ---- the first world
+
+replicated : {A : Type 0} (count rank : ℕ) (item : A) → rank < count → slice_get (replicate count item) rank ≡ Some item
+replicated zero rank item below = absurd (omega arith)
+replicated (suc count) zero item below = refl
+replicated (suc count) (suc rank) item below = replicated count rank item (omega arith)
+
+pub first_stands : (w : Whole) (own : List Part) (good : List Bool) (sectors : Sectors) → is_safe w.timing ≡ true → ClusterFor (cluster_of w) []
+    → w.parts ≡ replicate 32 own → w.good ≡ replicate 32 good → w.sectors ≡ replicate 3 sectors → w.left ≡ []
+    → ((image : ℕ) → is_image image ≡ true → part_on own image ≡ Pending) → ((image : ℕ) → is_image image ≡ true → is_good_on good image ≡ true)
+    → SectorsFor sectors first_world.slots first_world.mailboxes → TripleFor w first_triple
+first_stands w own good sectors safe cluster all_parts all_good all_sectors no_left pending is_good as_new =
+    record {
+      safe = safe;
+      cluster = cluster;
+      parts = λ rank below. record { own = own; here = ap (λ items. slice_get items rank) all_parts ∙ replicated 32 rank own below; each = pending };
+      good = λ rank below. record { own = good; here = ap (λ items. slice_get items rank) all_good ∙ replicated 32 rank good below; each = is_good };
+      images = λ image one. record { own = sectors; here = ap (λ items. slice_get items (image - 1)) all_sectors ∙ replicated 3 (image - 1) sectors (place_below image one); stands = as_new };
+      lefts = subst (λ items. LeftFor (length w.settings.nodes) items first_triple.left) (sym no_left)
+          (record { lefts = λ rank image one. refl; targets = All-nil (λ leftover. IsWithin (length w.settings.nodes) leftover.op) });
+    }

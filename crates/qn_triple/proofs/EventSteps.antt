@@ -1,6 +1,6 @@
 -- What a world of three images stands for after an event.
 use Rattle.std.proofs.Common.{◌≡◌, ◌≢◌, ℕ, suc, ◌<◌, ◌≤◌, Bool, true, false, List, [], ◌∷◌, ◌++◌, length, Some, None, refl, if◌then◌else◌, not, ◌&&◌, ◌||◌, sym, ◌∙◌, ap, subst, arith, length-append}
-use Rattle.std.specs.Prelude.{All, Option, Result, Ok, Err, OnErr, OnOk, is_some, ◌==◌, nat_lt}
+use Rattle.std.specs.Prelude.{All, Option, Result, Ok, Err, OnErr, OnOk, OnSome, is_some, ◌==◌, nat_lt}
 use Rattle.std.specs.Option.{option_map_or, option_or}
 use Rattle.std.specs.Result.{is_err}
 use Rattle.std.proofs.lemmas.Bool.Decides.{nat_tests}
@@ -524,7 +524,7 @@ of_nodes s t (event.Fail rank) e = absurd (cc)
 of_nodes s t (event.Late rank number) e = absurd (cc)
 of_nodes s t (event.Operator rank message) e = absurd (cc)
 
-formed_one : (s : Settings) (event : Event) → is_well_formed_triple s (triple.One event) ≡ true → is_well_formed s event ≡ true
+pub formed_one : (s : Settings) (event : Event) → is_well_formed_triple s (triple.One event) ≡ true → is_well_formed s event ≡ true
 unfolding is_well_formed_triple
 formed_one s event formed = formed
 
@@ -599,3 +599,54 @@ err_holds (Err x) e p = p
 pub ok_holds : {A E : Type 0} (r : Result A E) {P : Type 0} → is_err r ≡ false → OnOk r P → P
 ok_holds (Ok x) e p = p
 ok_holds (Err x) e p = absurd (cc)
+
+pub some_so : {A : Type 0} (o : Option A) {P Q : Type 0} → (P → Q) → OnSome o P → OnSome o Q
+some_so None so p = p
+some_so (Some x) so p = so p
+
+-- the events that name no image, though their step is one of an image
+abbrev pub is_of_disk : Event → Bool
+is_of_disk (event.Land rank) = true
+is_of_disk (event.Fail rank) = true
+is_of_disk (event.Late rank number) = true
+is_of_disk (event.Operator rank message) = true
+is_of_disk (event.Pass dt clocks) = false
+is_of_disk (event.Boot rank base) = false
+is_of_disk (event.BootClean rank base) = false
+is_of_disk (event.Crash rank) = false
+is_of_disk (event.Done rank) = false
+is_of_disk (event.View rank view) = false
+is_of_disk (event.Deliver rank number) = false
+is_of_disk (event.Device rank agrees) = false
+is_of_disk (event.Tick rank) = false
+is_of_disk (event.Stopped rank) = false
+is_of_disk (event.Unstopped rank) = false
+is_of_disk (event.Leave rank) = false
+is_of_disk (event.Feed rank) = false
+
+refused_by : (on : Bool) (rule : ℕ) → option_or (unless on 3) (Some rule) ≡ None → ⊥
+refused_by true rule e = cc
+refused_by false rule e = cc
+
+refused_one : (s : Settings) (t : Timing) (event : Event) (d : TripleWorld) → is_of_disk event ≡ true → refusal_triple s t (triple.One event) d ≡ None → ⊥
+unfolding refusal_triple
+refused_one s t (event.Land rank) d e allowed = refused_by (is_on_triple s rank.0 d) 4 allowed
+refused_one s t (event.Fail rank) d e allowed = refused_by (is_on_triple s rank.0 d) 5 allowed
+refused_one s t (event.Late rank number) d e allowed = cc
+refused_one s t (event.Operator rank message) d e allowed = cc
+refused_one s t (event.Pass dt clocks) d e allowed = cc
+refused_one s t (event.Boot rank base) d e allowed = cc
+refused_one s t (event.BootClean rank base) d e allowed = cc
+refused_one s t (event.Crash rank) d e allowed = cc
+refused_one s t (event.Done rank) d e allowed = cc
+refused_one s t (event.View rank view) d e allowed = cc
+refused_one s t (event.Deliver rank number) d e allowed = cc
+refused_one s t (event.Device rank agrees) d e allowed = cc
+refused_one s t (event.Tick rank) d e allowed = cc
+refused_one s t (event.Stopped rank) d e allowed = cc
+refused_one s t (event.Unstopped rank) d e allowed = cc
+refused_one s t (event.Leave rank) d e allowed = cc
+refused_one s t (event.Feed rank) d e allowed = cc
+
+pub never_one : (w : Whole) (event : Event) (outs : List Out) → is_of_disk event ≡ true → IsReady w (triple.One event) → Stepped w w (triple.One event) outs
+never_one w event outs kind ready = absurd (refused_one w.settings w.timing event ready.standing.0 kind ready.allowed)

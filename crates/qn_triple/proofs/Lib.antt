@@ -1,5 +1,6 @@
+pub mod ApplySteps
 pub mod DiskSteps
+pub mod EventSteps
 pub mod LineRows
 pub mod Lists
 pub mod RuleSteps
-pub mod ApplySteps

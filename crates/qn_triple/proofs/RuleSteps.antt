@@ -93,3 +93,21 @@ pub boot_base : (s : Settings) (i : Rank) (base : ℕ) (clean : Bool) → is_wel
 unfolding is_well_formed_triple is_well_formed
 boot_base s i base false formed = le-true base 1000000000000000 (second_true (is_configured s i.0) _ formed)
 boot_base s i base true formed = le-true base 1000000000000000 (second_true (is_configured s i.0) _ formed)
+
+-- the events of one image that touch the same node are well formed too
+pub land_event : (s : Settings) (i : Rank) → is_configured s i.0 ≡ true → is_well_formed s (event.Land i) ≡ true
+unfolding is_well_formed
+land_event s i one = one
+
+pub operator_event : (s : Settings) (i : Rank) (value : Message) → is_configured s i.0 ≡ true → is_well_formed s (event.Operator i value) ≡ true
+unfolding is_well_formed
+operator_event s i value one = one
+
+both_true : (a b : Bool) → a ≡ true → b ≡ true → (a && b) ≡ true
+both_true true b p q = q
+both_true false b p q = absurd (cc)
+
+pub late_event : (s : Settings) (i : Rank) (image number : ℕ) → is_well_formed_triple s (triple.LateOn i image number) ≡ true → is_well_formed s (event.Late i number) ≡ true
+unfolding is_well_formed is_well_formed_triple
+late_event s i image number formed =
+    both_true (is_configured s i.0) _ (late_rank s i image number formed) (second_true (is_configured s i.0 && is_image image) _ formed)

@@ -49,6 +49,10 @@ impl Model for State {
       sectors = w.sectors.items;
       left = w.left;
     } };
+
+    ghost use Rattle.qn_triple.specs.Whole.{HasSizes};
+
+    ghost invariant = { λ w. HasSizes w.parts.items w.good.items w.sectors.items };
 }
 
 impl State {

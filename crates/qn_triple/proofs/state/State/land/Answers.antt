@@ -19,6 +19,7 @@ taken-entry-requires c =
 pub write-requires : goal.write-requires
 write-requires c =
     record {
+      standing = c.requires.standing;
       within = few c.args.self.now c.args.i.0 c.requires.standing (land_rank c.args.self.now.settings c.args.i c.args.image c.requires.formed);
       image = land_image c.args.self.now.settings c.args.i c.args.image c.requires.formed;
       target = op_target c.args.self.now c.in-Some.op c.requires.standing

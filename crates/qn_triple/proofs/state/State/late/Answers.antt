@@ -15,6 +15,7 @@ take_left-requires c =
 pub write-requires : goal.write-requires
 write-requires c =
     record {
+      standing = (_, c.in-Some.ensures.rest.stands c.requires.standing.0 c.requires.standing.1);
       within = few c.args.self.now c.args.i.0 c.requires.standing (late_rank c.args.self.now.settings c.args.i c.args.image c.args.number c.requires.formed);
       image = late_image c.args.self.now.settings c.args.i c.args.image c.args.number c.requires.formed;
       target = op_target c.args.self.now c.in-Some.op c.requires.standing
