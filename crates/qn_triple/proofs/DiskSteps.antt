@@ -316,7 +316,7 @@ good_after_same (disk.WriteReset other) parts parts_too good good_too image p q 
 good_after_same (disk.WriteClose number) parts parts_too good good_too image p q = q
 
 -- a part of a rank was put on an image
-part_put : (own : List Part) (image : ℕ) (value : Part) (k : ℕ) → is_image image ≡ true → is_image k ≡ true → image - 1 < length own
+pub part_put : (own : List Part) (image : ℕ) (value : Part) (k : ℕ) → is_image image ≡ true → is_image k ≡ true → image - 1 < length own
     → part_on (slice_set own (image - 1) value) k ≡ put (part_on own) image value k
 part_put own image value k one one_k within = by_same (rank_cases image k)
   where
@@ -344,18 +344,16 @@ other_good w new i own e = record { nodes = ap cluster_of e; timing = ap (λ w. 
 pub other_sectors : (w new : Whole) (i : ℕ) (own : Sectors) → new ≡ record w { sectors = slice_set w.sectors i own } → OtherDisk w new
 other_sectors w new i own e = record { nodes = ap cluster_of e; timing = ap (λ w. w.timing) e }
 
-pub part_turned : (w new : Whole) (i image : ℕ) (own : List Part) (value : Part) → i < 32 → is_image image ≡ true → image - 1 < length own → slice_get w.parts i ≡ Some own
-    → new ≡ record w { parts = slice_set w.parts i (slice_set own (image - 1) value) } → Turns w new (λ d. record d { parts = put_on d.parts i image value })
-part_turned w new i image own value below one within here e =
+pub part_turned : (w new : Whole) (i image : ℕ) (own changed : List Part) (value : Part) → i < 32 → slice_get w.parts i ≡ Some own
+    → ((k : ℕ) → is_image k ≡ true → part_on changed k ≡ put (part_on own) image value k) → new ≡ record w { parts = slice_set w.parts i changed }
+    → Turns w new (λ d. record d { parts = put_on d.parts i image value })
+part_turned w new i image own changed value below here each e =
     record {
-      rest = other_parts w new i (slice_set own (image - 1) value) e;
+      rest = other_parts w new i changed e;
       stands = λ d is.
-          parts_put w new d i (slice_set own (image - 1) value) (put (d.parts i) image value) is below e
-          (λ k one_k. part_put own image value k one one_k within ∙ put_same k (parts_read w d i own is below here k one_k) d);
+          parts_put w new d i changed (put (d.parts i) image value) is below e
+          (λ k one_k. each k one_k ∙ ap (λ x. if image == k then value else x) (parts_read w d i own is below here k one_k));
     }
-  where
-    put_same : (k : ℕ) {x y : Part} → x ≡ y → (d : TripleWorld) → (if image == k then value else x) ≡ (if image == k then value else y)
-    put_same k e d = ap (λ x. if image == k then value else x) e
 
 pub parts_turned : (w new : Whole) (i : ℕ) (own : List Part) (wanted : ℕ → Part) → i < 32 → new ≡ record w { parts = slice_set w.parts i own }
     → ((image : ℕ) → is_image image ≡ true → part_on own image ≡ wanted image) → Turns w new (λ d. record d { parts = put d.parts i wanted })

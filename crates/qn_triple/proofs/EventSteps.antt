@@ -3,6 +3,7 @@ use Rattle.std.proofs.Common.{◌≡◌, ◌≢◌, ℕ, suc, ◌<◌, ◌≤◌
 use Rattle.std.specs.Prelude.{All, Option, Result, Ok, Err, OnErr, OnOk, OnSome, is_some, ◌==◌, nat_lt}
 use Rattle.std.specs.Option.{option_map_or, option_or}
 use Rattle.std.specs.Result.{is_err}
+use Rattle.std.proofs.lemmas.Bool.{eqb-true}
 use Rattle.std.proofs.lemmas.Bool.Decides.{nat_tests}
 use Rattle.std.proofs.lemmas.List.{append-nil}
 use Rattle.std.proofs.lemmas.List.Elements.{All-nil}
@@ -38,7 +39,7 @@ use Rattle.qn_safety.specs.TripleSteps.{done_triple, ends_triple, failed_on, lan
 use Rattle.qn_safety.specs.TripleWorld.{TripleWorld, all_good, all_pending, answer_among, answer_of, counting, good_after, image_of, is_pending, leaves_over, nodes_of, none_left, op_of, put_on, together}
 use Rattle.qn_triple.specs.Memory.{leaves_on, leaves_one}
 use Rattle.qn_triple.specs.Standing.{IsStanding, TripleFor}
-use Rattle.qn_triple.specs.Stepping.{GivesUp, IsReady, KeepsOn, OtherDisk, OutOfMemory, Stepped, Turns, boot_event, given_up_on}
+use Rattle.qn_triple.specs.Stepping.{GivesUp, IsReady, KeepsOn, OtherDisk, OutOfMemory, Stepped, Turns, boot_event, given_up_on, only_on}
 use Rattle.qn_triple.specs.Whole.{Whole, cluster_of, with_nodes}
 use Rattle.qn_triple.proofs.DiskSteps.{lefts_same, moved, put_at, put_on_own}
 use Rattle.qn_triple.proofs.Lists.{by_image, rank_cases, same_rank}
@@ -160,10 +161,6 @@ leaves_if op Failed = none_by (is_write op)
     none_by : (b : Bool) → [] ≡ (if b && false then op ∷ [] else [])
     none_by true = refl
     none_by false = refl
-
--- one image is marked
-abbrev pub only_on : Bool → ℕ → List Bool
-only_on left image = (left && image == 1) ∷ (left && image == 2) ∷ (left && image == 3) ∷ []
 
 marked_only : (left : Bool) (image k : ℕ) → is_image k ≡ true → is_marked (only_on left image) k ≡ (left && image == k)
 marked_only left image = by_image (λ k. is_marked (only_on left image) k ≡ (left && image == k)) refl refl refl
@@ -650,3 +647,60 @@ refused_one s t (event.Feed rank) d e allowed = cc
 
 pub never_one : (w : Whole) (event : Event) (outs : List Out) → is_of_disk event ≡ true → IsReady w (triple.One event) → Stepped w w (triple.One event) outs
 never_one w event outs kind ready = absurd (refused_one w.settings w.timing event ready.standing.0 kind ready.allowed)
+
+-- ---- the operation of a node is given up
+
+-- an image is marked where the write of a rank is left over
+abbrev pub AreMarks : TripleWorld → ℕ → DiskOp → List Bool → Type 0
+AreMarks d i op marks = (k : ℕ) → is_image k ≡ true → is_marked marks k ≡ (is_write op && is_pending (d.parts i k))
+
+left_all : (s : Settings) (d : TripleWorld) (i : ℕ) (op : DiskOp) (marks : List Bool) → AreMarks d i op marks → Some op ≡ op_of s i d
+    → (rank k : ℕ) → is_image k ≡ true → left_over d.left i op marks rank k ≡ given_up_on s i d rank k
+left_all s d i op marks are op_is rank k one = by_rank (i == rank) refl
+  where
+    here : d.left i k ++ (if is_marked marks k then op ∷ [] else []) ≡ d.left i k ++ leaves_over (op_of s i d) (d.parts i k)
+    here =
+        ap (λ b. d.left i k ++ (if b then op ∷ [] else [])) (are k one)
+        ∙ (ap (λ more. d.left i k ++ more) (sym (leaves_if op (d.parts i k))) ∙ ap (λ o. d.left i k ++ leaves_over o (d.parts i k)) op_is)
+
+    by_rank : (b : Bool) → (i == rank) ≡ b → left_over d.left i op marks rank k ≡ given_up_on s i d rank k
+    by_rank true e =
+        ap (λ b. (if b then (λ (n : ℕ). d.left i n ++ (if is_marked marks n then op ∷ [] else [])) else d.left rank) k) e
+        ∙ (here ∙ sym (ap (λ b. (if b then (λ (n : ℕ). d.left i n ++ leaves_over (op_of s i d) (d.parts i n)) else d.left rank) k) e))
+    by_rank false e =
+        ap (λ b. (if b then (λ (n : ℕ). d.left i n ++ (if is_marked marks n then op ∷ [] else [])) else d.left rank) k) e
+        ∙ sym (ap (λ b. (if b then (λ (n : ℕ). d.left i n ++ leaves_over (op_of s i d) (d.parts i n)) else d.left rank) k) e)
+
+pub gives_up : (w new : Whole) (i : ℕ) (op : DiskOp) (marks : List Bool) → IsOut w i (Some op) → ((d : TripleWorld) → TripleFor w d → AreMarks d i op marks)
+    → Turns w new (λ d. record d { left = left_over d.left i op marks }) → GivesUp w new i
+gives_up w new i op marks out are leaves =
+    record {
+      rest = leaves.rest;
+      stands = λ d is on.
+          lefts_same new (record d { left = left_over d.left i op marks }) (given_up_on w.settings i d) (leaves.stands d is)
+          (left_all w.settings d i op marks (are d is) (out d is on));
+    }
+
+pub keeps_on : (w new : Whole) (i : ℕ) (op : DiskOp) (marks : List Bool) → IsOut w i (Some op) → ((d : TripleWorld) → TripleFor w d → AreMarks d i op marks)
+    → new ≡ w → (k : ℕ) × (is_image k ≡ true) × (is_marked marks k ≡ true) → KeepsOn w new i
+keeps_on w new i op marks out are e marked =
+    record {
+      same = e;
+      cause = λ d is on.
+          (marked.0, marked.1, subst (λ o. leaves_over o (d.parts i marked.0) ≢ []) (out d is on)
+          (subst (λ ops. ops ≢ []) (sym (leaves_if op (d.parts i marked.0)))
+          (not_empty op (is_write op && is_pending (d.parts i marked.0)) (sym (are d is marked.0 marked.1) ∙ marked.2))));
+    }
+
+pub gives_nothing : (w : Whole) (i : ℕ) (op : Option DiskOp) → IsOut w i op → op ≡ None → GivesUp w w i
+gives_nothing w i op out none =
+    record {
+      rest = record { nodes = refl; timing = refl };
+      stands = λ d is on. lefts_same w d (given_up_on w.settings i d) is (λ rank k one. by_rank d (sym none ∙ out d is on) rank k (i == rank) refl);
+    }
+  where
+    by_rank : (d : TripleWorld) → None ≡ op_of w.settings i d → (rank k : ℕ) (b : Bool) → (i == rank) ≡ b → d.left rank k ≡ given_up_on w.settings i d rank k
+    by_rank d no_op rank k true e =
+        sym (ap (λ b. (if b then (λ (n : ℕ). d.left i n ++ leaves_over (op_of w.settings i d) (d.parts i n)) else d.left rank) k) e
+        ∙ (ap (λ o. d.left i k ++ leaves_over o (d.parts i k)) (sym no_op) ∙ (append-nil (d.left i k) ∙ ap (λ r. d.left r k) (eqb-true i rank e))))
+    by_rank d no_op rank k false e = sym (ap (λ b. (if b then (λ (n : ℕ). d.left i n ++ leaves_over (op_of w.settings i d) (d.parts i n)) else d.left rank) k) e)

@@ -111,3 +111,18 @@ pub late_event : (s : Settings) (i : Rank) (image number : ℕ) → is_well_form
 unfolding is_well_formed is_well_formed_triple
 late_event s i image number formed =
     both_true (is_configured s i.0) _ (late_rank s i image number formed) (second_true (is_configured s i.0 && is_image image) _ formed)
+
+pub land_formed : (s : Settings) (i : Rank) → is_well_formed s (event.Land i) ≡ true → is_configured s i.0 ≡ true
+unfolding is_well_formed
+land_formed s i formed = formed
+
+pub fail_formed : (s : Settings) (i : Rank) → is_well_formed s (event.Fail i) ≡ true → is_configured s i.0 ≡ true
+unfolding is_well_formed
+fail_formed s i formed = formed
+
+pub done_formed : (s : Settings) (i : Rank) → is_well_formed s (event.Done i) ≡ true → is_configured s i.0 ≡ true
+unfolding is_well_formed
+done_formed s i formed = formed
+
+pub image_some : (image : ℕ) → is_image image ≡ true → 1 ≤ image
+image_some image one = le-true 1 image (first_true (nat_le 1 image) _ one)

@@ -1,5 +1,5 @@
 -- What a call that steps the world of three images promises.
-use Rattle.std.specs.Prelude.{◌≡◌, ◌≢◌, ◌<◌, ◌≤◌, ◌+◌, ◌++◌, ℕ, Bool, true, false, List, [], Option, Some, None, All, length}
+use Rattle.std.specs.Prelude.{◌≡◌, ◌≢◌, ◌<◌, ◌≤◌, ◌+◌, ◌++◌, ◌∷◌, ◌==◌, ◌&&◌, ℕ, Bool, true, false, List, [], Option, Some, None, All, length}
 use Rattle.qn_base.specs.declared.ids.Rank.{Rank}
 use Rattle.qn_base.specs.declared.limits.TheConstants.{LATEST_TIME}
 use Rattle.qn_cluster.specs.Standing.{HasRoom}
@@ -33,6 +33,10 @@ outs_after_triple w event after = outs_after w.settings (as_one event) (nodes_of
 -- the leftovers after each pending write of a rank is left over on its image
 abbrev pub given_up_on : Settings → ℕ → TripleWorld → ℕ → ℕ → List DiskOp
 given_up_on s rank w = put w.left rank (λ image. w.left rank image ++ leaves_over (op_of s rank w) (w.parts rank image))
+
+-- one image is marked, if any is
+abbrev pub only_on : Bool → ℕ → List Bool
+only_on marked image = (marked && image == 1) ∷ (marked && image == 2) ∷ (marked && image == 3) ∷ []
 
 -- the disk changed, and the nodes did not
 pub record OtherDisk (old new : Whole) : Type 0 where

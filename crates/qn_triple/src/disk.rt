@@ -1,8 +1,9 @@
 //! The disk of a world of three images: the parts of the operations, the good images, the sectors and the leftovers.
-ghost use Rattle.std.specs.Prelude.{◌≡◌, ◌&&◌, not};
-ghost use Rattle.qn_model.specs.World.{is_write};
+ghost use Rattle.std.specs.Prelude.{◌≡◌, ◌<◌, ◌-◌, ◌&&◌, ℕ, true};
+ghost use Rattle.qn_model.specs.World.{is_write, put};
+ghost use Rattle.qn_triple.specs.Stepping.{only_on};
 ghost use Rattle.qn_parts.specs.Parts.{part_on};
-ghost use Rattle.qn_safety.specs.TripleRules.{none_pending};
+ghost use Rattle.qn_safety.specs.TripleRules.{is_image, none_pending};
 ghost use Rattle.qn_safety.specs.TripleWorld.{has_failed, is_pending};
 
 use crate::state::State;
@@ -25,6 +26,15 @@ pub(crate) fn has_failed(part: Part) -> bool
     matches!(part, Part::Failed)
 }
 
+/// The place of an image, from 0.
+fn place_of(image: u8) -> usize
+    requires { is_image image ≡ true }
+    ensures place { result ≡ image - 1 }
+    ensures below { result < 3 }
+{
+    usize::from(image) - 1
+}
+
 /// Whether no part is pending.
 fn are_settled(parts: &[Part; 3]) -> bool
     ensures { result ≡ none_pending (λ image. is_pending (part_on parts.now image)) }
@@ -37,6 +47,27 @@ pub(crate) fn is_left_over(op: DiskOp, part: Part) -> bool
     ensures { result ≡ (is_write op && is_pending part) }
 {
     op.is_write() && is_pending(part)
+}
+
+/// One image is marked, if any is.
+pub(crate) fn only_on(marked: bool, image: u8) -> [bool; 3]
+    ensures { result ≡ only_on marked image }
+{
+    [
+        marked && image == 1,
+        marked && image == 2,
+        marked && image == 3,
+    ]
+}
+
+/// The parts of an operation with another one on an image.
+fn with_part(parts: [Part; 3], image: u8, part: Part) -> [Part; 3]
+    requires { is_image image ≡ true }
+    ensures { (k : ℕ) → is_image k ≡ true → part_on result k ≡ put (part_on parts) image part k }
+{
+    let mut changed = parts;
+    changed[place_of(image)] = part;
+    changed
 }
 
 impl State {
@@ -96,7 +127,7 @@ impl State {
         ensures { (d : TripleWorld) → TripleFor self.now d → result ≡ d.parts i.0 image }
     {
         let parts = self.parts(i);
-        parts[usize::from(image) - 1]
+        parts[place_of(image)]
     }
 
     /// The part of the operation of a rank on an image is this.
@@ -105,8 +136,7 @@ impl State {
         requires image { is_image image ≡ true }
         ensures { Turns self.old self.new (λ d. record d { parts = put_on d.parts i.0 image part }) }
     {
-        let mut parts = self.parts(i);
-        parts[usize::from(image) - 1] = part;
+        let parts = with_part(self.parts(i), image, part);
         self.set_parts(i, parts);
     }
 
@@ -166,7 +196,7 @@ impl State {
             → TripleFor self.now d
             → result ≡ taken self.now.settings self.now.timing i.0 op (image_of image d) }
     {
-        let sectors = self.sectors_at(usize::from(image) - 1);
+        let sectors = self.sectors_at(place_of(image));
         sectors.taken(self.settings(), self.timing, i, op)
     }
 
@@ -176,7 +206,7 @@ impl State {
         requires image { is_image image ≡ true }
         ensures { (d : TripleWorld) → TripleFor self.now d → result ≡ d.mailboxes i.0 image }
     {
-        let sectors = self.sectors_at(usize::from(image) - 1);
+        let sectors = self.sectors_at(place_of(image));
         sectors.mailbox(i)
     }
 
@@ -211,7 +241,7 @@ impl State {
         requires target { IsWithin 32 op }
         ensures { Turns self.old self.new (written_on i.0 image op) }
     {
-        self.write_at(usize::from(image) - 1, i, op);
+        self.write_at(place_of(image), i, op);
     }
 
     /// A message replaces what the mailbox of a rank on an image holds.
@@ -221,7 +251,7 @@ impl State {
         requires image { is_image image ≡ true }
         ensures { Turns self.old self.new (λ d. record d { mailboxes = put_on d.mailboxes i.0 image message }) }
     {
-        self.mail_at(usize::from(image) - 1, i, message);
+        self.mail_at(place_of(image), i, message);
     }
 
     /// A write of a rank is left over on the images that are marked.

@@ -1,5 +1,5 @@
 //! The step of each event of three images.
-use crate::disk::is_left_over;
+use crate::disk::{is_left_over, only_on};
 use crate::state::State;
 use qn_base::{NoMemory, Rank};
 use qn_model::{Event, Message, Outs, Refused};
@@ -151,7 +151,7 @@ impl State {
     {
         if let Some(op) = self.op(i) {
             let left = is_left_over(op, self.part(i, image));
-            self.leave_over(i, op, [left && image == 1, left && image == 2, left && image == 3])?;
+            self.leave_over(i, op, only_on(left, image))?;
             self.set_part(i, image, Part::Failed);
         }
         Ok(())
