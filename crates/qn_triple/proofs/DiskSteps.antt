@@ -315,25 +315,22 @@ good_after_same disk.ReadMail parts parts_too good good_too image p q = q
 good_after_same (disk.WriteReset other) parts parts_too good good_too image p q = q
 good_after_same (disk.WriteClose number) parts parts_too good good_too image p q = q
 
--- a part of a rank was put on an image
-pub part_put : (own : List Part) (image : ℕ) (value : Part) (k : ℕ) → is_image image ≡ true → is_image k ≡ true → image - 1 < length own
-    → part_on (slice_set own (image - 1) value) k ≡ put (part_on own) image value k
-part_put own image value k one one_k within = by_same (rank_cases image k)
-  where
-    by_same : (image ≡ k) ⊎ ((image == k) ≡ false) → part_on (slice_set own (image - 1) value) k ≡ put (part_on own) image value k
-    by_same (inl same) =
-        subst (λ k. part_on (slice_set own (image - 1) value) k ≡ put (part_on own) image value k) same
-        (get_or_from_slice_get (slice_set own (image - 1) value) (image - 1) value _ (get_set_same own (image - 1) value within)
-        ∙ sym (put_at (part_on own) image value image true (same_rank image)))
-    by_same (inr apart) =
-        get_or_apart own (image - 1) (k - 1) value (place_apart image k one one_k apart) ∙ sym (put_at (part_on own) image value k false apart)
+-- the parts of an operation with another one on an image
+abbrev pub WithPart : List Part → ℕ → Part → List Part → Type 0
+WithPart parts image part changed = (k : ℕ) → is_image k ≡ true → part_on changed k ≡ put (part_on parts) image part k
 
-    get_or_apart : (items : List Part) (i j : ℕ) (item : Part) → i ≢ j → slice_index_or (slice_set items i item) j Pending ≡ slice_index_or items j Pending
-    get_or_apart [] i j item apart = refl
-    get_or_apart (first ∷ items) zero zero item apart = absurd (apart refl)
-    get_or_apart (first ∷ items) zero (suc j) item apart = refl
-    get_or_apart (first ∷ items) (suc i) zero item apart = refl
-    get_or_apart (first ∷ items) (suc i) (suc j) item apart = get_or_apart items i j item (λ e. apart (ap suc e))
+pub first_part : (parts : List Part) (part : Part) → WithPart parts 1 part (part ∷ part_on parts 2 ∷ part_on parts 3 ∷ [])
+first_part parts part = by_image (λ k. part_on (part ∷ part_on parts 2 ∷ part_on parts 3 ∷ []) k ≡ put (part_on parts) 1 part k) refl refl refl
+
+pub second_part : (parts : List Part) (part : Part) → WithPart parts 2 part (part_on parts 1 ∷ part ∷ part_on parts 3 ∷ [])
+second_part parts part = by_image (λ k. part_on (part_on parts 1 ∷ part ∷ part_on parts 3 ∷ []) k ≡ put (part_on parts) 2 part k) refl refl refl
+
+pub third_part : (parts : List Part) (part : Part) → WithPart parts 3 part (part_on parts 1 ∷ part_on parts 2 ∷ part ∷ [])
+third_part parts part = by_image (λ k. part_on (part_on parts 1 ∷ part_on parts 2 ∷ part ∷ []) k ≡ put (part_on parts) 3 part k) refl refl refl
+
+pub image_third : (image : ℕ) → is_image image ≡ true → image ≢ 1 → image ≢ 2 → image ≡ 3
+image_third image one =
+    by_image (λ image. image ≢ 1 → image ≢ 2 → image ≡ 3) (λ not_one not_two. absurd (not_one refl)) (λ not_one not_two. absurd (not_two refl)) (λ not_one not_two. refl) image one
 
 pub other_parts : (w new : Whole) (i : ℕ) (own : List Part) → new ≡ record w { parts = slice_set w.parts i own } → OtherDisk w new
 other_parts w new i own e = record { nodes = ap cluster_of e; timing = ap (λ w. w.timing) e }

@@ -65,9 +65,13 @@ fn with_part(parts: [Part; 3], image: u8, part: Part) -> [Part; 3]
     requires { is_image image ≡ true }
     ensures { (k : ℕ) → is_image k ≡ true → part_on result k ≡ put (part_on parts) image part k }
 {
-    let mut changed = parts;
-    changed[place_of(image)] = part;
-    changed
+    if image == 1 {
+        return [part, parts[1], parts[2]];
+    }
+    if image == 2 {
+        return [parts[0], part, parts[2]];
+    }
+    [parts[0], parts[1], part]
 }
 
 impl State {

@@ -1,12 +1,14 @@
-use Rattle.std.proofs.Common.{◌≡◌, ◌<◌, ◌-◌, length, subst, sym}
-use Rattle.std.specs.Prelude.{slice_set}
-use Rattle.qn_model.specs.World.{put}
+use Rattle.std.proofs.Common.{[], ◌∷◌, subst, sym}
 use Rattle.qn_parts.specs.Parts.{part_on}
-use Rattle.qn_triple.proofs.DiskSteps.{part_put, place_below}
+use Rattle.qn_triple.proofs.DiskSteps.{WithPart, first_part, image_third, second_part, third_part}
 use Rattle.qn_triple.proofs.disk.with_part.Goals as goal
 
+pub returns-then-image-eq1 : goal.returns-then-image-eq1
+returns-then-image-eq1 c = subst (λ image. WithPart c.args.parts image c.args.part (c.args.part ∷ part_on c.args.parts 2 ∷ part_on c.args.parts 3 ∷ [])) (sym c.if-image-eq1.true) (first_part c.args.parts c.args.part)
+
+pub returns-then-image-eq2 : goal.returns-then-image-eq2
+returns-then-image-eq2 c = subst (λ image. WithPart c.args.parts image c.args.part (part_on c.args.parts 1 ∷ c.args.part ∷ part_on c.args.parts 3 ∷ [])) (sym c.if-image-eq2.true) (second_part c.args.parts c.args.part)
+
 pub returns : goal.returns
-returns c = λ k one_k.
-    subst (λ place. part_on (slice_set c.args.parts place c.args.part) k ≡ put (part_on c.args.parts) c.args.image c.args.part k) (sym c.place_of.ensures.place)
-    (part_put c.args.parts c.args.image c.args.part k c.requires one_k
-    (subst (λ n. c.args.image - 1 < n) (sym c.told-parts) (place_below c.args.image c.requires)))
+returns c =
+    subst (λ image. WithPart c.args.parts image c.args.part (part_on c.args.parts 1 ∷ part_on c.args.parts 2 ∷ c.args.part ∷ [])) (sym (image_third c.args.image c.requires c.if-image-eq1.false c.if-image-eq2.false)) (third_part c.args.parts c.args.part)
