@@ -1,9 +1,9 @@
 -- What a world of three images stands for after one of its parts changed.
-use Rattle.std.proofs.Common.{◌≡◌, ◌≢◌, ℕ, suc, zero, ◌-◌, ◌<◌, ◌≤◌, Bool, true, false, List, ◌++◌, length, Some, None, refl, ◌⊎◌, inl, inr, if◌then◌else◌, sym, ◌∙◌, ap, subst, arith, eq-eqb}
-use Rattle.std.specs.Prelude.{slice_get, slice_set, ◌==◌}
+use Rattle.std.proofs.Common.{◌≡◌, ◌≢◌, ℕ, suc, zero, ◌-◌, ◌<◌, ◌≤◌, Bool, true, false, List, [], ◌∷◌, ◌++◌, length, Some, None, refl, ◌⊎◌, inl, inr, if◌then◌else◌, sym, ◌∙◌, ap, subst, arith, eq-eqb}
+use Rattle.std.specs.Prelude.{Option, slice_get, slice_index_or, slice_set, ◌==◌}
 use Rattle.std.proofs.lemmas.Bool.{eqb-true, false≢true}
 use Rattle.std.proofs.lemmas.Bool.Decides.{nat_tests}
-use Rattle.std.proofs.lemmas.Option.{slice_get_within}
+use Rattle.std.proofs.lemmas.Option.{get_or_from_slice_get, slice_get_within}
 use Rattle.qn_cluster.specs.Nodes.{Nodes}
 use Rattle.qn_cluster.specs.Standing.{ClusterFor}
 use Rattle.qn_disk.specs.declared.sectors.Sectors.{Sectors}
@@ -17,12 +17,14 @@ use Rattle.qn_model.specs.Moments.{Moment}
 use Rattle.qn_model.specs.World.{mailboxes_with, put, slots_with}
 use Rattle.qn_parts.specs.Parts.{is_good_on, part_on}
 use Rattle.qn_safety.specs.declared.part.Part.{Part}
-use Rattle.qn_safety.specs.TripleRules.{is_image}
+use Rattle.qn_safety.specs.TripleRules.{is_image, none_pending}
 use Rattle.qn_safety.specs.TripleSteps.{written_on}
-use Rattle.qn_safety.specs.TripleWorld.{TripleWorld, mailboxes_on, put_on, slots_on}
-use Rattle.qn_triple.specs.Standing.{GoodAt, PartsAt, SectorsAt, TripleFor}
+use Rattle.qn_safety.specs.declared.part.Part.TheVariants.{Pending}
+use Rattle.qn_safety.specs.TripleWorld.{TripleWorld, all_pending, answer_of, good_after, has_landed, is_pending, mailboxes_on, put_on, slots_on}
+use Rattle.qn_triple.specs.Standing.{GoodAt, IsStanding, PartsAt, SectorsAt, TripleFor}
+use Rattle.qn_triple.specs.Stepping.{Mails, OtherDisk, Turns, Writes}
 use Rattle.qn_triple.specs.Whole.{Whole, cluster_of, with_nodes}
-use Rattle.qn_triple.proofs.Lists.{get_set_apart, get_set_same, rank_cases, same_rank}
+use Rattle.qn_triple.proofs.Lists.{by_image, get_set_apart, get_set_same, rank_cases, same_rank}
 
 -- other nodes, after some moments
 pub with_moments : (w : Whole) (c : Nodes) (d : TripleWorld) (moments : List Moment) → TripleFor w d → c.settings ≡ w.settings → ClusterFor c moments
@@ -264,3 +266,158 @@ mailed i image value d after is =
       other_slots = λ rank k apart. refl;
       other_mailboxes = λ rank k apart. put_on_other d.mailboxes i image value rank k (i == rank) refl apart;
     }
+
+-- ---- what the calls of the code leave
+
+-- the list that is read is the one that stands there
+same_some : {A : Type 0} (o : Option A) (x y : A) → o ≡ Some x → o ≡ Some y → x ≡ y
+same_some None x y p q = absurd (cc)
+same_some (Some z) x y p q = cc
+
+pub parts_read : (w : Whole) (d : TripleWorld) (i : ℕ) (own : List Part) → TripleFor w d → i < 32 → slice_get w.parts i ≡ Some own
+    → (image : ℕ) → is_image image ≡ true → part_on own image ≡ d.parts i image
+parts_read w d i own is below here image one =
+    let at = is.parts i below in
+    ap (λ own. part_on own image) (same_some (slice_get w.parts i) own at.own here at.here) ∙ at.each image one
+
+pub good_read : (w : Whole) (d : TripleWorld) (i : ℕ) (own : List Bool) → TripleFor w d → i < 32 → slice_get w.good i ≡ Some own
+    → (image : ℕ) → is_image image ≡ true → is_good_on own image ≡ d.good i image
+good_read w d i own is below here image one =
+    let at = is.good i below in
+    ap (λ own. is_good_on own image) (same_some (slice_get w.good i) own at.own here at.here) ∙ at.each image one
+
+pub sectors_read : (w : Whole) (d : TripleWorld) (image : ℕ) (own : Sectors) → TripleFor w d → is_image image ≡ true → slice_get w.sectors (image - 1) ≡ Some own
+    → SectorsFor own (λ rank. d.slots rank image) (λ rank. d.mailboxes rank image)
+sectors_read w d image own is one here =
+    let at = is.images image one in
+    subst (λ own. SectorsFor own (λ rank. d.slots rank image) (λ rank. d.mailboxes rank image))
+    (same_some (slice_get w.sectors (image - 1)) at.own own at.here here) at.stands
+
+pub place_below : (image : ℕ) → is_image image ≡ true → image - 1 < 3
+place_below image one = by_image (λ image. image - 1 < 3) (omega arith) (omega arith) (omega arith) image one
+
+-- the answer and the good images after it depend on the three images alone
+pub answer_same : (op : DiskOp) (parts parts_too : ℕ → Part) (good good_too : ℕ → Bool)
+    → ((image : ℕ) → is_image image ≡ true → parts image ≡ parts_too image) → ((image : ℕ) → is_image image ≡ true → good image ≡ good_too image)
+    → answer_of op parts good ≡ answer_of op parts_too good_too
+unfolding answer_of
+answer_same op parts parts_too good good_too same_parts same_good =
+    rw (same_parts 1 refl, same_parts 2 refl, same_parts 3 refl, same_good 1 refl, same_good 2 refl, same_good 3 refl) refl
+
+pub good_after_same : (op : DiskOp) (parts parts_too : ℕ → Part) (good good_too : ℕ → Bool) (image : ℕ)
+    → parts image ≡ parts_too image → good image ≡ good_too image → good_after op parts good image ≡ good_after op parts_too good_too image
+good_after_same disk.WriteClear parts parts_too good good_too image p q = ap has_landed p
+good_after_same disk.ReadHeader parts parts_too good good_too image p q = q
+good_after_same (disk.ReadSlot other) parts parts_too good good_too image p q = q
+good_after_same disk.CheckMail parts parts_too good good_too image p q = q
+good_after_same (disk.WriteClaim number) parts parts_too good good_too image p q = q
+good_after_same disk.ReadMail parts parts_too good good_too image p q = q
+good_after_same (disk.WriteReset other) parts parts_too good good_too image p q = q
+good_after_same (disk.WriteClose number) parts parts_too good good_too image p q = q
+
+-- the parts of an operation with another one on an image
+abbrev pub WithPart : List Part → ℕ → Part → List Part → Type 0
+WithPart parts image part changed = (k : ℕ) → is_image k ≡ true → part_on changed k ≡ put (part_on parts) image part k
+
+pub first_part : (parts : List Part) (part : Part) → WithPart parts 1 part (part ∷ part_on parts 2 ∷ part_on parts 3 ∷ [])
+first_part parts part = by_image (λ k. part_on (part ∷ part_on parts 2 ∷ part_on parts 3 ∷ []) k ≡ put (part_on parts) 1 part k) refl refl refl
+
+pub second_part : (parts : List Part) (part : Part) → WithPart parts 2 part (part_on parts 1 ∷ part ∷ part_on parts 3 ∷ [])
+second_part parts part = by_image (λ k. part_on (part_on parts 1 ∷ part ∷ part_on parts 3 ∷ []) k ≡ put (part_on parts) 2 part k) refl refl refl
+
+pub third_part : (parts : List Part) (part : Part) → WithPart parts 3 part (part_on parts 1 ∷ part_on parts 2 ∷ part ∷ [])
+third_part parts part = by_image (λ k. part_on (part_on parts 1 ∷ part_on parts 2 ∷ part ∷ []) k ≡ put (part_on parts) 3 part k) refl refl refl
+
+pub image_third : (image : ℕ) → is_image image ≡ true → image ≢ 1 → image ≢ 2 → image ≡ 3
+image_third image one =
+    by_image (λ image. image ≢ 1 → image ≢ 2 → image ≡ 3) (λ not_one not_two. absurd (not_one refl)) (λ not_one not_two. absurd (not_two refl)) (λ not_one not_two. refl) image one
+
+pub other_parts : (w new : Whole) (i : ℕ) (own : List Part) → new ≡ record w { parts = slice_set w.parts i own } → OtherDisk w new
+other_parts w new i own e = record { nodes = ap cluster_of e; timing = ap (λ w. w.timing) e }
+
+pub other_good : (w new : Whole) (i : ℕ) (own : List Bool) → new ≡ record w { good = slice_set w.good i own } → OtherDisk w new
+other_good w new i own e = record { nodes = ap cluster_of e; timing = ap (λ w. w.timing) e }
+
+pub other_sectors : (w new : Whole) (i : ℕ) (own : Sectors) → new ≡ record w { sectors = slice_set w.sectors i own } → OtherDisk w new
+other_sectors w new i own e = record { nodes = ap cluster_of e; timing = ap (λ w. w.timing) e }
+
+pub part_turned : (w new : Whole) (i image : ℕ) (own changed : List Part) (value : Part) → i < 32 → slice_get w.parts i ≡ Some own
+    → ((k : ℕ) → is_image k ≡ true → part_on changed k ≡ put (part_on own) image value k) → new ≡ record w { parts = slice_set w.parts i changed }
+    → Turns w new (λ d. record d { parts = put_on d.parts i image value })
+part_turned w new i image own changed value below here each e =
+    record {
+      rest = other_parts w new i changed e;
+      stands = λ d is.
+          parts_put w new d i changed (put (d.parts i) image value) is below e
+          (λ k one_k. each k one_k ∙ ap (λ x. if image == k then value else x) (parts_read w d i own is below here k one_k));
+    }
+
+pub parts_turned : (w new : Whole) (i : ℕ) (own : List Part) (wanted : ℕ → Part) → i < 32 → new ≡ record w { parts = slice_set w.parts i own }
+    → ((image : ℕ) → is_image image ≡ true → part_on own image ≡ wanted image) → Turns w new (λ d. record d { parts = put d.parts i wanted })
+parts_turned w new i own wanted below e each =
+    record { rest = other_parts w new i own e; stands = λ d is. parts_put w new d i own wanted is below e each }
+
+pub good_turned : (w new : Whole) (i : ℕ) (own : List Bool) (wanted : ℕ → Bool) → i < 32 → new ≡ record w { good = slice_set w.good i own }
+    → ((image : ℕ) → is_image image ≡ true → is_good_on own image ≡ wanted image) → Turns w new (λ d. record d { good = put d.good i wanted })
+good_turned w new i own wanted below e each =
+    record { rest = other_good w new i own e; stands = λ d is. good_put w new d i own wanted is below e each }
+
+-- the good images after an answer, and then no parts
+pub closed_turned : (w mid new : Whole) (i : ℕ) (op : DiskOp) (parts : List Part) (good after : List Bool) → i < 32 → slice_get w.parts i ≡ Some parts
+    → slice_get w.good i ≡ Some good → ((image : ℕ) → is_image image ≡ true → is_good_on after image ≡ good_after op (part_on parts) (is_good_on good) image)
+    → mid ≡ record w { good = slice_set w.good i after } → Turns mid new (λ d. record d { parts = put d.parts i all_pending })
+    → Turns w new (λ d. record d { parts = put d.parts i all_pending; good = put d.good i (good_after op (d.parts i) (d.good i)) })
+closed_turned w mid new i op parts good after below parts_here good_here is_after e forgets =
+    record {
+      rest = record { nodes = forgets.rest.nodes ∙ ap cluster_of e; timing = forgets.rest.timing ∙ ap (λ w. w.timing) e };
+      stands = λ d is.
+          forgets.stands (record d { good = put d.good i (good_after op (d.parts i) (d.good i)) })
+          (good_put w mid d i after (good_after op (d.parts i) (d.good i)) is below e
+          (λ image one. is_after image one
+          ∙ good_after_same op (part_on parts) (d.parts i) (is_good_on good) (d.good i) image (parts_read w d i parts is below parts_here image one)
+          (good_read w d i good is below good_here image one)));
+    }
+
+-- the sectors of an image, as the call at its place leaves them
+abbrev pub AtPlace : Whole → Whole → ℕ → (Sectors → Sectors → Type 0) → Type 0
+AtPlace w new place Changes =
+    (own : Sectors) → slice_get w.sectors place ≡ Some own
+    → (after : Sectors) × (new ≡ record w { sectors = slice_set w.sectors place after }) × Changes own after
+
+pub write_turned : (w new : Whole) (i image : ℕ) (op : DiskOp) → IsStanding w → is_image image ≡ true
+    → AtPlace w new (image - 1) (λ own after. Writes own after i op) → Turns w new (written_on i image op)
+write_turned w new i image op standing one made =
+    let first = standing.1.images image one in
+    let at = made first.own first.here in
+    record {
+      rest = other_sectors w new (image - 1) at.0 at.1;
+      stands = λ d is.
+          sectors_put w new d image (slots_on i image op d.slots) (mailboxes_on i image op d.mailboxes) at.0 is one at.1
+          (wrote i image op d at.0 (at.2 (λ rank. d.slots rank image) (λ rank. d.mailboxes rank image) (sectors_read w d image first.own is one first.here)));
+    }
+
+pub mail_turned : (w new : Whole) (i image : ℕ) (value : Message) → IsStanding w → is_image image ≡ true
+    → AtPlace w new (image - 1) (λ own after. Mails own after i value) → Turns w new (λ d. record d { mailboxes = put_on d.mailboxes i image value })
+mail_turned w new i image value standing one made =
+    let first = standing.1.images image one in
+    let at = made first.own first.here in
+    record {
+      rest = other_sectors w new (image - 1) at.0 at.1;
+      stands = λ d is.
+          sectors_put w new d image d.slots (put_on d.mailboxes i image value) at.0 is one at.1
+          (mailed i image value d at.0 (at.2 (λ rank. d.slots rank image) (λ rank. d.mailboxes rank image) (sectors_read w d image first.own is one first.here)));
+    }
+
+-- the leftovers, as a call leaves them
+pub left_turned : (w new : Whole) (items : List Leftover) (change : (ℕ → ℕ → List DiskOp) → ℕ → ℕ → List DiskOp) → new ≡ record w { left = items }
+    → ((d : TripleWorld) → TripleFor w d → LeftFor (length w.settings.nodes) w.left d.left → LeftFor (length w.settings.nodes) items (change d.left))
+    → Turns w new (λ d. record d { left = change d.left })
+left_turned w new items change e changed =
+    record {
+      rest = record { nodes = ap cluster_of e; timing = ap (λ w. w.timing) e };
+      stands = λ d is. lefts_put w new d items (change d.left) is e (changed d is is.lefts);
+    }
+
+pub settled_same : (parts parts_too : ℕ → Part) → ((image : ℕ) → is_image image ≡ true → parts image ≡ parts_too image)
+    → none_pending (λ image. is_pending (parts image)) ≡ none_pending (λ image. is_pending (parts_too image))
+settled_same parts parts_too same = rw (same 1 refl, same 2 refl, same 3 refl) refl

@@ -1,18 +1,22 @@
 -- What a call that steps the world of three images promises.
-use Rattle.std.specs.Prelude.{◌≡◌, ◌≢◌, ◌<◌, ◌≤◌, ◌+◌, ◌++◌, ℕ, Bool, true, false, List, [], Option, Some, None, All, length}
+use Rattle.std.specs.Prelude.{◌≡◌, ◌≢◌, ◌<◌, ◌≤◌, ◌+◌, ◌++◌, ◌∷◌, ◌==◌, ◌&&◌, ℕ, Bool, true, false, List, [], Option, Some, None, All, length}
 use Rattle.qn_base.specs.declared.ids.Rank.{Rank}
 use Rattle.qn_base.specs.declared.limits.TheConstants.{LATEST_TIME}
 use Rattle.qn_cluster.specs.Standing.{HasRoom}
 use Rattle.qn_cluster.specs.Stepping.{SameFrame}
 use Rattle.qn_model.specs.declared.events.Event.{Event}
 use Rattle.qn_model.specs.declared.events.Event.TheVariants as event
+use Rattle.qn_disk.specs.declared.sectors.Sectors.{Sectors}
+use Rattle.qn_disk.specs.Standing.{SectorsFor}
 use Rattle.qn_model.specs.declared.configuration.Settings.{Settings}
+use Rattle.qn_model.specs.declared.disk.Message.{Message}
+use Rattle.qn_model.specs.declared.disk.Slot.{Slot}
 use Rattle.qn_model.specs.declared.outputs.DiskOp.{DiskOp}
 use Rattle.qn_model.specs.declared.outputs.Out.{Out}
 use Rattle.qn_model.specs.declared.reports.Refused.{Refused}
 use Rattle.qn_model.specs.declared.reports.Refused.TheVariants as refused
 use Rattle.qn_model.specs.Steps.{outs_after}
-use Rattle.qn_model.specs.World.{put}
+use Rattle.qn_model.specs.World.{mailboxes_with, put, slots_with}
 use Rattle.qn_node.specs.Outputs.{IsNodeOutput}
 use Rattle.qn_safety.specs.declared.triple_event.TripleEvent.{TripleEvent}
 use Rattle.qn_safety.specs.TripleRules.{is_image, is_on_triple, is_well_formed_triple, refusal_triple}
@@ -30,6 +34,10 @@ outs_after_triple w event after = outs_after w.settings (as_one event) (nodes_of
 abbrev pub given_up_on : Settings → ℕ → TripleWorld → ℕ → ℕ → List DiskOp
 given_up_on s rank w = put w.left rank (λ image. w.left rank image ++ leaves_over (op_of s rank w) (w.parts rank image))
 
+-- one image is marked, if any is
+abbrev pub only_on : Bool → ℕ → List Bool
+only_on marked image = (marked && image == 1) ∷ (marked && image == 2) ∷ (marked && image == 3) ∷ []
+
 -- the disk changed, and the nodes did not
 pub record OtherDisk (old new : Whole) : Type 0 where
   pub nodes : cluster_of new ≡ cluster_of old
@@ -39,6 +47,17 @@ pub record OtherDisk (old new : Whole) : Type 0 where
 pub record Turns (old new : Whole) (change : TripleWorld → TripleWorld) : Type 0 where
   pub rest : OtherDisk old new
   pub stands : (d : TripleWorld) → TripleFor old d → TripleFor new (change d)
+
+-- an operation of a rank landed on the sectors of an image
+abbrev pub Writes : Sectors → Sectors → ℕ → DiskOp → Type 0
+Writes old new rank op =
+    (slots : ℕ → Slot) (mailboxes : ℕ → Message) → SectorsFor old slots mailboxes
+    → SectorsFor new (slots_with rank op slots) (mailboxes_with rank op mailboxes)
+
+-- a message replaced what a mailbox of an image held
+abbrev pub Mails : Sectors → Sectors → ℕ → Message → Type 0
+Mails old new rank message =
+    (slots : ℕ → Slot) (mailboxes : ℕ → Message) → SectorsFor old slots mailboxes → SectorsFor new slots (put mailboxes rank message)
 
 -- the operation of a running rank was given up: each pending write is left over on its image
 pub record GivesUp (old new : Whole) (rank : ℕ) : Type 0 where

@@ -1,5 +1,5 @@
 -- What a world of three images keeps.
-use Rattle.std.specs.Prelude.{ℕ, Bool, List}
+use Rattle.std.specs.Prelude.{◌≡◌, ℕ, Bool, List, length}
 use Rattle.qn_cluster.specs.Nodes.{Nodes}
 use Rattle.qn_cluster.specs.declared.seat.Seat.{Seat}
 use Rattle.qn_disk.specs.declared.sectors.Sectors.{Sectors}
@@ -31,3 +31,9 @@ cluster_of w =
 abbrev pub with_nodes : Whole → Nodes → Whole
 with_nodes w c =
     record w { settings = c.settings; time = c.time; seats = c.seats; packets = c.packets; steps = c.steps }
+
+-- there are parts and good images of 32 ranks, and three images
+pub record HasSizes (parts : List (List Part)) (good : List (List Bool)) (sectors : List Sectors) : Type 0 where
+  pub parts_count : length parts ≡ 32
+  pub good_count : length good ≡ 32
+  pub images : length sectors ≡ 3

@@ -1,10 +1,14 @@
 //! The disk of a world of three images: the parts of the operations, the good images, the sectors and the leftovers.
-ghost use Rattle.std.specs.Prelude.{◌≡◌, ◌&&◌, not};
-ghost use Rattle.qn_model.specs.World.{is_write};
+ghost use Rattle.std.specs.Prelude.{◌≡◌, ◌<◌, ◌-◌, ◌&&◌, ℕ, true};
+ghost use Rattle.qn_model.specs.World.{is_write, put};
+ghost use Rattle.qn_triple.specs.Stepping.{only_on};
+ghost use Rattle.qn_parts.specs.Parts.{part_on};
+ghost use Rattle.qn_safety.specs.TripleRules.{is_image, none_pending};
 ghost use Rattle.qn_safety.specs.TripleWorld.{has_failed, is_pending};
 
 use crate::state::State;
 use qn_base::{NoMemory, Rank};
+use qn_disk::Sectors;
 use qn_model::{DiskOp, Message, What};
 use qn_parts::{Part, answer_of, good_after};
 
@@ -22,6 +26,22 @@ pub(crate) fn has_failed(part: Part) -> bool
     matches!(part, Part::Failed)
 }
 
+/// The place of an image, from 0.
+fn place_of(image: u8) -> usize
+    requires { is_image image ≡ true }
+    ensures place { result ≡ image - 1 }
+    ensures below { result < 3 }
+{
+    usize::from(image) - 1
+}
+
+/// Whether no part is pending.
+fn are_settled(parts: &[Part; 3]) -> bool
+    ensures { result ≡ none_pending (λ image. is_pending (part_on parts.now image)) }
+{
+    !is_pending(parts[0]) && !is_pending(parts[1]) && !is_pending(parts[2])
+}
+
 /// Whether an operation is left over on an image where it is given up: a write whose part there is pending.
 pub(crate) fn is_left_over(op: DiskOp, part: Part) -> bool
     ensures { result ≡ (is_write op && is_pending part) }
@@ -29,18 +49,80 @@ pub(crate) fn is_left_over(op: DiskOp, part: Part) -> bool
     op.is_write() && is_pending(part)
 }
 
+/// One image is marked, if any is.
+pub(crate) fn only_on(marked: bool, image: u8) -> [bool; 3]
+    ensures { result ≡ only_on marked image }
+{
+    [
+        marked && image == 1,
+        marked && image == 2,
+        marked && image == 3,
+    ]
+}
+
+/// The parts of an operation with another one on an image.
+fn with_part(parts: [Part; 3], image: u8, part: Part) -> [Part; 3]
+    requires { is_image image ≡ true }
+    ensures { (k : ℕ) → is_image k ≡ true → part_on result k ≡ put (part_on parts) image part k }
+{
+    if image == 1 {
+        return [part, parts[1], parts[2]];
+    }
+    if image == 2 {
+        return [parts[0], part, parts[2]];
+    }
+    [parts[0], parts[1], part]
+}
+
 impl State {
-    ghost use Rattle.std.specs.Prelude.{◌≡◌, ◌<◌, ◌≤◌, ℕ, Bool, true, None, OnOk, OnErr, OnSome, is_some, length};
+    ghost use Rattle.std.specs.Prelude.{◌≡◌, ◌<◌, ◌≤◌, ℕ, true, None, Some, OnOk, OnErr, OnSome, is_some, length, slice_get, slice_set};
     ghost use Rattle.qn_cluster.specs.Standing.{IsOpWithin, IsWithin};
     ghost use Rattle.qn_disk.specs.Standing.{is_marked, left_over};
+    ghost use Rattle.qn_disk.specs.declared.sectors.Sectors.{Sectors};
     ghost use Rattle.qn_model.specs.World.{numbered, put, taken, without};
-    ghost use Rattle.qn_parts.specs.Parts.{is_good_on, part_on};
-    ghost use Rattle.qn_safety.specs.declared.part.Part.{Part};
     ghost use Rattle.qn_safety.specs.TripleRules.{is_image, none_pending};
     ghost use Rattle.qn_safety.specs.TripleSteps.{written_on};
     ghost use Rattle.qn_safety.specs.TripleWorld.{TripleWorld, all_good, all_pending, answer_of, good_after, image_of, is_pending, none_left, put_on};
-    ghost use Rattle.qn_triple.specs.Standing.{TripleFor};
-    ghost use Rattle.qn_triple.specs.Stepping.{GivesUp, KeepsOn, OtherDisk, Turns};
+    ghost use Rattle.qn_triple.specs.Standing.{IsStanding, TripleFor};
+    ghost use Rattle.qn_triple.specs.Stepping.{GivesUp, KeepsOn, Mails, Turns, Writes};
+
+    /// The parts of the operation of a rank.
+    pub(crate) fn parts(&self, i: Rank) -> [Part; 3]
+        requires { i.0 < 32 }
+        ensures { slice_get self.now.parts i.0 ≡ Some result }
+    {
+        self.parts[usize::from(i.0)]
+    }
+
+    fn set_parts(&mut self, i: Rank, parts: [Part; 3])
+        requires { i.0 < 32 }
+        ensures { self.new ≡ record self.old { parts = slice_set self.old.parts i.0 parts } }
+    {
+        self.parts[usize::from(i.0)] = parts;
+    }
+
+    /// The good images of a rank.
+    fn good(&self, i: Rank) -> [bool; 3]
+        requires { i.0 < 32 }
+        ensures { slice_get self.now.good i.0 ≡ Some result }
+    {
+        self.good[usize::from(i.0)]
+    }
+
+    fn set_good(&mut self, i: Rank, good: [bool; 3])
+        requires { i.0 < 32 }
+        ensures { self.new ≡ record self.old { good = slice_set self.old.good i.0 good } }
+    {
+        self.good[usize::from(i.0)] = good;
+    }
+
+    /// The sectors of the image at a place, from 0.
+    fn sectors_at(&self, place: usize) -> &Sectors
+        requires { place < 3 }
+        ensures { slice_get self.now.sectors place ≡ Some result.now }
+    {
+        &self.sectors[place]
+    }
 
     /// The part of the operation of a rank on an image.
     pub(crate) fn part(&self, i: Rank, image: u8) -> Part
@@ -48,55 +130,8 @@ impl State {
         requires image { is_image image ≡ true }
         ensures { (d : TripleWorld) → TripleFor self.now d → result ≡ d.parts i.0 image }
     {
-        self.parts[usize::from(i.0)][usize::from(image) - 1]
-    }
-
-    /// The parts of the operation of a rank.
-    pub(crate) fn parts(&self, i: Rank) -> [Part; 3]
-        requires { i.0 < 32 }
-        ensures { (d : TripleWorld)
-            → TripleFor self.now d
-            → (image : ℕ)
-            → is_image image ≡ true
-            → part_on result image ≡ d.parts i.0 image }
-    {
-        self.parts[usize::from(i.0)]
-    }
-
-    /// The parts of the operation of a rank are these.
-    pub(crate) fn set_parts(&mut self, i: Rank, parts: [Part; 3])
-        requires { i.0 < 32 }
-        ensures rest { OtherDisk self.old self.new }
-        ensures stands { (d : TripleWorld) (wanted : ℕ → Part)
-            → TripleFor self.old d
-            → ((image : ℕ) → is_image image ≡ true → part_on parts image ≡ wanted image)
-            → TripleFor self.new (record d { parts = put d.parts i.0 wanted }) }
-    {
-        self.parts[usize::from(i.0)] = parts;
-    }
-
-    /// The good images of a rank.
-    pub(crate) fn good(&self, i: Rank) -> [bool; 3]
-        requires { i.0 < 32 }
-        ensures { (d : TripleWorld)
-            → TripleFor self.now d
-            → (image : ℕ)
-            → is_image image ≡ true
-            → is_good_on result image ≡ d.good i.0 image }
-    {
-        self.good[usize::from(i.0)]
-    }
-
-    /// The good images of a rank are these.
-    pub(crate) fn set_good(&mut self, i: Rank, good: [bool; 3])
-        requires { i.0 < 32 }
-        ensures rest { OtherDisk self.old self.new }
-        ensures stands { (d : TripleWorld) (wanted : ℕ → Bool)
-            → TripleFor self.old d
-            → ((image : ℕ) → is_image image ≡ true → is_good_on good image ≡ wanted image)
-            → TripleFor self.new (record d { good = put d.good i.0 wanted }) }
-    {
-        self.good[usize::from(i.0)] = good;
+        let parts = self.parts(i);
+        parts[place_of(image)]
     }
 
     /// The part of the operation of a rank on an image is this.
@@ -105,8 +140,7 @@ impl State {
         requires image { is_image image ≡ true }
         ensures { Turns self.old self.new (λ d. record d { parts = put_on d.parts i.0 image part }) }
     {
-        let mut parts = self.parts(i);
-        parts[usize::from(image) - 1] = part;
+        let parts = with_part(self.parts(i), image, part);
         self.set_parts(i, parts);
     }
 
@@ -154,8 +188,7 @@ impl State {
             → TripleFor self.now d
             → result ≡ none_pending (λ image. is_pending (d.parts i.0 image)) }
     {
-        let parts = self.parts(i);
-        !is_pending(parts[0]) && !is_pending(parts[1]) && !is_pending(parts[2])
+        are_settled(&self.parts(i))
     }
 
     /// The entry that a part of an operation of a rank takes where it lands on an image.
@@ -167,19 +200,8 @@ impl State {
             → TripleFor self.now d
             → result ≡ taken self.now.settings self.now.timing i.0 op (image_of image d) }
     {
-        let settings = self.cluster.settings();
-        self.sectors[usize::from(image) - 1].taken(settings, self.timing, i, op)
-    }
-
-    /// A write of a rank lands on an image.
-    pub(crate) fn write(&mut self, i: Rank, image: u8, op: DiskOp)
-        requires within { i.0 < 32 }
-        requires image { is_image image ≡ true }
-        requires target { IsWithin 32 op }
-        ensures { Turns self.old self.new (written_on i.0 image op) }
-    {
-        let sectors = &mut self.sectors[usize::from(image) - 1];
-        sectors.write(i, op);
+        let sectors = self.sectors_at(place_of(image));
+        sectors.taken(self.settings(), self.timing, i, op)
     }
 
     /// The message in the mailbox of a rank on an image.
@@ -188,17 +210,52 @@ impl State {
         requires image { is_image image ≡ true }
         ensures { (d : TripleWorld) → TripleFor self.now d → result ≡ d.mailboxes i.0 image }
     {
-        self.sectors[usize::from(image) - 1].mailbox(i)
+        let sectors = self.sectors_at(place_of(image));
+        sectors.mailbox(i)
+    }
+
+    /// A write of a rank lands on the image at a place, from 0.
+    fn write_at(&mut self, place: usize, i: Rank, op: DiskOp)
+        requires place { place < 3 }
+        requires within { i.0 < 32 }
+        requires target { IsWithin 32 op }
+        ensures { (own : Sectors) → slice_get self.old.sectors place ≡ Some own
+            → (after : Sectors) × (self.new ≡ record self.old { sectors = slice_set self.old.sectors place after }) × Writes own after i.0 op }
+    {
+        let sectors = &mut self.sectors[place];
+        sectors.write(i, op);
+    }
+
+    /// A message replaces what the mailbox of a rank on the image at a place, from 0, holds.
+    fn mail_at(&mut self, place: usize, i: Rank, message: Message)
+        requires place { place < 3 }
+        requires within { i.0 < 32 }
+        ensures { (own : Sectors) → slice_get self.old.sectors place ≡ Some own
+            → (after : Sectors) × (self.new ≡ record self.old { sectors = slice_set self.old.sectors place after }) × Mails own after i.0 message }
+    {
+        let sectors = &mut self.sectors[place];
+        sectors.set_mailbox(i, message);
+    }
+
+    /// A write of a rank lands on an image.
+    pub(crate) fn write(&mut self, i: Rank, image: u8, op: DiskOp)
+        requires standing { IsStanding self.old }
+        requires within { i.0 < 32 }
+        requires image { is_image image ≡ true }
+        requires target { IsWithin 32 op }
+        ensures { Turns self.old self.new (written_on i.0 image op) }
+    {
+        self.write_at(place_of(image), i, op);
     }
 
     /// A message replaces what the mailbox of a rank on an image holds.
     pub(crate) fn set_mailbox(&mut self, i: Rank, image: u8, message: Message)
+        requires standing { IsStanding self.old }
         requires within { i.0 < 32 }
         requires image { is_image image ≡ true }
         ensures { Turns self.old self.new (λ d. record d { mailboxes = put_on d.mailboxes i.0 image message }) }
     {
-        let sectors = &mut self.sectors[usize::from(image) - 1];
-        sectors.set_mailbox(i, message);
+        self.mail_at(place_of(image), i, message);
     }
 
     /// A write of a rank is left over on the images that are marked.

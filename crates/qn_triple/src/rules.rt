@@ -1,12 +1,14 @@
 //! The ten rules that an event of three images has to obey. Those that look at nodes alone are rules of `qn_cluster`.
-ghost use Rattle.std.specs.Prelude.{◌≡◌, not, ◌||◌};
+ghost use Rattle.std.specs.Prelude.{◌≡◌, is_some, not, ◌&&◌, ◌||◌};
 ghost use Rattle.qn_model.specs.Sectors.{is_deadly};
+ghost use Rattle.qn_safety.specs.TripleWorld.{has_failed, is_pending};
 
 use crate::disk::{has_failed, is_pending};
 use crate::state::State;
 use qn_base::Rank;
 use qn_cluster::unless;
-use qn_model::{Event, Message, Rule};
+use qn_model::{DiskOp, Event, Message, Rule};
+use qn_parts::Part;
 use qn_safety::TripleEvent;
 
 /// Whether an operator may write a message over the one that is there, to a node that runs or is off.
@@ -16,12 +18,34 @@ fn may_operate(message: Message, there: Message, on: bool) -> bool
     message.is_deadly() || !there.is_deadly() || !on
 }
 
+/// Whether an operation is out and its part on an image is pending.
+fn may_land(op: Option<DiskOp>, part: Part) -> bool
+    ensures { result ≡ (is_some op && is_pending part) }
+{
+    op.is_some() && is_pending(part)
+}
+
+/// Whether an operation is out and its part on an image has not failed.
+fn may_fail(op: Option<DiskOp>, part: Part) -> bool
+    ensures { result ≡ (is_some op && not (has_failed part)) }
+{
+    op.is_some() && !has_failed(part)
+}
+
+/// Whether an operation is out and its parts are settled.
+fn may_be_done(op: Option<DiskOp>, settled: bool) -> bool
+    ensures { result ≡ (is_some op && settled) }
+{
+    op.is_some() && settled
+}
+
 impl State {
     ghost use Rattle.std.specs.Prelude.{◌≡◌, ◌<◌, ◌≤◌, ℕ, true, None, Option, Some, MatchResult, length};
     ghost use Rattle.qn_base.specs.declared.limits.TheConstants.{LATEST_TIME};
-    ghost use Rattle.qn_model.specs.Rules.{is_well_formed, may_be_late, may_operate, unless};
+    ghost use Rattle.qn_cluster.specs.Events.{is_ruled_by_nodes};
+    ghost use Rattle.qn_model.specs.Rules.{is_well_formed, may_be_late, may_operate, refusal, unless};
     ghost use Rattle.qn_safety.specs.TripleRules.{is_image, is_on_triple, is_well_formed_triple, may_be_done_triple, may_fail_on, may_land_on, refusal_of_one, refusal_triple, unless_off};
-    ghost use Rattle.qn_safety.specs.TripleWorld.{TripleWorld, image_of};
+    ghost use Rattle.qn_safety.specs.TripleWorld.{TripleWorld, image_of, nodes_of};
     ghost use Rattle.qn_triple.specs.Standing.{IsStanding, TripleFor};
 
     /// Whether the event is allowed, else the rule that refuses it.
@@ -74,19 +98,32 @@ impl State {
             Event::Late(_, _) => Some(6),
             Event::Operator(_, _) => Some(10),
             Event::Done(i) => self.refuses_done(*i),
-            Event::Pass { .. }
-            | Event::Boot(_, _)
-            | Event::BootClean(_, _)
-            | Event::Crash(_)
-            | Event::View(_, _)
-            | Event::Deliver(_, _)
-            | Event::Device(_, _)
-            | Event::Tick(_)
-            | Event::Stopped(_)
-            | Event::Unstopped(_)
-            | Event::Leave(_)
-            | Event::Feed(_) => self.cluster.refusal(event, &self.timing),
+            Event::Pass { .. } => self.refuses_node(event),
+            Event::Boot(_, _) => self.refuses_node(event),
+            Event::BootClean(_, _) => self.refuses_node(event),
+            Event::Crash(_) => self.refuses_node(event),
+            Event::View(_, _) => self.refuses_node(event),
+            Event::Deliver(_, _) => self.refuses_node(event),
+            Event::Device(_, _) => self.refuses_node(event),
+            Event::Tick(_) => self.refuses_node(event),
+            Event::Stopped(_) => self.refuses_node(event),
+            Event::Unstopped(_) => self.refuses_node(event),
+            Event::Leave(_) => self.refuses_node(event),
+            Event::Feed(_) => self.refuses_node(event),
         }
+    }
+
+    /// The number of the rule that refuses an event whose rule looks at nodes alone.
+    fn refuses_node(&self, event: &Event) -> Option<u8>
+        requires formed { is_well_formed self.now.settings event.now ≡ true }
+        requires standing { IsStanding self.now }
+        requires early { self.now.time ≤ LATEST_TIME }
+        requires nodes { is_ruled_by_nodes event.now ≡ true }
+        ensures { (d : TripleWorld)
+            → TripleFor self.now d
+            → result ≡ refusal self.now.settings self.now.timing event.now (nodes_of d) }
+    {
+        self.cluster.refusal(event, &self.timing)
     }
 
     /// Rule 3, and then another one: the node is running.
@@ -108,7 +145,7 @@ impl State {
             → TripleFor self.now d
             → result ≡ unless_off self.now.settings i.0 d (unless (may_be_done_triple self.now.settings i.0 d) 5) }
     {
-        let may = self.op(i).is_some() && self.none_pending(i);
+        let may = may_be_done(self.op(i), self.none_pending(i));
         self.unless_off(i, unless(may, 5))
     }
 
@@ -121,7 +158,7 @@ impl State {
             → TripleFor self.now d
             → result ≡ unless_off self.now.settings i.0 d (unless (may_land_on self.now.settings i.0 image d) 4) }
     {
-        let may = self.op(i).is_some() && is_pending(self.part(i, image));
+        let may = may_land(self.op(i), self.part(i, image));
         self.unless_off(i, unless(may, 4))
     }
 
@@ -134,7 +171,7 @@ impl State {
             → TripleFor self.now d
             → result ≡ unless_off self.now.settings i.0 d (unless (may_fail_on self.now.settings i.0 image d) 5) }
     {
-        let may = self.op(i).is_some() && !has_failed(self.part(i, image));
+        let may = may_fail(self.op(i), self.part(i, image));
         self.unless_off(i, unless(may, 5))
     }
 

@@ -1,4 +1,6 @@
 //! What a world of three images keeps, and the calls that concern its nodes alone.
+ghost use Rattle.std.specs.Prelude.{◌≡◌, IfOk, replicate};
+
 use qn_base::{Mask, NoMemory, Rank};
 use qn_cluster::Cluster;
 use qn_disk::{Leftovers, Sectors};
@@ -8,14 +10,25 @@ use qn_safety::{TripleEvent, law_triple_no_two_holders};
 use std::alloc::Global;
 use std::marker::Model;
 
+/// A list of so many equal items.
+fn filled<T: Copy + Drop>(alloc: Global, count: usize, item: T) -> Result<Vec<T>, NoMemory>
+    ensures { IfOk result (λ v. v.items ≡ replicate count item) }
+{
+    let mut items = Vec::new(alloc);
+    match items.resize(count, item) {
+        Ok(()) => Ok(items),
+        Err(_) => Err(NoMemory),
+    }
+}
+
 /// What a world keeps: its nodes, the parts of the operation of each and its good images, by rank, and the three images.
 #[derive(Drop)]
 pub(crate) struct State {
     pub(crate) cluster: Cluster,
     pub(crate) timing: Timing,
-    pub(crate) parts: [[Part; 3]; 32],
-    pub(crate) good: [[bool; 3]; 32],
-    pub(crate) sectors: [Sectors; 3],
+    pub(crate) parts: Vec<[Part; 3]>,
+    pub(crate) good: Vec<[bool; 3]>,
+    pub(crate) sectors: Vec<Sectors>,
     pub(crate) left: Leftovers,
 }
 
@@ -31,15 +44,19 @@ impl Model for State {
       seats = w.cluster.seats;
       packets = w.cluster.packets;
       steps = w.cluster.steps;
-      parts = w.parts;
-      good = w.good;
-      sectors = w.sectors;
+      parts = w.parts.items;
+      good = w.good.items;
+      sectors = w.sectors.items;
       left = w.left;
     } };
+
+    ghost use Rattle.qn_triple.specs.Whole.{HasSizes};
+
+    ghost invariant = { λ w. HasSizes w.parts.items w.good.items w.sectors.items };
 }
 
 impl State {
-    ghost use Rattle.std.specs.Prelude.{◌≡◌, ◌<◌, ◌≤◌, ◌-◌, ℕ, [], true, IfOk, IsTrue, OnOk, OnErr, length};
+    ghost use Rattle.std.specs.Prelude.{◌≡◌, ◌<◌, ◌≤◌, ◌+◌, ◌-◌, ℕ, [], true, IfOk, IsTrue, OnOk, OnErr, length};
     ghost use Rattle.qn_base.specs.Members.{is_member};
     ghost use Rattle.qn_cluster.specs.Events.{CanStep, Starved, Stepped};
     ghost use Rattle.qn_cluster.specs.Standing.{HasRoom, IsOpWithin};
@@ -67,12 +84,15 @@ impl State {
         ensures steps { IfOk result (λ w. w.steps ≡ u64.MAX) }
     {
         let cluster = Cluster::new(alloc, settings)?;
+        let parts = filled(alloc, 32, [Part::Pending; 3])?;
+        let good = filled(alloc, 32, [true; 3])?;
+        let sectors = filled(alloc, 3, Sectors::new())?;
         Ok(State {
             cluster,
             timing,
-            parts: [[Part::Pending; 3]; 32],
-            good: [[true; 3]; 32],
-            sectors: [Sectors::new(), Sectors::new(), Sectors::new()],
+            parts,
+            good,
+            sectors,
             left: Leftovers::new(alloc),
         })
     }

@@ -1,5 +1,5 @@
 //! The step of each event of three images.
-use crate::disk::is_left_over;
+use crate::disk::{is_left_over, only_on};
 use crate::state::State;
 use qn_base::{NoMemory, Rank};
 use qn_model::{Event, Message, Outs, Refused};
@@ -77,16 +77,19 @@ impl State {
             }
             Event::Crash(i) => self.crash(*i),
             Event::Done(i) => self.done(*i, outs),
-            Event::Land(_) | Event::Fail(_) | Event::Late(_, _) | Event::Operator(_, _) => Ok(()),
-            Event::Pass { .. }
-            | Event::View(_, _)
-            | Event::Deliver(_, _)
-            | Event::Device(_, _)
-            | Event::Tick(_)
-            | Event::Stopped(_)
-            | Event::Unstopped(_)
-            | Event::Leave(_)
-            | Event::Feed(_) => self.step_nodes(event, outs),
+            Event::Land(_) => Ok(()),
+            Event::Fail(_) => Ok(()),
+            Event::Late(_, _) => Ok(()),
+            Event::Operator(_, _) => Ok(()),
+            Event::Pass { .. } => self.step_nodes(event, outs),
+            Event::View(_, _) => self.step_nodes(event, outs),
+            Event::Deliver(_, _) => self.step_nodes(event, outs),
+            Event::Device(_, _) => self.step_nodes(event, outs),
+            Event::Tick(_) => self.step_nodes(event, outs),
+            Event::Stopped(_) => self.step_nodes(event, outs),
+            Event::Unstopped(_) => self.step_nodes(event, outs),
+            Event::Leave(_) => self.step_nodes(event, outs),
+            Event::Feed(_) => self.step_nodes(event, outs),
         }
     }
 
@@ -148,7 +151,7 @@ impl State {
     {
         if let Some(op) = self.op(i) {
             let left = is_left_over(op, self.part(i, image));
-            self.leave_over(i, op, [left && image == 1, left && image == 2, left && image == 3])?;
+            self.leave_over(i, op, only_on(left, image))?;
             self.set_part(i, image, Part::Failed);
         }
         Ok(())
