@@ -21,12 +21,12 @@ done
 "$TOP/bin/timeline" --title Hosts --journal hosts/journal > drawn.svg
 grep -q 'data-lane="node 1"' drawn.svg
 # each node was recorded, and each record is a whole run, or the beginning of one of a node that was killed
-for folder in hosts storm; do
+for folder in storm hosts; do
     "$live/audit" "$folder" > audited || { cat audited; exit 1; }
     grep -q ': run prefix turns ' audited
     [ "$(wc -l < audited)" -ge 3 ]
 done
-"$live/audit" hosts | grep -q ': run whole turns '
+grep -q ': run whole turns ' audited
 # the nodes ended with their hosts
 same "$(ls hosts storm | grep '^pid' || true)" ''
 ! grep -qs "$PWD/hosts/disk" /proc/[0-9]*/cmdline

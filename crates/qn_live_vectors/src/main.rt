@@ -15,7 +15,7 @@
 //! outside in memory that never fails and hears nothing: its name, settings, words, end, status, number of calls, and SHA-256.
 //!
 //! With a number of turns as its word it runs one node for so many turns over such an outside and writes how that ends, to be
-//! timed by `bench/live`; with a further word it records its calls besides, as `node-logged` does.
+//! timed by `bench/live`.
 //!
 //! Promises: nothing. It is a test: what it is run on, and what it must write, stand beside it.
 #![tactic(auto)]
@@ -33,10 +33,9 @@ mod wrong;
 use case::Case;
 use in_memory::{Want, check_quiet};
 use qn_history::read_number;
-use qn_io::StdSink;
 use std::alloc::Global;
 use std::{env, io};
-use timed::{log_turns, run_turns};
+use timed::run_turns;
 use wrong::Wrong;
 
 /// What was read so far: the present case and whether its log was run, and how many cases, calls of their logs and rows there
@@ -55,13 +54,7 @@ fn main(rt: HostRuntime) -> io::Result<()> {
     let mut words = env::args(&rt)?;
     let _program = words.next();
     if let Some(turns) = words.next() {
-        let ended = if words.next().is_some() {
-            let mut out = StdSink::new(io::writer(&rt), &rt);
-            log_turns(rt.alloc(), turns.as_str(), &mut out)
-        } else {
-            run_turns(rt.alloc(), turns.as_str())
-        };
-        return match ended {
+        return match run_turns(rt.alloc(), turns.as_str()) {
             Ok(end) => println!(rt; "{end}"),
             Err(wrong) => println!(rt; "{wrong}"),
         };
