@@ -1,5 +1,5 @@
 -- What a call that steps the cluster promises.
-use Rattle.std.specs.Prelude.{◌≡◌, ◌≢◌, ℕ, Bool, true, false, [], ◌∷◌, List, All, is_some, length, nat_lt}
+use Rattle.std.specs.Prelude.{◌≡◌, ℕ, Bool, true, false, ◌∷◌, List, All, is_some, length, nat_lt}
 use Rattle.qn_model.specs.declared.configuration.Settings.{Settings}
 use Rattle.qn_model.specs.declared.entries.What.{What}
 use Rattle.qn_model.specs.declared.outputs.Out.{Out}
@@ -7,7 +7,7 @@ use Rattle.qn_model.specs.declared.times.Timing.{Timing}
 use Rattle.qn_base.specs.declared.ids.Rank.{Rank}
 use Rattle.qn_model.specs.Log.{is_answer, op_out}
 use Rattle.qn_model.specs.NodeOutputs.{newest_outs}
-use Rattle.qn_model.specs.Moments.{Adds, Boots, Ends, Feeds, Moment, Passes, node, packets, packets_of}
+use Rattle.qn_model.specs.Moments.{Adds, Boots, Ends, Feeds, Moment, Passes, node, packets}
 use Rattle.qn_model.specs.Rules.{may_pass}
 use Rattle.qn_model.specs.World.{World}
 use Rattle.qn_node.specs.Outputs.{IsNodeOutput}

@@ -1,6 +1,6 @@
 -- Leftovers on the images that are marked, and what changes of the leftovers of one rank.
-use Rattle.std.proofs.Common.{◌≡◌, ℕ, suc, zero, ◌+◌, ◌≤◌, Bool, true, false, List, [], ◌∷◌, ◌++◌, length, refl, not, ◌&&◌, if◌then◌else◌, ◌⊎◌, inl, inr, sym, ◌∙◌, ◌<◌, ap, subst, arith, drop, take}
-use Rattle.std.specs.Prelude.{All, Result, Ok, Err, OnOk, Some, slice_get, slice_index_or, ◌==◌}
+use Rattle.std.proofs.Common.{◌≡◌, ℕ, suc, zero, ◌+◌, Bool, true, false, List, [], ◌∷◌, ◌++◌, refl, not, ◌&&◌, if◌then◌else◌, ◌⊎◌, inl, inr, sym, ◌∙◌, ◌<◌, ap, subst, arith, drop, take}
+use Rattle.std.specs.Prelude.{All, Result, Ok, Err, OnOk, slice_index_or, ◌==◌}
 use Rattle.std.specs.List.{remove}
 use Rattle.std.proofs.lemmas.Bool.{eqb-true}
 use Rattle.std.proofs.lemmas.List.{append-nil}
@@ -8,12 +8,12 @@ use Rattle.std.proofs.lemmas.List.Elements.{All-append, All-cons, All-drop, All-
 use Rattle.qn_base.specs.declared.ids.Rank.{Rank}
 use Rattle.qn_cluster.specs.Standing.{IsWithin}
 use Rattle.qn_disk.specs.declared.leftovers.Leftover.{Leftover}
-use Rattle.qn_disk.specs.Places.{marked_on, others_of, place_in}
+use Rattle.qn_disk.specs.Places.{marked_on, others_of}
 use Rattle.qn_disk.specs.Standing.{LeftFor, is_marked, is_of, left_over, left_where}
 use Rattle.qn_disk.proofs.LeftoverSteps.{FoundLeft, left_of-dropped, left_of-others, left_where-append}
 use Rattle.qn_disk.proofs.Lists.{by_image, rank_cases, same_rank}
 use Rattle.qn_model.specs.declared.outputs.DiskOp.{DiskOp}
-use Rattle.qn_model.specs.World.{numbered, put, without}
+use Rattle.qn_model.specs.World.{put, without}
 use Rattle.qn_safety.specs.TripleRules.{is_image}
 use Rattle.qn_safety.specs.TripleWorld.{put_on}
 

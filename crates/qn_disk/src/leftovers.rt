@@ -148,12 +148,7 @@ fn drop_left(left: &mut Vec<Leftover>, i: Rank)
 }
 
 /// A write of a rank is left over on the images that are marked.
-fn leave_all(
-    left: &mut Vec<Leftover>,
-    i: Rank,
-    op: DiskOp,
-    on: &[bool; 3],
-) -> Result<(), NoMemory>
+fn leave_all(left: &mut Vec<Leftover>, i: Rank, op: DiskOp, on: &[bool; 3]) -> Result<(), NoMemory>
     ensures ok { OnOk result (left.new.items ≡ left.old.items ++ marked_on i op on.now 3) }
     ensures err { OnErr result (left.new.items ≡ left.old.items) }
     ensures cause { OnErr result ((image : ℕ) × (is_image image ≡ true) × (is_marked on.now image ≡ true)) }

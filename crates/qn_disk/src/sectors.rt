@@ -3,9 +3,7 @@ ghost use Rattle.std.specs.Prelude.{◌≡◌, length};
 ghost use Rattle.qn_model.specs.declared.seen.HeaderSeen.TheVariants as seen;
 
 use qn_base::Rank;
-use qn_model::{
-    DiskOp, HeaderSeen, MailSeen, Message, Settings, Slot, SlotSeen, Timing, What,
-};
+use qn_model::{DiskOp, HeaderSeen, MailSeen, Message, Settings, Slot, SlotSeen, Timing, What};
 
 /// The slots and mailboxes of an image, by rank.
 #[derive(Clone, Copy)]

@@ -1,9 +1,8 @@
 -- What a world of three images stands for after one of its parts changed.
-use Rattle.std.proofs.Common.{◌≡◌, ◌≢◌, ℕ, suc, zero, ◌-◌, ◌<◌, ◌≤◌, Bool, true, false, List, [], ◌∷◌, ◌++◌, length, Some, None, refl, ◌⊎◌, inl, inr, if◌then◌else◌, sym, ◌∙◌, ap, subst, arith, eq-eqb}
-use Rattle.std.specs.Prelude.{Option, slice_get, slice_index_or, slice_set, ◌==◌}
+use Rattle.std.proofs.Common.{◌≡◌, ◌≢◌, ℕ, suc, zero, ◌-◌, ◌<◌, Bool, true, false, List, [], ◌∷◌, length, Some, None, refl, ◌⊎◌, inl, inr, if◌then◌else◌, sym, ◌∙◌, ap, subst, arith, eq-eqb}
+use Rattle.std.specs.Prelude.{Option, slice_get, slice_set, ◌==◌}
 use Rattle.std.proofs.lemmas.Bool.{eqb-true, false≢true}
-use Rattle.std.proofs.lemmas.Bool.Decides.{nat_tests}
-use Rattle.std.proofs.lemmas.Option.{get_or_from_slice_get, slice_get_within}
+use Rattle.std.proofs.lemmas.Option.{slice_get_within}
 use Rattle.qn_cluster.specs.Nodes.{Nodes}
 use Rattle.qn_cluster.specs.Standing.{ClusterFor}
 use Rattle.qn_disk.specs.declared.sectors.Sectors.{Sectors}
@@ -19,7 +18,6 @@ use Rattle.qn_parts.specs.Parts.{is_good_on, part_on}
 use Rattle.qn_safety.specs.declared.part.Part.{Part}
 use Rattle.qn_safety.specs.TripleRules.{is_image, none_pending}
 use Rattle.qn_safety.specs.TripleSteps.{written_on}
-use Rattle.qn_safety.specs.declared.part.Part.TheVariants.{Pending}
 use Rattle.qn_safety.specs.TripleWorld.{TripleWorld, all_pending, answer_of, good_after, has_landed, is_pending, mailboxes_on, put_on, slots_on}
 use Rattle.qn_triple.specs.Standing.{GoodAt, IsStanding, PartsAt, SectorsAt, TripleFor}
 use Rattle.qn_triple.specs.Stepping.{Mails, OtherDisk, Turns, Writes}
@@ -44,8 +42,8 @@ pub moved : (w new : Whole) (d : TripleWorld) (moments : List Moment) → Triple
 moved w new d moments is disk same cluster =
     subst (λ n. TripleFor n (record d { moments = moments })) (sym disk) (with_moments w (cluster_of new) d moments is same cluster)
 
--- the nodes are another list of the same length
-pub put_at : {A : Type 0} (f : ℕ → A) (i : ℕ) (value : A) (j : ℕ) (b : Bool) → (i == j) ≡ b → put f i value j ≡ (if b then value else f j)
+-- a value that is put, by a test of its place
+put_at : {A : Type 0} (f : ℕ → A) (i : ℕ) (value : A) (j : ℕ) (b : Bool) → (i == j) ≡ b → put f i value j ≡ (if b then value else f j)
 put_at f i value j b e = ap (λ b. if b then value else f j) e
 
 -- the parts of a rank
@@ -101,19 +99,6 @@ good_put w new d i own wanted is below e each =
           here = get_set_apart w.good i rank own (λ same. false≢true (sym apart ∙ eq-eqb i rank same)) ∙ at.here;
           each = λ image one. at.each image one ∙ sym (ap (λ f. f image) (put_at d.good i wanted rank false apart));
         }
-
--- the parts of a world are those of another one on each image
-pub parts_same : (w : Whole) (d : TripleWorld) (parts : ℕ → ℕ → Part) → TripleFor w d
-    → ((rank image : ℕ) → is_image image ≡ true → d.parts rank image ≡ parts rank image) → TripleFor w (record d { parts = parts })
-parts_same w d parts is same =
-    record {
-      safe = is.safe;
-      cluster = is.cluster;
-      parts = λ rank few. let at = is.parts rank few in record { own = at.own; here = at.here; each = λ image one. at.each image one ∙ same rank image one };
-      good = is.good;
-      images = is.images;
-      lefts = is.lefts;
-    }
 
 -- the leftovers changed
 pub lefts_put : (w new : Whole) (d : TripleWorld) (items : List Leftover) (left : ℕ → ℕ → List DiskOp) → TripleFor w d

@@ -1,5 +1,5 @@
 -- What a world of three images stands for after an event.
-use Rattle.std.proofs.Common.{◌≡◌, ◌≢◌, ℕ, suc, ◌<◌, ◌≤◌, Bool, true, false, List, [], ◌∷◌, ◌++◌, length, Some, None, refl, if◌then◌else◌, not, ◌&&◌, ◌||◌, sym, ◌∙◌, ap, subst, arith, length-append}
+use Rattle.std.proofs.Common.{◌≡◌, ◌≢◌, ℕ, ◌≤◌, Bool, true, false, List, [], ◌∷◌, ◌++◌, length, Some, None, refl, if◌then◌else◌, ◌&&◌, ◌||◌, sym, ◌∙◌, ap, subst, arith, length-append}
 use Rattle.std.specs.Prelude.{All, Option, Result, Ok, Err, OnErr, OnOk, OnSome, is_some, ◌==◌, nat_lt}
 use Rattle.std.specs.Option.{option_map_or, option_or}
 use Rattle.std.specs.Result.{is_err}
@@ -23,7 +23,6 @@ use Rattle.qn_model.specs.declared.outputs.DiskOp.TheVariants as disk
 use Rattle.qn_model.specs.declared.outputs.Out.{Out}
 use Rattle.qn_model.specs.declared.times.Timing.{Timing}
 use Rattle.qn_model.specs.Fitting.{answers_op}
-use Rattle.qn_model.specs.Log.{op_out}
 use Rattle.qn_model.specs.Moments.{Adds, Boots, Ends, node}
 use Rattle.qn_model.specs.NodeOutputs.{newest_outs}
 use Rattle.qn_model.specs.Rules.{is_well_formed, refusal, unless}
@@ -41,8 +40,8 @@ use Rattle.qn_triple.specs.Memory.{leaves_on, leaves_one}
 use Rattle.qn_triple.specs.Standing.{IsStanding, TripleFor}
 use Rattle.qn_triple.specs.Stepping.{GivesUp, IsReady, KeepsOn, OtherDisk, OutOfMemory, Stepped, Turns, boot_event, given_up_on, only_on}
 use Rattle.qn_triple.specs.Whole.{Whole, cluster_of, with_nodes}
-use Rattle.qn_triple.proofs.DiskSteps.{lefts_same, moved, put_at, put_on_own}
-use Rattle.qn_triple.proofs.Lists.{by_image, rank_cases, same_rank}
+use Rattle.qn_triple.proofs.DiskSteps.{lefts_same, moved}
+use Rattle.qn_triple.proofs.Lists.{by_image, same_rank}
 
 -- ---- what the rules leave
 
@@ -686,10 +685,13 @@ pub keeps_on : (w new : Whole) (i : ℕ) (op : DiskOp) (marks : List Bool) → I
 keeps_on w new i op marks out are e marked =
     record {
       same = e;
-      cause = λ d is on.
-          (marked.0, marked.1, subst (λ o. leaves_over o (d.parts i marked.0) ≢ []) (out d is on)
-          (subst (λ ops. ops ≢ []) (sym (leaves_if op (d.parts i marked.0)))
-          (not_empty op (is_write op && is_pending (d.parts i marked.0)) (sym (are d is marked.0 marked.1) ∙ marked.2))));
+      cause = λ d is on. (
+        marked.0,
+        marked.1,
+        subst (λ o. leaves_over o (d.parts i marked.0) ≢ []) (out d is on)
+            (subst (λ ops. ops ≢ []) (sym (leaves_if op (d.parts i marked.0)))
+            (not_empty op (is_write op && is_pending (d.parts i marked.0)) (sym (are d is marked.0 marked.1) ∙ marked.2))),
+      );
     }
 
 pub gives_nothing : (w : Whole) (i : ℕ) (op : Option DiskOp) → IsOut w i op → op ≡ None → GivesUp w w i

@@ -1,17 +1,17 @@
 -- The rules that look at the three images, and the ranks of well formed events.
-use Rattle.std.proofs.Common.{◌≡◌, ℕ, ◌<◌, ◌≤◌, Bool, true, false, length, Some, refl, not, ◌&&◌, ◌||◌, sym, ◌∙◌, ap, subst, arith}
-use Rattle.std.specs.Prelude.{nat_le, nat_lt, is_some}
+use Rattle.std.proofs.Common.{◌≡◌, ℕ, ◌<◌, ◌≤◌, Bool, true, false, length, refl, ◌&&◌, sym, subst, arith}
+use Rattle.std.specs.Prelude.{nat_le, nat_lt}
 use Rattle.std.proofs.lemmas.Bool.Decides.{nat_tests}
 use Rattle.qn_base.specs.declared.ids.Rank.{Rank}
 use Rattle.qn_model.specs.declared.configuration.Settings.{Settings}
 use Rattle.qn_model.specs.declared.disk.Message.{Message}
 use Rattle.qn_model.specs.declared.events.Event.TheVariants as event
-use Rattle.qn_model.specs.Rules.{is_between, is_configured, is_well_formed}
+use Rattle.qn_model.specs.Rules.{is_configured, is_well_formed}
 use Rattle.qn_safety.specs.declared.triple_event.TripleEvent.TheVariants as triple
 use Rattle.qn_safety.specs.TripleRules.{is_image, is_well_formed_triple}
-use Rattle.qn_triple.specs.Standing.{IsStanding, TripleFor}
+use Rattle.qn_triple.specs.Standing.{IsStanding}
 use Rattle.qn_triple.specs.Stepping.{boot_event}
-use Rattle.qn_triple.specs.Whole.{Whole, cluster_of}
+use Rattle.qn_triple.specs.Whole.{Whole}
 
 pub lt-true : (n m : ℕ) → nat_lt n m ≡ true → n < m
 lt-true n m e = grind (arith, nat_tests)

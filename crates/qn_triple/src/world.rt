@@ -43,11 +43,7 @@ impl TripleWorld {
 
     /// The first world: all nodes are off, no slot was ever claimed on any image, all mailboxes are empty, and no packet
     /// was sent.
-    pub fn new(
-        alloc: Global,
-        settings: Settings,
-        timing: Timing,
-    ) -> Result<TripleWorld, NoMemory>
+    pub fn new(alloc: Global, settings: Settings, timing: Timing) -> Result<TripleWorld, NoMemory>
         requires valid { IsValid settings }
         requires safe { is_safe timing ≡ true }
         ensures first { IfOk result (λ w. TripleFor w first_triple) }

@@ -1,9 +1,8 @@
-use Rattle.std.proofs.Common.{◌≡◌, ◌∙◌, Some, ap, sym, subst}
+use Rattle.std.proofs.Common.{◌≡◌, ◌∙◌, Some, ap, sym}
 use Rattle.std.proofs.lemmas.Option.{slice_get_within}
 use Rattle.qn_disk.specs.Places.{place_in}
 use Rattle.qn_disk.specs.Standing.{is_of}
-use Rattle.qn_disk.proofs.LeftoverSteps.{FoundLeft, found_left, none_left}
-use Rattle.qn_disk.proofs.Lists.{not_some}
+use Rattle.qn_disk.proofs.LeftoverSteps.{found_left, none_left}
 use Rattle.qn_disk.proofs.Marks.{left_taken}
 use Rattle.qn_disk.proofs.leftovers.Leftovers.take.Goals as goal
 use Rattle.qn_model.specs.World.{numbered}

@@ -1,6 +1,6 @@
 use Rattle.std.proofs.Common.{◌<◌, ◌∙◌, length, subst, sym}
 use Rattle.qn_cluster.specs.Nodes.{Nodes}
-use Rattle.qn_triple.proofs.EventSteps.{boot_stepped, both_disks}
+use Rattle.qn_triple.proofs.EventSteps.{boot_stepped}
 use Rattle.qn_triple.proofs.RuleSteps.{boot_base, boot_rank, few, lt-true, within}
 use Rattle.qn_triple.proofs.state.State.boot.Goals as goal
 

@@ -1,4 +1,4 @@
-use Rattle.std.proofs.Common.{◌∙◌, length, subst, sym, Some}
+use Rattle.std.proofs.Common.{◌∙◌, length, subst, sym}
 use Rattle.qn_cluster.specs.Standing.{IsOpWithin}
 use Rattle.qn_triple.proofs.EventSteps.{land_stepped, not_landed, op_target}
 use Rattle.qn_triple.proofs.RuleSteps.{few, land_image, land_rank, within}

@@ -1,5 +1,4 @@
 use Rattle.std.proofs.Common.{◌≡◌, ◌∙◌, true, ap, subst, sym}
-use Rattle.qn_model.specs.Rules.{is_well_formed}
 use Rattle.qn_safety.specs.TripleRules.{is_well_formed_triple, refusal_triple}
 use Rattle.qn_triple.proofs.EventSteps.{formed_one}
 use Rattle.qn_triple.proofs.RuleSteps.{fail_image, fail_rank, few, land_image, land_rank, late_image, late_number, operator_image, operator_rank, within}

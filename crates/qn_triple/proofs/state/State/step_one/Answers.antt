@@ -1,4 +1,4 @@
-use Rattle.std.proofs.Common.{[], ap, refl, subst, sym, ◌∙◌}
+use Rattle.std.proofs.Common.{[], ap, subst, sym}
 use Rattle.qn_cluster.specs.Events.{is_of_nodes}
 use Rattle.qn_safety.specs.declared.triple_event.TripleEvent.TheVariants as triple
 use Rattle.qn_triple.specs.Stepping.{IsReady, OutOfMemory, Stepped}

@@ -1,5 +1,4 @@
 use Rattle.std.proofs.Common.{◌∙◌, ap, length, subst, sym}
-use Rattle.std.specs.Prelude.{OnSome}
 use Rattle.qn_disk.specs.Standing.{LeftFor}
 use Rattle.qn_model.specs.World.{without}
 use Rattle.qn_safety.specs.TripleWorld.{put_on}

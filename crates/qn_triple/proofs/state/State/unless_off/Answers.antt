@@ -10,5 +10,5 @@ use Rattle.qn_triple.proofs.state.State.unless_off.Goals as goal
 pub returns : goal.returns
 returns c = λ d theirs is same.
     subst (λ n. (d : World) (theirs : Option ℕ) → ClusterFor n d.moments → (is_on n.settings c.args.i.0 d ≡ true → c.args.other ≡ theirs)
-        → c.unless_running.result ≡ unless_running n.settings c.args.i.0 d theirs)
+    → c.unless_running.result ≡ unless_running n.settings c.args.i.0 d theirs)
     (ap cluster_of c.self.view_is) c.unless_running.ensures (nodes_of d) theirs is.cluster same
