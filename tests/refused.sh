@@ -33,13 +33,13 @@ wrong() {
 }
 
 # refused FILE WORD..: the program with these words, which reads FILE, is refused one allocation after the other, until it has
-# them all. The file `whole` has then what it writes, and `places` gets how many lines stand before the fault line of each other run.
+# them all. Where $needs_none is yes it may be that none is refused. The file `whole` has then what it writes, and `places` gets how many lines stand before the fault line of each other run.
 refused() {
     local begun=no
     input=$1
     shift
     before_each
-    "$QUORUMD" "$@" < "$input" > whole
+    "$QUORUMD" "$@" < "$input" > whole 2> errors
     to_the_least "$@"
     while :; do
         limited "$@"
@@ -57,7 +57,8 @@ refused() {
         esac
         limit=$((limit + 4))
     done
-    [ "$begun" = yes ] && cmp -s got whole || wrong "$@"
+    [ "$begun" = yes ] || [ "${needs_none-no}" = yes ] || wrong "$@"
+    cmp -s got whole || wrong "$@"
 }
 
 # was_refused_after LINES..: one of the runs was refused after each of these numbers of lines
