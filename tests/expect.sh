@@ -5,14 +5,14 @@ RUN_AS=()
 
 # expect STATUS 'OUTPUT' WORD..: runs the program with these words, and stops the script where its status or its
 # output is another one. OUTPUT is as for printf: `\n` ends a line. Standard input is that of the call. Standard error
-# must have a line of the program where the outside failed, and else nothing; it is left in the file .errors.
+# must have a line of the program where the outside failed or the words are no command, and else nothing; it is left in the file .errors.
 expect() {
     local wanted=$1 text=$2 status=0 lines=''
     shift 2
     printf "$text" > .wanted
     "${RUN_AS[@]}" "$QUORUMD" "$@" > .got 2> .errors || status=$?
     case $wanted in
-    6 | 7 | 8) lines='quorumd: .+' ;;
+    2 | 6 | 7 | 8) lines='quorumd: .+' ;;
     esac
     if [ "$status" != "$wanted" ] || ! cmp -s .wanted .got || ! [[ $(cat .errors) =~ ^$lines$ ]]; then
         printf 'quorumd %s\nwanted status %s and:\n%s\ngot status %s and:\n%s\nand on standard error:\n%s\n' \

@@ -14,6 +14,7 @@ HERE = pathlib.Path(__file__).resolve().parent
 TOP = HERE.parents[1]
 IDS = (1, 2, 3)
 TIMES = "2500,3900,400,800,500"  # short ones; a take-over takes some five seconds, and a resource goes on for more than three loops
+WATCHDOG = "2.5"  # seconds, as the times say
 REBOOTS = {1: ["2"], 2: ["5"], 3: ["9"]}  # seconds: a host may be back before another node took over, or later
 FRESH = 0.5  # seconds: whoever signed within them holds the resource
 PATIENCE = 90  # seconds
@@ -70,7 +71,7 @@ class Hosts:
         print("%8.2f > %s" % (time.monotonic() - self.began, what), flush=True)
 
     def switch_on(self, ident):
-        words = [sys.executable, HERE / "host", str(ident), self.folder, self.port, *self.reboots.get(ident, [])]
+        words = [sys.executable, HERE / "host", str(ident), self.folder, self.port, WATCHDOG, *self.reboots.get(ident, [])]
         self.hosts[ident] = subprocess.Popen(words, env=dict(os.environ, BEGAN=str(self.began), QUORUMD=self.program))
 
     def holder(self):
@@ -95,7 +96,7 @@ class Hosts:
         """The process of the node; None where its host is off."""
         try:
             return int((self.folder / ("pid.%d" % ident)).read_text())
-        except FileNotFoundError:
+        except (FileNotFoundError, ValueError):  # it is off, or just being written
             return None
 
     def send(self, ident, number, what):

@@ -44,7 +44,7 @@ same "$status $(cat "$here/said")" '8 fault EnvFault'
 # long that takes, stands on standard error within a second
 cd "$here"
 mkdir -p new/bin new/crates/quorumd/src rt-bin
-cp "$TOP/bin/quorumd" new/bin
+cp "$TOP/bin/quorumd" "$TOP/bin/built.bash" new/bin
 touch new/crates.txt new/crates/quorumd/src/main.rt
 cat > rt-bin/rt << 'RT'
 #!/usr/bin/env bash

@@ -1,40 +1,54 @@
-# The manual page has no warning, and its examples, taken from the page as it is shown, write what it says.
+# The manual pages have no warning, and their examples, taken from the pages as they are shown, write what they say.
 . "$TOP/tests/expect.sh"
 
-page=$TOP/man/quorumd.8
 if command -v mandoc > /dev/null; then
-    mandoc -T lint -W warning "$page"
+    mandoc -T lint -W warning "$TOP"/man/*.8
 else
-    echo 'skipped: not installed (Debian: mandoc), to look for warnings in the manual page'
+    echo 'skipped: not installed (Debian: mandoc), to look for warnings in the manual pages'
 fi
 for tool in man:man-db groff:groff-base col:bsdextrautils; do
     if ! command -v "${tool%:*}" > /dev/null; then
-        echo "skipped: not installed (Debian: ${tool#*:}), to show the manual page and run its examples"
+        echo "skipped: not installed (Debian: ${tool#*:}), to show the manual pages and run their examples"
         exit 0
     fi
 done
-same "$(man --warnings -E UTF-8 -l "$page" 2>&1 > /dev/null)" ""
 
 mkdir bin
 ln -s "$QUORUMD" bin/quorumd
+ln -s "$QUORUMCTL" bin/quorumctl
 PATH=$PWD/bin:$PATH
 
-# what the examples read
-printf 'nodelist {\nnode {\nnodeid: 1\n}\n}\nquorum {\ntwo_node: 1\n}\n' > corosync.conf
-cp "$TOP/examples/two-node.conf" cluster.conf
-printf 'nodelist {\nnode {\nnodeid: 1\n}\n}\n----\ntiming 5000 10000 1000 2000 1000\nboot 1 0\npass 5050\n' > schedule
+# examples PAGE: in a folder of its own, each line `$ COMMAND` goes into N.command, with the lines after it while a bracket is open, and the
+# others into N.wanted
+examples() {
+    MANWIDTH=200 man -E UTF-8 -l "$1" | col -bx | awk '
+        /^[A-Z]/ { inside = $1 == "EXAMPLES" }
+        !inside || match($0, /[^ ]/) < 10 { next }
+        { sub(/^ +/, "") }
+        /^\$ / { name = sprintf("%02d", ++number); open = 0; sub(/^\$ /, ""); printf "" > (name ".wanted"); command = 1 }
+        command { print > (name ".command"); open += gsub(/\(/, "(") - gsub(/\)/, ")"); command = open > 0; next }
+        { print > (name ".wanted") }'
+}
 
-# each line `$ COMMAND` goes into N.command, with the lines after it while a bracket is open, and the others into N.wanted
-MANWIDTH=200 man -E UTF-8 -l "$page" | col -bx | awk '
-    /^[A-Z]/ { inside = $1 == "EXAMPLES" }
-    !inside || match($0, /[^ ]/) < 10 { next }
-    { sub(/^ +/, "") }
-    /^\$ / { name = sprintf("%02d", ++number); open = 0; sub(/^\$ /, ""); printf "" > (name ".wanted"); command = 1 }
-    command { print > (name ".command"); open += gsub(/\(/, "(") - gsub(/\)/, ")"); command = open > 0; next }
-    { print > (name ".wanted") }'
-[ -e 07.command ] || { echo 'the examples of the page were not found'; exit 1; }
+# page_runs NAME COUNT: the page of that name has at least so many examples
+page_runs() {
+    local page=$TOP/man/$1.8 command found=0
+    same "$(man --warnings -E UTF-8 -l "$page" 2>&1 > /dev/null)" ""
+    mkdir "$1"
+    cd "$1"
+    # what the examples read
+    printf 'nodelist {\nnode {\nnodeid: 1\n}\n}\nquorum {\ntwo_node: 1\n}\n' > corosync.conf
+    cp "$TOP/examples/two-node.conf" cluster.conf
+    printf 'nodelist {\nnode {\nnodeid: 1\n}\n}\n----\ntiming 5000 10000 1000 2000 1000\nboot 1 0\npass 5050\n' > schedule
+    examples "$page"
+    for command in *.command; do
+        bash "$command" > got 2>&1 || true
+        same "$(cat "$command" got)" "$(cat "$command" "${command%.command}.wanted")"
+        found=$((found + 1))
+    done
+    [ "$found" -ge "$2" ] || { printf 'the examples of %s were not found\n' "$page"; exit 1; }
+    cd ..
+}
 
-for command in *.command; do
-    bash "$command" > got 2>&1 || true
-    same "$(cat "$command" got)" "$(cat "$command" "${command%.command}.wanted")"
-done
+page_runs quorumd 7
+page_runs quorumctl 8

@@ -10,8 +10,9 @@ if [ "$(dpkg --print-architecture)" != amd64 ]; then
     printf 'skipped: this machine is no amd64, so no package was built\n'
     exit 0
 fi
-# the build that is packed is that of the repository
+# the builds that are packed are those of the repository
 built=$TOP/crates/quorumd/out/quorumd
+companion=$TOP/crates/quorumctl/out/quorumctl
 
 mkdir one two
 package=$("$TOP/packaging/build-deb" one)
@@ -27,27 +28,76 @@ grep -q "^\.Os quorumd ${version%-*}$" "$TOP/man/quorumd.8"
 dpkg -x "$package" root
 dpkg-deb --control "$package" control
 (cd root && md5sum --quiet -c ../control/md5sums)
-same "$(cd root && find . -type f | wc -l)" "$(wc -l < control/md5sums)"
+same "$(cd root && find . -type f | wc -l)" "$(cat control/md5sums control/conffiles | wc -l)"
 cmp root/usr/sbin/quorumd "$built"
+cmp root/usr/sbin/quorumctl "$companion"
+zcat root/usr/share/man/man8/quorumctl.8.gz | cmp - "$TOP/man/quorumctl.8"
+cmp root/usr/share/bash-completion/completions/quorumctl "$TOP/completions/quorumctl.bash"
 zcat root/usr/share/man/man8/quorumd.8.gz | cmp - "$TOP/man/quorumd.8"
 cmp root/usr/share/bash-completion/completions/quorumd "$TOP/completions/quorumd.bash"
 doc=$PWD/root/usr/share/doc/quorumd
 diff -r "$doc/examples" "$TOP/examples"
 grep -q '^License: Apache-2.0$' "$doc/copyright"
 zcat "$doc/changelog.Debian.gz" | head -n 1 | grep -qF "quorumd ($version) "
-# there is no unit, and nothing is run at the installation
-same "$(find root -name '*.service' -o -name '*.socket')" ''
-same "$(ls control | xargs)" 'control md5sums'
+same "$(ls control | xargs)" 'conffiles control md5sums postinst postrm prerm'
+same "$(xargs < control/conffiles)" '/etc/quorumd/agent.env /etc/quorumd/node.env'
+same "$(ls root/lib/systemd/system | xargs)" 'quorumd-agent.socket quorumd-agent@.service quorumd@.service'
+# systemd takes the units; what they call is where they say
+if command -v systemd-analyze > /dev/null; then
+    same "$(systemd-analyze verify --man=no root/lib/systemd/system/quorumd* 2>&1 | grep -v ': Command /usr/[^ ]* is not executable' || true)" ''
+else
+    printf 'skipped: systemd-analyze is not installed (Debian: systemd), so the units were not looked at\n'
+fi
+for called in $(sed -n 's|^Exec[A-Za-z]*=\(/usr/[^ ]*\).*|\1|p' root/lib/systemd/system/*); do
+    [ -x "root$called" ] || { printf 'a unit calls %s, which is not in the package\n' "$called"; exit 1; }
+done
+# the words of the unit, with what the template of a node says, are a node of quorumd: its settings text is read, and it has no node 9
+# shellcheck disable=SC1091
+. root/etc/quorumd/node.env
+words=$(sed -n 's|^ExecStart=/usr/sbin/quorumd||p' root/lib/systemd/system/quorumd@.service | sed 's/%i/9/g')
+status=0
+# shellcheck disable=SC2086
+eval "$built $words" < "$TOP/examples/two-node.conf" > said || status=$?
+same "$status $(cat said)" '16 fault UnknownNode 9'
+
+# what becomes of a host at each end of a node
+mkdir calls
+printf '#!/bin/sh\necho "$@"\n' > calls/systemctl
+chmod 755 calls/systemctl
+ended() {
+    printf '%s' "$3" > line
+    same "$1: $(PATH=$PWD/calls:$PATH EXIT_CODE=${1%%/*} EXIT_STATUS=${1#*/} root/usr/libexec/quorumd/node-ended line)" "$1: $2"
+}
+reset='reboot --force --force'
+ended exited/0 '' $'left clean\n'
+ended exited/0 '' $'left dirty\n'
+ended exited/0 "$reset" $'turns 9 up holds=no quorate=no 0/1 why=no-view\n'
+ended exited/0 "$reset" ''
+for status in 2 3 6 8 11 16 203; do
+    ended exited/$status '' $'fault\n'
+done
+ended exited/7 "$reset" ''
+ended exited/12 "$reset" $'fault ClockBack 2 1\n'
+ended exited/13 "$reset" $'fault SelfReset reset\n'
+ended exited/13 'poweroff --force --force' $'fault SelfReset off\n'
+ended exited/14 "$reset" $'fault BootHalted 1\n'
+ended killed/KILL "$reset" ''
+ended dumped/SEGV "$reset" $'left clean\n'
+ended / '' ''
 
 # dpkg installs it into an empty root, without the libraries that it depends on, and removes all of it again
 if [ "$(id -u)" = 0 ]; then
     mkdir -p empty/var/lib/dpkg/info empty/var/lib/dpkg/updates
     touch empty/var/lib/dpkg/status empty/var/lib/dpkg/available
     in_root() {
-        dpkg --root="$PWD/empty" --log="$PWD/log" --force-depends "$@" > said 2>&1 || { cat said; exit 1; }
+        dpkg --root="$PWD/empty" --log="$PWD/log" --force-depends --force-script-chrootless "$@" > said 2>&1 || { cat said; exit 1; }
     }
     in_root --install "$package"
     cmp empty/usr/sbin/quorumd "$built"
+    same "$(empty/usr/sbin/quorumd count < "$TOP/examples/count.txt" | tail -n 1)" 'end 2'
+    printf 'IMAGE=/srv/other\n' > empty/etc/quorumd/node.env
+    in_root --remove quorumd
+    same "$(cat empty/etc/quorumd/node.env)" IMAGE=/srv/other
     in_root --purge quorumd
     same "$(ls empty | xargs)" var
 else

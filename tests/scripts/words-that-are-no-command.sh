@@ -1,9 +1,12 @@
-# Words that are no command: status 2 and the fault line, whatever the input is.
+# Words that are no command: status 2 and the fault line, whatever the input is, and on standard error one line that names the first word
+# which was not taken.
 . "$TOP/tests/expect.sh"
 
 while read -r words; do
     # shellcheck disable=SC2086
     expect 2 'fault Usage\n' $words < "$TOP/examples/one-node.conf"
+    same "$(wc -l < .errors)" 1
+    grep -qF ' is ' .errors
 done <<'END'
 counts
 COUNT
@@ -70,6 +73,33 @@ soak 1 0
 soak 1 200001
 help me
 END
+# refused 'WHAT' WORD..: what the line on standard error says after the program's name
+refused() {
+    local what=$1
+    shift
+    expect 2 'fault Usage\n' "$@" < /dev/null
+    same "$(cat .errors)" "quorumd: $what"
+}
+create='create --image PATH [--timing W,M,L,R,S]'
+message='message --image PATH --id 1..4294967295 --kind clear|test|reset|off|exit|crashdump'
+refused 'there is no command'
+refused '"" is no command' ''
+refused '"counts" is no command' counts
+refused '"x\ny" is no command' $'x\ny'
+refused '"x" is not taken; usage: count' count x
+refused "--image is missing; usage: $create" create
+refused "a value is missing at the end, PATH; usage: $create" create --image
+refused "\"--image\" is not taken; usage: $create" create --image d --image e
+refused "\"--imag\" is not taken; usage: $create" create --timing 1,2,3,4,5 --imag d
+refused "\"5000,10000,1000,2000\" is not taken; usage: $create" create --image d --timing 5000,10000,1000,2000
+refused "\"empty\" is not taken; usage: $message" message --image d --id 1 --kind empty
+refused "\"0\" is not taken; usage: $message" message --kind off --id 0 --image d
+refused "--id is missing; usage: $message" message --kind off --image --id
+refused '"xml" is not taken; usage: status [--form text|json]' status --form xml
+refused '"200001" is not taken; usage: soak SEED:0.. EVENTS:1..200000' soak 1 200001
+refused 'a word is missing; usage: soak SEED:0.. EVENTS:1..200000' soak 1
+refused '"me" is not taken; usage: help' help me
+refused '"--help" is not taken; usage: count' count --help
 expect 2 'fault Usage\n' < /dev/null
 expect 2 'fault Usage\n' '' < /dev/null
 same "$(ls)" ''

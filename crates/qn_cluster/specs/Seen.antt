@@ -1,11 +1,6 @@
 -- What a cluster shows of its nodes.
-<<<<<<< ours
 use Rattle.std.specs.Prelude.{◌<◌, ℕ, Bool, false, List, [], Option, None, Some, length, ◌&&◌, if◌then◌else◌, unwrap_or}
 use Rattle.std.specs.Option.{option_map, option_map_or}
-=======
-use Rattle.std.specs.Prelude.{◌<◌, false, List, [], Option, None, Some, length, ◌&&◌, if◌then◌else◌}
-use Rattle.std.specs.Option.{option_map_or}
->>>>>>> theirs
 use Rattle.qn_base.specs.declared.ids.Rank.{Rank}
 use Rattle.qn_base.specs.declared.ids.View.{View}
 use Rattle.qn_model.specs.declared.configuration.Settings.{Settings}

@@ -10,4 +10,6 @@ mod images;
 #[cfg(test)]
 mod nodes;
 #[cfg(test)]
+mod refusals;
+#[cfg(test)]
 mod runs;

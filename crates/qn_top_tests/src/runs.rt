@@ -3,8 +3,8 @@ use qn_io::{Env, MemSink, MemSource};
 use qn_top::top;
 use std::alloc::AllocError;
 
-/// A run of the program: its words, the input, which comes in pieces of so many bytes and of which one read fails, and
-/// the room of the output.
+/// A run of the program: its words, the input, which comes in pieces of so many bytes and of which one read fails, the
+/// room of the output, and the write of it that fails.
 #[derive(Clone, Copy)]
 pub struct Run<'a> {
     pub words: &'a str,
@@ -12,6 +12,7 @@ pub struct Run<'a> {
     pub piece: usize,
     pub failing: u64,
     pub room: usize,
+    pub failing_write: u64,
 }
 
 impl<'a> Run<'a> {
@@ -23,6 +24,7 @@ impl<'a> Run<'a> {
             piece: 7,
             failing: 0,
             room: 1000,
+            failing_write: 0,
         }
     }
 
@@ -39,8 +41,9 @@ impl<'a> Run<'a> {
         }
         let input = Vec::from_slice(alloc, self.input.as_bytes())?;
         let failing = vec![in alloc; self.failing]?;
+        let fails = vec![in alloc; self.failing_write]?;
         let mut input = MemSource::new(input, self.piece.max(1), failing);
-        let Ok(mut out) = MemSink::new(alloc, self.room, Vec::new(alloc)) else {
+        let Ok(mut out) = MemSink::new(alloc, self.room, fails) else {
             return Err(AllocError);
         };
         let status = top(alloc, words.as_slice(), &mut input, &mut out, env);

@@ -2,18 +2,28 @@
 //! `top` on them and ends with its status. Everything that it promises stands on `top`.
 //!
 //! Before `top` it ends with status 2 for a word that is no UTF-8, and with status 11 where there
-//! is no memory for the words; it then writes nothing.
+//! is no memory for the words; it then writes nothing. The words `--help`, `-h` and `--version` are answered here. After a status 2 of
+//! `top` a line on standard error says which word was not taken.
 #![tactic(auto)]
 
-use qn_io::{RealEnv, StdSink, StdSource};
+use qn_io::{RealEnv, StdSink, StdSource, put_all};
 use qn_top::top;
+use qn_usage::{QUORUMD, help_text, refusal_of, version_text};
 use std::env;
 use std::io::{self, ErrorKind};
 use std::process::ExitCode;
 use std::rt::Env;
 
+/// The name of the program, and what it is.
+const PROGRAM: &str = "quorumd";
+
+const IS: &str = "one member of a high-availability cluster";
+
 /// The status for words that are no command.
 const USAGE: u8 = 2;
+
+/// The status where standard output cannot be written.
+const WRITE_FAULT: u8 = 7;
 
 /// The status of a program that is out of memory.
 const NO_MEMORY: u8 = 11;
@@ -23,6 +33,9 @@ fn main(rt: HostRuntime) -> ExitCode {
         Ok(words) => words,
         Err(status) => return status,
     };
+    if let Some(status) = answer_about(&rt, words.as_slice()) {
+        return ExitCode::from(status);
+    }
     let Ok(outside) = rt.clone() else {
         return ExitCode::from(NO_MEMORY);
     };
@@ -30,7 +43,38 @@ fn main(rt: HostRuntime) -> ExitCode {
     let mut out = StdSink::new(io::writer(&rt), &rt);
     let mut env = RealEnv::new(outside);
     let status = top(rt.alloc(), words.as_slice(), &mut input, &mut out, &mut env);
+    if status == USAGE {
+        say_what_is_wrong(&rt, words.as_slice());
+    }
     ExitCode::from(status)
+}
+
+/// Answers what is asked about the program itself, with the status to end with; None where the words ask for something else.
+fn answer_about(rt: &(impl Print + Eprint + AllocGlobal), words: &[String]) -> Option<u8> {
+    let [word] = words else {
+        return None;
+    };
+    let text = match word.as_str() {
+        "--help" | "-h" => help_text(rt.alloc(), PROGRAM, IS, QUORUMD),
+        "--version" => version_text(rt.alloc(), PROGRAM),
+        _ => return None,
+    };
+    let Ok(text) = text else {
+        return Some(NO_MEMORY);
+    };
+    let mut out = StdSink::new(io::writer(rt), rt);
+    match put_all(&mut out, text.as_str().as_bytes()) {
+        Ok(()) => Some(0),
+        Err(_) => Some(WRITE_FAULT),
+    }
+}
+
+/// Says on standard error which word was not taken; that it cannot be said is no fault.
+fn say_what_is_wrong(rt: &impl Eprint, words: &[String]) {
+    let _ = match refusal_of(QUORUMD, words) {
+        Some(refusal) => eprintln!(rt; "{PROGRAM}: {refusal}"),
+        None => eprintln!(rt; "{PROGRAM}: these words are no command"),
+    };
 }
 
 /// The words after the program's name, or the status to end with.

@@ -1,0 +1,27 @@
+//! What an operator wants to know of times, of a corosync.conf and of an image, beside what the program takes.
+//!
+//! Promises: `least_msgwait` is the least safe one, and None where none is safe; `longest_take_over` is the defined sum. What is told of a text
+//! and of an image is tested.
+#![tactic(auto)]
+
+mod at_fault;
+mod concerns;
+mod findings;
+mod flags;
+mod image;
+mod image_json;
+mod image_lines;
+mod named;
+mod pairs;
+mod times;
+mod told;
+
+pub use at_fault::wrong_lines;
+pub use concerns::{Concern, concerns_of};
+pub use findings::Finding;
+pub use image::{ImageSeen, NodeSeen, Sectors, look_at_image};
+pub use image_json::{check_json, list_json};
+pub use image_lines::{finding_lines, node_lines};
+pub use pairs::{Pair, Place, pairs_of};
+pub use times::{least_msgwait, longest_take_over};
+pub use told::settings_text;

@@ -1,0 +1,132 @@
+//! The first word that is not taken.
+use crate::synopsis::{Synopsis, Takes};
+use crate::values::is_value;
+use std::fmt;
+
+/// Why words are no command of a program. It prints as one line.
+#[derive(Clone, Copy, Debug, Drop)]
+pub enum Refusal<'words> {
+    /// There is no word.
+    Empty,
+    /// The first word is no command.
+    Unknown(&'words str),
+    /// This word is not taken by the command: it is no option of it, stands there a second time, is one too many, or is no value of what
+    /// stands before it.
+    Word(&'words str, Synopsis),
+    /// This option is missing.
+    Lacks(&'static str, Synopsis),
+    /// The last word is an option, and its value, which may be this, is missing.
+    LacksValue(&'static str, Synopsis),
+    /// An operand is missing.
+    LacksOperand(Synopsis),
+}
+
+impl fmt::Display for Refusal<'_> {
+    fn fmt<W: fmt::Write>(&self, f: &mut fmt::Formatter<W>) -> fmt::Result {
+        match self {
+            Refusal::Empty => write!(f, "there is no command"),
+            Refusal::Unknown(word) => write!(f, "{word:?} is no command"),
+            Refusal::Word(word, synopsis) => {
+                let line = synopsis.line;
+                write!(f, "{word:?} is not taken; usage: {line}")
+            }
+            Refusal::Lacks(name, synopsis) => {
+                let line = synopsis.line;
+                write!(f, "{name} is missing; usage: {line}")
+            }
+            Refusal::LacksValue(kind, synopsis) => {
+                let line = synopsis.line;
+                write!(f, "a value is missing at the end, {kind}; usage: {line}")
+            }
+            Refusal::LacksOperand(synopsis) => {
+                let line = synopsis.line;
+                write!(f, "a word is missing; usage: {line}")
+            }
+        }
+    }
+}
+
+/// Why the words, which are those after the program's name, are none of these commands; None where nothing is found.
+pub fn refusal_of<'words>(
+    commands: &[Synopsis],
+    words: &'words [String],
+) -> Option<Refusal<'words>> {
+    let [name, rest @ ..] = words else {
+        return Some(Refusal::Empty);
+    };
+    for command in commands {
+        if command.name() == name.as_str() {
+            return refusal_by(command, rest);
+        }
+    }
+    Some(Refusal::Unknown(name.as_str()))
+}
+
+/// The same of a command and the words behind its name.
+fn refusal_by<'words>(command: &Synopsis, words: &'words [String]) -> Option<Refusal<'words>> {
+    let mut rest = words;
+    for number in 0..usize::MAX {
+        let Some(kind) = command.operand(number) else {
+            break;
+        };
+        match rest {
+            [word, others @ ..] if is_value(kind, word.as_str()) => rest = others,
+            [word, ..] => return Some(Refusal::Word(word.as_str(), *command)),
+            [] => return Some(Refusal::LacksOperand(*command)),
+        }
+    }
+    refusal_of_options(command, rest).or_else(|| lacking(command, rest))
+}
+
+/// The first of these words that is no option of the command, stands there a second time, or is no value of the option before it.
+fn refusal_of_options<'words>(
+    command: &Synopsis,
+    words: &'words [String],
+) -> Option<Refusal<'words>> {
+    let mut before = Takes::Nothing;
+    for (place, word) in words.iter().enumerate() {
+        let word = word.as_str();
+        let is_taken = match before {
+            Takes::Value(kind) => {
+                before = Takes::Nothing;
+                is_value(kind, word)
+            }
+            Takes::Nothing => {
+                let takes = command.option(word);
+                before = takes.unwrap_or(Takes::Nothing);
+                takes.is_some() && place_of(command, words, word) == Some(place)
+            }
+        };
+        if !is_taken {
+            return Some(Refusal::Word(word, *command));
+        }
+    }
+    match before {
+        Takes::Nothing => None,
+        Takes::Value(kind) => Some(Refusal::LacksValue(kind, *command)),
+    }
+}
+
+/// The first option that the command needs and that does not stand among these words.
+fn lacking<'words>(command: &Synopsis, words: &'words [String]) -> Option<Refusal<'words>> {
+    for number in 0..usize::MAX {
+        let name = command.needed(number)?;
+        if place_of(command, words, name).is_none() {
+            return Some(Refusal::Lacks(name, *command));
+        }
+    }
+    None
+}
+
+/// The place among these words at which the option of this name stands first, and is no value of another one.
+fn place_of(command: &Synopsis, words: &[String], name: &str) -> Option<usize> {
+    let mut is_value = false;
+    for (place, word) in words.iter().enumerate() {
+        let is_option = !is_value;
+        is_value = is_option && matches!(command.option(word.as_str()), Some(Takes::Value(_)));
+        if is_option && word.as_str() == name {
+            return Some(place);
+        }
+    }
+    None
+}

@@ -1,0 +1,77 @@
+//! What a command is called, and which words it takes.
+
+/// A command, as it is printed and as it is read.
+///
+/// The line begins with the command's name. The words after it stand for operands, up to the first option. An option begins with two
+/// dashes; the word after it stands for its value, and an option without one stands alone. Brackets stand round what may be left out.
+/// Options come in any order, each at most once. `is_value` says what a word for a value stands for.
+#[derive(Clone, Copy, Debug)]
+pub struct Synopsis {
+    /// The words, without the name of the program.
+    pub line: &'static str,
+    /// What is read from standard input; empty where nothing is.
+    pub reads: &'static str,
+    /// What the command does, in a few words.
+    pub does: &'static str,
+}
+
+/// What an option takes.
+#[derive(Clone, Copy, PartialEq, Eq, Debug)]
+pub enum Takes {
+    /// Nothing: it stands alone.
+    Nothing,
+    /// A value, of which this word of the synopsis says what it may be.
+    Value(&'static str),
+}
+
+impl Synopsis {
+    /// The name of the command.
+    pub fn name(&self) -> &'static str {
+        self.line.split_whitespace().next().unwrap_or("")
+    }
+
+    /// What the operand of this number, from 0, may be; None where there are not so many.
+    pub fn operand(&self, number: usize) -> Option<&'static str> {
+        self.line
+            .split_whitespace()
+            .skip(1)
+            .take_while(|word| !is_option(word))
+            .nth(number)
+    }
+
+    /// What the option of this name takes; None where the command has no such option.
+    pub fn option(&self, name: &str) -> Option<Takes> {
+        let mut words = self
+            .line
+            .split_whitespace()
+            .skip_while(|word| bare(word) != name);
+        let option = words.next()?;
+        if !is_option(option) {
+            return None;
+        }
+        match words.next() {
+            Some(value) if !option.ends_with(']') && !is_option(value) => {
+                Some(Takes::Value(bare(value)))
+            }
+            _ => Some(Takes::Nothing),
+        }
+    }
+
+    /// The option of this number, from 0, of those that the command needs; None where there are not so many.
+    pub fn needed(&self, number: usize) -> Option<&'static str> {
+        self.line
+            .split_whitespace()
+            .filter(|word| word.starts_with("--"))
+            .nth(number)
+    }
+}
+
+/// Whether a word of a synopsis is an option, in brackets or not.
+fn is_option(word: &str) -> bool {
+    bare(word).starts_with("--")
+}
+
+/// A word of a synopsis without its brackets.
+fn bare(word: &str) -> &str {
+    word.trim_start_matches('[').trim_end_matches(']')
+}

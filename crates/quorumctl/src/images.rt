@@ -1,0 +1,162 @@
+//! The commands on an image. They open it for reading, and make nothing.
+use crate::files::ImageFile;
+use crate::input::read_input;
+use crate::texts::say_fault;
+use crate::trouble::{Trouble, say};
+use qn_base::{NodeId, read_decimal};
+use qn_control::{ImageSeen, check_json, finding_lines, list_json, look_at_image, node_lines};
+use qn_model::Message;
+use qn_settings::settings_of_text;
+use qn_usage::value_of;
+use std::fs::File;
+use std::net::{Ipv4Addr, Net, UdpSocket};
+use std::rt::Files;
+use std::time::{Clock, Duration};
+
+/// The status where something is wrong with an image.
+const WRONG: u8 = 1;
+
+/// The status where no slot has an id.
+const UNKNOWN_NODE: u8 = 16;
+
+/// Milliseconds between two looks at a mailbox.
+const LOOK: u64 = 100;
+
+/// `check`: what is wrong with an image, and whether it fits the settings on standard input, where there are any.
+pub fn check<R: Files<File = File> + Input + Print + AllocGlobal>(
+    rt: &R,
+    path: &str,
+    is_json: bool,
+) -> Result<u8, Trouble> {
+    let alloc = rt.alloc();
+    let text = read_input(rt)?;
+    let settings = if text.is_empty() {
+        None
+    } else {
+        match settings_of_text(alloc, text.as_slice()) {
+            Ok(settings) => Some(settings),
+            Err(fault) => return say_fault(rt, text.as_slice(), &fault),
+        }
+    };
+    let file = ImageFile::open(rt, path).map_err(Trouble::System)?;
+    let seen = look_at_image(alloc, &file, settings.as_ref())?;
+    let told = if is_json {
+        check_json(alloc, &seen)?
+    } else {
+        let mut lines = node_lines(alloc, seen.nodes.as_slice())?;
+        let findings = finding_lines(alloc, &seen)?;
+        lines.push_str(findings.as_str())?;
+        lines
+    };
+    say(rt, told.as_str())?;
+    Ok(if seen.findings.is_empty() { 0 } else { WRONG })
+}
+
+/// `list`: the nodes of an image.
+pub fn list<R: Files<File = File> + Print + AllocGlobal>(
+    rt: &R,
+    path: &str,
+    is_json: bool,
+) -> Result<u8, Trouble> {
+    let alloc = rt.alloc();
+    let file = ImageFile::open(rt, path).map_err(Trouble::System)?;
+    let seen = look_at_image(alloc, &file, None)?;
+    let told = if is_json {
+        list_json(alloc, seen.nodes.as_slice())?
+    } else {
+        node_lines(alloc, seen.nodes.as_slice())?
+    };
+    say(rt, told.as_str())?;
+    let is_whole = seen.header.is_some()
+        && seen
+            .nodes
+            .as_slice()
+            .iter()
+            .all(|node| node.slot.is_some() && node.mail.is_some());
+    Ok(if is_whole { 0 } else { WRONG })
+}
+
+/// What becomes of a message.
+#[derive(Clone, Copy, Debug)]
+enum Outcome {
+    /// No slot has the id.
+    UnknownNode,
+    /// The mailbox is empty: a boot of the node cleared it, or there was no message.
+    Empty,
+    /// The node left clean, at an exit.
+    Left,
+    /// It is not known to be read.
+    Waits,
+}
+
+/// `wait`: returns when the message to a node was read, or msgwait has passed.
+pub fn wait<R: Files<File = File> + Net + Clock + Print + AllocGlobal>(
+    rt: &R,
+    path: &str,
+    options: &[String],
+) -> Result<u8, Trouble> {
+    let id = id_of(options);
+    let file = ImageFile::open(rt, path).map_err(Trouble::System)?;
+    let seen = look_at_image(rt.alloc(), &file, None)?;
+    let Some((_, _, timing)) = seen.header else {
+        say(rt, "fault: sector 0 is no header: the file is no image\n")?;
+        return Ok(WRONG);
+    };
+    let begin = rt.monotonic().map_err(Trouble::System)?;
+    let end = begin.saturating_add(Duration::from_millis(timing.msgwait));
+    for _ in 0..u64::MAX {
+        let is_over = rt.monotonic().map_err(Trouble::System)? >= end;
+        let seen = look_at_image(rt.alloc(), &file, None)?;
+        let outcome = outcome_of(&seen, id);
+        if is_over || !matches!(outcome, Outcome::Waits) {
+            return say_outcome(rt, &outcome);
+        }
+        pause(rt)?;
+    }
+    Ok(0)
+}
+
+/// The id among the options.
+fn id_of(options: &[String]) -> NodeId {
+    let word = value_of(options, "--id").unwrap_or("");
+    let id = read_decimal(word.as_bytes()).unwrap_or(0);
+    NodeId(u32::try_from(id).unwrap_or(0))
+}
+
+/// Says what became of a message, and gives the exit status.
+fn say_outcome(rt: &impl Print, outcome: &Outcome) -> Result<u8, Trouble> {
+    let (text, status) = match outcome {
+        Outcome::UnknownNode => ("fault: no slot of the image has the id\n", UNKNOWN_NODE),
+        Outcome::Empty => ("the mailbox is empty\n", 0),
+        Outcome::Left => ("the node left clean\n", 0),
+        Outcome::Waits => ("msgwait has passed\n", 0),
+    };
+    say(rt, text)?;
+    Ok(status)
+}
+
+/// What became of the message to a node, as far as the image says it.
+fn outcome_of(seen: &ImageSeen, id: NodeId) -> Outcome {
+    for node in seen.nodes.as_slice() {
+        if let Some((other, slot)) = node.slot {
+            if other == id {
+                return match node.mail {
+                    Some(mail) if mail.message == Message::Empty => Outcome::Empty,
+                    Some(mail) if mail.message == Message::Exit && slot.clean => Outcome::Left,
+                    _ => Outcome::Waits,
+                };
+            }
+        }
+    }
+    Outcome::UnknownNode
+}
+
+/// Lets a moment pass: waits at a port at which nothing comes.
+fn pause<R: Net>(rt: &R) -> Result<(), Trouble> {
+    let socket = UdpSocket::bind(rt, (Ipv4Addr::LOCALHOST, 0)).map_err(Trouble::System)?;
+    socket
+        .set_read_timeout(Some(Duration::from_millis(LOOK)))
+        .map_err(Trouble::System)?;
+    let _ = socket.recv_from(&mut [0; 1]);
+    Ok(())
+}

@@ -1,0 +1,102 @@
+//! The program `quorumctl`: what an operator wants to know beside `quorumd`. It reads, and changes nothing.
+//!
+//! Promises: nothing. What it says stands on `qn_control`; a text is judged by `settings_of_text`, as `quorumd` judges it.
+#![tactic(auto)]
+
+mod files;
+mod images;
+mod input;
+mod table;
+mod texts;
+mod trouble;
+
+use images::{check, list, wait};
+use qn_usage::{has_word, help_text, refusal_of, value_of, version_text};
+use std::env;
+use std::fs::File;
+use std::io::ErrorKind;
+use std::net::Net;
+use std::process::ExitCode;
+use std::rt::{Env, Files};
+use std::time::Clock;
+use table::QUORUMCTL;
+use texts::{settings, timing};
+use trouble::Trouble;
+
+/// The name of the program, and what it is.
+const PROGRAM: &str = "quorumctl";
+
+const IS: &str = "looks at the settings, the times and the image of a quorumd cluster";
+
+/// The status for words that are no command.
+const USAGE: u8 = 2;
+
+/// The status of a program that is out of memory.
+const NO_MEMORY: u8 = 11;
+
+fn main(rt: HostRuntime) -> ExitCode {
+    let words = match words(&rt) {
+        Ok(words) => words,
+        Err(status) => return ExitCode::from(status),
+    };
+    let ended = match words.as_slice() {
+        [word] if word.as_str() == "--help" || word.as_str() == "-h" => about(&rt),
+        [word] if word.as_str() == "--version" => version(&rt),
+        words => match refusal_of(QUORUMCTL, words) {
+            Some(refusal) => {
+                let _ = eprintln!(rt; "{PROGRAM}: {refusal}");
+                Ok(USAGE)
+            }
+            None => run(&rt, words),
+        },
+    };
+    match ended {
+        Ok(status) => ExitCode::from(status),
+        Err(trouble) => {
+            let _ = eprintln!(rt; "{PROGRAM}: {trouble}");
+            ExitCode::from(trouble.status())
+        }
+    }
+}
+
+/// Runs the command that the words are.
+fn run<R: Files<File = File> + Net + Clock + Print + Eprint + Input + AllocGlobal>(
+    rt: &R,
+    words: &[String],
+) -> Result<u8, Trouble> {
+    let [name, options @ ..] = words else {
+        return Ok(USAGE);
+    };
+    let image = value_of(options, "--image").unwrap_or("");
+    let is_json = has_word(options, "--json");
+    match name.as_str() {
+        "settings" => settings(rt),
+        "timing" => timing(rt, options),
+        "check" => check(rt, image, is_json),
+        "list" => list(rt, image, is_json),
+        "wait" => wait(rt, image, options),
+        _ => Ok(USAGE),
+    }
+}
+
+fn about(rt: &(impl Print + AllocGlobal)) -> Result<u8, Trouble> {
+    let text = help_text(rt.alloc(), PROGRAM, IS, QUORUMCTL)?;
+    trouble::say(rt, text.as_str())?;
+    Ok(0)
+}
+
+fn version(rt: &(impl Print + AllocGlobal)) -> Result<u8, Trouble> {
+    let text = version_text(rt.alloc(), PROGRAM)?;
+    trouble::say(rt, text.as_str())?;
+    Ok(0)
+}
+
+/// The words after the program's name, or the status to end with.
+fn words(rt: &(impl Env + AllocGlobal)) -> Result<Vec<String>, u8> {
+    let mut all = env::args(rt).map_err(|error| match error.kind() {
+        ErrorKind::InvalidData => USAGE,
+        _ => NO_MEMORY,
+    })?;
+    let _program = all.next();
+    all.collect(rt.alloc()).map_err(|_| NO_MEMORY)
+}

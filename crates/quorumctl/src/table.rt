@@ -1,0 +1,31 @@
+//! The commands of `quorumctl`.
+use qn_usage::Synopsis;
+
+/// The commands of `quorumctl`.
+pub const QUORUMCTL: &[Synopsis] = &[
+    Synopsis {
+        line: "settings",
+        reads: "COROSYNC.CONF",
+        does: "what is read of a corosync.conf, and what of it is risky or wrong",
+    },
+    Synopsis {
+        line: "timing --watchdog 1..3600000 --loop 1..3600000 --read-limit 1..3600000 --feed-delay 1..3600000",
+        reads: "",
+        does: "the least safe msgwait for these times, and the longest time to a take-over",
+    },
+    Synopsis {
+        line: "check --image PATH [--json]",
+        reads: "COROSYNC.CONF or /dev/null",
+        does: "what is wrong with an image, and whether it fits a corosync.conf",
+    },
+    Synopsis {
+        line: "list --image PATH [--json]",
+        reads: "",
+        does: "the nodes of an image, with their messages",
+    },
+    Synopsis {
+        line: "wait --image PATH --id 1..4294967295",
+        reads: "",
+        does: "returns when the message to a node was read, or msgwait has passed",
+    },
+];

@@ -1,0 +1,56 @@
+//! What keeps a command from its work.
+use std::alloc::{AllocError, AllocFailed};
+use std::{fmt, io};
+
+/// What keeps a command from its work; each has a status of its own, which are those of `quorumd`.
+#[derive(Debug, Drop)]
+pub enum Trouble {
+    /// Standard input cannot be read.
+    Input(io::Error),
+    /// Standard output cannot be written.
+    Output(io::Error),
+    /// The image cannot be opened, or the clock not be read.
+    System(io::Error),
+    /// Out of memory.
+    NoMemory,
+}
+
+impl Trouble {
+    /// The exit status.
+    pub fn status(&self) -> u8 {
+        match self {
+            Trouble::Input(_) => 6,
+            Trouble::Output(_) => 7,
+            Trouble::System(_) => 8,
+            Trouble::NoMemory => 11,
+        }
+    }
+}
+
+impl fmt::Display for Trouble {
+    fn fmt<W: fmt::Write>(&self, f: &mut fmt::Formatter<W>) -> fmt::Result {
+        match self {
+            Trouble::Input(error) => write!(f, "standard input: {error}"),
+            Trouble::Output(error) => write!(f, "standard output: {error}"),
+            Trouble::System(error) => write!(f, "{error}"),
+            Trouble::NoMemory => write!(f, "out of memory"),
+        }
+    }
+}
+
+impl From<AllocError> for Trouble {
+    fn from(_error: AllocError) -> Trouble {
+        Trouble::NoMemory
+    }
+}
+
+impl<T: Drop> From<AllocFailed<T>> for Trouble {
+    fn from(_failed: AllocFailed<T>) -> Trouble {
+        Trouble::NoMemory
+    }
+}
+
+/// Writes a text to standard output.
+pub fn say(rt: &impl Print, text: &str) -> Result<(), Trouble> {
+    print!(rt; "{text}").map_err(Trouble::Output)
+}

@@ -1,0 +1,111 @@
+# `quorumctl check`, `list` and `wait`: what is told of images that are whole, damaged, old, too long and of another cluster. Nothing is made and
+# nothing is changed.
+. "$TOP/tests/expect.sh"
+. "$TOP/tests/version-1.sh"
+
+# ctl STATUS 'OUTPUT' WORD..: runs quorumctl; standard input is that of the call
+ctl() {
+    local wanted=$1 text=$2 status=0
+    shift 2
+    "$QUORUMCTL" "$@" > got 2> errors || status=$?
+    same "$* ends with $status and says $(cat got errors)" "$* ends with $wanted and says $(printf "$text")"
+}
+
+# put SECTOR 'BYTES': writes over the beginning of a sector of the image `disk`
+put() {
+    printf "$2" | dd of=disk bs=512 seek="$1" conv=notrunc status=none
+}
+
+"$QUORUMD" create --image whole < "$TOP/examples/two-node.conf" > said
+cp whole disk
+lines='node 1 incarnation 0 clean mail empty\nnode 2 incarnation 0 clean mail empty\n'
+ctl 0 "$lines" check --image disk < /dev/null
+ctl 0 "$lines" check --image disk < "$TOP/examples/two-node.conf"
+ctl 0 "$lines" list --image disk
+same "$("$QUORUMCTL" list --image disk)" "$("$QUORUMD" list --image disk)"
+cmp disk whole
+
+# another cluster
+printf 'nodelist {\nnode {\nnodeid: 1\n}\nnode {\nnodeid: 2\n}\nnode {\nnodeid: 3\n}\n}\n' > three.conf
+ctl 1 "${lines}warning: the image is for 2 nodes, and the settings have 3\n" check --image disk < three.conf
+printf 'nodelist {\nnode {\nnodeid: 1\n}\nnode {\nnodeid: 3\n}\n}\n' > other.conf
+ctl 1 "${lines}warning: sector 3 has the id 2, and the settings have 3 there\n" check --image disk < other.conf
+ctl 3 'fault: nodelist: there is no node section\n' check --image disk <<< '# nothing'
+
+# bad sectors, each of which the look goes on behind
+put 1 SLOP
+put 513 '\1'
+ctl 1 'node ? mail empty\nnode 2 incarnation 0 clean mail ?\nwarning: sector 1 is no slot\nwarning: sector 513 is no mailbox\n' check --image disk < /dev/null
+ctl 1 'node ? mail empty\nnode 2 incarnation 0 clean mail ?\n' list --image disk
+cp whole disk
+put 3 'SLOT\0\0\0\1'
+ctl 1 'node 1 incarnation 0 clean mail empty\nnode 1 incarnation 0 clean mail empty\nwarning: sector 3 has the id 1, which is not above the one before\n' check --image disk < /dev/null
+cp whole disk
+put 0 QN
+put 0 XX
+ctl 1 'warning: sector 0 is no header: the file is no image\n' check --image disk < /dev/null
+# times that are not safe: msgwait 8163
+cp whole disk
+printf '\37\343' | dd of=disk bs=1 seek=30 conv=notrunc status=none
+ctl 1 "${lines}warning: the times are not safe\n" check --image disk < /dev/null
+# a tail, and a file that ends early: zeros are no mailbox
+cp whole disk
+printf tail >> disk
+ctl 1 "${lines}warning: 4 bytes stand behind the image\n" check --image disk < /dev/null
+head -c $((513 * 512)) whole > disk
+ctl 1 'node 1 incarnation 0 clean mail empty\nnode 2 incarnation 0 clean mail ?\nwarning: sector 513 is no mailbox\n' check --image disk < /dev/null
+version_1 disk 2
+ctl 1 'node 1 incarnation 0 clean mail off\nnode 2 incarnation 1 dirty mail empty\nwarning: the image is of version 1: quorumd migrate\n' check --image disk < /dev/null
+
+# sectors that cannot be read: a folder is one
+mkdir folder
+ctl 1 'warning: sector 0 cannot be read\n' check --image folder < /dev/null
+# nothing is made
+ctl 8 'quorumctl: No such file or directory (os error 2)\n' check --image absent < /dev/null
+ctl 8 'quorumctl: No such file or directory (os error 2)\n' list --image absent
+ctl 8 'quorumctl: No such file or directory (os error 2)\n' wait --image absent --id 1
+[ ! -e absent ]
+
+# an image that another program is making
+flock -x disk "$QUORUMCTL" check --image disk < /dev/null > got 2> errors || same "$? $(cat got errors)" '8 quorumctl: another program has it open'
+
+# JSON: the same as the lines
+cp whole disk
+"$QUORUMD" message --image disk --id 2 --kind off > said
+"$QUORUMCTL" list --image disk --json > listed
+"$QUORUMCTL" check --image disk --json < /dev/null > checked
+put 1 SLOP
+"$QUORUMCTL" check --image disk --json < /dev/null > damaged || true
+python3 - << 'PYTHON'
+import json
+
+EMPTY = {"by": None, "message": "empty"}
+OFF = {"by": None, "message": "off"}
+FIRST, SECOND = ({"clean": True, "id": ident, "incarnation": 0} for ident in (1, 2))
+HEADER = {"version": 2, "watchdog": 5000, "msgwait": 10000, "loop": 1000, "read_limit": 2000, "feed_delay": 1000, "safe": True}
+nodes = [{"mail": EMPTY, "slot": FIRST}, {"mail": OFF, "slot": SECOND}]
+assert json.load(open("listed")) == nodes
+assert json.load(open("checked")) == {"findings": [], "header": HEADER, "nodes": nodes}
+damaged = [{"mail": EMPTY, "slot": None}, nodes[1]]
+assert json.load(open("damaged")) == {"findings": ["sector 1 is no slot"], "header": HEADER, "nodes": damaged}
+assert all(open(name).read().count("\n") == 1 for name in ("listed", "checked", "damaged"))
+PYTHON
+
+# waits: for an empty mailbox, for a node that left, for msgwait, for a node that is none
+"$QUORUMD" create --image disk --timing 300,500,100,50,50 < "$TOP/examples/two-node.conf" > said
+ctl 0 'the mailbox is empty\n' wait --image disk --id 1
+"$QUORUMD" message --image disk --id 1 --kind exit > said
+ctl 0 'the node left clean\n' wait --image disk --id 1
+"$QUORUMD" message --image disk --id 2 --kind off > said
+begin=$(date +%s%N)
+ctl 0 'msgwait has passed\n' wait --image disk --id 2
+passed=$((($(date +%s%N) - begin) / 1000000))
+[ "$passed" -ge 500 ] || { printf 'waited %s ms\n' "$passed"; exit 1; }
+"$QUORUMD" create --image disk < "$TOP/examples/two-node.conf" > said
+"$QUORUMD" message --image disk --id 2 --kind test > said
+(sleep 0.5; "$QUORUMD" message --image disk --id 2 --kind clear > said) &
+ctl 0 'the mailbox is empty\n' wait --image disk --id 2
+wait
+ctl 16 'fault: no slot of the image has the id\n' wait --image disk --id 3
+: > disk
+ctl 1 'fault: sector 0 is no header: the file is no image\n' wait --image disk --id 3

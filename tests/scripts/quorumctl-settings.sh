@@ -1,0 +1,88 @@
+# `quorumctl settings` and `quorumctl timing`: what is told of a text, each warning, each fault with its lines, and that a text is taken
+# exactly where quorumd takes it.
+. "$TOP/tests/expect.sh"
+
+# told STATUS 'TEXT' 'OUTPUT': what is told of a settings text
+told() {
+    local status=0
+    printf "$2" | "$QUORUMCTL" settings > got 2> errors || status=$?
+    same "$status $(cat got errors)" "$1 $(printf "$3")"
+}
+
+told 0 'nodelist {\nnode {\nname: alpha\nnodeid: 7\nquorum_votes: 3\n}\nnode {\nfence_delay: 50\nnodeid: 02\n}\nnode {\nname: x\nname: y\nnodeid: 3\n}\n}\n' \
+    'node 2 name - votes 1 fence_delay 50\nnode 3 name y votes 1 fence_delay 0\nnode 7 name alpha votes 3 fence_delay 0
+two_node off by default\nwait_for_all off by default\nlast_man_standing off by default\nauto_tie_breaker off by default
+device none\nlast_man_standing_window 10000\nexpected_votes 5 by the sum\nquorum 3\n'
+
+one='nodelist {\nnode {\nnodeid: 1\n}\n}\n'
+two='nodelist {\nnode {\nnodeid: 1\n}\nnode {\nnodeid: 2\n}\n}\n'
+
+# flags STATUS 'TEXT' 'LINES': the lines behind those of the nodes
+flags() {
+    local status=0
+    printf "$2" | "$QUORUMCTL" settings > got 2> errors || status=$?
+    same "$status $(grep -v '^node ' got; cat errors)" "$1 $(printf "$3")"
+}
+flags 0 "${two}quorum {\ntwo_node: 1\n}\n" 'two_node on by two_node\nwait_for_all on by two_node\nlast_man_standing off by default\nauto_tie_breaker off by default
+device none\nlast_man_standing_window 10000\nexpected_votes 2 by the sum\nquorum 1\n'
+flags 0 "${two}quorum {\nwait_for_all: 1\nauto_tie_breaker: 1\nlast_man_standing_window: 5\nexpected_votes: 2\n}\n" 'two_node off by default\nwait_for_all on by wait_for_all
+last_man_standing off by default\nauto_tie_breaker on by auto_tie_breaker\ndevice none\nlast_man_standing_window 5\nexpected_votes 2 by expected_votes\nquorum 2\n'
+flags 0 "${two}quorum {\ndevice {\nmodel: net\nvotes: 1\n}\n}\n" 'two_node off by default\nwait_for_all off by default\nlast_man_standing off by default\nauto_tie_breaker off by default
+device votes 1 timeout 10000\nlast_man_standing_window 10000\nexpected_votes 3 by the sum\nquorum 2\n'
+
+# warned 'TEXT' 'WARNINGS'
+warned() {
+    local status=0
+    printf "$1" | "$QUORUMCTL" settings > got || status=$?
+    same "$status $(grep '^warning' got)" "1 $(printf "$2")"
+}
+warned "${one}quorum {\nlast_man_standing: 1\n}\n" 'warning: last_man_standing without wait_for_all\n'
+warned "${two}quorum {\ntwo_node: 1\nwait_for_all: 0\n}\n" 'warning: two_node without wait_for_all\n'
+warned "${one}quorum {\nexpected_votes: 3\n}\n" 'warning: expected_votes 3 is above the 1 votes that there are\n'
+warned "${two}quorum {\nexpected_votes: 1\n}\n" 'warning: expected_votes 1 is below the 2 votes that there are\nwarning: 2 votes can fall into halves: there is neither a device nor a tie breaker\n'
+warned "$two" 'warning: 2 votes can fall into halves: there is neither a device nor a tie breaker\n'
+warned "${one}quorum {\ntwo_nodes: 1\n}\n" 'warning: the key "two_nodes" is not known\n'
+warned 'nodelist {\nnodes: 1\nnode {\nnodeid: 1\nvotes: 1\nring0_addr: a\n}\n}\ntotem {\nnode: 1\n}\n' 'warning: the key "nodes" is not known\nwarning: the key "votes" is not known\n'
+
+told 3 'quorum {\ntwo_node 1\n}\n' 'fault: line 2: neither a section, nor `key: value`, nor `}`, nor a comment\nline 2: two_node 1\n'
+told 3 '}\n' 'fault: line 1: `}` ends a section, and none is open\nline 1: }\n'
+told 3 "${one}quorum {\nexpected_votes: many\n}\n" 'fault: expected_votes: a value is no number in the range of the key\nline 7: expected_votes: many\n'
+told 3 '' 'fault: nodelist: there is no node section\n'
+
+# a text is taken exactly where quorumd takes it: the texts of examples, and those of the rows
+agrees() {
+    local status=0 taken=no answer
+    "$QUORUMCTL" settings < "$1" > got 2> errors || status=$?
+    { cat "$1"; printf '\n----\ntiming 5000 10000 1000 2000 1000\n'; } > schedule
+    answer=$("$QUORUMD" replay < schedule || true)
+    [ "$answer" != 'end 0' ] || taken=yes
+    case $status$taken in
+    0yes | 1yes) [ -z "$(grep '^fault' got)" ] ;;
+    3no) grep -q '^fault: ' got ;;
+    *) printf '%s: quorumctl ends with %s, and quorumd writes %s\n' "$1" "$status" "$answer"; exit 1 ;;
+    esac
+}
+for text in "$TOP"/examples/*.conf; do
+    agrees "$text"
+done
+while IFS=$'\t' read -r _ head _; do
+    printf '%b' "$head" | sed '/^----$/,$d' > text
+    agrees text
+done < "$TOP/tests/rows/settings-at-fault.tsv"
+
+# times: the least msgwait is safe, and one less is not
+timing() {
+    "$QUORUMCTL" timing --watchdog "$1" --loop "$2" --read-limit "$3" --feed-delay "$4"
+}
+same "$(timing 5000 1000 2000 1000 | xargs)" 'least msgwait 8164 longest take-over 17164'
+for times in '5000 1000 2000 1000' '1 1 1 1' '3000000 2 3 4' '60000 3600000 1 1'; do
+    # shellcheck disable=SC2086
+    set -- $times
+    least=$(timing "$1" "$2" "$3" "$4" | sed -n 's/^least msgwait //p')
+    expect 0 'created nodes 1\n' create --image disk --timing "$1,$least,$2,$3,$4" < "$TOP/examples/one-node.conf"
+    less=$((least - 1))
+    expect 10 "fault UnsafeTiming $1 $less $2 $3 $4\\n" create --image disk --timing "$1,$less,$2,$3,$4" < "$TOP/examples/one-node.conf"
+done
+status=0
+timing 3600000 1 1 1 > got || status=$?
+same "$status $(cat got)" '10 fault: no msgwait up to 3600000 is safe with these times'

@@ -1,0 +1,65 @@
+# The words, the help, the version, the page and the completion of quorumctl.
+. "$TOP/tests/expect.sh"
+
+version=$(sed -n 's/^\.Os quorumd //p' "$TOP/man/quorumctl.8")
+same "$("$QUORUMCTL" --version)" "quorumctl $version"
+"$QUORUMCTL" --help > text
+"$QUORUMCTL" -h | cmp text -
+same "$(sed -n 's/^quorumctl \([a-z]*\).*/\1/p' text | xargs)" 'settings timing check list wait'
+
+# the options of each command, as the manual page has them
+options() {
+    grep -o -- '--[a-z-]*' | sort | tr '\n' ' '
+}
+for command in settings timing check list wait; do
+    page=$(awk -v wanted="$command" '/^\.Sh/ { inside = $2 == "SYNOPSIS" } inside && $1 == ".Cm" { found = $2 == wanted } inside && /^\.Fl -help/ { found = 0 } inside && found' "$TOP/man/quorumctl.8")
+    same "$command $(sed -n "s/^quorumctl $command\( .*\)*\$/\1/p" text | options)" \
+        "$command $(printf '%s\n' "$page" | sed -n 's/.*Fl \(-[a-z-]*\).*/-\1/p' | options)"
+done
+
+# refused 'WHAT' WORD..: status 2, nothing on standard output, and this line on standard error
+refused() {
+    local what=$1 status=0
+    shift
+    "$QUORUMCTL" "$@" > got 2> errors < /dev/null || status=$?
+    same "$status $(cat got errors)" "2 quorumctl: $what"
+}
+refused 'there is no command'
+refused '"lists" is no command' lists
+refused '"x" is not taken; usage: settings' settings x
+refused '--image is missing; usage: list --image PATH [--json]' list --json
+refused '"--json" is not taken; usage: list --image PATH [--json]' list --json --image d --json
+refused '"0" is not taken; usage: wait --image PATH --id 1..4294967295' wait --id 0 --image d
+refused '--feed-delay is missing; usage: timing --watchdog 1..3600000 --loop 1..3600000 --read-limit 1..3600000 --feed-delay 1..3600000' \
+    timing --watchdog 1 --loop 1 --read-limit 1
+
+# the streams
+status=0
+"$QUORUMCTL" settings < . > got 2> errors || status=$?
+same "$status $(cat got errors)" '6 quorumctl: standard input: Is a directory (os error 21)'
+status=0
+"$QUORUMCTL" --help > /dev/full 2> errors || status=$?
+same "$status $(cat errors)" '7 quorumctl: standard output: No space left on device (os error 28)'
+
+# completion
+cat > offers.bash << 'OFFERS'
+source "$1"
+shift
+COMP_WORDS=(quorumctl "$@")
+COMP_CWORD=$#
+_quorumctl quorumctl "${COMP_WORDS[COMP_CWORD]}" "${COMP_WORDS[COMP_CWORD - 1]}"
+printf '%s\n' "${COMPREPLY[@]}"
+OFFERS
+offers() {
+    local wanted=$1
+    shift
+    same "$*: $(bash offers.bash "$TOP/completions/quorumctl.bash" "$@" | xargs)" "$*: $wanted"
+}
+offers 'settings timing check list wait' ''
+offers 'settings' s
+offers '--image --json' check ''
+offers '--json' list --image disk ''
+offers '--id' wait --image disk --
+offers '--watchdog --read-limit --feed-delay' timing --loop 5 ''
+touch disk.image
+offers disk.image check --image disk
