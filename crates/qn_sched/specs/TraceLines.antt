@@ -93,13 +93,27 @@ holders_text ids holders = joined_or_dash 43 (map decimal (ids_from 0 ids holder
 abbrev pub answer_text : Answer → List ℕ
 answer_text answer = codes " quorate=" ++ yes_no answer.quorate ++ codes " " ++ decimal answer.votes ++ codes "/" ++ decimal answer.quorum
 
+-- what stands after the outputs of a node
+abbrev pub state_text : List ℕ → Report → List ℕ
+state_text ids report =
+    codes " holders=" ++ holders_text ids report.holders ++ answer_text report.answer ++ codes " why=" ++ why_text report.why
+
+-- What stands after the number and the time, with this text in place of the outputs of the node that is touched, or in place
+-- of a node and its outputs where none is.
+abbrev pub touched_with : List ℕ → Report → List ℕ → Option Rank → List ℕ
+touched_with ids report said None = codes " " ++ said ++ codes " holders=" ++ holders_text ids report.holders
+touched_with ids report said (Some rank) = codes " " ++ id_word ids rank ++ codes " " ++ said ++ state_text ids report
+
 -- what stands after the number and the time: at a pass, and at an event of a node
 abbrev pub touched_text : List ℕ → Report → Option Rank → List ℕ
-touched_text ids report None = codes " - - holders=" ++ holders_text ids report.holders
-touched_text ids report (Some rank) =
-    codes " " ++ id_word ids rank ++ codes " " ++ outs_text ids report.outs ++ codes " holders=" ++ holders_text ids report.holders
-    ++ answer_text report.answer ++ codes " why=" ++ why_text report.why
+touched_text ids report None = touched_with ids report (codes "- -") None
+touched_text ids report (Some rank) = touched_with ids report (outs_text ids report.outs) (Some rank)
 
 -- the trace line of an event, without its end, where the nodes have these ids by rank
 unfoldable pub trace_line : List ℕ → ℕ → Report → List ℕ
 trace_line ids number report = decimal number ++ codes " " ++ decimal report.time ++ touched_text ids report report.touched
+
+-- the same, with this text in place of the outputs of the node, or of the two dashes of a pass
+unfoldable pub trace_line_with : List ℕ → ℕ → Report → List ℕ → List ℕ
+trace_line_with ids number report said =
+    decimal number ++ codes " " ++ decimal report.time ++ touched_with ids report said report.touched

@@ -76,9 +76,11 @@ fn read_named(
     }
 }
 
-/// `pass DT` and then any clocks.
+/// Reads the words of a pass after its first: `DT` and then any clocks. BadCount where there is no word; then the fault
+/// of the first word from left to right, and last BadCount where the clocks do not ascend strictly. What `into`
+/// holds after a fault is not said.
 #[tactic(auto, unfolding(crate::specs::EventReading::pass_of))]
-fn read_pass(nodes: &Nodes, rest: Option<&[u8]>, into: &mut Event) -> Result<(), LineFault>
+pub fn read_pass(nodes: &Nodes, rest: Option<&[u8]>, into: &mut Event) -> Result<(), LineFault>
     ensures { filled_in result into.new ≡ pass_of (ids nodes.now) (parts_left 32 (option_copied rest.entry)) }
 {
     let (first, rest) = next_word(rest)?;
@@ -204,9 +206,9 @@ const MESSAGES: [Message; 6] = [
     Message::Crashdump,
 ];
 
-/// The message that an operator sends by a word.
+/// The message that an operator sends by a word of a schedule: sbd(8), `message`.
 #[tactic(auto, unfolding(crate::specs::EventReading::message_worded))]
-fn message_worded(word: &[u8]) -> Option<Message>
+pub fn message_worded(word: &[u8]) -> Option<Message>
     ensures { result ≡ message_worded word.now }
 {
     MESSAGES

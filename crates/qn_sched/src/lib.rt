@@ -21,7 +21,7 @@ mod timing_line;
 mod trace;
 mod words;
 
-pub use event_line::{read_line, read_line_into};
+pub use event_line::{message_worded, read_line, read_line_into, read_pass};
 pub use event_text::write_line;
 pub use laws::law_event_lines;
 pub use members::{known_rank, read_members};
@@ -30,5 +30,5 @@ pub use phase::phase_name;
 pub use qn_model::LineFault;
 pub use replay_end::ReplayEnd;
 pub use timing_line::read_timing;
-pub use trace::{answer_text, cause_number, write_trace, write_why};
+pub use trace::{answer_text, cause_number, write_trace, write_trace_with, write_why};
 pub use words::{first_part, next_word, no_more_words, one_word, three_words, two_words};

@@ -1,9 +1,9 @@
 //! Writes the trace line of a report, and the condition that blocks a start.
-ghost use Rattle.std.specs.Prelude.{◌≡◌, ◌≤◌, ◌+◌, ◌*◌, ◌++◌, [], Some, length, map, codes, decimal};
+ghost use Rattle.std.specs.Prelude.{◌≡◌, ◌≤◌, ◌+◌, ◌*◌, ◌++◌, [], None, Some, length, map, codes, decimal};
 ghost use Rattle.qn_model.specs.Messages.{message_name};
 ghost use Rattle.qn_model.specs.Settings.{ids};
 ghost use Rattle.qn_sched.specs.EventLines.{id_word};
-ghost use Rattle.qn_sched.specs.TraceLines.{answer_text, cause_number, disk_word, halt_word, holders_text, out_word, outs_text, packet_word, touched_text, trace_line, why_text};
+ghost use Rattle.qn_sched.specs.TraceLines.{answer_text, cause_number, disk_word, halt_word, holders_text, out_word, outs_text, packet_word, state_text, touched_text, touched_with, trace_line, trace_line_with, why_text};
 
 use crate::text::{add_id, add_joined, member_ids};
 use arrayvec::ArrayVec;
@@ -76,23 +76,56 @@ pub fn write_trace(number: u64, report: &Report, settings: &Settings, into: &mut
     ensures fits { length into.new.items ≤ 4000 }
 {
     let nodes = &settings.nodes;
-    into.clear();
-    add_number(into, number);
-    add(into, b" ");
-    add_number(into, report.time);
+    begin_line(number, report.time, into);
     match report.touched {
-        None => add_pass(into, nodes, report),
+        None => add_untouched(into, nodes, report, b"- -"),
         Some(rank) => add_touched(into, nodes, report, rank),
     }
 }
 
-/// Adds what stands after the time at a pass.
-fn add_pass(into: &mut ArrayVec<u8, 4096>, nodes: &Nodes, report: &Report)
-    requires { length into.old.items ≤ 100 }
-    ensures text { into.new.items ≡ into.old.items ++ (codes " - - holders=" ++ holders_text (ids nodes.now) report.now.holders) }
+/// The same as `write_trace`, with a text of its own in place of the outputs of the node, or of the two dashes of a
+/// pass where no node is touched.
+#[tactic(auto, unfolding(crate::specs::TraceLines::trace_line_with))]
+pub fn write_trace_with(
+    number: u64,
+    report: &Report,
+    said: &[u8],
+    settings: &Settings,
+    into: &mut ArrayVec<u8, 4096>,
+)
+    requires short { length said.now ≤ 100 }
+    ensures text { into.new.items ≡ trace_line_with (ids settings.now.nodes) number report.now said.now }
+    ensures fits { length into.new.items ≤ 4000 }
+{
+    let nodes = &settings.nodes;
+    begin_line(number, report.time, into);
+    match report.touched {
+        None => add_untouched(into, nodes, report, said),
+        Some(rank) => add_said(into, nodes, report, rank, said),
+    }
+}
+
+/// Empties `into` and writes the number of an event and its time.
+fn begin_line(number: u64, time: u64, into: &mut ArrayVec<u8, 4096>)
+    ensures text { into.new.items ≡ decimal number ++ codes " " ++ decimal time }
+    ensures len { length into.new.items ≤ 50 }
+{
+    into.clear();
+    add_number(into, number);
+    add(into, b" ");
+    add_number(into, time);
+}
+
+/// Adds what stands after the time where no node is touched, with this text in place of a node and its outputs.
+fn add_untouched(into: &mut ArrayVec<u8, 4096>, nodes: &Nodes, report: &Report, said: &[u8])
+    requires room { length into.old.items ≤ 100 }
+    requires short { length said.now ≤ 100 }
+    ensures text { into.new.items ≡ into.old.items ++ touched_with (ids nodes.now) report.now said.now None }
     ensures len { length into.new.items ≤ length into.old.items + 3000 }
 {
-    add(into, b" - - holders=");
+    add(into, b" ");
+    add(into, said);
+    add(into, b" holders=");
     add_holders(into, nodes, report.holders);
 }
 
@@ -106,6 +139,35 @@ fn add_touched(into: &mut ArrayVec<u8, 4096>, nodes: &Nodes, report: &Report, ra
     add_id(into, nodes, rank);
     add(into, b" ");
     add_outs(into, nodes, &report.outs);
+    add_state(into, nodes, report);
+}
+
+/// Adds the same, with this text in place of the outputs.
+fn add_said(
+    into: &mut ArrayVec<u8, 4096>,
+    nodes: &Nodes,
+    report: &Report,
+    rank: Rank,
+    said: &[u8],
+)
+    requires room { length into.old.items ≤ 100 }
+    requires short { length said.now ≤ 100 }
+    ensures text { into.new.items ≡ into.old.items ++ touched_with (ids nodes.now) report.now said.now (Some rank) }
+    ensures len { length into.new.items ≤ length into.old.items + 3000 }
+{
+    add(into, b" ");
+    add_id(into, nodes, rank);
+    add(into, b" ");
+    add(into, said);
+    add_state(into, nodes, report);
+}
+
+/// Adds what stands after the outputs of a node.
+fn add_state(into: &mut ArrayVec<u8, 4096>, nodes: &Nodes, report: &Report)
+    requires { length into.old.items ≤ 2000 }
+    ensures text { into.new.items ≡ into.old.items ++ state_text (ids nodes.now) report.now }
+    ensures len { length into.new.items ≤ length into.old.items + 900 }
+{
     add(into, b" holders=");
     add_holders(into, nodes, report.holders);
     add_answer(into, &report.answer);

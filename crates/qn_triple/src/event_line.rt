@@ -2,15 +2,14 @@
 ghost use Rattle.std.specs.Prelude.{◌≡◌};
 ghost use Rattle.std.specs.Option.{option_copied};
 ghost use Rattle.qn_model.specs.Settings.{IsValid, ids};
-ghost use Rattle.qn_sched.specs.EventReading.{message_worded};
 ghost use Rattle.qn_sched.specs.Words.{parts_left};
 ghost use Rattle.qn_triple.specs.TripleReading.{fail_on_of, image_between, land_on_of, late_on_of, one_of, operator_on_of, triple_event_of};
 
 use qn_base::{MOST_EVENTS, MOST_LINE_BYTES};
-use qn_model::{Message, Nodes, Settings};
+use qn_model::{Nodes, Settings};
 use qn_safety::TripleEvent;
 use qn_sched::{
-    LineFault, first_part, known_rank, number_between, read_line, three_words, two_words,
+    LineFault, first_part, known_rank, message_worded, number_between, read_line, three_words, two_words,
 };
 
 /// The event that a line says. The faults are those of `qn_sched::read_line`, in its order; the lines `land ID K`,
@@ -101,25 +100,4 @@ fn read_operator(nodes: &Nodes, rest: Option<&[u8]>) -> Result<TripleEvent, Line
     let image = read_image(image)?;
     let message = message_worded(word).ok_or(LineFault::UnknownWord)?;
     Ok(TripleEvent::OperatorOn(rank, image, message))
-}
-
-/// The messages that an operator can send.
-const MESSAGES: [Message; 6] = [
-    Message::Empty,
-    Message::Test,
-    Message::Reset,
-    Message::Off,
-    Message::Exit,
-    Message::Crashdump,
-];
-
-/// The message that an operator sends by a word.
-#[tactic(auto, unfolding(qn_sched::specs::EventReading::message_worded))]
-fn message_worded(word: &[u8]) -> Option<Message>
-    ensures { result ≡ message_worded word.now }
-{
-    MESSAGES
-        .iter()
-        .copied()
-        .find(|message| message.operator_word().as_bytes() == word)
 }
