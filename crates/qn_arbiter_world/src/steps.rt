@@ -126,6 +126,7 @@ impl State {
                 self.report_quiet(Some(i), Said::Polled(number), into);
                 Ok(())
             }
+            // Rule 13 refused it before.
             None => Ok(()),
         }
     }
@@ -164,6 +165,7 @@ impl State {
                 self.report_quiet(None, Said::Answered { number, agrees }, into);
                 Ok(())
             }
+            // Rule 12 or 14 refused it before.
             None => Ok(()),
         }
     }
@@ -205,6 +207,7 @@ impl State {
                 into.said = Said::Nothing;
                 Ok(())
             }
+            // Rule 14 refused it before.
             None => Ok(()),
         }
     }
