@@ -1,9 +1,7 @@
 //! What a world shows of its nodes, and the reports that it gives.
-ghost use Rattle.std.specs.Prelude.{◌≡◌, length};
+ghost use Rattle.std.specs.Prelude.{◌≡◌};
 ghost use Rattle.qn_world.specs.Seen.{blank_report};
-ghost use Rattle.qn_world.specs.Standing.{left_of};
 
-use crate::leftover::Leftover;
 use crate::state::State;
 use qn_base::{Mask, Rank, View};
 use qn_cluster::Waiting;
@@ -98,7 +96,7 @@ impl State {
             out: pending.out,
             landed: pending.landed,
             stop_due: pending.stop_due,
-            leftovers: leftovers_of(self.left.as_slice(), i),
+            leftovers: self.left_of(i),
             answer: count,
             why: self.why(i, count),
             holds: self.holds(i),
@@ -208,17 +206,4 @@ pub fn blank_report() -> Report
         },
         why: Why::Down,
     }
-}
-
-/// How many of the leftovers are those of a rank.
-fn leftovers_of(left: &[Leftover], i: Rank) -> u64
-    ensures { result ≡ length (left_of i.0 left.now) }
-{
-    let mut count = 0u64;
-    for leftover in left {
-        if leftover.of.0 == i.0 {
-            count += 1;
-        }
-    }
-    count
 }
