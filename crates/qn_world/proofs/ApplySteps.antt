@@ -10,7 +10,6 @@ use Rattle.qn_model.specs.declared.outputs.DiskOp.{DiskOp}
 use Rattle.qn_model.specs.declared.outputs.Out.{Out}
 use Rattle.qn_model.specs.declared.reports.Report.{Report}
 use Rattle.qn_model.specs.declared.reports.Refused.TheVariants as refused
-use Rattle.qn_model.specs.declared.rules.Rule.{Rule}
 use Rattle.qn_model.specs.Timing.{is_safe}
 use Rattle.qn_model.specs.World.{World, first_world}
 use Rattle.qn_model.specs.Rules.{is_well_formed, refusal}
@@ -109,10 +108,6 @@ starved w mid back new event some e stands allowed out f =
       memory = λ kind d is. out_spent.cause d (subst (λ m. WorldFor m d) e (stands d is)) (allowed d is);
     }
 
-pub not_allowed : (w : Whole) (event : Event) (rule : Rule) → ((d : World) → WorldFor w d → refusal w.settings w.timing event d ≡ Some rule.0)
-    → Refuses w w event (refused.NotAllowed rule)
-not_allowed w event rule why = record { same = refl; why = why; memory = λ kind. absurd (cc) }
-
 -- the world after one more event was reached
 pub reached_more : (w new : Whole) (event : Event) (outs : List Out) → IsReached w → is_well_formed w.settings event ≡ true → Applied w new event outs → IsReached new
 unfolding run AllAllowed
@@ -128,9 +123,6 @@ reached_more w new event outs reached formed made =
           subst (λ s. WorldFor new (run s new.timing (event ∷ reached.events))) (sym made.settings)
           (subst (λ t. WorldFor new (run w.settings t (event ∷ reached.events))) (sym made.timing) (made.stands (run w.settings w.timing reached.events) reached.stands));
     }
-
-pub reached_standing : (w : Whole) → IsReached w → IsStanding w
-reached_standing w reached = (run w.settings w.timing reached.events, reached.stands)
 
 -- ---- what is reported of an event
 

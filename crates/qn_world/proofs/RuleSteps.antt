@@ -67,10 +67,6 @@ pub late_number : (s : Settings) (rank : Rank) (number : ℕ) → is_well_formed
 unfolding is_well_formed
 late_number s rank number formed = le-true 1 number (first_true (nat_le 1 number) _ (second_true (is_configured s rank.0) _ formed))
 
--- a rank that is known to a world
-pub seat_few : (w : Whole) (i : ℕ) → IsStanding w → i < length w.seats → i < 32
-seat_few w i standing within = let few = standing.1.cluster.valid.few_nodes in let count = standing.1.cluster.count in omega arith
-
 -- rule 10, by the mailbox of a rank
 pub operator_rule : (w : Whole) (d : World) (i : ℕ) (sent there : Message) (on : Bool) → there ≡ d.mailboxes i → on ≡ is_on w.settings i d
     → (is_deadly sent || not (is_deadly there) || not on) ≡ may_operate w.settings i sent d

@@ -18,6 +18,7 @@ mod state;
 mod steps;
 mod world;
 
-pub use looking::{NodeSeen, blank_report};
+pub use looking::NodeSeen;
 pub use pending::Pending;
+pub use qn_cluster::blank_report;
 pub use world::World;

@@ -1,11 +1,8 @@
 //! What a world shows of its nodes, and the reports that it gives.
-ghost use Rattle.std.specs.Prelude.{◌≡◌};
-ghost use Rattle.qn_world.specs.Seen.{blank_report};
-
 use crate::state::State;
 use qn_base::{Mask, Rank, View};
 use qn_cluster::Waiting;
-use qn_model::{Answer, Event, Outs, Phase, Report, Sent, Why};
+use qn_model::{Answer, Event, Phase, Report, Sent, Why};
 use qn_safety::law_no_two_holders;
 
 /// What a world shows of one node. Of a node that is off, running, out, landed, stop_due and holds are
@@ -185,25 +182,5 @@ impl State {
             → into.new ≡ report_at self.now.settings node [] d }
     {
         self.cluster.fill_quiet(node, into);
-    }
-}
-
-/// A report of nothing, for the first call of `World::apply_into`.
-pub fn blank_report() -> Report
-    ensures { result ≡ blank_report }
-{
-    Report {
-        time: 0,
-        touched: None,
-        outs: Outs::new(),
-        holders: Mask(0),
-        answer: Answer {
-            quorate: false,
-            votes: 0,
-            quorum: 0,
-            expected: 0,
-            released: false,
-        },
-        why: Why::Down,
     }
 }

@@ -2,7 +2,7 @@
 use qn_base::{NoMemory, Rank};
 use qn_cluster::Cluster;
 use qn_disk::{Leftovers, Sectors};
-use qn_model::{DiskOp, Event, Outs, Settings, Timing, What};
+use qn_model::{DiskOp, Outs, Settings, Timing, What};
 use std::marker::Model;
 
 /// What a world keeps: its nodes, what the operation of each took, and the image that they share.
@@ -35,7 +35,6 @@ impl Model for State {
 
 impl State {
     ghost use Rattle.std.specs.Prelude.{◌≡◌, ◌<◌, ◌+◌, ◌-◌, ◌≤◌, [], true, OnOk, OnErr, length};
-    ghost use Rattle.qn_cluster.specs.Events.{CanStep, Starved, Stepped};
     ghost use Rattle.qn_cluster.specs.Standing.{HasRoom, IsOpWithin};
     ghost use Rattle.qn_cluster.specs.Stepping.{Booted, Ended};
     ghost use Rattle.qn_model.specs.Rules.{is_on};
@@ -122,16 +121,5 @@ impl State {
         ensures ends { Ended (cluster_of self.old) (cluster_of self.new) i.0 }
     {
         self.cluster.end(i);
-    }
-
-    /// The nodes make the step of an event that changes them alone.
-    pub(crate) fn step_nodes(&mut self, event: &Event, outs: &mut Outs) -> Result<(), NoMemory>
-        requires ready { CanStep (cluster_of self.old) event.now }
-        requires none { outs.old ≡ [] }
-        ensures disk { self.new ≡ with_nodes self.old (cluster_of self.new) }
-        ensures ok { OnOk result (Stepped (cluster_of self.old) (cluster_of self.new) event.now outs.new) }
-        ensures err { OnErr result (Starved (cluster_of self.old) (cluster_of self.new) event.now) }
-    {
-        self.cluster.step(event, outs)
     }
 }

@@ -26,6 +26,7 @@ fn failed(op: DiskOp) -> What
 impl State {
     ghost use Rattle.std.specs.Prelude.{◌≡◌, ◌≤◌, ◌<◌, [], true, IfErr, OnOk, OnErr, length};
     ghost use Rattle.qn_base.specs.declared.limits.TheConstants.{LATEST_TIME};
+    ghost use Rattle.qn_cluster.specs.Events.{is_of_nodes};
     ghost use Rattle.qn_world.specs.Stepping.{Applied, IsReady, OutOfMemory, Refuses, Stepped, boot_event};
     ghost use Rattle.qn_model.specs.Rules.{is_well_formed};
     ghost use Rattle.qn_world.specs.Standing.{IsStanding};
@@ -82,16 +83,27 @@ impl State {
                 self.operate(*i, *message);
                 Ok(())
             }
-            Event::Pass { .. } => self.step_nodes(event, outs),
-            Event::View(_, _) => self.step_nodes(event, outs),
-            Event::Deliver(_, _) => self.step_nodes(event, outs),
-            Event::Device(_, _) => self.step_nodes(event, outs),
-            Event::Tick(_) => self.step_nodes(event, outs),
-            Event::Stopped(_) => self.step_nodes(event, outs),
-            Event::Unstopped(_) => self.step_nodes(event, outs),
-            Event::Leave(_) => self.step_nodes(event, outs),
-            Event::Feed(_) => self.step_nodes(event, outs),
+            Event::Pass { .. }
+            | Event::View(_, _)
+            | Event::Deliver(_, _)
+            | Event::Device(_, _)
+            | Event::Tick(_)
+            | Event::Stopped(_)
+            | Event::Unstopped(_)
+            | Event::Leave(_)
+            | Event::Feed(_) => self.step_nodes(event, outs),
         }
+    }
+
+    /// The nodes make the step of an event that changes them alone.
+    fn step_nodes(&mut self, event: &Event, outs: &mut Outs) -> Result<(), NoMemory>
+        requires ready { IsReady self.old event.now }
+        requires nodes { is_of_nodes event.now ≡ true }
+        requires none { outs.old ≡ [] }
+        ensures ok { OnOk result (Stepped self.old self.new event.now outs.new) }
+        ensures err { OnErr result (OutOfMemory self.old self.new event.now) }
+    {
+        self.cluster.step(event, outs)
     }
 
     /// A node boots, as a clean start or not; its leftovers are dropped.
