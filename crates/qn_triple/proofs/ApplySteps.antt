@@ -9,7 +9,6 @@ use Rattle.qn_disk.specs.Standing.{LeftFor, SectorsFor}
 use Rattle.qn_model.specs.declared.outputs.Out.{Out}
 use Rattle.qn_model.specs.declared.reports.Report.{Report}
 use Rattle.qn_model.specs.declared.reports.Refused.TheVariants as refused
-use Rattle.qn_model.specs.declared.rules.Rule.{Rule}
 use Rattle.qn_model.specs.Steps.{holders, outs_after, report}
 use Rattle.qn_model.specs.Timing.{is_safe}
 use Rattle.qn_model.specs.World.{first_world}
