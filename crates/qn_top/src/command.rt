@@ -57,6 +57,8 @@ pub enum Command<'words> {
     Migrate {
         image: Path<'words>,
     },
+    /// `replay3`: the trace of a schedule of three images.
+    Replay3,
     /// `node-logged`, with the options of `node`: the same, and each call with its answer as a line of a log.
     NodeLogged(NodeWords<'words>),
     /// `audit --id N --turns K [--leave T] [--start-mode 0 or 1]`: whether a log is a run of that node.
@@ -136,6 +138,7 @@ fn command_with(name: CommandName, options: &[String]) -> Option<Command<'_>>
             let image = image_alone(options)?;
             Some(Command::Migrate { image })
         }
+        CommandName::Replay3 => are_options(&[], options).then_some(Command::Replay3),
         CommandName::NodeLogged => node_logged_of(options),
         CommandName::Audit => audit_of(options),
         CommandName::Help => are_options(&[], options).then_some(Command::Help),
