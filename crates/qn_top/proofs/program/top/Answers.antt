@@ -263,6 +263,7 @@ returns-in-Some-Node3 g c =
       env_fault = end.causes.env_fault;
       never_fall = (end.causes.never_fall.source, end.causes.never_fall.sink, end.causes.never_fall.env);
       one_holder = λ other. absurd cc;
+      triple_one_holder = λ other. absurd cc;
       soak_one_holder = λ seed events other. absurd cc;
     }
 
