@@ -12,6 +12,11 @@ use qn_world::World;
 use std::alloc::Global;
 use std::marker::Model;
 
+// A poll and a reply take at most 64 bytes each.
+const _: () = prove!(size_of::<Poll>() <= 64);
+
+const _: () = prove!(size_of::<Reply>() <= 64);
+
 /// Puts an item at the end of a list, unless there is no memory for it.
 pub(crate) fn append<T: Drop>(items: &mut Vec<T>, item: T) -> Result<(), NoMemory>
     ensures ok { OnOk result (items.new.items ≡ items.old.items ++ item ∷ []) }
