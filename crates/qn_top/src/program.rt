@@ -15,7 +15,8 @@ use crate::commands::replay3::run_replay3;
 use crate::commands::soak::run_soak;
 use crate::commands::status::run_status;
 use qn_commands::{
-    Fault, Status, count, create, dump, list, migrate, node, node_logged, refuse, run_audit, send,
+    Fault, NodeImages, Status, count, create, dump, list, migrate, node, node_logged, refuse,
+    run_audit, send,
 };
 use qn_io::{Env, Sink, Source};
 use std::alloc::Global;
@@ -79,9 +80,14 @@ pub fn top<I: Source, O: Sink, E: Env>(
         Some(Command::Message { image, id, kind }) => {
             send(image.as_str(), id, kind, out, env).code()
         }
-        Some(Command::Node(words)) => node(alloc, &words, input, out, env).code(),
+        Some(Command::Node(words)) => {
+            node(alloc, NodeImages::One, &words, input, out, env).code()
+        }
         Some(Command::Migrate { image }) => migrate(image.as_str(), out, env).code(),
         Some(Command::Replay3) => run_replay3(alloc, input, out).code(),
+        Some(Command::Node3(words)) => {
+            node(alloc, NodeImages::Three, &words, input, out, env).code()
+        }
         Some(Command::NodeLogged(words)) => node_logged(alloc, &words, input, out, env).code(),
         Some(Command::Audit(words)) => run_audit(alloc, &words, input, out).code(),
     }

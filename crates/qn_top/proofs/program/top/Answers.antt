@@ -247,6 +247,26 @@ returns-in-Some-Node g c =
       soak_one_holder = λ seed events other. absurd cc;
     }
 
+pub returns-in-Some-Node3 : goal.returns-in-Some-Node3
+returns-in-Some-Node3 g c =
+    let is : Some (command.Node3 c.in-Some-Node3.words) ≡ command_of (map string_bytes c.args.words.now) = cc c.in-Some-Node3.ensures.command in
+    let end = ends _ (Some (command.Node3 c.in-Some-Node3.words)) _ _ _ _ is c.code-in-Some-Node3.ensures c.node-in-Some-Node3.ensures in
+    record {
+      does = end.does;
+      usage = end.usage;
+      usage_only = end.usage_only;
+      unread = λ no. tested reads_input _ (Some (command.Node3 c.in-Some-Node3.words)) is refl no;
+      uncalled = λ no. tested calls_outside _ (Some (command.Node3 c.in-Some-Node3.words)) is refl no;
+      memory = end.memory;
+      read_fault = end.causes.read_fault;
+      write_fault = end.causes.write_fault;
+      env_fault = end.causes.env_fault;
+      never_fall = (end.causes.never_fall.source, end.causes.never_fall.sink, end.causes.never_fall.env);
+      one_holder = λ other. absurd cc;
+      triple_one_holder = λ other. absurd cc;
+      soak_one_holder = λ seed events other. absurd cc;
+    }
+
 pub returns-in-Some-NodeLogged : goal.returns-in-Some-NodeLogged
 returns-in-Some-NodeLogged g c =
     let is : Some (command.NodeLogged c.in-Some-NodeLogged.words) ≡ command_of (map string_bytes c.args.words.now) = cc c.in-Some-NodeLogged.ensures.command in
