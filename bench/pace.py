@@ -1,5 +1,6 @@
-"""For bench/replay, bench/replay3 and bench/soak: times quorumd and a plain Rust program over events, turn by turn in one run, and prints the events
-a second and the peak memory of each, how the time of an event grows, and the ratio of the two."""
+"""For bench/replay, bench/replay3, bench/replay-arbiter and bench/soak: times quorumd and a plain Rust program over events, or two commands of
+quorumd, turn by turn in one run, and prints the events a second and the peak memory of each, how the time of an event grows, and the ratio of the
+two."""
 import array
 import fcntl
 import os
@@ -83,3 +84,46 @@ def measure(found, runs, run, memory):
     first = found[0][0]
     for label, _ in found[1:]:
         print("%s takes %.2f times as long as %s" % (first, medians[first, MANY] / medians[label, MANY], label))
+
+
+def written(path, head, lines):
+    """The path of a file of this head and these lines, which is written once."""
+    if not os.path.exists(path):
+        with open(path, "w") as file:
+            file.write(head + "".join(line + "\n" for line in lines))
+    return path
+
+
+def played(words, path, sink):
+    """The program plays the schedule of this path."""
+    with open(path) as source:
+        subprocess.run(words, stdin=source, stdout=sink, check=True)
+
+
+def compare(commands, runs, words_of, path_of):
+    """Compares two commands of quorumd. `words_of(command)` calls one, and `path_of(command, count)` is its schedule of so many events."""
+    medians = {}
+    for count in (FEW, MANY):
+        times = {command: [] for command in commands}
+        for _ in range(runs):
+            for command in commands:
+                path = path_of(command, count)
+                times[command].append(seconds(lambda sink, command=command, path=path: played(words_of(command), path, sink)))
+        for command in commands:
+            medians[command, count] = median = statistics.median(times[command])
+            print("%7d events  %-14s %8.1f ms  %9.0f events/s" % (count, command, median * 1000, count / median), flush=True)
+    for command in commands:
+        growth = medians[command, MANY] / MANY / (medians[command, FEW] / FEW)
+        print("%s: an event of %d takes %.2f times as long as one of %d" % (command, MANY, growth, FEW))
+    one, other = commands
+    print("an event of %s takes %.2f times as long as one of %s" % (other, medians[other, MANY] / medians[one, MANY], one))
+
+
+def print_bytes_of(what, words, path_of, number_of):
+    """Prints what such a thing takes: what the peak of MANY events has over that of FEW, by how many more there are in the trace."""
+    memory, numbers = [], []
+    for path in map(path_of, (FEW, MANY)):
+        memory.append(peak_of_input(words, path))
+        numbers.append(number_of(output(lambda sink, path=path: played(words, path, sink))))
+    each = (memory[1] - memory[0]) / (numbers[1] - numbers[0])
+    print("a %s takes %.0f bytes: %d of them, peak %.1f MB" % (what, each, numbers[1], memory[1] / 1e6))

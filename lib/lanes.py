@@ -11,14 +11,16 @@ Timeline = namedtuple("Timeline", "title points times lanes")
 Lane = namedtuple("Lane", "name spans marks")
 
 # Something that lasts: from one point to another, which is one past the last point where it goes on at the end. Kinds: those of PHASES;
-# `holds`; `quorate`, whose text is the votes and the quorum; and `blocked`, whose text is the first condition that blocks a start.
+# `holds`; `quorate`, whose text is the votes and the quorum; `blocked`, whose text is the first condition that blocks a start; and of an
+# arbiter `bound`, whose text is the node that it gave its yes to, and `waits`, where it gives no yes since it has just booted.
 Span = namedtuple("Span", "kind first last text")
 
-# Something that happens at a point. Kinds: view, asked, landed, message, halts, crashes, left; texts as in nodes.Deed.
+# Something that happens at a point. Kinds: view, asked, landed, message, halts, crashes, left, poll, with texts as in nodes.Deed; reply,
+# which a node is told of, whose text is yes or no; and of an arbiter yes and no, whose text is the node that it answers.
 Mark = namedtuple("Mark", "kind point text")
 
 PHASES = ("booting", "up", "leaving", "dying")
-MARKED = ("view", "asked", "landed", "message", "halts", "crashes", "left")
+MARKED = ("view", "asked", "landed", "message", "halts", "crashes", "left", "poll")
 
 
 class LaneMaker:

@@ -22,6 +22,7 @@ DEADLY = ("reset", "off", "crashdump")
 #   asked       a reset of the node was asked for; text: the id of the node that writes it
 #   landed      a reset of the node is in its mailbox; text the same
 #   message     an operator's message is in the mailbox; text: the message
+#   poll        the node asks the arbiter for its vote; text: the number of the poll
 Deed = namedtuple("Deed", "kind node text")
 
 
@@ -223,4 +224,19 @@ NodeOnThree.EVENTS = {
     "fail": NodeOnThree.part_fails,
     "late": NodeOnThree.lands_late,
     "operator": NodeOnThree.gets_message,
+}
+
+
+class NodeBesideArbiter(Node):
+    """The same of a node whose quorum device is an arbiter: it polls it, and is told of a reply."""
+
+    def did(self, out):
+        word, _, number = out.partition(":")
+        return self.deed("poll", number) if word == "poll" else super().did(out)
+
+
+NodeBesideArbiter.EVENTS = {
+    **Node.EVENTS,
+    "poll": NodeBesideArbiter.is_told,
+    "reply": NodeBesideArbiter.is_told,
 }

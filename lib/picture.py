@@ -2,7 +2,8 @@
 
 From left to right stand the points. Time that passes has its width; so have the points at which something is seen to change, since much
 happens at one moment: such a moment is a grey column, in which its points stand side by side. A lane has, from top to bottom: rows of
-marks; a bar, with the node's phase and whether it holds; a strip where it is quorate; and rows of the conditions that block a start.
+marks; a bar, with the node's phase and whether it holds; a strip where it is quorate; and rows of lines: the conditions that block a
+start, and in the lane of an arbiter whom its yes binds it to.
 
 Each element says in data- attributes of which point it is, so that a program can read a picture too."""
 import itertools
@@ -29,6 +30,12 @@ STYLE = """text{font:10px monospace;fill:#000;stroke:#fff;stroke-width:2.5;paint
 .holds,.landed,.crashes,.message{fill:#000}.quorate{fill:#777}.blocked{stroke:#000;stroke-width:1.5}
 .asked,.halts,.left,.view{fill:#fff;stroke:#000}.halts{stroke-width:2}"""
 
+# of what only a picture with an arbiter has
+ARBITER_STYLE = """
+.poll,.reply,.no{fill:#fff;stroke:#000}.no{stroke-width:2}.yes{fill:#000}
+.bound{stroke:#000;stroke-width:3}.waits{stroke:#000;stroke-width:1.5;stroke-dasharray:4 3}"""
+ARBITER_KINDS = {"poll", "reply", "yes", "no", "bound", "waits"}
+
 PATTERNS = """<pattern id="hatch" width="4" height="4" patternUnits="userSpaceOnUse" patternTransform="rotate(45)">\
 <rect width="4" height="4" fill="#fff"/><rect width="1.5" height="4"/></pattern>
 <pattern id="bars" width="6" height="4" patternUnits="userSpaceOnUse"><rect width="6" height="4" fill="#fff"/>\
@@ -43,10 +50,17 @@ SHAPES = {
     "halts": "m-4 0l8 8m0 -8l-8 8",
     "crashes": "m-2 0h4v8h-4z",
     "left": "a4 4 0 0 1 0 8a4 4 0 0 1 0 -8",
+    "poll": "l4 8h-8z",
+    "reply": "m-4 0h8v8h-8z",
+    "yes": "m-4 0h8v8h-8z",
+    "no": "m-4 0l8 8m0 -8l-8 8",
 }
 
 # What a mark says beside its shape.
-SAYS = {"view": "view %s", "asked": "by %s", "landed": "by %s", "message": "%s", "halts": "halt:%s", "crashes": "crash%s", "left": "left%s"}
+SAYS = {
+    "view": "view %s", "asked": "by %s", "landed": "by %s", "message": "%s", "halts": "halt:%s", "crashes": "crash%s", "left": "left%s",
+    "poll": "poll %s", "reply": "told %s", "yes": "yes to %s", "no": "no to %s",
+}
 
 # What the shapes and patterns mean, in the order of the legend.
 LEGEND = {
@@ -64,8 +78,17 @@ LEGEND = {
     "halts": "halts",
     "crashes": "goes down",
     "left": "left cleanly",
+    "poll": "polls the arbiter",
+    "reply": "is told its answer",
+    "yes": "the arbiter says yes",
+    "no": "the arbiter says no",
+    "bound": "its yes is leased to this node",
+    "waits": "has not run for a lease",
     "moment": "one moment",
 }
+
+# The spans that are drawn as a line with their text above it, in the rows below the bar.
+LINES = ("blocked", "bound", "waits")
 
 # A mark or a span, where its row reaches from left to right, and the number of the row, counted from the bar.
 Placed = namedtuple("Placed", "what left right row")
@@ -170,20 +193,20 @@ class LaneDrawing:
     def __init__(self, lane, scale):
         self.lane, self.scale = lane, scale
         self.marks = marks_in_rows(sorted(lane.marks, key=lambda mark: mark.point), self.mark_extent)
-        blocked = sorted((span for span in lane.spans if span.kind == "blocked"), key=lambda span: span.first)
-        self.blocked = spans_in_rows(blocked, self.blocked_extent)
+        lines = sorted((span for span in lane.spans if span.kind in LINES), key=lambda span: span.first)
+        self.lines = spans_in_rows(lines, self.line_extent)
         self.bar = (BAR if lane.spans else ROW) + STRIP  # with the strip
 
     def mark_extent(self, mark):
         x = self.scale.x(mark.point)
         return x - SHAPE // 2, x + BESIDE + width_of(SAYS[mark.kind] % mark.text)
 
-    def blocked_extent(self, span):
+    def line_extent(self, span):
         x = self.scale.x(span.first)
         return x, max(self.scale.right(span.last), x + 3 + width_of(span.text))
 
     def height(self):
-        return ROW * (rows_of(self.marks) + rows_of(self.blocked)) + self.bar
+        return ROW * (rows_of(self.marks) + rows_of(self.lines)) + self.bar
 
     def draw(self, drawing, top):
         bar = top + ROW * rows_of(self.marks)
@@ -194,7 +217,7 @@ class LaneDrawing:
         self.draw_marks(drawing, bar)
         self.draw_bars(drawing, bar)
         self.draw_counts(drawing, bar)
-        self.draw_blocked(drawing, bar + BAR + STRIP)
+        self.draw_lines(drawing, bar + BAR + STRIP)
         drawing.add("</g>")
 
     def draw_marks(self, drawing, bar):
@@ -209,7 +232,7 @@ class LaneDrawing:
     def draw_bars(self, drawing, bar):
         inside = {"quorate": (BAR + 1, STRIP - 1), "holds": (BAR - 8, 6)}
         order = {"holds": 1, "quorate": 2}
-        spans = [span for span in self.lane.spans if span.kind != "blocked"]
+        spans = [span for span in self.lane.spans if span.kind not in LINES]
         for span in sorted(spans, key=lambda span: (order.get(span.kind, 0), span.first)):
             down, height = inside.get(span.kind, (0, BAR))
             drawing.box(span.kind, self.scale.x(span.first), bar + down, self.scale.right(span.last), height, of_span(span))
@@ -219,12 +242,12 @@ class LaneDrawing:
         counts = sorted((span.first, span.text) for span in self.lane.spans if span.kind == "quorate")
         draw_where_room(drawing, bar + 10, [(self.scale.x(first) + 3, text, "") for first, text in counts])
 
-    def draw_blocked(self, drawing, top):
-        for span, left, _, row in self.blocked:
+    def draw_lines(self, drawing, top):
+        for span, left, _, row in self.lines:
             drawing.line("lead", left, top - STRIP, left, top + ROW * row + 2)
-        for span, left, _, row in self.blocked:
+        for span, left, _, row in self.lines:
             y = top + ROW * (row + 1)
-            drawing.line("blocked", left, y, self.scale.right(span.last), y, of_span(span))
+            drawing.line(span.kind, left, y, self.scale.right(span.last), y, of_span(span))
             drawing.text(left + 3, y - 4, span.text)
 
 
@@ -267,8 +290,8 @@ def draw_legend(drawing, kinds, top):
 def draw_sample(drawing, kind, x, top):
     if kind in SHAPES:
         drawing.shape(kind, x + 12, top + 2)
-    elif kind == "blocked":
-        drawing.line("blocked", x, top + 10, x + 18, top + 10)
+    elif kind in LINES:
+        drawing.line(kind, x, top + 10, x + 18, top + 10)
     elif kind == "quorate":
         drawing.box("quorate", x, top + 5, x + 18, STRIP - 1)
     else:
@@ -293,7 +316,7 @@ def svg_of(timeline):
     return "\n".join([
         '<svg xmlns="http://www.w3.org/2000/svg" width="%d" height="%d" viewBox="0 0 %d %d" role="img">' % ((drawing.width, height) * 2),
         "<title>%s</title>" % escape(timeline.title),
-        "<style>%s</style>" % STYLE,
+        "<style>%s%s</style>" % (STYLE, ARBITER_STYLE if kinds & ARBITER_KINDS else ""),
         "<defs>%s</defs>" % PATTERNS,
         '<rect width="%d" height="%d" fill="#fff"/>' % (drawing.width, height),
         *drawing.elements,

@@ -8,8 +8,8 @@ from collections import namedtuple
 
 TOP = pathlib.Path(__file__).resolve().parent.parent
 
-# A trace line. Of a pass: node is None, outs is empty, and nothing is said of a count. Ids and numbers are ints, holders are
-# the ids of a line in their order, why is the text of the trace.
+# A trace line. Of a pass: node is None, outs is empty, and nothing is said of a count; of an event of an arbiter the same, but for its
+# outs. Ids and numbers are ints, holders are the ids of a line in their order, why is the text of the trace.
 Report = namedtuple("Report", "number time node outs holders quorate votes quorum why")
 
 # A schedule: its settings text, the times of its image in milliseconds, and its events, each as its words.
@@ -77,10 +77,10 @@ def report_of(line):
     words = line.split(" ")
     number, time = int(words[0]), int(words[1])
     holders = ids_joined(words[4], "+")
-    if words[2] == "-":
-        return Report(number, time, None, (), holders, False, 0, 0, "")
-    votes, quorum = words[6].split("/")
     outs = () if words[3] == "-" else tuple(words[3].split(","))
+    if words[2] in ("-", "arbiter"):
+        return Report(number, time, None, outs, holders, False, 0, 0, "")
+    votes, quorum = words[6].split("/")
     return Report(number, time, int(words[2]), outs, holders, words[5] == "quorate=yes", int(votes), int(quorum), words[7].partition("=")[2])
 
 
@@ -91,5 +91,5 @@ def ids_joined(word, mark):
 
 
 def reports_of(text, command="replay"):
-    """The reports of a whole schedule, one an event; of a schedule of three images by the command `replay3`."""
+    """The reports of a whole schedule, one an event; of three images by the command `replay3`, beside an arbiter by `replay-arbiter`."""
     return [report_of(line) for line in answer_of(command, text)[:-1]]

@@ -23,6 +23,9 @@ done
 for folder in "$TOP"/examples/three-images/*/; do
     is_shown "$folder" --three-images
 done
+for folder in "$TOP"/examples/arbiter/*/; do
+    is_shown "$folder" --arbiter
+done
 
 cat > look.py << 'END_OF_PYTHON'
 import os
@@ -81,7 +84,7 @@ def told(events, trace):
     running, last = set(), {}
     for event, line in zip(events, trace):
         _, time, ident, outs, holders, *count = line.split(" ")
-        if ident != "-":
+        if ident not in ("-", "arbiter"):
             if event.startswith("boot"):
                 running.add(ident)
             if event.startswith("crash") or outs == "disarm" or "halt:boot-" in outs:
@@ -161,19 +164,52 @@ def try_texts(where, picture):
             demand(right <= left2 or right2 <= left or bottom <= top2 or bottom2 <= top, where, "%r lies over %r" % (other, text))
 
 
-for folder in sorted((TOP / "examples" / "incidents").iterdir()):
-    if folder.is_dir():
-        where, schedule = folder.name, (folder / "schedule").read_text()
-        head, events = re.match(r"(?s)(.*\n----\ntiming [^\n]*\n)(.*)", schedule).groups()
-        events, trace = events.splitlines(), (folder / "trace").read_text().splitlines()[:-1]
-        picture = Picture(folder / "timeline.svg")
-        try_lanes(where, picture, events, trace)
-        asked, landed = resets(events, trace)
-        demand(picture.marks("asked") == asked, where, "resets that were asked for: %r" % asked)
-        demand(picture.marks("landed") == landed, where, "resets that landed: %r" % landed)
-        try_status(where, picture, head, events)
-        try_axis(where, picture, trace)
-        try_texts(where, picture)
+def try_votes(where, picture, events, trace):
+    """Each poll, answer and reply is marked, and where a node is quorate the arbiter is bound to no other one."""
+    polls, answers, wanted = [], [], []
+    for number, (event, line) in enumerate(zip(events, trace), 1):
+        (word, *values), (ident, outs) = event.split(" "), line.split(" ")[2:4]
+        if word == "poll":
+            wanted.append((number, "node " + ident, "poll", str(len(polls))))
+            polls.append("node " + ident)
+        if word == "hear":
+            answers.append(outs.split(":")[0])
+            wanted.append((number, "arbiter", answers[-1], polls[int(values[0])]))
+        if word == "reply":
+            wanted.append((number, "node " + ident, "reply", answers[int(values[0])]))
+        quorate = [lane for lane in picture.lanes if "quorate" in picture.kinds(lane, number)]
+        bound = picture.kinds("arbiter", number).get("bound")
+        demand(len(quorate) <= 1, where, "quorate after event %d: %r" % (number, quorate))
+        demand(bound is None or quorate in ([], [bound[len("bound to "):]]), where, "event %d: %s, quorate: %r" % (number, bound, quorate))
+    drawn = [(point, lane, kind, text) for kind in ("poll", "yes", "no", "reply") for point, lane, text in picture.marks(kind)]
+    demand(sorted(drawn) == wanted, where, "polls, answers and replies: %r" % wanted)
+
+
+def try_picture(folder):
+    """What is tried of every picture; gives the picture, and the parts of its schedule and trace."""
+    where, schedule = folder.name, (folder / "schedule").read_text()
+    head, events = re.match(r"(?s)(.*\n----\ntiming [^\n]*\n(?:lease [^\n]*\n)?)(.*)", schedule).groups()
+    events, trace = events.splitlines(), (folder / "trace").read_text().splitlines()[:-1]
+    picture = Picture(folder / "timeline.svg")
+    try_lanes(where, picture, events, trace)
+    asked, landed = resets(events, trace)
+    demand(picture.marks("asked") == asked, where, "resets that were asked for: %r" % asked)
+    demand(picture.marks("landed") == landed, where, "resets that landed: %r" % landed)
+    try_axis(where, picture, trace)
+    try_texts(where, picture)
+    return picture, head, events, trace
+
+
+def folders(kind):
+    return sorted(folder for folder in (TOP / "examples" / kind).iterdir() if folder.is_dir())
+
+
+for folder in folders("incidents"):
+    picture, head, events, _ = try_picture(folder)
+    try_status(folder.name, picture, head, events)
+for folder in folders("arbiter"):
+    picture, _, events, trace = try_picture(folder)
+    try_votes(folder.name, picture, events, trace)
 print("\n".join(wrong[:40]))
 sys.exit(1 if wrong else 0)
 END_OF_PYTHON
@@ -188,9 +224,9 @@ refused() {
     grep -qE "$pattern" errors || { printf 'timeline %s: %s\n' "$*" "$(cat errors)"; exit 1; }
 }
 
-refused 2 '^usage: timeline \[--title TITLE\] \[--three-images | --journal | --record\] \[FILE\]' --colour < "$TOP/examples/letting-time-pass.schedule"
-refused 2 '^usage: timeline \[--title TITLE\] \[--three-images | --journal | --record\] \[FILE\]' one two
-refused 2 '^usage: timeline \[--title TITLE\] \[--three-images | --journal | --record\] \[FILE\]' no-such-file
+refused 2 '^usage: timeline \[--title TITLE\] \[--three-images | --arbiter | --journal | --record\] \[FILE\]' --colour < "$TOP/examples/letting-time-pass.schedule"
+refused 2 '^usage: timeline \[--title TITLE\] \[--three-images | --arbiter | --journal | --record\] \[FILE\]' one two
+refused 2 '^usage: timeline \[--title TITLE\] \[--three-images | --arbiter | --journal | --record\] \[FILE\]' no-such-file
 refused 4 '^timeline: fault BadSchedule line 1 Unended$' < /dev/null
 refused 3 '^timeline: fault BadConf ' < <(printf 'nodelist {\n----\n')
 refused 5 '^timeline: fault NotAllowed line 19 rule 1$' < <(sed '1,/^boot/!d' "$TOP/examples/letting-time-pass.schedule"; echo 'pass 5051')
