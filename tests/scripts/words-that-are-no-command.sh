@@ -77,6 +77,8 @@ audit --id 1 --turns 9 --id 1
 migrate
 migrate d
 migrate --image d --id 1
+replay3 x
+replay3 --form text
 status text
 status --form text --form text
 status --form xml

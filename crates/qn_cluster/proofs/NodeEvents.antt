@@ -1,15 +1,17 @@
 -- The events that change nodes alone.
-use Rattle.std.proofs.Common.{◌≡◌, ℕ, ◌<◌, Bool, true, false, List, [], Some, None, length, refl, sym, ◌∙◌, ap, subst}
-use Rattle.std.specs.Prelude.{All, Option, Result, Ok, Err, OnErr, OnOk, slice_get, ◌==◌}
+use Rattle.std.proofs.Common.{◌≡◌, ℕ, ◌<◌, Bool, true, false, List, [], ◌∷◌, Some, None, length, refl, if◌then◌else◌, ◌⊎◌, inl, inr, sym, ◌∙◌, ap, subst}
+use Rattle.std.specs.Prelude.{All, Option, Result, Ok, Err, OnErr, OnOk, is_some, slice_get, ◌==◌}
 use Rattle.std.specs.Option.{option_map_or, option_or}
 use Rattle.std.proofs.lemmas.List.Elements.{All-nil}
 use Rattle.qn_base.specs.declared.ids.Rank.{Rank}
 use Rattle.qn_base.specs.declared.ids.View.{View}
-use Rattle.qn_cluster.specs.Events.{CanStep, Starved, Stepped}
+use Rattle.qn_cluster.specs.Events.{CanStep, KeepsOut, Starved, Stepped}
 use Rattle.qn_cluster.specs.Nodes.{Nodes}
 use Rattle.qn_cluster.specs.Seats.{IsDue}
 use Rattle.qn_cluster.specs.Standing.{ClusterFor, IsStanding}
 use Rattle.qn_cluster.specs.Stepping.{Fed, Handed, IsPassable, Passed, Unhanded, grows}
+use Rattle.qn_cluster.proofs.HandSteps.{one_adds}
+use Rattle.qn_cluster.proofs.Lists.{rank_cases}
 use Rattle.qn_cluster.proofs.RuleSteps.{rank_configured}
 use Rattle.qn_model.specs.declared.configuration.Settings.{Settings}
 use Rattle.qn_model.specs.declared.entries.What.{What}
@@ -21,12 +23,12 @@ use Rattle.qn_model.specs.declared.packets.Packet.{Packet}
 use Rattle.qn_model.specs.declared.packets.Packet.TheVariants as packet
 use Rattle.qn_model.specs.declared.packets.Sent.{Sent}
 use Rattle.qn_model.specs.declared.times.Timing.{Timing}
-use Rattle.qn_model.specs.Log.{is_answer}
-use Rattle.qn_model.specs.Moments.{Adds, Running, packets}
+use Rattle.qn_model.specs.Log.{is_answer, op_out}
+use Rattle.qn_model.specs.Moments.{Adds, Feeds, Moment, Passes, Running, node, packets, time}
 use Rattle.qn_model.specs.NodeOutputs.{newest_outs}
 use Rattle.qn_model.specs.Rules.{is_on, is_well_formed, may_deliver, may_pass, refusal, unless}
 use Rattle.qn_model.specs.Steps.{entry_of, happens, outs_after, step, touched}
-use Rattle.qn_model.specs.World.{World, node_at}
+use Rattle.qn_model.specs.World.{World, node_at, op_at}
 use Rattle.qn_node.specs.Outputs.{IsNodeOutput}
 
 -- the rank of a well formed event has a seat
@@ -60,6 +62,43 @@ ok_so (Err e) so p = p
 pub err_so : {A E : Type 0} (r : Result A E) {P Q : Type 0} → (P → Q) → OnErr r P → OnErr r Q
 err_so (Ok x) so p = p
 err_so (Err e) so p = so p
+
+-- ---- operations that are out
+
+-- an entry of a running node that leaves its own operation out leaves those of the others
+entry_keeps : (s : Settings) (d : World) (i : ℕ) (entry : What) → is_on s i d ≡ true
+    → (is_some (op_at s i d) ≡ true → op_at s i (happens (Adds i entry) d) ≡ op_at s i d)
+    → KeepsOut s d (happens (Adds i entry) d)
+entry_keeps s d i entry on own =
+    record { ran = λ j after. ran_by j after (rank_cases i j); same = λ j before some. same_by j some (rank_cases i j) }
+  where
+    ran_by : (j : ℕ) → is_on s j (happens (Adds i entry) d) ≡ true → (i ≡ j) ⊎ ((i == j) ≡ false) → is_on s j d ≡ true
+    ran_by j after (inl same) = subst (λ k. is_on s k d ≡ true) same on
+    ran_by j after (inr apart) = sym (ap (λ n. n.on) ((one_adds s d.moments i entry).others j apart)) ∙ after
+
+    same_by : (j : ℕ) → is_some (op_at s j d) ≡ true → (i ≡ j) ⊎ ((i == j) ≡ false) → op_at s j (happens (Adds i entry) d) ≡ op_at s j d
+    same_by j some (inl same) =
+        subst (λ k. is_some (op_at s k d) ≡ true → op_at s k (happens (Adds i entry) d) ≡ op_at s k d) same own some
+    same_by j some (inr apart) = ap (λ n. op_out n.log) ((one_adds s d.moments i entry).others j apart)
+
+-- a feed and a pass change no log
+fed_same : (s : Settings) (moments : List Moment) (i j : ℕ)
+    → ((node s j (Feeds i ∷ moments)).log ≡ (node s j moments).log) × ((node s j (Feeds i ∷ moments)).on ≡ (node s j moments).on)
+unfolding node
+fed_same s moments i j = fed_by (i == j)
+  where
+    fed_by : (b : Bool) → ((if b then record (node s j moments) { fed = time moments } else node s j moments).log ≡ (node s j moments).log)
+        × ((if b then record (node s j moments) { fed = time moments } else node s j moments).on ≡ (node s j moments).on)
+    fed_by true = (refl, refl)
+    fed_by false = (refl, refl)
+
+feed_keeps : (s : Settings) (d : World) (i : ℕ) → KeepsOut s d (happens (Feeds i) d)
+feed_keeps s d i =
+    record { ran = λ j after. sym (fed_same s d.moments i j).1 ∙ after; same = λ j before some. ap op_out (fed_same s d.moments i j).0 }
+
+pass_keeps : (s : Settings) (d : World) (dt : ℕ) (clocks : List (Rank × ℕ)) → KeepsOut s d (happens (Passes dt clocks) d)
+unfolding node
+pass_keeps s d dt clocks = record { ran = λ j after. after; same = λ j before some. refl }
 
 -- ---- entries that answer nothing
 
@@ -109,6 +148,9 @@ entry_stepped w new event rank entry outs p made =
           made.gives d.moments is (p.on t d allowed)
           ∙ (ap (λ after. newest_outs (node_at w.settings rank.0 after).log) (sym (p.steps t d)) ∙ sym (p.outs (step w.settings t event d)));
       ranks = λ t d is allowed. made.ranks d.moments is (p.on t d allowed);
+      keeps = λ t d is allowed.
+          subst (KeepsOut w.settings d) (sym (p.steps t d))
+          (entry_keeps w.settings d rank.0 entry (p.on t d allowed) (made.keeps d.moments is (p.on t d allowed) p.plain));
     }
 
 pub entry_starved : (w new : Nodes) (event : Event) (rank : Rank) (entry : What) → Plain w.settings event rank entry
@@ -140,6 +182,7 @@ pass_made w new dt clocks passes =
       stands = λ t d is allowed. passes.stands t d is (pass_ready w.settings t d dt clocks allowed);
       gives = λ t d is allowed. refl;
       ranks = λ t d is allowed. no_outputs w.settings;
+      keeps = λ t d is allowed. pass_keeps w.settings d dt clocks;
     }
 
 pub feed_made : (w new : Nodes) (rank : Rank) → Fed w new rank.0 → Stepped w new (event.Feed rank) []
@@ -150,6 +193,7 @@ feed_made w new rank feeds =
       stands = λ t d is allowed. feeds.stands d.moments is;
       gives = λ t d is allowed. refl;
       ranks = λ t d is allowed. no_outputs w.settings;
+      keeps = λ t d is allowed. feed_keeps w.settings d rank.0;
     }
 
 -- ---- deliver
@@ -190,6 +234,10 @@ deliver_made w new rank number sent entry outs found entry_is made =
           made.gives d.moments is (deliver_on w.settings t d rank number allowed)
           ∙ ap (λ after. newest_outs (node_at w.settings rank.0 after).log) (sym (deliver_steps w.settings t rank number sent entry d (found d is) entry_is));
       ranks = λ t d is allowed. made.ranks d.moments is (deliver_on w.settings t d rank number allowed);
+      keeps = λ t d is allowed.
+          let on = deliver_on w.settings t d rank number allowed in
+          subst (KeepsOut w.settings d) (sym (deliver_steps w.settings t rank number sent entry d (found d is) entry_is))
+          (entry_keeps w.settings d rank.0 entry on (made.keeps d.moments is on plain));
     }
 
 pub deliver_starved : (w new : Nodes) (rank : Rank) (number : ℕ) (sent : Sent) (entry : What)
@@ -219,4 +267,5 @@ not_delivered w rank number found outs same none =
       stands = λ t d is allowed. absurd (never t d is allowed);
       gives = λ t d is allowed. absurd (never t d is allowed);
       ranks = λ t d is allowed. absurd (never t d is allowed);
+      keeps = λ t d is allowed. absurd (never t d is allowed);
     }

@@ -1,16 +1,17 @@
 -- The events that the nodes of a cluster make without a disk.
-use Rattle.std.specs.Prelude.{◌≡◌, ◌≤◌, Bool, true, false, List, None, All}
+use Rattle.std.specs.Prelude.{◌≡◌, ◌≤◌, ℕ, Bool, true, false, List, None, All, is_some}
 use Rattle.qn_base.specs.declared.limits.TheConstants.{LATEST_TIME}
 use Rattle.qn_cluster.specs.Nodes.{Nodes}
 use Rattle.qn_cluster.specs.Standing.{ClusterFor, HasRoom}
 use Rattle.qn_cluster.specs.Stepping.{SameFrame, grows}
 use Rattle.qn_model.specs.declared.events.Event.{Event}
+use Rattle.qn_model.specs.declared.configuration.Settings.{Settings}
 use Rattle.qn_model.specs.declared.events.Event.TheVariants as event
 use Rattle.qn_model.specs.declared.outputs.Out.{Out}
 use Rattle.qn_model.specs.declared.times.Timing.{Timing}
-use Rattle.qn_model.specs.Rules.{is_well_formed, refusal}
+use Rattle.qn_model.specs.Rules.{is_on, is_well_formed, refusal}
 use Rattle.qn_model.specs.Steps.{outs_after, step}
-use Rattle.qn_model.specs.World.{World}
+use Rattle.qn_model.specs.World.{World, op_at}
 use Rattle.qn_node.specs.Outputs.{IsNodeOutput}
 
 -- an event changes nodes alone
@@ -64,6 +65,12 @@ pub record CanStep (c : Nodes) (event : Event) : Type 0 where
   pub stands : ClusterFor c world.moments
   pub allowed : refusal c.settings timing event world ≡ None
 
+-- each node that runs afterwards ran before, and an operation that it had out is out still
+pub record KeepsOut (s : Settings) (before after : World) : Type 0 where
+  pub ran : (rank : ℕ) → is_on s rank after ≡ true → is_on s rank before ≡ true
+  pub same : (rank : ℕ) → is_on s rank before ≡ true → is_some (op_at s rank before) ≡ true
+      → op_at s rank after ≡ op_at s rank before
+
 -- the cluster made the step of an event, which gave these outputs
 pub record Stepped (old new : Nodes) (event : Event) (outs : List Out) : Type 0 where
   pub frame : SameFrame old new
@@ -73,6 +80,8 @@ pub record Stepped (old new : Nodes) (event : Event) (outs : List Out) : Type 0 
       → outs ≡ outs_after old.settings event (step old.settings t event d)
   pub ranks : (t : Timing) (d : World) → ClusterFor old d.moments → refusal old.settings t event d ≡ None
       → All (IsNodeOutput old.settings) outs
+  pub keeps : (t : Timing) (d : World) → ClusterFor old d.moments → refusal old.settings t event d ≡ None
+      → KeepsOut old.settings d (step old.settings t event d)
 
 -- there was no memory for what a node sends at an event
 pub record Starved (old new : Nodes) (event : Event) : Type 0 where

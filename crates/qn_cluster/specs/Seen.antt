@@ -1,5 +1,5 @@
 -- What a cluster shows of its nodes.
-use Rattle.std.specs.Prelude.{◌<◌, ℕ, Bool, false, List, [], Option, None, Some, length, ◌&&◌, if◌then◌else◌, unwrap_or}
+use Rattle.std.specs.Prelude.{◌<◌, ℕ, false, List, [], Option, None, Some, length, ◌&&◌, if◌then◌else◌, unwrap_or}
 use Rattle.std.specs.Option.{option_map, option_map_or}
 use Rattle.qn_base.specs.declared.ids.Rank.{Rank}
 use Rattle.qn_base.specs.declared.ids.View.{View}

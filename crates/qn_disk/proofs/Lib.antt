@@ -1,3 +1,4 @@
+pub mod Counts
 pub mod LeftoverSteps
 pub mod Lists
 pub mod Marks

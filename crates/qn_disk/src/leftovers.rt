@@ -1,7 +1,7 @@
 //! Writes that were given up before they landed.
-ghost use Rattle.std.specs.Prelude.{◌≡◌, ◌≤◌, ◌++◌, [], ◌∷◌, ℕ, true, OnErr, OnOk};
+ghost use Rattle.std.specs.Prelude.{◌≡◌, ◌≤◌, ◌++◌, [], ◌∷◌, ℕ, true, OnErr, OnOk, length};
 ghost use Rattle.qn_disk.specs.Places.{marked_on, others_of, place_in};
-ghost use Rattle.qn_disk.specs.Standing.{is_marked, is_of};
+ghost use Rattle.qn_disk.specs.Standing.{is_marked, is_of, left_of};
 ghost use Rattle.qn_safety.specs.TripleRules.{is_image};
 
 use qn_base::{NoMemory, Rank};
@@ -15,6 +15,18 @@ pub struct Leftover {
     pub of: Rank,
     pub image: u8,
     pub op: DiskOp,
+}
+
+impl Leftover {
+    ghost use Rattle.std.specs.Prelude.{◌≡◌};
+    ghost use Rattle.qn_disk.specs.Standing.{is_of};
+
+    /// Whether it is that of a rank on an image.
+    fn is_of(&self, i: Rank, image: u8) -> bool
+        ensures { result ≡ is_of i.0 image self.now }
+    {
+        self.of.0 == i.0 && self.image == image
+    }
 }
 
 /// The writes that were given up before they landed, oldest first.
@@ -33,7 +45,7 @@ impl Model for Leftovers {
 }
 
 impl Leftovers {
-    ghost use Rattle.std.specs.Prelude.{◌≡◌, ◌<◌, ◌≤◌, ℕ, List, [], true, None, Some, OnErr, OnOk, OnSome, is_some, length, slice_get};
+    ghost use Rattle.std.specs.Prelude.{◌≡◌, ◌<◌, ◌≤◌, ℕ, List, [], true, None, Some, OnErr, OnOk, OnSome, is_some, length, slice_get, take};
     ghost use Rattle.std.specs.List.{remove};
     ghost use Rattle.qn_cluster.specs.Standing.{IsOpWithin, IsWithin};
     ghost use Rattle.qn_disk.specs.Standing.{LeftFor, is_marked, left_over};
@@ -51,17 +63,40 @@ impl Leftovers {
         }
     }
 
-    /// A write of a rank is left over on the images that are marked, image 1 first. It runs out of memory only where one
-    /// is marked, and the leftovers are then as they were.
+    /// How many leftovers there are.
+    pub fn len(&self) -> usize
+        ensures { result ≡ length self.now }
+    {
+        self.items.len()
+    }
+
+    /// How many of the leftovers are those of a rank on an image.
+    pub fn count_of(&self, i: Rank, image: u8) -> u64
+        requires { is_image image ≡ true }
+        ensures { (count : ℕ) (left : ℕ → ℕ → List DiskOp) → LeftFor count self.now left → result ≡ length (left i.0 image) }
+    {
+        count_of(self.items.as_slice(), i, image)
+    }
+
+    /// A write of a rank is left over on the images that are marked, image 1 first, after the leftovers that were there.
+    /// It runs out of memory only where one is marked, and the leftovers are then as they were.
     pub fn leave(&mut self, i: Rank, op: DiskOp, on: &[bool; 3]) -> Result<(), NoMemory>
         ensures ok { OnOk result ((count : ℕ) (left : ℕ → ℕ → List DiskOp)
             → IsWithin count op
             → LeftFor count self.old left
             → LeftFor count self.new (left_over left i.0 op on.now)) }
+        ensures first { OnOk result (take (length self.old) self.new ≡ self.old) }
         ensures err { OnErr result (self.new ≡ self.old) }
         ensures cause { OnErr result ((image : ℕ) × (is_image image ≡ true) × (is_marked on.now image ≡ true)) }
     {
         leave_all(&mut self.items, i, op, on)
+    }
+
+    /// Only the first leftovers stay, as many as `count`.
+    pub fn keep(&mut self, count: usize)
+        ensures { self.new ≡ take count self.old }
+    {
+        self.items.truncate(count);
     }
 
     /// Whether there is a leftover of a rank on an image with that number, from 1.
@@ -123,7 +158,7 @@ fn place_of(left: &[Leftover], i: Rank, image: u8, number: u64) -> Option<usize>
 {
     let mut wanted = number;
     for (place, leftover) in left.iter().enumerate() {
-        if leftover.of.0 == i.0 && leftover.image == image {
+        if leftover.is_of(i, image) {
             if wanted == 1 {
                 return Some(place);
             }
@@ -131,6 +166,19 @@ fn place_of(left: &[Leftover], i: Rank, image: u8, number: u64) -> Option<usize>
         }
     }
     None
+}
+
+/// How many of the leftovers are those of a rank on an image.
+fn count_of(left: &[Leftover], i: Rank, image: u8) -> u64
+    ensures { result ≡ length (left_of i.0 image left.now) }
+{
+    let mut count = 0u64;
+    for leftover in left {
+        if leftover.is_of(i, image) {
+            count += 1;
+        }
+    }
+    count
 }
 
 /// The leftovers of a rank are dropped.

@@ -51,6 +51,7 @@ module _ (before later : Seen) (status : ℕ) where
   causes (Some (command.Message image id kind)) does = does.causes
   causes (Some (command.Node words)) does = does.causes
   causes (Some (command.Migrate image)) does = does.causes
+  causes (Some command.Replay3) does = does.causes
   causes (Some (command.Node3 words)) does = does.causes
   causes (Some (command.NodeLogged words)) does = does.causes
   causes (Some (command.Audit words)) does = does.causes
@@ -68,6 +69,7 @@ module _ (before later : Seen) (status : ℕ) where
   no_usage (command.Message image id kind) does two = let one_of = does.statuses in grind arith
   no_usage (command.Node words) does two = node_not_two status does.statuses two
   no_usage (command.Migrate image) does two = let one_of = does.statuses in grind arith
+  no_usage command.Replay3 does two = let one_of = does.statuses in grind arith
   no_usage (command.Node3 words) does two = node_not_two status does.statuses two
   no_usage (command.NodeLogged words) does two = node_not_two status does.statuses two
   no_usage (command.Audit words) does two = audit_not_two status does.statuses two
@@ -86,6 +88,7 @@ module _ (before later : Seen) (status : ℕ) where
   enough (Some (command.Message image id kind)) does takes eleven = let one_of = does.statuses in grind arith
   enough (Some (command.Node words)) does takes eleven = cc
   enough (Some (command.Migrate image)) does takes eleven = let one_of = does.statuses in grind arith
+  enough (Some command.Replay3) does takes eleven = cc
   enough (Some (command.Node3 words)) does takes eleven = cc
   enough (Some (command.NodeLogged words)) does takes eleven = cc
   enough (Some (command.Audit words)) does takes eleven = cc

@@ -58,6 +58,8 @@ pub enum Command<'words> {
     Migrate {
         image: Path<'words>,
     },
+    /// `replay3`: the trace of a schedule of three images.
+    Replay3,
     /// `node3`, with the options of `node` and `--image P1,P2,P3`: runs the node of that id on three images.
     Node3(NodeWords<'words>),
     /// `node-logged`, with the options of `node`: the same, and each call with its answer as a line of a log.
@@ -139,6 +141,7 @@ fn command_with(name: CommandName, options: &[String]) -> Option<Command<'_>>
             let image = image_alone(options)?;
             Some(Command::Migrate { image })
         }
+        CommandName::Replay3 => are_options(&[], options).then_some(Command::Replay3),
         CommandName::Node3 => node3_of(options),
         CommandName::NodeLogged => node_logged_of(options),
         CommandName::Audit => audit_of(options),

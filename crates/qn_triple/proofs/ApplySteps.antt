@@ -9,7 +9,6 @@ use Rattle.qn_disk.specs.Standing.{LeftFor, SectorsFor}
 use Rattle.qn_model.specs.declared.outputs.Out.{Out}
 use Rattle.qn_model.specs.declared.reports.Report.{Report}
 use Rattle.qn_model.specs.declared.reports.Refused.TheVariants as refused
-use Rattle.qn_model.specs.declared.rules.Rule.{Rule}
 use Rattle.qn_model.specs.Steps.{holders, outs_after, report}
 use Rattle.qn_model.specs.Timing.{is_safe}
 use Rattle.qn_model.specs.World.{first_world}
@@ -83,10 +82,6 @@ starved w mid back new event some e stands allowed out f =
       memory = λ kind d is. out_spent.cause d (subst (λ m. TripleFor m d) e (stands d is)) (allowed d is);
     }
 
-pub not_allowed : (w : Whole) (event : TripleEvent) (rule : Rule) → ((d : TripleWorld) → TripleFor w d → refusal_triple w.settings w.timing event d ≡ Some rule.0)
-    → Refuses w w event (refused.NotAllowed rule)
-not_allowed w event rule why = record { same = refl; why = why; memory = λ kind. absurd (cc) }
-
 -- the world after one more event was reached
 pub reached_more : (w new : Whole) (event : TripleEvent) (outs : List Out) → IsReached w → is_well_formed_triple w.settings event ≡ true → Applied w new event outs → IsReached new
 unfolding run_triple AllAllowedTriple
@@ -102,9 +97,6 @@ reached_more w new event outs reached formed made =
           subst (λ s. TripleFor new (run_triple s new.timing (event ∷ reached.events))) (sym made.settings)
           (subst (λ t. TripleFor new (run_triple w.settings t (event ∷ reached.events))) (sym made.timing) (made.stands (run_triple w.settings w.timing reached.events) reached.stands));
     }
-
-pub reached_standing : (w : Whole) → IsReached w → IsStanding w
-reached_standing w reached = (run_triple w.settings w.timing reached.events, reached.stands)
 
 -- ---- what is reported of an event
 

@@ -1,5 +1,5 @@
 -- The event that a line of three images says is well formed.
-use Rattle.std.proofs.Common.{◌≡◌, ◌-◌, ◌^◌, ◌==◌, ◌↔◌, ◌&&◌, ◌||◌, ℕ, Bool, true, false, cond, List, [], ◌∷◌, Option, Some, None, Result, Ok, Err, length, nat_lt, position, refl, sym, ap, ◌∙◌, subst, arith, lt-ltb}
+use Rattle.std.proofs.Common.{◌≡◌, ◌-◌, ◌^◌, ◌==◌, ◌↔◌, ◌&&◌, ◌||◌, ℕ, Bool, true, false, cond, List, [], ◌∷◌, Option, Some, None, Result, Ok, Err, length, nat_lt, position, refl, ap, ◌∙◌, subst, arith, lt-ltb}
 use Rattle.std.specs.Prelude.{IsTrue, codes}
 use Rattle.std.specs.Option.{ok_or}
 use Rattle.std.specs.Str.{bytes_eq}
@@ -9,17 +9,15 @@ use Rattle.std.proofs.lemmas.List.Quantifiers.{position-Some}
 use Rattle.qn_base.specs.declared.ids.Rank.{Rank}
 use Rattle.qn_base.specs.declared.limits.TheConstants.{MOST_LINE_BYTES}
 use Rattle.qn_model.specs.declared.configuration.Settings.{Settings}
-use Rattle.qn_model.specs.declared.disk.Message.{Message}
 use Rattle.qn_model.specs.declared.events.Event.{Event}
 use Rattle.qn_model.specs.declared.line_fault.LineFault.{LineFault}
-use Rattle.qn_model.specs.declared.line_fault.LineFault.TheVariants.{BadNumber, UnknownNode, UnknownWord, TooLong}
+use Rattle.qn_model.specs.declared.line_fault.LineFault.TheVariants.{BadNumber, UnknownNode, UnknownWord}
 use Rattle.qn_model.specs.declared.nodelist.NodeEntry.{NodeEntry}
 use Rattle.qn_base.specs.Decimal.{number_of}
 use Rattle.qn_model.specs.Lines.{◌>>=◌, has_leading_zero, known_rank, number_between, two_words, words_of}
 use Rattle.qn_model.specs.Rules.{is_between, is_configured, is_well_formed}
 use Rattle.qn_model.specs.Settings.{IsValid, ids}
 use Rattle.qn_safety.specs.declared.triple_event.TripleEvent.{TripleEvent}
-use Rattle.qn_safety.specs.declared.triple_event.TripleEvent.TheVariants.{One, LandOn, FailOn, LateOn, OperatorOn}
 use Rattle.qn_safety.specs.TripleRules.{is_image, is_well_formed_triple}
 use Rattle.qn_sched.specs.EventLines.{event_line}
 use Rattle.qn_sched.specs.EventReading.{event_of, message_worded, rank_of}

@@ -9,7 +9,8 @@ use qn_base::{MOST_EVENTS, MOST_LINE_BYTES};
 use qn_model::{Nodes, Settings};
 use qn_safety::TripleEvent;
 use qn_sched::{
-    LineFault, first_part, known_rank, message_worded, number_between, read_line, three_words, two_words,
+    LineFault, first_part, known_rank, message_worded, number_between, read_line, three_words,
+    two_words,
 };
 
 /// The event that a line says. The faults are those of `qn_sched::read_line`, in its order; the lines `land ID K`,

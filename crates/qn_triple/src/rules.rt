@@ -98,18 +98,18 @@ impl State {
             Event::Late(_, _) => Some(6),
             Event::Operator(_, _) => Some(10),
             Event::Done(i) => self.refuses_done(*i),
-            Event::Pass { .. } => self.refuses_node(event),
-            Event::Boot(_, _) => self.refuses_node(event),
-            Event::BootClean(_, _) => self.refuses_node(event),
-            Event::Crash(_) => self.refuses_node(event),
-            Event::View(_, _) => self.refuses_node(event),
-            Event::Deliver(_, _) => self.refuses_node(event),
-            Event::Device(_, _) => self.refuses_node(event),
-            Event::Tick(_) => self.refuses_node(event),
-            Event::Stopped(_) => self.refuses_node(event),
-            Event::Unstopped(_) => self.refuses_node(event),
-            Event::Leave(_) => self.refuses_node(event),
-            Event::Feed(_) => self.refuses_node(event),
+            Event::Pass { .. }
+            | Event::Boot(_, _)
+            | Event::BootClean(_, _)
+            | Event::Crash(_)
+            | Event::View(_, _)
+            | Event::Deliver(_, _)
+            | Event::Device(_, _)
+            | Event::Tick(_)
+            | Event::Stopped(_)
+            | Event::Unstopped(_)
+            | Event::Leave(_)
+            | Event::Feed(_) => self.refuses_node(event),
         }
     }
 

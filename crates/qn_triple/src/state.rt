@@ -58,7 +58,6 @@ impl Model for State {
 impl State {
     ghost use Rattle.std.specs.Prelude.{◌≡◌, ◌<◌, ◌≤◌, ◌+◌, ◌-◌, ℕ, [], true, IfOk, IsTrue, OnOk, OnErr, length};
     ghost use Rattle.qn_base.specs.Members.{is_member};
-    ghost use Rattle.qn_cluster.specs.Events.{CanStep, Starved, Stepped};
     ghost use Rattle.qn_cluster.specs.Standing.{HasRoom, IsOpWithin};
     ghost use Rattle.qn_cluster.specs.Stepping.{Booted, Ended, Handed, Unhanded};
     ghost use Rattle.qn_model.specs.Settings.{IsValid};
@@ -179,17 +178,6 @@ impl State {
         ensures ends { Ended (cluster_of self.old) (cluster_of self.new) i.0 }
     {
         self.cluster.end(i);
-    }
-
-    /// The nodes make the step of an event that changes them alone.
-    pub(crate) fn step_nodes(&mut self, event: &Event, outs: &mut Outs) -> Result<(), NoMemory>
-        requires ready { CanStep (cluster_of self.old) event.now }
-        requires none { outs.old ≡ [] }
-        ensures disk { self.new ≡ with_nodes self.old (cluster_of self.new) }
-        ensures ok { OnOk result (Stepped (cluster_of self.old) (cluster_of self.new) event.now outs.new) }
-        ensures err { OnErr result (Starved (cluster_of self.old) (cluster_of self.new) event.now) }
-    {
-        self.cluster.step(event, outs)
     }
 
     /// The nodes that hold the resource.

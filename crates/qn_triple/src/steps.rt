@@ -9,6 +9,7 @@ use qn_safety::TripleEvent;
 impl State {
     ghost use Rattle.std.specs.Prelude.{◌≡◌, ◌≤◌, ◌<◌, [], true, IfErr, OnOk, OnErr};
     ghost use Rattle.qn_base.specs.declared.limits.TheConstants.{LATEST_TIME};
+    ghost use Rattle.qn_cluster.specs.Events.{is_of_nodes};
     ghost use Rattle.qn_safety.specs.TripleRules.{is_well_formed_triple};
     ghost use Rattle.qn_triple.specs.Standing.{IsStanding};
     ghost use Rattle.qn_triple.specs.Stepping.{Applied, IsReady, OutOfMemory, Refuses, Stepped, boot_event};
@@ -81,16 +82,27 @@ impl State {
             Event::Fail(_) => Ok(()),
             Event::Late(_, _) => Ok(()),
             Event::Operator(_, _) => Ok(()),
-            Event::Pass { .. } => self.step_nodes(event, outs),
-            Event::View(_, _) => self.step_nodes(event, outs),
-            Event::Deliver(_, _) => self.step_nodes(event, outs),
-            Event::Device(_, _) => self.step_nodes(event, outs),
-            Event::Tick(_) => self.step_nodes(event, outs),
-            Event::Stopped(_) => self.step_nodes(event, outs),
-            Event::Unstopped(_) => self.step_nodes(event, outs),
-            Event::Leave(_) => self.step_nodes(event, outs),
-            Event::Feed(_) => self.step_nodes(event, outs),
+            Event::Pass { .. }
+            | Event::View(_, _)
+            | Event::Deliver(_, _)
+            | Event::Device(_, _)
+            | Event::Tick(_)
+            | Event::Stopped(_)
+            | Event::Unstopped(_)
+            | Event::Leave(_)
+            | Event::Feed(_) => self.step_nodes(event, outs),
         }
+    }
+
+    /// The nodes make the step of an event that changes them alone.
+    fn step_nodes(&mut self, event: &Event, outs: &mut Outs) -> Result<(), NoMemory>
+        requires ready { IsReady self.old (TripleEvent.One event.now) }
+        requires nodes { is_of_nodes event.now ≡ true }
+        requires none { outs.old ≡ [] }
+        ensures ok { OnOk result (Stepped self.old self.new (TripleEvent.One event.now) outs.new) }
+        ensures err { OnErr result (OutOfMemory self.old self.new (TripleEvent.One event.now)) }
+    {
+        self.cluster.step(event, outs)
     }
 
     /// A node boots, as a clean start or not: its leftovers are dropped, and all images are good ones until its clear is

@@ -1,42 +1,29 @@
 -- What a world stands for after an event that hands a node an entry.
-use Rattle.std.proofs.Common.{◌≡◌, ◌≢◌, ℕ, ◌<◌, Bool, true, false, List, [], ◌++◌, length, Some, None, refl, ◌&&◌, ◌||◌, sym, ◌∙◌, ap, subst, take}
-use Rattle.std.specs.Prelude.{Option, Result, Ok, Err, OnOk, OnErr, is_some, slice_get, slice_set, ◌==◌}
+use Rattle.std.proofs.Common.{◌≡◌, ◌≢◌, ℕ, ◌<◌, Bool, true, false, List, [], ◌++◌, length, Some, None, refl, ◌&&◌, sym, ◌∙◌, ap, subst, take}
+use Rattle.std.specs.Prelude.{Option, Result, Ok, Err, OnOk, OnErr, OnSome, is_some, slice_set}
 use Rattle.std.specs.Option.{option_map_or}
 use Rattle.std.specs.Result.{is_err}
-use Rattle.std.proofs.lemmas.List.{take_at}
 use Rattle.qn_base.specs.declared.ids.Rank.{Rank}
 use Rattle.qn_cluster.specs.Seats.{IsDue}
 use Rattle.qn_cluster.specs.Stepping.{Handed, Unhanded}
-use Rattle.qn_model.specs.declared.configuration.Settings.{Settings}
 use Rattle.qn_model.specs.declared.entries.What.{What}
-use Rattle.qn_model.specs.declared.entries.What.TheVariants as what
-use Rattle.qn_model.specs.declared.events.Event.{Event}
 use Rattle.qn_model.specs.declared.events.Event.TheVariants as event
 use Rattle.qn_model.specs.declared.outputs.DiskOp.{DiskOp}
 use Rattle.qn_model.specs.declared.outputs.DiskOp.TheVariants as disk
 use Rattle.qn_model.specs.declared.outputs.Out.{Out}
-use Rattle.qn_model.specs.declared.packets.Packet.{Packet}
-use Rattle.qn_model.specs.declared.packets.Packet.TheVariants as packet
-use Rattle.qn_model.specs.declared.packets.Sent.{Sent}
-use Rattle.qn_model.specs.Log.{is_answer}
 use Rattle.qn_model.specs.Fitting.{answers_op}
 use Rattle.qn_model.specs.NodeOutputs.{newest_outs}
-use Rattle.qn_model.specs.Moments.{Adds, Running, packets}
+use Rattle.qn_model.specs.Moments.{Adds}
 use Rattle.qn_model.specs.World.{World, failed, given_up, leftover_at, node_at, op_at, put}
-use Rattle.qn_model.specs.Rules.{is_on, may_be_done, may_deliver, may_fail, refusal}
-use Rattle.qn_model.specs.Steps.{answered, entry_of, fails, gives_up, happens, outs_after, step, touched}
-use Rattle.qn_world.specs.Leftovers.{leftovers}
+use Rattle.qn_model.specs.Rules.{is_on, may_be_done, may_fail, refusal}
+use Rattle.qn_model.specs.Steps.{answered, fails, gives_up, happens, step}
 use Rattle.qn_world.specs.Memory.{leaves_between, sends_between}
 use Rattle.qn_world.specs.Standing.{WorldFor}
-use Rattle.qn_world.specs.Stepping.{Hands, HandsEntry, HandsNot, OutOfMemory, SameFrame, Stepped}
+use Rattle.qn_world.specs.Stepping.{Hands, HandsNot, LeavesOver, OutOfMemory, SameFrame, Stepped}
 use Rattle.qn_world.specs.Whole.{Whole, cluster_of}
-use Rattle.qn_world.proofs.EventSteps.{IsOut, gave_up, given_up_same, leaves_more, or_true, passed_both, passed_first, some_op}
+use Rattle.qn_world.proofs.EventSteps.{IsOut, gave_up, given_up_same, leaves_more, or_first, or_true, passed_both, some_op}
 use Rattle.qn_world.proofs.Lists.{same_rank}
-use Rattle.qn_world.proofs.WorldSteps.{adds_others, frame_of, put_here, same_frames, with_none, with_plain}
-
-pub or_first : (a b : Bool) → a ≡ true → (a || b) ≡ true
-or_first true b e = refl
-or_first false b e = absurd (cc)
+use Rattle.qn_world.proofs.WorldSteps.{adds_others, frame_of, put_here, same_frames, with_none}
 
 -- ---- done
 
@@ -134,21 +121,22 @@ fail_due : (w : Whole) (d : World) (i : ℕ) (op : DiskOp) (entry : What) → en
 fail_due w d i op entry entry_is op_is kind =
     ap (λ entry. answers_op (op_at w.settings i d) entry) entry_is ∙ (ap (λ o. answers_op o (failed op)) (sym op_is) ∙ failure_answers op)
 
-left_frame : (w left : Whole) (rank : Rank) (ops : List DiskOp) → left ≡ record w { left = w.left ++ leftovers rank ops } → SameFrame w left
-left_frame w left rank ops e =
+left_frame : (w left : Whole) (i : ℕ) (ops : List DiskOp) → LeavesOver w left i ops → SameFrame w left
+left_frame w left i ops leaves =
+    let e = leaves.rest in
     record { settings = ap (λ w. w.settings) e; timing = ap (λ w. w.timing) e; steps = ap (λ w. w.steps) e; count = ap (λ w. length w.seats) e }
 
 pub fail_stepped : (w left mid new : Whole) (rank : Rank) (op : DiskOp) (took : Option What) (entry : What) (outs : List Out) → IsOut w rank.0 (Some op) took
     → entry ≡ failed op
-    → left ≡ record w { left = w.left ++ leftovers rank (given_up (Some op) took) }
+    → LeavesOver w left rank.0 (given_up (Some op) took)
     → Hands left mid rank.0 entry outs → new ≡ record mid { took = slice_set mid.took rank.0 None }
     → Stepped w new (event.Fail rank) outs
 unfolding step
 fail_stepped w left mid new rank op took entry outs out entry_is leaves made e =
     let i = rank.0 in
-    let nodes : cluster_of left ≡ cluster_of w = ap cluster_of leaves in
+    let nodes : cluster_of left ≡ cluster_of w = ap cluster_of leaves.rest in
     let hands : Handed (cluster_of w) (cluster_of mid) i entry outs = subst (λ c. Handed c (cluster_of mid) i entry outs) nodes made.hands in
-    let kept = left_frame w left rank (given_up (Some op) took) leaves in
+    let kept = left_frame w left i (given_up (Some op) took) leaves in
     record {
       frame =
           same_frames w left new kept
@@ -160,7 +148,7 @@ fail_stepped w left mid new rank op took entry outs out entry_is leaves made e =
           let d1 = record d { left = put d.left i (d.left i ++ leftover_at w.settings i d) } in
           subst (λ o. WorldFor new (option_map_or (λ op. fails w.settings i op d) o d)) op_is
           (subst (λ entry. WorldFor new (happens (Adds i entry) (gives_up w.settings i d))) entry_is
-          (with_none left new (cluster_of mid) d1 (Adds i entry) i (gave_up w left d rank (Some op) took is (out.within d is) op_is (out.took_is d is) leaves) out.below
+          (with_none left new (cluster_of mid) d1 (Adds i entry) i (gave_up w left d i (Some op) took is op_is (out.took_is d is) leaves) out.below
           (hands.frame.settings ∙ sym kept.settings)
           (hands.stands d.moments is.cluster on (fail_due w d i op entry entry_is op_is))
           (adds_others left.settings d.moments i entry)
@@ -189,18 +177,18 @@ fail_starved_left w new rank op took out e some =
 
 pub fail_starved : (w left back new : Whole) (rank : Rank) (op : DiskOp) (took : Option What) (entry : What) → IsOut w rank.0 (Some op) took
     → entry ≡ failed op
-    → left ≡ record w { left = w.left ++ leftovers rank (given_up (Some op) took) }
+    → LeavesOver w left rank.0 (given_up (Some op) took)
     → HandsNot left back rank.0 entry
     → new ≡ record back { left = take (length w.left) back.left }
     → OutOfMemory w new (event.Fail rank)
 unfolding step
 fail_starved w left back new rank op took entry out entry_is leaves starved kept =
-    let hands : Unhanded (cluster_of w) (cluster_of back) rank.0 entry = subst (λ c. Unhanded c (cluster_of back) rank.0 entry) (ap cluster_of leaves) starved.hands in
+    let hands : Unhanded (cluster_of w) (cluster_of back) rank.0 entry = subst (λ c. Unhanded c (cluster_of back) rank.0 entry) (ap cluster_of leaves.rest) starved.hands in
     record {
       same =
           kept
-          ∙ (ap (λ (w' : Whole). record w' { left = take (length w.left) w'.left }) (starved.same ∙ leaves)
-          ∙ ap (λ all. record w { left = all }) (take_at w.left (leftovers rank (given_up (Some op) took)) (length w.left) refl));
+          ∙ (ap (λ (b : Whole). record b { left = take (length w.left) b.left }) starved.same
+          ∙ (ap (λ items. record left { left = items }) leaves.first ∙ ap (λ (l : Whole). record l { left = w.left }) leaves.rest));
       cause = λ d is allowed.
           let on = (fail_ready w d rank allowed).0 in
           or_first _ _
@@ -228,180 +216,6 @@ not_failed w rank op outs op_is none =
       ranks = λ d is allowed. absurd (none_failed w d rank op (op_is d is) none allowed);
     }
 
--- ---- entries that answer nothing
-
-plain_due : (n : Running) (entry : What) → is_answer entry ≡ false → IsDue n entry
-plain_due n entry plain kind = absurd (let z : false ≡ true = sym plain ∙ kind in cc)
-
--- an event that hands a node an entry and nothing else
-record Plain (s : Settings) (w : Whole) (event : Event) (rank : Rank) (entry : What) : Type 0 where
-  steps : (d : World) → step w.settings w.timing event d ≡ happens (Adds rank.0 entry) d
-  on : (d : World) → refusal w.settings w.timing event d ≡ None → is_on w.settings rank.0 d ≡ true
-  plain : is_answer entry ≡ false
-  outs : (after : World) → outs_after w.settings event after ≡ newest_outs (node_at w.settings rank.0 after).log
-
-plain_of : (w : Whole) (event : Event) (rank : Rank) (entry : What) → HandsEntry event rank entry → Plain w.settings w event rank entry
-unfolding step refusal
-plain_of w (event.View own view) rank entry hands = record {
-  steps = λ d. ap (λ r. happens (Adds r.0 (what.View view)) d) hands.0 ∙ ap (λ entry. happens (Adds rank.0 entry) d) (sym hands.1);
-  on = λ d e. subst (λ r. is_on w.settings r.0 d ≡ true) hands.0 (passed_first (is_on w.settings own.0 d) _ e);
-  plain = ap is_answer hands.1;
-  outs = λ after. ap (λ r. newest_outs (node_at w.settings r.0 after).log) hands.0;
-}
-plain_of w (event.Device own agrees) rank entry hands = record {
-  steps = λ d. ap (λ r. happens (Adds r.0 (what.Device agrees)) d) hands.0 ∙ ap (λ entry. happens (Adds rank.0 entry) d) (sym hands.1);
-  on = λ d e. subst (λ r. is_on w.settings r.0 d ≡ true) hands.0 (passed_first (is_on w.settings own.0 d) _ e);
-  plain = ap is_answer hands.1;
-  outs = λ after. ap (λ r. newest_outs (node_at w.settings r.0 after).log) hands.0;
-}
-plain_of w (event.Tick own) rank entry hands = record {
-  steps = λ d. ap (λ r. happens (Adds r.0 what.Tick) d) hands.0 ∙ ap (λ entry. happens (Adds rank.0 entry) d) (sym hands.1);
-  on = λ d e. subst (λ r. is_on w.settings r.0 d ≡ true) hands.0 (passed_first (is_on w.settings own.0 d) _ e);
-  plain = ap is_answer hands.1;
-  outs = λ after. ap (λ r. newest_outs (node_at w.settings r.0 after).log) hands.0;
-}
-plain_of w (event.Stopped own) rank entry hands = record {
-  steps = λ d. ap (λ r. happens (Adds r.0 (what.Stopped true)) d) hands.0 ∙ ap (λ entry. happens (Adds rank.0 entry) d) (sym hands.1);
-  on = λ d e. subst (λ r. is_on w.settings r.0 d ≡ true) hands.0 (passed_first (is_on w.settings own.0 d) _ e);
-  plain = ap is_answer hands.1;
-  outs = λ after. ap (λ r. newest_outs (node_at w.settings r.0 after).log) hands.0;
-}
-plain_of w (event.Unstopped own) rank entry hands = record {
-  steps = λ d. ap (λ r. happens (Adds r.0 (what.Stopped false)) d) hands.0 ∙ ap (λ entry. happens (Adds rank.0 entry) d) (sym hands.1);
-  on = λ d e. subst (λ r. is_on w.settings r.0 d ≡ true) hands.0 (passed_first (is_on w.settings own.0 d) _ e);
-  plain = ap is_answer hands.1;
-  outs = λ after. ap (λ r. newest_outs (node_at w.settings r.0 after).log) hands.0;
-}
-plain_of w (event.Leave own) rank entry hands = record {
-  steps = λ d. ap (λ r. happens (Adds r.0 what.Leave) d) hands.0 ∙ ap (λ entry. happens (Adds rank.0 entry) d) (sym hands.1);
-  on = λ d e. subst (λ r. is_on w.settings r.0 d ≡ true) hands.0 (passed_first (is_on w.settings own.0 d) _ e);
-  plain = ap is_answer hands.1;
-  outs = λ after. ap (λ r. newest_outs (node_at w.settings r.0 after).log) hands.0;
-}
-plain_of w (event.Pass dt clocks) rank entry hands = absurd hands
-plain_of w (event.Boot own base) rank entry hands = absurd hands
-plain_of w (event.BootClean own base) rank entry hands = absurd hands
-plain_of w (event.Crash own) rank entry hands = absurd hands
-plain_of w (event.Land own) rank entry hands = absurd hands
-plain_of w (event.Done own) rank entry hands = absurd hands
-plain_of w (event.Fail own) rank entry hands = absurd hands
-plain_of w (event.Late own number) rank entry hands = absurd hands
-plain_of w (event.Deliver own number) rank entry hands = absurd hands
-plain_of w (event.Feed own) rank entry hands = absurd hands
-plain_of w (event.Operator own message) rank entry hands = absurd hands
-
-pub entry_stepped : (w new : Whole) (event : Event) (rank : Rank) (entry : What) (outs : List Out) → HandsEntry event rank entry → Hands w new rank.0 entry outs
-    → Stepped w new event outs
-entry_stepped w new event rank entry outs hands made =
-    let p = plain_of w event rank entry hands in
-    record {
-      frame = frame_of w new made.disk made.hands.frame;
-      stands = λ d is allowed.
-          let on = p.on d allowed in
-          subst (λ e. WorldFor new e) (sym (p.steps d))
-          (with_plain w new d rank.0 entry is made.disk made.hands
-          (made.hands.stands d.moments is.cluster on (plain_due (node_at w.settings rank.0 d) entry p.plain)) on p.plain);
-      gives = λ d is allowed.
-          made.hands.gives d.moments is.cluster (p.on d allowed)
-          ∙ (ap (λ after. newest_outs (node_at w.settings rank.0 after).log) (sym (p.steps d)) ∙ sym (p.outs (step w.settings w.timing event d)));
-      ranks = λ d is allowed. made.hands.ranks d.moments is.cluster (p.on d allowed);
-    }
-
-pub entry_starved : (w new : Whole) (event : Event) (rank : Rank) (entry : What) → HandsEntry event rank entry → HandsNot w new rank.0 entry → OutOfMemory w new event
-entry_starved w new event rank entry hands starved =
-    let p = plain_of w event rank entry hands in
-    record {
-      same = starved.same;
-      cause = λ d is allowed. or_first _ _ (ap (λ after. sends_between w.settings d after) (p.steps d) ∙ starved.hands.cause d.moments is.cluster (p.on d allowed));
-    }
-
--- ---- deliver
-
-deliver_ready : (w : Whole) (d : World) (rank : Rank) (number : ℕ) → refusal w.settings w.timing (event.Deliver rank number) d ≡ None
-    → (is_on w.settings rank.0 d ≡ true) × (may_deliver w.settings rank.0 number d ≡ true)
-unfolding refusal
-deliver_ready w d rank number e = passed_both (is_on w.settings rank.0 d) (may_deliver w.settings rank.0 number d) 8 e
-
-pub packet_plain : (p : Packet) → is_answer (entry_of p) ≡ false
-packet_plain (packet.Ask ask) = refl
-packet_plain (packet.Tell tell) = refl
-packet_plain (packet.Hello from) = refl
-packet_plain (packet.Announce from view) = refl
-packet_plain (packet.Vote agrees) = refl
-
-pub deliver_stepped : (w new : Whole) (rank : Rank) (number : ℕ) (sent : Sent) (entry : What) (outs : List Out)
-    → ((d : World) → WorldFor w d → Some sent ≡ slice_get (packets w.settings d.moments) number)
-    → entry ≡ entry_of sent.packet → Hands w new rank.0 entry outs → Stepped w new (event.Deliver rank number) outs
-unfolding step
-deliver_stepped w new rank number sent entry outs found_at entry_is made =
-    let plain : is_answer entry ≡ false = ap is_answer entry_is ∙ packet_plain sent.packet in
-    let hands = made.hands in
-    record {
-      frame = frame_of w new made.disk hands.frame;
-      stands = λ d is allowed.
-          let on = (deliver_ready w d rank number allowed).0 in
-          subst (λ o. WorldFor new (option_map_or (λ sent. happens (Adds rank.0 (entry_of sent.packet)) d) o d)) (found_at d is)
-          (subst (λ entry. WorldFor new (happens (Adds rank.0 entry) d)) entry_is
-          (with_plain w new d rank.0 entry is made.disk hands
-          (hands.stands d.moments is.cluster on (plain_due (node_at w.settings rank.0 d) entry plain)) on plain));
-      gives = λ d is allowed.
-          let on = (deliver_ready w d rank number allowed).0 in
-          subst (λ o. outs ≡ newest_outs (node_at w.settings rank.0 (option_map_or (λ sent. happens (Adds rank.0 (entry_of sent.packet)) d) o d)).log) (found_at d is)
-          (subst (λ entry. outs ≡ newest_outs (node_at w.settings rank.0 (happens (Adds rank.0 entry) d)).log) entry_is (hands.gives d.moments is.cluster on));
-      ranks = λ d is allowed. hands.ranks d.moments is.cluster (deliver_ready w d rank number allowed).0;
-    }
-
-pub deliver_starved : (w new : Whole) (rank : Rank) (number : ℕ) (sent : Sent) (entry : What)
-    → ((d : World) → WorldFor w d → Some sent ≡ slice_get (packets w.settings d.moments) number)
-    → entry ≡ entry_of sent.packet → HandsNot w new rank.0 entry → OutOfMemory w new (event.Deliver rank number)
-unfolding step
-deliver_starved w new rank number sent entry found_at entry_is starved =
-    record {
-      same = starved.same;
-      cause = λ d is allowed.
-          let on = (deliver_ready w d rank number allowed).0 in
-          or_first _ _
-          (subst (λ o. sends_between w.settings d (option_map_or (λ sent. happens (Adds rank.0 (entry_of sent.packet)) d) o d) ≡ true) (found_at d is)
-          (subst (λ entry. sends_between w.settings d (happens (Adds rank.0 entry) d) ≡ true) entry_is (starved.hands.cause d.moments is.cluster on)));
-    }
-
-delivers_none : (o : Option Sent) (rank : ℕ) → ((sent : Sent) → o ≡ Some sent → ⊥) → option_map_or (λ sent. sent.to.0 == rank) o false ≡ true → ⊥
-delivers_none None rank none e = absurd (cc)
-delivers_none (Some sent) rank none e = none sent refl
-
-pub not_delivered : (w : Whole) (rank : Rank) (number : ℕ) (found : Option Sent) (outs : List Out)
-    → ((d : World) → WorldFor w d → found ≡ slice_get (packets w.settings d.moments) number) → ((sent : Sent) → found ≡ Some sent → ⊥)
-    → Stepped w w (event.Deliver rank number) outs
-not_delivered w rank number found outs same none =
-    let never : (d : World) → WorldFor w d → refusal w.settings w.timing (event.Deliver rank number) d ≡ None → ⊥ =
-    λ d is allowed. delivers_none (slice_get (packets w.settings d.moments) number) rank.0 (λ sent e. none sent (same d is ∙ e))
-    (deliver_ready w d rank number allowed).1 in
-    record {
-      frame = record { settings = refl; timing = refl; steps = refl; count = refl };
-      stands = λ d is allowed. absurd (never d is allowed);
-      gives = λ d is allowed. absurd (never d is allowed);
-      ranks = λ d is allowed. absurd (never d is allowed);
-    }
-
-pub hands_touched : (event : Event) (rank : Rank) (entry : What) → HandsEntry event rank entry → touched event ≡ Some rank
-hands_touched (event.View own view) rank entry hands = ap Some hands.0
-hands_touched (event.Device own agrees) rank entry hands = ap Some hands.0
-hands_touched (event.Tick own) rank entry hands = ap Some hands.0
-hands_touched (event.Stopped own) rank entry hands = ap Some hands.0
-hands_touched (event.Unstopped own) rank entry hands = ap Some hands.0
-hands_touched (event.Leave own) rank entry hands = ap Some hands.0
-hands_touched (event.Pass dt clocks) rank entry hands = absurd hands
-hands_touched (event.Boot own base) rank entry hands = absurd hands
-hands_touched (event.BootClean own base) rank entry hands = absurd hands
-hands_touched (event.Crash own) rank entry hands = absurd hands
-hands_touched (event.Land own) rank entry hands = absurd hands
-hands_touched (event.Done own) rank entry hands = absurd hands
-hands_touched (event.Fail own) rank entry hands = absurd hands
-hands_touched (event.Late own number) rank entry hands = absurd hands
-hands_touched (event.Deliver own number) rank entry hands = absurd hands
-hands_touched (event.Feed own) rank entry hands = absurd hands
-hands_touched (event.Operator own message) rank entry hands = absurd hands
-
 -- what a result promises on one side
 pub ok_so : {A E : Type 0} (r : Result A E) {P Q : Type 0} → (P → Q) → OnOk r P → OnOk r Q
 ok_so (Ok x) so p = so p
@@ -418,3 +232,11 @@ err_holds (Err x) e p = p
 pub ok_holds : {A E : Type 0} (r : Result A E) {P : Type 0} → is_err r ≡ false → OnOk r P → P
 ok_holds (Ok x) e p = p
 ok_holds (Err x) e p = absurd (cc)
+
+pub both_ok : {A E : Type 0} (r : Result A E) {P Q S : Type 0} → (P → Q → S) → OnOk r P → OnOk r Q → OnOk r S
+both_ok (Ok x) so p q = so p q
+both_ok (Err e) so p q = p
+
+pub some_so : {A : Type 0} (o : Option A) {P Q : Type 0} → (P → Q) → OnSome o P → OnSome o Q
+some_so None so p = p
+some_so (Some x) so p = so p

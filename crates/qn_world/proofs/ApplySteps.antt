@@ -1,22 +1,21 @@
 -- The first world, and the step of an event that is allowed.
-use Rattle.std.proofs.Common.{◌≡◌, ℕ, suc, zero, ◌+◌, ◌-◌, ◌<◌, ◌≤◌, true, List, [], ◌∷◌, length, Some, None, refl, sym, ◌∙◌, ap, subst, arith}
-use Rattle.std.specs.Prelude.{All, replicate, slice_get}
+use Rattle.std.proofs.Common.{◌≡◌, ℕ, suc, zero, ◌+◌, ◌-◌, ◌<◌, ◌≤◌, Bool, true, false, List, [], ◌∷◌, length, Some, None, refl, if◌then◌else◌, sym, ◌∙◌, ap, subst, arith}
+use Rattle.std.specs.Prelude.{All, replicate, slice_get, ◌==◌}
 use Rattle.std.proofs.lemmas.List.Elements.{All-nil}
 use Rattle.qn_base.specs.declared.limits.TheConstants.{LATEST_TIME}
 use Rattle.qn_cluster.specs.Standing.{ClusterFor, HasRoom, IsWithin}
-use Rattle.qn_model.specs.declared.disk.Message.TheVariants as message
-use Rattle.qn_model.specs.declared.disk.Slot.{Slot}
+use Rattle.qn_disk.specs.Standing.{LeftFor, SectorsFor}
 use Rattle.qn_model.specs.declared.events.Event.{Event}
+use Rattle.qn_model.specs.declared.outputs.DiskOp.{DiskOp}
 use Rattle.qn_model.specs.declared.outputs.Out.{Out}
 use Rattle.qn_model.specs.declared.reports.Report.{Report}
 use Rattle.qn_model.specs.declared.reports.Refused.TheVariants as refused
-use Rattle.qn_model.specs.declared.rules.Rule.{Rule}
 use Rattle.qn_model.specs.Timing.{is_safe}
 use Rattle.qn_model.specs.World.{World, first_world}
 use Rattle.qn_model.specs.Rules.{is_well_formed, refusal}
 use Rattle.qn_model.specs.Steps.{AllAllowed, holders, outs_after, report, run, step}
 use Rattle.qn_node.specs.Outputs.{IsNodeOutput}
-use Rattle.qn_world.specs.Standing.{IsReached, IsStanding, WorldFor, left_of}
+use Rattle.qn_world.specs.Standing.{IsReached, IsStanding, WorldFor, on_first}
 use Rattle.qn_world.specs.Stepping.{Applied, IsReady, OutOfMemory, Refuses, Stepped}
 use Rattle.qn_world.specs.Whole.{Whole, cluster_of}
 
@@ -27,22 +26,22 @@ replicated zero rank item below = absurd (omega arith)
 replicated (suc count) zero item below = refl
 replicated (suc count) (suc rank) item below = replicated count rank item (omega arith)
 
-abbrev pub clean_slot : Slot
-clean_slot = record { incarnation = 0; clean = true }
+either_way : (ops : List DiskOp) (b : Bool) → ops ≡ (if b then ops else ops)
+either_way ops true = refl
+either_way ops false = refl
 
 pub first_stands : (w : Whole) → is_safe w.timing ≡ true → ClusterFor (cluster_of w) []
-    → w.took ≡ replicate 32 None → w.slots ≡ replicate 32 clean_slot → w.mailboxes ≡ replicate 32 message.Empty → w.left ≡ []
+    → w.took ≡ replicate 32 None → SectorsFor w.sectors first_world.slots first_world.mailboxes → w.left ≡ []
     → WorldFor w first_world
-first_stands w safe cluster took slots mailboxes no_left =
+first_stands w safe cluster took sectors no_left =
     record {
       safe = safe;
       cluster = cluster;
       landings = λ rank below. ap (λ items. slice_get items rank) took ∙ replicated 32 rank None below;
       answers = λ rank entry e. absurd (cc);
-      sectors = λ rank below. ap (λ items. slice_get items rank) slots ∙ replicated 32 rank clean_slot below;
-      letters = λ rank below. ap (λ items. slice_get items rank) mailboxes ∙ replicated 32 rank message.Empty below;
-      lefts = λ rank. ap (λ left. left_of rank left) no_left;
-      left_targets = subst (All (λ leftover. IsWithin (length w.settings.nodes) leftover.op)) (sym no_left) (All-nil (λ leftover. IsWithin (length w.settings.nodes) leftover.op));
+      sectors = sectors;
+      lefts = subst (λ items. LeftFor (length w.settings.nodes) items (on_first first_world.left)) (sym no_left)
+          (record { lefts = λ rank image one. either_way [] (image == 1); targets = All-nil (λ leftover. IsWithin (length w.settings.nodes) leftover.op) });
     }
 
 pub first_reached : (w : Whole) → WorldFor w first_world → IsReached w
@@ -62,9 +61,7 @@ spent_world w d is cluster =
       landings = is.landings;
       answers = is.answers;
       sectors = is.sectors;
-      letters = is.letters;
       lefts = is.lefts;
-      left_targets = is.left_targets;
     }
 
 pub spent_ready : (w mid : Whole) (event : Event) → is_well_formed w.settings event ≡ true → (standing : IsStanding w) → w.time ≤ LATEST_TIME
@@ -111,10 +108,6 @@ starved w mid back new event some e stands allowed out f =
       memory = λ kind d is. out_spent.cause d (subst (λ m. WorldFor m d) e (stands d is)) (allowed d is);
     }
 
-pub not_allowed : (w : Whole) (event : Event) (rule : Rule) → ((d : World) → WorldFor w d → refusal w.settings w.timing event d ≡ Some rule.0)
-    → Refuses w w event (refused.NotAllowed rule)
-not_allowed w event rule why = record { same = refl; why = why; memory = λ kind. absurd (cc) }
-
 -- the world after one more event was reached
 pub reached_more : (w new : Whole) (event : Event) (outs : List Out) → IsReached w → is_well_formed w.settings event ≡ true → Applied w new event outs → IsReached new
 unfolding run AllAllowed
@@ -130,9 +123,6 @@ reached_more w new event outs reached formed made =
           subst (λ s. WorldFor new (run s new.timing (event ∷ reached.events))) (sym made.settings)
           (subst (λ t. WorldFor new (run w.settings t (event ∷ reached.events))) (sym made.timing) (made.stands (run w.settings w.timing reached.events) reached.stands));
     }
-
-pub reached_standing : (w : Whole) → IsReached w → IsStanding w
-reached_standing w reached = (run w.settings w.timing reached.events, reached.stands)
 
 -- ---- what is reported of an event
 

@@ -1,37 +1,37 @@
 -- What a world stands for after an event that hands no node an entry by itself.
-use Rattle.std.proofs.Common.{◌≡◌, ◌≢◌, ℕ, suc, ◌<◌, ◌≤◌, Bool, true, false, List, [], ◌∷◌, ◌++◌, length, Some, None, refl, if◌then◌else◌, not, ◌&&◌, ◌||◌, ◌⊎◌, inl, inr, sym, ◌∙◌, ap, subst, arith, length-append, drop, take}
+use Rattle.std.proofs.Common.{◌≡◌, ◌≢◌, ℕ, ◌<◌, ◌≤◌, Bool, true, false, List, [], ◌∷◌, ◌++◌, length, Some, None, refl, if◌then◌else◌, ◌&&◌, ◌||◌, ◌⊎◌, inl, inr, sym, ◌∙◌, ap, subst, arith, length-append}
 use Rattle.std.specs.Prelude.{All, Option, is_some, slice_get, slice_set, ◌==◌, nat_lt}
-use Rattle.std.specs.List.{remove}
 use Rattle.std.specs.Option.{option_map_or, option_or}
 use Rattle.std.proofs.lemmas.Bool.Decides.{nat_tests}
-use Rattle.std.proofs.lemmas.List.{append-nil}
-use Rattle.std.proofs.lemmas.List.Elements.{All-append, All-cons, All-drop, All-filter, All-nil, All-take}
+use Rattle.std.proofs.lemmas.List.Elements.{All-nil}
 use Rattle.qn_base.specs.declared.ids.Rank.{Rank}
+use Rattle.qn_cluster.specs.Events.{CanStep, KeepsOut, Starved, Stepped as NodesStepped, is_of_nodes}
 use Rattle.qn_cluster.specs.Standing.{IsOpWithin, IsWithin}
-use Rattle.qn_cluster.specs.Stepping.{Booted, Ended, Fed, IsPassable, Passed}
+use Rattle.qn_cluster.specs.Stepping.{Booted, Ended}
 use Rattle.qn_model.specs.declared.configuration.Settings.{Settings}
+use Rattle.qn_model.specs.declared.disk.Message.{Message}
 use Rattle.qn_model.specs.declared.entries.What.{What}
+use Rattle.qn_model.specs.declared.events.Event.{Event}
 use Rattle.qn_model.specs.declared.events.Event.TheVariants as event
 use Rattle.qn_model.specs.declared.outputs.DiskOp.{DiskOp}
 use Rattle.qn_model.specs.declared.outputs.DiskOp.TheVariants as disk
 use Rattle.qn_model.specs.declared.outputs.Out.{Out}
+use Rattle.qn_model.specs.declared.packets.Sent.{Sent}
 use Rattle.qn_model.specs.declared.times.Timing.{Timing}
 use Rattle.qn_model.specs.Fitting.{answers_op}
-use Rattle.qn_model.specs.Moments.{Boots, Ends}
+use Rattle.qn_model.specs.Moments.{Adds, Boots, Ends, packets}
 use Rattle.qn_model.specs.NodeOutputs.{newest_outs}
-use Rattle.qn_model.specs.World.{World, given_up, is_write, leftover_at, node_at, numbered, op_at, put, taken, without}
-use Rattle.qn_model.specs.Rules.{is_configured, is_on, is_well_formed, may_be_late, may_land, may_pass, refusal, unless}
-use Rattle.qn_model.specs.Steps.{boots, gives_up, happens, landed, lands_late, outs_after, step, touched, written}
+use Rattle.qn_model.specs.World.{World, given_up, leftover_at, node_at, numbered, op_at, put, taken, without}
+use Rattle.qn_model.specs.Rules.{is_configured, is_on, is_well_formed, may_be_late, may_land, refusal, unless}
+use Rattle.qn_model.specs.Steps.{boots, entry_of, gives_up, happens, landed, lands_late, outs_after, step, touched, with_mail, written}
 use Rattle.qn_node.specs.Outputs.{IsNodeOutput}
-use Rattle.qn_world.specs.declared.leftover.Leftover.{Leftover}
-use Rattle.qn_world.specs.Leftovers.{leftovers, others_of, place_in}
-use Rattle.qn_world.specs.Standing.{IsStanding, WorldFor, left_of}
-use Rattle.qn_world.specs.Stepping.{IsReady, OutOfMemory, SameFrame, Stepped, boot_event}
+use Rattle.qn_world.specs.Standing.{IsStanding, WorldFor}
+use Rattle.qn_world.specs.Stepping.{IsReady, LeavesOver, OutOfMemory, Stepped, Turns, boot_event}
 use Rattle.qn_world.specs.Whole.{Whole, cluster_of, with_nodes}
-use Rattle.qn_world.proofs.LeftoverSteps.{FoundLeft, found_left, left_of-apart, left_of-append, left_of-dropped, left_of-others, left_of-own}
-use Rattle.qn_world.proofs.Lists.{all_at, rank_cases, same_rank}
+use Rattle.qn_world.proofs.DiskSteps.{turned}
+use Rattle.qn_world.proofs.Lists.{rank_cases, same_rank}
 use Rattle.qn_world.proofs.RuleSteps.{le-true, second_true}
-use Rattle.qn_world.proofs.WorldSteps.{boots_others, ends_others, frame_of, put_here, same_frames, took_put, with_feed, with_left, with_none, with_pass, with_took}
+use Rattle.qn_world.proofs.WorldSteps.{boots_others, ends_others, frame_of, put_here, same_frames, took_put, with_kept, with_none, with_took}
 
 -- ---- what the rules leave
 
@@ -52,53 +52,21 @@ no_outputs s = All-nil (IsNodeOutput s)
 
 -- ---- leftovers
 
-within_by : (count : ℕ) (op : DiskOp) (rank : Rank) → IsWithin count op → (b : Bool)
-    → All (λ leftover. IsWithin count leftover.op) (leftovers rank (if b then op ∷ [] else []))
-within_by count op rank p true = All-cons (λ leftover. IsWithin count leftover.op) (record { of = rank; op = op }) [] p (All-nil (λ leftover. IsWithin count leftover.op))
-within_by count op rank p false = All-nil (λ leftover. IsWithin count leftover.op)
-
-given_up_within : (count : ℕ) (op : Option DiskOp) (took : Option What) (rank : Rank) → IsOpWithin count op
-    → All (λ leftover. IsWithin count leftover.op) (leftovers rank (given_up op took))
-given_up_within count None took rank p = All-nil (λ leftover. IsWithin count leftover.op)
-given_up_within count (Some op) (Some entry) rank p = All-nil (λ leftover. IsWithin count leftover.op)
-given_up_within count (Some op) None rank p = within_by count op rank p (is_write op)
-
-left_after : (w : Whole) (d : World) (rank : Rank) (ops : List DiskOp) (j : ℕ) → WorldFor w d → (rank.0 ≡ j) ⊎ ((rank.0 == j) ≡ false)
-    → left_of j (w.left ++ leftovers rank ops) ≡ put d.left rank.0 (d.left rank.0 ++ ops) j
-left_after w d rank ops j is (inl same) =
-    subst (λ k. left_of k (w.left ++ leftovers rank ops) ≡ put d.left rank.0 (d.left rank.0 ++ ops) k) same
-    (left_of-append rank.0 w.left (leftovers rank ops)
-    ∙ (ap (λ more. left_of rank.0 w.left ++ more) (left_of-own rank ops)
-    ∙ (ap (λ front. front ++ ops) (is.lefts rank.0)
-    ∙ sym (ap (λ b. if b then d.left rank.0 ++ ops else d.left rank.0) (same_rank rank.0)))))
-left_after w d rank ops j is (inr apart) =
-    left_of-append j w.left (leftovers rank ops)
-    ∙ (ap (λ more. left_of j w.left ++ more) (left_of-apart rank j ops apart)
-    ∙ (append-nil (left_of j w.left) ∙ (is.lefts j ∙ sym (ap (λ b. if b then d.left rank.0 ++ ops else d.left j) apart))))
-
 -- what is given up is that of the definitions
 pub given_up_same : (s : Settings) (d : World) (i : ℕ) (op : Option DiskOp) (took : Option What) → op ≡ op_at s i d → took ≡ d.took i
     → given_up op took ≡ leftover_at s i d
 given_up_same s d i op took op_is took_is = ap (λ op. given_up op took) op_is ∙ ap (λ took. given_up (op_at s i d) took) took_is
 
-pub gave_up : (w new : Whole) (d : World) (rank : Rank) (op : Option DiskOp) (took : Option What) → WorldFor w d → IsOpWithin (length w.settings.nodes) op
-    → op ≡ op_at w.settings rank.0 d → took ≡ d.took rank.0
-    → new ≡ record w { left = w.left ++ leftovers rank (given_up op took) }
-    → WorldFor new (record d { left = put d.left rank.0 (d.left rank.0 ++ leftover_at w.settings rank.0 d) })
-gave_up w new d rank op took is within op_is took_is e =
-    let ops = given_up op took in
-    subst (λ n. WorldFor n (record d { left = put d.left rank.0 (d.left rank.0 ++ leftover_at w.settings rank.0 d) })) (sym e)
-    (subst (λ given. WorldFor (record w { left = w.left ++ leftovers rank ops }) (record d { left = put d.left rank.0 (d.left rank.0 ++ given) })) (given_up_same w.settings d rank.0 op took op_is took_is)
-    (with_left w d (w.left ++ leftovers rank ops) (put d.left rank.0 (d.left rank.0 ++ ops)) is
-    (λ j. left_after w d rank ops j is (rank_cases rank.0 j))
-    (All-append (λ leftover. IsWithin (length w.settings.nodes) leftover.op) w.left (leftovers rank ops) is.left_targets
-    (given_up_within (length w.settings.nodes) op took rank within))))
+pub gave_up : (w left : Whole) (d : World) (i : ℕ) (op : Option DiskOp) (took : Option What) → WorldFor w d
+    → op ≡ op_at w.settings i d → took ≡ d.took i → LeavesOver w left i (given_up op took)
+    → WorldFor left (record d { left = put d.left i (d.left i ++ leftover_at w.settings i d) })
+gave_up w left d i op took is op_is took_is leaves =
+    subst (λ ops. WorldFor left (record d { left = put d.left i (d.left i ++ ops) })) (given_up_same w.settings d i op took op_is took_is) (leaves.stands d is)
 
 -- what a world says of the operation of a rank that is out, and of what it took
 pub record IsOut (w : Whole) (i : ℕ) (op : Option DiskOp) (took : Option What) : Type 0 where
   pub below : i < 32
   pub op_is : (d : World) → WorldFor w d → is_on w.settings i d ≡ true → op ≡ op_at w.settings i d
-  pub within : (d : World) → WorldFor w d → IsOpWithin (length w.settings.nodes) op
   pub took_is : (d : World) → WorldFor w d → took ≡ d.took i
 
 pub took_same : (w : Whole) (i : ℕ) (took : Option What) → i < 32 → ((seen : Option What) → slice_get w.took i ≡ Some seen → took ≡ seen)
@@ -115,17 +83,22 @@ longer_back : {A : Type 0} (front back : List A) → back ≢ [] → nat_lt (len
 longer_back front [] some = absurd (some refl)
 longer_back front (x ∷ back) some = let e = length-append front (x ∷ back) in grind (arith, nat_tests)
 
+pub or_first : (a b : Bool) → a ≡ true → (a || b) ≡ true
+or_first true b e = refl
+or_first false b e = absurd (cc)
+
 pub or_true : (a b : Bool) → b ≡ true → (a || b) ≡ true
 or_true true b e = refl
 or_true false b e = e
 
 pub crash_stepped : (w left mid new : Whole) (rank : Rank) (op : Option DiskOp) (took : Option What) → IsOut w rank.0 op took
-    → left ≡ record w { left = w.left ++ leftovers rank (given_up op took) }
+    → LeavesOver w left rank.0 (given_up op took)
     → mid ≡ record left { took = slice_set left.took rank.0 None }
     → new ≡ with_nodes mid (cluster_of new) → Ended (cluster_of mid) (cluster_of new) rank.0
     → Stepped w new (event.Crash rank) []
 unfolding step
-crash_stepped w left mid new rank op took out e f g ends =
+crash_stepped w left mid new rank op took out leaves f g ends =
+    let e = leaves.rest in
     let nodes : cluster_of mid ≡ cluster_of w = ap cluster_of f ∙ ap cluster_of e in
     let ended : Ended (cluster_of w) (cluster_of new) rank.0 = subst (λ c. Ended c (cluster_of new) rank.0) nodes ends in
     record {
@@ -137,7 +110,7 @@ crash_stepped w left mid new rank op took out e f g ends =
           let on = crash_on w d rank allowed in
           let i = rank.0 in
           let d1 = record d { left = put d.left i (d.left i ++ leftover_at w.settings i d) } in
-          with_none left new (cluster_of new) d1 (Ends i) i (gave_up w left d rank op took is (out.within d is) (out.op_is d is on) (out.took_is d is) e) out.below
+          with_none left new (cluster_of new) d1 (Ends i) i (gave_up w left d i op took is (out.op_is d is on) (out.took_is d is) leaves) out.below
           (ended.frame.settings ∙ sym (ap (λ w. w.settings) e)) (ended.stands d.moments is.cluster)
           (ends_others left.settings d.moments i) (g ∙ ap (λ m. with_nodes m (cluster_of new)) f);
       gives = λ d is allowed. refl;
@@ -195,11 +168,12 @@ land_answers w d i op is op_is j entry took on = land_by (rank_cases i j)
 pub land_stepped : (w mid new : Whole) (rank : Rank) (op : DiskOp) (entry : What) → rank.0 < 32
     → ((d : World) → WorldFor w d → is_on w.settings rank.0 d ≡ true → Some op ≡ op_at w.settings rank.0 d)
     → ((d : World) → WorldFor w d → entry ≡ taken w.settings w.timing rank.0 op d)
-    → SameFrame w mid → ((d : World) → WorldFor w d → WorldFor mid (written rank.0 op d))
+    → Turns w mid (written rank.0 op)
     → new ≡ record mid { took = slice_set mid.took rank.0 (Some entry) }
     → Stepped w new (event.Land rank) []
 unfolding step
-land_stepped w mid new rank op entry below out takes frame writes e =
+land_stepped w mid new rank op entry below out takes writes e =
+    let frame = turned w mid writes.rest in
     record {
       frame = same_frames w mid new frame (record { settings = ap (λ w. w.settings) e; timing = ap (λ w. w.timing) e; steps = ap (λ w. w.steps) e; count = ap (λ w. length w.seats) e });
       stands = λ d is allowed.
@@ -207,7 +181,7 @@ land_stepped w mid new rank op entry below out takes frame writes e =
           let ready = land_ready w d rank allowed in
           let op_is : op_at w.settings i d ≡ Some op = sym (out d is ready.0) in
           let value = taken w.settings w.timing i op d in
-          let middle = writes d is in
+          let middle = writes.stands d is in
           let made : new ≡ record mid { took = slice_set mid.took i (Some value) } = e ∙ ap (λ entry. record mid { took = slice_set mid.took i (Some entry) }) (takes d is) in
           let lands : WorldFor new (record (written i op d) { took = put d.took i (Some value) }) =
           subst (λ n. WorldFor n (record (written i op d) { took = put d.took i (Some value) })) (sym made)
@@ -244,47 +218,70 @@ not_landed w rank op op_is none =
       ranks = λ d is allowed. no_outputs w.settings;
     }
 
--- ---- feed
+-- ---- an event that changes nodes alone
 
-pub feed_stepped : (w new : Whole) (rank : Rank) → new ≡ with_nodes w (cluster_of new) → Fed (cluster_of w) (cluster_of new) rank.0
-    → Stepped w new (event.Feed rank) []
+-- a packet that is found is one entry more
+delivers : (o : Option Sent) (rank : Rank) (d : World) → option_map_or (λ sent. happens (Adds rank.0 (entry_of sent.packet)) d) o d
+    ≡ record d { moments = (option_map_or (λ sent. happens (Adds rank.0 (entry_of sent.packet)) d) o d).moments }
+delivers None rank d = refl
+delivers (Some sent) rank d = refl
+
+-- its step changes the moments alone
+moves : (s : Settings) (t : Timing) (event : Event) (d : World) → is_of_nodes event ≡ true → step s t event d ≡ record d { moments = (step s t event d).moments }
 unfolding step
-feed_stepped w new rank e feeds =
+moves s t (event.Pass dt clocks) d e = refl
+moves s t (event.View rank view) d e = refl
+moves s t (event.Deliver rank number) d e = delivers (slice_get (packets s d.moments) number) rank d
+moves s t (event.Device rank agrees) d e = refl
+moves s t (event.Tick rank) d e = refl
+moves s t (event.Stopped rank) d e = refl
+moves s t (event.Unstopped rank) d e = refl
+moves s t (event.Leave rank) d e = refl
+moves s t (event.Feed rank) d e = refl
+moves s t (event.Boot rank base) d e = absurd (cc)
+moves s t (event.BootClean rank base) d e = absurd (cc)
+moves s t (event.Crash rank) d e = absurd (cc)
+moves s t (event.Land rank) d e = absurd (cc)
+moves s t (event.Done rank) d e = absurd (cc)
+moves s t (event.Fail rank) d e = absurd (cc)
+moves s t (event.Late rank number) d e = absurd (cc)
+moves s t (event.Operator rank message) d e = absurd (cc)
+
+pub can_step : (w : Whole) (event : Event) → is_of_nodes event ≡ true → IsReady w event → CanStep (cluster_of w) event
+can_step w event nodes ready =
     record {
-      frame = frame_of w new e feeds.frame;
-      stands = λ d is allowed. with_feed w new d rank.0 is e feeds.frame.settings (feeds.stands d.moments is.cluster);
-      gives = λ d is allowed. refl;
-      ranks = λ d is allowed. no_outputs w.settings;
+      nodes = nodes;
+      formed = ready.formed;
+      room = ready.room;
+      early = ready.early;
+      timing = w.timing;
+      world = ready.standing.0;
+      stands = ready.standing.1.cluster;
+      allowed = ready.allowed;
     }
 
--- ---- pass
-
-pass_ready : (w : Whole) (d : World) (dt : ℕ) (clocks : List (Rank × ℕ)) → refusal w.settings w.timing (event.Pass dt clocks) d ≡ None
-    → may_pass w.settings w.timing dt clocks d ≡ true
-unfolding refusal
-pass_ready w d dt clocks e = passed (may_pass w.settings w.timing dt clocks d) 1 e
-
-pub passable : (w : Whole) (dt : ℕ) (clocks : List (Rank × ℕ)) → IsReady w (event.Pass dt clocks) → IsPassable (cluster_of w) dt clocks
-passable w dt clocks ready =
-    record { timing = w.timing; world = ready.standing.0; stands = ready.standing.1.cluster; allowed = pass_ready w ready.standing.0 dt clocks ready.allowed }
-
-pub pass_stepped : (w new : Whole) (dt : ℕ) (clocks : List (Rank × ℕ)) → new ≡ with_nodes w (cluster_of new) → Passed (cluster_of w) (cluster_of new) dt clocks
-    → Stepped w new (event.Pass dt clocks) []
-unfolding step
-pass_stepped w new dt clocks e passes =
+pub nodes_stepped : (w new : Whole) (event : Event) (outs : List Out) → is_of_nodes event ≡ true → new ≡ with_nodes w (cluster_of new)
+    → NodesStepped (cluster_of w) (cluster_of new) event outs → Stepped w new event outs
+nodes_stepped w new event outs nodes disk made =
     record {
-      frame = frame_of w new e passes.frame;
-      stands = λ d is allowed. with_pass w new d dt clocks is e passes.frame.settings (passes.stands w.timing d is.cluster (pass_ready w d dt clocks allowed));
-      gives = λ d is allowed. refl;
-      ranks = λ d is allowed. no_outputs w.settings;
+      frame = frame_of w new disk made.frame;
+      stands = λ d is allowed.
+          let after = step w.settings w.timing event d in
+          subst (λ after. WorldFor new after) (sym (moves w.settings w.timing event d nodes))
+          (with_kept w new d after.moments is disk made.frame.settings (made.stands w.timing d is.cluster allowed)
+          (subst (KeepsOut w.settings d) (moves w.settings w.timing event d nodes) (made.keeps w.timing d is.cluster allowed)));
+      gives = λ d is allowed. made.gives w.timing d is.cluster allowed;
+      ranks = λ d is allowed. made.ranks w.timing d is.cluster allowed;
+    }
+
+pub nodes_starved : (w new : Whole) (event : Event) → new ≡ with_nodes w (cluster_of new) → Starved (cluster_of w) (cluster_of new) event → OutOfMemory w new event
+nodes_starved w new event disk starved =
+    record {
+      same = disk ∙ ap (λ c. with_nodes w c) starved.same;
+      cause = λ d is allowed. or_first _ _ (starved.cause w.timing d is.cluster allowed);
     }
 
 -- ---- boot
-
-dropped : (w : Whole) (d : World) (i j : ℕ) → WorldFor w d → (i ≡ j) ⊎ ((i == j) ≡ false) → left_of j (others_of i w.left) ≡ put d.left i [] j
-dropped w d i j is (inl same) =
-    subst (λ k. left_of k (others_of i w.left) ≡ put d.left i [] k) same (left_of-dropped i w.left ∙ sym (put_here d.left i []))
-dropped w d i j is (inr apart) = left_of-others i j w.left apart ∙ (is.lefts j ∙ sym (ap (λ b. if b then [] else d.left j) apart))
 
 pub few_base : (s : Settings) (rank : Rank) (base : ℕ) (clean : Bool) → is_well_formed s (boot_event rank base clean) ≡ true → base ≤ 1000000000000000
 unfolding is_well_formed
@@ -308,28 +305,24 @@ boot_reports s rank base false after = refl
 boot_reports s rank base true after = refl
 
 pub boot_stepped : (w left mid new : Whole) (rank : Rank) (base : ℕ) (clean : Bool) (outs : List Out) → rank.0 < 32
-    → left ≡ record w { left = others_of rank.0 w.left }
+    → Turns w left (λ d. record d { left = put d.left rank.0 [] })
     → mid ≡ record left { took = slice_set left.took rank.0 None }
     → new ≡ with_nodes mid (cluster_of new) → Booted (cluster_of mid) (cluster_of new) rank.0 base clean outs
     → Stepped w new (boot_event rank base clean) outs
-boot_stepped w left mid new rank base clean outs below e f g booting =
+boot_stepped w left mid new rank base clean outs below drops f g booting =
     let i = rank.0 in
-    let nodes : cluster_of mid ≡ cluster_of w = ap cluster_of f ∙ ap cluster_of e in
+    let nodes : cluster_of mid ≡ cluster_of w = ap cluster_of f ∙ drops.rest.nodes in
     let booted : Booted (cluster_of w) (cluster_of new) i base clean outs = subst (λ c. Booted c (cluster_of new) i base clean outs) nodes booting in
     record {
       frame =
           same_frames w mid new
-          (record { settings = ap (λ c. c.settings) nodes; timing = ap (λ w. w.timing) f ∙ ap (λ w. w.timing) e; steps = ap (λ c. c.steps) nodes; count = ap (λ c. length c.seats) nodes })
+          (record { settings = ap (λ c. c.settings) nodes; timing = ap (λ w. w.timing) f ∙ drops.rest.timing; steps = ap (λ c. c.steps) nodes; count = ap (λ c. length c.seats) nodes })
           (frame_of mid new g booting.frame);
       stands = λ d is allowed.
           let d1 = record d { left = put d.left i [] } in
-          let middle : WorldFor left d1 =
-          subst (λ m. WorldFor m d1) (sym e)
-          (with_left w d (others_of i w.left) (put d.left i []) is (λ j. dropped w d i j is (rank_cases i j))
-          (All-filter (λ leftover. not (leftover.of.0 == i)) (λ leftover. IsWithin (length w.settings.nodes) leftover.op) w.left is.left_targets)) in
           subst (λ after. WorldFor new after) (sym (boot_steps w.settings w.timing rank base clean d))
-          (with_none left new (cluster_of new) d1 (Boots i base clean) i middle below
-          (booted.frame.settings ∙ sym (ap (λ w. w.settings) e)) (booted.stands d.moments is.cluster)
+          (with_none left new (cluster_of new) d1 (Boots i base clean) i (drops.stands d is) below
+          (booted.frame.settings ∙ sym (ap (λ c. c.settings) drops.rest.nodes)) (booted.stands d.moments is.cluster)
           (boots_others left.settings d.moments i base clean) (g ∙ ap (λ m. with_nodes m (cluster_of new)) f));
       gives = λ d is allowed.
           booted.gives d.moments is.cluster
@@ -345,45 +338,16 @@ late_ready : (w : Whole) (d : World) (rank : Rank) (number : ℕ) → refusal w.
 unfolding refusal
 late_ready w d rank number e = passed (may_be_late rank.0 number d) 6 e
 
-removed_within : (count : ℕ) (left : List Leftover) (place : ℕ) → All (λ leftover. IsWithin count leftover.op) left
-    → All (λ leftover. IsWithin count leftover.op) (remove left place)
-removed_within count left place all =
-    All-append (λ leftover. IsWithin count leftover.op) (take place left) (drop (suc place) left)
-    (All-take (λ leftover. IsWithin count leftover.op) place left all) (All-drop (λ leftover. IsWithin count leftover.op) (suc place) left all)
-
-left_removed : (w : Whole) (d : World) (i number place : ℕ) (j : ℕ) → WorldFor w d → FoundLeft i number w.left place → (i ≡ j) ⊎ ((i == j) ≡ false)
-    → left_of j (remove w.left place) ≡ put d.left i (without (d.left i) number) j
-left_removed w d i number place j is found (inl same) =
-    subst (λ k. left_of k (remove w.left place) ≡ put d.left i (without (d.left i) number) k) same
-    (found.own ∙ (ap (λ ops. without ops number) (is.lefts i) ∙ sym (put_here d.left i (without (d.left i) number))))
-left_removed w d i number place j is found (inr apart) =
-    found.apart j apart ∙ (is.lefts j ∙ sym (ap (λ b. if b then without (d.left i) number else d.left j) apart))
-
-pub late_stepped : (w mid new : Whole) (rank : Rank) (number place : ℕ) (leftover : Leftover) → 1 ≤ number → place_in rank.0 number w.left ≡ Some place
-    → slice_get w.left place ≡ Some leftover → mid ≡ record w { left = remove w.left place }
-    → SameFrame mid new → ((d : World) → WorldFor mid d → WorldFor new (written rank.0 leftover.op d))
+pub late_stepped : (w mid new : Whole) (rank : Rank) (number : ℕ) (op : DiskOp) → ((d : World) → WorldFor w d → Some op ≡ numbered (d.left rank.0) number)
+    → Turns w mid (λ d. record d { left = put d.left rank.0 (without (d.left rank.0) number) }) → Turns mid new (written rank.0 op)
     → Stepped w new (event.Late rank number) []
 unfolding step
-late_stepped w mid new rank number place leftover some at here e frame writes =
-    let found = found_left rank.0 number w.left place some at in
-    let same : found.item ≡ leftover = (let z : Some found.item ≡ Some leftover = sym found.there ∙ here in cc) in
+late_stepped w mid new rank number op found takes writes =
     record {
-      frame = record {
-        settings = frame.settings ∙ ap (λ w. w.settings) e;
-        timing = frame.timing ∙ ap (λ w. w.timing) e;
-        steps = frame.steps ∙ ap (λ w. w.steps) e;
-        count = frame.count ∙ ap (λ w. length w.seats) e;
-      };
+      frame = same_frames w mid new (turned w mid takes.rest) (turned mid new writes.rest);
       stands = λ d is allowed.
-          let i = rank.0 in
-          let op_is : numbered (d.left i) number ≡ Some leftover.op =
-          sym (ap (λ ops. numbered ops number) (is.lefts i)) ∙ (found.op_is ∙ ap (λ item. Some item.op) same) in
-          let middle : WorldFor mid (record d { left = put d.left i (without (d.left i) number) }) =
-          subst (λ m. WorldFor m (record d { left = put d.left i (without (d.left i) number) })) (sym e)
-          (with_left w d (remove w.left place) (put d.left i (without (d.left i) number)) is
-          (λ j. left_removed w d i number place j is found (rank_cases i j)) (removed_within (length w.settings.nodes) w.left place is.left_targets)) in
-          subst (λ o. WorldFor new (option_map_or (λ op. lands_late i number op d) o d)) (sym op_is)
-          (writes (record d { left = put d.left i (without (d.left i) number) }) middle);
+          subst (λ o. WorldFor new (option_map_or (λ op. lands_late rank.0 number op d) o d)) (found d is)
+          (writes.stands (record d { left = put d.left rank.0 (without (d.left rank.0) number) }) (takes.stands d is));
       gives = λ d is allowed. refl;
       ranks = λ d is allowed. no_outputs w.settings;
     }
@@ -392,12 +356,28 @@ is_some_none : {A : Type 0} (o : Option A) → o ≡ None → is_some o ≡ true
 is_some_none None e some = absurd (cc)
 is_some_none (Some x) e some = absurd (cc)
 
-pub not_late : (w : Whole) (rank : Rank) (number : ℕ) → 1 ≤ number → numbered (left_of rank.0 w.left) number ≡ None → Stepped w w (event.Late rank number) []
-not_late w rank number some none =
-    record {
+none_late : (w : Whole) (d : World) (rank : Rank) (number : ℕ) → None ≡ numbered (d.left rank.0) number
+    → refusal w.settings w.timing (event.Late rank number) d ≡ None → ⊥
+none_late w d rank number none allowed = is_some_none (numbered (d.left rank.0) number) (sym none) (late_ready w d rank number allowed)
+
+pub not_late : (w new : Whole) (rank : Rank) (number : ℕ) → new ≡ w → ((d : World) → WorldFor w d → None ≡ numbered (d.left rank.0) number)
+    → Stepped w new (event.Late rank number) []
+not_late w new rank number e none =
+    subst (λ n. Stepped w n (event.Late rank number) []) (sym e)
+    (record {
       frame = record { settings = refl; timing = refl; steps = refl; count = refl };
-      stands = λ d is allowed.
-          absurd (is_some_none (numbered (d.left rank.0) number) (sym (ap (λ ops. numbered ops number) (is.lefts rank.0)) ∙ none) (late_ready w d rank number allowed));
+      stands = λ d is allowed. absurd (none_late w d rank number (none d is) allowed);
+      gives = λ d is allowed. refl;
+      ranks = λ d is allowed. no_outputs w.settings;
+    })
+
+-- an operator replaces what a mailbox holds
+pub operator_stepped : (w new : Whole) (rank : Rank) (value : Message) → Turns w new (with_mail rank.0 value) → Stepped w new (event.Operator rank value) []
+unfolding step
+operator_stepped w new rank value puts =
+    record {
+      frame = turned w new puts.rest;
+      stands = λ d is allowed. puts.stands d is;
       gives = λ d is allowed. refl;
       ranks = λ d is allowed. no_outputs w.settings;
     }
@@ -416,8 +396,3 @@ wider count (disk.WriteClose number) few p = tt
 
 pub op_target : (w : Whole) (op : DiskOp) → IsStanding w → IsOpWithin (length w.settings.nodes) (Some op) → IsWithin 32 op
 op_target w op standing within = wider (length w.settings.nodes) op standing.1.cluster.valid.few_nodes within
-
-pub left_target : (w : Whole) (place : ℕ) (leftover : Leftover) → IsStanding w → slice_get w.left place ≡ Some leftover → IsWithin 32 leftover.op
-left_target w place leftover standing here =
-    wider (length w.settings.nodes) leftover.op standing.1.cluster.valid.few_nodes
-    (all_at (λ leftover. IsWithin (length w.settings.nodes) leftover.op) w.left place leftover standing.1.left_targets here)

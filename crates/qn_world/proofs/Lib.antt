@@ -1,10 +1,8 @@
 pub mod AnswerSteps
 pub mod ApplySteps
+pub mod DiskSteps
 pub mod EventSteps
-pub mod LeftCounts
-pub mod LeftoverSteps
 pub mod Lists
 pub mod Looks
 pub mod RuleSteps
-pub mod SectorSteps
 pub mod WorldSteps

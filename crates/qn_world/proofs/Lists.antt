@@ -1,10 +1,10 @@
--- Lists whose items are replaced, and leftovers.
-use Rattle.std.proofs.Common.{◌≡◌, ◌≢◌, ℕ, suc, zero, ◌<◌, Bool, true, false, List, [], ◌∷◌, length, get_or, Some, None, refl, ◌⊎◌, inl, inr, sym, ◌∙◌, ap, subst, arith, eq-eqb}
-use Rattle.std.specs.Prelude.{All, Option, slice_get, slice_set, ◌==◌}
-use Rattle.std.proofs.lemmas.List.Elements.{All-get_or}
+-- Lists whose items are replaced, and the images.
+use Rattle.std.proofs.Common.{◌≡◌, ◌≢◌, ℕ, suc, zero, ◌<◌, Bool, true, false, List, [], ◌∷◌, length, get_or, Some, None, refl, ◌⊎◌, inl, inr, sym, ◌∙◌, ap, arith, eq-eqb}
+use Rattle.std.specs.Prelude.{Option, slice_get, slice_set, ◌==◌}
 use Rattle.std.proofs.lemmas.Bool.{false≢true}
-use Rattle.std.proofs.lemmas.Bool.Decides.{Decides-eqb}
-use Rattle.std.proofs.lemmas.Option.{get_or_from_slice_get, slice_get_within}
+use Rattle.std.proofs.lemmas.Bool.Decides.{Decides-eqb, nat_tests}
+use Rattle.std.proofs.lemmas.Option.{get_or_from_slice_get}
+use Rattle.qn_safety.specs.TripleRules.{is_image}
 
 -- two ranks are the same or not
 rank_by : (i j : ℕ) (b : Bool) → (i == j) ≡ b → (i ≡ j) ⊎ ((i == j) ≡ false)
@@ -40,10 +40,14 @@ pub read_at : {A : Type 0} (items others : List A) (place i : ℕ) (item d : A) 
 read_at items others place i item d same at here =
     get_or_from_slice_get items place item d (ap (λ items. slice_get items place) same ∙ (ap (λ place. slice_get others place) at ∙ here))
 
--- what holds of each item holds of the one at a place
-pub all_at : {A : Type 0} (P : A → Type 0) (items : List A) (i : ℕ) (item : A) → All P items → slice_get items i ≡ Some item → P item
-all_at P items i item all here = subst P (get_or_from_slice_get items i item item here) (All-get_or P items i item (slice_get_within items i item here) all)
-
 pub not_some : {A : Type 0} (o : Option A) → ((x : A) → o ≡ Some x → ⊥) → o ≡ None
 not_some None never = refl
 not_some (Some x) never = absurd (never x refl)
+
+-- what holds of the images 1, 2 and 3 holds of each
+pub by_image : (P : ℕ → Type 0) → P 1 → P 2 → P 3 → (image : ℕ) → is_image image ≡ true → P image
+by_image P one two three zero e = absurd (cc)
+by_image P one two three (suc zero) e = one
+by_image P one two three (suc (suc zero)) e = two
+by_image P one two three (suc (suc (suc zero))) e = three
+by_image P one two three (suc (suc (suc (suc image)))) e = absurd (grind (arith, nat_tests))

@@ -1,20 +1,18 @@
 -- The rules that look at the disk, and the ranks of well formed events.
-use Rattle.std.proofs.Common.{◌≡◌, ℕ, ◌<◌, ◌≤◌, Bool, true, false, List, length, Some, refl, not, ◌&&◌, ◌||◌, sym, ◌∙◌, ap, subst, arith}
-use Rattle.std.specs.Prelude.{slice_get, nat_le, nat_lt}
-use Rattle.std.specs.List.{list_all}
+use Rattle.std.proofs.Common.{◌≡◌, ℕ, ◌<◌, ◌≤◌, Bool, true, false, length, Some, refl, not, ◌&&◌, ◌||◌, sym, ◌∙◌, ap, subst, arith}
+use Rattle.std.specs.Prelude.{nat_le, nat_lt}
 use Rattle.std.proofs.lemmas.Bool.Decides.{nat_tests}
 use Rattle.qn_base.specs.declared.ids.Rank.{Rank}
-use Rattle.qn_cluster.specs.Nodes.{Nodes}
 use Rattle.qn_model.specs.declared.configuration.Settings.{Settings}
 use Rattle.qn_model.specs.declared.disk.Message.{Message}
 use Rattle.qn_model.specs.declared.events.Event.{Event}
 use Rattle.qn_model.specs.declared.events.Event.TheVariants as event
 use Rattle.qn_model.specs.World.{World}
-use Rattle.qn_model.specs.Rules.{is_between, is_clock, is_configured, is_on, is_well_formed, may_operate}
+use Rattle.qn_model.specs.Rules.{is_configured, is_on, is_well_formed, may_operate}
 use Rattle.qn_model.specs.Sectors.{is_deadly}
 use Rattle.qn_model.specs.Steps.{touched}
-use Rattle.qn_world.specs.Standing.{IsStanding, WorldFor}
-use Rattle.qn_world.specs.Whole.{Whole, cluster_of}
+use Rattle.qn_world.specs.Standing.{IsStanding}
+use Rattle.qn_world.specs.Whole.{Whole}
 
 -- ---- ranks
 
@@ -64,34 +62,17 @@ pub rank_few : (w : Whole) (event : Event) (rank : Rank) → IsStanding w → is
 rank_few w event rank standing formed e =
     let few = standing.1.cluster.valid.few_nodes in let below = rank_configured w.settings event rank formed e in omega arith
 
--- the clocks of a well formed pass
-pub short_pass : (s : Settings) (dt : ℕ) (clocks : List (Rank × ℕ)) → is_well_formed s (event.Pass dt clocks) ≡ true → dt ≤ 1000000000
-unfolding is_well_formed
-short_pass s dt clocks formed =
-    let in_range : is_between 1 1000000000 dt ≡ true = first_true _ (list_all (is_clock s) clocks) (first_true _ _ formed) in
-    le-true dt 1000000000 (second_true (nat_le 1 dt) _ in_range)
-
 -- the number of a leftover is 1 or more
 pub late_number : (s : Settings) (rank : Rank) (number : ℕ) → is_well_formed s (event.Late rank number) ≡ true → 1 ≤ number
 unfolding is_well_formed
 late_number s rank number formed = le-true 1 number (first_true (nat_le 1 number) _ (second_true (is_configured s rank.0) _ formed))
 
--- a rank that is known to a world
-pub seat_few : (w : Whole) (i : ℕ) → IsStanding w → i < length w.seats → i < 32
-seat_few w i standing within = let few = standing.1.cluster.valid.few_nodes in let count = standing.1.cluster.count in omega arith
-
 -- rule 10, by the mailbox of a rank
-pub operator_rule : (w : Whole) (d : World) (i : ℕ) (sent there : Message) (on : Bool) → WorldFor w d → i < 32
-    → ((value : Message) → slice_get w.mailboxes i ≡ Some value → there ≡ value) → on ≡ is_on w.settings i d
+pub operator_rule : (w : Whole) (d : World) (i : ℕ) (sent there : Message) (on : Bool) → there ≡ d.mailboxes i → on ≡ is_on w.settings i d
     → (is_deadly sent || not (is_deadly there) || not on) ≡ may_operate w.settings i sent d
-operator_rule w d i sent there on is few holds runs =
-    ap (λ message. is_deadly sent || not (is_deadly message) || not on) (holds (d.mailboxes i) (is.letters i few))
+operator_rule w d i sent there on holds runs =
+    ap (λ message. is_deadly sent || not (is_deadly message) || not on) holds
     ∙ ap (λ on. is_deadly sent || not (is_deadly (d.mailboxes i)) || not on) runs
 
 pub few_seats : (w : Whole) → IsStanding w → length w.seats ≤ 32
 few_seats w standing = subst (λ count. count ≤ 32) (sym standing.1.cluster.count) standing.1.cluster.valid.few_nodes
-
--- the rank of a well formed event has a seat in the nodes of a world
-pub rank_inside : (w : Whole) (n : Nodes) (event : Event) (rank : Rank) → n ≡ cluster_of w → IsStanding w → is_well_formed w.settings event ≡ true
-    → touched event ≡ Some rank → rank.0 < length n.seats
-rank_inside w n event rank same standing formed e = subst (λ n. rank.0 < length n.seats) (sym same) (rank_within w event rank standing formed e)

@@ -1,25 +1,22 @@
 -- What a world stands for after one of its parts changed.
 use Rattle.std.proofs.Common.{◌≡◌, ℕ, ◌<◌, Bool, true, false, List, ◌∷◌, length, Some, None, refl, if◌then◌else◌, ◌⊎◌, inl, inr, sym, ◌∙◌, ap, subst}
-use Rattle.std.specs.Prelude.{All, Option, is_some, slice_get, slice_set, ◌==◌}
+use Rattle.std.specs.Prelude.{Option, is_some, slice_get, slice_set, ◌==◌}
 use Rattle.std.proofs.lemmas.Option.{slice_get_within}
-use Rattle.qn_base.specs.declared.ids.Rank.{Rank}
+use Rattle.qn_cluster.specs.Events.{KeepsOut}
 use Rattle.qn_cluster.specs.Nodes.{Nodes}
-use Rattle.qn_cluster.specs.Standing.{ClusterFor, IsWithin}
-use Rattle.qn_cluster.specs.Stepping.{Handed, SameFrame as SameNodes}
+use Rattle.qn_cluster.specs.Standing.{ClusterFor}
+use Rattle.qn_cluster.specs.Stepping.{SameFrame as SameNodes}
+use Rattle.qn_disk.specs.Standing.{LeftFor}
 use Rattle.qn_model.specs.declared.configuration.Settings.{Settings}
-use Rattle.qn_model.specs.declared.disk.Message.{Message}
-use Rattle.qn_model.specs.declared.disk.Slot.{Slot}
 use Rattle.qn_model.specs.declared.entries.What.{What}
 use Rattle.qn_model.specs.declared.outputs.DiskOp.{DiskOp}
-use Rattle.qn_model.specs.declared.outputs.Out.{Out}
 use Rattle.qn_model.specs.Fitting.{answers_op}
-use Rattle.qn_model.specs.Log.{is_answer, op_out}
-use Rattle.qn_model.specs.Moments.{Adds, Boots, Ends, Feeds, Moment, Passes, booted, handed, node, time}
+use Rattle.qn_model.specs.Log.{op_out}
+use Rattle.qn_model.specs.Moments.{Adds, Boots, Ends, Moment, booted, handed, node, time}
 use Rattle.qn_model.specs.Rules.{is_on}
 use Rattle.qn_model.specs.Steps.{happens}
 use Rattle.qn_model.specs.World.{World, op_at, put}
-use Rattle.qn_world.specs.declared.leftover.Leftover.{Leftover}
-use Rattle.qn_world.specs.Standing.{WorldFor, left_of}
+use Rattle.qn_world.specs.Standing.{WorldFor, on_first}
 use Rattle.qn_world.specs.Stepping.{SameFrame}
 use Rattle.qn_world.specs.Whole.{Whole, cluster_of, with_nodes}
 use Rattle.qn_world.proofs.Lists.{get_set_other, get_set_same, rank_cases, same_rank}
@@ -44,22 +41,21 @@ same_frames w mid new first second =
 abbrev pub Answers : Settings → World → (ℕ → Option What) → Type 0
 Answers s d took = (j : ℕ) (entry : What) → took j ≡ Some entry → is_on s j d ≡ true → answers_op (op_at s j d) entry ≡ true
 
--- the nodes after one more moment, and what their operations took
-pub with_moment : (w : Whole) (c : Nodes) (d : World) (moment : Moment) (took : List (Option What)) (new_took : ℕ → Option What)
-    → WorldFor w d → c.settings ≡ w.settings → ClusterFor c (moment ∷ d.moments)
+-- the nodes after other moments, and what their operations took
+pub with_moments : (w : Whole) (c : Nodes) (d : World) (moments : List Moment) (took : List (Option What)) (new_took : ℕ → Option What)
+    → WorldFor w d → c.settings ≡ w.settings → ClusterFor c moments
     → ((j : ℕ) → j < 32 → slice_get took j ≡ Some (new_took j))
-    → Answers w.settings (happens moment d) new_took
-    → WorldFor (record (with_nodes w c) { took = took }) (record (happens moment d) { took = new_took })
-with_moment w c d moment took new_took is same cluster landings answers =
+    → Answers w.settings (record d { moments = moments }) new_took
+    → WorldFor (record (with_nodes w c) { took = took }) (record d { moments = moments; took = new_took })
+with_moments w c d moments took new_took is same cluster landings answers =
+    let after = record d { moments = moments } in
     record {
       safe = is.safe;
       cluster = cluster;
       landings = landings;
-      answers = λ j entry e. subst (λ s. is_on s j (happens moment d) ≡ true → answers_op (op_at s j (happens moment d)) entry ≡ true) (sym same) (answers j entry e);
+      answers = λ j entry e. subst (λ s. is_on s j after ≡ true → answers_op (op_at s j after) entry ≡ true) (sym same) (answers j entry e);
       sectors = is.sectors;
-      letters = is.letters;
-      lefts = is.lefts;
-      left_targets = subst (λ s. All (λ leftover. IsWithin (length s.nodes) leftover.op) w.left) (sym same) is.left_targets;
+      lefts = subst (λ s. LeftFor (length s.nodes) w.left (on_first d.left)) (sym same) is.lefts;
     }
 
 -- what an operation took changed
@@ -73,44 +69,7 @@ with_took w d took new_took is landings answers =
       landings = landings;
       answers = answers;
       sectors = is.sectors;
-      letters = is.letters;
       lefts = is.lefts;
-      left_targets = is.left_targets;
-    }
-
--- the sectors changed
-pub with_sectors : (w : Whole) (d : World) (slots : List Slot) (mailboxes : List Message) (new_slots : ℕ → Slot) (new_mailboxes : ℕ → Message)
-    → WorldFor w d
-    → ((j : ℕ) → j < 32 → slice_get slots j ≡ Some (new_slots j))
-    → ((j : ℕ) → j < 32 → slice_get mailboxes j ≡ Some (new_mailboxes j))
-    → WorldFor (record w { slots = slots; mailboxes = mailboxes }) (record d { slots = new_slots; mailboxes = new_mailboxes })
-with_sectors w d slots mailboxes new_slots new_mailboxes is in_slots in_mailboxes =
-    record {
-      safe = is.safe;
-      cluster = is.cluster;
-      landings = is.landings;
-      answers = is.answers;
-      sectors = in_slots;
-      letters = in_mailboxes;
-      lefts = is.lefts;
-      left_targets = is.left_targets;
-    }
-
--- the leftovers changed
-pub with_left : (w : Whole) (d : World) (left : List Leftover) (new_left : ℕ → List DiskOp)
-    → WorldFor w d → ((j : ℕ) → left_of j left ≡ new_left j)
-    → All (λ leftover. IsWithin (length w.settings.nodes) leftover.op) left
-    → WorldFor (record w { left = left }) (record d { left = new_left })
-with_left w d left new_left is lefts targets =
-    record {
-      safe = is.safe;
-      cluster = is.cluster;
-      landings = is.landings;
-      answers = is.answers;
-      sectors = is.sectors;
-      letters = is.letters;
-      lefts = lefts;
-      left_targets = targets;
     }
 
 -- a value of a rank that is replaced
@@ -178,58 +137,22 @@ pub with_none : (w new : Whole) (c : Nodes) (d : World) (moment : Moment) (i : �
     → WorldFor new (record (happens moment d) { took = put d.took i None })
 with_none w new c d moment i is below same cluster others e =
     subst (λ n. WorldFor n (record (happens moment d) { took = put d.took i None })) (sym e)
-    (with_moment w c d moment (slice_set w.took i None) (put d.took i None) is same cluster (took_put w d i None is below) (none_answers w d moment i is others))
+    (with_moments w c d (moment ∷ d.moments) (slice_set w.took i None) (put d.took i None) is same cluster (took_put w d i None is below) (none_answers w d moment i is others))
 
 op_some : (op : Option DiskOp) (entry : What) → answers_op op entry ≡ true → is_some op ≡ true
 op_some None entry e = absurd (cc)
 op_some (Some op) entry e = refl
 
--- an entry that is no answer leaves each operation with its answer
-plain_answers : (w : Whole) (c : Nodes) (d : World) (i : ℕ) (entry : What) {outs : List Out} → WorldFor w d → Handed (cluster_of w) c i entry outs
-    → is_on w.settings i d ≡ true → is_answer entry ≡ false
-    → Answers w.settings (happens (Adds i entry) d) d.took
-plain_answers w c d i entry is made on plain j seen took on_after = plain_by (rank_cases i j)
-  where
-    plain_by : (i ≡ j) ⊎ ((i == j) ≡ false) → answers_op (op_at w.settings j (happens (Adds i entry) d)) seen ≡ true
-    plain_by (inl same) =
-        let own : answers_op (op_at w.settings i d) seen ≡ true = is.answers i seen (subst (λ k. d.took k ≡ Some seen) (sym same) took) on in
-        let kept = made.keeps d.moments is.cluster on plain (op_some (op_at w.settings i d) seen own) in
-        subst (λ k. answers_op (op_at w.settings k (happens (Adds i entry) d)) seen ≡ true) same (ap (λ op. answers_op op seen) kept ∙ own)
-    plain_by (inr apart) = others_by w d (Adds i entry) i j seen is (adds_others w.settings d.moments i entry) apart took on_after
+-- operations that are out still are answered as before
+kept_answers : (w : Whole) (d after : World) → WorldFor w d → KeepsOut w.settings d after → Answers w.settings after d.took
+kept_answers w d after is kept j entry took on =
+    let ran = kept.ran j on in
+    let own = is.answers j entry took ran in
+    ap (λ op. answers_op op entry) (kept.same j ran (op_some (op_at w.settings j d) entry own)) ∙ own
 
-pub with_plain : (w new : Whole) (d : World) (i : ℕ) (entry : What) {outs : List Out} → WorldFor w d → new ≡ with_nodes w (cluster_of new)
-    → Handed (cluster_of w) (cluster_of new) i entry outs → ClusterFor (cluster_of new) (Adds i entry ∷ d.moments)
-    → is_on w.settings i d ≡ true → is_answer entry ≡ false
-    → WorldFor new (happens (Adds i entry) d)
-with_plain w new d i entry is disk made cluster on plain =
-    subst (λ n. WorldFor n (happens (Adds i entry) d)) (sym disk)
-    (with_moment w (cluster_of new) d (Adds i entry) w.took d.took is made.frame.settings cluster is.landings (plain_answers w (cluster_of new) d i entry is made on plain))
-
--- a feed and a pass change no log
-feeds_kept : (s : Settings) (moments : List Moment) (i j : ℕ)
-    → ((node s j (Feeds i ∷ moments)).log ≡ (node s j moments).log) × ((node s j (Feeds i ∷ moments)).on ≡ (node s j moments).on)
-unfolding node
-feeds_kept s moments i j = feeds_by (i == j)
-  where
-    feeds_by : (b : Bool) → ((if b then record (node s j moments) { fed = time moments } else node s j moments).log ≡ (node s j moments).log)
-        × ((if b then record (node s j moments) { fed = time moments } else node s j moments).on ≡ (node s j moments).on)
-    feeds_by true = (refl, refl)
-    feeds_by false = (refl, refl)
-
-pub with_feed : (w new : Whole) (d : World) (i : ℕ) → WorldFor w d → new ≡ with_nodes w (cluster_of new) → new.settings ≡ w.settings
-    → ClusterFor (cluster_of new) (Feeds i ∷ d.moments) → WorldFor new (happens (Feeds i) d)
-with_feed w new d i is disk same cluster =
-    subst (λ n. WorldFor n (happens (Feeds i) d)) (sym disk)
-    (with_moment w (cluster_of new) d (Feeds i) w.took d.took is same cluster is.landings
-    (λ j entry took on. let kept = feeds_kept w.settings d.moments i j in
-    ap (λ log. answers_op (op_out log) entry) kept.0 ∙ is.answers j entry took (sym kept.1 ∙ on)))
-
-passes_answer : (w : Whole) (d : World) (dt : ℕ) (clocks : List (Rank × ℕ)) → WorldFor w d → Answers w.settings (happens (Passes dt clocks) d) d.took
-unfolding node
-passes_answer w d dt clocks is j entry took on = is.answers j entry took on
-
-pub with_pass : (w new : Whole) (d : World) (dt : ℕ) (clocks : List (Rank × ℕ)) → WorldFor w d → new ≡ with_nodes w (cluster_of new) → new.settings ≡ w.settings
-    → ClusterFor (cluster_of new) (Passes dt clocks ∷ d.moments) → WorldFor new (happens (Passes dt clocks) d)
-with_pass w new d dt clocks is disk same cluster =
-    subst (λ n. WorldFor n (happens (Passes dt clocks) d)) (sym disk)
-    (with_moment w (cluster_of new) d (Passes dt clocks) w.took d.took is same cluster is.landings (passes_answer w d dt clocks is))
+-- the nodes after other moments, with the operations that were out
+pub with_kept : (w new : Whole) (d : World) (moments : List Moment) → WorldFor w d → new ≡ with_nodes w (cluster_of new) → new.settings ≡ w.settings
+    → ClusterFor (cluster_of new) moments → KeepsOut w.settings d (record d { moments = moments }) → WorldFor new (record d { moments = moments })
+with_kept w new d moments is disk same cluster kept =
+    subst (λ n. WorldFor n (record d { moments = moments })) (sym disk)
+    (with_moments w (cluster_of new) d moments w.took d.took is same cluster is.landings (kept_answers w d (record d { moments = moments }) is kept))

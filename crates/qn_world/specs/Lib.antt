@@ -1,4 +1,3 @@
-pub mod Leftovers
 pub mod Memory
 pub mod Pending
 pub mod Seen

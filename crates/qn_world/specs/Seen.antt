@@ -1,14 +1,12 @@
 -- What a world shows of one node.
-use Rattle.std.specs.Prelude.{ℕ, false, [], None, length, ◌&&◌, is_some, if◌then◌else◌}
+use Rattle.std.specs.Prelude.{ℕ, None, length, ◌&&◌, is_some, if◌then◌else◌}
 use Rattle.qn_model.specs.declared.configuration.Settings.{Settings}
-use Rattle.qn_model.specs.declared.life.Why.TheVariants.{Down}
-use Rattle.qn_model.specs.declared.reports.Report.{Report}
 use Rattle.qn_model.specs.Holding.{stop_due}
 use Rattle.qn_model.specs.Moments.{is_holder}
 use Rattle.qn_model.specs.Steps.{answer_now, why_now}
 use Rattle.qn_model.specs.World.{World, node_at}
 use Rattle.qn_world.specs.declared.looking.NodeSeen.{NodeSeen}
-pub use Rattle.qn_cluster.specs.Seen.{IsConfigured, phase_now, polls_now, report_at, tick_now}
+pub use Rattle.qn_cluster.specs.Seen.{IsConfigured, blank_report, phase_now, polls_now, report_at, tick_now}
 pub use Rattle.qn_world.specs.Pending.{is_op_out}
 
 -- what a world shows of the node of a rank
@@ -27,16 +25,4 @@ seen_of s rank w =
       answer = answer_now s node;
       why = why_now s rank node;
       holds = is_holder s w.moments rank;
-    }
-
--- a report of nothing
-abbrev pub blank_report : Report
-blank_report =
-    record {
-      time = 0;
-      touched = None;
-      outs = [];
-      holders = record { 0 = 0 };
-      answer = record { quorate = false; votes = 0; quorum = 0; expected = 0; released = false };
-      why = Down;
     }

@@ -1,6 +1,7 @@
 -- What a world of the code stands for: a world of the definitions.
-use Rattle.std.specs.Prelude.{◌≡◌, ◌<◌, ◌==◌, ℕ, true, List, [], ◌∷◌, Some, All, length, slice_get, if◌then◌else◌}
-use Rattle.qn_cluster.specs.Standing.{ClusterFor, IsWithin}
+use Rattle.std.specs.Prelude.{◌≡◌, ◌<◌, ◌==◌, ℕ, true, List, [], Some, length, slice_get, if◌then◌else◌}
+use Rattle.qn_cluster.specs.Standing.{ClusterFor}
+use Rattle.qn_disk.specs.Standing.{LeftFor, SectorsFor}
 use Rattle.qn_model.specs.declared.entries.What.{What}
 use Rattle.qn_model.specs.declared.events.Event.{Event}
 use Rattle.qn_model.specs.declared.outputs.DiskOp.{DiskOp}
@@ -9,13 +10,11 @@ use Rattle.qn_model.specs.Fitting.{answers_op}
 use Rattle.qn_model.specs.Rules.{is_on}
 use Rattle.qn_model.specs.World.{World, op_at}
 use Rattle.qn_model.specs.Steps.{AllAllowed, run}
-use Rattle.qn_world.specs.declared.leftover.Leftover.{Leftover}
 use Rattle.qn_world.specs.Whole.{Whole, cluster_of}
 
--- the writes of a rank that are left over, oldest first
-abbrev pub left_of : ℕ → List Leftover → List DiskOp
-left_of rank [] = []
-left_of rank (leftover ∷ others) = if leftover.of.0 == rank then leftover.op ∷ left_of rank others else left_of rank others
+-- the leftovers of the one image, by rank, as those of image 1 of three
+abbrev pub on_first : (ℕ → List DiskOp) → ℕ → ℕ → List DiskOp
+on_first left rank image = if image == 1 then left rank else []
 
 -- The world stands for a world of the definitions, part by part.
 pub record WorldFor (w : Whole) (d : World) : Type 0 where
@@ -24,10 +23,8 @@ pub record WorldFor (w : Whole) (d : World) : Type 0 where
   pub landings : (rank : ℕ) → rank < 32 → slice_get w.took rank ≡ Some (d.took rank)
   pub answers : (rank : ℕ) (entry : What) → d.took rank ≡ Some entry → is_on w.settings rank d ≡ true
       → answers_op (op_at w.settings rank d) entry ≡ true
-  pub sectors : (rank : ℕ) → rank < 32 → slice_get w.slots rank ≡ Some (d.slots rank)
-  pub letters : (rank : ℕ) → rank < 32 → slice_get w.mailboxes rank ≡ Some (d.mailboxes rank)
-  pub lefts : (rank : ℕ) → left_of rank w.left ≡ d.left rank
-  pub left_targets : All (λ leftover. IsWithin (length w.settings.nodes) leftover.op) w.left
+  pub sectors : SectorsFor w.sectors d.slots d.mailboxes
+  pub lefts : LeftFor (length w.settings.nodes) w.left (on_first d.left)
 
 -- the world stands for one of the definitions
 abbrev pub IsStanding : Whole → Type 0

@@ -1,17 +1,17 @@
 -- What a call that steps the world promises.
-use Rattle.std.specs.Prelude.{◌≡◌, ◌<◌, ◌≤◌, ◌+◌, ℕ, Bool, true, false, List, Option, Some, None, All, length}
+use Rattle.std.specs.Prelude.{◌≡◌, ◌<◌, ◌≤◌, ◌+◌, ◌++◌, ℕ, Bool, true, false, List, Option, Some, None, All, length, take}
 use Rattle.qn_base.specs.declared.ids.Rank.{Rank}
 use Rattle.qn_cluster.specs.Standing.{HasRoom}
 use Rattle.qn_cluster.specs.Stepping.{Handed, Unhanded}
 use Rattle.qn_base.specs.declared.limits.TheConstants.{LATEST_TIME}
 use Rattle.qn_model.specs.declared.entries.What.{What}
-use Rattle.qn_model.specs.declared.entries.What.TheVariants as what
 use Rattle.qn_model.specs.declared.events.Event.{Event}
 use Rattle.qn_model.specs.declared.events.Event.TheVariants as event
+use Rattle.qn_model.specs.declared.outputs.DiskOp.{DiskOp}
 use Rattle.qn_model.specs.declared.outputs.Out.{Out}
 use Rattle.qn_model.specs.declared.reports.Refused.{Refused}
 use Rattle.qn_model.specs.declared.reports.Refused.TheVariants as refused
-use Rattle.qn_model.specs.World.{World}
+use Rattle.qn_model.specs.World.{World, put}
 use Rattle.qn_model.specs.Rules.{is_well_formed, refusal}
 use Rattle.qn_model.specs.Steps.{outs_after, step}
 use Rattle.qn_node.specs.Outputs.{IsNodeOutput}
@@ -25,6 +25,22 @@ pub record SameFrame (old new : Whole) : Type 0 where
   pub timing : new.timing ≡ old.timing
   pub steps : new.steps ≡ old.steps
   pub count : length new.seats ≡ length old.seats
+
+-- the disk changed, and the nodes did not
+pub record OtherDisk (old new : Whole) : Type 0 where
+  pub nodes : cluster_of new ≡ cluster_of old
+  pub timing : new.timing ≡ old.timing
+
+-- the disk of the world became another one of the definitions, and the nodes did not change
+pub record Turns (old new : Whole) (change : World → World) : Type 0 where
+  pub rest : OtherDisk old new
+  pub stands : (d : World) → WorldFor old d → WorldFor new (change d)
+
+-- writes of a rank were left over, after the leftovers that were there, and nothing else changed
+pub record LeavesOver (old new : Whole) (rank : ℕ) (ops : List DiskOp) : Type 0 where
+  pub rest : new ≡ record old { left = new.left }
+  pub first : take (length old.left) new.left ≡ old.left
+  pub stands : (d : World) → WorldFor old d → WorldFor new (record d { left = put d.left rank (d.left rank ++ ops) })
 
 -- the world can make the step of an event
 pub record IsReady (w : Whole) (event : Event) : Type 0 where
@@ -84,23 +100,3 @@ pub record HandsNot (old new : Whole) (rank : ℕ) (entry : What) : Type 0 where
 abbrev pub boot_event : Rank → ℕ → Bool → Event
 boot_event rank base false = event.Boot rank base
 boot_event rank base true = event.BootClean rank base
-
--- an event that hands a rank this entry, whatever came before it
-abbrev pub HandsEntry : Event → Rank → What → Type 0
-HandsEntry (event.View rank view) i entry = (rank ≡ i) × (entry ≡ what.View view)
-HandsEntry (event.Device rank agrees) i entry = (rank ≡ i) × (entry ≡ what.Device agrees)
-HandsEntry (event.Tick rank) i entry = (rank ≡ i) × (entry ≡ what.Tick)
-HandsEntry (event.Stopped rank) i entry = (rank ≡ i) × (entry ≡ what.Stopped true)
-HandsEntry (event.Unstopped rank) i entry = (rank ≡ i) × (entry ≡ what.Stopped false)
-HandsEntry (event.Leave rank) i entry = (rank ≡ i) × (entry ≡ what.Leave)
-HandsEntry (event.Pass dt clocks) i entry = ⊥
-HandsEntry (event.Boot rank base) i entry = ⊥
-HandsEntry (event.BootClean rank base) i entry = ⊥
-HandsEntry (event.Crash rank) i entry = ⊥
-HandsEntry (event.Land rank) i entry = ⊥
-HandsEntry (event.Done rank) i entry = ⊥
-HandsEntry (event.Fail rank) i entry = ⊥
-HandsEntry (event.Late rank number) i entry = ⊥
-HandsEntry (event.Deliver rank number) i entry = ⊥
-HandsEntry (event.Feed rank) i entry = ⊥
-HandsEntry (event.Operator rank message) i entry = ⊥

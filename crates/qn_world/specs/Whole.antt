@@ -2,13 +2,12 @@
 use Rattle.std.specs.Prelude.{ℕ, List, Option}
 use Rattle.qn_cluster.specs.Nodes.{Nodes}
 use Rattle.qn_cluster.specs.declared.seat.Seat.{Seat}
+use Rattle.qn_disk.specs.declared.leftovers.Leftover.{Leftover}
+use Rattle.qn_disk.specs.declared.sectors.Sectors.{Sectors}
 use Rattle.qn_model.specs.declared.configuration.Settings.{Settings}
 use Rattle.qn_model.specs.declared.times.Timing.{Timing}
-use Rattle.qn_model.specs.declared.disk.Message.{Message}
-use Rattle.qn_model.specs.declared.disk.Slot.{Slot}
 use Rattle.qn_model.specs.declared.entries.What.{What}
 use Rattle.qn_model.specs.declared.packets.Sent.{Sent}
-use Rattle.qn_world.specs.declared.leftover.Leftover.{Leftover}
 
 pub record Whole : Type 0 where
   pub settings : Settings
@@ -16,8 +15,7 @@ pub record Whole : Type 0 where
   pub time : ℕ
   pub seats : List Seat
   pub took : List (Option What)
-  pub slots : List Slot
-  pub mailboxes : List Message
+  pub sectors : Sectors
   pub packets : List Sent
   pub left : List Leftover
   pub steps : ℕ

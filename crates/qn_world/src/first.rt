@@ -2,7 +2,8 @@
 use crate::state::State;
 use qn_base::NoMemory;
 use qn_cluster::Cluster;
-use qn_model::{Message, Settings, Slot, Timing};
+use qn_disk::{Leftovers, Sectors};
+use qn_model::{Settings, Timing};
 use std::alloc::Global;
 
 impl State {
@@ -26,17 +27,12 @@ impl State {
         ensures steps { IfOk result (λ w. w.steps ≡ u64.MAX) }
     {
         let cluster = Cluster::new(alloc, settings)?;
-        let slot = Slot {
-            incarnation: 0,
-            clean: true,
-        };
         Ok(State {
             cluster,
             timing,
             took: [None; 32],
-            slots: [slot; 32],
-            mailboxes: [Message::Empty; 32],
-            left: Vec::new(alloc),
+            sectors: Sectors::new(),
+            left: Leftovers::new(alloc),
         })
     }
 }

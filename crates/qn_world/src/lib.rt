@@ -1,5 +1,6 @@
 //! The world of a cluster: its nodes in true time, the image that they share, the packets that were sent,
-//! and the ten rules that an event has to obey. The nodes and the packets are those of `qn_cluster`.
+//! and the ten rules that an event has to obey. The nodes and the packets are those of `qn_cluster`, the sectors and the
+//! leftovers those of `qn_disk`.
 //!
 //! Promises: a `World` stands for a world of the definitions (`specs/Standing`). `allowed` is exactly the
 //! rules; `apply` answers the rule that refuses an event, or makes exactly the step of the definitions and
@@ -8,8 +9,8 @@
 //! each allowed in its turn, and so at most one node holds.
 #![tactic(auto)]
 
+mod disk;
 mod first;
-mod leftover;
 mod looking;
 mod pending;
 mod rules;
@@ -17,6 +18,7 @@ mod state;
 mod steps;
 mod world;
 
-pub use looking::{NodeSeen, blank_report};
+pub use looking::NodeSeen;
 pub use pending::Pending;
+pub use qn_cluster::blank_report;
 pub use world::World;

@@ -1,13 +1,8 @@
 //! What a world shows of its nodes, and the reports that it gives.
-ghost use Rattle.std.specs.Prelude.{◌≡◌, length};
-ghost use Rattle.qn_world.specs.Seen.{blank_report};
-ghost use Rattle.qn_world.specs.Standing.{left_of};
-
-use crate::leftover::Leftover;
 use crate::state::State;
 use qn_base::{Mask, Rank, View};
 use qn_cluster::Waiting;
-use qn_model::{Answer, Event, Outs, Phase, Report, Sent, Why};
+use qn_model::{Answer, Event, Phase, Report, Sent, Why};
 use qn_safety::law_no_two_holders;
 
 /// What a world shows of one node. Of a node that is off, running, out, landed, stop_due and holds are
@@ -98,7 +93,7 @@ impl State {
             out: pending.out,
             landed: pending.landed,
             stop_due: pending.stop_due,
-            leftovers: leftovers_of(self.left.as_slice(), i),
+            leftovers: self.left_of(i),
             answer: count,
             why: self.why(i, count),
             holds: self.holds(i),
@@ -188,37 +183,4 @@ impl State {
     {
         self.cluster.fill_quiet(node, into);
     }
-}
-
-/// A report of nothing, for the first call of `World::apply_into`.
-pub fn blank_report() -> Report
-    ensures { result ≡ blank_report }
-{
-    Report {
-        time: 0,
-        touched: None,
-        outs: Outs::new(),
-        holders: Mask(0),
-        answer: Answer {
-            quorate: false,
-            votes: 0,
-            quorum: 0,
-            expected: 0,
-            released: false,
-        },
-        why: Why::Down,
-    }
-}
-
-/// How many of the leftovers are those of a rank.
-fn leftovers_of(left: &[Leftover], i: Rank) -> u64
-    ensures { result ≡ length (left_of i.0 left.now) }
-{
-    let mut count = 0u64;
-    for leftover in left {
-        if leftover.of.0 == i.0 {
-            count += 1;
-        }
-    }
-    count
 }

@@ -25,6 +25,7 @@ fn is_under_way(op: Option<DiskOp>, took: Option<What>) -> bool
 impl State {
     ghost use Rattle.std.specs.Prelude.{◌≡◌, ◌<◌, ◌≤◌, true, None, Some, MatchResult, length};
     ghost use Rattle.qn_base.specs.declared.limits.TheConstants.{LATEST_TIME};
+    ghost use Rattle.qn_cluster.specs.Events.{is_ruled_by_nodes};
     ghost use Rattle.qn_model.specs.Rules.{is_on, is_well_formed, may_be_done, may_be_late, may_fail, may_land, may_operate, refusal, unless, unless_running};
     ghost use Rattle.qn_model.specs.World.{World};
     ghost use Rattle.qn_world.specs.Standing.{IsStanding, WorldFor};
@@ -52,24 +53,35 @@ impl State {
         ensures { (d : World) → WorldFor self.now d → result ≡ refusal self.now.settings self.now.timing event.now d }
     {
         match event {
-            Event::Pass { dt, clocks } => self.cluster.refuses_pass(*dt, clocks, &self.timing),
-            Event::Boot(i, _) => self.cluster.refuses_boot(*i),
-            Event::BootClean(i, _) => self.cluster.refuses_boot(*i),
-            Event::Crash(i) => self.cluster.refuses_off(*i),
-            Event::Device(i, _) => self.cluster.refuses_off(*i),
-            Event::Tick(i) => self.cluster.refuses_off(*i),
-            Event::Leave(i) => self.cluster.refuses_off(*i),
             Event::Land(i) => self.refuses_land(*i),
             Event::Done(i) => self.refuses_done(*i),
             Event::Fail(i) => self.refuses_fail(*i),
-            Event::Stopped(i) => self.cluster.refuses_stopped(*i),
-            Event::Unstopped(i) => self.cluster.refuses_stopped(*i),
             Event::Late(i, number) => self.refuses_late(*i, *number),
-            Event::View(i, view) => self.cluster.refuses_view(*i, *view),
-            Event::Deliver(i, number) => self.cluster.refuses_deliver(*i, *number),
-            Event::Feed(i) => self.cluster.refuses_feed(*i, &self.timing),
             Event::Operator(i, message) => self.refuses_operator(*i, *message),
+            Event::Pass { .. }
+            | Event::Boot(_, _)
+            | Event::BootClean(_, _)
+            | Event::Crash(_)
+            | Event::View(_, _)
+            | Event::Deliver(_, _)
+            | Event::Device(_, _)
+            | Event::Tick(_)
+            | Event::Stopped(_)
+            | Event::Unstopped(_)
+            | Event::Leave(_)
+            | Event::Feed(_) => self.refuses_node(event),
         }
+    }
+
+    /// The number of the rule that refuses an event whose rule looks at nodes alone.
+    fn refuses_node(&self, event: &Event) -> Option<u8>
+        requires formed { is_well_formed self.now.settings event.now ≡ true }
+        requires standing { IsStanding self.now }
+        requires early { self.now.time ≤ LATEST_TIME }
+        requires nodes { is_ruled_by_nodes event.now ≡ true }
+        ensures { (d : World) → WorldFor self.now d → result ≡ refusal self.now.settings self.now.timing event.now d }
+    {
+        self.cluster.refusal(event, &self.timing)
     }
 
     /// Whether the operation of a running node is out and has not landed.
@@ -127,7 +139,7 @@ impl State {
         requires { 1 ≤ number }
         ensures { (d : World) → WorldFor self.now d → result ≡ unless (may_be_late i.0 number d) 6 }
     {
-        unless(self.place_of(i, number).is_some(), 6)
+        unless(self.has_left(i, number), 6)
     }
 
     /// Rule 10: the message is deadly, or the mailbox holds no deadly one, or the node is off.

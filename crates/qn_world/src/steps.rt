@@ -4,10 +4,7 @@ ghost use Rattle.qn_model.specs.World.{failed};
 
 use crate::state::State;
 use qn_base::{NoMemory, Rank};
-use qn_cluster::entry_of;
-use qn_model::{
-    Clocks, DiskOp, Event, HeaderSeen, MailSeen, Message, Outs, Refused, SlotSeen, What,
-};
+use qn_model::{DiskOp, Event, HeaderSeen, MailSeen, Message, Outs, Refused, SlotSeen, What};
 
 /// The entry of an operation that failed.
 #[tactic(auto, unfolding(qn_model::specs::World::failed))]
@@ -29,7 +26,8 @@ fn failed(op: DiskOp) -> What
 impl State {
     ghost use Rattle.std.specs.Prelude.{◌≡◌, ◌≤◌, ◌<◌, [], true, IfErr, OnOk, OnErr, length};
     ghost use Rattle.qn_base.specs.declared.limits.TheConstants.{LATEST_TIME};
-    ghost use Rattle.qn_world.specs.Stepping.{Applied, HandsEntry, IsReady, OutOfMemory, Refuses, Stepped, boot_event};
+    ghost use Rattle.qn_cluster.specs.Events.{is_of_nodes};
+    ghost use Rattle.qn_world.specs.Stepping.{Applied, IsReady, OutOfMemory, Refuses, Stepped, boot_event};
     ghost use Rattle.qn_model.specs.Rules.{is_well_formed};
     ghost use Rattle.qn_world.specs.Standing.{IsStanding};
 
@@ -62,10 +60,6 @@ impl State {
         ensures err { OnErr result (OutOfMemory self.old self.new event.now) }
     {
         match event {
-            Event::Pass { dt, clocks } => {
-                self.pass(*dt, clocks);
-                Ok(())
-            }
             Event::Boot(i, base) => {
                 self.boot(*i, *base, false, outs);
                 Ok(())
@@ -85,30 +79,31 @@ impl State {
                 self.late(*i, *number);
                 Ok(())
             }
-            Event::View(i, view) => self.hand_event(event, *i, What::View(*view), outs),
-            Event::Deliver(i, number) => self.deliver(*i, *number, outs),
-            Event::Device(i, yes) => self.hand_event(event, *i, What::Device(*yes), outs),
-            Event::Tick(i) => self.hand_event(event, *i, What::Tick, outs),
-            Event::Stopped(i) => self.hand_event(event, *i, What::Stopped(true), outs),
-            Event::Unstopped(i) => self.hand_event(event, *i, What::Stopped(false), outs),
-            Event::Leave(i) => self.hand_event(event, *i, What::Leave, outs),
-            Event::Feed(i) => {
-                self.feed(*i);
-                Ok(())
-            }
             Event::Operator(i, message) => {
                 self.operate(*i, *message);
                 Ok(())
             }
+            Event::Pass { .. }
+            | Event::View(_, _)
+            | Event::Deliver(_, _)
+            | Event::Device(_, _)
+            | Event::Tick(_)
+            | Event::Stopped(_)
+            | Event::Unstopped(_)
+            | Event::Leave(_)
+            | Event::Feed(_) => self.step_nodes(event, outs),
         }
     }
 
-    /// Time passes, and the clocks of the running nodes advance.
-    fn pass(&mut self, dt: u64, clocks: &Clocks)
-        requires { IsReady self.old (Event.Pass dt clocks.now) }
-        ensures { Stepped self.old self.new (Event.Pass dt clocks.now) [] }
+    /// The nodes make the step of an event that changes them alone.
+    fn step_nodes(&mut self, event: &Event, outs: &mut Outs) -> Result<(), NoMemory>
+        requires ready { IsReady self.old event.now }
+        requires nodes { is_of_nodes event.now ≡ true }
+        requires none { outs.old ≡ [] }
+        ensures ok { OnOk result (Stepped self.old self.new event.now outs.new) }
+        ensures err { OnErr result (OutOfMemory self.old self.new event.now) }
     {
-        self.pass_time(dt, clocks);
+        self.cluster.step(event, outs)
     }
 
     /// A node boots, as a clean start or not; its leftovers are dropped.
@@ -184,46 +179,9 @@ impl State {
         requires { IsReady self.old (Event.Late i number) }
         ensures { Stepped self.old self.new (Event.Late i number) [] }
     {
-        if let Some(place) = self.place_of(i, number) {
-            let leftover = self.take_left(place);
-            self.write(i, leftover.op);
+        if let Some(op) = self.take_left(i, number) {
+            self.write(i, op);
         }
-    }
-
-    /// A node is handed the entry of an event that concerns nothing else.
-    fn hand_event(
-        &mut self,
-        event: &Event,
-        i: Rank,
-        what: What,
-        outs: &mut Outs,
-    ) -> Result<(), NoMemory>
-        requires ready { IsReady self.old event.now }
-        requires entry { HandsEntry event.now i what }
-        ensures ok { OnOk result (Stepped self.old self.new event.now outs.new) }
-        ensures err { OnErr result (OutOfMemory self.old self.new event.now) }
-    {
-        self.hand(i, what, outs)
-    }
-
-    /// A node is handed a packet.
-    fn deliver(&mut self, i: Rank, number: u64, outs: &mut Outs) -> Result<(), NoMemory>
-        requires { IsReady self.old (Event.Deliver i number) }
-        ensures ok { OnOk result (Stepped self.old self.new (Event.Deliver i number) outs.new) }
-        ensures err { OnErr result (OutOfMemory self.old self.new (Event.Deliver i number)) }
-    {
-        if let Some(sent) = self.packet(number) {
-            self.hand(i, entry_of(sent.packet), outs)?;
-        }
-        Ok(())
-    }
-
-    /// The last feed that a node decided takes effect.
-    fn feed(&mut self, i: Rank)
-        requires { IsReady self.old (Event.Feed i) }
-        ensures { Stepped self.old self.new (Event.Feed i) [] }
-    {
-        self.feed_node(i);
     }
 
     /// An operator writes a message to the mailbox of a node.

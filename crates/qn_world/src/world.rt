@@ -1,8 +1,9 @@
 //! A world and its public calls.
-use crate::looking::{NodeSeen, blank_report};
+use crate::looking::NodeSeen;
 use crate::pending::Pending;
 use crate::state::State;
 use qn_base::{Mask, NoMemory, Rank, View};
+use qn_cluster::blank_report;
 use qn_model::{Event, Refused, Report, Rule, Settings, Timing};
 use qn_safety::law_no_two_holders;
 use std::alloc::Global;

@@ -11,12 +11,12 @@ pub boot_node-requires : goal.boot_node-requires
 boot_node-requires c =
     record {
       within = subst (λ w. c.args.i.0 < length w.seats) (sym c.take.ensures)
-          (subst (λ w. c.args.i.0 < length w.seats) (sym c.drop_left.ensures) (rank_within c.args.self.now (boot_event c.args.i c.args.base c.args.clean) c.args.i c.requires.standing c.requires.formed (boot_touches c.args.i c.args.base c.args.clean)));
+          (subst (λ n. c.args.i.0 < length n.seats) (sym c.drop_left.ensures.rest.nodes) (rank_within c.args.self.now (boot_event c.args.i c.args.base c.args.clean) c.args.i c.requires.standing c.requires.formed (boot_touches c.args.i c.args.base c.args.clean)));
       configured = subst (λ w. c.args.i.0 < length w.settings.nodes) (sym c.take.ensures)
-          (subst (λ w. c.args.i.0 < length w.settings.nodes) (sym c.drop_left.ensures)
+          (subst (λ n. c.args.i.0 < length n.settings.nodes) (sym c.drop_left.ensures.rest.nodes)
           (rank_configured c.args.self.now.settings (boot_event c.args.i c.args.base c.args.clean) c.args.i c.requires.formed (boot_touches c.args.i c.args.base c.args.clean)));
       few = subst (λ w. w.steps < 18446744073709551615) (sym c.take.ensures)
-          (subst (λ w. w.steps < 18446744073709551615) (sym c.drop_left.ensures) c.requires.few);
+          (subst (λ n. n.steps < 18446744073709551615) (sym c.drop_left.ensures.rest.nodes) c.requires.few);
       early = few_base c.args.self.now.settings c.args.i c.args.base c.args.clean c.requires.formed;
     }
 

@@ -11,13 +11,16 @@ op-op-requires c = rank_within c.args.self.now (event.Crash c.args.i) c.args.i c
 pub took-took-requires : goal.took-took-requires
 took-took-requires c = rank_few c.args.self.now (event.Crash c.args.i) c.args.i c.requires.standing c.requires.formed refl
 
+pub give_up-requires : goal.give_up-requires
+give_up-requires c = c.op-op.ensures.within
+
 pub take-requires : goal.take-requires
 take-requires c = rank_few c.args.self.now (event.Crash c.args.i) c.args.i c.requires.standing c.requires.formed refl
 
 pub end_node-requires : goal.end_node-requires
 end_node-requires c =
     subst (λ w. c.args.i.0 < length w.seats) (sym c.take.ensures)
-    (subst (λ w. c.args.i.0 < length w.seats) (sym c.in_ok-give_up.ensures.ok)
+    (subst (λ w. c.args.i.0 < length w.seats) (sym c.in_ok-give_up.ensures.ok.rest)
     (rank_within c.args.self.now (event.Crash c.args.i) c.args.i c.requires.standing c.requires.formed refl))
 
 pub returns-in_err-give_up-clause-err : goal.returns-in_err-give_up-clause-err
@@ -26,7 +29,6 @@ returns-in_err-give_up-clause-err c =
     let out : IsOut c.args.self.now c.args.i.0 c.op-op.result c.took-took.result = record {
       below = rank_few c.args.self.now (event.Crash c.args.i) c.args.i c.requires.standing c.requires.formed refl;
       op_is = c.op-op.ensures.exact;
-      within = c.op-op.ensures.within;
       took_is = took_same c.args.self.now c.args.i.0 c.took-took.result (rank_few c.args.self.now (event.Crash c.args.i) c.args.i c.requires.standing c.requires.formed refl) c.took-took.ensures;
     } in
     rw p.1
@@ -37,7 +39,6 @@ returns-clause-ok c =
     let out : IsOut c.args.self.now c.args.i.0 c.op-op.result c.took-took.result = record {
       below = rank_few c.args.self.now (event.Crash c.args.i) c.args.i c.requires.standing c.requires.formed refl;
       op_is = c.op-op.ensures.exact;
-      within = c.op-op.ensures.within;
       took_is = took_same c.args.self.now c.args.i.0 c.took-took.result (rank_few c.args.self.now (event.Crash c.args.i) c.args.i c.requires.standing c.requires.formed refl) c.took-took.ensures;
     } in
     crash_stepped c.args.self.now c.give_up.new.self c.take.new.self c.end_node.new.self c.args.i c.op-op.result c.took-took.result out c.in_ok-give_up.ensures.ok

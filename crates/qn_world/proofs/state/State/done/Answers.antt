@@ -1,4 +1,4 @@
-use Rattle.std.proofs.Common.{◌∙◌, refl, sym, Some}
+use Rattle.std.proofs.Common.{◌∙◌, refl, sym}
 use Rattle.qn_model.specs.declared.events.Event.TheVariants as event
 use Rattle.std.proofs.lemmas.Result.{err_from_is_err_and}
 use Rattle.qn_world.proofs.AnswerSteps.{done_starved, done_stepped, not_done}

@@ -15,11 +15,14 @@ op-requires c = rank_within c.args.self.now (event.Fail c.args.i) c.args.i c.req
 pub took-took-requires : goal.took-took-requires
 took-took-requires c = rank_few c.args.self.now (event.Fail c.args.i) c.args.i c.requires.standing c.requires.formed refl
 
+pub give_up-requires : goal.give_up-requires
+give_up-requires c = λ d is. subst (IsOpWithin (length c.args.self.now.settings.nodes)) c.in-Some.is (c.op.ensures.within d is)
+
 pub hand-requires : goal.hand-requires
 hand-requires c =
     record {
-      within = subst (λ w. c.args.i.0 < length w.seats) (sym c.in_ok-give_up.ensures.ok) (rank_within c.args.self.now (event.Fail c.args.i) c.args.i c.requires.standing c.requires.formed refl);
-      room = subst HasRoom (sym (ap cluster_of c.in_ok-give_up.ensures.ok)) c.requires.room;
+      within = subst (λ w. c.args.i.0 < length w.seats) (sym c.in_ok-give_up.ensures.ok.rest) (rank_within c.args.self.now (event.Fail c.args.i) c.args.i c.requires.standing c.requires.formed refl);
+      room = subst HasRoom (sym (ap cluster_of c.in_ok-give_up.ensures.ok.rest)) c.requires.room;
     }
 
 pub take-requires : goal.take-requires
@@ -31,7 +34,6 @@ returns-in_err-give_up-clause-err c =
     let out : IsOut c.args.self.now c.args.i.0 (Some c.in-Some.op) c.took-took.result = record {
       below = rank_few c.args.self.now (event.Fail c.args.i) c.args.i c.requires.standing c.requires.formed refl;
       op_is = λ d is on. sym c.in-Some.is ∙ c.op.ensures.exact d is on;
-      within = λ d is. subst (IsOpWithin (length c.args.self.now.settings.nodes)) c.in-Some.is (c.op.ensures.within d is);
       took_is = took_same c.args.self.now c.args.i.0 c.took-took.result (rank_few c.args.self.now (event.Fail c.args.i) c.args.i c.requires.standing c.requires.formed refl) c.took-took.ensures;
     } in
     rw p.1
@@ -42,7 +44,6 @@ returns-in-Err-clause-err c =
     let out : IsOut c.args.self.now c.args.i.0 (Some c.in-Some.op) c.took-took.result = record {
       below = rank_few c.args.self.now (event.Fail c.args.i) c.args.i c.requires.standing c.requires.formed refl;
       op_is = λ d is on. sym c.in-Some.is ∙ c.op.ensures.exact d is on;
-      within = λ d is. subst (IsOpWithin (length c.args.self.now.settings.nodes)) c.in-Some.is (c.op.ensures.within d is);
       took_is = took_same c.args.self.now c.args.i.0 c.took-took.result (rank_few c.args.self.now (event.Fail c.args.i) c.args.i c.requires.standing c.requires.formed refl) c.took-took.ensures;
     } in
     fail_starved c.args.self.now c.give_up.new.self c.hand.new.self c.keep_left.new.self c.args.i c.in-Some.op c.took-took.result c.failed.result out c.failed.ensures
@@ -54,7 +55,6 @@ returns-in_default-hand-clause-ok c =
     let out : IsOut c.args.self.now c.args.i.0 (Some c.in-Some.op) c.took-took.result = record {
       below = rank_few c.args.self.now (event.Fail c.args.i) c.args.i c.requires.standing c.requires.formed refl;
       op_is = λ d is on. sym c.in-Some.is ∙ c.op.ensures.exact d is on;
-      within = λ d is. subst (IsOpWithin (length c.args.self.now.settings.nodes)) c.in-Some.is (c.op.ensures.within d is);
       took_is = took_same c.args.self.now c.args.i.0 c.took-took.result (rank_few c.args.self.now (event.Fail c.args.i) c.args.i c.requires.standing c.requires.formed refl) c.took-took.ensures;
     } in
     fail_stepped c.args.self.now c.give_up.new.self c.hand.new.self c.take.new.self c.args.i c.in-Some.op c.took-took.result c.failed.result c.hand.new.outs out c.failed.ensures

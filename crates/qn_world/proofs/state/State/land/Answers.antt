@@ -1,4 +1,4 @@
-use Rattle.std.proofs.Common.{◌∙◌, length, refl, subst, sym, Some}
+use Rattle.std.proofs.Common.{◌∙◌, length, refl, subst, sym}
 use Rattle.qn_model.specs.declared.events.Event.TheVariants as event
 use Rattle.qn_cluster.specs.Standing.{IsOpWithin}
 use Rattle.qn_world.proofs.EventSteps.{land_stepped, not_landed, op_target}
@@ -31,7 +31,7 @@ pub returns-in-Some : goal.returns-in-Some
 returns-in-Some c =
     land_stepped c.args.self.now c.write.new.self c.take.new.self c.args.i c.in-Some.op c.taken-entry.result (rank_few c.args.self.now (event.Land c.args.i) c.args.i c.requires.standing c.requires.formed refl)
     (λ d is on. sym (c.in-Some.is) ∙ c.op.ensures.exact d is on)
-    c.taken-entry.ensures c.write.ensures.frame c.write.ensures.stands c.take.ensures
+    c.taken-entry.ensures c.write.ensures c.take.ensures
 
 pub returns-in_default : goal.returns-in_default
 returns-in_default c = not_landed c.args.self.now c.args.i c.op.result c.op.ensures.exact (λ op e. c.in_default.not-Some op e)

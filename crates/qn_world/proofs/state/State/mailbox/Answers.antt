@@ -1,6 +1,7 @@
-use Rattle.std.proofs.Common.{ap}
-use Rattle.qn_world.proofs.Lists.{read_at}
+use Rattle.std.proofs.Common.{ap, subst, sym}
+use Rattle.qn_disk.specs.Standing.{SectorsFor}
 use Rattle.qn_world.proofs.state.State.mailbox.Goals as goal
 
 pub returns : goal.returns
-returns c value here = read_at c.self.inside.mailboxes c.args.self.now.mailboxes c.from.result c.args.i.0 value _ (ap (λ w. w.mailboxes) c.self.view_is) c.from.ensures here
+returns c = λ d is.
+    c.mailbox.ensures d.slots d.mailboxes (subst (λ s. SectorsFor s d.slots d.mailboxes) (sym (ap (λ w. w.sectors) c.self.view_is)) is.sectors)

@@ -3,9 +3,6 @@ use Rattle.qn_world.specs.Stepping.{IsReady, OutOfMemory, Stepped}
 use Rattle.qn_world.proofs.AnswerSteps.{err_so, ok_so}
 use Rattle.qn_world.proofs.state.State.step.Goals as goal
 
-pub pass-requires : goal.pass-requires
-pass-requires c = subst (IsReady c.args.self.now) c.in-Pass.is c.requires.ready
-
 pub crash-requires : goal.crash-requires
 crash-requires c = subst (IsReady c.args.self.now) c.in-Crash.is c.requires.ready
 
@@ -14,9 +11,6 @@ land-requires c = subst (IsReady c.args.self.now) c.in-Land.is c.requires.ready
 
 pub late-requires : goal.late-requires
 late-requires c = subst (IsReady c.args.self.now) c.in-Late.is c.requires.ready
-
-pub feed-requires : goal.feed-requires
-feed-requires c = subst (IsReady c.args.self.now) c.in-Feed.is c.requires.ready
 
 pub boot-requires : goal.boot-requires
 boot-requires c = subst (IsReady c.args.self.now) c.in-Boot.is c.requires.ready
@@ -33,14 +27,6 @@ done-requires c = subst (IsReady c.args.self.now) c.in-Done.is c.requires.ready
 pub fail-requires : goal.fail-requires
 fail-requires c = subst (IsReady c.args.self.now) c.in-Fail.is c.requires.ready
 
-pub deliver-requires : goal.deliver-requires
-deliver-requires c = subst (IsReady c.args.self.now) c.in-Deliver.is c.requires.ready
-
-pub returns-in-Pass-clause-ok : goal.returns-in-Pass-clause-ok
-returns-in-Pass-clause-ok c =
-    subst (λ outs. Stepped c.args.self.now c.pass.new.self c.args.event.now outs) (sym c.requires.none)
-    (subst (λ e. Stepped c.args.self.now c.pass.new.self e []) (sym c.in-Pass.is) c.pass.ensures)
-
 pub returns-in-Land-clause-ok : goal.returns-in-Land-clause-ok
 returns-in-Land-clause-ok c =
     subst (λ outs. Stepped c.args.self.now c.land.new.self c.args.event.now outs) (sym c.requires.none)
@@ -50,11 +36,6 @@ pub returns-in-Late-clause-ok : goal.returns-in-Late-clause-ok
 returns-in-Late-clause-ok c =
     subst (λ outs. Stepped c.args.self.now c.late.new.self c.args.event.now outs) (sym c.requires.none)
     (subst (λ e. Stepped c.args.self.now c.late.new.self e []) (sym c.in-Late.is) c.late.ensures)
-
-pub returns-in-Feed-clause-ok : goal.returns-in-Feed-clause-ok
-returns-in-Feed-clause-ok c =
-    subst (λ outs. Stepped c.args.self.now c.feed.new.self c.args.event.now outs) (sym c.requires.none)
-    (subst (λ e. Stepped c.args.self.now c.feed.new.self e []) (sym c.in-Feed.is) c.feed.ensures)
 
 pub returns-in-Boot-clause-ok : goal.returns-in-Boot-clause-ok
 returns-in-Boot-clause-ok c = subst (λ e. Stepped c.args.self.now c.boot.new.self e c.boot.new.outs) (sym c.in-Boot.is) c.boot.ensures
@@ -88,9 +69,3 @@ returns-in-Fail-clause-ok c = ok_so c.fail.result (λ made. subst (λ e. Stepped
 
 pub returns-in-Fail-clause-err : goal.returns-in-Fail-clause-err
 returns-in-Fail-clause-err c = err_so c.fail.result (λ starved. subst (λ e. OutOfMemory c.args.self.now c.fail.new.self e) (sym c.in-Fail.is) starved) c.fail.ensures.err
-
-pub returns-in-Deliver-clause-ok : goal.returns-in-Deliver-clause-ok
-returns-in-Deliver-clause-ok c = ok_so c.deliver.result (λ made. subst (λ e. Stepped c.args.self.now c.deliver.new.self e c.deliver.new.outs) (sym c.in-Deliver.is) made) c.deliver.ensures.ok
-
-pub returns-in-Deliver-clause-err : goal.returns-in-Deliver-clause-err
-returns-in-Deliver-clause-err c = err_so c.deliver.result (λ starved. subst (λ e. OutOfMemory c.args.self.now c.deliver.new.self e) (sym c.in-Deliver.is) starved) c.deliver.ensures.err

@@ -1,22 +1,12 @@
-use Rattle.std.proofs.Common.{subst}
-use Rattle.qn_cluster.specs.Standing.{IsWithin}
-use Rattle.qn_world.proofs.SectorSteps.{writes_claim, writes_clear, writes_close, writes_reset}
+use Rattle.std.proofs.Common.{ap, subst, sym}
+use Rattle.qn_disk.specs.Standing.{SectorsFor}
+use Rattle.qn_model.specs.World.{mailboxes_with, slots_with}
+use Rattle.qn_world.specs.Whole.{Whole}
+use Rattle.qn_world.proofs.DiskSteps.{sectors_turned}
 use Rattle.qn_world.proofs.state.State.write.Goals as goal
 
-pub returns-in-WriteClaim-clause-stands : goal.returns-in-WriteClaim-clause-stands
-returns-in-WriteClaim-clause-stands c d is =
-    writes_claim c.args.self.now c.set_slot.new.self d c.args.i.0 c.args.op c.in-WriteClaim.incarnation is c.requires.within c.in-WriteClaim.is c.set_slot.ensures
-
-pub returns-in-WriteClose-clause-stands : goal.returns-in-WriteClose-clause-stands
-returns-in-WriteClose-clause-stands c d is =
-    writes_close c.args.self.now c.set_slot-in-WriteClose.new.self d c.args.i.0 c.args.op c.in-WriteClose.incarnation is c.requires.within c.in-WriteClose.is
-    c.set_slot-in-WriteClose.ensures
-
-pub returns-in-WriteClear-clause-stands : goal.returns-in-WriteClear-clause-stands
-returns-in-WriteClear-clause-stands c d is =
-    writes_clear c.args.self.now c.set_mailbox.new.self d c.args.i.0 c.args.op is c.requires.within c.in-WriteClear.is c.set_mailbox.ensures
-
-pub returns-in-WriteReset-clause-stands : goal.returns-in-WriteReset-clause-stands
-returns-in-WriteReset-clause-stands c d is =
-    writes_reset c.args.self.now c.set_mailbox-in-WriteReset.new.self d c.args.i.0 c.args.op c.in-WriteReset.other is
-    (subst (IsWithin 32) c.in-WriteReset.is c.requires.target) c.in-WriteReset.is c.set_mailbox-in-WriteReset.ensures
+pub returns : goal.returns
+returns c =
+    sectors_turned c.args.self.now _ c.write.new.self (λ d. slots_with c.args.i.0 c.args.op d.slots) (λ d. mailboxes_with c.args.i.0 c.args.op d.mailboxes)
+    (ap (λ (w : Whole). record w { sectors = c.write.new.self }) c.self.view_is)
+    (λ d is. c.write.ensures d.slots d.mailboxes (subst (λ s. SectorsFor s d.slots d.mailboxes) (sym (ap (λ w. w.sectors) c.self.view_is)) is))

@@ -1,6 +1,0 @@
-use Rattle.std.proofs.Common.{ap}
-use Rattle.qn_world.proofs.Lists.{read_at}
-use Rattle.qn_world.proofs.state.State.slot.Goals as goal
-
-pub returns : goal.returns
-returns c value here = read_at c.self.inside.slots c.args.self.now.slots c.from.result c.args.i.0 value _ (ap (λ w. w.slots) c.self.view_is) c.from.ensures here
