@@ -73,27 +73,37 @@ def free_ports(count):
 class Cluster:
     """Settings and an image in a folder of their own, and the nodes that were started of them."""
 
+    COMMAND = "node"
+    IMAGES = ("disk",)
+
     def __init__(self, name, ids=(1, 2, 3), timing=LONG_LOOP):
         self.folder = pathlib.Path(name).absolute()
         self.folder.mkdir()
-        self.image = self.folder / "disk"
+        self.images = [self.folder / image for image in self.IMAGES]
+        self.image = self.images[0]
         nodes = "".join("node {\nnodeid: %d\n}\n" % ident for ident in ids)
         (self.folder / "conf").write_text("nodelist {\n%s}\nquorum {\nprovider: corosync_votequorum\n}\n" % nodes)
         self.port, self.started = free_ports(len(ids)), 0
-        with open(self.folder / "conf") as settings:
-            same("create", self.quorumd("create", "--timing", timing, stdin=settings), (0, "created nodes %d\n" % len(ids)))
+        for image in self.images:
+            with open(self.folder / "conf") as settings:
+                created = self.quorumd("create", "--timing", timing, stdin=settings, image=image)
+            same("create", created, (0, "created nodes %d\n" % len(ids)))
 
-    def quorumd(self, command, *words, stdin=subprocess.DEVNULL):
-        """The status and the output of a command on the image."""
-        done = subprocess.run([QUORUMD, command, "--image", str(self.image), *words], stdin=stdin, stdout=subprocess.PIPE, check=False)
+    def quorumd(self, command, *words, stdin=subprocess.DEVNULL, image=None):
+        """The status and the output of a command on an image, the first one where none is given."""
+        words = [QUORUMD, command, "--image", str(image or self.image), *words]
+        done = subprocess.run(words, stdin=stdin, stdout=subprocess.PIPE, check=False)
         return done.returncode, done.stdout.decode()
 
-    def message(self, ident, kind):
-        same("message", self.quorumd("message", "--id", str(ident), "--kind", kind), (0, "sent %s to %d\n" % (kind, ident)))
+    def message(self, ident, kind, images=None):
+        """Leaves a message to a node on these images, or on all."""
+        for image in images or self.images:
+            sent = self.quorumd("message", "--id", str(ident), "--kind", kind, image=image)
+            same("message", sent, (0, "sent %s to %d\n" % (kind, ident)))
 
-    def listed(self, ident):
+    def listed(self, ident, image=None):
         """What `list` says of a node."""
-        status, text = self.quorumd("list")
+        status, text = self.quorumd("list", image=image)
         same("list", status, 0)
         return re.search(r"(?m)^node %d (.*)$" % ident, text)[1]
 
@@ -110,9 +120,16 @@ class Cluster:
     def node(self, ident, **given):
         return Node(self, ident, **given)
 
-    def has_written_reset(self, by, to):
+    def has_written_reset(self, by, to, image=None):
         """Whether the mailbox of the node holds a reset that the other node wrote."""
-        return re.search(r" mail reset by %d:\d+$" % by, self.listed(to))
+        return re.search(r" mail reset by %d:\d+$" % by, self.listed(to, image=image))
+
+
+class TripleCluster(Cluster):
+    """The same with three images."""
+
+    COMMAND = "node3"
+    IMAGES = ("disk.1", "disk.2", "disk.3")
 
 
 class Node:
@@ -122,7 +139,7 @@ class Node:
         self.cluster, self.ident = cluster, ident
         words = {
             "id": ident,
-            "image": image or cluster.image,
+            "image": image or ",".join(map(str, cluster.images)),
             "watchdog": watchdog or cluster.folder / ("watchdog.%d" % ident),
             "resource": resource or cluster.folder / ("resource.%d" % ident),
             "port": cluster.port,
@@ -134,7 +151,7 @@ class Node:
         self.log, self.answer = cluster.folder / ("log.%d" % number), cluster.folder / ("answer.%d" % number)
         options = [word for name, value in self.words.items() for word in ("--" + name, value)]
         with open(cluster.folder / "conf") as settings, open(self.log, "w") as log, open(self.answer, "w") as answer:
-            self.process = subprocess.Popen([*run_as, QUORUMD, "node", *options, *more], stdin=settings, stdout=answer, stderr=log)
+            self.process = subprocess.Popen([*run_as, QUORUMD, cluster.COMMAND, *options, *more], stdin=settings, stdout=answer, stderr=log)
         STARTED.append(self.process)
 
     def said(self):
@@ -243,10 +260,11 @@ def tried(test):
 
 
 def try_all(*tests):
-    """Tries all of them at the same time, and ends with 1 where one is wrong."""
+    """Tries all of them at the same time, and ends the script with 1 where one is wrong."""
     signal.signal(signal.SIGALRM, gives_up)
     signal.alarm(ALL)
     with concurrent.futures.ThreadPoolExecutor(len(tests)) as pool:
         wrong = [said for said in pool.map(tried, tests) if said]
-    print("\n".join(wrong))
-    sys.exit(1 if wrong else 0)
+    if wrong:
+        print("\n".join(wrong))
+        sys.exit(1)
