@@ -85,7 +85,7 @@ module _ {World Event : Type 0} (rules : WorldRules World Event) (is_formed : Se
     line_goes earlier events reached allowed line (Ok text) is rest goes =
         let here = place_after s t reached.lines reached.count events in
         let plays = ap (λ (p : Progress World). text_of rules p (said_event rules p line)) (sym reached.place)
-            ∙ line_of-ok (event_play rules start) head earlier line text is in
+        ∙ line_of-ok (event_play rules start) head earlier line text is in
         let good = good_line rules here line text plays in
         let counted = reached.counted in
         one_more s t reached.lines reached.count events reached.counted good.event text rest.trace good.is_text

@@ -143,13 +143,7 @@ fn add_touched(into: &mut ArrayVec<u8, 4096>, nodes: &Nodes, report: &Report, ra
 }
 
 /// Adds the same, with this text in place of the outputs.
-fn add_said(
-    into: &mut ArrayVec<u8, 4096>,
-    nodes: &Nodes,
-    report: &Report,
-    rank: Rank,
-    said: &[u8],
-)
+fn add_said(into: &mut ArrayVec<u8, 4096>, nodes: &Nodes, report: &Report, rank: Rank, said: &[u8])
     requires room { length into.old.items ≤ 100 }
     requires short { length said.now ≤ 100 }
     ensures text { into.new.items ≡ into.old.items ++ touched_with (ids nodes.now) report.now said.now (Some rank) }
