@@ -1,10 +1,13 @@
-"""For bench/replay and bench/soak: times quorumd and a plain Rust program over events, turn by turn in one run, and prints the events
+"""For bench/replay, bench/replay3 and bench/soak: times quorumd and a plain Rust program over events, turn by turn in one run, and prints the events
 a second and the peak memory of each, how the time of an event grows, and the ratio of the two."""
+import array
+import fcntl
 import os
 import shutil
 import statistics
 import subprocess
 import tempfile
+import termios
 import time
 
 FEW, MANY = 20000, 200000
@@ -25,6 +28,22 @@ def peak(child):
     """The most memory of a running child in bytes: what the system tells of one that ended has the memory of this script in it."""
     with open("/proc/%d/status" % child.pid) as lines:
         return next(int(line.split()[1]) for line in lines if line.startswith("VmHWM:")) * 1024
+
+
+def peak_of_input(words, path):
+    """The most memory of a program that reads this file, asked for when it has taken all of it and before its input ends."""
+    child = subprocess.Popen(words, stdin=subprocess.PIPE, stdout=subprocess.DEVNULL)
+    with open(path, "rb") as source:
+        shutil.copyfileobj(source, child.stdin)
+    child.stdin.flush()
+    waiting = array.array("i", [1])
+    while waiting[0]:
+        fcntl.ioctl(child.stdin, termios.FIONREAD, waiting)
+        time.sleep(0.01)
+    most = peak(child)
+    child.stdin.close()
+    assert child.wait() == 0
+    return most
 
 
 def output(run):

@@ -2,7 +2,7 @@
 # /usr/share/bash-completion/completions.
 
 # the commands, in the order of `quorumd help`
-_quorumd_commands=(count replay status soak create dump list message node migrate node-logged audit help)
+_quorumd_commands=(count replay status soak create dump list message node migrate replay3 node3 node-logged audit help)
 
 # _quorumd_options COMMAND: leaves the options that a command takes in `options`
 _quorumd_options() {
@@ -12,7 +12,7 @@ _quorumd_options() {
     create) options=(--image --timing) ;;
     dump | list | migrate) options=(--image) ;;
     message) options=(--image --id --kind) ;;
-    node | node-logged) options=(--id --image --watchdog --resource --port --turns --leave --start-mode) ;;
+    node | node3 | node-logged) options=(--id --image --watchdog --resource --port --turns --leave --start-mode) ;;
     audit) options=(--id --turns --leave --start-mode) ;;
     esac
 }

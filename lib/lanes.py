@@ -63,8 +63,8 @@ def condition(node, shown):
 class ClusterLanes:
     """The lanes of a schedule, as its events and trace lines are taken one after the other."""
 
-    def __init__(self, ids):
-        self.nodes = {ident: Node(ident) for ident in ids}
+    def __init__(self, ids, node=Node):
+        self.nodes = {ident: node(ident) for ident in ids}
         self.makers = {ident: LaneMaker("node %d" % ident) for ident in ids}
         self.shown = {ident: None for ident in ids}
         self.times = [0]
@@ -93,9 +93,9 @@ class ClusterLanes:
         return Timeline(title, "event", self.times, [maker.ended(len(self.times)) for maker in self.makers.values()])
 
 
-def lanes_of(title, ids, events, reports):
-    """The timeline of a schedule, of its events as words and its trace lines."""
-    lanes = ClusterLanes(ids)
+def lanes_of(title, ids, events, reports, node=Node):
+    """The timeline of a schedule, of its events as words and its trace lines; `node` is NodeOnThree where its disk is three images."""
+    lanes = ClusterLanes(ids, node)
     for words, report in zip(events, reports):
         lanes.take(words, report)
     return lanes.timeline(title)

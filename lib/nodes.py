@@ -8,6 +8,9 @@ READS = ("read-header", "read-slot", "check-mail", "read-mail")
 WRITES = ("claim", "clear", "reset", "close")
 SPEAKS = ("feed", "tell", "ask")
 
+# the numbers of the images, where there are three
+IMAGES = (1, 2, 3)
+
 # the messages of which a node dies
 DEADLY = ("reset", "off", "crashdump")
 
@@ -62,7 +65,7 @@ class Node:
     def take(self, words, report):
         """Takes an event of this node with its trace line; gives what it did, in order."""
         before = self.phase
-        handed = EVENTS[words[0]](self, words)
+        handed = self.EVENTS[words[0]](self, words)
         did = [deed for out in report.outs for deed in self.did(out)]
         self.quorate, self.votes, self.quorum, self.why = report.quorate, report.votes, report.quorum, report.why
         return handed + self.came_to(before, report) + did
@@ -148,7 +151,7 @@ class Node:
 
 
 # every event of a node: docs/SCHEDULES.md
-EVENTS = {
+Node.EVENTS = {
     "boot": Node.boots,
     "boot-clean": Node.boots,
     "crash": Node.crashes,
@@ -165,4 +168,59 @@ EVENTS = {
     "leave": Node.is_told,
     "feed": Node.is_told,
     "operator": Node.gets_message,
+}
+
+
+class NodeOnThree(Node):
+    """The same of a node whose disk is three images: an operation has a part on each, and each of these events names its image."""
+
+    def __init__(self, ident):
+        super().__init__(ident)
+        self.pending = set()  # the images on which the part of the operation that is out has neither landed nor failed
+        self.lost = {image: [] for image in IMAGES}
+
+    def boots(self, words):
+        did = super().boots(words)
+        self.lost = {image: [] for image in IMAGES}
+        return did
+
+    def lands(self, words):
+        self.pending.discard(int(words[2]))
+        return self.landing(self.operation)
+
+    def part_fails(self, words):
+        image = int(words[2])
+        if image in self.pending:
+            self.lose(image)
+            self.pending.discard(image)
+        return []
+
+    def lands_late(self, words):
+        return self.landing(self.lost[int(words[2])].pop(int(words[3]) - 1))
+
+    def gets_message(self, words):
+        return self.deed("message", words[3])
+
+    def give_up(self):
+        for image in self.pending:
+            self.lose(image)
+        self.operation, self.pending = None, set()
+
+    def lose(self, image):
+        if self.operation[0] in WRITES:
+            self.lost[image].append(self.operation)
+
+    def asks_disk(self, word, rest):
+        self.pending = set(IMAGES)
+        return super().asks_disk(word, rest)
+
+
+NodeOnThree.EVENTS = {
+    **Node.EVENTS,
+    "boot": NodeOnThree.boots,
+    "boot-clean": NodeOnThree.boots,
+    "land": NodeOnThree.lands,
+    "fail": NodeOnThree.part_fails,
+    "late": NodeOnThree.lands_late,
+    "operator": NodeOnThree.gets_message,
 }

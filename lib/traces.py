@@ -90,6 +90,6 @@ def ids_joined(word, mark):
     return () if ids == "-" else tuple(map(int, ids.split(mark)))
 
 
-def reports_of(text):
-    """The reports of a whole schedule, one an event."""
-    return [report_of(line) for line in answer_of("replay", text)[:-1]]
+def reports_of(text, command="replay"):
+    """The reports of a whole schedule, one an event; of a schedule of three images by the command `replay3`."""
+    return [report_of(line) for line in answer_of(command, text)[:-1]]

@@ -83,14 +83,28 @@ refused_after() {
     same "after $(sort -nu places | tr '\n' ' ')lines" "also after $wanted lines"
 }
 
-# packets_and_leftovers: a schedule that asks for memory at many events. Node 1 asks node 2 at each view that it is told; node 2 crashes while
-# the claim of its slot is out, which is then left over.
+# packets_and_leftovers ['IMAGES..']: a schedule that asks for memory at many events; of three images, where their numbers are given. Node 1 asks
+# node 2 at each view that it is told; node 2 crashes while the claim of its slot is out, which is then left over.
 packets_and_leftovers() {
+    local images=${1-}
     printf 'nodelist {\n'
     printf 'node {\nnodeid: %s\n}\n' 1 2 3 4 5 6 7 8
     printf '}\n----\ntiming 5000 10000 1000 2000 1000\nboot 1 0\n'
-    printf '%s 1\n' land done land done land done land done
+    operations 1 4 "$images"
     printf 'view 1 1 1,2,3,4,5,6,7,8\nboot 2 0\n'
-    printf '%s 2\n' land done land done crash
+    operations 2 2 "$images"
+    printf 'crash 2\n'
     printf 'view 1 %s 1,2,3,4,5,6,7,8\n' $(seq 2 100)
+}
+
+# operations ID COUNT 'IMAGES..': so many operations of the node land, on each of these images where their numbers are given, and are answered
+operations() {
+    local image
+    for _ in $(seq "$2"); do
+        for image in $3; do
+            printf 'land %s %s\n' "$1" "$image"
+        done
+        [ -n "$3" ] || printf 'land %s\n' "$1"
+        printf 'done %s\n' "$1"
+    done
 }

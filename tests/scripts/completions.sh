@@ -25,16 +25,17 @@ offers() {
 same "$(bash -c 'source "$1" && complete -p quorumd' - "$TOP/completions/quorumd.bash")" 'complete -F _quorumd quorumd'
 
 # commands
-commands='count replay status soak create dump list message node migrate node-logged audit help'
+commands='count replay status soak create dump list message node migrate replay3 node3 node-logged audit help'
 offers "$commands" ''
 offers 'count create' c
 offers 'status soak' s
+offers 'replay replay3' r
 offers status sta
 offers '' x
 expect 0 "commands $commands\\n" help
 
 # options: those of the command, and none twice
-for command in count replay soak help other; do
+for command in count replay replay3 soak help other; do
     offers '' "$command" ''
     offers '' "$command" --
 done
@@ -56,6 +57,7 @@ offers '' message --kind off --image disk --id 2 ''
 offers '--id --image --watchdog --resource --port --turns --leave --start-mode' node ''
 offers '--image --resource --port --leave --start-mode' node --turns 9 --id 1 --watchdog dog --
 offers '--leave' node --id 1 --image disk --watchdog dog --resource res --port 7000 --turns 9 --start-mode 1 --
+offers '--id --image --watchdog --resource --port --turns --leave --start-mode' node3 ''
 offers '--id --image --watchdog --resource --port --turns --leave --start-mode' node-logged ''
 offers '--id --turns --leave --start-mode' audit ''
 offers '--leave --start-mode' audit --turns 9 --id 1 --

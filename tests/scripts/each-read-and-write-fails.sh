@@ -7,6 +7,8 @@ printf 'node 1 1\nnode 2 1\nnode 3 1\nnode 4 1\nview 1 1,2\nview 2 1,2,3\n' > vo
 printf 'view 1 votes 2 quorum 3 quorate no\nview 2 votes 3 quorum 3 quorate yes\nend 2\n' > counted
 cp "$TOP/examples/incidents/leaving/schedule" schedule
 cp "$TOP/examples/incidents/leaving/trace" trace
+cp "$TOP/tests/cases/replay3/a-node-starts-without-image-3/stdin" schedule3
+cp "$TOP/tests/cases/replay3/a-node-starts-without-image-3/stdout" trace3
 printf 'nodelist {\nnode {\nnodeid: 1\n}\n}\n' > settings
 "$QUORUMD" create --image image < settings > created
 printf 'created nodes 1\n' | cmp - created
@@ -164,6 +166,7 @@ def is_as_before(where, sector):
 
 COUNT = (["count"], "votes", "counted")
 REPLAY = (["replay"], "schedule", "trace")
+REPLAY3 = (["replay3"], "schedule3", "trace3")
 STATUS = (["status"], "schedule")
 STATUS_AS_JSON = (["status", "--form", "json"], "schedule")
 SOAK = (["soak", "7", "20"], os.devnull)
@@ -175,9 +178,10 @@ HELP = (["help"], os.devnull)
 
 each_read_fails(*COUNT, answered=views)
 each_read_fails(*REPLAY, answered=events)
+each_read_fails(*REPLAY3, answered=events)
 for command in STATUS, STATUS_AS_JSON, CREATE:
     each_read_fails(*command)
-for command in COUNT, REPLAY, STATUS, STATUS_AS_JSON, SOAK, CREATE, DUMP, LIST, MESSAGE, HELP:
+for command in COUNT, REPLAY, REPLAY3, STATUS, STATUS_AS_JSON, SOAK, CREATE, DUMP, LIST, MESSAGE, HELP:
     each_write_fails(*command)
 each_sector_fails(*CREATE, left=is_none)
 each_sector_fails(*MESSAGE, left=is_as_before)

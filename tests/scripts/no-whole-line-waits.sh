@@ -36,5 +36,7 @@ same "$(tail -n 2 got)" '2 5050 - - holders=-
 end 2'
 
 # one line at a time, and nothing but whole lines
-answered "${head}boot 1 0\n" "$booted" 'pass 5050\n' replay
-same "$(tail -n 1 got)" 'end 2'
+for command in replay replay3; do
+    answered "${head}boot 1 0\n" "$booted" 'pass 5050\n' "$command"
+    same "$(tail -n 1 got)" 'end 2'
+done

@@ -32,11 +32,12 @@ reads 8192 4 'fault BadSchedule line 1 UnknownWord\n' count
 { head -c 9000 /dev/zero | tr '\0' x; echo; } > input
 reads 8192 4 'fault BadSchedule line 1 TooLong\n' count
 
-# `replay` and `status`: a fault of the timing line, and one of an event in the third piece
+# `replay`, `replay3` and `status`: a fault of the timing line, and one of an event in the third piece
 { cat "$TOP/examples/one-node.conf"; printf -- '----\ntiming 5000\n'; lines 4000 'tick 1'; } > input
-for command in replay status; do
+for command in replay replay3 status; do
     reads 4096 4 'fault BadSchedule line 7 BadCount\n' "$command"
 done
 { cat "$TOP/examples/one-node.conf"; lines 1000 '# nothing'; printf -- '----\ntiming 5000 10000 1000 2000 1000\ntock\n'; lines 4000 'tick 1'; } > input
-reads 12288 4 'fault BadSchedule line 1008 UnknownWord\n' status
-reads 12288 4 'fault BadSchedule line 1008 UnknownWord\n' replay
+for command in replay replay3 status; do
+    reads 12288 4 'fault BadSchedule line 1008 UnknownWord\n' "$command"
+done

@@ -9,10 +9,19 @@ timeline() {
     "$python" -I -S "$TOP/bin/timeline" "$@"
 }
 
-for folder in "$TOP"/examples/incidents/*/; do
-    timeline --title "$(sed -n '1s/^# //p' "$folder/story.md")" "$folder/schedule" > drawn.svg
+# is_shown FOLDER WORD..: the picture of the folder's schedule, drawn with these words, is the one that its story shows
+is_shown() {
+    local folder=$1
+    shift
+    timeline --title "$(sed -n '1s/^# //p' "$folder/story.md")" "$@" "$folder/schedule" > drawn.svg
     cmp drawn.svg "$folder/timeline.svg"
     grep -q '](timeline.svg)' "$folder/story.md" || { printf '%s/story.md does not show its picture\n' "$folder"; exit 1; }
+}
+for folder in "$TOP"/examples/incidents/*/; do
+    is_shown "$folder"
+done
+for folder in "$TOP"/examples/three-images/*/; do
+    is_shown "$folder" --three-images
 done
 
 cat > look.py << 'END_OF_PYTHON'
@@ -179,9 +188,9 @@ refused() {
     grep -qE "$pattern" errors || { printf 'timeline %s: %s\n' "$*" "$(cat errors)"; exit 1; }
 }
 
-refused 2 '^usage: timeline \[--title TITLE\] \[--journal | --record\] \[FILE\]' --colour < "$TOP/examples/letting-time-pass.schedule"
-refused 2 '^usage: timeline \[--title TITLE\] \[--journal | --record\] \[FILE\]' one two
-refused 2 '^usage: timeline \[--title TITLE\] \[--journal | --record\] \[FILE\]' no-such-file
+refused 2 '^usage: timeline \[--title TITLE\] \[--three-images | --journal | --record\] \[FILE\]' --colour < "$TOP/examples/letting-time-pass.schedule"
+refused 2 '^usage: timeline \[--title TITLE\] \[--three-images | --journal | --record\] \[FILE\]' one two
+refused 2 '^usage: timeline \[--title TITLE\] \[--three-images | --journal | --record\] \[FILE\]' no-such-file
 refused 4 '^timeline: fault BadSchedule line 1 Unended$' < /dev/null
 refused 3 '^timeline: fault BadConf ' < <(printf 'nodelist {\n----\n')
 refused 5 '^timeline: fault NotAllowed line 19 rule 1$' < <(sed '1,/^boot/!d' "$TOP/examples/letting-time-pass.schedule"; echo 'pass 5051')

@@ -46,6 +46,18 @@ node --id 1 --image d --watchdog w --resource r --port 7000 --turns 9 --start-mo
 node --id 1 --image d --watchdog w --resource r --port 7000 --turns 9 --turns 9
 node --id 1 --image d --watchdog w --resource r --port 7000 --turns 9 --timing 5000,10000,1000,2000,1000
 node --id 1 --image d --watchdog w --resource r --port 7000 --turns 9 --leave
+node3
+node3 --id 1 --image d --watchdog w --resource r --port 7000 --turns 9
+node3 --id 1 --image d,e --watchdog w --resource r --port 7000 --turns 9
+node3 --id 1 --image d,e,f,g --watchdog w --resource r --port 7000 --turns 9
+node3 --id 1 --image d,e,f, --watchdog w --resource r --port 7000 --turns 9
+node3 --id 1 --image d,d,e --watchdog w --resource r --port 7000 --turns 9
+node3 --id 1 --image d,e,d --watchdog w --resource r --port 7000 --turns 9
+node3 --id 1 --image d,e,e --watchdog w --resource r --port 7000 --turns 9
+node3 --id 1 --image ,,d --watchdog w --resource r --port 7000 --turns 9
+node3 --id 1 --image d --image e --image f --watchdog w --resource r --port 7000 --turns 9
+node3 --id 1 --image d,e,f --watchdog w --resource r --port 7000
+node3 --id 1 --image d,e,f --watchdog w --resource r --port 7000 --turns 0
 node-logged
 node-logged --id 1 --turns 9
 node-logged --id 1 --image d --watchdog w --resource r --port 7000 --turns 0
@@ -65,6 +77,8 @@ audit --id 1 --turns 9 --id 1
 migrate
 migrate d
 migrate --image d --id 1
+replay3 x
+replay3 --form text
 status text
 status --form text --form text
 status --form xml
@@ -95,6 +109,11 @@ refused "\"5000,10000,1000,2000\" is not taken; usage: $create" create --image d
 refused "\"empty\" is not taken; usage: $message" message --image d --id 1 --kind empty
 refused "\"0\" is not taken; usage: $message" message --kind off --id 0 --image d
 refused "--id is missing; usage: $message" message --kind off --image --id
+node3='node3 --id 1..4294967295 --image P1,P2,P3 --watchdog PATH --resource PATH --port 1024..65000 --turns 1..1000000000 [--leave 1..1000000000] [--start-mode 0..1]'
+refused "\"d,e\" is not taken; usage: $node3" node3 --id 1 --image d,e --watchdog w
+refused "\"d,e,d\" is not taken; usage: $node3" node3 --id 1 --image d,e,d --watchdog w
+refused "\"d,e,f,g\" is not taken; usage: $node3" node3 --image d,e,f,g
+refused "--watchdog is missing; usage: $node3" node3 --id 1 --image d,e,f
 refused '"xml" is not taken; usage: status [--form text|json]' status --form xml
 refused '"200001" is not taken; usage: soak SEED:0.. EVENTS:1..200000' soak 1 200001
 refused 'a word is missing; usage: soak SEED:0.. EVENTS:1..200000' soak 1

@@ -1,11 +1,16 @@
 -- The input of an audit: a settings text, a line `----`, and a log. This project's profile.
-use Rattle.std.specs.Prelude.{◌≡◌, ◌≤◌, ℕ, Bool, List, ◌++◌, ◌==◌, position, Option, None, Some, Ok, codes}
-use Rattle.std.specs.Io.KnownBytes.{prepend_known}
+use Rattle.std.specs.Prelude.{◌≡◌, ◌≤◌, ℕ, Bool, List, [], ◌==◌, position, Option, None, Some}
+use Rattle.std.specs.Io.KnownBytes.{IsAtEnd, prepend_known}
 use Rattle.qn_base.specs.declared.ids.NodeId.{NodeId}
 use Rattle.qn_base.specs.Plans.{Plan}
 use Rattle.qn_io.specs.Outside.{HasRisen}
 use Rattle.qn_model.specs.declared.configuration.Settings.{Settings}
-use Rattle.qn_sched.specs.Head.{settings_in}
+use Rattle.qn_head.specs.declared.head_fault.HeadFault.{HeadFault}
+use Rattle.qn_head.specs.declared.head_fault.HeadFault.TheVariants as head
+use Rattle.qn_head.specs.Faults.{end_of}
+use Rattle.qn_head.specs.Heads.{settings_part}
+use Rattle.qn_head.specs.Parts.{Refuses}
+use Rattle.qn_head.specs.Texts.{HasText}
 use Rattle.qn_live.specs.Running.{Ran}
 use Rattle.qn_live.specs.Runs.{live_plan}
 use Rattle.qn_audit.specs.declared.audit_end.AuditEnd.{AuditEnd}
@@ -36,17 +41,11 @@ pub record InputAt : Type 0 where
 abbrev pub input_at : {I : Type 0} → (I → Option (List ℕ)) → (I → ℕ) → I → InputAt
 input_at left faults input = record { left = left input; faults = faults input }
 
--- a settings text that gives these settings and the line of dashes were taken
-pub record HasHead (settings : Settings) (old new : Option (List ℕ)) : Type 0 where
-  pub text : List ℕ
-  pub takes : old ≡ prepend_known (text ++ codes "----\n") new
-  pub gives : settings_in text ≡ Ok settings
-
 -- no node of the settings has the id
 pub record HasNoNode (run : AuditedRun) (old new : InputAt) : Type 0 where
   pub settings : Settings
   pub waiting : List ℕ
-  pub head : HasHead settings old.left (prepend_known waiting new.left)
+  pub head : HasText settings old.left (prepend_known waiting new.left)
   pub unnamed : rank_in run settings ≡ None
 
 -- The log behind the head was judged as that run, which ended the audit so. `middle` is the input after its head, which had
@@ -54,7 +53,7 @@ pub record HasNoNode (run : AuditedRun) (old new : InputAt) : Type 0 where
 pub record AuditedInput (run : AuditedRun) (old new : InputAt) (end : AuditEnd) : Type 0 where
   pub settings : Settings
   pub middle : InputAt
-  pub head : HasHead settings old.left middle.left
+  pub head : HasText settings old.left middle.left
   pub before_log : old.faults ≤ middle.faults
   pub in_log : middle.faults ≤ new.faults
   pub lines : ℕ
@@ -63,21 +62,27 @@ pub record AuditedInput (run : AuditedRun) (old new : InputAt) (end : AuditEnd) 
   pub waiting : List ℕ
   pub audited : Audited (plan_of run settings rank) lines middle.left (further (prepend_known waiting new.left) middle.faults new.faults) end
 
--- the end comes before the log
-abbrev pub IsHeadFault : AuditEnd → Type 0
-IsHeadFault (end.Whole all) = ⊥
-IsHeadFault (end.Prefix all) = ⊥
-IsHeadFault (end.NotARun line) = ⊥
-IsHeadFault end.UnknownNode = ⊥
-IsHeadFault (end.BadConf fault) = Unit {0}
-IsHeadFault (end.BadSettings fault) = Unit {0}
-IsHeadFault (end.BadSchedule line fault) = Unit {0}
-IsHeadFault end.ReadFault = Unit {0}
-IsHeadFault end.NoMemory = Unit {0}
+-- the end of that name
+abbrev pub end_in_head : HeadFault → AuditEnd
+end_in_head (head.BadConf fault) = end.BadConf fault
+end_in_head (head.BadSettings fault) = end.BadSettings fault
+end_in_head (head.BadSchedule line fault) = end.BadSchedule line fault
+end_in_head head.ReadFault = end.ReadFault
+end_in_head head.NoMemory = end.NoMemory
+
+-- The settings text or the line `----` is at fault, as the bytes that were taken tell, of which none was taken that it does not
+-- need; or it ran out of memory.
+pub record EndsInHead (old new : InputAt) (found : AuditEnd) : Type 0 where
+  pub fault : HeadFault
+  pub is : found ≡ end_in_head fault
+  pub waiting : List ℕ
+  pub refuses : Refuses settings_part old.left (prepend_known waiting new.left) ((waiting ≡ []) × IsAtEnd new.left)
+      ((waiting ≡ []) × HasRisen old.faults new.faults) (end_of fault)
+  pub cause : fault ≡ head.ReadFault → HasRisen old.faults new.faults
 
 -- The input was judged: it ended in its head; no node of the settings has the id; or its log ended the audit so. Out of memory
 -- comes only in the head.
 pub data JudgesInput (run : AuditedRun) (old new : InputAt) (found : AuditEnd) : Type 0 where
-  InHead : IsHeadFault found → (found ≡ end.ReadFault → HasRisen old.faults new.faults) → JudgesInput run old new found
+  InHead : EndsInHead old new found → JudgesInput run old new found
   Unknown : found ≡ end.UnknownNode → HasNoNode run old new → JudgesInput run old new found
   InLog : AuditedInput run old new found → JudgesInput run old new found

@@ -1,5 +1,6 @@
 //! How the audit of a recorded node ends.
 use qn_conf::ConfFault;
+use qn_head::HeadFault;
 use qn_model::LineFault;
 use qn_settings::SettingsFault;
 
@@ -24,4 +25,21 @@ pub enum AuditEnd {
     ReadFault,
     /// Out of memory.
     NoMemory,
+}
+
+impl From<HeadFault> for AuditEnd {
+    ghost use Rattle.std.specs.Prelude.{◌≡◌};
+    ghost use Rattle.qn_audit.specs.Inputs.{end_in_head};
+
+    ghost from_gives = { λ fault end. end ≡ end_in_head fault };
+
+    fn from(fault: HeadFault) -> AuditEnd {
+        match fault {
+            HeadFault::BadConf(fault) => AuditEnd::BadConf(fault),
+            HeadFault::BadSettings(fault) => AuditEnd::BadSettings(fault),
+            HeadFault::BadSchedule { line, fault } => AuditEnd::BadSchedule { line, fault },
+            HeadFault::ReadFault => AuditEnd::ReadFault,
+            HeadFault::NoMemory => AuditEnd::NoMemory,
+        }
+    }
 }

@@ -4,9 +4,9 @@ ghost use Rattle.qn_audit.specs.Inputs.{JudgesInput, input_at};
 
 use crate::audit_end::AuditEnd;
 use crate::auditor::Auditor;
-use crate::head::read_head;
 use crate::log::audit_log;
 use qn_base::{NodeId, Rank};
+use qn_head::read_settings;
 use qn_io::{Pieces, Source};
 use qn_model::{NodeEntry, Nodes};
 use std::alloc::Global;
@@ -29,9 +29,9 @@ pub fn audit<I: Source>(
     ensures never_falls { I.faults input.old ≤ I.faults input.new }
 {
     let mut pieces = Pieces::new();
-    let head = match read_head(alloc, &mut pieces, input) {
+    let head = match read_settings(alloc, &mut pieces, input) {
         Ok(head) => head,
-        Err(end) => return end,
+        Err(fault) => return AuditEnd::from(fault),
     };
     let Some(me) = rank_of(&head.settings.nodes, id) else {
         return AuditEnd::UnknownNode;

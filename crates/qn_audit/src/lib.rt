@@ -13,7 +13,6 @@ mod answering;
 mod audit_end;
 mod audit_input;
 mod auditor;
-mod head;
 mod log;
 mod log_bytes;
 mod log_line;

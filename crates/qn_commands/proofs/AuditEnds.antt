@@ -2,12 +2,14 @@
 use Rattle.std.proofs.Common.{◌≡◌, ◌≢◌, ◌⊎◌, inl, inr, ℕ, List, [], ◌∷◌, refl, sym, ap, ◌∙◌, subst, arith}
 use Rattle.qn_audit.specs.declared.audit_end.AuditEnd.{AuditEnd}
 use Rattle.qn_audit.specs.declared.audit_end.AuditEnd.TheVariants as ended
-use Rattle.qn_audit.specs.Inputs.{AuditedInput, AuditedRun, InHead, InLog, InputAt, IsHeadFault, JudgesInput, Unknown}
+use Rattle.qn_audit.specs.Inputs.{AuditedInput, AuditedRun, InHead, InLog, InputAt, JudgesInput, Unknown, end_in_head}
 use Rattle.qn_base.specs.declared.ids.NodeId.{NodeId}
 use Rattle.qn_base.specs.Faults.{HasRisen}
 use Rattle.qn_base.specs.Rising.{HasRisen-within}
 use Rattle.qn_conf.specs.declared.faults.ConfFault.{ConfFault}
 use Rattle.qn_conf.specs.declared.faults.ConfFault.TheVariants as conf
+use Rattle.qn_head.specs.declared.head_fault.HeadFault.{HeadFault}
+use Rattle.qn_head.specs.declared.head_fault.HeadFault.TheVariants as head
 use Rattle.qn_commands.specs.declared.commands.audit.AuditWords.{AuditWords}
 use Rattle.qn_commands.specs.declared.status.Status.TheVariants.{Done, BadConf, BadSchedule, ReadFault, WriteFault, NoMemory, UnknownNode, NotARun}
 use Rattle.qn_commands.specs.Commands.Audit.{Audits, AuditsLog, JudgesLog, audit_outcome, audited_run, shown}
@@ -73,16 +75,19 @@ conf_judged conf.TooLong judged = grind arith
 conf_judged conf.NoMemory judged = grind arith
 
 -- a fault of the head has another status than a log that was judged
-head_not_judged : (id : NodeId) (end : AuditEnd) → IsHeadFault end → ((audit_outcome id end).status ≡ 0) ⊎ ((audit_outcome id end).status ≡ 18) → ⊥
-head_not_judged id (ended.Whole turns) in_head judged = in_head
-head_not_judged id (ended.Prefix turns) in_head judged = in_head
-head_not_judged id (ended.NotARun line) in_head judged = in_head
-head_not_judged id ended.UnknownNode in_head judged = in_head
-head_not_judged id (ended.BadConf why) in_head judged = conf_judged why judged
-head_not_judged id (ended.BadSettings why) in_head judged = grind arith
-head_not_judged id (ended.BadSchedule line why) in_head judged = grind arith
-head_not_judged id ended.ReadFault in_head judged = grind arith
-head_not_judged id ended.NoMemory in_head judged = grind arith
+head_not_judged : (id : NodeId) (fault : HeadFault) → ((audit_outcome id (end_in_head fault)).status ≡ 0) ⊎ ((audit_outcome id (end_in_head fault)).status ≡ 18) → ⊥
+head_not_judged id (head.BadConf why) judged = conf_judged why judged
+head_not_judged id (head.BadSettings why) judged = grind arith
+head_not_judged id (head.BadSchedule line why) judged = grind arith
+head_not_judged id head.ReadFault judged = grind arith
+head_not_judged id head.NoMemory judged = grind arith
+
+reads_in_head : (fault : HeadFault) → end_in_head fault ≡ ended.ReadFault → fault ≡ head.ReadFault
+reads_in_head (head.BadConf why) is = absurd cc
+reads_in_head (head.BadSettings why) is = absurd cc
+reads_in_head (head.BadSchedule line why) is = absurd cc
+reads_in_head head.ReadFault is = refl
+reads_in_head head.NoMemory is = absurd cc
 
 -- ## What the judged input says
 
@@ -92,7 +97,7 @@ log_fails {run} {old} {new} log =
     HasRisen-within old.faults log.middle.faults new.faults new.faults log.before_log log.in_log (omega arith) log.audited.ends
 
 read_fails : {run : AuditedRun} {old new : InputAt} {end : AuditEnd} → JudgesInput run old new end → end ≡ ended.ReadFault → HasRisen old.faults new.faults
-read_fails (InHead in_head cause) is = cause is
+read_fails (InHead found) is = found.cause (reads_in_head found.fault (sym found.is ∙ is))
 read_fails (Unknown other node) is = absurd cc
 read_fails {run} {old} {new} {end} (InLog log) is = log_fails (subst (λ (e : AuditEnd). AuditedInput run old new e) is log)
 
@@ -101,7 +106,8 @@ read_fails {run} {old} {new} {end} (InLog log) is = log_fails (subst (λ (e : Au
 module _ (words : AuditWords) (before after : Seen) (code : ℕ) where
   judged_log : (end : AuditEnd) → JudgesInput (audited_run words) (shown before.input) (shown after.input) end → code ≡ (audit_outcome words.id end).status
       → (code ≡ 0) ⊎ (code ≡ 18) → JudgesLog words before after code
-  judged_log end (InHead in_head cause) is judged = absurd (head_not_judged words.id end in_head (of_own is judged))
+  judged_log end (InHead found) is judged =
+      absurd (head_not_judged words.id found.fault (of_own (is ∙ ap (λ (e : AuditEnd). (audit_outcome words.id e).status) found.is) judged))
     where
       of_own : {own : ℕ} → code ≡ own → (code ≡ 0) ⊎ (code ≡ 18) → (own ≡ 0) ⊎ (own ≡ 18)
       of_own same (inl zero) = inl (sym same ∙ zero)

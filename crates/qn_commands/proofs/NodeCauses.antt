@@ -5,14 +5,13 @@ use Rattle.qn_base.specs.declared.calls.Call.{Call}
 use Rattle.qn_base.specs.Calls.{blank, is_failed, some_failed}
 use Rattle.qn_live.specs.declared.live_end.LiveEnd.{LiveEnd}
 use Rattle.qn_live.specs.declared.live_end.LiveEnd.TheVariants as end
-use Rattle.qn_live.specs.Runs.{live_plan}
 use Rattle.qn_live.specs.Laws.{NeverFalls, is_by_call, is_by_clock}
-use Rattle.qn_live.specs.EndLaws.{no_end_by_call, no_end_by_clock}
 use Rattle.qn_model.specs.declared.configuration.Settings.{Settings}
 use Rattle.qn_model.specs.declared.outputs.BootCause.{BootCause}
 use Rattle.qn_commands.specs.declared.commands.node.NodeWords.{NodeWords}
+use Rattle.qn_commands.specs.declared.node_images.NodeImages.{NodeImages}
 use Rattle.qn_commands.specs.declared.fault.Fault.TheVariants.{BootHalted, EnvFault, UnknownNode}
-use Rattle.qn_commands.specs.Commands.Node.{HaltsBoot, node_work, opened_work, opening, rank_with, run_work}
+use Rattle.qn_commands.specs.Commands.Node.{EndsWithCause, HaltsBoot, node_plan, node_work, opened_work, opening, rank_with, run_work}
 use Rattle.qn_commands.specs.Endings.{AnswersWhole, Cut, Says, Whole, refused}
 use Rattle.qn_commands.specs.NodeTexts.{end_outcome}
 use Rattle.qn_commands.specs.Seen.{Output, Seen}
@@ -20,58 +19,58 @@ use Rattle.qn_commands.specs.Works.{Performs, Works, refusal}
 use Rattle.qn_commands.proofs.NodeEnds.{Performed, opening_tells_none, performed}
 
 -- the node was opened by the first call, and ran with the others
-record RanOn (words : NodeWords) (settings : Settings) (calls : List Call) (before after : Output) (code : ℕ) : Type 0 where
+record RanOn (images : NodeImages) (words : NodeWords) (settings : Settings) (calls : List Call) (before after : Output) (code : ℕ) : Type 0 where
   rank : ℕ
   first : Call
   more : List Call
   parts : calls ≡ first ∷ more
-  asked : blank first ≡ opening words rank true
-  run : Performed (live_plan settings rank words.clean words.leave words.turns) words.turns more before after code
+  asked : blank first ≡ opening images words rank true
+  run : Performed (node_plan images words settings rank) words.turns more before after code
 
 -- it was refused before, or it ran
-abbrev Went : NodeWords → Settings → List Call → Output → Output → ℕ → Type 0
-Went words settings calls before after code = (code ≡ 16) ⊎ (code ≡ 8) ⊎ (code ≡ 7) ⊎ RanOn words settings calls before after code
+abbrev Went : NodeImages → NodeWords → Settings → List Call → Output → Output → ℕ → Type 0
+Went images words settings calls before after code = (code ≡ 16) ⊎ (code ≡ 8) ⊎ (code ≡ 7) ⊎ RanOn images words settings calls before after code
 
 said : {text : List ℕ} {wanted code : ℕ} {before after : Output} → Says text wanted before after code → (code ≡ wanted) ⊎ (code ≡ 7)
 said (Whole is whole) = inl is
 said (Cut is fails front) = inr is
 
-module _ (words : NodeWords) (settings : Settings) (calls : List Call) (before after : Output) (code : ℕ) where
-  refused_unknown : (code ≡ 16) ⊎ (code ≡ 7) → Went words settings calls before after code
+module _ (images : NodeImages) (words : NodeWords) (settings : Settings) (calls : List Call) (before after : Output) (code : ℕ) where
+  refused_unknown : (code ≡ 16) ⊎ (code ≡ 7) → Went images words settings calls before after code
   refused_unknown (inl sixteen) = inl sixteen
   refused_unknown (inr seven) = inr (inr (inl seven))
 
-  refused_opening : (code ≡ 8) ⊎ (code ≡ 7) → Went words settings calls before after code
+  refused_opening : (code ≡ 8) ⊎ (code ≡ 7) → Went images words settings calls before after code
   refused_opening (inl eight) = inr (inl eight)
   refused_opening (inr seven) = inr (inr (inl seven))
 
-went_opened : (words : NodeWords) (settings : Settings) (rank : ℕ) (calls : List Call) (before after : Output) (code : ℕ)
-    → Performs (opened_work words settings rank) calls before after code → Went words settings calls before after code
+went_opened : (images : NodeImages) (words : NodeWords) (settings : Settings) (rank : ℕ) (calls : List Call) (before after : Output) (code : ℕ)
+    → Performs (opened_work images words settings rank) calls before after code → Went images words settings calls before after code
 unfolding opened_work run_work
-went_opened words settings rank [] before after code did = absurd did
-went_opened words settings rank (call ∷ more) before after code did = of_answer (is_failed call) did.1
+went_opened images words settings rank [] before after code did = absurd did
+went_opened images words settings rank (call ∷ more) before after code did = of_answer (is_failed call) did.1
   where
-    of_answer : (failing : Bool) → Performs (if failing then refusal EnvFault else run_work words settings rank) more before after code
-        → Went words settings (call ∷ more) before after code
-    of_answer true refuses = refused_opening words settings (call ∷ more) before after code (said refuses.1)
+    of_answer : (failing : Bool) → Performs (if failing then refusal EnvFault else run_work images words settings rank) more before after code
+        → Went images words settings (call ∷ more) before after code
+    of_answer true refuses = refused_opening images words settings (call ∷ more) before after code (said refuses.1)
     of_answer false ran_on = inr (inr (inr (record {
       rank = rank;
       first = call;
       more = more;
       parts = refl;
       asked = did.0;
-      run = performed (live_plan settings rank words.clean words.leave words.turns) words.turns more before after code ran_on;
+      run = performed (node_plan images words settings rank) words.turns more before after code ran_on;
     })))
 
-went : (words : NodeWords) (settings : Settings) (calls : List Call) (before after : Output) (code : ℕ)
-    → Performs (node_work words settings) calls before after code → Went words settings calls before after code
+went : (images : NodeImages) (words : NodeWords) (settings : Settings) (calls : List Call) (before after : Output) (code : ℕ)
+    → Performs (node_work images words settings) calls before after code → Went images words settings calls before after code
 unfolding node_work
-went words settings calls before after code did = of_place (rank_with settings words.id) did
+went images words settings calls before after code did = of_place (rank_with settings words.id) did
   where
-    of_place : (place : Option ℕ) → Performs (option_map_or (opened_work words settings) place (refusal (UnknownNode words.id))) calls before after code
-        → Went words settings calls before after code
-    of_place None refuses = refused_unknown words settings calls before after code (said refuses.1)
-    of_place (Some rank) opens = went_opened words settings rank calls before after code opens
+    of_place : (place : Option ℕ) → Performs (option_map_or (opened_work images words settings) place (refusal (UnknownNode words.id))) calls before after code
+        → Went images words settings calls before after code
+    of_place None refuses = refused_unknown images words settings calls before after code (said refuses.1)
+    of_place (Some rank) opens = went_opened images words settings rank calls before after code opens
 
 -- status 12 is that of a clock
 of_clock : (turns : ℕ) (end : LiveEnd) (code : ℕ) → (code ≡ (end_outcome turns end).status) ⊎ (code ≡ 7) → code ≡ 12 → is_by_clock end ≡ true
@@ -106,28 +105,29 @@ by_failure : (failing test : Bool) → (failing ≡ false → test ≡ false) �
 by_failure true test none is = refl
 by_failure false test none is = let never : test ≡ false = none refl in absurd cc
 
-module _ (words : NodeWords) (settings : Settings) {before after : Seen} {code : ℕ} (works : Works (node_work words settings) before after code) where
+module _ (images : NodeImages) (words : NodeWords) (settings : Settings) {before after : Seen} {code : ℕ}
+    (law : (rank : ℕ) → EndsWithCause (node_plan images words settings rank)) (works : Works (node_work images words settings) before after code) where
   -- at status 12 a tick fell
   pub clock_went_back : code ≡ 12 → NeverFalls 0 works.calls → ⊥
-  clock_went_back twelve rises = of_went (went words settings works.calls before.output after.output code works.performs)
+  clock_went_back twelve rises = of_went (went images words settings works.calls before.output after.output code works.performs)
     where
-      of_went : Went words settings works.calls before.output after.output code → ⊥
+      of_went : Went images words settings works.calls before.output after.output code → ⊥
       of_went (inl sixteen) = omega arith
       of_went (inr (inl eight)) = omega arith
       of_went (inr (inr (inl seven))) = omega arith
       of_went (inr (inr (inr ran))) =
           let known : NeverFalls 0 (ran.first ∷ ran.more) = subst (λ (calls : List Call). NeverFalls 0 calls) ran.parts rises in
           let later : NeverFalls 0 ran.more =
-          subst (λ (last : ℕ). NeverFalls last ran.more) (opening_tells_none words ran.rank ran.first ran.asked) known.1 in
-          let no_clock = no_end_by_clock settings ran.rank words.clean words.leave words.turns ran.more ran.run.ran ran.run.follows later in
+          subst (λ (last : ℕ). NeverFalls last ran.more) (opening_tells_none images words ran.rank ran.first ran.asked) known.1 in
+          let no_clock = (law ran.rank).clock ran.more ran.run.ran ran.run.follows later in
           let by_clock = of_clock words.turns ran.run.ran.end code (said ran.run.says) twelve in
           cc
 
   -- at status 14 the boot was halted, by a failed call only where one failed
   pub boot_halted : code ≡ 14 → HaltsBoot before after code
-  boot_halted fourteen = of_went (went words settings works.calls before.output after.output code works.performs)
+  boot_halted fourteen = of_went (went images words settings works.calls before.output after.output code works.performs)
     where
-      of_went : Went words settings works.calls before.output after.output code → HaltsBoot before after code
+      of_went : Went images words settings works.calls before.output after.output code → HaltsBoot before after code
       of_went (inl sixteen) = absurd (omega arith)
       of_went (inr (inl eight)) = absurd (omega arith)
       of_went (inr (inr (inl seven))) = absurd (omega arith)
@@ -139,7 +139,7 @@ module _ (words : NodeWords) (settings : Settings) {before after : Seen} {code :
             fails = λ is_failure.
                 let failed : some_failed ran.more ≡ true =
                 by_failure (some_failed ran.more) (is_by_call ran.run.ran.end)
-                (no_end_by_call settings ran.rank words.clean words.leave words.turns ran.more ran.run.ran ran.run.follows)
+                ((law ran.rank).call ran.more ran.run.ran ran.run.follows)
                 (ap is_by_call halts.is ∙ ap not is_failure) in
                 works.made.cause (ap some_failed ran.parts ∙ or_second (is_failed ran.first) (some_failed ran.more) failed);
           }

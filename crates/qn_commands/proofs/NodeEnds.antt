@@ -7,15 +7,14 @@ use Rattle.qn_base.specs.declared.calls.Call.TheVariants.{OpenImage, OpenNode, N
 use Rattle.qn_base.specs.Calls.{blank, is_failed, some_failed}
 use Rattle.qn_base.specs.Plans.{Plan, Ends, Asks, Follows}
 use Rattle.qn_live.specs.Running.{Ran}
-use Rattle.qn_live.specs.Runs.{live_plan}
 use Rattle.qn_live.specs.Laws.{NeverFalls, tick_after}
-use Rattle.qn_live.specs.EndLaws.{no_end_by_call, no_end_by_clock}
 use Rattle.qn_model.specs.declared.configuration.Settings.{Settings}
 use Rattle.qn_model.specs.Lines.{Ended}
 use Rattle.qn_commands.specs.declared.commands.node.NodeWords.{NodeWords}
+use Rattle.qn_commands.specs.declared.node_images.NodeImages.{NodeImages}
 use Rattle.qn_commands.specs.declared.fault.Fault.{Fault}
 use Rattle.qn_commands.specs.declared.fault.Fault.TheVariants.{EnvFault, UnknownNode}
-use Rattle.qn_commands.specs.Commands.Node.{EndsUndisturbed, node_work, opened_work, opening, rank_with, run_end, run_work}
+use Rattle.qn_commands.specs.Commands.Node.{EndsUndisturbed, EndsWithCause, node_plan, node_work, opened_work, opening, rank_with, run_end, run_work}
 use Rattle.qn_commands.specs.Endings.{AnswersWhole, Cut, Says, Whole}
 use Rattle.qn_commands.specs.Faults.{status_of}
 use Rattle.qn_commands.specs.InputSettings.{IsWanted, Judges, input_settings}
@@ -75,14 +74,14 @@ module _ (P : Type 0) (words : NodeWords) (before after : Input) where
 
 -- ## The end of a run
 
-module _ (words : NodeWords) (settings : Settings) where
-  pub unknown_work : None ≡ rank_with settings words.id → node_work words settings ≡ refusal (UnknownNode words.id)
+module _ (images : NodeImages) (words : NodeWords) (settings : Settings) where
+  pub unknown_work : None ≡ rank_with settings words.id → node_work images words settings ≡ refusal (UnknownNode words.id)
   unfolding node_work
-  unknown_work none = ap (λ place. option_map_or (opened_work words settings) place (refusal (UnknownNode words.id))) (sym none)
+  unknown_work none = ap (λ place. option_map_or (opened_work images words settings) place (refusal (UnknownNode words.id))) (sym none)
 
-  pub known_work : (rank : ℕ) → Some rank ≡ rank_with settings words.id → node_work words settings ≡ opened_work words settings rank
+  pub known_work : (rank : ℕ) → Some rank ≡ rank_with settings words.id → node_work images words settings ≡ opened_work images words settings rank
   unfolding node_work
-  known_work rank some = ap (λ place. option_map_or (opened_work words settings) place (refusal (UnknownNode words.id))) (sym some)
+  known_work rank some = ap (λ place. option_map_or (opened_work images words settings) place (refusal (UnknownNode words.id))) (sym some)
 
 -- a run that was performed ended with a line
 pub record Performed (plan : Plan Ran) (turns : ℕ) (calls : List Call) (before after : Output) (code : ℕ) : Type 0 where
@@ -115,9 +114,9 @@ not_risen : {rises : Type 0} (failing : Bool) → (failing ≡ true → rises) �
 not_risen true cause calm = absurd (calm (cause refl))
 not_risen false cause calm = refl
 
-module _ (words : NodeWords) (rank : ℕ) where
+module _ (images : NodeImages) (words : NodeWords) (rank : ℕ) where
   -- the opening tells no tick
-  pub opening_tells_none : (call : Call) → blank call ≡ opening words rank true → tick_after call 0 ≡ 0
+  pub opening_tells_none : (call : Call) → blank call ≡ opening images words rank true → tick_after call 0 ≡ 0
   opening_tells_none (OpenNode images image watchdog resource port own ok) asked = refl
   opening_tells_none (OpenImage path ok) asked = refl
   opening_tells_none (Now tick) asked = absurd cc
@@ -131,31 +130,31 @@ module _ (words : NodeWords) (rank : ℕ) where
   opening_tells_none (Disarm ok) asked = refl
   opening_tells_none (Halt code) asked = refl
 
-  module _ (settings : Settings) (before after : Output) (code : ℕ) where
-    opened_ends : (calls : List Call) → Performs (opened_work words settings rank) calls before after code → some_failed calls ≡ false
+  module _ (settings : Settings) (law : EndsWithCause (node_plan images words settings rank)) (before after : Output) (code : ℕ) where
+    opened_ends : (calls : List Call) → Performs (opened_work images words settings rank) calls before after code → some_failed calls ≡ false
         → NeverFalls 0 calls → ¬ WriteFails before after → EndsUndisturbed words.turns before after code
     unfolding opened_work run_work
     opened_ends [] did whole rises no_write = absurd did
     opened_ends (call ∷ calls) did whole rises no_write =
-        let ran_on : Performs (run_work words settings rank) calls before after code =
-        subst (λ (failing : Bool). Performs (if failing then refusal EnvFault else run_work words settings rank) calls before after code)
+        let ran_on : Performs (run_work images words settings rank) calls before after code =
+        subst (λ (failing : Bool). Performs (if failing then refusal EnvFault else run_work images words settings rank) calls before after code)
         (or_left (is_failed call) (some_failed calls) whole) did.1 in
-        let run = performed (live_plan settings rank words.clean words.leave words.turns) words.turns calls before after code ran_on in
+        let run = performed (node_plan images words settings rank) words.turns calls before after code ran_on in
         record {
           end = run.ran.end;
-          no_call = no_end_by_call settings rank words.clean words.leave words.turns calls run.ran run.follows
+          no_call = law.call calls run.ran run.follows
               (or_right (is_failed call) (some_failed calls) whole);
-          no_clock = no_end_by_clock settings rank words.clean words.leave words.turns calls run.ran run.follows
+          no_clock = law.clock calls run.ran run.follows
               (subst (λ (last : ℕ). NeverFalls last calls) (opening_tells_none call did.0) rises.1);
           answers = said_whole (end_outcome words.turns run.ran.end).text (end_outcome words.turns run.ran.end).status before after code no_write run.says;
         }
 
 -- no call failed and no tick fell: the end is one that comes so
-pub undisturbed_node : {before after : Seen} {code : ℕ} (words : NodeWords) (settings : Settings) (rank : ℕ)
-    → rank_with settings words.id ≡ Some rank → (works : Works (node_work words settings) before after code)
+pub undisturbed_node : {before after : Seen} {code : ℕ} (images : NodeImages) (words : NodeWords) (settings : Settings) (rank : ℕ)
+    → EndsWithCause (node_plan images words settings rank) → rank_with settings words.id ≡ Some rank → (works : Works (node_work images words settings) before after code)
     → ¬ WriteFails before.output after.output → ¬ CallFails before.env after.env → NeverFalls 0 works.calls
     → EndsUndisturbed words.turns before.output after.output code
-undisturbed_node {before} {after} {code} words settings rank some works no_write no_call rises =
-    opened_ends words rank settings before.output after.output code works.calls
-    (subst (λ (work : Work). Performs work works.calls before.output after.output code) (known_work words settings rank (sym some)) works.performs)
+undisturbed_node {before} {after} {code} images words settings rank law some works no_write no_call rises =
+    opened_ends images words rank settings law before.output after.output code works.calls
+    (subst (λ (work : Work). Performs work works.calls before.output after.output code) (known_work images words settings rank (sym some)) works.performs)
     (not_risen (some_failed works.calls) works.made.cause no_call) rises no_write

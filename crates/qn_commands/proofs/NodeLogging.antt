@@ -10,14 +10,16 @@ use Rattle.qn_io.specs.Outside.{append_known-nil}
 use Rattle.qn_io.specs.Writes.{AppendsFront}
 use Rattle.qn_live.specs.declared.live_end.LiveEnd.{LiveEnd}
 use Rattle.qn_live.specs.declared.live_end.LiveEnd.TheVariants as ended
+use Rattle.qn_live.specs.EndLaws.{no_end_by_call, no_end_by_clock}
 use Rattle.qn_live.specs.Runs.{live_plan}
 use Rattle.qn_model.specs.Log.{Line}
 use Rattle.qn_model.specs.declared.configuration.Settings.{Settings}
 use Rattle.qn_commands.specs.declared.commands.node.NodeWords.{NodeWords}
+use Rattle.qn_commands.specs.declared.node_images.NodeImages.TheVariants.{One}
 use Rattle.qn_commands.specs.declared.fault.Fault.{Fault}
 use Rattle.qn_commands.specs.declared.fault.Fault.TheVariants.{EnvFault, UnknownNode}
 use Rattle.qn_commands.specs.declared.status.Status.TheVariants as status
-use Rattle.qn_commands.specs.Commands.Node.{FailsToOpen, RunsNode, node_work, opening, rank_with}
+use Rattle.qn_commands.specs.Commands.Node.{EndsWithCause, FailsToOpen, RunsNode, node_plan, node_work, opening, rank_with}
 use Rattle.qn_commands.specs.Commands.NodeLogged.{CutLog, LogsNode, LogsRun, LogsWhole, Opens, RunsLogged, WholeLog, WorkedCut, WorkedWhole, WorksCut, WorksLogged, WorksWhole, WritesLog, after_log, logged, recorded_calls, with_output}
 use Rattle.qn_commands.specs.Endings.{Cut, Refuses, Says, Whole}
 use Rattle.qn_commands.specs.Faults.{status_of}
@@ -37,14 +39,14 @@ logged_none output = ap (λ (w : Option (List ℕ)). record { written = w; fault
 
 module _ (words : NodeWords) (settings : Settings) where
   -- a work without a call after the opening
-  pub unlogged : {before after : Seen} {code : ℕ} (works : Works (node_work words settings) before after code)
+  pub unlogged : {before after : Seen} {code : ℕ} (works : Works (node_work One words settings) before after code)
       → recorded_calls works.calls ≡ [] → WorksLogged words settings before after code
   unlogged {before} {after} {code} works none = WorkedWhole (record {
     calls = [];
     works = record {
       calls = works.calls;
       made = works.made;
-      performs = subst (λ (o : Output). Performs (node_work words settings) works.calls o after.output code) (sym (logged_none before.output)) works.performs;
+      performs = subst (λ (o : Output). Performs (node_work One words settings) works.calls o after.output code) (sym (logged_none before.output)) works.performs;
     };
     same = none;
   })
@@ -73,14 +75,14 @@ module _ (words : NodeWords) (settings : Settings) where
     pub logs_unknown : (env : Outside) (code : ℕ) → None ≡ rank_with settings words.id → Refuses (UnknownNode words.id) before after code
         → WorksLogged words settings (seen input before env) (seen input after env) code
     unfolding works_unknown
-    logs_unknown env code none refuses = unlogged (works_unknown words settings input before after env code none refuses) refl
+    logs_unknown env code none refuses = unlogged (works_unknown One words settings input before after env code none refuses) refl
 
     pub logs_unopened : (rank : ℕ) (some : Some rank ≡ rank_with settings words.id) (env_before env_after : Outside) (code : ℕ)
-        → Made env_before.faults env_after.faults env_before.calls env_after.calls (opening words rank false ∷ [])
+        → Made env_before.faults env_after.faults env_before.calls env_after.calls (opening One words rank false ∷ [])
         → Refuses EnvFault before after code → WorksLogged words settings (seen input before env_before) (seen input after env_after) code
     unfolding works_unopened
     logs_unopened rank some env_before env_after code made refuses =
-        unlogged (works_unopened words settings input before after rank some env_before env_after code made refuses) refl
+        unlogged (works_unopened One words settings input before after rank some env_before env_after code made refuses) refl
 
 -- ## The run
 
@@ -145,7 +147,7 @@ module _ (words : NodeWords) (settings : Settings) (rank : ℕ) (input : Input) 
       let writes : WritesLog true ran.did.calls before middle = subst (λ (w : Bool). WritesLog w ran.did.calls before middle) is ran.writes in
       WorkedWhole (record {
         calls = ran.did.calls;
-        works = works_ran words settings input (logged before ran.did.calls) after rank some first opened last code end ran.log opens ran.did
+        works = works_ran One words settings input (logged before ran.did.calls) after rank some first opened last code end ran.log opens ran.did
             (said_after before middle after ran.did.calls writes low high says);
         same = append-nil ran.did.calls;
       })
@@ -161,7 +163,7 @@ module _ (words : NodeWords) (settings : Settings) (rank : ℕ) (input : Input) 
       WorkedCut (record {
         last = due;
         own = own.status;
-        works = works_ran words settings input before due rank some first opened last own.status end ran.log opens ran.did (Whole refl refl);
+        works = works_ran One words settings input before due rank some first opened last own.status end ran.log opens ran.did (Whole refl refl);
         ended = ended_status words.turns end;
         front = subst (λ (calls : List Call). AppendsFront before.written after.written (log_text calls)) (sym (append-nil ran.did.calls)) writes.0;
         fails = writes.1;
@@ -170,6 +172,13 @@ module _ (words : NodeWords) (settings : Settings) (rank : ℕ) (input : Input) 
       })
 
 -- ## The record
+
+-- what ends a run on one image
+end_causes : (words : NodeWords) (settings : Settings) (rank : ℕ) → EndsWithCause (node_plan One words settings rank)
+end_causes words settings rank = record {
+  call = no_end_by_call settings rank words.clean words.leave words.turns;
+  clock = no_end_by_clock settings rank words.clean words.leave words.turns;
+}
 
 module _ (words : NodeWords) (before after : Seen) (code : ℕ) (never_fall : NeverFall before after)
     (write : code ≡ 7 → WriteFails before.output after.output) where
@@ -198,24 +207,24 @@ module _ (words : NodeWords) (before after : Seen) (code : ℕ) (never_fall : Ne
 
   -- the settings are good
   pub logs_node : (settings : Settings) → Judges input_settings before.input after.input (Ok settings)
-      → WorksLogged words settings before after code → RanStatus code → (code ≡ 8 → FailsToOpen words before.env after.env)
+      → WorksLogged words settings before after code → RanStatus code → (code ≡ 8 → FailsToOpen One words before.env after.env)
       → LogsNode words before after code
   unfolding runs_node
   logs_node settings judges (WorkedWhole whole) outcomes unopened = of_whole (record {
     calls = whole.calls;
-    runs = runs_node words (after_log before whole.calls) after code
+    runs = runs_node One words (after_log before whole.calls) after code
         (record { source = never_fall.source; sink = never_fall.sink; env = never_fall.env }) write
-        settings judges whole.works outcomes unopened;
+        settings (end_causes words settings) judges whole.works outcomes unopened;
     same = whole.same;
   })
   logs_node settings judges (WorkedCut cut) outcomes unopened = record {
     ran = CutLog (record {
       last = cut.last;
       own = cut.own;
-      runs = runs_node words before (with_output after cut.last) cut.own
+      runs = runs_node One words before (with_output after cut.last) cut.own
           (record { source = never_fall.source; sink = cut.never_falls; env = never_fall.env })
           (λ seven. absurd (not_ended cut.own cut.ended (inl seven)))
-          settings judges cut.works (ended_ran cut.own cut.ended) (λ eight. absurd (not_ended cut.own cut.ended (inr eight)));
+          settings (end_causes words settings) judges cut.works (ended_ran cut.own cut.ended) (λ eight. absurd (not_ended cut.own cut.ended (inr eight)));
       front = cut.front;
       fails = cut.fails;
       is = cut.is;
@@ -238,7 +247,7 @@ module _ (words : NodeWords) (before after : Seen) (code : ℕ) (never_fall : Ne
   unfolding refuses_settings
   logs_no_settings why judges same refuses own which read = of_whole (record {
     calls = [];
-    runs = refuses_settings words (after_log before []) after code
+    runs = refuses_settings One words (after_log before []) after code
         (record { source = never_fall.source; sink = never_fall.sink; env = never_fall.env }) write
         why judges same (subst (λ (o : Output). Refuses why o after.output code) (sym (logged_none before.output)) refuses) own which read;
     same = refl;

@@ -1,16 +1,16 @@
--- The work of `node`, and the record of its run.
+-- The work of `node` and `node3`, and the record of their runs.
 use Rattle.std.proofs.Common.{◌≡◌, ◌⊎◌, inl, inr, ℕ, true, false, List, [], ◌∷◌, None, Some, Ok, Err, refl, sym, ◌∙◌, subst, arith}
 use Rattle.qn_base.specs.Plans.{Made}
 use Rattle.qn_base.specs.PlanSteps.{made_then}
 use Rattle.qn_live.specs.declared.live_end.LiveEnd.{LiveEnd}
-use Rattle.qn_live.specs.Runs.{live_plan}
 use Rattle.qn_model.specs.declared.configuration.Settings.{Settings}
 use Rattle.qn_model.specs.Log.{Line}
 use Rattle.qn_commands.specs.declared.commands.node.NodeWords.{NodeWords}
+use Rattle.qn_commands.specs.declared.node_images.NodeImages.{NodeImages}
 use Rattle.qn_commands.specs.declared.fault.Fault.{Fault}
 use Rattle.qn_commands.specs.declared.fault.Fault.TheVariants.{EnvFault, UnknownNode}
 use Rattle.qn_commands.specs.declared.status.Status.TheVariants as status
-use Rattle.qn_commands.specs.Commands.Node.{EndsUndisturbed, FailsToOpen, RunsNode, node_work, opened_work, opening, rank_with, run_end, run_work}
+use Rattle.qn_commands.specs.Commands.Node.{EndsUndisturbed, EndsWithCause, FailsToOpen, RunsNode, node_plan, node_work, opened_work, opening, rank_with, run_end, run_work}
 use Rattle.qn_commands.specs.Endings.{Refuses, Says}
 use Rattle.qn_commands.specs.Faults.{fault_line, status_of}
 use Rattle.qn_commands.specs.InputSettings.{Judges, input_settings}
@@ -64,46 +64,46 @@ not_ended own (inr (inl six)) (inr fourteen) = omega arith
 not_ended own (inr (inr eleven)) (inl twelve) = omega arith
 not_ended own (inr (inr eleven)) (inr fourteen) = omega arith
 
-module _ (words : NodeWords) (settings : Settings) where
+module _ (images : NodeImages) (words : NodeWords) (settings : Settings) where
   module _ (input : Input) (before after : Output) where
     -- no node of the settings has the id
     unfoldable pub works_unknown : (env : Outside) (code : ℕ) → None ≡ rank_with settings words.id → Refuses (UnknownNode words.id) before after code
-        → Works (node_work words settings) (seen input before env) (seen input after env) code
+        → Works (node_work images words settings) (seen input before env) (seen input after env) code
     works_unknown env code none refuses =
-        recast (sym (unknown_work words settings none))
+        recast (sym (unknown_work images words settings none))
         (last_alone (seen input before env) (seen input after env) (fault_line (UnknownNode words.id)) 16 code refl refuses)
 
     module _ (rank : ℕ) (some : Some rank ≡ rank_with settings words.id) (env_before : Outside) where
       -- the opening failed
       unfoldable pub works_unopened : (env_after : Outside) (code : ℕ)
-          → Made env_before.faults env_after.faults env_before.calls env_after.calls (opening words rank false ∷ [])
+          → Made env_before.faults env_after.faults env_before.calls env_after.calls (opening images words rank false ∷ [])
           → Refuses EnvFault before after code
-          → Works (node_work words settings) (seen input before env_before) (seen input after env_after) code
+          → Works (node_work images words settings) (seen input before env_before) (seen input after env_after) code
       unfolding opened_work
       works_unopened env_after code made refuses =
-          recast (sym (known_work words settings rank some))
-          record { calls = opening words rank false ∷ []; made = made; performs = (refl, (refl, refuses)) }
+          recast (sym (known_work images words settings rank some))
+          record { calls = opening images words rank false ∷ []; made = made; performs = (refl, (refl, refuses)) }
 
       -- the node was opened, and ran
       unfoldable pub works_ran : (env_middle env_after : Outside) (code : ℕ) (end : LiveEnd) (log : List Line)
-          → Made env_before.faults env_middle.faults env_before.calls env_middle.calls (opening words rank true ∷ [])
-          → Carries (live_plan settings rank words.clean words.leave words.turns) env_middle env_after (record { end = end; log = log })
+          → Made env_before.faults env_middle.faults env_before.calls env_middle.calls (opening images words rank true ∷ [])
+          → Carries (node_plan images words settings rank) env_middle env_after (record { end = end; log = log })
           → Says (end_outcome words.turns end).text (end_outcome words.turns end).status before after code
-          → Works (node_work words settings) (seen input before env_before) (seen input after env_after) code
+          → Works (node_work images words settings) (seen input before env_before) (seen input after env_after) code
       unfolding opened_work run_work
       works_ran env_middle env_after code end log made did says =
           let left = plan_then_last (run_end words.turns) input before after env_middle env_after (end_outcome words.turns end).text
           (end_outcome words.turns end).status code did refl says in
-          recast (sym (known_work words settings rank some))
-          record { calls = opening words rank true ∷ left.calls; made = made_then made left.made; performs = (refl, left.performs) }
+          recast (sym (known_work images words settings rank some))
+          record { calls = opening images words rank true ∷ left.calls; made = made_then made left.made; performs = (refl, left.performs) }
 
-module _ (words : NodeWords) (before after : Seen) (code : ℕ) (never_fall : NeverFall before after)
+module _ (images : NodeImages) (words : NodeWords) (before after : Seen) (code : ℕ) (never_fall : NeverFall before after)
     (write : code ≡ 7 → WriteFails before.output after.output) where
   -- the settings are good
-  unfoldable pub runs_node : (settings : Settings) → Judges input_settings before.input after.input (Ok settings)
-      → Works (node_work words settings) before after code → RanStatus code → (code ≡ 8 → FailsToOpen words before.env after.env)
-      → RunsNode words before after code
-  runs_node settings judges works outcomes unopened = record {
+  unfoldable pub runs_node : (settings : Settings) → ((rank : ℕ) → EndsWithCause (node_plan images words settings rank)) → Judges input_settings before.input after.input (Ok settings)
+      → Works (node_work images words settings) before after code → RanStatus code → (code ≡ 8 → FailsToOpen images words before.env after.env)
+      → RunsNode images words before after code
+  runs_node settings law judges works outcomes unopened = record {
     ran = record {
       settings = Ok settings;
       judges = judges;
@@ -111,11 +111,11 @@ module _ (words : NodeWords) (before after : Seen) (code : ℕ) (never_fall : Ne
       memory = λ eleven. absurd (not_ran code outcomes (inr eleven));
     };
     unopened = unopened;
-    clock_back = λ twelve rises. clock_went_back words settings works twelve rises;
-    halted = λ fourteen. boot_halted words settings works fourteen;
+    clock_back = λ twelve rises. clock_went_back images words settings law works twelve rises;
+    halted = λ fourteen. boot_halted images words settings law works fourteen;
     complete = λ memory no_read no_write no_call rises.
         good_settings (EndsUndisturbed words.turns before.output after.output code) words before.input after.input settings judges no_read
-        (λ rank some. undisturbed_node words settings rank some works no_write no_call rises);
+        (λ rank some. undisturbed_node images words settings rank (law rank) some works no_write no_call rises);
     statuses = ran_status code outcomes;
     causes = record {
       never_fall = never_fall;
@@ -128,7 +128,7 @@ module _ (words : NodeWords) (before after : Seen) (code : ℕ) (never_fall : Ne
   -- the settings have a fault, or could not be read
   unfoldable pub refuses_settings : (why : Fault) → Judges input_settings before.input after.input (Err why) → after.env ≡ before.env
       → Refuses why before.output after.output code → (code ≡ status_of why) ⊎ (code ≡ 7) → IsSettingsStatus (status_of why)
-      → (status_of why ≡ 6 → ReadFails before.input after.input) → RunsNode words before after code
+      → (status_of why ≡ 6 → ReadFails before.input after.input) → RunsNode images words before after code
   refuses_settings why judges same refuses own which read = record {
     ran = record {
       settings = Err why;

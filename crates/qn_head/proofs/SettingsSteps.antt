@@ -10,6 +10,7 @@ use Rattle.qn_sched.specs.declared.replay_end.ReplayEnd.{ReplayEnd}
 use Rattle.qn_sched.specs.declared.replay_end.ReplayEnd.TheVariants.{NoMemory}
 use Rattle.qn_sched.specs.Ends.{bad_text}
 use Rattle.qn_sched.specs.Head.{or_bad_text, settings_in}
+use Rattle.qn_head.specs.declared.head_fault.HeadFault.TheVariants as head
 use Rattle.qn_head.specs.declared.settings_head.SettingsHead.{SettingsHead}
 use Rattle.qn_head.specs.Faults.{end_of, fault_of_text}
 use Rattle.qn_head.specs.Heads.{settings_part, with_settings}
@@ -30,6 +31,12 @@ same_end : (fault : TextFault) → (end_of (fault_of_text fault) ≡ NoMemory) �
 same_end (text.Conf conf.NoMemory) = inl refl
 same_end (text.Conf _) = inr refl
 same_end (text.Settings fault) = inr refl
+
+-- a fault of the text is no read that failed
+pub never_a_read : (fault : TextFault) → fault_of_text fault ≡ head.ReadFault → ⊥
+never_a_read (text.Conf conf.NoMemory) is = absurd cc
+never_a_read (text.Conf _) is = absurd cc
+never_a_read (text.Settings fault) is = absurd cc
 
 module _ {a b : Option (List ℕ)} (bytes : List ℕ) (lines : ℕ) (read : List ℕ) (same_text : read ≡ bytes) (first : Leads settings_part (whole_text bytes lines) a b) where
   -- the text is at fault

@@ -35,7 +35,7 @@ pub fn read_head<I: Source>(
         (prepend_known pieces.old (I.left input.old)) (prepend_known pieces.new (I.left input.new))) }
     ensures valid { IfOk result (λ head. IsValid head.settings) }
     ensures safe { IfOk result (λ head. is_safe head.timing ≡ true) }
-    ensures few_lines { IfOk result (λ head. head.lines ≤ 4294967296) }
+    ensures few_lines { IfOk result (λ head. head.lines ≤ 1048578) }
     ensures end { IfErr result (Refuses head_part
         (prepend_known pieces.old (I.left input.old)) (prepend_known pieces.new (I.left input.new))
         ((pieces.new ≡ []) × IsAtEnd (I.left input.new))

@@ -1,4 +1,5 @@
 mod ArbiterRows
+mod Holding
 pub mod Tools
 pub mod Memories
 pub mod Below

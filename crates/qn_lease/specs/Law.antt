@@ -2,13 +2,15 @@
 -- votequorum(5), `device`; the lease is this project's profile.
 use Rattle.std.specs.Prelude.{◌≡◌, ◌≤◌, ◌+◌, ℕ, true, false, List, Some, IsTrue}
 use Rattle.qn_base.specs.declared.ids.View.{View}
+use Rattle.qn_base.specs.Members.{is_member}
 use Rattle.qn_model.specs.declared.configuration.Device.{Device}
 use Rattle.qn_model.specs.declared.configuration.Settings.{Settings}
 use Rattle.qn_model.specs.declared.times.Timing.{Timing}
 use Rattle.qn_model.specs.Laws.{AreDisjoint}
 use Rattle.qn_model.specs.NodeVotes.{view}
 use Rattle.qn_model.specs.Settings.{IsValid, all_votes}
-use Rattle.qn_model.specs.Steps.{answer_now}
+use Rattle.qn_model.specs.Steps.{answer_now, holders}
+use Rattle.qn_model.specs.Timing.{is_safe}
 use Rattle.qn_model.specs.World.{node_at}
 use Rattle.qn_lease.specs.declared.events.ArbiterEvent.{ArbiterEvent}
 use Rattle.qn_lease.specs.declared.lease.Lease.{Lease}
@@ -43,3 +45,13 @@ OneLeasedVote =
     → AreDisjoint left right
     → IsQuorateIn s i left (run_beside s t times events)
     → ¬ IsQuorateIn s j right (run_beside s t times events)
+
+-- The clause of `law_one_holder_beside`, as one word: after any allowed events at most one node holds.
+abbrev pub OneHolderBeside : Type 0
+OneHolderBeside =
+    (s : Settings) (t : Timing) (times : Lease) (events : List ArbiterEvent) (i j : ℕ)
+    → IsTrue (is_safe t)
+    → AllAllowedBeside s t times events
+    → IsTrue (is_member (holders s (run_beside s t times events).world) i)
+    → IsTrue (is_member (holders s (run_beside s t times events).world) j)
+    → i ≡ j

@@ -1,9 +1,12 @@
 //! The law of one leased vote.
 ghost use Rattle.std.specs.Prelude.{◌≡◌, ℕ, List, IsTrue};
 ghost use Rattle.qn_base.specs.declared.ids.View.{View};
+ghost use Rattle.qn_base.specs.Members.{is_member};
 ghost use Rattle.qn_model.specs.declared.configuration.Settings.{Settings};
 ghost use Rattle.qn_model.specs.declared.times.Timing.{Timing};
 ghost use Rattle.qn_model.specs.Laws.{AreDisjoint};
+ghost use Rattle.qn_model.specs.Steps.{holders};
+ghost use Rattle.qn_model.specs.Timing.{is_safe};
 ghost use Rattle.qn_lease.specs.declared.events.ArbiterEvent.{ArbiterEvent};
 ghost use Rattle.qn_lease.specs.declared.lease.Lease.{Lease};
 ghost use Rattle.qn_lease.specs.ArbiterSteps.{AllAllowedBeside, run_beside};
@@ -11,7 +14,9 @@ ghost use Rattle.qn_lease.specs.Law.{IsQuorateIn, LeasesVote};
 ghost use Rattle.qn_lease.specs.Premises.{VoteGoesOver};
 
 use qn_model::{law_disjoint_votes, law_present_view};
-use qn_safety::{law_boots, law_clocks, law_incarnations, law_log_moves, law_runs_are_timed};
+use qn_safety::{
+    law_boots, law_clocks, law_incarnations, law_log_moves, law_no_two_holders, law_runs_are_timed,
+};
 
 /// In the world beside an arbiter after any events, each well formed and allowed in its turn, no two running
 /// nodes with disjoint present views are both quorate at their present ticks: for all valid settings with a
@@ -41,3 +46,16 @@ pub fn law_one_lease()
 pub fn law_leased_vote_goes_over()
     ensures { VoteGoesOver }
 {}
+
+/// Beside an arbiter too at most one node holds the resource after any events, each well formed and allowed in its turn: for
+/// all settings, every safe timing and every lease, safe or not. The events stand newest first.
+pub fn law_one_holder_beside()
+    ensures { (s : Settings) (t : Timing) (times : Lease) (events : List ArbiterEvent) (i j : ℕ)
+        → IsTrue (is_safe t)
+        → AllAllowedBeside s t times events
+        → IsTrue (is_member (holders s (run_beside s t times events).world) i)
+        → IsTrue (is_member (holders s (run_beside s t times events).world) j)
+        → i ≡ j }
+{
+    law_no_two_holders();
+}

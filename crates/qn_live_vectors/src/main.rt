@@ -15,7 +15,7 @@
 //! outside in memory that never fails and hears nothing: its name, settings, words, end, status, number of calls, and SHA-256.
 //!
 //! With a number of turns as its word it runs one node for so many turns over such an outside and writes how that ends, to be
-//! timed by `bench/live`.
+//! timed by `bench/live`; with `log` as a second word it writes what an audit of that run reads, for `bench/audit`.
 //!
 //! Promises: nothing. It is a test: what it is run on, and what it must write, stand beside it.
 #![tactic(auto)]
@@ -33,9 +33,10 @@ mod wrong;
 use case::Case;
 use in_memory::{Want, check_quiet};
 use qn_history::read_number;
+use qn_io::StdSink;
 use std::alloc::Global;
 use std::{env, io};
-use timed::run_turns;
+use timed::{record_turns, run_turns};
 use wrong::Wrong;
 
 /// What was read so far: the present case and whether its log was run, and how many cases, calls of their logs and rows there
@@ -53,13 +54,23 @@ struct Reader {
 fn main(rt: HostRuntime) -> io::Result<()> {
     let mut words = env::args(&rt)?;
     let _program = words.next();
-    if let Some(turns) = words.next() {
-        return match run_turns(rt.alloc(), turns.as_str()) {
+    match (words.next(), words.next()) {
+        (None, _) => check_all(&rt),
+        (Some(turns), None) => match run_turns(rt.alloc(), turns.as_str()) {
             Ok(end) => println!(rt; "{end}"),
             Err(wrong) => println!(rt; "{wrong}"),
-        };
+        },
+        (Some(turns), Some(_log)) => record(&rt, turns.as_str()),
     }
-    check_all(&rt)
+}
+
+/// Writes the settings and the log of a run of so many turns.
+fn record(rt: &HostRuntime, turns: &str) -> io::Result<()> {
+    let mut out = StdSink::new(io::writer(rt), rt);
+    match record_turns(rt.alloc(), turns, &mut out) {
+        Ok(()) => Ok(()),
+        Err(wrong) => println!(rt; "{wrong}"),
+    }
 }
 
 /// Runs what standard input has.

@@ -1,12 +1,16 @@
 //! Runs of one node that are timed, over an outside that never fails and hears nothing.
+ghost use Rattle.std.specs.Prelude.{◌≤◌, IfOk};
+ghost use Rattle.qn_model.specs.Settings.{IsValid};
+
 use crate::end_text::end_text;
 use crate::reading::{rank_of, settings_of};
 use crate::wrong::Wrong;
+use qn_audit::{Recorder, run_recorded};
 use qn_history::read_number;
 use qn_image::create;
-use qn_io::QuietEnv;
+use qn_io::{QuietEnv, Sink, put_all};
 use qn_live::run_node;
-use qn_model::Timing;
+use qn_model::{Settings, Timing};
 use std::alloc::Global;
 
 /// Three nodes with one vote each.
@@ -15,14 +19,46 @@ const THREE: &str =
 
 /// Runs the first of three nodes for so many turns, and gives the line of its end.
 pub fn run_turns(alloc: Global, turns: &str) -> Result<String, Wrong> {
-    let turns = read_number(turns)?;
+    let turns = number_of_turns(turns)?;
+    let settings = settings_of(alloc, THREE)?;
+    let me = rank_of(&settings, 1)?;
+    let mut env = quiet_outside(alloc, &settings)?;
+    let ended = run_node(&mut env, &settings, me, false, None, turns);
+    Ok(end_text(alloc, ended, turns)?)
+}
+
+/// Runs the same, and writes what an audit of the run reads: the settings, a line `----`, and the log.
+pub fn record_turns<O: Sink>(alloc: Global, turns: &str, out: &mut O) -> Result<(), Wrong> {
+    let turns = number_of_turns(turns)?;
+    let settings = settings_of(alloc, THREE)?;
+    let me = rank_of(&settings, 1)?;
+    let mut env = quiet_outside(alloc, &settings)?;
+    put_all(out, THREE.as_bytes()).map_err(|_| Wrong::Outside)?;
+    put_all(out, b"----\n").map_err(|_| Wrong::Outside)?;
+    let mut recorder = Recorder::new(&mut env, out);
+    let _ended = run_recorded(&mut recorder, &settings, me, false, None, turns);
+    if !recorder.is_whole() {
+        return Err(Wrong::Outside);
+    }
+    Ok(())
+}
+
+/// How many turns a word says: at least one.
+fn number_of_turns(word: &str) -> Result<u64, Wrong>
+    ensures { IfOk result (λ turns. 1 ≤ turns) }
+{
+    let turns = read_number(word)?;
     if turns == 0 {
         return Err(Wrong::Form);
     }
-    let settings = settings_of(alloc, THREE)?;
-    let me = rank_of(&settings, 1)?;
+    Ok(turns)
+}
+
+/// An outside in memory with an image for these settings.
+fn quiet_outside(alloc: Global, settings: &Settings) -> Result<QuietEnv, Wrong>
+    requires { IsValid settings.now }
+{
     let mut env = QuietEnv::new(alloc).map_err(|_| Wrong::Outside)?;
-    create(&mut env, &settings, Timing::usual()).map_err(|_| Wrong::Form)?;
-    let ended = run_node(&mut env, &settings, me, false, None, turns);
-    Ok(end_text(alloc, ended, turns)?)
+    create(&mut env, settings, Timing::usual()).map_err(|_| Wrong::Form)?;
+    Ok(env)
 }

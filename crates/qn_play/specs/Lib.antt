@@ -1,5 +1,6 @@
 pub mod EndLaws
 pub mod Endings
+pub mod GoodLines
 pub mod Judging
 pub mod Lines
 pub mod Played
@@ -9,5 +10,6 @@ pub mod Runs
 pub mod Steps
 pub mod Times
 pub mod WorldLaws
+pub mod WorldTraces
 pub mod Worlds
 pub mod Writing

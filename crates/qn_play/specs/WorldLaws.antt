@@ -4,7 +4,6 @@ use Rattle.qn_model.specs.declared.configuration.Settings.{Settings}
 use Rattle.qn_model.specs.declared.line_fault.LineFault.{LineFault}
 use Rattle.qn_model.specs.declared.reports.Refused.{Refused}
 use Rattle.qn_model.specs.declared.reports.Refused.TheVariants as refused
-use Rattle.qn_model.specs.declared.reports.Report.{Report}
 use Rattle.qn_model.specs.declared.times.Timing.{Timing}
 use Rattle.qn_model.specs.Lines.{Ending}
 use Rattle.qn_model.specs.Settings.{ids}
@@ -14,7 +13,6 @@ use Rattle.qn_play.specs.Judging.{RefusesAt}
 use Rattle.qn_play.specs.Lines.{Taken}
 use Rattle.qn_sched.specs.declared.replay_end.ReplayEnd.{ReplayEnd}
 use Rattle.qn_sched.specs.declared.replay_end.ReplayEnd.TheVariants.{BadSchedule}
-use Rattle.qn_sched.specs.TraceLines.{trace_line}
 use Rattle.qn_play.specs.Worlds.{AtFault, IsAfter, IsGoing, NotAllowedHere, OutOfMemory, Place, Progress, RefusesLine, TakesLine, WorldRules, adds, after_line, after_lines, allowed_in, at_start, event_play, event_text, event_wants, moved_on, or_bad_line, progress_at, refused_end, said_event, start_of, stepped, text_if, text_of, unless_refused, with_event}
 
 abbrev refused_with : {Event : Type 0} → ReplayEnd → Result Event ReplayEnd
@@ -117,26 +115,26 @@ module _ {World Event : Type 0} (rules : WorldRules World Event) where
   text_of-ok so_far line event is may = ap (text_of rules so_far) is ∙ ap (text_if rules so_far) may
 
   -- the trace line of what an event came to
-  text_is : (old new : Place) (standing : World → Type 0) (report : Report) (line : List ℕ) (world : World) (taken : TakesLine rules old new standing report line world)
-      → event_text rules (progress_at old world) taken.event ≡ trace_line (ids old.settings.nodes) new.events report ++ 10 ∷ []
+  text_is : (old new : Place) (standing : World → Type 0) (text line : List ℕ) (world : World) (taken : TakesLine rules old new standing text line world)
+      → event_text rules (progress_at old world) taken.event ≡ text ++ 10 ∷ []
   unfolding event_text
-  text_is old new standing report line world taken =
-      ap (λ (n : ℕ). trace_line (ids old.settings.nodes) n (rules.report old.settings taken.event (stepped rules (progress_at old world) taken.event)) ++ 10 ∷ []) (sym taken.counted)
-      ∙ ap (λ (r : Report). trace_line (ids old.settings.nodes) new.events r ++ 10 ∷ []) (sym taken.reports)
+  text_is old new standing text line world taken =
+      ap (λ (n : ℕ). rules.text old.settings n taken.event world (stepped rules (progress_at old world) taken.event) ++ 10 ∷ []) (sym taken.counted)
+      ∙ ap (λ (t : List ℕ). t ++ 10 ∷ []) (sym taken.says)
 
   module _ (start old : Place) (standing : World → Type 0) (line : List ℕ) (earlier : Taken) (after : IsAfter rules start old standing earlier) where
     -- the text of a line that was taken
-    pub plays : (new : Place) (standing_new : World → Type 0) (report : Report) → TakesLine rules old new standing_new report line after.world
-        → event_play rules (start_of rules start) earlier line ≡ Ok (trace_line (ids old.settings.nodes) new.events report ++ 10 ∷ [])
-    plays new standing_new report taken =
+    pub plays : (new : Place) (standing_new : World → Type 0) (text : List ℕ) → TakesLine rules old new standing_new text line after.world
+        → event_play rules (start_of rules start) earlier line ≡ Ok (text ++ 10 ∷ [])
+    plays new standing_new text taken =
         ap (λ (so_far : Progress World). text_of rules so_far (said_event rules so_far line)) after.place_is
         ∙ text_of-ok (progress_at old after.world) line taken.event taken.said taken.allowed
-        ∙ ap (λ t. Ok t) (text_is old new standing_new report line after.world taken)
+        ∙ ap (λ t. Ok t) (text_is old new standing_new text line after.world taken)
 
     -- the place after it
-    pub stands_on : (new : Place) (standing_new : World → Type 0) (report : Report) → TakesLine rules old new standing_new report line after.world → IsAfter rules start new standing_new (line ∷ earlier)
+    pub stands_on : (new : Place) (standing_new : World → Type 0) (text : List ℕ) → TakesLine rules old new standing_new text line after.world → IsAfter rules start new standing_new (line ∷ earlier)
     unfolding after_lines
-    stands_on new standing_new report taken =
+    stands_on new standing_new text taken =
         let counted = after.counted in
         let one_more = taken.counted in
         record {

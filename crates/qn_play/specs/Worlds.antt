@@ -5,22 +5,21 @@ use Rattle.qn_model.specs.declared.configuration.Settings.{Settings}
 use Rattle.qn_model.specs.declared.line_fault.LineFault.{LineFault}
 use Rattle.qn_model.specs.declared.reports.Refused.{Refused}
 use Rattle.qn_model.specs.declared.reports.Refused.TheVariants as refused
-use Rattle.qn_model.specs.declared.reports.Report.{Report}
 use Rattle.qn_model.specs.declared.times.Timing.{Timing}
 use Rattle.qn_model.specs.Settings.{ids}
 use Rattle.qn_sched.specs.declared.replay_end.ReplayEnd.{ReplayEnd}
 use Rattle.qn_sched.specs.declared.replay_end.ReplayEnd.TheVariants.{BadSchedule, NoMemory, NotAllowed}
-use Rattle.qn_sched.specs.TraceLines.{trace_line}
 use Rattle.qn_play.specs.Lines.{Play, Taken, Wants}
 
 -- The definition of a world: its beginning, the event that a line says where the nodes have these ids, the rule that refuses an
--- event, the step of an event, what is reported of it, and whether it adds something that takes memory.
+-- event, the step of an event, the trace line of the event of a number by the worlds before and after it, and whether it adds
+-- something that takes memory.
 pub record WorldRules (World Event : Type 0) : Type 0 where
   pub first : World
   pub event_of : List ℕ → List ℕ → Result Event LineFault
   pub refusal : Settings → Timing → Event → World → Option ℕ
   pub step : Settings → Timing → Event → World → World
-  pub report : Settings → Event → World → Report
+  pub text : Settings → ℕ → Event → World → World → List ℕ
   pub needs_memory : Settings → Timing → Event → World → Bool
 
 -- where a run stands after its head: how many lines of the input there were so far, how many of them were events, and the world
@@ -69,7 +68,7 @@ module _ {World Event : Type 0} (rules : WorldRules World Event) where
   -- the trace line of an event, with its end
   unfoldable pub event_text : Progress World → Event → List ℕ
   event_text so_far event =
-      trace_line (ids so_far.settings.nodes) (so_far.events + 1) (rules.report so_far.settings event (stepped so_far event)) ++ 10 ∷ []
+      rules.text so_far.settings (so_far.events + 1) event so_far.world (stepped so_far event) ++ 10 ∷ []
 
   -- where a run stands after one more line, which was an event
   abbrev pub moved_on : Progress World → Result Event ReplayEnd → Progress World
@@ -143,8 +142,8 @@ module _ {World Event : Type 0} (rules : WorldRules World Event) where
     pub counted : length earlier ≡ place.events
     pub place_is : after_lines rules (start_of start) earlier ≡ progress_at place world
 
-  -- a line was an event that is allowed, and happened, with that report
-  pub record TakesLine (old new : Place) (standing : World → Type 0) (report : Report) (line : List ℕ) (world : World) : Type 0 where
+  -- a line was an event that is allowed, and happened, with that trace line
+  pub record TakesLine (old new : Place) (standing : World → Type 0) (text line : List ℕ) (world : World) : Type 0 where
     pub event : Event
     pub said : said_event rules (progress_at old world) line ≡ Ok event
     pub allowed : allowed_in rules (progress_at old world) event ≡ Ok event
@@ -152,7 +151,7 @@ module _ {World Event : Type 0} (rules : WorldRules World Event) where
     pub going : IsGoing new
     pub counted : new.events ≡ old.events + 1
     pub moved : progress_at new (stepped rules (progress_at old world) event) ≡ with_event rules (progress_at old world) event
-    pub reports : report ≡ rules.report old.settings event (stepped rules (progress_at old world) event)
+    pub says : text ≡ rules.text old.settings new.events event world (stepped rules (progress_at old world) event)
 
   -- a line is at fault, or its event is refused, or it ran out of memory for what its event adds
   pub data RefusesLine (old : Place) (line : List ℕ) (end : ReplayEnd) (world : World) : Type 0 where

@@ -13,7 +13,7 @@ says_other : {text : List ℕ} {first last : Output} {status : ℕ} → Says tex
 says_other (Whole is whole) eleven = omega arith
 says_other (Cut is fails prefix) eleven = omega arith
 
--- `node-logged` is a command
+-- `node`, `node3` and `node-logged` are commands
 node_not_two : (code : ℕ) → IsOneOf (Done ∷ BadConf ∷ ReadFault ∷ WriteFault ∷ EnvFault ∷ NoMemory ∷ ClockBack ∷ SelfReset ∷ BootHalted ∷ UnknownNode ∷ []) code → code ≢ 2
 node_not_two code (inl is) two = omega arith
 node_not_two code (inr (inl is)) two = omega arith
@@ -51,6 +51,8 @@ module _ (before later : Seen) (status : ℕ) where
   causes (Some (command.Message image id kind)) does = does.causes
   causes (Some (command.Node words)) does = does.causes
   causes (Some (command.Migrate image)) does = does.causes
+  causes (Some command.Replay3) does = does.causes
+  causes (Some (command.Node3 words)) does = does.causes
   causes (Some (command.NodeLogged words)) does = does.causes
   causes (Some (command.Audit words)) does = does.causes
   causes (Some command.Help) does = does.causes
@@ -65,8 +67,10 @@ module _ (before later : Seen) (status : ℕ) where
   no_usage (command.Dump image) does two = let one_of = does.statuses in grind arith
   no_usage (command.List image) does two = let one_of = does.statuses in grind arith
   no_usage (command.Message image id kind) does two = let one_of = does.statuses in grind arith
-  no_usage (command.Node words) does two = let one_of = does.statuses in grind arith
+  no_usage (command.Node words) does two = node_not_two status does.statuses two
   no_usage (command.Migrate image) does two = let one_of = does.statuses in grind arith
+  no_usage command.Replay3 does two = let one_of = does.statuses in grind arith
+  no_usage (command.Node3 words) does two = node_not_two status does.statuses two
   no_usage (command.NodeLogged words) does two = node_not_two status does.statuses two
   no_usage (command.Audit words) does two = audit_not_two status does.statuses two
   no_usage command.Help does two = let one_of = does.statuses in grind arith
@@ -84,6 +88,8 @@ module _ (before later : Seen) (status : ℕ) where
   enough (Some (command.Message image id kind)) does takes eleven = let one_of = does.statuses in grind arith
   enough (Some (command.Node words)) does takes eleven = cc
   enough (Some (command.Migrate image)) does takes eleven = let one_of = does.statuses in grind arith
+  enough (Some command.Replay3) does takes eleven = cc
+  enough (Some (command.Node3 words)) does takes eleven = cc
   enough (Some (command.NodeLogged words)) does takes eleven = cc
   enough (Some (command.Audit words)) does takes eleven = cc
   enough (Some command.Help) does takes eleven = let one_of = does.statuses in grind arith

@@ -3,7 +3,9 @@ use Rattle.std.proofs.Common.{◌≡◌, ◌≢◌, ◌⊎◌, inl, inr, ℕ, Li
 use Rattle.qn_conf.specs.declared.faults.ConfFault.{ConfFault}
 use Rattle.qn_conf.specs.declared.faults.ConfFault.TheVariants as conf
 use Rattle.qn_model.specs.Lines.{Ending, Ended, ReadFailed, Outcome}
-use Rattle.qn_replay.specs.Endings.{EndFits, ReplayFits}
+use Rattle.qn_play.specs.Endings.{EndFits}
+use Rattle.qn_play.specs.Reading.{Rest}
+use Rattle.qn_replay.specs.Endings.{ReplayFits}
 use Rattle.qn_replay.specs.Replay.{Progress, replay_of}
 use Rattle.qn_sched.specs.declared.replay_end.ReplayEnd.{ReplayEnd}
 use Rattle.qn_sched.specs.declared.replay_end.ReplayEnd.TheVariants as end
@@ -17,9 +19,9 @@ use Rattle.qn_commands.specs.RunLaws.{Ends, runs_complete, runs_done, runs_one_o
 use Rattle.qn_commands.specs.Seen.{NeverFall, Output, ReadFails, Seen, WriteFails}
 use Rattle.qn_commands.specs.Statuses.{HasCauses, IsOneOf}
 use Rattle.qn_top.specs.declared.command.Form.{Form}
-use Rattle.qn_top.specs.Commands.Replay.{ReplayEnds, Replays, RunsReplay, Told, Wanted, replay_text}
 use Rattle.qn_top.specs.Commands.Status.{RunsStatus, States, StatusEnds, Told as StatusTold, Wanted as StatusWanted, status_answer, status_behind}
 use Rattle.qn_top.specs.ReplayEnds.{end_outcome}
+use Rattle.qn_top.specs.Traces.{RunsTrace, Told, TraceEnds, Wanted, WritesTrace, trace_text}
 
 -- the statuses of what the input tells of
 abbrev told : List Status
@@ -81,11 +83,15 @@ six_is_unread end.WriteFault never six = never
 six_is_unread (end.UnsafeTiming timing) fits six = omega arith
 six_is_unread end.NoMemory never six = never
 
-replay_laws : ReplayFits → Ends told replay_text
-replay_laws fits = record {
-  one_of = λ ending bytes. end_one_of (replay_of ending bytes).end ending (fits ending bytes);
-  read = λ bytes. zero_is_read (replay_of ReadFailed bytes).end (fits ReadFailed bytes);
-  unread = λ bytes. six_is_unread (replay_of Ended bytes).end (fits Ended bytes);
+-- the end of what is played of an input fits the way in which that ended
+abbrev pub AllFit : {Last : Type 0} → Rest Last → Type 0
+AllFit played_of = (ending : Ending) (bytes : List ℕ) → EndFits (played_of ending bytes).end ending
+
+trace_laws : {Last : Type 0} (played_of : Rest Last) → AllFit played_of → Ends told (trace_text played_of)
+trace_laws played_of fits = record {
+  one_of = λ ending bytes. end_one_of (played_of ending bytes).end ending (fits ending bytes);
+  read = λ bytes. zero_is_read (played_of ReadFailed bytes).end (fits ReadFailed bytes);
+  unread = λ bytes. six_is_unread (played_of Ended bytes).end (fits Ended bytes);
 }
 
 -- the status of a state after a schedule is that of the schedule
@@ -201,20 +207,21 @@ wanted_status : {before later : Output} {status : ℕ} → Refuses fault.NoMemor
 wanted_status (Whole is whole) = inl is
 wanted_status (Cut is fails prefix) = inr (is, fails)
 
-module _ {before later : Seen} {status : ℕ} (fits : ReplayFits) (never_fall : NeverFall before later) where
-  -- all that a run of `replay` promises
-  pub replays : RunsReplay before later status → Replays before later status
-  replays run =
+-- all that a run which writes a trace promises
+module _ {Last : Type 0} (played_of : Rest Last) {wanted : List ℕ → List ℕ → Type 0} {before later : Seen} {status : ℕ} (fits : AllFit played_of) (never_fall : NeverFall before later) where
+  pub writes_trace : RunsTrace played_of wanted before later status → WritesTrace played_of wanted before later status
+  writes_trace run =
       let played = of_ends run.ends in
       record { ran = run; complete = played.complete; done = played.done; statuses = played.statuses; causes = played.causes }
     where
-      of_ends : ReplayEnds run.taken (IsOver run.waiting later.input) (IsCutOff run.waiting before.input later.input) before.output later.output status
-          → Played replay_text before later status
+      of_ends : TraceEnds played_of wanted run.taken (IsOver run.waiting later.input) (IsCutOff run.waiting before.input later.input) before.output later.output status
+          → Played (trace_text played_of) before later status
       of_ends (Told ends) =
-          told_end never_fall (replay_laws fits)
+          told_end never_fall (trace_laws played_of fits)
           (record { taken = run.taken; waiting = run.waiting; takes = run.takes; needed = run.needed; within = run.within; ends = ends })
       of_ends (Wanted trace tells why refuses) = wanted_end never_fall (wanted_status refuses)
 
+module _ {before later : Seen} {status : ℕ} (fits : ReplayFits) (never_fall : NeverFall before later) where
   -- all that a run of `status` promises
   pub states : (form : Form) → RunsStatus form before later status → States form before later status
   states form run =

@@ -6,7 +6,7 @@ use Rattle.qn_io.specs.Outside.{append_known-append}
 use Rattle.qn_io.specs.Writes.{AppendsFront}
 use Rattle.qn_commands.specs.Endings.{Cut, Says, Whole}
 use Rattle.qn_commands.specs.Seen.{Output}
-use Rattle.qn_top.specs.Commands.Replay.{written_to}
+use Rattle.qn_top.specs.Traces.{written_to}
 
 module _ {old new : Option (List ℕ)} where
   -- a text that was written whole

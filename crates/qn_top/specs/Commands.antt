@@ -1,6 +1,7 @@
 -- The record of each command that plays a schedule, and of the words: all that it promises.
 pub mod Help
 pub mod Replay
+pub mod Replay3
 pub mod Soak
 pub mod Status
 pub mod Usage

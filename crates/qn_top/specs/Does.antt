@@ -10,11 +10,13 @@ use Rattle.qn_commands.specs.Commands.Message.{Sends}
 use Rattle.qn_commands.specs.Commands.Migrate.{Migrates}
 use Rattle.qn_commands.specs.Commands.Node.{RunsNode}
 use Rattle.qn_commands.specs.Commands.NodeLogged.{LogsNode}
+use Rattle.qn_commands.specs.declared.node_images.NodeImages.TheVariants.{One, Three}
 use Rattle.qn_commands.specs.Seen.{Seen}
 use Rattle.qn_top.specs.declared.command.Command.{Command}
 use Rattle.qn_top.specs.declared.command.Command.TheVariants as command
 use Rattle.qn_top.specs.Commands.Help.{Helps}
 use Rattle.qn_top.specs.Commands.Replay.{Replays}
+use Rattle.qn_top.specs.Commands.Replay3.{Replays3}
 use Rattle.qn_top.specs.Commands.Soak.{Soaks}
 use Rattle.qn_top.specs.Commands.Status.{States}
 use Rattle.qn_top.specs.Commands.Usage.{RefusesWords}
@@ -30,8 +32,10 @@ Does (Some (command.Create image timing)) = Creates image timing
 Does (Some (command.Dump image)) = Dumps image
 Does (Some (command.List image)) = Lists image
 Does (Some (command.Message image id kind)) = Sends image id kind
-Does (Some (command.Node words)) = RunsNode words
+Does (Some (command.Node words)) = RunsNode One words
 Does (Some (command.Migrate image)) = Migrates image
+Does (Some command.Replay3) = Replays3
+Does (Some (command.Node3 words)) = RunsNode Three words
 Does (Some (command.NodeLogged words)) = LogsNode words
 Does (Some (command.Audit words)) = Audits words
 Does (Some command.Help) = Helps
@@ -49,6 +53,8 @@ reads_input (Some (command.List image)) = false
 reads_input (Some (command.Message image id kind)) = false
 reads_input (Some (command.Node words)) = true
 reads_input (Some (command.Migrate image)) = false
+reads_input (Some command.Replay3) = true
+reads_input (Some (command.Node3 words)) = true
 reads_input (Some (command.NodeLogged words)) = true
 reads_input (Some (command.Audit words)) = true
 reads_input (Some command.Help) = false
@@ -66,6 +72,8 @@ calls_outside (Some (command.List image)) = true
 calls_outside (Some (command.Message image id kind)) = true
 calls_outside (Some (command.Node words)) = true
 calls_outside (Some (command.Migrate image)) = true
+calls_outside (Some command.Replay3) = false
+calls_outside (Some (command.Node3 words)) = true
 calls_outside (Some (command.NodeLogged words)) = true
 calls_outside (Some (command.Audit words)) = false
 calls_outside (Some command.Help) = false
@@ -83,6 +91,8 @@ takes_memory (Some (command.List image)) = false
 takes_memory (Some (command.Message image id kind)) = false
 takes_memory (Some (command.Node words)) = true
 takes_memory (Some (command.Migrate image)) = false
+takes_memory (Some command.Replay3) = true
+takes_memory (Some (command.Node3 words)) = true
 takes_memory (Some (command.NodeLogged words)) = true
 takes_memory (Some (command.Audit words)) = true
 takes_memory (Some command.Help) = false

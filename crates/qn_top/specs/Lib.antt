@@ -2,5 +2,6 @@ pub mod Commands
 pub mod Does
 pub mod Options
 pub mod ReplayEnds
+pub mod Traces
 pub mod Words
 pub mod Names

@@ -1,5 +1,5 @@
 -- The words of the command line: this project's profile.
-use Rattle.std.specs.Prelude.{◌==◌, ◌≤◌, ℕ, Bool, false, ◌||◌, List, [], ◌∷◌, Option, Some, None, codes, length, nat_lt, not, option_map, if◌then◌else◌}
+use Rattle.std.specs.Prelude.{◌==◌, ◌≤◌, ℕ, Bool, false, ◌||◌, List, [], ◌∷◌, Option, Some, None, codes, length, nat_lt, not, ◌&&◌, option_map, if◌then◌else◌}
 use Rattle.std.specs.Option.{option_map_or}
 use Rattle.std.specs.Str.{bytes_eq}
 use Rattle.qn_base.specs.Decimal.{number_of}
@@ -147,7 +147,7 @@ mode_in word = option_map (λ mode. mode == 1) (number_in 0 1 word)
 unfoldable pub mode_of : List (List ℕ) → Option Bool
 mode_of options = option_map_or mode_in (value_of (option_text option.StartMode) options) (Some false)
 
--- `node` and `node-logged`
+-- `node`, `node3` and `node-logged`
 abbrev pub node_options : List OptionName
 node_options =
     option.Id ∷ option.Image ∷ option.Watchdog ∷ option.Resource ∷ option.Port ∷ option.Turns ∷ option.Leave
@@ -176,6 +176,23 @@ node_words options =
         clean = clean;
       })
 
+-- no two of three paths are the same
+abbrev pub all_differ : List ℕ → List ℕ → List ℕ → Bool
+all_differ one two three = not (bytes_eq one two) && not (bytes_eq one three) && not (bytes_eq two three)
+
+-- exactly three paths, of which no two are the same
+abbrev pub are_three_paths : List (List ℕ) → Bool
+are_three_paths [] = false
+are_three_paths (one ∷ []) = false
+are_three_paths (one ∷ two ∷ []) = false
+are_three_paths (one ∷ two ∷ three ∷ more) = (length more == 0) && all_differ one two three
+
+-- the image of `node3` is three paths, separated by commas; that of `node` is one path, commas included
+unfoldable pub node3_words : List (List ℕ) → Option NodeWords
+node3_words options = do
+  words ← node_words options
+  if not (are_three_paths (parts 44 words.image)) then None else Some words
+
 -- `audit`
 abbrev pub audit_options : List OptionName
 audit_options = option.Id ∷ option.Turns ∷ option.Leave ∷ option.StartMode ∷ []
@@ -202,6 +219,8 @@ command_with name.List options = option_map command.List (image_alone options)
 command_with name.Message options = message_of options
 command_with name.Node options = option_map command.Node (node_words options)
 command_with name.Migrate options = option_map command.Migrate (image_alone options)
+command_with name.Replay3 options = if are_options [] options then Some command.Replay3 else None
+command_with name.Node3 options = option_map command.Node3 (node3_words options)
 command_with name.NodeLogged options = option_map command.NodeLogged (node_words options)
 command_with name.Audit options = option_map command.Audit (audit_words options)
 command_with name.Help options = if are_options [] options then Some command.Help else None
@@ -225,6 +244,8 @@ IsProper (command.List image) = Unit {0}
 IsProper (command.Message image id kind) = Unit {0}
 IsProper (command.Node words) = 1 ≤ words.turns
 IsProper (command.Migrate image) = Unit {0}
+IsProper command.Replay3 = Unit {0}
+IsProper (command.Node3 words) = 1 ≤ words.turns
 IsProper (command.NodeLogged words) = 1 ≤ words.turns
 IsProper (command.Audit words) = 1 ≤ words.turns
 IsProper command.Help = Unit {0}

@@ -1,8 +1,9 @@
 //! The commands of the program, and the words that each of them is.
 ghost use Rattle.std.specs.Prelude.{◌≡◌, ◌≤◌, ◌==◌, map, option_map, string_bytes, length, IfSome, IfNone, None, Some};
 ghost use Rattle.std.specs.Option.{option_copied};
+ghost use Rattle.qn_model.specs.Lines.{parts};
 ghost use Rattle.qn_sched.specs.Words.{parts_left};
-ghost use Rattle.qn_top.specs.Words.{IsProper, audit_words, command_of, command_with, create_of, form_named, form_of, id_of, image_alone, kind_named, kind_of, leave_of, message_of, mode_in, mode_of, next_time, node_words, number_in, number_of_option, soak_of, timing_in, timing_of};
+ghost use Rattle.qn_top.specs.Words.{IsProper, all_differ, are_three_paths, audit_words, command_of, command_with, create_of, form_named, form_of, id_of, image_alone, kind_named, kind_of, leave_of, message_of, mode_in, mode_of, next_time, node3_words, node_words, number_in, number_of_option, soak_of, timing_in, timing_of};
 ghost use Rattle.qn_top.specs.Options.{value_of};
 
 use crate::command_name::{CommandName, name_of};
@@ -57,6 +58,10 @@ pub enum Command<'words> {
     Migrate {
         image: Path<'words>,
     },
+    /// `replay3`: the trace of a schedule of three images.
+    Replay3,
+    /// `node3`, with the options of `node` and `--image P1,P2,P3`: runs the node of that id on three images.
+    Node3(NodeWords<'words>),
     /// `node-logged`, with the options of `node`: the same, and each call with its answer as a line of a log.
     NodeLogged(NodeWords<'words>),
     /// `audit --id N --turns K [--leave T] [--start-mode 0 or 1]`: whether a log is a run of that node.
@@ -65,7 +70,7 @@ pub enum Command<'words> {
     Help,
 }
 
-/// The options of `node` and `node-logged`.
+/// The options of `node`, `node3` and `node-logged`.
 const NODE_OPTIONS: [OptionName; 8] = [
     OptionName::Id,
     OptionName::Image,
@@ -136,6 +141,8 @@ fn command_with(name: CommandName, options: &[String]) -> Option<Command<'_>>
             let image = image_alone(options)?;
             Some(Command::Migrate { image })
         }
+        CommandName::Replay3 => are_options(&[], options).then_some(Command::Replay3),
+        CommandName::Node3 => node3_of(options),
         CommandName::NodeLogged => node_logged_of(options),
         CommandName::Audit => audit_of(options),
         CommandName::Help => are_options(&[], options).then_some(Command::Help),
@@ -267,6 +274,15 @@ fn node_of(options: &[String]) -> Option<Command<'_>>
     Some(Command::Node(words))
 }
 
+/// `node3` with these options.
+fn node3_of(options: &[String]) -> Option<Command<'_>>
+    ensures command { result ≡ option_map Command.Node3 (node3_words (map string_bytes options.now)) }
+    ensures proper { IfSome result IsProper }
+{
+    let words = node3_words(options)?;
+    Some(Command::Node3(words))
+}
+
 /// `node-logged` with these options.
 fn node_logged_of(options: &[String]) -> Option<Command<'_>>
     ensures command { result ≡ option_map Command.NodeLogged (node_words (map string_bytes options.now)) }
@@ -285,7 +301,7 @@ fn audit_of(options: &[String]) -> Option<Command<'_>>
     Some(Command::Audit(words))
 }
 
-/// What the options of `node` or `node-logged` say.
+/// What the options of `node`, `node3` or `node-logged` say.
 #[tactic(auto, unfolding(crate::specs::Words::node_words))]
 fn node_words(options: &[String]) -> Option<NodeWords<'_>>
     ensures words { result ≡ node_words (map string_bytes options.now) }
@@ -312,6 +328,41 @@ fn node_words(options: &[String]) -> Option<NodeWords<'_>>
         leave,
         clean,
     })
+}
+
+/// What the options of `node3` say: the paths of three images, of which no two are the same.
+#[tactic(auto, unfolding(crate::specs::Words::node3_words))]
+fn node3_words(options: &[String]) -> Option<NodeWords<'_>>
+    ensures words { result ≡ node3_words (map string_bytes options.now) }
+    ensures proper { IfSome result (λ words. 1 ≤ words.turns) }
+{
+    let words = node_words(options)?;
+    if !are_three_paths(words.image.as_str().as_bytes()) {
+        return None;
+    }
+    Some(words)
+}
+
+/// Whether a text is three paths, separated by commas, of which no two are the same.
+fn are_three_paths(text: &[u8]) -> bool
+    ensures { result ≡ are_three_paths (parts 44 text.now) }
+{
+    let (first, rest) = first_part(text, b',');
+    let Some(rest) = rest else {
+        return false;
+    };
+    let (second, rest) = first_part(rest, b',');
+    let Some(rest) = rest else {
+        return false;
+    };
+    let (third, rest) = first_part(rest, b',');
+    is_over(rest) && all_differ(first, second, third)
+}
+
+fn all_differ(first: &[u8], second: &[u8], third: &[u8]) -> bool
+    ensures { result ≡ all_differ first.now second.now third.now }
+{
+    first != second && first != third && second != third
 }
 
 /// What the options of `audit` say.

@@ -15,13 +15,15 @@ pub(crate) enum CommandName {
     Message,
     Node,
     Migrate,
+    Replay3,
+    Node3,
     NodeLogged,
     Audit,
     Help,
 }
 
 /// The names of all commands, in the order of `help`.
-const COMMAND_NAMES: [CommandName; 13] = [
+const COMMAND_NAMES: [CommandName; 14] = [
     CommandName::Count,
     CommandName::Replay,
     CommandName::Status,
@@ -32,6 +34,8 @@ const COMMAND_NAMES: [CommandName; 13] = [
     CommandName::Message,
     CommandName::Node,
     CommandName::Migrate,
+    CommandName::Replay3,
+    CommandName::Node3,
     CommandName::NodeLogged,
     CommandName::Audit,
     CommandName::Help,
@@ -53,6 +57,8 @@ impl CommandName {
             CommandName::Message => "message",
             CommandName::Node => "node",
             CommandName::Migrate => "migrate",
+            CommandName::Replay3 => "replay3",
+            CommandName::Node3 => "node3",
             CommandName::NodeLogged => "node-logged",
             CommandName::Audit => "audit",
             CommandName::Help => "help",

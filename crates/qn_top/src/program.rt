@@ -4,16 +4,19 @@ ghost use Rattle.qn_commands.specs.Seen.{NeverFall, outside, seen, sink, source}
 ghost use Rattle.qn_io.specs.Outside.{HasRisen};
 ghost use Rattle.qn_replay.specs.Soak.{soaked};
 ghost use Rattle.qn_top.specs.Commands.Replay.{ShowsRun};
+ghost use Rattle.qn_top.specs.Commands.Replay3.{ShowsTripleRun};
 ghost use Rattle.qn_top.specs.Does.{Does, calls_outside, reads_input, takes_memory};
 ghost use Rattle.qn_top.specs.Words.{command_of};
 
 use crate::command::{Command, command_of};
 use crate::commands::help::help;
 use crate::commands::replay::run_replay;
+use crate::commands::replay3::run_replay3;
 use crate::commands::soak::run_soak;
 use crate::commands::status::run_status;
 use qn_commands::{
-    Fault, Status, count, create, dump, list, migrate, node, node_logged, refuse, run_audit, send,
+    Fault, NodeImages, Status, count, create, dump, list, migrate, node, node_logged, refuse,
+    run_audit, send,
 };
 use qn_io::{Env, Sink, Source};
 use std::alloc::Global;
@@ -56,6 +59,8 @@ pub fn top<I: Source, O: Sink, E: Env>(
     // One holder at most: on each line of a replay, and after each event of a soak.
     ensures one_holder { command_of (map string_bytes words.now) ≡ Some Command.Replay
         → ShowsRun (O.written out.old) (O.written out.new) }
+    ensures triple_one_holder { command_of (map string_bytes words.now) ≡ Some Command.Replay3
+        → ShowsTripleRun (O.written out.old) (O.written out.new) }
     ensures soak_one_holder { (seed events : ℕ)
         → command_of (map string_bytes words.now) ≡ Some (Command.Soak seed events) → result ≡ 0
         → (soaked seed events).tally.most_holders ≤ 1 }
@@ -75,8 +80,14 @@ pub fn top<I: Source, O: Sink, E: Env>(
         Some(Command::Message { image, id, kind }) => {
             send(image.as_str(), id, kind, out, env).code()
         }
-        Some(Command::Node(words)) => node(alloc, &words, input, out, env).code(),
+        Some(Command::Node(words)) => {
+            node(alloc, NodeImages::One, &words, input, out, env).code()
+        }
         Some(Command::Migrate { image }) => migrate(image.as_str(), out, env).code(),
+        Some(Command::Replay3) => run_replay3(alloc, input, out).code(),
+        Some(Command::Node3(words)) => {
+            node(alloc, NodeImages::Three, &words, input, out, env).code()
+        }
         Some(Command::NodeLogged(words)) => node_logged(alloc, &words, input, out, env).code(),
         Some(Command::Audit(words)) => run_audit(alloc, &words, input, out).code(),
     }

@@ -57,6 +57,7 @@ fn reads_that_fail(rt: HostRuntime) -> Result<(), Fail> {
     let mut env = QuietEnv::new(rt.alloc())?;
     for (words, input) in [
         ("replay", NO_EVENTS),
+        ("replay3", NO_EVENTS),
         ("status", NO_EVENTS),
         ("create --image d", ONE_NODE),
         (

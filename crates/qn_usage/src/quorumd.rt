@@ -58,6 +58,17 @@ pub const QUORUMD: &[Synopsis] = &[
         does: "brings an image of version 1 to version 2",
     },
     Synopsis {
+        line: "replay3",
+        reads: "SCHEDULE",
+        does: "what a cluster does on three images, event by event",
+    },
+    Synopsis {
+        line: "node3 --id 1..4294967295 --image P1,P2,P3 --watchdog PATH --resource PATH --port 1024..65000 \
+               --turns 1..1000000000 [--leave 1..1000000000] [--start-mode 0..1]",
+        reads: "COROSYNC.CONF",
+        does: "runs a node of the cluster on three images",
+    },
+    Synopsis {
         line: "node-logged --id 1..4294967295 --image PATH --watchdog PATH --resource PATH --port 1024..65000 \
                --turns 1..1000000000 [--leave 1..1000000000] [--start-mode 0..1]",
         reads: "COROSYNC.CONF",

@@ -1,20 +1,23 @@
--- `node`: the member itself, a running node over its own outside. votequorum(5), sbd(8), and this project's profile for its
--- words.
-use Rattle.std.specs.Prelude.{◌≡◌, ◌≢◌, ℕ, Bool, true, false, [], ◌∷◌, Option, if◌then◌else◌, position, ◌==◌, IfOk, IfSome}
+-- `node` and `node3`: the member itself, a running node over its own outside, on one image or on three. votequorum(5), sbd(8),
+-- and this project's profile for its words.
+use Rattle.std.specs.Prelude.{◌≡◌, ◌≢◌, ℕ, Bool, true, false, List, [], ◌∷◌, Option, if◌then◌else◌, position, ◌==◌, IfOk, IfSome}
 use Rattle.std.specs.Option.{option_map_or}
 use Rattle.qn_base.specs.declared.calls.Call.{Call}
 use Rattle.qn_base.specs.declared.calls.Call.TheVariants.{OpenNode}
 use Rattle.qn_base.specs.declared.ids.NodeId.{NodeId}
-use Rattle.qn_base.specs.Calls.{is_failed}
-use Rattle.qn_base.specs.Plans.{Made}
+use Rattle.qn_base.specs.Calls.{is_failed, some_failed}
+use Rattle.qn_base.specs.Plans.{Follows, Made, Plan}
 use Rattle.qn_live.specs.declared.live_end.LiveEnd.{LiveEnd}
 use Rattle.qn_live.specs.Running.{Ran}
 use Rattle.qn_live.specs.Runs.{live_plan}
 use Rattle.qn_live.specs.Laws.{NeverFalls, is_by_call, is_by_clock, is_no_failure}
+use Rattle.qn_live3.specs.Runs.{triple_plan}
 use Rattle.qn_model.specs.declared.configuration.Settings.{Settings}
 use Rattle.qn_model.specs.declared.outputs.BootCause.{BootCause}
 use Rattle.qn_model.specs.Lines.{Ended}
 use Rattle.qn_commands.specs.declared.commands.node.NodeWords.{NodeWords}
+use Rattle.qn_commands.specs.declared.node_images.NodeImages.{NodeImages}
+use Rattle.qn_commands.specs.declared.node_images.NodeImages.TheVariants.{One, Three}
 use Rattle.qn_commands.specs.declared.fault.Fault.TheVariants.{BootHalted, EnvFault, UnknownNode}
 use Rattle.qn_commands.specs.declared.status.Status.TheVariants as status
 use Rattle.qn_commands.specs.Endings.{AnswersWhole, refused}
@@ -28,36 +31,51 @@ use Rattle.qn_commands.specs.Works.{Last, Makes, Work, after_plan, refusal}
 abbrev pub rank_with : Settings → NodeId → Option ℕ
 rank_with settings id = position (λ node. node.id.0 == id.0) settings.nodes
 
+-- how many images these are
+abbrev pub image_count : NodeImages → ℕ
+image_count One = 1
+image_count Three = 3
+
 -- the one call that opens all that the node of that rank uses, with its answer
-abbrev pub opening : NodeWords → ℕ → Bool → Call
-opening words rank ok = OpenNode 1 words.image words.watchdog words.resource words.port (record { 0 = rank }) ok
+abbrev pub opening : NodeImages → NodeWords → ℕ → Bool → Call
+opening images words rank ok = OpenNode (image_count images) words.image words.watchdog words.resource words.port (record { 0 = rank }) ok
 
 -- the end of a run of so many turns
 abbrev pub run_end : ℕ → Ran → Work
 run_end turns ran = Last (end_outcome turns ran.end).text (end_outcome turns ran.end).status
 
 -- the run of the node of that rank
-unfoldable pub run_work : NodeWords → Settings → ℕ → Work
-run_work words settings rank =
-    after_plan (live_plan settings rank words.clean words.leave words.turns) (run_end words.turns)
+abbrev pub node_plan : NodeImages → NodeWords → Settings → ℕ → Plan Ran
+node_plan One words settings rank = live_plan settings rank words.clean words.leave words.turns
+node_plan Three words settings rank = triple_plan settings rank words.clean words.leave words.turns
+
+-- where no call fails, no failed call ends a run of the plan, and where no tick falls, no clock does
+pub record EndsWithCause (plan : Plan Ran) : Type 0 where
+  pub call : (calls : List Call) (ran : Ran) → Follows plan calls ran → some_failed calls ≡ false → is_by_call ran.end ≡ false
+  pub clock : (calls : List Call) (ran : Ran) → Follows plan calls ran → NeverFalls 0 calls → is_by_clock ran.end ≡ false
+
+-- the run, and its last line
+unfoldable pub run_work : NodeImages → NodeWords → Settings → ℕ → Work
+run_work images words settings rank = after_plan (node_plan images words settings rank) (run_end words.turns)
 
 -- once it is opened
 abbrev pub after_opening : Work → Call → Work
 after_opening run call = if is_failed call then refusal EnvFault else run
 
 -- the opening of the node of that rank, and its run
-unfoldable pub opened_work : NodeWords → Settings → ℕ → Work
-opened_work words settings rank = Makes (opening words rank true) (after_opening (run_work words settings rank))
+unfoldable pub opened_work : NodeImages → NodeWords → Settings → ℕ → Work
+opened_work images words settings rank =
+    Makes (opening images words rank true) (after_opening (run_work images words settings rank))
 
 -- once the settings are read: the id is looked for before anything is opened
-unfoldable pub node_work : NodeWords → Settings → Work
-node_work words settings =
-    option_map_or (opened_work words settings) (rank_with settings words.id) (refusal (UnknownNode words.id))
+unfoldable pub node_work : NodeImages → NodeWords → Settings → Work
+node_work images words settings =
+    option_map_or (opened_work images words settings) (rank_with settings words.id) (refusal (UnknownNode words.id))
 
 -- the opening failed, and no other call was made
-pub record FailsToOpen (words : NodeWords) (before after : Outside) : Type 0 where
+pub record FailsToOpen (images : NodeImages) (words : NodeWords) (before after : Outside) : Type 0 where
   pub rank : ℕ
-  pub made : Made before.faults after.faults before.calls after.calls (opening words rank false ∷ [])
+  pub made : Made before.faults after.faults before.calls after.calls (opening images words rank false ∷ [])
 
 -- the boot was halted, which was written whole; a cause that a failed call gives comes only where the count of faults rose
 pub record HaltsBoot (before after : Seen) (code : ℕ) : Type 0 where
@@ -76,9 +94,9 @@ pub record EndsUndisturbed (turns : ℕ) (before after : Output) (code : ℕ) : 
 -- these calls are made, and the last line is that of the end of the run. Nothing is written before. Memory is taken for
 -- the settings text alone. Where nothing failed, no tick fell and memory sufficed, and the id is in good settings, the node
 -- handled its last turn, left, read a deadly message, or was halted in its boot by what stands in the image.
-pub record RunsNode (words : NodeWords) (before after : Seen) (code : ℕ) : Type 0 where
-  pub ran : WorksOnSettings (node_work words) before after code
-  pub unopened : code ≡ 8 → FailsToOpen words before.env after.env
+pub record RunsNode (images : NodeImages) (words : NodeWords) (before after : Seen) (code : ℕ) : Type 0 where
+  pub ran : WorksOnSettings (node_work images words) before after code
+  pub unopened : code ≡ 8 → FailsToOpen images words before.env after.env
   pub clock_back : code ≡ 12 → ¬ NeverFalls 0 ran.works.calls
   pub halted : code ≡ 14 → HaltsBoot before after code
   pub complete : code ≢ 11 → ¬ ReadFails before.input after.input

@@ -11,6 +11,7 @@ use Rattle.qn_live.specs.Runs.{live_plan}
 use Rattle.qn_model.specs.declared.configuration.Settings.{Settings}
 use Rattle.qn_model.specs.Log.{Line}
 use Rattle.qn_commands.specs.declared.commands.node.NodeWords.{NodeWords}
+use Rattle.qn_commands.specs.declared.node_images.NodeImages.TheVariants.{One}
 use Rattle.qn_commands.specs.declared.status.Status.TheVariants as status
 use Rattle.qn_commands.specs.Commands.Node.{RunsNode, node_work, opening}
 use Rattle.qn_commands.specs.Seen.{Outside, Output, Seen, WriteFails}
@@ -39,7 +40,7 @@ with_output after output = record { input = after.input; output = output; env = 
 -- Each line of the log was written: all is as `node` does it, which writes its last line after the log of its calls.
 pub record LogsWhole (words : NodeWords) (before after : Seen) (code : ℕ) : Type 0 where
   pub calls : List Call
-  pub runs : RunsNode words (after_log before calls) after code
+  pub runs : RunsNode One words (after_log before calls) after code
   pub same : recorded_calls runs.ran.works.calls ≡ calls
 
 -- A line of the log could not be written: the node ran on as `node` does, `last` and `own` being what that would have written
@@ -47,7 +48,7 @@ pub record LogsWhole (words : NodeWords) (before after : Seen) (code : ℕ) : Ty
 pub record CutsLog (words : NodeWords) (before after : Seen) (code : ℕ) : Type 0 where
   pub last : Output
   pub own : ℕ
-  pub runs : RunsNode words before (with_output after last) own
+  pub runs : RunsNode One words before (with_output after last) own
   pub front : AppendsFront before.output.written after.output.written
       (log_text (recorded_calls runs.ran.works.calls))
   pub fails : WriteFails before.output after.output
@@ -71,7 +72,7 @@ pub record LogsNode (words : NodeWords) (before after : Seen) (code : ℕ) : Typ
 
 -- the node of that rank was opened
 abbrev pub Opens : NodeWords → ℕ → Outside → Outside → Type 0
-Opens words rank before after = Made before.faults after.faults before.calls after.calls (opening words rank true ∷ [])
+Opens words rank before after = Made before.faults after.faults before.calls after.calls (opening One words rank true ∷ [])
 
 -- its log is whole, or a prefix of it was written
 abbrev pub WritesLog : Bool → List Call → Output → Output → Type 0
@@ -89,14 +90,14 @@ pub record RunsLogged (words : NodeWords) (settings : Settings) (rank : ℕ) (be
 -- the work of `node` was done, and its last line follows the log of its calls
 pub record WorksWhole (words : NodeWords) (settings : Settings) (before after : Seen) (code : ℕ) : Type 0 where
   pub calls : List Call
-  pub works : Works (node_work words settings) (after_log before calls) after code
+  pub works : Works (node_work One words settings) (after_log before calls) after code
   pub same : recorded_calls works.calls ≡ calls
 
 -- the work of `node` was done but for its last line, and of the log of its calls a prefix was written
 pub record WorksCut (words : NodeWords) (settings : Settings) (before after : Seen) (code : ℕ) : Type 0 where
   pub last : Output
   pub own : ℕ
-  pub works : Works (node_work words settings) before (with_output after last) own
+  pub works : Works (node_work One words settings) before (with_output after last) own
   pub ended : IsOneOf (status.Done ∷ status.ClockBack ∷ status.SelfReset ∷ status.BootHalted ∷ []) own
   pub front : AppendsFront before.output.written after.output.written (log_text (recorded_calls works.calls))
   pub fails : WriteFails before.output after.output

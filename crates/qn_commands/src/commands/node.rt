@@ -1,29 +1,33 @@
-//! `node`: the member itself, a running node over its own outside.
-ghost use Rattle.std.specs.Prelude.{◌≡◌, ◌≤◌, ◌<◌, ◌⊎◌, ◌==◌, true, false, [], ◌∷◌, IfSome, OnOk, OnErr, length, position};
+//! `node` and `node3`: the member itself, a running node over its own outside.
+ghost use Rattle.std.specs.Prelude.{◌≡◌, ◌≤◌, ◌<◌, ◌⊎◌, ◌==◌, ℕ, true, false, List, [], ◌∷◌, IfSome, OnOk, OnErr, length, position};
 ghost use Rattle.qn_base.specs.Faults.{HasRisen};
 ghost use Rattle.qn_base.specs.Plans.{Made};
+ghost use Rattle.qn_model.specs.Log.{Line};
 ghost use Rattle.qn_model.specs.Settings.{IsValid};
-ghost use Rattle.qn_commands.specs.Commands.Node.{FailsToOpen, RunsNode, node_work, opening, rank_with};
+ghost use Rattle.qn_commands.specs.Commands.Node.{EndsWithCause, FailsToOpen, RunsNode, node_plan, node_work, opening, rank_with};
 ghost use Rattle.qn_commands.specs.Seen.{Input, outside, seen, sink, source};
 ghost use Rattle.qn_commands.specs.Statuses.{IsOneOf, code_of};
-ghost use Rattle.qn_commands.specs.Works.{Works};
+ghost use Rattle.qn_commands.specs.Works.{Carries, Works};
 
 use crate::ending::refuse;
 use crate::fault::Fault;
+use crate::node_images::NodeImages;
 use crate::node_texts::finish_node;
 use crate::path::Path;
 use crate::settings_text::read_settings;
 use crate::status::Status;
 use qn_base::{Failed, NodeId, Rank};
 use qn_io::{Env, Opening, Sink, Source};
-use qn_live::run_node;
+use qn_live::{LiveEnd, law_end_causes, run_node};
+use qn_live3::{law_triple_end_causes, run_node3};
 use qn_model::{NodeEntry, Settings};
 use std::alloc::Global;
 
-/// What the words of `node` say.
+/// What the words of `node` and `node3` say.
 #[derive(Drop)]
 pub struct NodeWords<'words> {
     pub id: NodeId,
+    /// The path of the image; of three images their paths, separated by commas.
     pub image: Path<'words>,
     pub watchdog: Path<'words>,
     pub resource: Path<'words>,
@@ -37,10 +41,11 @@ pub struct NodeWords<'words> {
     pub clean: bool,
 }
 
-/// `node`: runs the node of that id over the outside, by the settings of the input. The settings and the id are judged
-/// before anything is opened. Memory is taken for the settings text.
+/// `node`, and on three images `node3`: runs the node of that id over the outside, by the settings of the input. The settings
+/// and the id are judged before anything is opened. Memory is taken for the settings text.
 pub fn node<I: Source, O: Sink, E: Env>(
     alloc: Global,
+    images: NodeImages,
     words: &NodeWords<'_>,
     input: &mut I,
     out: &mut O,
@@ -51,16 +56,18 @@ pub fn node<I: Source, O: Sink, E: Env>(
         (outside E.calls E.faults env.old) in
         let after = seen (source I.left I.faults input.new) (sink O.written O.faults out.new)
         (outside E.calls E.faults env.new) in
-        RunsNode words.now before after (code_of result) }
+        RunsNode images words.now before after (code_of result) }
 {
+    law_node_ends();
     match read_settings(alloc, input) {
-        Ok(settings) => open_and_run(words, &settings, out, env),
+        Ok(settings) => open_and_run(images, words, &settings, out, env),
         Err(fault) => refuse(out, fault),
     }
 }
 
 /// Opens and runs the node, once the settings are read.
 fn open_and_run<O: Sink, E: Env>(
+    images: NodeImages,
     words: &NodeWords<'_>,
     settings: &Settings,
     out: &mut O,
@@ -73,8 +80,8 @@ fn open_and_run<O: Sink, E: Env>(
         (outside E.calls E.faults env.old) in
         let after = seen input (sink O.written O.faults out.new)
         (outside E.calls E.faults env.new) in
-        Works (node_work words.now settings.now) before after (code_of result) }
-    ensures unopened { code_of result ≡ 8 → FailsToOpen words.now
+        Works (node_work images words.now settings.now) before after (code_of result) }
+    ensures unopened { code_of result ≡ 8 → FailsToOpen images words.now
         (outside E.calls E.faults env.old) (outside E.calls E.faults env.new) }
     ensures outcomes { IsOneOf (Status.Done ∷ Status.WriteFault ∷ Status.EnvFault ∷ Status.ClockBack
         ∷ Status.SelfReset ∷ Status.BootHalted ∷ Status.UnknownNode ∷ []) (code_of result) }
@@ -86,9 +93,9 @@ fn open_and_run<O: Sink, E: Env>(
         return refuse(out, Fault::UnknownNode { id: words.id });
     };
     let rank = Rank(place as u8);
-    match open(words, rank, env) {
+    match open(images, words, rank, env) {
         Ok(()) => {
-            let end = run_node(env, settings, rank, words.clean, words.leave, words.turns);
+            let end = run(images, words, settings, rank, env);
             finish_node(out, words.turns, end)
         }
         Err(Failed) => refuse(out, Fault::EnvFault),
@@ -111,18 +118,54 @@ fn place_in(nodes: &[NodeEntry], id: NodeId) -> Option<usize>
 }
 
 /// Opens all that the node of that rank uses.
-pub(crate) fn open<E: Env>(words: &NodeWords<'_>, rank: Rank, env: &mut E) -> Result<(), Failed>
+pub(crate) fn open<E: Env>(
+    images: NodeImages,
+    words: &NodeWords<'_>,
+    rank: Rank,
+    env: &mut E,
+) -> Result<(), Failed>
     ensures opened { OnOk result (Made (E.faults env.old) (E.faults env.new) (E.calls env.old) (E.calls env.new)
-        (opening words.now rank.0 true ∷ [])) }
+        (opening images words.now rank.0 true ∷ [])) }
     ensures failed { OnErr result (Made (E.faults env.old) (E.faults env.new) (E.calls env.old) (E.calls env.new)
-        (opening words.now rank.0 false ∷ [])) }
+        (opening images words.now rank.0 false ∷ [])) }
 {
     env.open_node(&Opening {
-        images: 1,
+        images: images.count(),
         image: words.image.as_str(),
         watchdog: words.watchdog.as_str(),
         resource: words.resource.as_str(),
         port: words.port,
         rank,
     })
+}
+
+/// Runs the opened node of that rank.
+fn run<E: Env>(
+    images: NodeImages,
+    words: &NodeWords<'_>,
+    settings: &Settings,
+    rank: Rank,
+    env: &mut E,
+) -> LiveEnd
+    requires valid { IsValid settings.now }
+    requires configured { rank.0 < length settings.now.nodes }
+    requires some_turn { 1 ≤ words.now.turns }
+    ensures did { (log : List Line) × Carries (node_plan images words.now settings.now rank.0)
+        (outside E.calls E.faults env.old) (outside E.calls E.faults env.new)
+        (record { end = result; log = log }) }
+{
+    match images {
+        NodeImages::One => run_node(env, settings, rank, words.clean, words.leave, words.turns),
+        NodeImages::Three => run_node3(env, settings, rank, words.clean, words.leave, words.turns),
+    }
+}
+
+/// Law: a node in whose run no call failed was not halted in its boot by a failed call, and one whose ticks did not fall did not
+/// end because the clock went back.
+fn law_node_ends()
+    ensures { (images : NodeImages) (words : NodeWords) (settings : Settings) (rank : ℕ)
+        → EndsWithCause (node_plan images words settings rank) }
+{
+    law_end_causes();
+    law_triple_end_causes();
 }

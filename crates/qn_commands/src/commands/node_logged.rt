@@ -10,6 +10,7 @@ ghost use Rattle.qn_commands.specs.Statuses.{IsOneOf, code_of};
 use crate::commands::node::{NodeWords, open, place_of};
 use crate::ending::refuse;
 use crate::fault::Fault;
+use crate::node_images::NodeImages;
 use crate::node_texts::finish_node;
 use crate::settings_text::read_settings;
 use crate::status::Status;
@@ -57,7 +58,7 @@ fn open_and_record<O: Sink, E: Env>(
         let after = seen input (sink O.written O.faults out.new)
         (outside E.calls E.faults env.new) in
         WorksLogged words.now settings.now before after (code_of result) }
-    ensures unopened { code_of result ≡ 8 → FailsToOpen words.now
+    ensures unopened { code_of result ≡ 8 → FailsToOpen NodeImages.One words.now
         (outside E.calls E.faults env.old) (outside E.calls E.faults env.new) }
     ensures outcomes { IsOneOf (Status.Done ∷ Status.WriteFault ∷ Status.EnvFault ∷ Status.ClockBack
         ∷ Status.SelfReset ∷ Status.BootHalted ∷ Status.UnknownNode ∷ []) (code_of result) }
@@ -69,7 +70,7 @@ fn open_and_record<O: Sink, E: Env>(
         return refuse(out, Fault::UnknownNode { id: words.id });
     };
     let rank = Rank(place as u8);
-    match open(words, rank, env) {
+    match open(NodeImages::One, words, rank, env) {
         Ok(()) => run_and_finish(words, settings, rank, out, env),
         Err(Failed) => refuse(out, Fault::EnvFault),
     }

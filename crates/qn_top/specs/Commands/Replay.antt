@@ -1,64 +1,17 @@
 -- `replay`: the trace of a schedule, and then its last line; this project's profile.
-use Rattle.std.specs.Prelude.{◌≡◌, ◌≢◌, ◌≤◌, ℕ, List, [], ◌∷◌, ◌++◌, Option, IfSome, length}
-use Rattle.std.specs.Io.KnownBytes.{append_known, prepend_known}
-use Rattle.qn_io.specs.declared.buffered.TheConstants.{PIECE}
-use Rattle.qn_io.specs.Writes.{AppendsFront}
-use Rattle.qn_model.specs.Inputs.{BeginsWith, Tells}
-use Rattle.qn_model.specs.Lines.{Ended, Ending, Outcome, after}
+use Rattle.std.specs.Prelude.{ℕ, List, Option}
+use Rattle.qn_commands.specs.Seen.{Seen}
 use Rattle.qn_replay.specs.Replay.{replay_of}
 use Rattle.qn_replay.specs.RunTrace.{IsRunTrace}
 use Rattle.qn_replay.specs.Runs.{WantsMemory}
-use Rattle.qn_sched.specs.declared.replay_end.ReplayEnd.{ReplayEnd}
-use Rattle.qn_commands.specs.declared.fault.Fault.TheVariants as fault
-use Rattle.qn_commands.specs.declared.status.Status.TheVariants.{Done, BadConf, BadSchedule, NotAllowed, ReadFault, WriteFault, UnsafeTiming, NoMemory}
-use Rattle.qn_commands.specs.Endings.{AnswersWhole, Refuses}
-use Rattle.qn_commands.specs.Reads.{Completes, EndsAs, IsCutOff, IsNeeded, IsOver}
-use Rattle.qn_commands.specs.Seen.{Output, ReadFails, Seen, WriteFails}
-use Rattle.qn_commands.specs.Statuses.{HasCauses, IsOneOf}
-use Rattle.qn_top.specs.ReplayEnds.{end_outcome}
+use Rattle.qn_top.specs.Traces.{ShowsTrace, WritesTrace}
 
--- all that `replay` writes for an input, and its status
-abbrev pub replay_text : Ending → List ℕ → Outcome
-replay_text ending bytes = after (replay_of ending bytes).trace (end_outcome (replay_of ending bytes).end)
-
--- a text was written
-abbrev pub written_to : Output → List ℕ → Output
-written_to output text = record output { written = append_known output.written text }
-
--- The text that the taken bytes tell of was written, or a prefix of it where the sink failed; or it ran out of memory after a
--- prefix of the trace: before any of it, or at an event that adds a packet or a leftover to the world.
-pub data ReplayEnds (taken : List ℕ) (at_end failed : Type 0) (before later : Output) (status : ℕ) : Type 0 where
-  Told : EndsAs replay_text taken [] at_end failed before later status → ReplayEnds taken at_end failed before later status
-  Wanted : (trace : List ℕ) → Tells replay_of taken at_end failed (λ a. BeginsWith a.trace trace) → WantsMemory taken trace
-      → Refuses fault.NoMemory (written_to before trace) later status → ReplayEnds taken at_end failed before later status
-
--- Bytes were taken, none more than the end needs, and they decided it. What was read after them is of one piece, waits, and
--- was not looked at.
-pub record RunsReplay (before later : Seen) (status : ℕ) : Type 0 where
-  pub taken : List ℕ
-  pub waiting : List ℕ
-  pub takes : before.input.left ≡ prepend_known (taken ++ waiting) later.input.left
-  pub needed : IsNeeded replay_text taken
-  pub within : length waiting ≤ PIECE
-  pub ends : ReplayEnds taken (IsOver waiting later.input) (IsCutOff waiting before.input later.input)
-      before.output later.output status
-
--- The trace and its last line were written: of the whole input where nothing failed and memory sufficed, and at status 0.
-pub record Replays (before later : Seen) (status : ℕ) : Type 0 where
-  pub ran : RunsReplay before later status
-  pub complete : status ≢ 11 → ¬ ReadFails before.input later.input
-      → ¬ WriteFails before.output later.output → IfSome before.input.left
-      (λ bytes. AnswersWhole (replay_text Ended bytes) before.output later.output status)
-  pub done : status ≡ 0 → Completes replay_text before later
-  pub statuses : IsOneOf (Done ∷ BadConf ∷ BadSchedule ∷ NotAllowed ∷ ReadFault ∷ WriteFault
-      ∷ UnsafeTiming ∷ NoMemory ∷ []) status
-  pub causes : HasCauses before later status
+-- The trace and its last line were written. It runs out of memory before any of it, or at an event that adds a packet or a
+-- leftover to the world.
+abbrev pub Replays : Seen → Seen → ℕ → Type 0
+Replays = WritesTrace replay_of WantsMemory
 
 -- What was written is a prefix of lines of a run of the world, in which each event was allowed and each line names one
 -- holder at most, and of a last line after them.
-pub record ShowsRun (old new : Option (List ℕ)) : Type 0 where
-  pub shown : List ℕ
-  pub hidden : List ℕ
-  pub run : IsRunTrace (shown ++ hidden)
-  pub end : ReplayEnd
-  pub writes : AppendsFront old new (shown ++ (end_outcome end).text)
+abbrev pub ShowsRun : Option (List ℕ) → Option (List ℕ) → Type 0
+ShowsRun = ShowsTrace IsRunTrace

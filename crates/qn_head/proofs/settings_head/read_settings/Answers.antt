@@ -1,5 +1,5 @@
 use Rattle.std.proofs.lemmas.Result.{err_from_is_err_and}
-use Rattle.qn_head.proofs.SettingsSteps.{gives_good, gives_settings, refuses_settings}
+use Rattle.qn_head.proofs.SettingsSteps.{gives_good, gives_settings, never_a_read, refuses_settings}
 use Rattle.qn_head.proofs.settings_head.read_settings.Goals as goal
 
 pub returns-in_err-settings-clause-fault : goal.returns-in_err-settings-clause-fault
@@ -7,6 +7,11 @@ returns-in_err-settings-clause-fault g c =
     let exit = err_from_is_err_and c.from_residual-in_err-settings.result c.from_residual-in_err-settings.ensures.1 in
     rw (exit.1, exit.2)
     (refuses_settings c.in_ok-text.text.whole c.in_ok-text.text.lines c.whole.result.now c.whole.ensures c.in_ok-text.ensures.text c.in_err-settings.field-0.0 c.in_err-settings.ensures.answer)
+
+pub returns-in_err-settings-clause-cause : goal.returns-in_err-settings-clause-cause
+returns-in_err-settings-clause-cause g c =
+    let exit = err_from_is_err_and c.from_residual-in_err-settings.result c.from_residual-in_err-settings.ensures.1 in
+    rw (exit.1, exit.2) (λ is. absurd (never_a_read c.in_err-settings.field-0.0 is))
 
 pub returns-clause-settings : goal.returns-clause-settings
 returns-clause-settings g c =

@@ -40,3 +40,7 @@ pub returns-in-Failed-clause-fault : goal.returns-in-Failed-clause-fault
 returns-in-Failed-clause-fault g c =
     reading_fails c.bytes.text c.bytes.invariant.reads c.in-Failed.ensures.gives
     (c.in-Failed.ensures.drained, risen_within _ _ _ _ c.bytes.invariant.never_falls (omega (arith, c.in-Failed.ensures.never_falls)) (omega arith) c.in-Failed.ensures.cause)
+
+pub returns-in-Failed-clause-cause : goal.returns-in-Failed-clause-cause
+returns-in-Failed-clause-cause g c is =
+    risen_within _ _ _ _ c.bytes.invariant.never_falls (omega (arith, c.in-Failed.ensures.never_falls)) (omega arith) c.in-Failed.ensures.cause

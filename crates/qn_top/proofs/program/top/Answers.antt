@@ -23,6 +23,7 @@ returns-in-None g c =
       env_fault = end.causes.env_fault;
       never_fall = (end.causes.never_fall.source, end.causes.never_fall.sink, end.causes.never_fall.env);
       one_holder = λ other. absurd cc;
+      triple_one_holder = λ other. absurd cc;
       soak_one_holder = λ seed events other. absurd cc;
     }
 
@@ -42,6 +43,7 @@ returns-in-Some-Count g c =
       env_fault = end.causes.env_fault;
       never_fall = (end.causes.never_fall.source, end.causes.never_fall.sink, end.causes.never_fall.env);
       one_holder = λ other. absurd cc;
+      triple_one_holder = λ other. absurd cc;
       soak_one_holder = λ seed events other. absurd cc;
     }
 
@@ -61,6 +63,7 @@ returns-in-Some-Replay g c =
       env_fault = end.causes.env_fault;
       never_fall = (end.causes.never_fall.source, end.causes.never_fall.sink, end.causes.never_fall.env);
       one_holder = λ own. c.run_replay.ensures.one_holder;
+      triple_one_holder = λ other. absurd cc;
       soak_one_holder = λ seed events other. absurd cc;
     }
 
@@ -80,6 +83,7 @@ returns-in-Some-Status g c =
       env_fault = end.causes.env_fault;
       never_fall = (end.causes.never_fall.source, end.causes.never_fall.sink, end.causes.never_fall.env);
       one_holder = λ other. absurd cc;
+      triple_one_holder = λ other. absurd cc;
       soak_one_holder = λ seed events other. absurd cc;
     }
 
@@ -99,6 +103,7 @@ returns-in-Some-Soak g c =
       env_fault = end.causes.env_fault;
       never_fall = (end.causes.never_fall.source, end.causes.never_fall.sink, end.causes.never_fall.env);
       one_holder = λ other. absurd cc;
+      triple_one_holder = λ other. absurd cc;
       soak_one_holder = soak_holds _ _ _ _ _ is c.code-in-Some-Soak.ensures c.run_soak.ensures.one_holder;
     }
 
@@ -118,6 +123,7 @@ returns-in-Some-Help g c =
       env_fault = end.causes.env_fault;
       never_fall = (end.causes.never_fall.source, end.causes.never_fall.sink, end.causes.never_fall.env);
       one_holder = λ other. absurd cc;
+      triple_one_holder = λ other. absurd cc;
       soak_one_holder = λ seed events other. absurd cc;
     }
 
@@ -137,6 +143,7 @@ returns-in-Some-Create g c =
       env_fault = end.causes.env_fault;
       never_fall = (end.causes.never_fall.source, end.causes.never_fall.sink, end.causes.never_fall.env);
       one_holder = λ other. absurd cc;
+      triple_one_holder = λ other. absurd cc;
       soak_one_holder = λ seed events other. absurd cc;
     }
 
@@ -156,6 +163,7 @@ returns-in-Some-Dump g c =
       env_fault = end.causes.env_fault;
       never_fall = (end.causes.never_fall.source, end.causes.never_fall.sink, end.causes.never_fall.env);
       one_holder = λ other. absurd cc;
+      triple_one_holder = λ other. absurd cc;
       soak_one_holder = λ seed events other. absurd cc;
     }
 
@@ -175,6 +183,7 @@ returns-in-Some-List g c =
       env_fault = end.causes.env_fault;
       never_fall = (end.causes.never_fall.source, end.causes.never_fall.sink, end.causes.never_fall.env);
       one_holder = λ other. absurd cc;
+      triple_one_holder = λ other. absurd cc;
       soak_one_holder = λ seed events other. absurd cc;
     }
 
@@ -194,6 +203,7 @@ returns-in-Some-Message g c =
       env_fault = end.causes.env_fault;
       never_fall = (end.causes.never_fall.source, end.causes.never_fall.sink, end.causes.never_fall.env);
       one_holder = λ other. absurd cc;
+      triple_one_holder = λ other. absurd cc;
       soak_one_holder = λ seed events other. absurd cc;
     }
 
@@ -213,6 +223,7 @@ returns-in-Some-Migrate g c =
       env_fault = end.causes.env_fault;
       never_fall = (end.causes.never_fall.source, end.causes.never_fall.sink, end.causes.never_fall.env);
       one_holder = λ other. absurd cc;
+      triple_one_holder = λ other. absurd cc;
       soak_one_holder = λ seed events other. absurd cc;
     }
 
@@ -232,6 +243,27 @@ returns-in-Some-Node g c =
       env_fault = end.causes.env_fault;
       never_fall = (end.causes.never_fall.source, end.causes.never_fall.sink, end.causes.never_fall.env);
       one_holder = λ other. absurd cc;
+      triple_one_holder = λ other. absurd cc;
+      soak_one_holder = λ seed events other. absurd cc;
+    }
+
+pub returns-in-Some-Node3 : goal.returns-in-Some-Node3
+returns-in-Some-Node3 g c =
+    let is : Some (command.Node3 c.in-Some-Node3.words) ≡ command_of (map string_bytes c.args.words.now) = cc c.in-Some-Node3.ensures.command in
+    let end = ends _ (Some (command.Node3 c.in-Some-Node3.words)) _ _ _ _ is c.code-in-Some-Node3.ensures c.node-in-Some-Node3.ensures in
+    record {
+      does = end.does;
+      usage = end.usage;
+      usage_only = end.usage_only;
+      unread = λ no. tested reads_input _ (Some (command.Node3 c.in-Some-Node3.words)) is refl no;
+      uncalled = λ no. tested calls_outside _ (Some (command.Node3 c.in-Some-Node3.words)) is refl no;
+      memory = end.memory;
+      read_fault = end.causes.read_fault;
+      write_fault = end.causes.write_fault;
+      env_fault = end.causes.env_fault;
+      never_fall = (end.causes.never_fall.source, end.causes.never_fall.sink, end.causes.never_fall.env);
+      one_holder = λ other. absurd cc;
+      triple_one_holder = λ other. absurd cc;
       soak_one_holder = λ seed events other. absurd cc;
     }
 
@@ -251,6 +283,7 @@ returns-in-Some-NodeLogged g c =
       env_fault = end.causes.env_fault;
       never_fall = (end.causes.never_fall.source, end.causes.never_fall.sink, end.causes.never_fall.env);
       one_holder = λ other. absurd cc;
+      triple_one_holder = λ other. absurd cc;
       soak_one_holder = λ seed events other. absurd cc;
     }
 
@@ -270,5 +303,26 @@ returns-in-Some-Audit g c =
       env_fault = end.causes.env_fault;
       never_fall = (end.causes.never_fall.source, end.causes.never_fall.sink, end.causes.never_fall.env);
       one_holder = λ other. absurd cc;
+      triple_one_holder = λ other. absurd cc;
+      soak_one_holder = λ seed events other. absurd cc;
+    }
+
+pub returns-in-Some-Replay3 : goal.returns-in-Some-Replay3
+returns-in-Some-Replay3 g c =
+    let is : Some command.Replay3 ≡ command_of (map string_bytes c.args.words.now) = cc c.in-Some-Replay3.ensures.command in
+    let end = ends _ (Some command.Replay3) _ _ _ _ is c.code-in-Some-Replay3.ensures (c.run_replay3.ensures.replays (outside g.E.Env.calls g.E.Env.faults c.args.env.now)) in
+    record {
+      does = end.does;
+      usage = end.usage;
+      usage_only = end.usage_only;
+      unread = λ no. tested reads_input _ (Some command.Replay3) is refl no;
+      uncalled = λ no. refl;
+      memory = end.memory;
+      read_fault = end.causes.read_fault;
+      write_fault = end.causes.write_fault;
+      env_fault = end.causes.env_fault;
+      never_fall = (end.causes.never_fall.source, end.causes.never_fall.sink, end.causes.never_fall.env);
+      one_holder = λ other. absurd cc;
+      triple_one_holder = λ own. c.run_replay3.ensures.one_holder;
       soak_one_holder = λ seed events other. absurd cc;
     }

@@ -1,10 +1,13 @@
 use Rattle.std.proofs.Common.{None, arith}
 use Rattle.qn_commands.specs.Seen.{Outside, seen, sink, source}
 use Rattle.qn_commands.specs.Statuses.{code_of}
-use Rattle.qn_top.specs.Commands.Replay.{RunsReplay}
-use Rattle.qn_top.proofs.PlayedEnds.{replays}
-use Rattle.qn_top.proofs.Replayed.{replay_finished, replay_unwritten}
-use Rattle.qn_top.proofs.Shown.{shows_run}
+use Rattle.qn_replay.specs.Replay.{replay_of}
+use Rattle.qn_replay.specs.RunTrace.{IsRunTrace}
+use Rattle.qn_replay.specs.Runs.{WantsMemory}
+use Rattle.qn_top.specs.Traces.{RunsTrace}
+use Rattle.qn_top.proofs.PlayedEnds.{writes_trace}
+use Rattle.qn_top.proofs.Replayed.{trace_finished, trace_unwritten}
+use Rattle.qn_top.proofs.Shown.{shows_trace}
 use Rattle.qn_top.proofs.commands.replay.run_replay.Given.{Over}
 use Rattle.qn_top.proofs.commands.replay.run_replay.Goals as goal
 
@@ -13,28 +16,28 @@ abbrev none : Outside
 none = record { calls = None; faults = 0 }
 
 unwritten : (g : Over) (c : goal.In-WriteFault g) (env : Outside)
-    → RunsReplay (seen (source g.I.Source.left g.I.Source.faults c.args.input.now) (sink g.O.Sink.written g.O.Sink.faults c.args.out.now) env)
+    → RunsTrace replay_of WantsMemory (seen (source g.I.Source.left g.I.Source.faults c.args.input.now) (sink g.O.Sink.written g.O.Sink.faults c.args.out.now) env)
     (seen (source g.I.Source.left g.I.Source.faults c.replay.new.input) (sink g.O.Sink.written g.O.Sink.faults c.replay.new.out) env) 7
 unwritten g c env =
-    replay_unwritten (source g.I.Source.left g.I.Source.faults c.args.input.now) (source g.I.Source.left g.I.Source.faults c.replay.new.input)
+    trace_unwritten replay_of (source g.I.Source.left g.I.Source.faults c.args.input.now) (source g.I.Source.left g.I.Source.faults c.replay.new.input)
     (sink g.O.Sink.written g.O.Sink.faults c.args.out.now) (sink g.O.Sink.written g.O.Sink.faults c.replay.new.out) env
     c.in-WriteFault.ensures.sink_faults c.in-WriteFault.ensures.replays
 
 pub returns-in-WriteFault : goal.returns-in-WriteFault
 returns-in-WriteFault g c = record {
   replays = λ env.
-      replays c.law_ending.ensures
+      writes_trace replay_of c.law_ending.ensures
       (record { source = c.in-WriteFault.ensures.source_faults; sink = c.in-WriteFault.ensures.sink_faults; env = omega arith })
       (unwritten g c env);
-  one_holder = shows_run c.law_one_holder.ensures (unwritten g c none);
+  one_holder = shows_trace replay_of IsRunTrace c.law_one_holder.ensures (unwritten g c none);
 }
 
 finished : (g : Over) (c : goal.After-finish_replay g) (env : Outside)
-    → RunsReplay (seen (source g.I.Source.left g.I.Source.faults c.args.input.now) (sink g.O.Sink.written g.O.Sink.faults c.args.out.now) env)
+    → RunsTrace replay_of WantsMemory (seen (source g.I.Source.left g.I.Source.faults c.args.input.now) (sink g.O.Sink.written g.O.Sink.faults c.args.out.now) env)
     (seen (source g.I.Source.left g.I.Source.faults c.replay.new.input) (sink g.O.Sink.written g.O.Sink.faults c.finish_replay.new.out) env)
     (code_of c.finish_replay.result)
 finished g c env =
-    replay_finished (source g.I.Source.left g.I.Source.faults c.args.input.now) (source g.I.Source.left g.I.Source.faults c.replay.new.input)
+    trace_finished replay_of (source g.I.Source.left g.I.Source.faults c.args.input.now) (source g.I.Source.left g.I.Source.faults c.replay.new.input)
     (sink g.O.Sink.written g.O.Sink.faults c.args.out.now) (sink g.O.Sink.written g.O.Sink.faults c.finish_replay.new.out) env
     (sink g.O.Sink.written g.O.Sink.faults c.replay.new.out) _ c.replay.result c.in_default.not-WriteFault c.replay.ensures.sink_faults
     c.finish_replay.ensures.sink_faults c.replay.ensures.replays c.finish_replay.ensures.says
@@ -42,8 +45,8 @@ finished g c env =
 pub returns-in_default : goal.returns-in_default
 returns-in_default g c = record {
   replays = λ env.
-      replays c.law_ending.ensures
+      writes_trace replay_of c.law_ending.ensures
       (record { source = c.replay.ensures.source_faults; sink = omega arith; env = omega arith })
       (finished g c env);
-  one_holder = shows_run c.law_one_holder.ensures (finished g c none);
+  one_holder = shows_trace replay_of IsRunTrace c.law_one_holder.ensures (finished g c none);
 }

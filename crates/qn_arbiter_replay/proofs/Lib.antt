@@ -1,0 +1,7 @@
+mod AfterHead
+mod ArbiterTimes
+mod HeadSteps
+mod Playbacks
+mod RunTraces
+mod Standings
+mod Whole

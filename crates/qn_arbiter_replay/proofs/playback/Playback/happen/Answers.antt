@@ -1,0 +1,57 @@
+use Rattle.std.proofs.Common.{◌≡◌, ◌∙◌, ◌+◌, None, Ok, Err, Result, true, refl, sym, ap, subst}
+use Rattle.qn_arbiter_sched.specs.TraceLines.{arbiter_trace_line}
+use Rattle.qn_lease.specs.ArbiterRules.{is_well_formed_beside}
+use Rattle.qn_model.specs.declared.configuration.Settings.{Settings}
+use Rattle.qn_model.specs.declared.reports.Refused.{Refused}
+use Rattle.qn_model.specs.Settings.{ids}
+use Rattle.qn_play.specs.WorldLaws.{allowed_in-is, moved_to, refuses_event, refuses_fault, said_as}
+use Rattle.qn_play.specs.Worlds.{progress_at}
+use Rattle.qn_arbiter_replay.specs.declared.playback.Playback.{Playback}
+use Rattle.qn_arbiter_replay.specs.Playing.{place_at}
+use Rattle.qn_arbiter_replay.specs.Replay.{beside_rules}
+use Rattle.qn_arbiter_replay.proofs.Playbacks.{going_on, refused_as}
+use Rattle.qn_arbiter_replay.proofs.playback.Playback.happen.Goals as goal
+
+abbrev refused_by : Refused → Result (Unit {0}) Refused
+refused_by why = Err why
+
+pub apply_into-requires-clause-formed : goal.apply_into-requires-clause-formed
+apply_into-requires-clause-formed c =
+    subst (λ (s : Settings). is_well_formed_beside s c.in-Ok.event ≡ true) c.settings.ensures.same ((c.in-Ok.ensures.spelled c.in-Ok.event).0 refl).0
+
+pub returns-in-Err-clause-end : goal.returns-in-Err-clause-end
+returns-in-Err-clause-end c = λ world stands.
+    let old = c.args.self.now in
+    refuses_fault (beside_rules old.world.lease) (place_at old) world c.args.line.now c.in-Err.fault c.bad_line.result c.settings.ensures.same
+    (sym c.in-Err.ensures.first_fault) c.bad_line.ensures
+
+pub returns-in-Err-apply_into-clause-end : goal.returns-in-Err-apply_into-clause-end
+returns-in-Err-apply_into-clause-end c = λ world stands.
+    let old = c.args.self.now in
+    let event = c.in-Ok.event in
+    refuses_event (beside_rules old.world.lease) (place_at old) c.args.line.now event world c.in-Err-apply_into.refused c.refusal.result
+    (said_as (beside_rules old.world.lease) (place_at old) world c.args.line.now (Ok event) c.settings.ensures.same (sym c.in-Ok.ensures.first_fault))
+    (refused_as _ c.in-Err-apply_into.refused (c.in-Err-apply_into.ensures.refused world stands))
+    (λ none. c.apply_into.ensures.memory (c.in-Err-apply_into.is ∙ ap refused_by none) world stands) c.refusal.ensures
+
+pub returns-clause-event : goal.returns-clause-event
+returns-clause-event c = λ world stands.
+    let old = c.args.self.now in
+    let event = c.in-Ok.event in
+    let rules = beside_rules old.world.lease in
+    let stood = c.in_default.ensures.stands world stands in
+    let formed : is_well_formed_beside old.world.settings event ≡ true =
+    subst (λ (s : Settings). is_well_formed_beside s event ≡ true) c.settings.ensures.same ((c.in-Ok.ensures.spelled event).0 refl).0 in
+    let new : Playback = record { world = c.apply_into.new.self; event = event; report = c.apply_into.new.into; head = old.head; events = old.events + 1 } in
+    record {
+      event = event;
+      said = said_as rules (place_at old) world c.args.line.now (Ok event) c.settings.ensures.same (sym c.in-Ok.ensures.first_fault);
+      allowed = allowed_in-is rules (progress_at (place_at old) world) event None (c.in_default.ensures.allowed world stands);
+      stands = stood;
+      going = going_on old new event world c.requires.going c.requires.few formed stands stood c.in_default.ensures.steps refl refl;
+      counted = refl;
+      moved = moved_to rules (place_at old) (place_at new) event world c.apply_into.ensures.settings c.apply_into.ensures.timing refl refl;
+      says =
+          ap (λ (s : Settings). arbiter_trace_line (ids s.nodes) (old.events + 1) event c.apply_into.new.into) c.apply_into.ensures.settings
+          ∙ ap (arbiter_trace_line (ids old.world.settings.nodes) (old.events + 1) event) (c.in_default.ensures.report world stands);
+    }

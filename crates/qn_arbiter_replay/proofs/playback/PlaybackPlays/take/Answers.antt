@@ -1,0 +1,23 @@
+use Rattle.std.proofs.lemmas.Result.{err_from_is_err_and}
+use Rattle.qn_arbiter_replay.proofs.Playbacks.{plays_line, refuses_line, stands_line, stays}
+use Rattle.qn_arbiter_replay.proofs.playback.PlaybackPlays.take.Goals as goal
+
+pub returns-in_err-happen-clause-end : goal.returns-in_err-happen-clause-end
+returns-in_err-happen-clause-end c =
+    let exit = err_from_is_err_and c.from_residual.result c.from_residual.ensures.1 in
+    rw (exit.1, exit.2) (λ start earlier played. refuses_line start c.args.self.now c.args.line.now earlier played _ c.in_err-happen.ensures.end)
+
+pub returns-clause-text : goal.returns-clause-text
+returns-clause-text c = λ start earlier played.
+    plays_line start c.args.self.now c.args.line.now earlier played c.happen.new.self _ c.in_ok-happen.ensures.event c.write.ensures
+
+pub returns-clause-stands : goal.returns-clause-stands
+returns-clause-stands c = λ start earlier played.
+    stands_line start c.args.self.now c.args.line.now earlier played c.happen.new.self c.in_ok-happen.ensures.event c.in_ok-happen.ensures.lease
+
+pub returns-in_err-happen-clause-kept : goal.returns-in_err-happen-clause-kept
+returns-in_err-happen-clause-kept c =
+    let exit = err_from_is_err_and c.from_residual.result c.from_residual.ensures.1 in
+    rw (exit.1)
+    (λ start earlier played. stays start c.args.self.now c.happen.new.self earlier c.in_err-happen.ensures.kept c.happen.ensures.head
+    c.in_err-happen.ensures.kept_events played)

@@ -1,0 +1,85 @@
+//! The public call of a replay beside an arbiter: the head, the lease, the events and the end.
+ghost use Rattle.std.specs.Prelude.{◌≡◌, ◌≢◌, ◌≤◌, IfSome};
+ghost use Rattle.qn_io.specs.Outside.{HasRisen};
+ghost use Rattle.qn_model.specs.Lines.{Ended};
+ghost use Rattle.qn_arbiter_replay.specs.Replay.{replay_arbiter_of, unsafe_end};
+ghost use Rattle.qn_arbiter_replay.specs.Runs.{AnswersWhole, Completes, IfDone, Replays, Wants};
+
+use crate::arbiter_end::ArbiterEnd;
+use crate::head::read_arbiter_head;
+use crate::playback::Playback;
+use qn_io::{Pieces, Sink, Source};
+use qn_lease::{Lease, lease_safe};
+use qn_model::Settings;
+use qn_play::{Output, play};
+use qn_sched::ReplayEnd;
+use std::alloc::Global;
+
+/// Replays a schedule beside an arbiter: reads its input in pieces of at most 4096 bytes, up to the byte that decides
+/// the end, and keeps no more of it than the settings text, one line, one piece and the world. It writes the trace
+/// alone, and nothing of the end. The trace lines of one piece are written together, always before more of the
+/// input is read and before the replay ends. `UnsafeLease` comes where the lease line is good and its times are not
+/// safe. After the first trace line, `NoMemory` comes only where the world wants memory for the next event.
+pub fn replay_arbiter<I: Source, O: Sink>(alloc: Global, input: &mut I, out: &mut O) -> ArbiterEnd
+    // The end is the defined one of the bytes that were taken, and what was written is their trace, or a prefix
+    // of it at WriteFault and NoMemory.
+    ensures replays { Replays (I.left input.old) (I.left input.new) (HasRisen (I.faults input.old) (I.faults input.new))
+        (O.written out.old) (O.written out.new) (HasRisen (O.faults out.old) (O.faults out.new)) result }
+
+    ensures complete { ¬ HasRisen (I.faults input.old) (I.faults input.new) → ¬ HasRisen (O.faults out.old) (O.faults out.new)
+        → result ≢ ArbiterEnd.Replay ReplayEnd.NoMemory
+        → IfSome (I.left input.old) (λ bytes. AnswersWhole (replay_arbiter_of Ended bytes) (O.written out.old) (O.written out.new) result) }
+    ensures done { IfDone result (Completes (I.left input.old) (I.left input.new) (O.written out.old) (O.written out.new) result) }
+
+    // Out of memory.
+    ensures memory { result ≡ ArbiterEnd.Replay ReplayEnd.NoMemory
+        → Wants (I.left input.old) (I.left input.new) (O.written out.old) (O.written out.new) }
+
+    // The faults of the outside.
+    ensures read_fault { result ≡ ArbiterEnd.Replay ReplayEnd.ReadFault → HasRisen (I.faults input.old) (I.faults input.new) }
+    ensures write_fault { result ≡ ArbiterEnd.Replay ReplayEnd.WriteFault → HasRisen (O.faults out.old) (O.faults out.new) }
+    ensures source_faults { I.faults input.old ≤ I.faults input.new }
+    ensures sink_faults { O.faults out.old ≤ O.faults out.new }
+{
+    run(alloc, input, out)
+}
+
+/// A replay up to its end.
+fn run<I: Source, O: Sink>(alloc: Global, input: &mut I, out: &mut O) -> ArbiterEnd
+    ensures replays { Replays (I.left input.old) (I.left input.new) (HasRisen (I.faults input.old) (I.faults input.new))
+        (O.written out.old) (O.written out.new) (HasRisen (O.faults out.old) (O.faults out.new)) result }
+    ensures source_faults { I.faults input.old ≤ I.faults input.new }
+    ensures sink_faults { O.faults out.old ≤ O.faults out.new }
+{
+    let Ok(output) = Output::new(alloc) else {
+        return ArbiterEnd::Replay(ReplayEnd::NoMemory);
+    };
+    let mut pieces = Pieces::new();
+    let head = match read_arbiter_head(alloc, &mut pieces, input) {
+        Ok(head) => head,
+        Err(end) => return ArbiterEnd::Replay(end),
+    };
+    if !lease_safe(&head.settings, &head.lease) {
+        return unsafe_lease(&head.settings, head.lease);
+    }
+    let lines = head.lines;
+    let Ok(mut playback) = Playback::new(alloc, head) else {
+        return ArbiterEnd::Replay(ReplayEnd::NoMemory);
+    };
+    ArbiterEnd::Replay(play(&mut playback, lines, pieces, output, input, out))
+}
+
+/// The end at a lease that is not safe.
+fn unsafe_lease(settings: &Settings, lease: Lease) -> ArbiterEnd
+    ensures { result ≡ unsafe_end settings.now lease }
+{
+    let timeout = match settings.device {
+        Some(device) => device.timeout,
+        None => 0,
+    };
+    ArbiterEnd::UnsafeLease {
+        timeout,
+        limit: lease.limit,
+        lease: lease.lease,
+    }
+}

@@ -1,0 +1,5 @@
+pub mod Memory
+pub mod OwnRules
+pub mod Standing
+pub mod Stepping
+pub mod Whole

@@ -1,0 +1,4 @@
+mod AfterHead
+mod Playbacks
+mod RunTraces
+mod TripleTimes

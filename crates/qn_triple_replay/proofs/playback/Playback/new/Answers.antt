@@ -1,0 +1,23 @@
+use Rattle.std.proofs.Common.{arith, refl}
+use Rattle.qn_play.specs.WorldLaws.{begins_after}
+use Rattle.qn_triple.specs.Standing.{TripleFor}
+use Rattle.qn_triple_replay.specs.Replay.{triple_rules}
+use Rattle.qn_triple_replay.proofs.Playbacks.{start_is, starts_early}
+use Rattle.qn_triple_replay.proofs.playback.Playback.new.Goals as goal
+
+pub returns-clause-begins : goal.returns-clause-begins
+returns-clause-begins c =
+    let world = c.in_ok-world.world in
+    let stands = c.in_ok-world.ensures.first in
+    let early = starts_early world stands in
+    let few = c.requires.few_lines in
+    let steps = c.in_ok-world.ensures.steps in
+    begins_after triple_rules
+    (record { settings = world.settings; timing = world.timing; head = c.args.head.lines; events = 0; steps = world.steps; time = world.time })
+    (TripleFor world) stands refl
+    (record { few = omega arith; numbered = omega (arith, few); steps = omega (arith, steps); early = omega (arith, early) })
+
+pub returns-clause-start : goal.returns-clause-start
+returns-clause-start c =
+    start_is (record { world = c.in_ok-world.world; report = c.blank_report.result; head = c.args.head.lines; events = 0 }) c.args.head
+    c.in_ok-world.ensures.settings c.in_ok-world.ensures.timing refl

@@ -1,0 +1,5 @@
+pub mod Endings
+pub mod Playing
+pub mod Replay
+pub mod RunTrace
+pub mod Runs

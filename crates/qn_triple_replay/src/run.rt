@@ -1,0 +1,63 @@
+//! The public call of a replay of three images: the head, the events and the end.
+ghost use Rattle.std.specs.Prelude.{◌≡◌, ◌≢◌, ◌≤◌, IfSome};
+ghost use Rattle.qn_io.specs.Outside.{HasRisen};
+ghost use Rattle.qn_model.specs.Lines.{Ended};
+ghost use Rattle.qn_triple_replay.specs.Replay.{replay3_of};
+ghost use Rattle.qn_triple_replay.specs.Runs.{AnswersWhole, Completes, IfDone, Replays, Wants};
+
+use crate::playback::Playback;
+use qn_head::read_head;
+use qn_io::{Pieces, Sink, Source};
+use qn_play::{Output, play};
+use qn_sched::ReplayEnd;
+use std::alloc::Global;
+
+/// Replays a schedule of three images: reads its input in pieces of at most 4096 bytes, up to the byte that decides
+/// the end, and keeps no more of it than the settings text, one line, one piece and the world. It writes the trace
+/// alone, and nothing of the end. The trace lines of one piece are written together, always before more of the
+/// input is read and before the replay ends. After the first trace line, `NoMemory` comes only where the next
+/// event adds a packet or a leftover to the world.
+pub fn replay3<I: Source, O: Sink>(alloc: Global, input: &mut I, out: &mut O) -> ReplayEnd
+    // The end is the defined one of the bytes that were taken, and what was written is their trace, or a prefix
+    // of it at WriteFault and NoMemory.
+    ensures replays { Replays (I.left input.old) (I.left input.new) (HasRisen (I.faults input.old) (I.faults input.new))
+        (O.written out.old) (O.written out.new) (HasRisen (O.faults out.old) (O.faults out.new)) result }
+
+    ensures complete { ¬ HasRisen (I.faults input.old) (I.faults input.new) → ¬ HasRisen (O.faults out.old) (O.faults out.new)
+        → result ≢ ReplayEnd.NoMemory
+        → IfSome (I.left input.old) (λ bytes. AnswersWhole (replay3_of Ended bytes) (O.written out.old) (O.written out.new) result) }
+    ensures done { IfDone result (Completes (I.left input.old) (I.left input.new) (O.written out.old) (O.written out.new) result) }
+
+    // Out of memory.
+    ensures memory { result ≡ ReplayEnd.NoMemory → Wants (I.left input.old) (I.left input.new) (O.written out.old) (O.written out.new) }
+
+    // The faults of the outside.
+    ensures read_fault { result ≡ ReplayEnd.ReadFault → HasRisen (I.faults input.old) (I.faults input.new) }
+    ensures write_fault { result ≡ ReplayEnd.WriteFault → HasRisen (O.faults out.old) (O.faults out.new) }
+    ensures source_faults { I.faults input.old ≤ I.faults input.new }
+    ensures sink_faults { O.faults out.old ≤ O.faults out.new }
+{
+    run(alloc, input, out)
+}
+
+/// A replay up to its end.
+fn run<I: Source, O: Sink>(alloc: Global, input: &mut I, out: &mut O) -> ReplayEnd
+    ensures replays { Replays (I.left input.old) (I.left input.new) (HasRisen (I.faults input.old) (I.faults input.new))
+        (O.written out.old) (O.written out.new) (HasRisen (O.faults out.old) (O.faults out.new)) result }
+    ensures source_faults { I.faults input.old ≤ I.faults input.new }
+    ensures sink_faults { O.faults out.old ≤ O.faults out.new }
+{
+    let Ok(output) = Output::new(alloc) else {
+        return ReplayEnd::NoMemory;
+    };
+    let mut pieces = Pieces::new();
+    let head = match read_head(alloc, &mut pieces, input) {
+        Ok(head) => head,
+        Err(end) => return end,
+    };
+    let lines = head.lines;
+    let Ok(mut playback) = Playback::new(alloc, head) else {
+        return ReplayEnd::NoMemory;
+    };
+    play(&mut playback, lines, pieces, output, input, out)
+}
