@@ -17,8 +17,8 @@ use Rattle.qn_node.specs.Node.{present}
 use Rattle.qn_model.specs.Rules.{is_well_formed}
 use Rattle.qn_model.specs.Steps.{holders, outs_after, report, touched}
 use Rattle.qn_model.specs.World.{World}
+use Rattle.qn_cluster.specs.EventRanks.{rank_configured}
 use Rattle.qn_cluster.specs.Seen.{IsConfigured, answer_shown, polling, polls_now, report_at, why_shown}
-use Rattle.qn_cluster.proofs.RuleSteps.{rank_configured}
 
 -- the node of a well formed event is configured
 pub touched_configured : (s : Settings) (event : Event) (node : Option Rank) → is_well_formed s event ≡ true → node ≡ touched event → IsConfigured s node

@@ -5,6 +5,7 @@ use Rattle.std.specs.Option.{option_map_or, option_or}
 use Rattle.std.proofs.lemmas.List.Elements.{All-nil}
 use Rattle.qn_base.specs.declared.ids.Rank.{Rank}
 use Rattle.qn_base.specs.declared.ids.View.{View}
+use Rattle.qn_cluster.specs.EventRanks.{rank_configured}
 use Rattle.qn_cluster.specs.Events.{CanStep, KeepsOut, Starved, Stepped}
 use Rattle.qn_cluster.specs.Nodes.{Nodes}
 use Rattle.qn_cluster.specs.Seats.{IsDue}
@@ -12,7 +13,6 @@ use Rattle.qn_cluster.specs.Standing.{ClusterFor, IsStanding}
 use Rattle.qn_cluster.specs.Stepping.{Fed, Handed, IsPassable, Passed, Unhanded, grows}
 use Rattle.qn_cluster.proofs.HandSteps.{one_adds}
 use Rattle.qn_cluster.proofs.Lists.{rank_cases}
-use Rattle.qn_cluster.proofs.RuleSteps.{rank_configured}
 use Rattle.qn_model.specs.declared.configuration.Settings.{Settings}
 use Rattle.qn_model.specs.declared.entries.What.{What}
 use Rattle.qn_model.specs.declared.entries.What.TheVariants as what

@@ -8,13 +8,11 @@ use Rattle.qn_base.specs.declared.ids.Rank.{Rank}
 use Rattle.qn_base.specs.declared.limits.TheConstants.{LONGEST_PERIOD}
 use Rattle.qn_model.specs.declared.configuration.Settings.{Settings}
 use Rattle.qn_model.specs.declared.times.Timing.{Timing}
-use Rattle.qn_model.specs.declared.events.Event.{Event}
 use Rattle.qn_model.specs.declared.events.Event.TheVariants as event
 use Rattle.qn_model.specs.Timing.{is_safe}
 use Rattle.qn_model.specs.Moments.{advance_of, time}
 use Rattle.qn_model.specs.World.{World, node_at}
 use Rattle.qn_model.specs.Rules.{is_between, is_clock, is_configured, is_on, is_well_formed, is_within_bounds, may_be_stopped, may_feed, may_pass, outlives, passes, unless, unless_running}
-use Rattle.qn_model.specs.Steps.{touched}
 use Rattle.qn_cluster.specs.declared.seat.Seat.{Seat}
 use Rattle.qn_cluster.specs.Standing.{ClusterFor, IsStanding}
 use Rattle.qn_cluster.specs.Tests.{decided_lately, lives_through, on_at, passes_at}
@@ -85,30 +83,6 @@ second_true false b e = absurd (cc)
 pub first_true : (a b : Bool) → (a && b) ≡ true → a ≡ true
 first_true true b e = refl
 first_true false b e = absurd (cc)
-
--- the rank of a well formed event has a seat
-configured : (s : Settings) (event : Event) (rank : Rank) → is_well_formed s event ≡ true → touched event ≡ Some rank → is_configured s rank.0 ≡ true
-unfolding is_well_formed
-configured s (event.Pass dt clocks) rank formed e = absurd (cc)
-configured s (event.Boot own base) rank formed e = let z : own ≡ rank = cc in subst (λ r. is_configured s r.0 ≡ true) z (first_true _ _ formed)
-configured s (event.BootClean own base) rank formed e = let z : own ≡ rank = cc in subst (λ r. is_configured s r.0 ≡ true) z (first_true _ _ formed)
-configured s (event.Crash own) rank formed e = let z : own ≡ rank = cc in subst (λ r. is_configured s r.0 ≡ true) z formed
-configured s (event.Land own) rank formed e = let z : own ≡ rank = cc in subst (λ r. is_configured s r.0 ≡ true) z formed
-configured s (event.Done own) rank formed e = let z : own ≡ rank = cc in subst (λ r. is_configured s r.0 ≡ true) z formed
-configured s (event.Fail own) rank formed e = let z : own ≡ rank = cc in subst (λ r. is_configured s r.0 ≡ true) z formed
-configured s (event.Late own number) rank formed e = let z : own ≡ rank = cc in subst (λ r. is_configured s r.0 ≡ true) z (first_true _ _ formed)
-configured s (event.View own view) rank formed e = let z : own ≡ rank = cc in subst (λ r. is_configured s r.0 ≡ true) z (first_true _ _ (first_true _ _ formed))
-configured s (event.Deliver own number) rank formed e = let z : own ≡ rank = cc in subst (λ r. is_configured s r.0 ≡ true) z (first_true _ _ formed)
-configured s (event.Device own agrees) rank formed e = let z : own ≡ rank = cc in subst (λ r. is_configured s r.0 ≡ true) z formed
-configured s (event.Tick own) rank formed e = let z : own ≡ rank = cc in subst (λ r. is_configured s r.0 ≡ true) z formed
-configured s (event.Stopped own) rank formed e = let z : own ≡ rank = cc in subst (λ r. is_configured s r.0 ≡ true) z formed
-configured s (event.Unstopped own) rank formed e = let z : own ≡ rank = cc in subst (λ r. is_configured s r.0 ≡ true) z formed
-configured s (event.Leave own) rank formed e = let z : own ≡ rank = cc in subst (λ r. is_configured s r.0 ≡ true) z formed
-configured s (event.Feed own) rank formed e = let z : own ≡ rank = cc in subst (λ r. is_configured s r.0 ≡ true) z formed
-configured s (event.Operator own message) rank formed e = let z : own ≡ rank = cc in subst (λ r. is_configured s r.0 ≡ true) z formed
-
-pub rank_configured : (s : Settings) (event : Event) (rank : Rank) → is_well_formed s event ≡ true → touched event ≡ Some rank → rank.0 < length s.nodes
-rank_configured s event rank formed e = lt-true rank.0 (length s.nodes) (configured s event rank formed e)
 
 -- ---- tests of all ranks
 

@@ -1,3 +1,4 @@
+pub mod EventRanks
 pub mod Events
 pub mod Nodes
 pub mod Outputs

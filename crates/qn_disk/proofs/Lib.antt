@@ -1,5 +1,4 @@
 pub mod Counts
 pub mod LeftoverSteps
-pub mod Lists
 pub mod Marks
 pub mod SectorSteps

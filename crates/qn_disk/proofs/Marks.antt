@@ -11,7 +11,7 @@ use Rattle.qn_disk.specs.declared.leftovers.Leftover.{Leftover}
 use Rattle.qn_disk.specs.Places.{marked_on, others_of}
 use Rattle.qn_disk.specs.Standing.{LeftFor, is_marked, is_of, left_over, left_where}
 use Rattle.qn_disk.proofs.LeftoverSteps.{FoundLeft, left_of-dropped, left_of-others, left_where-append}
-use Rattle.qn_disk.proofs.Lists.{by_image, rank_cases, same_rank}
+use Rattle.qn_disk.specs.ListLaws.{by_image, rank_cases, same_rank}
 use Rattle.qn_model.specs.declared.outputs.DiskOp.{DiskOp}
 use Rattle.qn_model.specs.World.{put, without}
 use Rattle.qn_safety.specs.TripleRules.{is_image}

@@ -5,7 +5,7 @@ use Rattle.std.proofs.lemmas.Option.{slice_get_within}
 use Rattle.qn_base.specs.declared.ids.Rank.{Rank}
 use Rattle.qn_disk.specs.declared.sectors.Sectors.{Sectors}
 use Rattle.qn_disk.specs.Standing.{SectorsFor}
-use Rattle.qn_disk.proofs.Lists.{rank_put}
+use Rattle.qn_disk.specs.ListLaws.{rank_put}
 use Rattle.qn_model.specs.declared.configuration.Settings.{Settings}
 use Rattle.qn_model.specs.declared.disk.Message.{Message}
 use Rattle.qn_model.specs.declared.disk.Message.TheVariants as message

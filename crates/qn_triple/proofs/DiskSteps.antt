@@ -22,7 +22,7 @@ use Rattle.qn_safety.specs.TripleWorld.{TripleWorld, all_pending, answer_of, goo
 use Rattle.qn_triple.specs.Standing.{GoodAt, IsStanding, PartsAt, SectorsAt, TripleFor}
 use Rattle.qn_triple.specs.Stepping.{Mails, OtherDisk, Turns, Writes}
 use Rattle.qn_triple.specs.Whole.{Whole, cluster_of, with_nodes}
-use Rattle.qn_triple.proofs.Lists.{by_image, get_set_apart, get_set_same, rank_cases, same_rank}
+use Rattle.qn_disk.specs.ListLaws.{by_image, get_set_apart, get_set_same, rank_cases, same_rank}
 
 -- other nodes, after some moments
 pub with_moments : (w : Whole) (c : Nodes) (d : TripleWorld) (moments : List Moment) → TripleFor w d → c.settings ≡ w.settings → ClusterFor c moments

@@ -41,7 +41,7 @@ use Rattle.qn_triple.specs.Standing.{IsStanding, TripleFor}
 use Rattle.qn_triple.specs.Stepping.{GivesUp, IsReady, KeepsOn, OtherDisk, OutOfMemory, Stepped, Turns, boot_event, given_up_on, only_on}
 use Rattle.qn_triple.specs.Whole.{Whole, cluster_of, with_nodes}
 use Rattle.qn_triple.proofs.DiskSteps.{lefts_same, moved}
-use Rattle.qn_triple.proofs.Lists.{by_image, same_rank}
+use Rattle.qn_disk.specs.ListLaws.{by_image, same_rank}
 
 -- ---- what the rules leave
 

@@ -3,5 +3,4 @@ pub mod ApplySteps
 pub mod DiskSteps
 pub mod EventSteps
 pub mod LineRows
-pub mod Lists
 pub mod RuleSteps

@@ -22,7 +22,7 @@ use Rattle.qn_world.specs.Standing.{WorldFor}
 use Rattle.qn_world.specs.Stepping.{Hands, HandsNot, LeavesOver, OutOfMemory, SameFrame, Stepped}
 use Rattle.qn_world.specs.Whole.{Whole, cluster_of}
 use Rattle.qn_world.proofs.EventSteps.{IsOut, gave_up, given_up_same, leaves_more, or_first, or_true, passed_both, some_op}
-use Rattle.qn_world.proofs.Lists.{same_rank}
+use Rattle.qn_disk.specs.ListLaws.{same_rank}
 use Rattle.qn_world.proofs.WorldSteps.{adds_others, frame_of, put_here, same_frames, with_none}
 
 -- ---- done

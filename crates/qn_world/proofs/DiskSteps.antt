@@ -17,7 +17,7 @@ use Rattle.qn_safety.specs.TripleWorld.{put_on}
 use Rattle.qn_world.specs.Standing.{WorldFor, on_first}
 use Rattle.qn_world.specs.Stepping.{LeavesOver, OtherDisk, SameFrame, Turns}
 use Rattle.qn_world.specs.Whole.{Whole, cluster_of}
-use Rattle.qn_world.proofs.Lists.{by_image}
+use Rattle.qn_disk.specs.ListLaws.{by_image}
 
 pub turned : (w new : Whole) → OtherDisk w new → SameFrame w new
 turned w new rest =

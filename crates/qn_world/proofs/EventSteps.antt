@@ -29,7 +29,7 @@ use Rattle.qn_world.specs.Standing.{IsStanding, WorldFor}
 use Rattle.qn_world.specs.Stepping.{IsReady, LeavesOver, OutOfMemory, Stepped, Turns, boot_event}
 use Rattle.qn_world.specs.Whole.{Whole, cluster_of, with_nodes}
 use Rattle.qn_world.proofs.DiskSteps.{turned}
-use Rattle.qn_world.proofs.Lists.{rank_cases, same_rank}
+use Rattle.qn_disk.specs.ListLaws.{rank_cases, same_rank}
 use Rattle.qn_world.proofs.RuleSteps.{le-true, second_true}
 use Rattle.qn_world.proofs.WorldSteps.{boots_others, ends_others, frame_of, put_here, same_frames, took_put, with_kept, with_none, with_took}
 

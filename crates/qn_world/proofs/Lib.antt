@@ -2,7 +2,6 @@ pub mod AnswerSteps
 pub mod ApplySteps
 pub mod DiskSteps
 pub mod EventSteps
-pub mod Lists
 pub mod Looks
 pub mod RuleSteps
 pub mod WorldSteps

@@ -1,8 +1,9 @@
 -- The rules that look at the disk, and the ranks of well formed events.
 use Rattle.std.proofs.Common.{◌≡◌, ℕ, ◌<◌, ◌≤◌, Bool, true, false, length, Some, refl, not, ◌&&◌, ◌||◌, sym, ◌∙◌, ap, subst, arith}
-use Rattle.std.specs.Prelude.{nat_le, nat_lt}
+use Rattle.std.specs.Prelude.{nat_le}
 use Rattle.std.proofs.lemmas.Bool.Decides.{nat_tests}
 use Rattle.qn_base.specs.declared.ids.Rank.{Rank}
+use Rattle.qn_cluster.specs.EventRanks.{rank_configured}
 use Rattle.qn_model.specs.declared.configuration.Settings.{Settings}
 use Rattle.qn_model.specs.declared.disk.Message.{Message}
 use Rattle.qn_model.specs.declared.events.Event.{Event}
@@ -16,9 +17,6 @@ use Rattle.qn_world.specs.Whole.{Whole}
 
 -- ---- ranks
 
-pub lt-true : (n m : ℕ) → nat_lt n m ≡ true → n < m
-lt-true n m e = grind (arith, nat_tests)
-
 pub le-true : (n m : ℕ) → nat_le n m ≡ true → n ≤ m
 le-true n m e = grind (arith, nat_tests)
 
@@ -31,29 +29,6 @@ first_true true b e = refl
 first_true false b e = absurd (cc)
 
 -- the rank of a well formed event has a seat
-configured : (s : Settings) (event : Event) (rank : Rank) → is_well_formed s event ≡ true → touched event ≡ Some rank → is_configured s rank.0 ≡ true
-unfolding is_well_formed
-configured s (event.Pass dt clocks) rank formed e = absurd (cc)
-configured s (event.Boot own base) rank formed e = let z : own ≡ rank = cc in subst (λ r. is_configured s r.0 ≡ true) z (first_true _ _ formed)
-configured s (event.BootClean own base) rank formed e = let z : own ≡ rank = cc in subst (λ r. is_configured s r.0 ≡ true) z (first_true _ _ formed)
-configured s (event.Crash own) rank formed e = let z : own ≡ rank = cc in subst (λ r. is_configured s r.0 ≡ true) z formed
-configured s (event.Land own) rank formed e = let z : own ≡ rank = cc in subst (λ r. is_configured s r.0 ≡ true) z formed
-configured s (event.Done own) rank formed e = let z : own ≡ rank = cc in subst (λ r. is_configured s r.0 ≡ true) z formed
-configured s (event.Fail own) rank formed e = let z : own ≡ rank = cc in subst (λ r. is_configured s r.0 ≡ true) z formed
-configured s (event.Late own number) rank formed e = let z : own ≡ rank = cc in subst (λ r. is_configured s r.0 ≡ true) z (first_true _ _ formed)
-configured s (event.View own view) rank formed e = let z : own ≡ rank = cc in subst (λ r. is_configured s r.0 ≡ true) z (first_true _ _ (first_true _ _ formed))
-configured s (event.Deliver own number) rank formed e = let z : own ≡ rank = cc in subst (λ r. is_configured s r.0 ≡ true) z (first_true _ _ formed)
-configured s (event.Device own agrees) rank formed e = let z : own ≡ rank = cc in subst (λ r. is_configured s r.0 ≡ true) z formed
-configured s (event.Tick own) rank formed e = let z : own ≡ rank = cc in subst (λ r. is_configured s r.0 ≡ true) z formed
-configured s (event.Stopped own) rank formed e = let z : own ≡ rank = cc in subst (λ r. is_configured s r.0 ≡ true) z formed
-configured s (event.Unstopped own) rank formed e = let z : own ≡ rank = cc in subst (λ r. is_configured s r.0 ≡ true) z formed
-configured s (event.Leave own) rank formed e = let z : own ≡ rank = cc in subst (λ r. is_configured s r.0 ≡ true) z formed
-configured s (event.Feed own) rank formed e = let z : own ≡ rank = cc in subst (λ r. is_configured s r.0 ≡ true) z formed
-configured s (event.Operator own message) rank formed e = let z : own ≡ rank = cc in subst (λ r. is_configured s r.0 ≡ true) z formed
-
-pub rank_configured : (s : Settings) (event : Event) (rank : Rank) → is_well_formed s event ≡ true → touched event ≡ Some rank → rank.0 < length s.nodes
-rank_configured s event rank formed e = lt-true rank.0 (length s.nodes) (configured s event rank formed e)
-
 pub rank_within : (w : Whole) (event : Event) (rank : Rank) → IsStanding w → is_well_formed w.settings event ≡ true → touched event ≡ Some rank
     → rank.0 < length w.seats
 rank_within w event rank standing formed e = subst (λ count. rank.0 < count) (sym standing.1.cluster.count) (rank_configured w.settings event rank formed e)

@@ -19,7 +19,7 @@ use Rattle.qn_model.specs.World.{World, op_at, put}
 use Rattle.qn_world.specs.Standing.{WorldFor, on_first}
 use Rattle.qn_world.specs.Stepping.{SameFrame}
 use Rattle.qn_world.specs.Whole.{Whole, cluster_of, with_nodes}
-use Rattle.qn_world.proofs.Lists.{get_set_other, get_set_same, rank_cases, same_rank}
+use Rattle.qn_disk.specs.ListLaws.{rank_cases, rank_put, same_rank}
 
 pub put_here : {A : Type 0} (f : ℕ → A) (i : ℕ) (value : A) → put f i value i ≡ value
 put_here f i value = ap (λ b. if b then value else f i) (same_rank i)
@@ -72,18 +72,7 @@ with_took w d took new_took is landings answers =
       lefts = is.lefts;
     }
 
--- a value of a rank that is replaced
-pub rank_put : {A : Type 0} (items : List A) (values : ℕ → A) (i : ℕ) (value : A) → i < length items
-    → ((j : ℕ) → j < 32 → slice_get items j ≡ Some (values j))
-    → (j : ℕ) → j < 32 → slice_get (slice_set items i value) j ≡ Some (put values i value j)
-rank_put items values i value within before j below = put_by (rank_cases i j)
-  where
-    put_by : (i ≡ j) ⊎ ((i == j) ≡ false) → slice_get (slice_set items i value) j ≡ Some (put values i value j)
-    put_by (inl same) =
-        subst (λ k. slice_get (slice_set items i value) k ≡ Some (put values i value k)) same
-        (get_set_same items i value within ∙ ap (λ b. Some (if b then value else values i)) (sym (same_rank i)))
-    put_by (inr apart) = get_set_other items i j value apart ∙ (before j below ∙ ap (λ b. Some (if b then value else values j)) (sym apart))
-
+-- what an operation took, where it is replaced
 took_within : (w : Whole) (d : World) (i : ℕ) → WorldFor w d → i < 32 → i < length w.took
 took_within w d i is below = slice_get_within w.took i (d.took i) (is.landings i below)
 

@@ -3,7 +3,7 @@ use Rattle.std.specs.Prelude.{replicate}
 use Rattle.qn_parts.specs.Parts.{is_good_on, part_on}
 use Rattle.qn_safety.specs.declared.part.Part.TheVariants.{Pending}
 use Rattle.qn_triple.proofs.ApplySteps.{first_stands}
-use Rattle.qn_triple.proofs.Lists.{by_image}
+use Rattle.qn_disk.specs.ListLaws.{by_image}
 use Rattle.qn_triple.proofs.state.State.first.Goals as goal
 
 pub returns-clause-stands : goal.returns-clause-stands

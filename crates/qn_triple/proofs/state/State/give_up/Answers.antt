@@ -6,7 +6,7 @@ use Rattle.qn_model.specs.World.{is_write}
 use Rattle.qn_safety.specs.TripleWorld.{is_pending}
 use Rattle.qn_triple.proofs.DiskSteps.{parts_read}
 use Rattle.qn_triple.proofs.EventSteps.{gives_nothing, gives_up, keeps_on}
-use Rattle.qn_triple.proofs.Lists.{by_image, not_some}
+use Rattle.qn_disk.specs.ListLaws.{by_image, not_some}
 use Rattle.qn_triple.proofs.state.State.give_up.Goals as goal
 
 pub leave_over-requires : goal.leave_over-requires

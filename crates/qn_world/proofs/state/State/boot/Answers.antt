@@ -1,7 +1,8 @@
 use Rattle.std.proofs.Common.{◌<◌, length, subst, sym}
+use Rattle.qn_cluster.specs.EventRanks.{rank_configured}
 use Rattle.qn_world.specs.Stepping.{boot_event}
 use Rattle.qn_world.proofs.EventSteps.{boot_stepped, boot_touches, few_base}
-use Rattle.qn_world.proofs.RuleSteps.{rank_configured, rank_few, rank_within}
+use Rattle.qn_world.proofs.RuleSteps.{rank_few, rank_within}
 use Rattle.qn_world.proofs.state.State.boot.Goals as goal
 
 pub take-requires : goal.take-requires
