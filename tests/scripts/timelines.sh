@@ -231,6 +231,15 @@ refused 4 '^timeline: fault BadSchedule line 1 Unended$' < /dev/null
 refused 3 '^timeline: fault BadConf ' < <(printf 'nodelist {\n----\n')
 refused 5 '^timeline: fault NotAllowed line 19 rule 1$' < <(sed '1,/^boot/!d' "$TOP/examples/letting-time-pass.schedule"; echo 'pass 5051')
 
+refused 17 '^timeline: fault UnsafeLease 10000 2000 12243$' --arbiter < <(sed '/^lease/s/12244/12243/' "$TOP/examples/arbiter/the-vote-moves/schedule")
+
+# an arbiter that crashes is bound no more, and gives no yes for a lease from its next boot on
+sed '/^hear 0$/q' "$TOP/examples/arbiter/the-vote-moves/schedule" > crashing
+printf '%s\n' 'arbiter-crash' 'arbiter-boot 0' >> crashing
+timeline --arbiter crashing > drawn.svg
+same "$(sed -n '/data-lane="arbiter"/,$p' drawn.svg | grep -o 'data-kind="[a-z]*" data-\(first="[0-9]*" data-last\|point\)="[0-9]*"' | tr -d '"' | xargs)" \
+    'data-kind=yes data-point=14 data-kind=crashes data-point=15 data-kind=up data-first=1 data-last=15 data-kind=up data-first=16 data-last=17 data-kind=waits data-first=1 data-last=2 data-kind=bound data-first=14 data-last=15 data-kind=waits data-first=16 data-last=17'
+
 # a picture that cannot be written
 status=0
 timeline "$TOP/examples/letting-time-pass.schedule" > /dev/full 2> errors || status=$?
