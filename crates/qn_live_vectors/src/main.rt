@@ -15,7 +15,8 @@
 //! outside in memory that never fails and hears nothing: its name, settings, words, end, status, number of calls, and SHA-256.
 //!
 //! With a number of turns as its word it runs one node for so many turns over such an outside and writes how that ends, to be
-//! timed by `bench/live`; with `log` as a second word it writes what an audit of that run reads, for `bench/audit`.
+//! timed by `bench/live`; with `three` as a second word on three images; and with `log` it writes what an audit of that run reads, for
+//! `bench/audit`.
 //!
 //! Promises: nothing. It is a test: what it is run on, and what it must write, stand beside it.
 #![tactic(auto)]
@@ -36,7 +37,7 @@ use qn_history::read_number;
 use qn_io::StdSink;
 use std::alloc::Global;
 use std::{env, io};
-use timed::{record_turns, run_turns};
+use timed::{record_turns, run_turns, run_turns_on_three};
 use wrong::Wrong;
 
 /// What was read so far: the present case and whether its log was run, and how many cases, calls of their logs and rows there
@@ -56,11 +57,19 @@ fn main(rt: HostRuntime) -> io::Result<()> {
     let _program = words.next();
     match (words.next(), words.next()) {
         (None, _) => check_all(&rt),
-        (Some(turns), None) => match run_turns(rt.alloc(), turns.as_str()) {
-            Ok(end) => println!(rt; "{end}"),
-            Err(wrong) => println!(rt; "{wrong}"),
+        (Some(turns), None) => say(&rt, run_turns(rt.alloc(), turns.as_str())),
+        (Some(turns), Some(word)) => match word.as_str() {
+            "three" => say(&rt, run_turns_on_three(rt.alloc(), turns.as_str())),
+            _ => record(&rt, turns.as_str()),
         },
-        (Some(turns), Some(_log)) => record(&rt, turns.as_str()),
+    }
+}
+
+/// Writes the line of an end, or what was wrong.
+fn say(rt: &HostRuntime, ended: Result<String, Wrong>) -> io::Result<()> {
+    match ended {
+        Ok(end) => println!(rt; "{end}"),
+        Err(wrong) => println!(rt; "{wrong}"),
     }
 }
 
