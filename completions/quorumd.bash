@@ -2,7 +2,7 @@
 # /usr/share/bash-completion/completions.
 
 # the commands, in the order of `quorumd help`
-_quorumd_commands=(count replay status soak create dump list message node migrate replay3 node3 node-logged audit help)
+_quorumd_commands=(count replay status soak create dump list message node migrate replay3 node3 replay-arbiter node-logged audit help)
 
 # _quorumd_options COMMAND: leaves the options that a command takes in `options`
 _quorumd_options() {

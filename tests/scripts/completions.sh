@@ -25,17 +25,17 @@ offers() {
 same "$(bash -c 'source "$1" && complete -p quorumd' - "$TOP/completions/quorumd.bash")" 'complete -F _quorumd quorumd'
 
 # commands
-commands='count replay status soak create dump list message node migrate replay3 node3 node-logged audit help'
+commands='count replay status soak create dump list message node migrate replay3 node3 replay-arbiter node-logged audit help'
 offers "$commands" ''
 offers 'count create' c
 offers 'status soak' s
-offers 'replay replay3' r
+offers 'replay replay3 replay-arbiter' r
 offers status sta
 offers '' x
 expect 0 "commands $commands\\n" help
 
 # options: those of the command, and none twice
-for command in count replay replay3 soak help other; do
+for command in count replay replay3 replay-arbiter soak help other; do
     offers '' "$command" ''
     offers '' "$command" --
 done

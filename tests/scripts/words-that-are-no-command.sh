@@ -79,6 +79,8 @@ migrate d
 migrate --image d --id 1
 replay3 x
 replay3 --form text
+replay-arbiter x
+replay-arbiter --form text
 status text
 status --form text --form text
 status --form xml

@@ -41,6 +41,7 @@ wanted_of fault.ReadFault is = absurd (omega arith)
 wanted_of fault.EnvFault is = absurd (omega arith)
 wanted_of (fault.BadImage sector) is = absurd (omega arith)
 wanted_of (fault.UnsafeTiming timing) is = absurd (omega arith)
+wanted_of (fault.UnsafeLease timeout limit lease) is = absurd (omega arith)
 wanted_of fault.NoMemory is = inl refl
 wanted_of (fault.ClockBack before now) is = absurd (omega arith)
 wanted_of (fault.SelfReset message) is = absurd (omega arith)

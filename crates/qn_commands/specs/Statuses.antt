@@ -1,7 +1,7 @@
 -- The exit statuses, and how a command may end: this project's profile.
 use Rattle.std.specs.Prelude.{◌≡◌, ◌⊎◌, ℕ, List, [], ◌∷◌}
 use Rattle.qn_commands.specs.declared.status.Status.{Status}
-use Rattle.qn_commands.specs.declared.status.Status.TheVariants.{Done, Usage, BadConf, BadSchedule, NotAllowed, ReadFault, WriteFault, EnvFault, BadImage, UnsafeTiming, NoMemory, ClockBack, SelfReset, BootHalted, DeadlyThere, UnknownNode, NotARun}
+use Rattle.qn_commands.specs.declared.status.Status.TheVariants.{Done, Usage, BadConf, BadSchedule, NotAllowed, ReadFault, WriteFault, EnvFault, BadImage, UnsafeTiming, NoMemory, ClockBack, SelfReset, BootHalted, DeadlyThere, UnknownNode, UnsafeLease, NotARun}
 use Rattle.qn_commands.specs.Seen.{CallFails, NeverFall, ReadFails, Seen, WriteFails}
 
 abbrev pub code_of : Status → ℕ
@@ -21,6 +21,7 @@ code_of SelfReset = 13
 code_of BootHalted = 14
 code_of DeadlyThere = 15
 code_of UnknownNode = 16
+code_of UnsafeLease = 17
 code_of NotARun = 18
 
 -- a code is that of one of these statuses

@@ -1,7 +1,7 @@
 //! Why a command did not do its work, and the last line that says so.
 ghost use Rattle.std.specs.Prelude.{◌≡◌, ◌≤◌, ◌++◌, length, codes, decimal};
 ghost use Rattle.qn_settings.specs.Keys.{key_name};
-ghost use Rattle.qn_commands.specs.Faults.{clock_line, conf_line, deadly_line, disk_fault, fault_line, refused_line, reset_line, schedule_line, settings_line, status_of, text_fault, timing_line};
+ghost use Rattle.qn_commands.specs.Faults.{clock_line, conf_line, deadly_line, disk_fault, fault_line, lease_line, refused_line, reset_line, schedule_line, settings_line, status_of, text_fault, timing_line};
 ghost use Rattle.qn_commands.specs.Statuses.{code_of};
 
 use crate::status::Status;
@@ -33,6 +33,12 @@ pub enum Fault {
     BadImage { sector: u32 },
     /// The times are in range, and not safe.
     UnsafeTiming(Timing),
+    /// The two times of a lease are in range, and not safe with the timeout of the device.
+    UnsafeLease {
+        timeout: u64,
+        limit: u64,
+        lease: u64,
+    },
     /// Out of memory.
     NoMemory,
     /// The clock of a running node went back: the tick of the turn before, and the one that followed.
@@ -64,6 +70,7 @@ impl Fault {
             Fault::EnvFault => Status::EnvFault,
             Fault::BadImage { .. } => Status::BadImage,
             Fault::UnsafeTiming(_) => Status::UnsafeTiming,
+            Fault::UnsafeLease { .. } => Status::UnsafeLease,
             Fault::ClockBack { .. } => Status::ClockBack,
             Fault::SelfReset(_) => Status::SelfReset,
             Fault::BootHalted(_) => Status::BootHalted,
@@ -87,6 +94,11 @@ impl Fault {
             Fault::EnvFault => whole(b"fault EnvFault\n"),
             Fault::BadImage { sector } => numbered(b"fault BadImage sector ", u64::from(sector)),
             Fault::UnsafeTiming(timing) => timing_line(&timing),
+            Fault::UnsafeLease {
+                timeout,
+                limit,
+                lease,
+            } => lease_line(timeout, limit, lease),
             Fault::NoMemory => whole(b"fault NoMemory\n"),
             Fault::ClockBack { before, now } => clock_line(before, now),
             Fault::SelfReset(message) => reset_line(message),
@@ -204,6 +216,21 @@ fn timing_line(timing: &Timing) -> ShortText
     text.add_number(timing.read_limit);
     text.add(b" ");
     text.add_number(timing.feed_delay);
+    text.add(b"\n");
+    text
+}
+
+/// The line of two times of a lease that are not safe.
+fn lease_line(timeout: u64, limit: u64, lease: u64) -> ShortText
+    ensures { result ≡ lease_line timeout limit lease }
+{
+    let mut text = ShortText::new();
+    text.add(b"fault UnsafeLease ");
+    text.add_number(timeout);
+    text.add(b" ");
+    text.add_number(limit);
+    text.add(b" ");
+    text.add_number(lease);
     text.add(b"\n");
     text
 }

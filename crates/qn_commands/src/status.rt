@@ -37,6 +37,8 @@ pub enum Status {
     DeadlyThere,
     /// No node has the id.
     UnknownNode,
+    /// The two times of a lease are not safe.
+    UnsafeLease,
     /// A log is no run of a node.
     NotARun,
 }
@@ -63,6 +65,7 @@ impl Status {
             Status::BootHalted => 14,
             Status::DeadlyThere => 15,
             Status::UnknownNode => 16,
+            Status::UnsafeLease => 17,
             Status::NotARun => 18,
         }
     }

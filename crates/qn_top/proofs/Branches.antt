@@ -2,7 +2,7 @@
 use Rattle.std.proofs.Common.{◌≡◌, ◌≢◌, ◌≤◌, ◌⊎◌, inl, inr, ℕ, Bool, false, true, List, [], ◌∷◌, Option, None, Some, refl, sym, ap, ◌∙◌, subst, arith}
 use Rattle.qn_commands.specs.Endings.{Cut, Says, Whole}
 use Rattle.qn_commands.specs.Seen.{Output, Seen}
-use Rattle.qn_commands.specs.declared.status.Status.TheVariants.{Done, BadConf, BadSchedule, ReadFault, WriteFault, EnvFault, NoMemory, ClockBack, SelfReset, BootHalted, UnknownNode, NotARun}
+use Rattle.qn_commands.specs.declared.status.Status.TheVariants.{Done, BadConf, BadSchedule, NotAllowed, ReadFault, WriteFault, EnvFault, UnsafeTiming, UnsafeLease, NoMemory, ClockBack, SelfReset, BootHalted, UnknownNode, NotARun}
 use Rattle.qn_commands.specs.Statuses.{HasCauses, IsOneOf}
 use Rattle.qn_replay.specs.Soak.{soaked}
 use Rattle.qn_top.specs.declared.command.Command.{Command}
@@ -25,6 +25,18 @@ node_not_two code (inr (inr (inr (inr (inr (inr (inl is))))))) two = omega arith
 node_not_two code (inr (inr (inr (inr (inr (inr (inr (inl is)))))))) two = omega arith
 node_not_two code (inr (inr (inr (inr (inr (inr (inr (inr (inl is))))))))) two = omega arith
 node_not_two code (inr (inr (inr (inr (inr (inr (inr (inr (inr is))))))))) two = omega arith
+
+-- `replay-arbiter` is a command
+arbiter_not_two : (code : ℕ) → IsOneOf (Done ∷ BadConf ∷ BadSchedule ∷ NotAllowed ∷ ReadFault ∷ WriteFault ∷ UnsafeTiming ∷ NoMemory ∷ UnsafeLease ∷ []) code → code ≢ 2
+arbiter_not_two code (inl is) two = omega arith
+arbiter_not_two code (inr (inl is)) two = omega arith
+arbiter_not_two code (inr (inr (inl is))) two = omega arith
+arbiter_not_two code (inr (inr (inr (inl is)))) two = omega arith
+arbiter_not_two code (inr (inr (inr (inr (inl is))))) two = omega arith
+arbiter_not_two code (inr (inr (inr (inr (inr (inl is)))))) two = omega arith
+arbiter_not_two code (inr (inr (inr (inr (inr (inr (inl is))))))) two = omega arith
+arbiter_not_two code (inr (inr (inr (inr (inr (inr (inr (inl is)))))))) two = omega arith
+arbiter_not_two code (inr (inr (inr (inr (inr (inr (inr (inr is)))))))) two = omega arith
 
 -- `audit` is a command
 audit_not_two : (code : ℕ) → IsOneOf (Done ∷ BadConf ∷ BadSchedule ∷ ReadFault ∷ WriteFault ∷ NoMemory ∷ UnknownNode ∷ NotARun ∷ []) code → code ≢ 2
@@ -53,6 +65,7 @@ module _ (before later : Seen) (status : ℕ) where
   causes (Some (command.Migrate image)) does = does.causes
   causes (Some command.Replay3) does = does.causes
   causes (Some (command.Node3 words)) does = does.causes
+  causes (Some command.ReplayArbiter) does = does.causes
   causes (Some (command.NodeLogged words)) does = does.causes
   causes (Some (command.Audit words)) does = does.causes
   causes (Some command.Help) does = does.causes
@@ -71,6 +84,7 @@ module _ (before later : Seen) (status : ℕ) where
   no_usage (command.Migrate image) does two = let one_of = does.statuses in grind arith
   no_usage command.Replay3 does two = let one_of = does.statuses in grind arith
   no_usage (command.Node3 words) does two = node_not_two status does.statuses two
+  no_usage command.ReplayArbiter does two = arbiter_not_two status does.statuses two
   no_usage (command.NodeLogged words) does two = node_not_two status does.statuses two
   no_usage (command.Audit words) does two = audit_not_two status does.statuses two
   no_usage command.Help does two = let one_of = does.statuses in grind arith
@@ -90,6 +104,7 @@ module _ (before later : Seen) (status : ℕ) where
   enough (Some (command.Migrate image)) does takes eleven = let one_of = does.statuses in grind arith
   enough (Some command.Replay3) does takes eleven = cc
   enough (Some (command.Node3 words)) does takes eleven = cc
+  enough (Some command.ReplayArbiter) does takes eleven = cc
   enough (Some (command.NodeLogged words)) does takes eleven = cc
   enough (Some (command.Audit words)) does takes eleven = cc
   enough (Some command.Help) does takes eleven = let one_of = does.statuses in grind arith

@@ -24,10 +24,10 @@ use Rattle.qn_top.specs.ReplayEnds.{end_outcome}
 use Rattle.qn_top.specs.Traces.{RunsTrace, Told, TraceEnds, Wanted, WritesTrace, trace_text}
 
 -- the statuses of what the input tells of
-abbrev told : List Status
+abbrev pub told : List Status
 told = Done ∷ BadConf ∷ BadSchedule ∷ NotAllowed ∷ ReadFault ∷ UnsafeTiming ∷ NoMemory ∷ []
 
-abbrev all : List Status
+abbrev pub all : List Status
 all = Done ∷ BadConf ∷ BadSchedule ∷ NotAllowed ∷ ReadFault ∷ WriteFault ∷ UnsafeTiming ∷ NoMemory ∷ []
 
 conf_one_of : (why : ConfFault) → IsOneOf told (conf_status why)
@@ -48,7 +48,7 @@ conf_other conf.NotText = (λ zero. omega arith, λ six. omega arith)
 conf_other conf.TooLong = (λ zero. omega arith, λ six. omega arith)
 conf_other conf.NoMemory = (λ zero. omega arith, λ six. omega arith)
 
-end_one_of : (ended : ReplayEnd) (ending : Ending) → EndFits ended ending → IsOneOf told (end_outcome ended).status
+pub end_one_of : (ended : ReplayEnd) (ending : Ending) → EndFits ended ending → IsOneOf told (end_outcome ended).status
 end_one_of (end.Done events) ending fits = inl refl
 end_one_of (end.BadConf why) ending fits = conf_one_of why
 end_one_of (end.BadSettings why) ending fits = inr (inl refl)
@@ -60,7 +60,7 @@ end_one_of (end.UnsafeTiming timing) ending fits = inr (inr (inr (inr (inr (inl 
 end_one_of end.NoMemory ending never = absurd never
 
 -- status 0 is that of no input of which a read failed
-zero_is_read : (ended : ReplayEnd) → EndFits ended ReadFailed → (end_outcome ended).status ≢ 0
+pub zero_is_read : (ended : ReplayEnd) → EndFits ended ReadFailed → (end_outcome ended).status ≢ 0
 zero_is_read (end.Done events) never zero = never
 zero_is_read (end.BadConf why) fits zero = (conf_other why).0 zero
 zero_is_read (end.BadSettings why) fits zero = omega arith
@@ -72,7 +72,7 @@ zero_is_read (end.UnsafeTiming timing) fits zero = omega arith
 zero_is_read end.NoMemory never zero = never
 
 -- status 6 is that of no input that was read to its end
-six_is_unread : (ended : ReplayEnd) → EndFits ended Ended → (end_outcome ended).status ≢ 6
+pub six_is_unread : (ended : ReplayEnd) → EndFits ended Ended → (end_outcome ended).status ≢ 6
 six_is_unread (end.Done events) fits six = omega arith
 six_is_unread (end.BadConf why) fits six = (conf_other why).1 six
 six_is_unread (end.BadSettings why) fits six = omega arith
@@ -129,7 +129,7 @@ record Played (text_of : Ending → List ℕ → Outcome) (before later : Seen) 
   causes : HasCauses before later status
 
 module _ {write : Type 0} {status : ℕ} where
-  all_of : IsOneOf told status ⊎ ((status ≡ 7) × write) → IsOneOf all status
+  pub all_of : IsOneOf told status ⊎ ((status ≡ 7) × write) → IsOneOf all status
   all_of (inl (inl zero)) = inl zero
   all_of (inl (inr (inl three))) = inr (inl three)
   all_of (inl (inr (inr (inl four)))) = inr (inr (inl four))
@@ -139,7 +139,7 @@ module _ {write : Type 0} {status : ℕ} where
   all_of (inl (inr (inr (inr (inr (inr (inr eleven))))))) = inr (inr (inr (inr (inr (inr (inr eleven))))))
   all_of (inr seven) = inr (inr (inr (inr (inr (inl seven.0)))))
 
-  write_fault : IsOneOf told status ⊎ ((status ≡ 7) × write) → status ≡ 7 → write
+  pub write_fault : IsOneOf told status ⊎ ((status ≡ 7) × write) → status ≡ 7 → write
   write_fault (inl (inl zero)) seven = absurd (omega arith)
   write_fault (inl (inr (inl three))) seven = absurd (omega arith)
   write_fault (inl (inr (inr (inl four)))) seven = absurd (omega arith)
@@ -149,7 +149,7 @@ module _ {write : Type 0} {status : ℕ} where
   write_fault (inl (inr (inr (inr (inr (inr (inr eleven))))))) seven = absurd (omega arith)
   write_fault (inr failed) seven = failed.1
 
-no_call : (status : ℕ) → IsOneOf all status → status ≢ 8
+pub no_call : (status : ℕ) → IsOneOf all status → status ≢ 8
 no_call status (inl zero) eight = omega arith
 no_call status (inr (inl three)) eight = omega arith
 no_call status (inr (inr (inl four))) eight = omega arith
@@ -203,7 +203,7 @@ module _ {text_of : Ending → List ℕ → Outcome} {before later : Seen} {stat
         };
       }
 
-wanted_status : {before later : Output} {status : ℕ} → Refuses fault.NoMemory before later status → (status ≡ 11) ⊎ ((status ≡ 7) × WriteFails before later)
+pub wanted_status : {before later : Output} {status : ℕ} → Refuses fault.NoMemory before later status → (status ≡ 11) ⊎ ((status ≡ 7) × WriteFails before later)
 wanted_status (Whole is whole) = inl is
 wanted_status (Cut is fails prefix) = inr (is, fails)
 

@@ -2,6 +2,7 @@
 pub mod Help
 pub mod Replay
 pub mod Replay3
+pub mod ReplayArbiter
 pub mod Soak
 pub mod Status
 pub mod Usage

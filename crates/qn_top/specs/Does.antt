@@ -17,6 +17,7 @@ use Rattle.qn_top.specs.declared.command.Command.TheVariants as command
 use Rattle.qn_top.specs.Commands.Help.{Helps}
 use Rattle.qn_top.specs.Commands.Replay.{Replays}
 use Rattle.qn_top.specs.Commands.Replay3.{Replays3}
+use Rattle.qn_top.specs.Commands.ReplayArbiter.{ReplaysBeside}
 use Rattle.qn_top.specs.Commands.Soak.{Soaks}
 use Rattle.qn_top.specs.Commands.Status.{States}
 use Rattle.qn_top.specs.Commands.Usage.{RefusesWords}
@@ -36,6 +37,7 @@ Does (Some (command.Node words)) = RunsNode One words
 Does (Some (command.Migrate image)) = Migrates image
 Does (Some command.Replay3) = Replays3
 Does (Some (command.Node3 words)) = RunsNode Three words
+Does (Some command.ReplayArbiter) = ReplaysBeside
 Does (Some (command.NodeLogged words)) = LogsNode words
 Does (Some (command.Audit words)) = Audits words
 Does (Some command.Help) = Helps
@@ -55,6 +57,7 @@ reads_input (Some (command.Node words)) = true
 reads_input (Some (command.Migrate image)) = false
 reads_input (Some command.Replay3) = true
 reads_input (Some (command.Node3 words)) = true
+reads_input (Some command.ReplayArbiter) = true
 reads_input (Some (command.NodeLogged words)) = true
 reads_input (Some (command.Audit words)) = true
 reads_input (Some command.Help) = false
@@ -74,6 +77,7 @@ calls_outside (Some (command.Node words)) = true
 calls_outside (Some (command.Migrate image)) = true
 calls_outside (Some command.Replay3) = false
 calls_outside (Some (command.Node3 words)) = true
+calls_outside (Some command.ReplayArbiter) = false
 calls_outside (Some (command.NodeLogged words)) = true
 calls_outside (Some (command.Audit words)) = false
 calls_outside (Some command.Help) = false
@@ -93,6 +97,7 @@ takes_memory (Some (command.Node words)) = true
 takes_memory (Some (command.Migrate image)) = false
 takes_memory (Some command.Replay3) = true
 takes_memory (Some (command.Node3 words)) = true
+takes_memory (Some command.ReplayArbiter) = true
 takes_memory (Some (command.NodeLogged words)) = true
 takes_memory (Some (command.Audit words)) = true
 takes_memory (Some command.Help) = false

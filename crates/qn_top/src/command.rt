@@ -62,6 +62,8 @@ pub enum Command<'words> {
     Replay3,
     /// `node3`, with the options of `node` and `--image P1,P2,P3`: runs the node of that id on three images.
     Node3(NodeWords<'words>),
+    /// `replay-arbiter`: the trace of a schedule beside an arbiter.
+    ReplayArbiter,
     /// `node-logged`, with the options of `node`: the same, and each call with its answer as a line of a log.
     NodeLogged(NodeWords<'words>),
     /// `audit --id N --turns K [--leave T] [--start-mode 0 or 1]`: whether a log is a run of that node.
@@ -143,6 +145,7 @@ fn command_with(name: CommandName, options: &[String]) -> Option<Command<'_>>
         }
         CommandName::Replay3 => are_options(&[], options).then_some(Command::Replay3),
         CommandName::Node3 => node3_of(options),
+        CommandName::ReplayArbiter => are_options(&[], options).then_some(Command::ReplayArbiter),
         CommandName::NodeLogged => node_logged_of(options),
         CommandName::Audit => audit_of(options),
         CommandName::Help => are_options(&[], options).then_some(Command::Help),

@@ -17,13 +17,14 @@ pub(crate) enum CommandName {
     Migrate,
     Replay3,
     Node3,
+    ReplayArbiter,
     NodeLogged,
     Audit,
     Help,
 }
 
 /// The names of all commands, in the order of `help`.
-const COMMAND_NAMES: [CommandName; 14] = [
+const COMMAND_NAMES: [CommandName; 16] = [
     CommandName::Count,
     CommandName::Replay,
     CommandName::Status,
@@ -36,6 +37,7 @@ const COMMAND_NAMES: [CommandName; 14] = [
     CommandName::Migrate,
     CommandName::Replay3,
     CommandName::Node3,
+    CommandName::ReplayArbiter,
     CommandName::NodeLogged,
     CommandName::Audit,
     CommandName::Help,
@@ -59,6 +61,7 @@ impl CommandName {
             CommandName::Migrate => "migrate",
             CommandName::Replay3 => "replay3",
             CommandName::Node3 => "node3",
+            CommandName::ReplayArbiter => "replay-arbiter",
             CommandName::NodeLogged => "node-logged",
             CommandName::Audit => "audit",
             CommandName::Help => "help",

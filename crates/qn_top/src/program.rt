@@ -5,6 +5,7 @@ ghost use Rattle.qn_io.specs.Outside.{HasRisen};
 ghost use Rattle.qn_replay.specs.Soak.{soaked};
 ghost use Rattle.qn_top.specs.Commands.Replay.{ShowsRun};
 ghost use Rattle.qn_top.specs.Commands.Replay3.{ShowsTripleRun};
+ghost use Rattle.qn_top.specs.Commands.ReplayArbiter.{ShowsRunBeside};
 ghost use Rattle.qn_top.specs.Does.{Does, calls_outside, reads_input, takes_memory};
 ghost use Rattle.qn_top.specs.Words.{command_of};
 
@@ -12,6 +13,7 @@ use crate::command::{Command, command_of};
 use crate::commands::help::help;
 use crate::commands::replay::run_replay;
 use crate::commands::replay3::run_replay3;
+use crate::commands::replay_arbiter::run_replay_arbiter;
 use crate::commands::soak::run_soak;
 use crate::commands::status::run_status;
 use qn_commands::{
@@ -61,6 +63,8 @@ pub fn top<I: Source, O: Sink, E: Env>(
         → ShowsRun (O.written out.old) (O.written out.new) }
     ensures triple_one_holder { command_of (map string_bytes words.now) ≡ Some Command.Replay3
         → ShowsTripleRun (O.written out.old) (O.written out.new) }
+    ensures one_holder_beside { command_of (map string_bytes words.now) ≡ Some Command.ReplayArbiter
+        → ShowsRunBeside (O.written out.old) (O.written out.new) }
     ensures soak_one_holder { (seed events : ℕ)
         → command_of (map string_bytes words.now) ≡ Some (Command.Soak seed events) → result ≡ 0
         → (soaked seed events).tally.most_holders ≤ 1 }
@@ -88,6 +92,7 @@ pub fn top<I: Source, O: Sink, E: Env>(
         Some(Command::Node3(words)) => {
             node(alloc, NodeImages::Three, &words, input, out, env).code()
         }
+        Some(Command::ReplayArbiter) => run_replay_arbiter(alloc, input, out).code(),
         Some(Command::NodeLogged(words)) => node_logged(alloc, &words, input, out, env).code(),
         Some(Command::Audit(words)) => run_audit(alloc, &words, input, out).code(),
     }

@@ -69,6 +69,11 @@ pub const QUORUMD: &[Synopsis] = &[
         does: "runs a node of the cluster on three images",
     },
     Synopsis {
+        line: "replay-arbiter",
+        reads: "SCHEDULE",
+        does: "what a cluster does beside an arbiter, event by event",
+    },
+    Synopsis {
         line: "node-logged --id 1..4294967295 --image PATH --watchdog PATH --resource PATH --port 1024..65000 \
                --turns 1..1000000000 [--leave 1..1000000000] [--start-mode 0..1]",
         reads: "COROSYNC.CONF",

@@ -24,6 +24,7 @@ returns-in-None g c =
       never_fall = (end.causes.never_fall.source, end.causes.never_fall.sink, end.causes.never_fall.env);
       one_holder = λ other. absurd cc;
       triple_one_holder = λ other. absurd cc;
+      one_holder_beside = λ other. absurd cc;
       soak_one_holder = λ seed events other. absurd cc;
     }
 
@@ -44,6 +45,7 @@ returns-in-Some-Count g c =
       never_fall = (end.causes.never_fall.source, end.causes.never_fall.sink, end.causes.never_fall.env);
       one_holder = λ other. absurd cc;
       triple_one_holder = λ other. absurd cc;
+      one_holder_beside = λ other. absurd cc;
       soak_one_holder = λ seed events other. absurd cc;
     }
 
@@ -64,6 +66,7 @@ returns-in-Some-Replay g c =
       never_fall = (end.causes.never_fall.source, end.causes.never_fall.sink, end.causes.never_fall.env);
       one_holder = λ own. c.run_replay.ensures.one_holder;
       triple_one_holder = λ other. absurd cc;
+      one_holder_beside = λ other. absurd cc;
       soak_one_holder = λ seed events other. absurd cc;
     }
 
@@ -84,6 +87,7 @@ returns-in-Some-Status g c =
       never_fall = (end.causes.never_fall.source, end.causes.never_fall.sink, end.causes.never_fall.env);
       one_holder = λ other. absurd cc;
       triple_one_holder = λ other. absurd cc;
+      one_holder_beside = λ other. absurd cc;
       soak_one_holder = λ seed events other. absurd cc;
     }
 
@@ -104,6 +108,7 @@ returns-in-Some-Soak g c =
       never_fall = (end.causes.never_fall.source, end.causes.never_fall.sink, end.causes.never_fall.env);
       one_holder = λ other. absurd cc;
       triple_one_holder = λ other. absurd cc;
+      one_holder_beside = λ other. absurd cc;
       soak_one_holder = soak_holds _ _ _ _ _ is c.code-in-Some-Soak.ensures c.run_soak.ensures.one_holder;
     }
 
@@ -124,6 +129,7 @@ returns-in-Some-Help g c =
       never_fall = (end.causes.never_fall.source, end.causes.never_fall.sink, end.causes.never_fall.env);
       one_holder = λ other. absurd cc;
       triple_one_holder = λ other. absurd cc;
+      one_holder_beside = λ other. absurd cc;
       soak_one_holder = λ seed events other. absurd cc;
     }
 
@@ -144,6 +150,7 @@ returns-in-Some-Create g c =
       never_fall = (end.causes.never_fall.source, end.causes.never_fall.sink, end.causes.never_fall.env);
       one_holder = λ other. absurd cc;
       triple_one_holder = λ other. absurd cc;
+      one_holder_beside = λ other. absurd cc;
       soak_one_holder = λ seed events other. absurd cc;
     }
 
@@ -164,6 +171,7 @@ returns-in-Some-Dump g c =
       never_fall = (end.causes.never_fall.source, end.causes.never_fall.sink, end.causes.never_fall.env);
       one_holder = λ other. absurd cc;
       triple_one_holder = λ other. absurd cc;
+      one_holder_beside = λ other. absurd cc;
       soak_one_holder = λ seed events other. absurd cc;
     }
 
@@ -184,6 +192,7 @@ returns-in-Some-List g c =
       never_fall = (end.causes.never_fall.source, end.causes.never_fall.sink, end.causes.never_fall.env);
       one_holder = λ other. absurd cc;
       triple_one_holder = λ other. absurd cc;
+      one_holder_beside = λ other. absurd cc;
       soak_one_holder = λ seed events other. absurd cc;
     }
 
@@ -204,6 +213,7 @@ returns-in-Some-Message g c =
       never_fall = (end.causes.never_fall.source, end.causes.never_fall.sink, end.causes.never_fall.env);
       one_holder = λ other. absurd cc;
       triple_one_holder = λ other. absurd cc;
+      one_holder_beside = λ other. absurd cc;
       soak_one_holder = λ seed events other. absurd cc;
     }
 
@@ -224,6 +234,7 @@ returns-in-Some-Migrate g c =
       never_fall = (end.causes.never_fall.source, end.causes.never_fall.sink, end.causes.never_fall.env);
       one_holder = λ other. absurd cc;
       triple_one_holder = λ other. absurd cc;
+      one_holder_beside = λ other. absurd cc;
       soak_one_holder = λ seed events other. absurd cc;
     }
 
@@ -244,6 +255,7 @@ returns-in-Some-Node g c =
       never_fall = (end.causes.never_fall.source, end.causes.never_fall.sink, end.causes.never_fall.env);
       one_holder = λ other. absurd cc;
       triple_one_holder = λ other. absurd cc;
+      one_holder_beside = λ other. absurd cc;
       soak_one_holder = λ seed events other. absurd cc;
     }
 
@@ -264,6 +276,7 @@ returns-in-Some-Node3 g c =
       never_fall = (end.causes.never_fall.source, end.causes.never_fall.sink, end.causes.never_fall.env);
       one_holder = λ other. absurd cc;
       triple_one_holder = λ other. absurd cc;
+      one_holder_beside = λ other. absurd cc;
       soak_one_holder = λ seed events other. absurd cc;
     }
 
@@ -284,6 +297,7 @@ returns-in-Some-NodeLogged g c =
       never_fall = (end.causes.never_fall.source, end.causes.never_fall.sink, end.causes.never_fall.env);
       one_holder = λ other. absurd cc;
       triple_one_holder = λ other. absurd cc;
+      one_holder_beside = λ other. absurd cc;
       soak_one_holder = λ seed events other. absurd cc;
     }
 
@@ -304,6 +318,7 @@ returns-in-Some-Audit g c =
       never_fall = (end.causes.never_fall.source, end.causes.never_fall.sink, end.causes.never_fall.env);
       one_holder = λ other. absurd cc;
       triple_one_holder = λ other. absurd cc;
+      one_holder_beside = λ other. absurd cc;
       soak_one_holder = λ seed events other. absurd cc;
     }
 
@@ -324,5 +339,27 @@ returns-in-Some-Replay3 g c =
       never_fall = (end.causes.never_fall.source, end.causes.never_fall.sink, end.causes.never_fall.env);
       one_holder = λ other. absurd cc;
       triple_one_holder = λ own. c.run_replay3.ensures.one_holder;
+      one_holder_beside = λ other. absurd cc;
+      soak_one_holder = λ seed events other. absurd cc;
+    }
+
+pub returns-in-Some-ReplayArbiter : goal.returns-in-Some-ReplayArbiter
+returns-in-Some-ReplayArbiter g c =
+    let is : Some command.ReplayArbiter ≡ command_of (map string_bytes c.args.words.now) = cc c.in-Some-ReplayArbiter.ensures.command in
+    let end = ends _ (Some command.ReplayArbiter) _ _ _ _ is c.code-in-Some-ReplayArbiter.ensures (c.run_replay_arbiter.ensures.replays (outside g.E.Env.calls g.E.Env.faults c.args.env.now)) in
+    record {
+      does = end.does;
+      usage = end.usage;
+      usage_only = end.usage_only;
+      unread = λ no. tested reads_input _ (Some command.ReplayArbiter) is refl no;
+      uncalled = λ no. refl;
+      memory = end.memory;
+      read_fault = end.causes.read_fault;
+      write_fault = end.causes.write_fault;
+      env_fault = end.causes.env_fault;
+      never_fall = (end.causes.never_fall.source, end.causes.never_fall.sink, end.causes.never_fall.env);
+      one_holder = λ other. absurd cc;
+      triple_one_holder = λ other. absurd cc;
+      one_holder_beside = λ own. c.run_replay_arbiter.ensures.one_holder;
       soak_one_holder = λ seed events other. absurd cc;
     }
