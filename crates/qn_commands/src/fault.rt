@@ -22,15 +22,23 @@ pub enum Fault {
     /// The settings text is a configuration, and gives no settings.
     BadSettings(SettingsFault),
     /// The line is at fault.
-    BadSchedule { line: u64, fault: LineFault },
+    BadSchedule {
+        line: u64,
+        fault: LineFault,
+    },
     /// The event of the line is refused by a rule of the world.
-    NotAllowed { line: u64, rule: Rule },
+    NotAllowed {
+        line: u64,
+        rule: Rule,
+    },
     /// The input could not be read.
     ReadFault,
     /// The image could not be opened, read or written, or a running node not be opened.
     EnvFault,
     /// The sector is no spelling.
-    BadImage { sector: u32 },
+    BadImage {
+        sector: u32,
+    },
     /// The times are in range, and not safe.
     UnsafeTiming(Timing),
     /// The two times of a lease are in range, and not safe with the timeout of the device.
@@ -42,7 +50,10 @@ pub enum Fault {
     /// Out of memory.
     NoMemory,
     /// The clock of a running node went back: the tick of the turn before, and the one that followed.
-    ClockBack { before: u64, now: u64 },
+    ClockBack {
+        before: u64,
+        now: u64,
+    },
     /// A running node read this deadly message in its mailbox.
     SelfReset(Message),
     /// A step of the boot of a running node halted it.
@@ -50,9 +61,13 @@ pub enum Fault {
     /// The mailbox holds this deadly message, which a test or an exit is not to replace.
     DeadlyThere(Message),
     /// No slot of the image, or no node of the settings, has the id.
-    UnknownNode { id: NodeId },
+    UnknownNode {
+        id: NodeId,
+    },
     /// The call of the line is the first of a log that the run does not ask for.
-    NotARun { line: u64 },
+    NotARun {
+        line: u64,
+    },
 }
 
 impl Fault {

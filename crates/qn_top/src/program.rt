@@ -12,8 +12,8 @@ ghost use Rattle.qn_top.specs.Words.{command_of};
 use crate::command::{Command, command_of};
 use crate::commands::help::help;
 use crate::commands::replay::run_replay;
-use crate::commands::replay3::run_replay3;
 use crate::commands::replay_arbiter::run_replay_arbiter;
+use crate::commands::replay3::run_replay3;
 use crate::commands::soak::run_soak;
 use crate::commands::status::run_status;
 use qn_commands::{

@@ -1,5 +1,5 @@
 //! `replay-arbiter`: the trace of a schedule beside an arbiter.
-ghost use Rattle.std.specs.Prelude.{◌≢◌, ◌≤◌};
+ghost use Rattle.std.specs.Prelude.{◌≡◌, ◌≢◌, ◌≤◌, true, false};
 ghost use Rattle.qn_commands.specs.Endings.{Says};
 ghost use Rattle.qn_commands.specs.Seen.{Outside, seen, sink, source};
 ghost use Rattle.qn_commands.specs.Statuses.{code_of};
@@ -28,10 +28,19 @@ pub(crate) fn run_replay_arbiter<I: Source, O: Sink>(
 {
     law_arbiter_ending();
     law_arbiter_traces();
-    match replay_arbiter(alloc, input, out) {
-        ArbiterEnd::Replay(ReplayEnd::WriteFault) => Status::WriteFault,
-        end => finish_arbiter(out, end),
+    let end = replay_arbiter(alloc, input, out);
+    if is_unwritten(end) {
+        return Status::WriteFault;
     }
+    finish_arbiter(out, end)
+}
+
+/// Whether a write of the trace failed.
+fn is_unwritten(end: ArbiterEnd) -> bool
+    ensures yes { result ≡ true → end ≡ ArbiterEnd.Replay ReplayEnd.WriteFault }
+    ensures no { result ≡ false → end ≢ ArbiterEnd.Replay ReplayEnd.WriteFault }
+{
+    matches!(end, ArbiterEnd::Replay(ReplayEnd::WriteFault))
 }
 
 /// Writes the last line of a replay beside an arbiter.
