@@ -27,6 +27,7 @@ pub struct AuditWords {
 }
 
 /// `audit`: judges the log behind the settings of the input. Memory is taken for the settings text alone.
+#[inline(never)]
 pub fn run_audit<I: Source, O: Sink>(
     alloc: Global,
     words: &AuditWords,

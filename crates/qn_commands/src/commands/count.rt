@@ -199,6 +199,7 @@ impl Run {
 }
 
 /// `count`: writes the votes of the views of the input, line after line. No memory is taken.
+#[inline(never)]
 pub fn count<I: Source, O: Sink>(input: &mut I, out: &mut O) -> Status
     ensures { (env : Outside) →
         let before = seen (source I.left I.faults input.old)

@@ -24,6 +24,7 @@ use std::alloc::Global;
 /// `create`: makes an image at that path with these times for the settings of the input. Times that are not
 /// safe are refused before anything is read, and the input is judged before anything is opened. Memory is
 /// taken for the settings text.
+#[inline(never)]
 pub fn create<I: Source, O: Sink, E: Env>(
     alloc: Global,
     image: &str,

@@ -11,6 +11,7 @@ use crate::status::Status;
 use qn_io::{Env, Sink};
 
 /// `dump`: the header of the image at that path. No memory is taken.
+#[inline(never)]
 pub fn dump<O: Sink, E: Env>(image: &str, out: &mut O, env: &mut E) -> Status
     ensures { (input : Input) →
         let before = seen input (sink O.written O.faults out.old)

@@ -17,6 +17,7 @@ use qn_io::{Env, Sink, put_all};
 
 /// `list`: a line for each node of the image at that path. A line is written before the next rank is read.
 /// No memory is taken.
+#[inline(never)]
 pub fn list<O: Sink, E: Env>(image: &str, out: &mut O, env: &mut E) -> Status
     ensures { (input : Input) →
         let before = seen input (sink O.written O.faults out.old)

@@ -20,6 +20,7 @@ use qn_io::{Env, Sink};
 use qn_model::Message;
 
 /// `message`: leaves a message to the node of that id, on the image at that path. No memory is taken.
+#[inline(never)]
 pub fn send<O: Sink, E: Env>(
     image: &str,
     id: NodeId,

@@ -18,6 +18,7 @@ use qn_image::ImageFault;
 use qn_io::{Env, Sink};
 
 /// `migrate`: makes an image of version 2 of the one at that path. No memory is taken.
+#[inline(never)]
 pub fn migrate<O: Sink, E: Env>(image: &str, out: &mut O, env: &mut E) -> Status
     ensures { (input : Input) →
         let before = seen input (sink O.written O.faults out.old)

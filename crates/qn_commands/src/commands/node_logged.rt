@@ -23,6 +23,7 @@ use std::alloc::Global;
 
 /// `node-logged`: runs the node as `node` does, and writes each of its calls with its answer as a line before the next
 /// call. Memory is taken for the settings text alone.
+#[inline(never)]
 pub fn node_logged<I: Source, O: Sink, E: Env>(
     alloc: Global,
     words: &NodeWords<'_>,

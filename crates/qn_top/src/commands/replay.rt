@@ -11,6 +11,7 @@ use qn_sched::ReplayEnd;
 use std::alloc::Global;
 
 /// `replay`: the trace of the schedule that the input is, and then how it ended.
+#[inline(never)]
 pub(crate) fn run_replay<I: Source, O: Sink>(alloc: Global, input: &mut I, out: &mut O) -> Status
     ensures replays { (env : Outside) →
         let before = seen (source I.left I.faults input.old)

@@ -11,6 +11,7 @@ use qn_triple_replay::{law_triple_ending, law_triple_one_holder, replay3};
 use std::alloc::Global;
 
 /// `replay3`: the trace of the schedule of three images that the input is, and then how it ended.
+#[inline(never)]
 pub(crate) fn run_replay3<I: Source, O: Sink>(alloc: Global, input: &mut I, out: &mut O) -> Status
     ensures replays { (env : Outside) →
         let before = seen (source I.left I.faults input.old)

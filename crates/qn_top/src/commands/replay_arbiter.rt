@@ -13,6 +13,7 @@ use qn_sched::ReplayEnd;
 use std::alloc::Global;
 
 /// `replay-arbiter`: the trace of the schedule beside an arbiter that the input is, and then how it ended.
+#[inline(never)]
 pub(crate) fn run_replay_arbiter<I: Source, O: Sink>(
     alloc: Global,
     input: &mut I,

@@ -13,6 +13,7 @@ use qn_sched::ReplayEnd;
 use std::alloc::Global;
 
 /// `soak`: the summary of so many events that are drawn from a seed.
+#[inline(never)]
 pub(crate) fn run_soak<O: Sink>(alloc: Global, seed: u64, events: u64, out: &mut O) -> Status
     requires { events ≤ MOST_EVENTS }
     ensures soaks { (input : Input) (env : Outside) →

@@ -17,6 +17,7 @@ use qn_world::World;
 use std::alloc::Global;
 
 /// `status`: the status of each node after the schedule that the input is, or else the fault line alone.
+#[inline(never)]
 pub(crate) fn run_status<I: Source, O: Sink>(
     alloc: Global,
     form: Form,
