@@ -26,18 +26,23 @@ pub fn replay_arbiter<I: Source, O: Sink>(alloc: Global, input: &mut I, out: &mu
     ensures replays { Replays (I.left input.old) (I.left input.new) (HasRisen (I.faults input.old) (I.faults input.new))
         (O.written out.old) (O.written out.new) (HasRisen (O.faults out.old) (O.faults out.new)) result }
 
-    ensures complete { ¬ HasRisen (I.faults input.old) (I.faults input.new) → ¬ HasRisen (O.faults out.old) (O.faults out.new)
+    ensures complete { ¬ HasRisen (I.faults input.old) (I.faults input.new)
+        → ¬ HasRisen (O.faults out.old) (O.faults out.new)
         → result ≢ ArbiterEnd.Replay ReplayEnd.NoMemory
-        → IfSome (I.left input.old) (λ bytes. AnswersWhole (replay_arbiter_of Ended bytes) (O.written out.old) (O.written out.new) result) }
-    ensures done { IfDone result (Completes (I.left input.old) (I.left input.new) (O.written out.old) (O.written out.new) result) }
+        → IfSome (I.left input.old) (λ bytes.
+        AnswersWhole (replay_arbiter_of Ended bytes) (O.written out.old) (O.written out.new) result) }
+    ensures done { IfDone result
+        (Completes (I.left input.old) (I.left input.new) (O.written out.old) (O.written out.new) result) }
 
     // Out of memory.
     ensures memory { result ≡ ArbiterEnd.Replay ReplayEnd.NoMemory
         → Wants (I.left input.old) (I.left input.new) (O.written out.old) (O.written out.new) }
 
     // The faults of the outside.
-    ensures read_fault { result ≡ ArbiterEnd.Replay ReplayEnd.ReadFault → HasRisen (I.faults input.old) (I.faults input.new) }
-    ensures write_fault { result ≡ ArbiterEnd.Replay ReplayEnd.WriteFault → HasRisen (O.faults out.old) (O.faults out.new) }
+    ensures read_fault { result ≡ ArbiterEnd.Replay ReplayEnd.ReadFault
+        → HasRisen (I.faults input.old) (I.faults input.new) }
+    ensures write_fault { result ≡ ArbiterEnd.Replay ReplayEnd.WriteFault
+        → HasRisen (O.faults out.old) (O.faults out.new) }
     ensures source_faults { I.faults input.old ≤ I.faults input.new }
     ensures sink_faults { O.faults out.old ≤ O.faults out.new }
 {

@@ -25,7 +25,8 @@ pub fn read_arbiter_line(line: &[u8], settings: &Settings) -> Result<ArbiterEven
     requires { IsValid settings.now }
     ensures first_fault { result ≡ arbiter_event_of (ids settings.now.nodes) line.now }
     ensures spelled { (event : ArbiterEvent) → (result ≡ Ok event)
-        ↔ (IsTrue (is_well_formed_beside settings.now event) × (arbiter_line (ids settings.now.nodes) event ≡ Some line.now)) }
+        ↔ (IsTrue (is_well_formed_beside settings.now event)
+        × (arbiter_line (ids settings.now.nodes) event ≡ Some line.now)) }
 {
     law_arbiter_lines();
     read_event(line, settings)

@@ -39,7 +39,8 @@ pub fn read_settings<I: Source>(
         (prepend_known pieces.old (I.left input.old)) (prepend_known pieces.new (I.left input.new))
         ((pieces.new ≡ []) × IsAtEnd (I.left input.new))
         ((pieces.new ≡ []) × HasRisen (I.faults input.old) (I.faults input.new)) (end_of fault)) }
-    ensures cause { IfErr result (λ fault. fault ≡ HeadFault.ReadFault → HasRisen (I.faults input.old) (I.faults input.new)) }
+    ensures cause { IfErr result (λ fault. fault ≡ HeadFault.ReadFault
+        → HasRisen (I.faults input.old) (I.faults input.new)) }
     ensures within { length pieces.new ≤ PIECE }
     ensures never_falls { I.faults input.old ≤ I.faults input.new }
 {
@@ -66,7 +67,8 @@ fn read_text<I: Source>(
         (prepend_known pieces.old (I.left input.old)) (prepend_known pieces.new (I.left input.new))
         ((pieces.new ≡ []) × IsAtEnd (I.left input.new))
         ((pieces.new ≡ []) × HasRisen (I.faults input.old) (I.faults input.new)) (end_of fault)) }
-    ensures cause { IfErr result (λ fault. fault ≡ HeadFault.ReadFault → HasRisen (I.faults input.old) (I.faults input.new)) }
+    ensures cause { IfErr result (λ fault. fault ≡ HeadFault.ReadFault
+        → HasRisen (I.faults input.old) (I.faults input.new)) }
     ensures within { length pieces.new ≤ PIECE }
     ensures never_falls { I.faults input.old ≤ I.faults input.new }
 {

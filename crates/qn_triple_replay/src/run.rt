@@ -23,13 +23,17 @@ pub fn replay3<I: Source, O: Sink>(alloc: Global, input: &mut I, out: &mut O) ->
     ensures replays { Replays (I.left input.old) (I.left input.new) (HasRisen (I.faults input.old) (I.faults input.new))
         (O.written out.old) (O.written out.new) (HasRisen (O.faults out.old) (O.faults out.new)) result }
 
-    ensures complete { ¬ HasRisen (I.faults input.old) (I.faults input.new) → ¬ HasRisen (O.faults out.old) (O.faults out.new)
+    ensures complete { ¬ HasRisen (I.faults input.old) (I.faults input.new)
+        → ¬ HasRisen (O.faults out.old) (O.faults out.new)
         → result ≢ ReplayEnd.NoMemory
-        → IfSome (I.left input.old) (λ bytes. AnswersWhole (replay3_of Ended bytes) (O.written out.old) (O.written out.new) result) }
-    ensures done { IfDone result (Completes (I.left input.old) (I.left input.new) (O.written out.old) (O.written out.new) result) }
+        → IfSome (I.left input.old) (λ bytes.
+        AnswersWhole (replay3_of Ended bytes) (O.written out.old) (O.written out.new) result) }
+    ensures done { IfDone result
+        (Completes (I.left input.old) (I.left input.new) (O.written out.old) (O.written out.new) result) }
 
     // Out of memory.
-    ensures memory { result ≡ ReplayEnd.NoMemory → Wants (I.left input.old) (I.left input.new) (O.written out.old) (O.written out.new) }
+    ensures memory { result ≡ ReplayEnd.NoMemory
+        → Wants (I.left input.old) (I.left input.new) (O.written out.old) (O.written out.new) }
 
     // The faults of the outside.
     ensures read_fault { result ≡ ReplayEnd.ReadFault → HasRisen (I.faults input.old) (I.faults input.new) }
