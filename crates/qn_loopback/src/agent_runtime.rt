@@ -65,14 +65,14 @@ impl<R> AgentRuntime<R> {
 }
 
 /// Whether this is what the agent was sent on its last connection.
-pub fn was_sent(connection: &Connection, line: &[u8]) -> io::Result<bool> {
+pub fn was_sent(connection: &Connection, line: &[u8]) -> bool {
     let Some(mut agent) = connection.replace(None) else {
-        return Ok(false);
+        return false;
     };
     let mut sent = [0; 16];
-    let count = agent.read(&mut sent)?;
+    let same = matches!(agent.read(&mut sent), Ok(count) if &sent[..count] == line);
     connection.set(Some(agent));
-    Ok(&sent[..count] == line)
+    same
 }
 
 impl<R: Net> Net for AgentRuntime<R> {

@@ -1,10 +1,10 @@
 //! A resource behind an agent: what it is sent, which answers are success, and that no feed is given after a slow one.
 use crate::agent_runtime::{AgentRuntime, Answer, was_sent};
-use crate::openings::opens;
+use crate::calls::{begin_turn, feeds, opens, starts, stops};
 use crate::place::{NodeWords, Place};
 use crate::report::Report;
 use qn_base::Rank;
-use qn_io::{Env, Opening, RealEnv};
+use qn_io::{Opening, RealEnv};
 use std::fs::File;
 use std::io;
 use std::net::Net;
@@ -40,15 +40,16 @@ pub fn check_lines<R: Files<File = File> + Net + Clock + Eprint + Print>(
     let agent = AgentRuntime::new(rt, place.alloc(), at_once(b"ok\n"), at_once(b"ok\n"))?;
     let connection = agent.connection()?;
     let mut node = RealEnv::new(agent);
-    let stops = node.open_node(&words.opening(port, Rank(2))).is_ok();
+    let asked = opens(&mut node, &words.opening(port, Rank(2)));
     report.say(
         "an opening asks an agent to stop",
-        stops && was_sent(&connection, b"stop\n")?,
-    )?;
-    let starts = node.start().is_ok() && was_sent(&connection, b"start\n")?;
-    report.say("a start asks it to start", starts)?;
-    let stops = node.stop().is_ok() && was_sent(&connection, b"stop\n")?;
-    report.say("a stop asks it to stop", stops)
+        asked && was_sent(&connection, b"stop\n"),
+    );
+    let asked = starts(&mut node) && was_sent(&connection, b"start\n");
+    report.say("a start asks it to start", asked);
+    let asked = stops(&mut node) && was_sent(&connection, b"stop\n");
+    report.say("a stop asks it to stop", asked);
+    Ok(())
 }
 
 /// A start that the agent refuses has failed.
@@ -61,11 +62,12 @@ pub fn check_refused_start<R: Files<File = File> + Net + Clock + Eprint + Print>
 ) -> io::Result<()> {
     let agent = AgentRuntime::new(rt, place.alloc(), at_once(b"ok\n"), at_once(b"no\n"))?;
     let mut node = RealEnv::new(agent);
-    let opened = node.open_node(&words.opening(port, Rank(2))).is_ok();
+    let opened = opens(&mut node, &words.opening(port, Rank(2)));
     report.say(
         "a start that it refuses has failed",
-        opened && node.start().is_err(),
-    )
+        opened && !starts(&mut node),
+    );
+    Ok(())
 }
 
 /// Which answers to the stop of an opening are success.
@@ -75,7 +77,7 @@ pub fn check_answers<R: Files<File = File> + Net + Clock + Eprint + Print>(
     place: &Place,
     words: &NodeWords,
     port: u16,
-) -> io::Result<()> {
+) {
     let answers = [
         ("the answer ok is success", at_once(b"ok\n"), true),
         (
@@ -107,11 +109,11 @@ pub fn check_answers<R: Files<File = File> + Net + Clock + Eprint + Print>(
         ),
     ];
     for (what, answer, success) in answers {
-        let opened = opens_with(rt, place, &words.opening(port, Rank(2)), answer)?;
-        report.say(what, opened == success)?;
+        let opened = opens_with(rt, place, &words.opening(port, Rank(2)), answer);
+        report.say(what, opened == success);
     }
-    let opened = opens(rt, &words.opening(port, Rank(2)));
-    report.say("no agent at all is a failure", !opened)
+    let opened = opens(&mut RealEnv::new(rt), &words.opening(port, Rank(2)));
+    report.say("no agent at all is a failure", !opened);
 }
 
 /// Whether a node opens where the agent answers so.
@@ -120,9 +122,11 @@ fn opens_with<R: Files<File = File> + Net + Clock + Eprint>(
     place: &Place,
     opening: &Opening<'_>,
     answer: Answer,
-) -> io::Result<bool> {
-    let agent = AgentRuntime::new(rt, place.alloc(), answer, answer)?;
-    Ok(RealEnv::new(agent).open_node(opening).is_ok())
+) -> bool {
+    match AgentRuntime::new(rt, place.alloc(), answer, answer) {
+        Ok(agent) => opens(&mut RealEnv::new(agent), opening),
+        Err(_) => false,
+    }
 }
 
 /// After a stop that took 800 ms the feed of the turn is not given, and the next one is.
@@ -135,17 +139,18 @@ pub fn check_slow_stop<R: Files<File = File> + Net + Clock + Eprint + Print>(
 ) -> io::Result<()> {
     let agent = AgentRuntime::new(rt, place.alloc(), at_once(b"ok\n"), slow(800, b"ok\n"))?;
     let mut node = RealEnv::new(agent);
-    let opened = node.open_node(&words.opening(port, Rank(2))).is_ok();
-    let _tick = node.now();
-    let stopped = opened && node.stop().is_ok();
-    let late = node.feed().is_err() && place.holds(rt, "watchdog.4", "")?;
+    let opened = opens(&mut node, &words.opening(port, Rank(2)));
+    begin_turn(&mut node);
+    let stopped = opened && stops(&mut node);
+    let late = !feeds(&mut node) && place.holds(rt, "watchdog.4", "");
     report.say(
         "after a stop of 800 ms the turn's feed is not given",
         stopped && late,
-    )?;
-    let _tick = node.now();
-    let fed = node.feed().is_ok() && place.holds(rt, "watchdog.4", "1")?;
-    report.say("and the next one is", fed)
+    );
+    begin_turn(&mut node);
+    let fed = feeds(&mut node) && place.holds(rt, "watchdog.4", "1");
+    report.say("and the next one is", fed);
+    Ok(())
 }
 
 /// The words of a node whose resource is behind an agent.

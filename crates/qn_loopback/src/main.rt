@@ -7,6 +7,7 @@
 
 mod agent_runtime;
 mod agents;
+mod calls;
 mod devices;
 mod network;
 mod openings;
@@ -62,12 +63,13 @@ fn try_pair<R: Files<File = File> + Net + Clock + Eprint + Print>(
     pair: &mut Pair<'_, R>,
     report: &mut Report<'_, R>,
 ) -> io::Result<()> {
-    network::check_packets(report, &mut pair.first, &mut pair.second)?;
+    network::check_packets(report, &mut pair.first, &mut pair.second);
     network::check_foreign(report, rt, pair.port, &mut pair.first)?;
-    sectors::check_sectors(report, &mut pair.first, &mut pair.second)?;
-    devices::check_resource(report, rt, place, &mut pair.first)?;
-    devices::check_watchdog(report, rt, place, &mut pair.first)?;
-    openings::check_second_start(report, rt, place, words, pair.port, &mut pair.first)
+    sectors::check_sectors(report, &mut pair.first, &mut pair.second);
+    devices::check_resource(report, rt, place, &mut pair.first);
+    devices::check_watchdog(report, rt, place, &mut pair.first);
+    openings::check_second_start(report, rt, place, words, pair.port, &mut pair.first);
+    Ok(())
 }
 
 /// Tries openings of a third node.
@@ -79,11 +81,11 @@ fn try_openings<R: Files<File = File> + Net + Clock + Eprint + Print>(
 ) -> io::Result<()> {
     openings::check_folders(report, rt, place, port)?;
     let words = NodeWords::new(place, "image", "watchdog.2", "resource.2")?;
-    devices::check_other_watchdogs(report, rt, &words, port)?;
+    devices::check_other_watchdogs(report, rt, &words, port);
     devices::check_pipe(report, rt, place, port)?;
     let words = agents::words_of_agent(place)?;
     agents::check_lines(report, rt, place, &words, port)?;
     agents::check_refused_start(report, rt, place, &words, port)?;
-    agents::check_answers(report, rt, place, &words, port)?;
+    agents::check_answers(report, rt, place, &words, port);
     agents::check_slow_stop(report, rt, place, &words, port)
 }

@@ -11,20 +11,16 @@ use std::net::{Ipv4Addr, Net, UdpSocket};
 const LONG: usize = 600;
 
 /// What one node sends the other receives, both ways; and where nobody sends, nothing comes.
-pub fn check_packets<E: Env, P: Print>(
-    report: &mut Report<'_, P>,
-    first: &mut E,
-    second: &mut E,
-) -> io::Result<()> {
+pub fn check_packets<E: Env, P: Print>(report: &mut Report<'_, P>, first: &mut E, second: &mut E) {
     let goes = all_pass(first, second, Rank(1));
-    report.say("packets of 0 to 128 bytes reach rank 1", goes)?;
+    report.say("packets of 0 to 128 bytes reach rank 1", goes);
     let goes = all_pass(second, first, Rank(0));
-    report.say("packets of 0 to 128 bytes reach rank 0", goes)?;
+    report.say("packets of 0 to 128 bytes reach rank 0", goes);
     let mut packet = [0; PACKET];
     let nothing = first.receive(&mut packet) == Got::Nothing;
-    report.say("where nobody sends nothing comes", nothing)?;
+    report.say("where nobody sends nothing comes", nothing);
     let sent = first.send(Rank(7), b"QN").is_ok();
-    report.say("a packet to a node that is not there is no fault", sent)
+    report.say("a packet to a node that is not there is no fault", sent);
 }
 
 /// Whether packets of several lengths reach the node of that rank.
@@ -63,11 +59,13 @@ pub fn check_foreign<E: Env, N: Net, P: Print>(
     ];
     for (what, length, taken) in cases {
         let bytes = numbered();
-        stranger.send_to(&bytes[..length], (Ipv4Addr::LOCALHOST, port))?;
+        let sent = stranger
+            .send_to(&bytes[..length], (Ipv4Addr::LOCALHOST, port))
+            .is_ok();
         let mut packet = [0; PACKET];
         let got = node.receive(&mut packet);
         let first = got == Got::Packet(taken) && packet[..taken] == bytes[..taken];
-        report.say(what, first)?;
+        report.say(what, sent && first);
     }
     Ok(())
 }

@@ -1,8 +1,9 @@
 //! Openings that fail, and what they leave alone.
+use crate::calls::{opens, starts};
 use crate::place::{NodeWords, Place};
 use crate::report::Report;
 use qn_base::Rank;
-use qn_io::{Env, Opening, RealEnv};
+use qn_io::{Env, RealEnv};
 use std::fs::{self, File};
 use std::io;
 use std::net::Net;
@@ -17,12 +18,12 @@ pub fn check_second_start<E: Env, R: Files<File = File> + Net + Clock + Eprint +
     words: &NodeWords,
     port: u16,
     node: &mut E,
-) -> io::Result<()> {
-    let held = node.start().is_ok();
-    let second = opens(rt, &words.opening(port, Rank(0)));
-    report.say("a second start of a node fails", held && !second)?;
-    let untouched = place.holds(rt, "resource.0", "held")?;
-    report.say("and leaves the resource of the first as it is", untouched)
+) {
+    let held = starts(node);
+    let second = opens(&mut RealEnv::new(rt), &words.opening(port, Rank(0)));
+    report.say("a second start of a node fails", held && !second);
+    let untouched = place.holds(rt, "resource.0", "held");
+    report.say("and leaves the resource of the first as it is", untouched);
 }
 
 /// A folder is no image, no resource and no watchdog, and what comes after it in the opening is not touched.
@@ -34,28 +35,24 @@ pub fn check_folders<R: Files<File = File> + Net + Clock + Eprint + Print>(
 ) -> io::Result<()> {
     fs::create_dir(rt, place.path("folder")?.as_str())?;
     let words = NodeWords::new(place, "image", "watchdog.2", "resource.2")?;
-    let opened = opens(rt, &words.opening(port, Rank(2)));
-    report.say("three files open as a node of rank 2", opened)?;
+    let opened = opens(&mut RealEnv::new(rt), &words.opening(port, Rank(2)));
+    report.say("three files open as a node of rank 2", opened);
     let words = NodeWords::new(place, "folder", "watchdog.3", "resource.3")?;
-    let opened = opens(rt, &words.opening(port, Rank(2)));
-    let made = place.has(rt, "resource.3")?;
+    let opened = opens(&mut RealEnv::new(rt), &words.opening(port, Rank(2)));
+    let made = place.has(rt, "resource.3");
     report.say(
         "a folder is no image, and no resource is made",
         !opened && !made,
-    )?;
+    );
     let words = NodeWords::new(place, "image", "watchdog.3", "folder")?;
-    let opened = opens(rt, &words.opening(port, Rank(2)));
-    let made = place.has(rt, "watchdog.3")?;
+    let opened = opens(&mut RealEnv::new(rt), &words.opening(port, Rank(2)));
+    let made = place.has(rt, "watchdog.3");
     report.say(
         "a folder is no resource, and no watchdog is made",
         !opened && !made,
-    )?;
+    );
     let words = NodeWords::new(place, "image", "folder", "resource.3")?;
-    let opened = opens(rt, &words.opening(port, Rank(2)));
-    report.say("a folder is no watchdog", !opened)
-}
-
-/// Whether a node opens, which is closed then.
-pub fn opens<R: Files<File = File> + Net + Clock + Eprint>(rt: &R, opening: &Opening<'_>) -> bool {
-    RealEnv::new(rt).open_node(opening).is_ok()
+    let opened = opens(&mut RealEnv::new(rt), &words.opening(port, Rank(2)));
+    report.say("a folder is no watchdog", !opened);
+    Ok(())
 }

@@ -27,8 +27,10 @@ impl Place {
 
     /// The path of a name in it.
     pub fn path(&self, name: &str) -> Result<String, AllocError> {
-        let folder = self.folder.as_str();
-        format!(in self.alloc; "{folder}/{name}")
+        let mut path = String::from_str(self.alloc, self.folder.as_str())?;
+        path.push_str("/")?;
+        path.push_str(name)?;
+        Ok(path)
     }
 
     /// The word for the agent whose socket has that name in it.
@@ -42,24 +44,25 @@ impl Place {
         format!(in self.alloc; "/proc/self/fd/{number}")
     }
 
+    /// The text of a file; none where it cannot be read.
+    fn text<R: Files>(&self, rt: &R, name: &str) -> Option<String> {
+        let path = self.path(name).ok()?;
+        fs::read_to_string(&(rt, self.alloc), path.as_str()).ok()
+    }
+
     /// Whether a file has this text.
-    pub fn holds<R: Files>(&self, rt: &R, name: &str, text: &str) -> io::Result<bool> {
-        let path = self.path(name)?;
-        let held = fs::read_to_string(&(rt, self.alloc), path.as_str())?;
-        Ok(held.as_str() == text)
+    pub fn holds<R: Files>(&self, rt: &R, name: &str, text: &str) -> bool {
+        matches!(self.text(rt, name), Some(held) if held.as_str() == text)
     }
 
     /// Whether the text of a file ends in that character.
-    pub fn ends_in<R: Files>(&self, rt: &R, name: &str, last: char) -> io::Result<bool> {
-        let path = self.path(name)?;
-        let held = fs::read_to_string(&(rt, self.alloc), path.as_str())?;
-        Ok(held.as_str().ends_with(last))
+    pub fn ends_in<R: Files>(&self, rt: &R, name: &str, last: char) -> bool {
+        matches!(self.text(rt, name), Some(held) if held.as_str().ends_with(last))
     }
 
     /// Whether something has that name.
-    pub fn has<R: Files>(&self, rt: &R, name: &str) -> io::Result<bool> {
-        let path = self.path(name)?;
-        Ok(fs::metadata(rt, path.as_str()).is_ok())
+    pub fn has<R: Files>(&self, rt: &R, name: &str) -> bool {
+        matches!(self.path(name), Ok(path) if fs::metadata(rt, path.as_str()).is_ok())
     }
 
     /// Removes the folder with all that is in it.

@@ -38,16 +38,17 @@ pub fn check_runs<R: Files<File = File> + Net + Clock + Eprint + Print>(
     port: u16,
 ) -> io::Result<()> {
     let words = NodeWords::new(place, "image", "watchdog.5", "resource.5")?;
-    report.say("an image of two nodes is made", makes_image(rt, &words))?;
+    report.say("an image of two nodes is made", makes_image(rt, &words));
     let left = leaves(rt, &words, port, Rank(0));
-    report.say("rank 0 runs and leaves clean", left)?;
+    report.say("rank 0 runs and leaves clean", left);
     let words = NodeWords::new(place, "image", "watchdog.6", "resource.6")?;
     let left = leaves(rt, &words, port, Rank(1));
-    report.say("rank 1 runs and leaves clean", left)?;
-    let disarmed = place.ends_in(rt, "watchdog.5", 'V')? && place.ends_in(rt, "watchdog.6", 'V')?;
-    report.say("both disarmed their watchdogs", disarmed)?;
-    let free = place.holds(rt, "resource.5", "free")? && place.holds(rt, "resource.6", "free")?;
-    report.say("both left their resources free", free)
+    report.say("rank 1 runs and leaves clean", left);
+    let disarmed = place.ends_in(rt, "watchdog.5", 'V') && place.ends_in(rt, "watchdog.6", 'V');
+    report.say("both disarmed their watchdogs", disarmed);
+    let free = place.holds(rt, "resource.5", "free") && place.holds(rt, "resource.6", "free");
+    report.say("both left their resources free", free);
+    Ok(())
 }
 
 /// Whether the image of two nodes is made.

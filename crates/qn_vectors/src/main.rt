@@ -3,7 +3,7 @@
 //! settings texts, through their reader.
 //!
 //!     qn_vectors             reads rows, and writes each from which a form differs, and how many there were
-//!     qn_vectors show        reads histories, and writes what comes out of each entry
+//!     qn_vectors show        reads one history, and writes what comes out of each entry
 //!     qn_vectors steps N     reads one history, and hands it N times to a new node
 //!     qn_vectors plain N     reads one history, and evaluates each of its first N beginnings from the whole list
 //!
@@ -20,7 +20,6 @@ mod rows;
 mod running;
 mod texts;
 mod ties;
-mod writing;
 mod wrong;
 
 use anyhow::{Context, Result, bail};

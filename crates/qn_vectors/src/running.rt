@@ -1,6 +1,6 @@
 //! Shows and times what comes out of a recorded history.
-use crate::writing::outs_text;
-use anyhow::{Context, Result, bail};
+use crate::wrong::Wrong;
+use anyhow::Result;
 use qn_base::Rank;
 use qn_history::{rank_word, read_entry, read_rank, read_settings, settings_words};
 use qn_model::{Entry, Outs, Settings};
@@ -9,27 +9,18 @@ use qn_plain::outs;
 use std::alloc::Global;
 use std::io::{BufRead, Lines};
 
-/// Writes what comes out of each entry, of one history after another.
+/// Writes what comes out of each entry of a history, a line an entry.
 pub fn show<R: BufRead + Drop>(
     rt: &(impl Print + AllocGlobal),
-    lines: Lines<R, Global>,
+    mut lines: Lines<R, Global>,
 ) -> Result<()> {
-    let mut settings = None;
-    let mut node = None;
+    let (settings, me) = read_head(&mut lines)?;
+    let mut node = node_of(&settings, me)?;
+    let mut outs = Outs::new();
     for line in lines {
-        let line = line?;
-        if let Some(words) = settings_words(line.as_str()) {
-            settings = Some(read_settings(words)?);
-        } else if let Some(word) = rank_word(line.as_str()) {
-            let settings = settings.as_ref().context("no settings")?;
-            node = Some(node_of(settings, read_rank(word)?)?);
-        } else {
-            let entry = read_entry(rt.alloc(), line.as_str())?;
-            let mut outs = Outs::new();
-            step(node.as_mut().context("no rank")?, entry, &mut outs)?;
-            let text = outs_text(rt.alloc(), outs.as_slice())?;
-            println!(rt; "{text}")?;
-        }
+        let entry = read_entry(rt.alloc(), line?.as_str())?;
+        step(&mut node, entry, &mut outs)?;
+        println!(rt; "{:?}", outs.as_slice())?;
     }
     Ok(())
 }
@@ -45,10 +36,7 @@ pub struct Recorded {
 impl Recorded {
     /// Reads a history: its settings, the rank of its node, and its entries.
     pub fn read<R: BufRead + Drop>(alloc: Global, mut lines: Lines<R, Global>) -> Result<Self> {
-        let line = lines.next().context("no settings")??;
-        let settings = read_settings(settings_words(line.as_str()).context("no settings")?)?;
-        let line = lines.next().context("no rank")??;
-        let me = read_rank(rank_word(line.as_str()).context("no rank")?)?;
+        let (settings, me) = read_head(&mut lines)?;
         let mut entries = Vec::new(alloc);
         for line in lines {
             entries.push(read_entry(alloc, line?.as_str())?)?;
@@ -61,7 +49,7 @@ impl Recorded {
     }
 
     /// Hands the history so many times to a new node; the number of outputs.
-    pub fn step_all(&self, rounds: usize) -> Result<u64> {
+    pub fn step_all(&self, rounds: usize) -> Result<u64, Wrong> {
         let mut sum = 0u64;
         for _ in 0..rounds {
             sum = sum.saturating_add(self.outs_of_round()?);
@@ -82,7 +70,7 @@ impl Recorded {
     }
 
     /// Hands the history to a new node; the number of outputs.
-    fn outs_of_round(&self) -> Result<u64> {
+    fn outs_of_round(&self) -> Result<u64, Wrong> {
         let mut node = node_of(&self.settings, self.me)?;
         let mut outs = Outs::new();
         let mut sum = 0u64;
@@ -94,16 +82,33 @@ impl Recorded {
     }
 }
 
-fn node_of(settings: &Settings, me: Rank) -> Result<Node> {
+/// Reads the two lines before the entries: the settings, and the rank of the node.
+fn read_head<R: BufRead + Drop>(lines: &mut Lines<R, Global>) -> Result<(Settings, Rank), Wrong> {
+    let line = next_line(lines)?;
+    let settings = read_settings(settings_words(line.as_str()).ok_or(Wrong::Form)?)?;
+    let line = next_line(lines)?;
+    let me = read_rank(rank_word(line.as_str()).ok_or(Wrong::Form)?)?;
+    Ok((settings, me))
+}
+
+/// The next line.
+fn next_line<R: BufRead + Drop>(lines: &mut Lines<R, Global>) -> Result<String, Wrong> {
+    match lines.next() {
+        Some(Ok(line)) => Ok(line),
+        Some(Err(_)) | None => Err(Wrong::Form),
+    }
+}
+
+fn node_of(settings: &Settings, me: Rank) -> Result<Node, Wrong> {
     if usize::from(me.0) >= settings.nodes.len() {
-        bail!("the rank is not configured");
+        return Err(Wrong::Form);
     }
     Ok(Node::new(settings, me))
 }
 
-fn step(node: &mut Node, entry: Entry, outs: &mut Outs) -> Result<()> {
+fn step(node: &mut Node, entry: Entry, outs: &mut Outs) -> Result<(), Wrong> {
     if node.steps_left() == 0 {
-        bail!("no step is left");
+        return Err(Wrong::Form);
     }
     node.step(entry, outs);
     Ok(())
