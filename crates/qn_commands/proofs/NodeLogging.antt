@@ -10,7 +10,7 @@ use Rattle.qn_io.specs.Outside.{append_known-nil}
 use Rattle.qn_io.specs.Writes.{AppendsFront}
 use Rattle.qn_live.specs.declared.live_end.LiveEnd.{LiveEnd}
 use Rattle.qn_live.specs.declared.live_end.LiveEnd.TheVariants as ended
-use Rattle.qn_live.specs.EndLaws.{no_end_by_call, no_end_by_clock}
+use Rattle.qn_live.specs.EndLaws.{halted_by, no_end_by_call, no_end_by_clock}
 use Rattle.qn_live.specs.Runs.{live_plan}
 use Rattle.qn_model.specs.Log.{Line}
 use Rattle.qn_model.specs.declared.configuration.Settings.{Settings}
@@ -174,10 +174,11 @@ module _ (words : NodeWords) (settings : Settings) (rank : ℕ) (input : Input) 
 -- ## The record
 
 -- what ends a run on one image
-end_causes : (words : NodeWords) (settings : Settings) (rank : ℕ) → EndsWithCause (node_plan One words settings rank)
+end_causes : (words : NodeWords) (settings : Settings) (rank : ℕ) → EndsWithCause One words settings rank
 end_causes words settings rank = record {
   call = no_end_by_call settings rank words.clean words.leave words.turns;
   clock = no_end_by_clock settings rank words.clean words.leave words.turns;
+  halted = λ calls ran cause follows is failure. (halted_by settings rank words.clean words.leave words.turns calls ran follows cause is failure).0;
 }
 
 module _ (words : NodeWords) (before after : Seen) (code : ℕ) (never_fall : NeverFall before after)

@@ -51,7 +51,7 @@ use Rattle.qn_live.specs.declared.place.Waits.{Waits}
 use Rattle.qn_live.specs.CalmOutputs.{calm_boot, calm_live, calm_outs}
 use Rattle.qn_live.specs.Choosing.{choice_of, choice_plan, heard, is_entry_for, is_to_leave, looked, packet_in, ready, receive_plan, view_or_tick}
 use Rattle.qn_live.specs.Greetings.{sends_plan}
-use Rattle.qn_live.specs.Halts.{HaltedBy, is_on_disk, one_call}
+use Rattle.qn_live.specs.Halts.{HaltedBy, IsNewest, is_on_disk, one_call}
 use Rattle.qn_live.specs.Performing.{disk_answer, disk_call, done, end_in, halt_code, noted, out_call, outs_plan, own_number, waits_after}
 use Rattle.qn_live.specs.Running.{RunState, Turned, Over, Next, Ran, first_state, later}
 use Rattle.qn_live.specs.Runs.{clocked, greeted, handled, live_plan, run_plan, settled, taken, timed, turn_plan}
@@ -175,17 +175,17 @@ record FailedLast (s : Settings) (me : ℕ) (last : Option Call) (why : BootCaus
   fails : is_failed made ≡ true
   halts : boot_halt s (failed op) ≡ Some why
 
--- the cause is no failure of a call, or the last call on the disk gave it
-abbrev Caused : Settings → ℕ → Option Call → BootCause → Type 0
-Caused s me last why = is_no_failure why ≡ false → FailedLast s me last why
+-- the cause is no failure of a call, or the last call on the disk gave it: the entry is that its operation failed
+abbrev Caused : Settings → ℕ → Option Call → What → BootCause → Type 0
+Caused s me last entry why = is_no_failure why ≡ false → (by : FailedLast s me last why) × (entry ≡ failed by.op)
 
-abbrev CausedHalt : Settings → ℕ → Option Call → Option BootCause → Type 0
-CausedHalt s me last None = Unit {0}
-CausedHalt s me last (Some why) = Caused s me last why
+abbrev CausedHalt : Settings → ℕ → Option Call → What → Option BootCause → Type 0
+CausedHalt s me last entry None = Unit {0}
+CausedHalt s me last entry (Some why) = Caused s me last entry why
 
 -- the same of the cause for which an entry halts a boot
 abbrev CausedBy : Settings → ℕ → Option Call → What → Type 0
-CausedBy s me last entry = CausedHalt s me last (boot_halt s entry)
+CausedBy s me last entry = CausedHalt s me last entry (boot_halt s entry)
 
 abbrev Waiting : Settings → ℕ → Option Call → Option What → Type 0
 Waiting s me last None = Unit {0}
@@ -206,29 +206,29 @@ abbrev Halting : (BootCause → Type 0) → List Out → Type 0
 Halting P outs = ((why : BootCause) × (outs ≡ out.Halt (halt.Boot why) ∷ []) × P why) ⊎ (calm_outs outs ≡ true)
 
 halting_at : (s : Settings) (me : ℕ) (past : List Line) (tick : ℕ) (entry : What) (log : List Line) (last : Option Call) → CausedBy s me last entry
-    → Halting (Caused s me last) (outs_at s me past tick entry log)
+    → Halting (Caused s me last entry) (outs_at s me past tick entry log)
 unfolding outs_at
 halting_at s me past tick entry log last caused = of_phase (is_booting (phase s past)) (is_live (phase s past))
   where
-    of_halt : (halted : Option BootCause) → CausedHalt s me last halted
-        → Halting (Caused s me last) (boot_step_outs me (begins_clean log) (slot_number log) entry halted)
+    of_halt : (halted : Option BootCause) → CausedHalt s me last entry halted
+        → Halting (Caused s me last entry) (boot_step_outs me (begins_clean log) (slot_number log) entry halted)
     of_halt None known = inr (calm_boot me (begins_clean log) (slot_number log) entry)
     of_halt (Some why) known = inl (why, refl, known)
 
     of_step : (step : Bool)
-        → Halting (Caused s me last) (if step then boot_step_outs me (begins_clean log) (slot_number log) entry (boot_halt s entry) else [])
+        → Halting (Caused s me last entry) (if step then boot_step_outs me (begins_clean log) (slot_number log) entry (boot_halt s entry) else [])
     of_step true = of_halt (boot_halt s entry) caused
     of_step false = inr refl
 
     of_phase : (booting live : Bool)
-        → Halting (Caused s me last) (if booting then boot_outs s me (begins_clean log) (slot_number log) entry
+        → Halting (Caused s me last entry) (if booting then boot_outs s me (begins_clean log) (slot_number log) entry
         else (if live then live_outs s me log entry (mail_feeds tick past entry) (deadly_of (message_of entry)) else []))
     of_phase true live = of_step (is_boot_step entry)
     of_phase false true = inr (calm_live s me log entry (mail_feeds tick past entry) (deadly_of (message_of entry)))
     of_phase false false = inr refl
 
 halting_newest : (s : Settings) (me : ℕ) (past : List Line) (tick : ℕ) (entry : What) (last : Option Call) → CausedBy s me last entry
-    → Halting (Caused s me last) (newest_outs (with_entry s me past (record { tick = tick; what = entry })))
+    → Halting (Caused s me last (read_as s me past entry)) (newest_outs (with_entry s me past (record { tick = tick; what = entry })))
 unfolding with_entry
 halting_newest s me past tick entry last caused =
     halting_at s me past tick (read_as s me past entry) _ last (caused_read s me past last entry caused)
@@ -237,86 +237,96 @@ now_newest : (s : Settings) (me : ℕ) (past : List Line) (tick : ℕ) (entry : 
 unfolding with_entry
 now_newest s me past tick entry = refl
 
+newest_read : (s : Settings) (me : ℕ) (past : List Line) (tick : ℕ) (entry : What)
+    → IsNewest (read_as s me past entry) (with_entry s me past (record { tick = tick; what = entry }))
+unfolding with_entry
+newest_read s me past tick entry = refl
+
+-- a boot was halted by the last call on the disk: the newest entry is that its operation failed
+abbrev HaltsSo : Settings → ℕ → Past → List Line → BootCause → Type 0
+HaltsSo s me past log why = is_no_failure why ≡ false → (by : FailedLast s me past.disk why) × IsNewest (failed by.op) log
+
 -- an end after these calls: a boot was halted for a cause that they gave, and a clock went back only where a tick fell
-abbrev EndsSo : Settings → ℕ → Past → LiveEnd → Type 0
-EndsSo s me past (end.Turns phase holds answer why) = Unit {0}
-EndsSo s me past (end.Left clean) = Unit {0}
-EndsSo s me past (end.ClockBack before now) = past.fell ≡ true
-EndsSo s me past (end.SelfReset message) = Unit {0}
-EndsSo s me past (end.BootHalted why) = Caused s me past.disk why
+abbrev EndsSo : Settings → ℕ → Past → List Line → LiveEnd → Type 0
+EndsSo s me past log (end.Turns phase holds answer why) = Unit {0}
+EndsSo s me past log (end.Left clean) = Unit {0}
+EndsSo s me past log (end.ClockBack before now) = past.fell ≡ true
+EndsSo s me past log (end.SelfReset message) = Unit {0}
+EndsSo s me past log (end.BootHalted why) = HaltsSo s me past log why
 
-abbrev EndedSo : Settings → ℕ → Past → Option LiveEnd → Type 0
-EndedSo s me past None = Unit {0}
-EndedSo s me past (Some end) = EndsSo s me past end
+abbrev EndedSo : Settings → ℕ → Past → List Line → Option LiveEnd → Type 0
+EndedSo s me past log None = Unit {0}
+EndedSo s me past log (Some end) = EndsSo s me past log end
 
-calm_ends : (s : Settings) (me : ℕ) (past : Past) (entry : What) (outs : List Out) → calm_outs outs ≡ true → EndedSo s me past (end_in entry outs)
-calm_ends s me past entry [] calm = tt
-calm_ends s me past entry (out.Halt (halt.Deadly message) ∷ outs) calm = tt
-calm_ends s me past entry (out.Halt (halt.Boot why) ∷ outs) calm = absurd cc
-calm_ends s me past entry (out.Disarm ∷ outs) calm = tt
-calm_ends s me past entry (out.Stop ∷ outs) calm = calm_ends s me past entry outs calm
-calm_ends s me past entry (out.Start ∷ outs) calm = calm_ends s me past entry outs calm
-calm_ends s me past entry (out.Feed ∷ outs) calm = calm_ends s me past entry outs calm
-calm_ends s me past entry (out.Send to packet ∷ outs) calm = calm_ends s me past entry outs calm
-calm_ends s me past entry (out.Disk op ∷ outs) calm = calm_ends s me past entry outs calm
+calm_ends : (s : Settings) (me : ℕ) (past : Past) (log : List Line) (entry : What) (outs : List Out) → calm_outs outs ≡ true
+    → EndedSo s me past log (end_in entry outs)
+calm_ends s me past log entry [] calm = tt
+calm_ends s me past log entry (out.Halt (halt.Deadly message) ∷ outs) calm = tt
+calm_ends s me past log entry (out.Halt (halt.Boot why) ∷ outs) calm = absurd cc
+calm_ends s me past log entry (out.Disarm ∷ outs) calm = tt
+calm_ends s me past log entry (out.Stop ∷ outs) calm = calm_ends s me past log entry outs calm
+calm_ends s me past log entry (out.Start ∷ outs) calm = calm_ends s me past log entry outs calm
+calm_ends s me past log entry (out.Feed ∷ outs) calm = calm_ends s me past log entry outs calm
+calm_ends s me past log entry (out.Send to packet ∷ outs) calm = calm_ends s me past log entry outs calm
+calm_ends s me past log entry (out.Disk op ∷ outs) calm = calm_ends s me past log entry outs calm
 
 -- ## Answers of the disk
 
-module _ (s : Settings) (me : ℕ) (last : Option Call) where
+module _ (s : Settings) (me : ℕ) (last : Option Call) (entry : What) where
   caused_header : (found : Option (ℕ × Timing))
-      → CausedHalt s me last (header_halt s (option_map_or (λ f. header.Read f.0 f.1) found header.NotImage))
+      → CausedHalt s me last entry (header_halt s (option_map_or (λ f. header.Read f.0 f.1) found header.NotImage))
   caused_header None = λ failure. absurd cc
   caused_header (Some f) = of_tests (f.0 == length s.nodes) (is_safe f.1)
     where
       of_tests : (same safe : Bool)
-          → CausedHalt s me last (if not same then Some cause.NotImage else (if safe then None else Some cause.UnsafeTiming))
+          → CausedHalt s me last entry (if not same then Some cause.NotImage else (if safe then None else Some cause.UnsafeTiming))
       of_tests true true = tt
       of_tests true false = λ failure. absurd cc
       of_tests false safe = λ failure. absurd cc
 
-  caused_own : (own : Slot) → CausedHalt s me last (slot_halt (slot.Read own))
+  caused_own : (own : Slot) → CausedHalt s me last entry (slot_halt (slot.Read own))
   caused_own own = of_test (nat_lt own.incarnation (2 ^ 64 - 1))
     where
-      of_test : (below : Bool) → CausedHalt s me last (if below then None else Some cause.IncarnationSpent)
+      of_test : (below : Bool) → CausedHalt s me last entry (if below then None else Some cause.IncarnationSpent)
       of_test true = tt
       of_test false = λ failure. absurd cc
 
   caused_slot : (rank : ℕ) (found : Option (NodeId × Slot))
-      → CausedHalt s me last (slot_halt (option_map_or (λ f. if f.0.0 == (id_of s rank).0 then slot.Read f.1 else slot.Damaged) found slot.Damaged))
+      → CausedHalt s me last entry (slot_halt (option_map_or (λ f. if f.0.0 == (id_of s rank).0 then slot.Read f.1 else slot.Damaged) found slot.Damaged))
   caused_slot rank None = λ failure. absurd cc
   caused_slot rank (Some f) = of_test (f.0.0 == (id_of s rank).0)
     where
-      of_test : (own : Bool) → CausedHalt s me last (slot_halt (if own then slot.Read f.1 else slot.Damaged))
+      of_test : (own : Bool) → CausedHalt s me last entry (slot_halt (if own then slot.Read f.1 else slot.Damaged))
       of_test true = caused_own f.1
       of_test false = λ failure. absurd cc
 
-  caused_mail : (found : Option Mail) → CausedHalt s me last (check_halt (option_map_or (λ f. mail.Read f.message) found mail.Damaged))
+  caused_mail : (found : Option Mail) → CausedHalt s me last entry (check_halt (option_map_or (λ f. mail.Read f.message) found mail.Damaged))
   caused_mail None = λ failure. absurd cc
   caused_mail (Some f) = of_test (starts_clean_on f.message)
     where
-      of_test : (clean : Bool) → CausedHalt s me last (if clean then None else Some cause.NotClean)
+      of_test : (clean : Bool) → CausedHalt s me last entry (if clean then None else Some cause.NotClean)
       of_test true = tt
       of_test false = λ failure. absurd cc
 
-  caused_done : (op : DiskOp) (bytes : List ℕ) → CausedBy s me last (done s op bytes)
-  unfolding done
-  caused_done disk.ReadHeader bytes = caused_header (header_of bytes)
-  caused_done (disk.ReadSlot rank) bytes = caused_slot rank.0 (slot_of bytes)
-  caused_done disk.CheckMail bytes = caused_mail (mail_of bytes)
-  caused_done disk.ReadMail bytes = tt
-  caused_done (disk.WriteClaim next) bytes = tt
-  caused_done (disk.WriteClose own) bytes = tt
-  caused_done disk.WriteClear bytes = tt
-  caused_done (disk.WriteReset rank) bytes = tt
+caused_done : (s : Settings) (me : ℕ) (last : Option Call) (op : DiskOp) (bytes : List ℕ) → CausedBy s me last (done s op bytes)
+unfolding done
+caused_done s me last disk.ReadHeader bytes = caused_header s me last (done s disk.ReadHeader bytes) (header_of bytes)
+caused_done s me last (disk.ReadSlot rank) bytes = caused_slot s me last (done s (disk.ReadSlot rank) bytes) rank.0 (slot_of bytes)
+caused_done s me last disk.CheckMail bytes = caused_mail s me last (done s disk.CheckMail bytes) (mail_of bytes)
+caused_done s me last disk.ReadMail bytes = tt
+caused_done s me last (disk.WriteClaim next) bytes = tt
+caused_done s me last (disk.WriteClose own) bytes = tt
+caused_done s me last disk.WriteClear bytes = tt
+caused_done s me last (disk.WriteReset rank) bytes = tt
 
 module _ (s : Settings) (me : ℕ) where
   caused_answer : (number : ℕ) (op : DiskOp) (c : Call) → blank c ≡ disk_call s me number op → CausedBy s me (Some c) (disk_answer s op c)
   caused_answer number op c asked = of_call (is_failed c) refl
     where
-      of_halt : (halted : Option BootCause) → boot_halt s (failed op) ≡ halted → is_failed c ≡ true → CausedHalt s me (Some c) halted
+      of_halt : (halted : Option BootCause) → boot_halt s (failed op) ≡ halted → is_failed c ≡ true → CausedHalt s me (Some c) (failed op) halted
       of_halt None is fails = tt
       of_halt (Some why) is fails =
-          λ failure. record { op = op; number = number; made = c; is_last = refl; asked = asked; fails = fails; halts = is }
+          λ failure. (record { op = op; number = number; made = c; is_last = refl; asked = asked; fails = fails; halts = is }, refl)
 
       of_call : (failing : Bool) → is_failed c ≡ failing → CausedBy s me (Some c) (if failing then failed op else done s op (bytes_read c))
       of_call true fails = of_halt (boot_halt s (failed op)) refl fails
@@ -406,7 +416,7 @@ module _ (s : Settings) (me : ℕ) where
 
   -- a turn ended the run for a known cause, or another one can follow
   abbrev Turns : Past → Turned → Type 0
-  Turns past (Over end log) = EndsSo s me past end
+  Turns past (Over end log) = EndsSo s me past log end
   Turns past (Next st) = (now st.log ≡ past.tick) × Waiting s me past.disk st.waits.disk
 
   leads_greeted : (st : RunState) (past : Past) → now st.log ≡ past.tick → Waiting s me past.disk st.waits.disk → Leads Turns past (greeted s me st)
@@ -418,25 +428,29 @@ module _ (s : Settings) (me : ℕ) where
   leads_settled : (entry : What) (outs : List Out) (st : RunState) (past : Past) → calm_outs outs ≡ true → now st.log ≡ past.tick
       → Waiting s me past.disk st.waits.disk → Leads Turns past (settled s me entry outs st)
   unfolding settled
-  leads_settled entry outs st past calm is waiting = of_end (end_in entry outs) (calm_ends s me past entry outs calm)
+  leads_settled entry outs st past calm is waiting = of_end (end_in entry outs) (calm_ends s me past st.log entry outs calm)
     where
-      of_end : (end : Option LiveEnd) → EndedSo s me past end → Leads Turns past (option_map_or (λ e. Ends (Over e st.log)) end (greeted s me st))
+      of_end : (end : Option LiveEnd) → EndedSo s me past st.log end → Leads Turns past (option_map_or (λ e. Ends (Over e st.log)) end (greeted s me st))
       of_end None known = leads_greeted st past is waiting
       of_end (Some e) known = known
 
-  leads_halted : (entry : What) (st : RunState) (past : Past) (why : BootCause) → Caused s me past.disk why
+  leads_halted : (entry read : What) (st : RunState) (past : Past) (why : BootCause) → Caused s me past.disk read why → IsNewest read st.log
       → Leads Turns past (outs_plan s me st (out.Halt (halt.Boot why) ∷ []) >>= settled s me entry (out.Halt (halt.Boot why) ∷ []))
   unfolding outs_plan out_call settled
-  leads_halted entry st past why caused =
-      λ c asked.
-      subst (λ (l : Option Call). Caused s me l why) (sym (disk_after_asked past.disk c (call.Halt (halt_code (halt.Boot why))) false asked refl)) caused
+  leads_halted entry read st past why caused newest =
+      λ c asked failure.
+      let same = disk_after_asked past.disk c (call.Halt (halt_code (halt.Boot why))) false asked refl in
+      let found = caused failure in (
+        subst (λ (l : Option Call). FailedLast s me l why) (sym same) found.0,
+        subst (λ (w : What). IsNewest w st.log) (found.1) newest,
+      )
 
-  leads_performed : (entry : What) (st : RunState) (outs : List Out) (past : Past) → Halting (Caused s me past.disk) outs → now st.log ≡ past.tick
-      → Waiting s me past.disk st.waits.disk → Leads Turns past (outs_plan s me st outs >>= settled s me entry outs)
-  leads_performed entry st outs past (inl alone) is waiting =
+  leads_performed : (entry read : What) (st : RunState) (outs : List Out) (past : Past) → Halting (Caused s me past.disk read) outs
+      → IsNewest read st.log → now st.log ≡ past.tick → Waiting s me past.disk st.waits.disk → Leads Turns past (outs_plan s me st outs >>= settled s me entry outs)
+  leads_performed entry read st outs past (inl alone) newest is waiting =
       subst (λ (o : List Out). Leads Turns past (outs_plan s me st o >>= settled s me entry o)) (sym alone.1)
-      (leads_halted entry st past alone.0 alone.2)
-  leads_performed entry st outs past (inr calm) is waiting =
+      (leads_halted entry read st past alone.0 alone.2 newest)
+  leads_performed entry read st outs past (inr calm) newest is waiting =
       leads_then (Performed past.tick st.log) Turns past (outs_plan s me st outs) (settled s me entry outs)
       (leads_outs past.tick st.log st outs past refl refl waiting)
       (λ after left kept. leads_settled entry outs left after calm (ap now kept.1 ∙ is ∙ sym kept.0) kept.2)
@@ -446,8 +460,8 @@ module _ (s : Settings) (me : ℕ) where
   unfolding handled
   leads_handled st past found caused waiting =
       let after = taken s me st past.tick found in
-      leads_performed found.1 after (newest_outs after.log) past (halting_newest s me st.log past.tick found.1 past.disk caused)
-      (now_newest s me st.log past.tick found.1) waiting
+      leads_performed found.1 (read_as s me st.log found.1) after (newest_outs after.log) past
+      (halting_newest s me st.log past.tick found.1 past.disk caused) (newest_read s me st.log past.tick found.1) (now_newest s me st.log past.tick found.1) waiting
 
   abbrev CausedChoice : Option Call → Choice → Type 0
   CausedChoice last (choice.Whole entry) = CausedBy s me last entry
@@ -550,7 +564,7 @@ module _ (s : Settings) (me : ℕ) where
   -- ## The whole run
 
   abbrev Ended : Past → Ran → Type 0
-  Ended past ran = EndsSo s me past ran.end
+  Ended past ran = EndsSo s me past ran.log ran.end
 
   leads_later : (next : RunState → Plan Ran)
       → ((st : RunState) (past : Past) → now st.log ≡ past.tick → Waiting s me past.disk st.waits.disk → Leads Ended past (next st))
@@ -620,37 +634,44 @@ never_fell past (call ∷ calls) none rises =
 
 module _ (s : Settings) (me : ℕ) (clean : Bool) (leave : Option ℕ) (turns : ℕ) (calls : List Call) (ran : Ran)
     (follows : Follows (live_plan s me clean leave turns) calls ran) where
-  ended : EndsSo s me (after_calls calls at_first) ran.end
+  ended : EndsSo s me (after_calls calls at_first) ran.log ran.end
   ended = leads_end (Ended s me) at_first (live_plan s me clean leave turns) calls ran (leads_live s me clean leave turns) follows
 
-  -- a boot that a failed call halted was halted by the last operation on the disk
-  pub halted_by : (why : BootCause) → ran.end ≡ end.BootHalted why → is_no_failure why ≡ false → HaltedBy one_call s me why calls
+  -- a boot that a failed call halted was halted by the last operation on the disk: that it failed is the newest entry
+  pub halted_by : (why : BootCause) → ran.end ≡ end.BootHalted why → is_no_failure why ≡ false
+      → (halted : HaltedBy one_call s me why calls) × IsNewest (failed halted.op) ran.log
   halted_by why is failure =
-      let known : Caused s me (after_calls calls at_first).disk why = subst (λ (e : LiveEnd). EndsSo s me (after_calls calls at_first) e) is ended in
-      of_last (known failure)
+      let known : HaltsSo s me (after_calls calls at_first) ran.log why =
+      subst (λ (e : LiveEnd). EndsSo s me (after_calls calls at_first) ran.log e) is ended in
+      of_last (known failure).0 (known failure).1
     where
-      of_parts : (last : FailedLast s me (after_calls calls at_first).disk why)
-          → ((at_first.disk ≡ Some last.made) × (list_any is_on_disk calls ≡ false)) ⊎ Parted last.made calls → HaltedBy one_call s me why calls
-      of_parts last (inl none) = absurd cc
-      of_parts last (inr p) = record {
-        op = last.op;
-        number = last.number;
-        halts = last.halts;
-        fails = record {
-          before = p.before;
-          own = last.made ∷ [];
-          after = p.after;
-          parts = p.parts;
-          told = last.made;
-          made = (last.asked, (refl, refl));
-          failed = rw last.fails refl;
-          told_failed = last.fails;
-          last = p.last;
-        };
-      }
+      of_parts : (last : FailedLast s me (after_calls calls at_first).disk why) → IsNewest (failed last.op) ran.log
+          → ((at_first.disk ≡ Some last.made) × (list_any is_on_disk calls ≡ false)) ⊎ Parted last.made calls
+          → (halted : HaltedBy one_call s me why calls) × IsNewest (failed halted.op) ran.log
+      of_parts last newest (inl none) = absurd cc
+      of_parts last newest (inr p) = (
+        record {
+          op = last.op;
+          number = last.number;
+          halts = last.halts;
+          fails = record {
+            before = p.before;
+            own = last.made ∷ [];
+            after = p.after;
+            parts = p.parts;
+            told = last.made;
+            made = (last.asked, (refl, refl));
+            failed = rw last.fails refl;
+            told_failed = last.fails;
+            last = p.last;
+          };
+        },
+        newest,
+      )
 
-      of_last : FailedLast s me (after_calls calls at_first).disk why → HaltedBy one_call s me why calls
-      of_last last = of_parts last (parted at_first calls last.made last.is_last)
+      of_last : (last : FailedLast s me (after_calls calls at_first).disk why) → IsNewest (failed last.op) ran.log
+          → (halted : HaltedBy one_call s me why calls) × IsNewest (failed halted.op) ran.log
+      of_last last newest = of_parts last newest (parted at_first calls last.made last.is_last)
 
   -- no call failed, so none halted the boot
   pub no_end_by_call : some_failed calls ≡ false → is_by_call ran.end ≡ false
@@ -659,7 +680,7 @@ module _ (s : Settings) (me : ℕ) (clean : Bool) (leave : Option ℕ) (turns : 
       of_cause : (why : BootCause) (test : Bool) → ran.end ≡ end.BootHalted why → is_no_failure why ≡ test → not test ≡ false
       of_cause why true is sound = refl
       of_cause why false is failure =
-          let some : some_failed calls ≡ true = halted_failed one_call s me why calls (halted_by why is failure) in
+          let some : some_failed calls ≡ true = halted_failed one_call s me why calls (halted_by why is failure).0 in
           absurd cc
 
       of_end : (e : LiveEnd) → ran.end ≡ e → is_by_call e ≡ false
@@ -673,7 +694,7 @@ module _ (s : Settings) (me : ℕ) (clean : Bool) (leave : Option ℕ) (turns : 
   pub no_end_by_clock : NeverFalls 0 calls → is_by_clock ran.end ≡ false
   no_end_by_clock rises = of_end ran.end ended
     where
-      of_end : (e : LiveEnd) → EndsSo s me (after_calls calls at_first) e → is_by_clock e ≡ false
+      of_end : (e : LiveEnd) → EndsSo s me (after_calls calls at_first) ran.log e → is_by_clock e ≡ false
       of_end (end.Turns phase holds answer why) known = refl
       of_end (end.Left clean) known = refl
       of_end (end.ClockBack before now) fell = sym fell ∙ never_fell at_first calls refl rises

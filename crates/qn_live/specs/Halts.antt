@@ -1,13 +1,15 @@
 -- How a disk operation that failed halted a boot: this project's profile.
-use Rattle.std.specs.Prelude.{◌≡◌, ℕ, Bool, true, false, List, ◌++◌, Some}
+use Rattle.std.specs.Prelude.{◌≡◌, ℕ, Bool, true, false, List, [], ◌∷◌, ◌++◌, Some}
 use Rattle.std.specs.List.{list_any}
 use Rattle.qn_base.specs.declared.calls.Call.{Call}
 use Rattle.qn_base.specs.declared.calls.Call.TheVariants as call
 use Rattle.qn_base.specs.Calls.{is_failed, some_failed}
 use Rattle.qn_base.specs.Plans.{Plan, Ends, Asks, Follows}
 use Rattle.qn_model.specs.declared.configuration.Settings.{Settings}
+use Rattle.qn_model.specs.declared.entries.What.{What}
 use Rattle.qn_model.specs.declared.outputs.BootCause.{BootCause}
 use Rattle.qn_model.specs.declared.outputs.DiskOp.{DiskOp}
+use Rattle.qn_model.specs.Log.{Line}
 use Rattle.qn_model.specs.Phases.{boot_halt}
 use Rattle.qn_model.specs.World.{failed}
 use Rattle.qn_live.specs.Performing.{disk_call}
@@ -47,6 +49,11 @@ pub record HaltedBy (plan_of : Call → Plan Call) (s : Settings) (me : ℕ) (ca
   pub number : ℕ
   pub halts : boot_halt s (failed op) ≡ Some cause
   pub fails : LastFails (plan_of (disk_call s me number op)) calls
+
+-- the newest entry of the log, as it was read
+abbrev pub IsNewest : What → List Line → Type 0
+IsNewest entry [] = ⊥
+IsNewest entry (line ∷ past) = line.what ≡ entry
 
 -- on one image a disk operation is one call
 abbrev pub one_call : Call → Plan Call

@@ -13,5 +13,8 @@ mod part;
 mod running;
 mod sector;
 
-pub use laws::{law_triple_answers, law_triple_end, law_triple_end_causes, law_triple_history};
+pub use laws::{
+    law_triple_answers, law_triple_boot_halted, law_triple_end, law_triple_end_causes,
+    law_triple_history,
+};
 pub use running::run_node3;
