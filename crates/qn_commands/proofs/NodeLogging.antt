@@ -1,5 +1,5 @@
 -- The work of `node-logged`, and the record of its run.
-use Rattle.std.proofs.Common.{◌≡◌, ◌≢◌, ◌≤◌, ◌⊎◌, inl, inr, ℕ, Bool, true, false, List, [], ◌∷◌, ◌++◌, Option, None, Some, Ok, Err, refl, sym, ap, ◌∙◌, subst, append-nil, arith}
+use Rattle.std.proofs.Common.{◌≡◌, ◌≤◌, ◌⊎◌, inl, inr, ℕ, Bool, true, false, List, [], ◌∷◌, Option, None, Some, Ok, Err, refl, sym, ap, ◌∙◌, subst, append-nil, arith}
 use Rattle.std.specs.Io.KnownBytes.{append_known}
 use Rattle.qn_audit.specs.Logs.{log_text}
 use Rattle.qn_audit.specs.Recording.{DidLogged, LogSink, Logs, LogsWhen, recorded}
@@ -19,14 +19,14 @@ use Rattle.qn_commands.specs.declared.node_images.NodeImages.TheVariants.{One}
 use Rattle.qn_commands.specs.declared.fault.Fault.{Fault}
 use Rattle.qn_commands.specs.declared.fault.Fault.TheVariants.{EnvFault, UnknownNode}
 use Rattle.qn_commands.specs.declared.status.Status.TheVariants as status
-use Rattle.qn_commands.specs.Commands.Node.{EndsWithCause, FailsToOpen, RunsNode, node_plan, node_work, opening, rank_with}
-use Rattle.qn_commands.specs.Commands.NodeLogged.{CutLog, LogsNode, LogsRun, LogsWhole, Opens, RunsLogged, WholeLog, WorkedCut, WorkedWhole, WorksCut, WorksLogged, WorksWhole, WritesLog, after_log, logged, recorded_calls, with_output}
+use Rattle.qn_commands.specs.Commands.Node.{EndsWithCause, FailsToOpen, node_work, opening, rank_with}
+use Rattle.qn_commands.specs.Commands.NodeLogged.{CutLog, LogsNode, LogsWhole, Opens, RunsLogged, WholeLog, WorkedCut, WorkedWhole, WorksLogged, WritesLog, after_log, logged, recorded_calls, with_output}
 use Rattle.qn_commands.specs.Endings.{Cut, Refuses, Says, Whole}
 use Rattle.qn_commands.specs.Faults.{status_of}
 use Rattle.qn_commands.specs.InputSettings.{Judges, input_settings}
 use Rattle.qn_commands.specs.NodeTexts.{end_outcome}
 use Rattle.qn_commands.specs.Seen.{Input, NeverFall, Outside, Output, ReadFails, Seen, WriteFails, seen}
-use Rattle.qn_commands.specs.Statuses.{HasCauses, IsOneOf}
+use Rattle.qn_commands.specs.Statuses.{IsOneOf}
 use Rattle.qn_commands.specs.Works.{Performs, Works}
 use Rattle.qn_commands.proofs.Creating.{IsSettingsStatus}
 use Rattle.qn_commands.proofs.NodeRuns.{RanStatus, refuses_settings, runs_node, works_ran, works_unknown, works_unopened}

@@ -1,5 +1,5 @@
 -- What halted a boot on three images.
-use Rattle.std.proofs.Common.{◌≡◌, ◌<◌, ℕ, Bool, false, Option, List}
+use Rattle.std.proofs.Common.{◌≡◌, ℕ, Bool, false, Option, List}
 use Rattle.qn_base.specs.declared.calls.Call.{Call}
 use Rattle.qn_base.specs.Faults.{HasRisen}
 use Rattle.qn_base.specs.Plans.{Follows, Made, Did}

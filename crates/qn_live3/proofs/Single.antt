@@ -1,5 +1,5 @@
 -- A run on three images is a run on one: for its calls there are calls on one image that lead to the same end.
-use Rattle.std.proofs.Common.{◌≡◌, ◌≤◌, ℕ, Bool, true, false, not, ◌||◌, ◌&&◌, ◌==◌, ◌-◌, ◌/◌, List, [], ◌∷◌, ◌++◌, Option, None, Some, if◌then◌else◌, refl, sym, ap, subst, ◌∙◌, arith}
+use Rattle.std.proofs.Common.{◌≡◌, ◌≤◌, ℕ, Bool, true, false, not, ◌||◌, ◌==◌, ◌-◌, ◌/◌, List, [], ◌∷◌, ◌++◌, Option, None, Some, if◌then◌else◌, refl, sym, ap, subst, ◌∙◌, arith}
 use Rattle.std.specs.Prelude.{nat_lt}
 use Rattle.std.specs.List.{list_any}
 use Rattle.qn_base.specs.declared.calls.Call.{Call}
@@ -22,12 +22,12 @@ use Rattle.qn_base.specs.declared.ids.Rank.{Rank}
 use Rattle.qn_model.specs.Wanted.{rank_of}
 use Rattle.qn_model.specs.World.{failed}
 use Rattle.qn_safety.specs.declared.part.Part.{Part}
-use Rattle.qn_safety.specs.declared.part.Part.TheVariants.{Pending, Landed, Failed}
+use Rattle.qn_safety.specs.declared.part.Part.TheVariants.{Pending, Landed}
 use Rattle.qn_safety.specs.TripleWorld.{answer_among, answer_of, counting, has_failed, header_of, message_among, messages_among, slot_among, slots_among}
 use Rattle.qn_parts.specs.Parts.{is_good_on, part_on}
 use Rattle.qn_live.specs.Laws.{NeverFalls, tick_after}
 use Rattle.qn_live.specs.Performing.{done}
-use Rattle.qn_live3.specs.Disk.{Told, call_plan, if_failed, image_plan, images_plan, is_asked, is_failed_read, is_majority, is_strange, once, part_of, part_of_entry, part_plan, parts_plan, read_entry, read_of, read_plan, reading, sector_of, some_differ, write_plan}
+use Rattle.qn_live3.specs.Disk.{Told, call_plan, if_failed, image_plan, images_plan, is_asked, is_majority, is_strange, once, part_of, part_of_entry, part_plan, parts_plan, read_entry, read_of, read_plan, reading, sector_of, some_differ, write_plan}
 use Rattle.qn_live3.specs.Runs.{on_three}
 use Rattle.qn_live3.proofs.Stretches.{Stretches, or_left, or_neither, or_right}
 use Rattle.qn_live3.proofs.Wiped.{AsksWiped}

@@ -1,10 +1,10 @@
 use Rattle.std.proofs.Common.{◌≡◌, Some, sym, ap, ◌∙◌}
 use Rattle.qn_base.specs.Calls.{blank}
 use Rattle.qn_base.specs.Plans.{question, left}
-use Rattle.qn_base.specs.PlanSteps.{at_start, at_over}
+use Rattle.qn_base.specs.PlanSteps.{at_start}
 use Rattle.qn_live.specs.Asking.{question_of, told}
 use Rattle.qn_live.specs.Runs.{live_plan}
-use Rattle.qn_live3.specs.Runs.{on_three, triple_plan}
+use Rattle.qn_live3.specs.Runs.{triple_plan}
 use Rattle.qn_live3.proofs.Calls.{at_on_three, blank-told, over_on_three}
 use Rattle.qn_live3.proofs.Halted.{halted_run}
 use Rattle.qn_live3.proofs.running.run_node3.Goals as goal
