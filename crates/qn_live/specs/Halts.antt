@@ -29,8 +29,8 @@ is_on_disk (call.Halt code) = false
 is_on_disk (call.OpenImage path ok) = false
 is_on_disk (call.OpenNode images image watchdog resource port rank ok) = false
 
--- The last disk operation of these calls failed: its own calls are those of its plan, one of them failed, and so did what they
--- tell together. After them no sector is read or written.
+-- The last disk operation of these calls failed: its own calls are those of its plan, one of them failed, and so did the call
+-- on one image that they tell together. After them no sector is read or written.
 pub record LastFails (operation : Plan Call) (calls : List Call) : Type 0 where
   pub before : List Call
   pub own : List Call
@@ -42,9 +42,10 @@ pub record LastFails (operation : Plan Call) (calls : List Call) : Type 0 where
   pub told_failed : is_failed told ≡ true
   pub last : list_any is_on_disk after ≡ false
 
--- A boot was halted for this cause by a disk operation that failed, the last of the calls; `plan_of` is the plan of a disk
--- operation by its call on one image.
-pub record HaltedBy (plan_of : Call → Plan Call) (s : Settings) (me : ℕ) (cause : BootCause) (calls : List Call) : Type 0 where
+-- A boot was halted for this cause by a disk operation that failed, the last of these calls, of a node in the incarnation of
+-- that number. `plan_of` is the plan of a disk operation by its call on one image.
+pub record HaltedBy (plan_of : Call → Plan Call) (s : Settings) (me : ℕ)
+    (cause : BootCause) (calls : List Call) : Type 0 where
   pub op : DiskOp
   pub number : ℕ
   pub halts : boot_halt s (failed op) ≡ Some cause

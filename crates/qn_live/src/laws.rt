@@ -77,8 +77,8 @@ pub fn law_end_causes()
 /// Law: a boot that a failed call halted was halted by the last disk operation of the run: its call failed, and that it failed is
 /// the newest entry that the node was handed.
 pub fn law_boot_halted()
-    ensures { (s : Settings) (me : ℕ) (clean : Bool) (leave : Option ℕ) (turns : ℕ) (calls : List Call) (ran : Ran)
-        (cause : BootCause)
+    ensures { (s : Settings) (me : ℕ) (clean : Bool) (leave : Option ℕ) (turns : ℕ)
+        (calls : List Call) (ran : Ran) (cause : BootCause)
         → Follows (live_plan s me clean leave turns) calls ran
         → ran.end ≡ LiveEnd.BootHalted cause
         → is_no_failure cause ≡ false

@@ -67,8 +67,8 @@ pub fn law_triple_end_causes()
 /// Law: a boot on three images that a failed call halted was halted by the last disk operation of the run: a call of that very
 /// operation failed, too few images told anything, and that it failed is the newest entry that the node was handed.
 pub fn law_triple_boot_halted()
-    ensures { (s : Settings) (me : ℕ) (clean : Bool) (leave : Option ℕ) (turns : ℕ) (calls : List Call) (ran : Ran)
-        (cause : BootCause)
+    ensures { (s : Settings) (me : ℕ) (clean : Bool) (leave : Option ℕ) (turns : ℕ)
+        (calls : List Call) (ran : Ran) (cause : BootCause)
         → Follows (triple_plan s me clean leave turns) calls ran
         → ran.end ≡ LiveEnd.BootHalted cause
         → is_no_failure cause ≡ false

@@ -31,8 +31,8 @@ pub fn run_node3<E: Env>(
     requires some_turn { 1 ≤ turns }
     ensures did { (log : List Line) × Did (E.faults env.old) (E.faults env.new) (E.calls env.old) (E.calls env.new)
         (triple_plan settings.now me.0 clean leave_at turns) (record { end = result; log = log }) }
-    ensures halted { (cause : BootCause) → result ≡ LiveEnd.BootHalted cause → is_no_failure cause ≡ false
-        → (calls : List Call)
+    ensures halted { (cause : BootCause) → result ≡ LiveEnd.BootHalted cause
+        → is_no_failure cause ≡ false → (calls : List Call)
         × Made (E.faults env.old) (E.faults env.new) (E.calls env.old) (E.calls env.new) calls
         × HaltedOnThree settings.now me.0 cause calls
         × HasRisen (E.faults env.old) (E.faults env.new) }

@@ -65,8 +65,9 @@ pub record EndsWithCause (images : NodeImages) (words : NodeWords) (settings : S
       → some_failed calls ≡ false → is_by_call ran.end ≡ false
   pub clock : (calls : List Call) (ran : Ran) → Follows (node_plan images words settings rank) calls ran
       → NeverFalls 0 calls → is_by_clock ran.end ≡ false
-  pub halted : (calls : List Call) (ran : Ran) (cause : BootCause) → Follows (node_plan images words settings rank) calls ran
-      → ran.end ≡ end.BootHalted cause → is_no_failure cause ≡ false → HaltedOn images settings rank cause calls
+  pub halted : (calls : List Call) (ran : Ran) (cause : BootCause)
+      → Follows (node_plan images words settings rank) calls ran → ran.end ≡ end.BootHalted cause
+      → is_no_failure cause ≡ false → HaltedOn images settings rank cause calls
 
 -- the run, and its last line
 unfoldable pub run_work : NodeImages → NodeWords → Settings → ℕ → Work
@@ -93,13 +94,13 @@ pub record FailsToOpen (images : NodeImages) (words : NodeWords) (before after :
 
 -- the boot was halted, which was written whole; a cause that a failed call gives comes only where the count of faults rose, and
 -- where a call of the very disk operation that halted it failed, the last of all these calls
-pub record HaltsBoot (images : NodeImages) (words : NodeWords) (settings : Result Settings Fault) (calls : List Call)
-    (before after : Seen) (code : ℕ) : Type 0 where
+pub record HaltsBoot (images : NodeImages) (words : NodeWords) (settings : Result Settings Fault)
+    (calls : List Call) (before after : Seen) (code : ℕ) : Type 0 where
   pub cause : BootCause
   pub answers : AnswersWhole (refused (BootHalted cause)) before.output after.output code
   pub fails : is_no_failure cause ≡ false → CallFails before.env after.env
-  pub operation : is_no_failure cause ≡ false
-      → IsOkAnd settings (λ own. IsSomeAnd (rank_with own words.id) (λ rank. HaltedOn images own rank cause calls))
+  pub operation : is_no_failure cause ≡ false → IsOkAnd settings (λ own.
+      IsSomeAnd (rank_with own words.id) (λ rank. HaltedOn images own rank cause calls))
 
 -- the line of an end was written whole, and neither a failed call nor the clock made that end
 pub record EndsUndisturbed (turns : ℕ) (before after : Output) (code : ℕ) : Type 0 where
