@@ -130,7 +130,7 @@ module _ (images : NodeImages) (words : NodeWords) (rank : ℕ) where
   opening_tells_none (Disarm ok) asked = refl
   opening_tells_none (Halt code) asked = refl
 
-  module _ (settings : Settings) (law : EndsWithCause (node_plan images words settings rank)) (before after : Output) (code : ℕ) where
+  module _ (settings : Settings) (law : EndsWithCause images words settings rank) (before after : Output) (code : ℕ) where
     opened_ends : (calls : List Call) → Performs (opened_work images words settings rank) calls before after code → some_failed calls ≡ false
         → NeverFalls 0 calls → ¬ WriteFails before after → EndsUndisturbed words.turns before after code
     unfolding opened_work run_work
@@ -151,7 +151,7 @@ module _ (images : NodeImages) (words : NodeWords) (rank : ℕ) where
 
 -- no call failed and no tick fell: the end is one that comes so
 pub undisturbed_node : {before after : Seen} {code : ℕ} (images : NodeImages) (words : NodeWords) (settings : Settings) (rank : ℕ)
-    → EndsWithCause (node_plan images words settings rank) → rank_with settings words.id ≡ Some rank → (works : Works (node_work images words settings) before after code)
+    → EndsWithCause images words settings rank → rank_with settings words.id ≡ Some rank → (works : Works (node_work images words settings) before after code)
     → ¬ WriteFails before.output after.output → ¬ CallFails before.env after.env → NeverFalls 0 works.calls
     → EndsUndisturbed words.turns before.output after.output code
 undisturbed_node {before} {after} {code} images words settings rank law some works no_write no_call rises =

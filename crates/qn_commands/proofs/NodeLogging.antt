@@ -1,5 +1,5 @@
 -- The work of `node-logged`, and the record of its run.
-use Rattle.std.proofs.Common.{◌≡◌, ◌≢◌, ◌≤◌, ◌⊎◌, inl, inr, ℕ, Bool, true, false, List, [], ◌∷◌, ◌++◌, Option, None, Some, Ok, Err, refl, sym, ap, ◌∙◌, subst, append-nil, arith}
+use Rattle.std.proofs.Common.{◌≡◌, ◌≤◌, ◌⊎◌, inl, inr, ℕ, Bool, true, false, List, [], ◌∷◌, Option, None, Some, Ok, Err, refl, sym, ap, ◌∙◌, subst, append-nil, arith}
 use Rattle.std.specs.Io.KnownBytes.{append_known}
 use Rattle.qn_audit.specs.Logs.{log_text}
 use Rattle.qn_audit.specs.Recording.{DidLogged, LogSink, Logs, LogsWhen, recorded}
@@ -10,7 +10,7 @@ use Rattle.qn_io.specs.Outside.{append_known-nil}
 use Rattle.qn_io.specs.Writes.{AppendsFront}
 use Rattle.qn_live.specs.declared.live_end.LiveEnd.{LiveEnd}
 use Rattle.qn_live.specs.declared.live_end.LiveEnd.TheVariants as ended
-use Rattle.qn_live.specs.EndLaws.{no_end_by_call, no_end_by_clock}
+use Rattle.qn_live.specs.EndLaws.{halted_by, no_end_by_call, no_end_by_clock}
 use Rattle.qn_live.specs.Runs.{live_plan}
 use Rattle.qn_model.specs.Log.{Line}
 use Rattle.qn_model.specs.declared.configuration.Settings.{Settings}
@@ -19,14 +19,14 @@ use Rattle.qn_commands.specs.declared.node_images.NodeImages.TheVariants.{One}
 use Rattle.qn_commands.specs.declared.fault.Fault.{Fault}
 use Rattle.qn_commands.specs.declared.fault.Fault.TheVariants.{EnvFault, UnknownNode}
 use Rattle.qn_commands.specs.declared.status.Status.TheVariants as status
-use Rattle.qn_commands.specs.Commands.Node.{EndsWithCause, FailsToOpen, RunsNode, node_plan, node_work, opening, rank_with}
-use Rattle.qn_commands.specs.Commands.NodeLogged.{CutLog, LogsNode, LogsRun, LogsWhole, Opens, RunsLogged, WholeLog, WorkedCut, WorkedWhole, WorksCut, WorksLogged, WorksWhole, WritesLog, after_log, logged, recorded_calls, with_output}
+use Rattle.qn_commands.specs.Commands.Node.{EndsWithCause, FailsToOpen, node_work, opening, rank_with}
+use Rattle.qn_commands.specs.Commands.NodeLogged.{CutLog, LogsNode, LogsWhole, Opens, RunsLogged, WholeLog, WorkedCut, WorkedWhole, WorksLogged, WritesLog, after_log, logged, recorded_calls, with_output}
 use Rattle.qn_commands.specs.Endings.{Cut, Refuses, Says, Whole}
 use Rattle.qn_commands.specs.Faults.{status_of}
 use Rattle.qn_commands.specs.InputSettings.{Judges, input_settings}
 use Rattle.qn_commands.specs.NodeTexts.{end_outcome}
 use Rattle.qn_commands.specs.Seen.{Input, NeverFall, Outside, Output, ReadFails, Seen, WriteFails, seen}
-use Rattle.qn_commands.specs.Statuses.{HasCauses, IsOneOf}
+use Rattle.qn_commands.specs.Statuses.{IsOneOf}
 use Rattle.qn_commands.specs.Works.{Performs, Works}
 use Rattle.qn_commands.proofs.Creating.{IsSettingsStatus}
 use Rattle.qn_commands.proofs.NodeRuns.{RanStatus, refuses_settings, runs_node, works_ran, works_unknown, works_unopened}
@@ -174,10 +174,11 @@ module _ (words : NodeWords) (settings : Settings) (rank : ℕ) (input : Input) 
 -- ## The record
 
 -- what ends a run on one image
-end_causes : (words : NodeWords) (settings : Settings) (rank : ℕ) → EndsWithCause (node_plan One words settings rank)
+end_causes : (words : NodeWords) (settings : Settings) (rank : ℕ) → EndsWithCause One words settings rank
 end_causes words settings rank = record {
   call = no_end_by_call settings rank words.clean words.leave words.turns;
   clock = no_end_by_clock settings rank words.clean words.leave words.turns;
+  halted = λ calls ran cause follows is failure. (halted_by settings rank words.clean words.leave words.turns calls ran follows cause is failure).0;
 }
 
 module _ (words : NodeWords) (before after : Seen) (code : ℕ) (never_fall : NeverFall before after)

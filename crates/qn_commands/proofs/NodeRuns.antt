@@ -100,7 +100,7 @@ module _ (images : NodeImages) (words : NodeWords) (settings : Settings) where
 module _ (images : NodeImages) (words : NodeWords) (before after : Seen) (code : ℕ) (never_fall : NeverFall before after)
     (write : code ≡ 7 → WriteFails before.output after.output) where
   -- the settings are good
-  unfoldable pub runs_node : (settings : Settings) → ((rank : ℕ) → EndsWithCause (node_plan images words settings rank)) → Judges input_settings before.input after.input (Ok settings)
+  unfoldable pub runs_node : (settings : Settings) → ((rank : ℕ) → EndsWithCause images words settings rank) → Judges input_settings before.input after.input (Ok settings)
       → Works (node_work images words settings) before after code → RanStatus code → (code ≡ 8 → FailsToOpen images words before.env after.env)
       → RunsNode images words before after code
   runs_node settings law judges works outcomes unopened = record {

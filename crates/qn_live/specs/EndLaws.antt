@@ -1,6 +1,6 @@
 -- The laws of ends by a failed call and by the clock, proved over the plan of a run: what the crates above cite.
-use Rattle.std.proofs.Common.{◌≡◌, ◌≤◌, ℕ, zero, suc, ◌+◌, ◌-◌, ◌^◌, Bool, true, false, not, ◌||◌, ◌&&◌, ◌==◌, ◌++◌, List, [], ◌∷◌, Option, None, Some, IfSome, map, filter, length, nat_lt, refl, sym, ap, ◌∙◌, subst, if◌then◌else◌}
-use Rattle.std.specs.List.{range_with_len}
+use Rattle.std.proofs.Common.{◌≡◌, ◌⊎◌, inl, inr, ℕ, zero, suc, ◌+◌, ◌-◌, ◌^◌, Bool, true, false, not, ◌||◌, ◌==◌, ◌++◌, List, [], ◌∷◌, Option, None, Some, IfSome, length, nat_lt, refl, sym, ap, ◌∙◌, subst, if◌then◌else◌}
+use Rattle.std.specs.List.{list_any}
 use Rattle.std.specs.Option.{option_map_or}
 use Rattle.std.proofs.lemmas.Bool.{le-ltb}
 use Rattle.qn_base.specs.declared.calls.Call.{Call}
@@ -10,10 +10,10 @@ use Rattle.qn_base.specs.declared.ids.NodeId.{NodeId}
 use Rattle.qn_base.specs.declared.ids.View.{View}
 use Rattle.qn_base.specs.Calls.{blank, is_failed, some_failed}
 use Rattle.qn_base.specs.Plans.{Plan, Ends, Asks, ◌>>=◌, Follows}
+use Rattle.qn_base.specs.PlanSteps.{some_failed-append}
 use Rattle.qn_io.specs.Answered.{bytes_read, received_in, time_of}
 use Rattle.qn_member.specs.Maker.{Maker, view_at}
 use Rattle.qn_model.specs.declared.configuration.Settings.{Settings}
-use Rattle.qn_model.specs.declared.disk.Message.{Message}
 use Rattle.qn_model.specs.declared.disk.Slot.{Slot}
 use Rattle.qn_model.specs.declared.mailbox.Mail.{Mail}
 use Rattle.qn_model.specs.declared.seen.HeaderSeen.TheVariants as header
@@ -33,16 +33,13 @@ use Rattle.qn_model.specs.declared.packets.Packet.{Packet}
 use Rattle.qn_model.specs.declared.packets.Packet.TheVariants as packet
 use Rattle.qn_model.specs.declared.packets.Sent.{Sent}
 use Rattle.qn_model.specs.Fitting.{fits, read_as}
-use Rattle.qn_model.specs.Holding.{holds}
 use Rattle.qn_model.specs.Log.{Line, begins_clean, now, slot_number}
 use Rattle.qn_model.specs.Moments.{begin_of}
-use Rattle.qn_model.specs.NodeOutputs.{acts, ask_to, asks, boot_outs, boot_step_outs, disk_outs, gives_start, gives_stop, is_asked, is_asking, is_begin, is_boot_step, live_outs, mail_feeds, newest_outs, outs_at, replies, when, with_entry}
-use Rattle.qn_model.specs.NodeVotes.{view}
+use Rattle.qn_model.specs.NodeOutputs.{boot_outs, boot_step_outs, is_boot_step, live_outs, mail_feeds, newest_outs, outs_at, with_entry}
 use Rattle.qn_model.specs.Phases.{boot_halt, check_halt, deadly_of, header_halt, is_booting, is_live, message_of, phase, slot_halt, starts_clean_on}
 use Rattle.qn_model.specs.Steps.{entry_of}
 use Rattle.qn_model.specs.Timing.{is_safe}
 use Rattle.qn_model.specs.Unmet.{id_of}
-use Rattle.qn_model.specs.Wanted.{boot_op, wanted_with_delay}
 use Rattle.qn_model.specs.World.{failed}
 use Rattle.qn_sector.specs.Reading.{header_of, mail_of, slot_of}
 use Rattle.qn_wire.specs.Packets.{packet_bytes}
@@ -51,57 +48,66 @@ use Rattle.qn_live.specs.declared.live_end.LiveEnd.TheVariants as end
 use Rattle.qn_live.specs.declared.place.Choice.{Choice}
 use Rattle.qn_live.specs.declared.place.Choice.TheVariants as choice
 use Rattle.qn_live.specs.declared.place.Waits.{Waits}
+use Rattle.qn_live.specs.CalmOutputs.{calm_boot, calm_live, calm_outs}
 use Rattle.qn_live.specs.Choosing.{choice_of, choice_plan, heard, is_entry_for, is_to_leave, looked, packet_in, ready, receive_plan, view_or_tick}
 use Rattle.qn_live.specs.Greetings.{sends_plan}
-use Rattle.qn_live.specs.Performing.{disk_answer, disk_call, done, end_in, noted, out_call, outs_plan, own_number, waits_after}
+use Rattle.qn_live.specs.Halts.{HaltedBy, IsNewest, is_on_disk, one_call}
+use Rattle.qn_live.specs.Performing.{disk_answer, disk_call, done, end_in, halt_code, noted, out_call, outs_plan, own_number, waits_after}
 use Rattle.qn_live.specs.Running.{RunState, Turned, Over, Next, Ran, first_state, later}
 use Rattle.qn_live.specs.Runs.{clocked, greeted, handled, live_plan, run_plan, settled, taken, timed, turn_plan}
 use Rattle.qn_live.specs.Laws.{NeverFalls, is_by_call, is_by_clock, is_no_failure, is_sound, tick_after}
 
--- ## What is assumed of the calls
+-- ## What the calls so far tell
 
--- whether calls are assumed not to fail, and whether the clock is assumed not to go back
-record Assumed : Type 0 where
-  calls : Bool
-  clock : Bool
+-- the last tick, whether a tick fell, and the last call that read or wrote a sector
+record Past : Type 0 where
+  tick : ℕ
+  fell : Bool
+  disk : Option Call
 
--- a call is as it is assumed, after the tick that was told last
-record IsAsAssumed (assumed : Assumed) (last : ℕ) (call : Call) : Type 0 where
-  whole : assumed.calls ≡ true → is_failed call ≡ false
-  rises : assumed.clock ≡ true → last ≤ tick_after call last
+-- before the first call
+abbrev at_first : Past
+at_first = record { tick = 0; fell = false; disk = None }
 
--- all calls are
-abbrev AreAsAssumed : Assumed → ℕ → List Call → Type 0
-AreAsAssumed assumed last [] = Unit {0}
-AreAsAssumed assumed last (call ∷ calls) = IsAsAssumed assumed last call × AreAsAssumed assumed (tick_after call last) calls
+abbrev disk_after : Call → Option Call → Option Call
+disk_after made last = if is_on_disk made then Some made else last
 
--- every call that is as assumed leads to a value of which P holds
-abbrev Leads : {A : Type 0} → Assumed → (ℕ → A → Type 0) → ℕ → Plan A → Type 0
-Leads assumed P last (Ends value) = P last value
-Leads assumed P last (Asks question left) =
-    (call : Call) → blank call ≡ question → IsAsAssumed assumed last call → Leads assumed P (tick_after call last) (left call)
+abbrev after_call : Call → Past → Past
+after_call made past =
+    record {
+      tick = tick_after made past.tick;
+      fell = past.fell || nat_lt (tick_after made past.tick) past.tick;
+      disk = disk_after made past.disk;
+    }
 
-leads_then : {A B : Type 0} (assumed : Assumed) (P : ℕ → A → Type 0) (Q : ℕ → B → Type 0) (last : ℕ) (plan : Plan A) (next : A → Plan B)
-    → Leads assumed P last plan → ((tick : ℕ) (value : A) → P tick value → Leads assumed Q tick (next value))
-    → Leads assumed Q last (plan >>= next)
-leads_then assumed P Q last (Ends value) next leads goes_on = goes_on last value leads
-leads_then assumed P Q last (Asks question left) next leads goes_on =
-    λ call asked is. leads_then assumed P Q (tick_after call last) (left call) next (leads call asked is) goes_on
+abbrev after_calls : List Call → Past → Past
+after_calls [] past = past
+after_calls (call ∷ calls) past = after_calls calls (after_call call past)
 
-leads_end : {A : Type 0} (assumed : Assumed) (P : ℕ → A → Type 0) (last : ℕ) (plan : Plan A) (calls : List Call) (value : A)
-    → Leads assumed P last plan → Follows plan calls value → AreAsAssumed assumed last calls → (tick : ℕ) × P tick value
-leads_end {A} assumed P last (Ends end) calls value leads follows are = (last, subst (λ (v : A). P last v) (sym follows.1) leads)
-leads_end assumed P last (Asks question left) [] value leads follows are = absurd follows
-leads_end assumed P last (Asks question left) (call ∷ calls) value leads follows are =
-    leads_end assumed P (tick_after call last) (left call) calls value (leads call follows.0 are.0) follows.1 are.1
+-- every call leads to a value of which P holds
+abbrev Leads : {A : Type 0} → (Past → A → Type 0) → Past → Plan A → Type 0
+Leads P past (Ends value) = P past value
+Leads P past (Asks question left) = (call : Call) → blank call ≡ question → Leads P (after_call call past) (left call)
 
-or_left : (a b : Bool) → (a || b) ≡ false → a ≡ false
-or_left true b is = cc
-or_left false b is = refl
+leads_then : {A B : Type 0} (P : Past → A → Type 0) (Q : Past → B → Type 0) (past : Past) (plan : Plan A) (next : A → Plan B)
+    → Leads P past plan → ((after : Past) (value : A) → P after value → Leads Q after (next value)) → Leads Q past (plan >>= next)
+leads_then P Q past (Ends value) next leads goes_on = goes_on past value leads
+leads_then P Q past (Asks question left) next leads goes_on =
+    λ call asked. leads_then P Q (after_call call past) (left call) next (leads call asked) goes_on
 
-or_right : (a b : Bool) → (a || b) ≡ false → b ≡ false
-or_right true b is = cc
-or_right false b is = is
+leads_end : {A : Type 0} (P : Past → A → Type 0) (past : Past) (plan : Plan A) (calls : List Call) (value : A)
+    → Leads P past plan → Follows plan calls value → P (after_calls calls past) value
+leads_end {A} P past (Ends end) calls value leads follows = rw follows.0 (subst (λ (v : A). P past v) (sym follows.1) leads)
+leads_end P past (Asks question left) [] value leads follows = absurd follows
+leads_end P past (Asks question left) (call ∷ calls) value leads follows =
+    leads_end P (after_call call past) (left call) calls value (leads call follows.0) follows.1
+
+or_neither : (a b : Bool) → a ≡ false → b ≡ false → (a || b) ≡ false
+or_neither a b first second = rw (first, second) refl
+
+or_second : (a b : Bool) → b ≡ true → (a || b) ≡ true
+or_second true b is = refl
+or_second false b is = is
 
 -- a call that does not ask for the time tells no tick
 abbrev is_now : Call → Bool
@@ -135,520 +141,565 @@ tells_none last (call.Halt code) is = refl
 asked_none : (last : ℕ) (c question : Call) → blank c ≡ question → is_now question ≡ false → tick_after c last ≡ last
 asked_none last c question asked is = tells_none last c (ap is_now asked ∙ is)
 
--- ## Entries and outputs
+-- a call is on the disk where its question is
+on_disk_blank : (c : Call) → is_on_disk c ≡ is_on_disk (blank c)
+on_disk_blank (call.Now tick) = refl
+on_disk_blank (call.OpenImage path ok) = refl
+on_disk_blank (call.OpenNode images image watchdog resource port rank ok) = refl
+on_disk_blank (call.Receive got) = refl
+on_disk_blank (call.Read sector bytes ok) = refl
+on_disk_blank (call.Write sector bytes ok) = refl
+on_disk_blank (call.Feed ok) = refl
+on_disk_blank (call.Start ok) = refl
+on_disk_blank (call.Stop ok) = refl
+on_disk_blank (call.Send to bytes ok) = refl
+on_disk_blank (call.Disarm ok) = refl
+on_disk_blank (call.Halt code) = refl
 
--- an end that comes where the calls are as assumed
-abbrev good_cause : Assumed → BootCause → Bool
-good_cause assumed why = is_no_failure why || not assumed.calls
+pub asked_place : (c question : Call) → blank c ≡ question → is_on_disk c ≡ is_on_disk question
+asked_place c question asked = on_disk_blank c ∙ ap is_on_disk asked
 
-abbrev is_good : Assumed → LiveEnd → Bool
-is_good assumed (end.Turns phase holds answer why) = true
-is_good assumed (end.Left clean) = true
-is_good assumed (end.ClockBack before now) = not assumed.clock
-is_good assumed (end.SelfReset message) = true
-is_good assumed (end.BootHalted why) = good_cause assumed why
+disk_after_asked : (last : Option Call) (c question : Call) (on : Bool) → blank c ≡ question → is_on_disk question ≡ on
+    → disk_after c last ≡ (if on then Some c else last)
+disk_after_asked last c question on asked is = ap (λ (test : Bool). if test then Some c else last) (asked_place c question asked ∙ is)
 
-module _ (assumed : Assumed) where
-  -- the boot is not halted at this entry by a call that failed
-  abbrev calm_halt : Option BootCause → Bool
-  calm_halt None = true
-  calm_halt (Some why) = good_cause assumed why
+-- ## Causes of a halt
 
-  abbrev is_calm : Settings → What → Bool
-  is_calm s entry = calm_halt (boot_halt s entry)
+-- the last call on the disk was made for an operation, and failed; its failure halts a boot for this cause
+record FailedLast (s : Settings) (me : ℕ) (last : Option Call) (why : BootCause) : Type 0 where
+  op : DiskOp
+  number : ℕ
+  made : Call
+  is_last : last ≡ Some made
+  asked : blank made ≡ disk_call s me number op
+  fails : is_failed made ≡ true
+  halts : boot_halt s (failed op) ≡ Some why
 
-  abbrev calm_waiting : Settings → Option What → Bool
-  calm_waiting s None = true
-  calm_waiting s (Some entry) = is_calm s entry
+-- the cause is no failure of a call, or the last call on the disk gave it: the entry is that its operation failed
+abbrev Caused : Settings → ℕ → Option Call → What → BootCause → Type 0
+Caused s me last entry why = is_no_failure why ≡ false → (by : FailedLast s me last why) × (entry ≡ failed by.op)
 
-  calm_read : (s : Settings) (me : ℕ) (past : List Line) (entry : What) → is_calm s entry ≡ true → is_calm s (read_as s me past entry) ≡ true
-  calm_read s me past entry calm = of_test (fits s me past entry)
-    where
-      of_test : (test : Bool) → is_calm s (if test then entry else what.Tick) ≡ true
-      of_test true = calm
-      of_test false = refl
+abbrev CausedHalt : Settings → ℕ → Option Call → What → Option BootCause → Type 0
+CausedHalt s me last entry None = Unit {0}
+CausedHalt s me last entry (Some why) = Caused s me last entry why
 
-  abbrev calm_out : Out → Bool
-  calm_out (out.Halt (halt.Boot why)) = good_cause assumed why
-  calm_out (out.Halt (halt.Deadly message)) = true
-  calm_out out.Stop = true
-  calm_out out.Start = true
-  calm_out out.Feed = true
-  calm_out (out.Send to packet) = true
-  calm_out (out.Disk op) = true
-  calm_out out.Disarm = true
+-- the same of the cause for which an entry halts a boot
+abbrev CausedBy : Settings → ℕ → Option Call → What → Type 0
+CausedBy s me last entry = CausedHalt s me last entry (boot_halt s entry)
 
-  abbrev calm_outs : List Out → Bool
-  calm_outs [] = true
-  calm_outs (o ∷ outs) = calm_out o && calm_outs outs
+abbrev Waiting : Settings → ℕ → Option Call → Option What → Type 0
+Waiting s me last None = Unit {0}
+Waiting s me last (Some entry) = CausedBy s me last entry
 
-  and_both : (a b : Bool) → a ≡ true → b ≡ true → (a && b) ≡ true
-  and_both true b first second = second
-  and_both false b first second = cc
+caused_read : (s : Settings) (me : ℕ) (past : List Line) (last : Option Call) (entry : What) → CausedBy s me last entry
+    → CausedBy s me last (read_as s me past entry)
+caused_read s me past last entry caused = of_test (fits s me past entry)
+  where
+    of_test : (test : Bool) → CausedBy s me last (if test then entry else what.Tick)
+    of_test true = caused
+    of_test false = tt
 
-  and_left : (a b : Bool) → (a && b) ≡ true → a ≡ true
-  and_left true b is = refl
-  and_left false b is = cc
+-- ## Outputs
 
-  and_right : (a b : Bool) → (a && b) ≡ true → b ≡ true
-  and_right true b is = is
-  and_right false b is = cc
+-- the outputs halt a boot and do nothing else, for a cause of which P holds, or they don't halt it
+abbrev Halting : (BootCause → Type 0) → List Out → Type 0
+Halting P outs = ((why : BootCause) × (outs ≡ out.Halt (halt.Boot why) ∷ []) × P why) ⊎ (calm_outs outs ≡ true)
 
-  calm_join : (outs more : List Out) → calm_outs outs ≡ true → calm_outs more ≡ true → calm_outs (outs ++ more) ≡ true
-  calm_join [] more first second = second
-  calm_join (o ∷ outs) more first second =
-      and_both (calm_out o) (calm_outs (outs ++ more)) (and_left (calm_out o) (calm_outs outs) first)
-      (calm_join outs more (and_right (calm_out o) (calm_outs outs) first) second)
+halting_at : (s : Settings) (me : ℕ) (past : List Line) (tick : ℕ) (entry : What) (log : List Line) (last : Option Call) → CausedBy s me last entry
+    → Halting (Caused s me last entry) (outs_at s me past tick entry log)
+unfolding outs_at
+halting_at s me past tick entry log last caused = of_phase (is_booting (phase s past)) (is_live (phase s past))
+  where
+    of_halt : (halted : Option BootCause) → CausedHalt s me last entry halted
+        → Halting (Caused s me last entry) (boot_step_outs me (begins_clean log) (slot_number log) entry halted)
+    of_halt None known = inr (calm_boot me (begins_clean log) (slot_number log) entry)
+    of_halt (Some why) known = inl (why, refl, known)
 
-  calm_when : (test : Bool) (o : Out) → calm_out o ≡ true → calm_outs (when test o) ≡ true
-  calm_when true o calm = and_both (calm_out o) true calm refl
-  calm_when false o calm = refl
+    of_step : (step : Bool)
+        → Halting (Caused s me last entry) (if step then boot_step_outs me (begins_clean log) (slot_number log) entry (boot_halt s entry) else [])
+    of_step true = of_halt (boot_halt s entry) caused
+    of_step false = inr refl
 
-  calm_disk : (op : Option DiskOp) → calm_outs (disk_outs op) ≡ true
-  calm_disk None = refl
-  calm_disk (Some op) = refl
+    of_phase : (booting live : Bool)
+        → Halting (Caused s me last entry) (if booting then boot_outs s me (begins_clean log) (slot_number log) entry
+        else (if live then live_outs s me log entry (mail_feeds tick past entry) (deadly_of (message_of entry)) else []))
+    of_phase true live = of_step (is_boot_step entry)
+    of_phase false true = inr (calm_live s me log entry (mail_feeds tick past entry) (deadly_of (message_of entry)))
+    of_phase false false = inr refl
 
-  calm_boot : (me : ℕ) (clean : Bool) (number : ℕ) (entry : What) (halted : Option BootCause) → calm_halt halted ≡ true
-      → calm_outs (boot_step_outs me clean number entry halted) ≡ true
-  calm_boot me clean number entry None calm =
-      calm_join (when (not (is_begin entry)) out.Feed) (disk_outs (boot_op me clean number entry))
-      (calm_when (not (is_begin entry)) out.Feed refl) (calm_disk (boot_op me clean number entry))
-  calm_boot me clean number entry (Some why) calm = and_both (good_cause assumed why) true calm refl
+halting_newest : (s : Settings) (me : ℕ) (past : List Line) (tick : ℕ) (entry : What) (last : Option Call) → CausedBy s me last entry
+    → Halting (Caused s me last (read_as s me past entry)) (newest_outs (with_entry s me past (record { tick = tick; what = entry })))
+unfolding with_entry
+halting_newest s me past tick entry last caused =
+    halting_at s me past tick (read_as s me past entry) _ last (caused_read s me past last entry caused)
 
-  calm_asks : (me : ℕ) (log : List Line) (present : View) (ranks : List ℕ) → calm_outs (map (ask_to me log present) ranks) ≡ true
-  calm_asks me log present [] = refl
-  calm_asks me log present (rank ∷ ranks) = calm_asks me log present ranks
+now_newest : (s : Settings) (me : ℕ) (past : List Line) (tick : ℕ) (entry : What) → now (with_entry s me past (record { tick = tick; what = entry })) ≡ tick
+unfolding with_entry
+now_newest s me past tick entry = refl
 
-  calm_asked : (me : ℕ) (log : List Line) (ranks : View → List ℕ) (asking : Bool) (present : Option View)
-      → calm_outs (if asking then option_map_or (λ own. map (ask_to me log own) (ranks own)) present [] else []) ≡ true
-  calm_asked me log ranks true None = refl
-  calm_asked me log ranks true (Some own) = calm_asks me log own (ranks own)
-  calm_asked me log ranks false present = refl
+newest_read : (s : Settings) (me : ℕ) (past : List Line) (tick : ℕ) (entry : What)
+    → IsNewest (read_as s me past entry) (with_entry s me past (record { tick = tick; what = entry }))
+unfolding with_entry
+newest_read s me past tick entry = refl
 
-  calm_replies : (s : Settings) (me : ℕ) (held : Bool) (log : List Line) (entry : What) → calm_outs (replies s me held log entry) ≡ true
-  calm_replies s me held log (what.Ask ask) = calm_when _ _ refl
-  calm_replies s me held log what.Begin = refl
-  calm_replies s me held log what.BeginClean = refl
-  calm_replies s me held log (what.Header seen) = refl
-  calm_replies s me held log (what.SlotRead rank seen) = refl
-  calm_replies s me held log (what.MailChecked seen) = refl
-  calm_replies s me held log (what.Claimed ok) = refl
-  calm_replies s me held log (what.Cleared ok) = refl
-  calm_replies s me held log (what.MailRead seen) = refl
-  calm_replies s me held log (what.MailWritten rank ok) = refl
-  calm_replies s me held log (what.View own) = refl
-  calm_replies s me held log (what.Tell tell) = refl
-  calm_replies s me held log (what.Device agrees) = refl
-  calm_replies s me held log what.Tick = refl
-  calm_replies s me held log (what.Stopped ok) = refl
-  calm_replies s me held log what.Leave = refl
-  calm_replies s me held log (what.Closed ok) = refl
+-- a boot was halted by the last call on the disk: the newest entry is that its operation failed
+abbrev HaltsSo : Settings → ℕ → Past → List Line → BootCause → Type 0
+HaltsSo s me past log why = is_no_failure why ≡ false → (by : FailedLast s me past.disk why) × IsNewest (failed by.op) log
 
-  calm_six : (stop start feed tell ask op : List Out) → calm_outs stop ≡ true → calm_outs start ≡ true → calm_outs feed ≡ true
-      → calm_outs tell ≡ true → calm_outs ask ≡ true → calm_outs op ≡ true → calm_outs (stop ++ start ++ feed ++ tell ++ ask ++ op) ≡ true
-  calm_six stop start feed tell ask op one two three four five six =
-      calm_join (stop ++ start ++ feed ++ tell ++ ask) op
-      (calm_join (stop ++ start ++ feed ++ tell) ask
-      (calm_join (stop ++ start ++ feed) tell (calm_join (stop ++ start) feed (calm_join stop start one two) three) four) five) six
+-- an end after these calls: a boot was halted for a cause that they gave, and a clock went back only where a tick fell
+abbrev EndsSo : Settings → ℕ → Past → List Line → LiveEnd → Type 0
+EndsSo s me past log (end.Turns phase holds answer why) = Unit {0}
+EndsSo s me past log (end.Left clean) = Unit {0}
+EndsSo s me past log (end.ClockBack before now) = past.fell ≡ true
+EndsSo s me past log (end.SelfReset message) = Unit {0}
+EndsSo s me past log (end.BootHalted why) = HaltsSo s me past log why
 
-  calm_acts : (s : Settings) (me : ℕ) (log : List Line) (entry : What) (fed : Bool) → calm_outs (acts s me log entry fed) ≡ true
-  unfolding acts
-  calm_acts s me log entry fed =
-      calm_six (when (gives_stop s log) out.Stop) (when (gives_start s me log) out.Start) (when fed out.Feed)
-      (replies s me (gives_start s me log || holds log) log entry) (asks s me log) (disk_outs (wanted_with_delay s me log))
-      (calm_when (gives_stop s log) out.Stop refl) (calm_when (gives_start s me log) out.Start refl) (calm_when fed out.Feed refl)
-      (calm_replies s me (gives_start s me log || holds log) log entry)
-      (calm_asked me log (λ own. filter (is_asked s me log) (range_with_len 0 (length s.nodes))) (is_asking s log) (view log))
-      (calm_disk (wanted_with_delay s me log))
+abbrev EndedSo : Settings → ℕ → Past → List Line → Option LiveEnd → Type 0
+EndedSo s me past log None = Unit {0}
+EndedSo s me past log (Some end) = EndsSo s me past log end
 
-  calm_live : (s : Settings) (me : ℕ) (log : List Line) (entry : What) (fed : Bool) (deadly : Option Message)
-      → calm_outs (live_outs s me log entry fed deadly) ≡ true
-  calm_live s me log entry fed (Some message) = refl
-  calm_live s me log (what.Closed ok) fed None = refl
-  calm_live s me log what.Begin fed None = calm_acts s me log what.Begin fed
-  calm_live s me log what.BeginClean fed None = calm_acts s me log what.BeginClean fed
-  calm_live s me log (what.Header seen) fed None = calm_acts s me log (what.Header seen) fed
-  calm_live s me log (what.SlotRead rank seen) fed None = calm_acts s me log (what.SlotRead rank seen) fed
-  calm_live s me log (what.MailChecked seen) fed None = calm_acts s me log (what.MailChecked seen) fed
-  calm_live s me log (what.Claimed ok) fed None = calm_acts s me log (what.Claimed ok) fed
-  calm_live s me log (what.Cleared ok) fed None = calm_acts s me log (what.Cleared ok) fed
-  calm_live s me log (what.MailRead seen) fed None = calm_acts s me log (what.MailRead seen) fed
-  calm_live s me log (what.MailWritten rank ok) fed None = calm_acts s me log (what.MailWritten rank ok) fed
-  calm_live s me log (what.View own) fed None = calm_acts s me log (what.View own) fed
-  calm_live s me log (what.Ask ask) fed None = calm_acts s me log (what.Ask ask) fed
-  calm_live s me log (what.Tell tell) fed None = calm_acts s me log (what.Tell tell) fed
-  calm_live s me log (what.Device agrees) fed None = calm_acts s me log (what.Device agrees) fed
-  calm_live s me log what.Tick fed None = calm_acts s me log what.Tick fed
-  calm_live s me log (what.Stopped ok) fed None = calm_acts s me log (what.Stopped ok) fed
-  calm_live s me log what.Leave fed None = calm_acts s me log what.Leave fed
+calm_ends : (s : Settings) (me : ℕ) (past : Past) (log : List Line) (entry : What) (outs : List Out) → calm_outs outs ≡ true
+    → EndedSo s me past log (end_in entry outs)
+calm_ends s me past log entry [] calm = tt
+calm_ends s me past log entry (out.Halt (halt.Deadly message) ∷ outs) calm = tt
+calm_ends s me past log entry (out.Halt (halt.Boot why) ∷ outs) calm = absurd cc
+calm_ends s me past log entry (out.Disarm ∷ outs) calm = tt
+calm_ends s me past log entry (out.Stop ∷ outs) calm = calm_ends s me past log entry outs calm
+calm_ends s me past log entry (out.Start ∷ outs) calm = calm_ends s me past log entry outs calm
+calm_ends s me past log entry (out.Feed ∷ outs) calm = calm_ends s me past log entry outs calm
+calm_ends s me past log entry (out.Send to packet ∷ outs) calm = calm_ends s me past log entry outs calm
+calm_ends s me past log entry (out.Disk op ∷ outs) calm = calm_ends s me past log entry outs calm
 
-  calm_at : (s : Settings) (me : ℕ) (past : List Line) (tick : ℕ) (entry : What) (log : List Line) → is_calm s entry ≡ true
-      → calm_outs (outs_at s me past tick entry log) ≡ true
-  unfolding outs_at
-  calm_at s me past tick entry log calm = of_phase (is_booting (phase s past)) (is_live (phase s past))
-    where
-      of_step : (step : Bool) → calm_outs (if step then boot_step_outs me (begins_clean log) (slot_number log) entry (boot_halt s entry) else []) ≡ true
-      of_step true = calm_boot me (begins_clean log) (slot_number log) entry (boot_halt s entry) calm
-      of_step false = refl
+-- ## Answers of the disk
 
-      of_phase : (booting live : Bool)
-          → calm_outs (if booting then boot_outs s me (begins_clean log) (slot_number log) entry
-          else (if live then live_outs s me log entry (mail_feeds tick past entry) (deadly_of (message_of entry)) else [])) ≡ true
-      of_phase true live = of_step (is_boot_step entry)
-      of_phase false true = calm_live s me log entry (mail_feeds tick past entry) (deadly_of (message_of entry))
-      of_phase false false = refl
-
-  calm_newest : (s : Settings) (me : ℕ) (past : List Line) (tick : ℕ) (entry : What) → is_calm s entry ≡ true
-      → calm_outs (newest_outs (with_entry s me past (record { tick = tick; what = entry }))) ≡ true
-  unfolding with_entry
-  calm_newest s me past tick entry calm = calm_at s me past tick (read_as s me past entry) _ (calm_read s me past entry calm)
-
-  now_newest : (s : Settings) (me : ℕ) (past : List Line) (tick : ℕ) (entry : What) → now (with_entry s me past (record { tick = tick; what = entry })) ≡ tick
-  unfolding with_entry
-  now_newest s me past tick entry = refl
-
-  -- no output of a calm entry ends the run by a call that failed
-  abbrev calm_end : Option LiveEnd → Bool
-  calm_end None = true
-  calm_end (Some end) = is_good assumed end
-
-  calm_ends : (entry : What) (outs : List Out) → calm_outs outs ≡ true → calm_end (end_in entry outs) ≡ true
-  calm_ends entry [] calm = refl
-  calm_ends entry (out.Halt (halt.Deadly message) ∷ outs) calm = refl
-  calm_ends entry (out.Halt (halt.Boot why) ∷ outs) calm = and_left (good_cause assumed why) (calm_outs outs) calm
-  calm_ends entry (out.Disarm ∷ outs) calm = refl
-  calm_ends entry (out.Stop ∷ outs) calm = calm_ends entry outs calm
-  calm_ends entry (out.Start ∷ outs) calm = calm_ends entry outs calm
-  calm_ends entry (out.Feed ∷ outs) calm = calm_ends entry outs calm
-  calm_ends entry (out.Send to packet ∷ outs) calm = calm_ends entry outs calm
-  calm_ends entry (out.Disk op ∷ outs) calm = calm_ends entry outs calm
-
-  -- ## Answers of the disk
-
-  calm_header : (s : Settings) (found : Option (ℕ × Timing))
-      → calm_halt (header_halt s (option_map_or (λ f. header.Read f.0 f.1) found header.NotImage)) ≡ true
-  calm_header s None = refl
-  calm_header s (Some f) = of_tests (f.0 == length s.nodes) (is_safe f.1)
+module _ (s : Settings) (me : ℕ) (last : Option Call) (entry : What) where
+  caused_header : (found : Option (ℕ × Timing))
+      → CausedHalt s me last entry (header_halt s (option_map_or (λ f. header.Read f.0 f.1) found header.NotImage))
+  caused_header None = λ failure. absurd cc
+  caused_header (Some f) = of_tests (f.0 == length s.nodes) (is_safe f.1)
     where
       of_tests : (same safe : Bool)
-          → calm_halt (if not same then Some cause.NotImage else (if safe then None else Some cause.UnsafeTiming)) ≡ true
-      of_tests true true = refl
-      of_tests true false = refl
-      of_tests false safe = refl
+          → CausedHalt s me last entry (if not same then Some cause.NotImage else (if safe then None else Some cause.UnsafeTiming))
+      of_tests true true = tt
+      of_tests true false = λ failure. absurd cc
+      of_tests false safe = λ failure. absurd cc
 
-  calm_own : (own : Slot) → calm_halt (slot_halt (slot.Read own)) ≡ true
-  calm_own own = of_test (nat_lt own.incarnation (2 ^ 64 - 1))
+  caused_own : (own : Slot) → CausedHalt s me last entry (slot_halt (slot.Read own))
+  caused_own own = of_test (nat_lt own.incarnation (2 ^ 64 - 1))
     where
-      of_test : (below : Bool) → calm_halt (if below then None else Some cause.IncarnationSpent) ≡ true
-      of_test true = refl
-      of_test false = refl
+      of_test : (below : Bool) → CausedHalt s me last entry (if below then None else Some cause.IncarnationSpent)
+      of_test true = tt
+      of_test false = λ failure. absurd cc
 
-  calm_slot : (s : Settings) (rank : ℕ) (found : Option (NodeId × Slot))
-      → calm_halt (slot_halt (option_map_or (λ f. if f.0.0 == (id_of s rank).0 then slot.Read f.1 else slot.Damaged) found slot.Damaged)) ≡ true
-  calm_slot s rank None = refl
-  calm_slot s rank (Some f) = of_test (f.0.0 == (id_of s rank).0)
+  caused_slot : (rank : ℕ) (found : Option (NodeId × Slot))
+      → CausedHalt s me last entry (slot_halt (option_map_or (λ f. if f.0.0 == (id_of s rank).0 then slot.Read f.1 else slot.Damaged) found slot.Damaged))
+  caused_slot rank None = λ failure. absurd cc
+  caused_slot rank (Some f) = of_test (f.0.0 == (id_of s rank).0)
     where
-      of_test : (own : Bool) → calm_halt (slot_halt (if own then slot.Read f.1 else slot.Damaged)) ≡ true
-      of_test true = calm_own f.1
-      of_test false = refl
+      of_test : (own : Bool) → CausedHalt s me last entry (slot_halt (if own then slot.Read f.1 else slot.Damaged))
+      of_test true = caused_own f.1
+      of_test false = λ failure. absurd cc
 
-  calm_mail : (found : Option Mail) → calm_halt (check_halt (option_map_or (λ f. mail.Read f.message) found mail.Damaged)) ≡ true
-  calm_mail None = refl
-  calm_mail (Some f) = of_test (starts_clean_on f.message)
+  caused_mail : (found : Option Mail) → CausedHalt s me last entry (check_halt (option_map_or (λ f. mail.Read f.message) found mail.Damaged))
+  caused_mail None = λ failure. absurd cc
+  caused_mail (Some f) = of_test (starts_clean_on f.message)
     where
-      of_test : (clean : Bool) → calm_halt (if clean then None else Some cause.NotClean) ≡ true
-      of_test true = refl
-      of_test false = refl
+      of_test : (clean : Bool) → CausedHalt s me last entry (if clean then None else Some cause.NotClean)
+      of_test true = tt
+      of_test false = λ failure. absurd cc
 
-  calm_done : (s : Settings) (op : DiskOp) (bytes : List ℕ) → is_calm s (done s op bytes) ≡ true
-  unfolding done
-  calm_done s disk.ReadHeader bytes = calm_header s (header_of bytes)
-  calm_done s (disk.ReadSlot rank) bytes = calm_slot s rank.0 (slot_of bytes)
-  calm_done s disk.CheckMail bytes = calm_mail (mail_of bytes)
-  calm_done s disk.ReadMail bytes = refl
-  calm_done s (disk.WriteClaim next) bytes = refl
-  calm_done s (disk.WriteClose own) bytes = refl
-  calm_done s disk.WriteClear bytes = refl
-  calm_done s (disk.WriteReset rank) bytes = refl
+caused_done : (s : Settings) (me : ℕ) (last : Option Call) (op : DiskOp) (bytes : List ℕ) → CausedBy s me last (done s op bytes)
+unfolding done
+caused_done s me last disk.ReadHeader bytes = caused_header s me last (done s disk.ReadHeader bytes) (header_of bytes)
+caused_done s me last (disk.ReadSlot rank) bytes = caused_slot s me last (done s (disk.ReadSlot rank) bytes) rank.0 (slot_of bytes)
+caused_done s me last disk.CheckMail bytes = caused_mail s me last (done s disk.CheckMail bytes) (mail_of bytes)
+caused_done s me last disk.ReadMail bytes = tt
+caused_done s me last (disk.WriteClaim next) bytes = tt
+caused_done s me last (disk.WriteClose own) bytes = tt
+caused_done s me last disk.WriteClear bytes = tt
+caused_done s me last (disk.WriteReset rank) bytes = tt
 
-  or_second : (a b : Bool) → b ≡ true → (a || b) ≡ true
-  or_second true b is = refl
-  or_second false b is = is
-
-  calm_any : (s : Settings) (entry : What) → assumed.calls ≡ false → is_calm s entry ≡ true
-  calm_any s entry no_calls = of_halt (boot_halt s entry)
+module _ (s : Settings) (me : ℕ) where
+  caused_answer : (number : ℕ) (op : DiskOp) (c : Call) → blank c ≡ disk_call s me number op → CausedBy s me (Some c) (disk_answer s op c)
+  caused_answer number op c asked = of_call (is_failed c) refl
     where
-      of_halt : (halted : Option BootCause) → calm_halt halted ≡ true
-      of_halt None = refl
-      of_halt (Some why) = or_second (is_no_failure why) (not assumed.calls) (ap not no_calls)
+      of_halt : (halted : Option BootCause) → boot_halt s (failed op) ≡ halted → is_failed c ≡ true → CausedHalt s me (Some c) (failed op) halted
+      of_halt None is fails = tt
+      of_halt (Some why) is fails =
+          λ failure. (record { op = op; number = number; made = c; is_last = refl; asked = asked; fails = fails; halts = is }, refl)
 
-  calm_answer : (s : Settings) (op : DiskOp) (c : Call) → (assumed.calls ≡ true → is_failed c ≡ false) → is_calm s (disk_answer s op c) ≡ true
-  calm_answer s op c whole = of_calls assumed.calls refl
+      of_call : (failing : Bool) → is_failed c ≡ failing → CausedBy s me (Some c) (if failing then failed op else done s op (bytes_read c))
+      of_call true fails = of_halt (boot_halt s (failed op)) refl fails
+      of_call false whole = caused_done s me (Some c) op (bytes_read c)
+
+  disk_on_disk : (number : ℕ) (op : DiskOp) → is_on_disk (disk_call s me number op) ≡ true
+  unfolding disk_call
+  disk_on_disk number disk.ReadHeader = refl
+  disk_on_disk number (disk.ReadSlot rank) = refl
+  disk_on_disk number disk.CheckMail = refl
+  disk_on_disk number disk.ReadMail = refl
+  disk_on_disk number (disk.WriteClaim next) = refl
+  disk_on_disk number (disk.WriteClose own) = refl
+  disk_on_disk number disk.WriteClear = refl
+  disk_on_disk number (disk.WriteReset rank) = refl
+
+  -- what waits after a call of an output is what waited, or the answer of that call
+  waiting_after : (number : ℕ) (o : Out) (c : Call) (waits : Waits) (last : Option Call) → blank c ≡ out_call s me number o
+      → Waiting s me last waits.disk → Waiting s me (disk_after c last) (waits_after s o c waits).disk
+  unfolding out_call waits_after
+  waiting_after number o c waits last asked waiting = of_output o asked
     where
-      of_calls : (calls : Bool) → assumed.calls ≡ calls → is_calm s (disk_answer s op c) ≡ true
-      of_calls true is =
-          subst (λ (failing : Bool). is_calm s (if failing then failed op else done s op (bytes_read c)) ≡ true) (sym (whole is))
-          (calm_done s op (bytes_read c))
-      of_calls false is = calm_any s (disk_answer s op c) is
+      kept : (question : Call) → is_on_disk question ≡ false → blank c ≡ question → Waiting s me (disk_after c last) waits.disk
+      kept question off is = subst (λ (l : Option Call). Waiting s me l waits.disk) (sym (disk_after_asked last c question false is off)) waiting
 
-  calm_after : (s : Settings) (o : Out) (c : Call) (waits : Waits) → (assumed.calls ≡ true → is_failed c ≡ false) → calm_waiting s waits.disk ≡ true
-      → calm_waiting s (waits_after s o c waits).disk ≡ true
-  unfolding waits_after
-  calm_after s (out.Disk op) c waits whole calm = calm_answer s op c whole
-  calm_after s out.Stop c waits whole calm = calm
-  calm_after s out.Start c waits whole calm = calm
-  calm_after s out.Feed c waits whole calm = calm
-  calm_after s (out.Send to packet) c waits whole calm = calm
-  calm_after s out.Disarm c waits whole calm = calm
-  calm_after s (out.Halt kind) c waits whole calm = calm
+      of_output : (o : Out) → blank c ≡ out_call s me number o → Waiting s me (disk_after c last) (waits_after s o c waits).disk
+      of_output (out.Disk op) is =
+          subst (λ (l : Option Call). CausedBy s me l (disk_answer s op c))
+          (sym (disk_after_asked last c (disk_call s me number op) true is (disk_on_disk number op))) (caused_answer number op c is)
+      of_output out.Stop is = kept (call.Stop true) refl is
+      of_output out.Start is = kept (call.Start true) refl is
+      of_output out.Feed is = kept (call.Feed true) refl is
+      of_output (out.Send to packet) is = kept (call.Send to (packet_bytes packet) true) refl is
+      of_output out.Disarm is = kept (call.Disarm true) refl is
+      of_output (out.Halt kind) is = kept (call.Halt (halt_code kind)) refl is
 
   -- ## One turn
 
-  disk_asks_none : (s : Settings) (me number : ℕ) (op : DiskOp) → is_now (disk_call s me number op) ≡ false
+  disk_asks_none : (number : ℕ) (op : DiskOp) → is_now (disk_call s me number op) ≡ false
   unfolding disk_call
-  disk_asks_none s me number disk.ReadHeader = refl
-  disk_asks_none s me number (disk.ReadSlot rank) = refl
-  disk_asks_none s me number disk.CheckMail = refl
-  disk_asks_none s me number disk.ReadMail = refl
-  disk_asks_none s me number (disk.WriteClaim next) = refl
-  disk_asks_none s me number (disk.WriteClose own) = refl
-  disk_asks_none s me number disk.WriteClear = refl
-  disk_asks_none s me number (disk.WriteReset rank) = refl
+  disk_asks_none number disk.ReadHeader = refl
+  disk_asks_none number (disk.ReadSlot rank) = refl
+  disk_asks_none number disk.CheckMail = refl
+  disk_asks_none number disk.ReadMail = refl
+  disk_asks_none number (disk.WriteClaim next) = refl
+  disk_asks_none number (disk.WriteClose own) = refl
+  disk_asks_none number disk.WriteClear = refl
+  disk_asks_none number (disk.WriteReset rank) = refl
 
-  out_asks_none : (s : Settings) (me number : ℕ) (o : Out) → is_now (out_call s me number o) ≡ false
+  out_asks_none : (number : ℕ) (o : Out) → is_now (out_call s me number o) ≡ false
   unfolding out_call
-  out_asks_none s me number out.Stop = refl
-  out_asks_none s me number out.Start = refl
-  out_asks_none s me number out.Feed = refl
-  out_asks_none s me number (out.Send to packet) = refl
-  out_asks_none s me number (out.Disk op) = disk_asks_none s me number op
-  out_asks_none s me number out.Disarm = refl
-  out_asks_none s me number (out.Halt kind) = refl
+  out_asks_none number out.Stop = refl
+  out_asks_none number out.Start = refl
+  out_asks_none number out.Feed = refl
+  out_asks_none number (out.Send to packet) = refl
+  out_asks_none number (out.Disk op) = disk_asks_none number op
+  out_asks_none number out.Disarm = refl
+  out_asks_none number (out.Halt kind) = refl
 
-  -- the outputs were performed: nothing came to the log, the tick is the same, and what waits is calm
-  abbrev Performed : Settings → ℕ → List Line → ℕ → RunState → Type 0
-  Performed s tick log last st = (last ≡ tick) × (st.log ≡ log) × (calm_waiting s st.waits.disk ≡ true)
+  -- the outputs were performed: nothing came to the log, the tick is the same, and what waits is known
+  abbrev Performed : ℕ → List Line → Past → RunState → Type 0
+  Performed tick log past st = (past.tick ≡ tick) × (st.log ≡ log) × Waiting s me past.disk st.waits.disk
 
-  leads_outs : (s : Settings) (me tick : ℕ) (log : List Line) (st : RunState) (outs : List Out) (last : ℕ) → last ≡ tick → st.log ≡ log
-      → calm_waiting s st.waits.disk ≡ true → Leads assumed (Performed s tick log) last (outs_plan s me st outs)
+  leads_outs : (tick : ℕ) (log : List Line) (st : RunState) (outs : List Out) (past : Past) → past.tick ≡ tick → st.log ≡ log
+      → Waiting s me past.disk st.waits.disk → Leads (Performed tick log) past (outs_plan s me st outs)
   unfolding outs_plan
-  leads_outs s me tick log st [] last is same calm = (is, same, calm)
-  leads_outs s me tick log st (o ∷ outs) last is same calm =
-      λ c asked given.
-      leads_outs s me tick log (noted s o c st) outs (tick_after c last)
-      (asked_none last c (out_call s me (own_number st.log) o) asked (out_asks_none s me (own_number st.log) o) ∙ is) same
-      (calm_after s o c st.waits given.whole calm)
+  leads_outs tick log st [] past is same waiting = (is, same, waiting)
+  leads_outs tick log st (o ∷ outs) past is same waiting =
+      λ c asked.
+      leads_outs tick log (noted s o c st) outs (after_call c past)
+      (asked_none past.tick c (out_call s me (own_number st.log) o) asked (out_asks_none (own_number st.log) o) ∙ is) same
+      (waiting_after (own_number st.log) o c st.waits past.disk asked waiting)
 
-  leads_sends : (tick : ℕ) (sent : List Sent) (last : ℕ) → last ≡ tick → Leads assumed (λ after done. after ≡ tick) last (sends_plan sent)
+  -- neither the clock was looked at nor a sector read or written
+  abbrev Silent : Past → Past → Unit {0} → Type 0
+  Silent before past sent = (past.tick ≡ before.tick) × (past.disk ≡ before.disk)
+
+  leads_sends : (before : Past) (sent : List Sent) (past : Past) → past.tick ≡ before.tick → past.disk ≡ before.disk
+      → Leads (Silent before) past (sends_plan sent)
   unfolding sends_plan
-  leads_sends tick [] last is = is
-  leads_sends tick (one ∷ more) last is =
-      λ c asked given. leads_sends tick more (tick_after c last) (asked_none last c (call.Send one.to (packet_bytes one.packet) true) asked refl ∙ is)
+  leads_sends before [] past is same = (is, same)
+  leads_sends before (one ∷ more) past is same =
+      λ c asked.
+      leads_sends before more (after_call c past)
+      (asked_none past.tick c (call.Send one.to (packet_bytes one.packet) true) asked refl ∙ is)
+      (disk_after_asked past.disk c (call.Send one.to (packet_bytes one.packet) true) false asked refl ∙ same)
 
-  -- a turn ended the run well, or another one can follow
-  abbrev Turns : Settings → ℕ → Turned → Type 0
-  Turns s tick (Over end log) = is_good assumed end ≡ true
-  Turns s tick (Next st) = (now st.log ≡ tick) × (calm_waiting s st.waits.disk ≡ true)
+  -- a turn ended the run for a known cause, or another one can follow
+  abbrev Turns : Past → Turned → Type 0
+  Turns past (Over end log) = EndsSo s me past log end
+  Turns past (Next st) = (now st.log ≡ past.tick) × Waiting s me past.disk st.waits.disk
 
-  leads_greeted : (s : Settings) (me : ℕ) (st : RunState) (tick : ℕ) → now st.log ≡ tick → calm_waiting s st.waits.disk ≡ true
-      → Leads assumed (Turns s) tick (greeted s me st)
+  leads_greeted : (st : RunState) (past : Past) → now st.log ≡ past.tick → Waiting s me past.disk st.waits.disk → Leads Turns past (greeted s me st)
   unfolding greeted
-  leads_greeted s me st tick is calm =
-      leads_then assumed (λ after done. after ≡ tick) (Turns s) tick (sends_plan _) _ (leads_sends tick _ tick refl) (λ last sent same. (is ∙ sym same, calm))
+  leads_greeted st past is waiting =
+      leads_then (Silent past) Turns past (sends_plan _) _ (leads_sends past _ past refl refl)
+      (λ after sent silent. (is ∙ sym silent.0, subst (λ (l : Option Call). Waiting s me l st.waits.disk) (sym silent.1) waiting))
 
-  leads_settled : (s : Settings) (me : ℕ) (entry : What) (outs : List Out) (st : RunState) (tick : ℕ) → calm_outs outs ≡ true
-      → now st.log ≡ tick → calm_waiting s st.waits.disk ≡ true → Leads assumed (Turns s) tick (settled s me entry outs st)
+  leads_settled : (entry : What) (outs : List Out) (st : RunState) (past : Past) → calm_outs outs ≡ true → now st.log ≡ past.tick
+      → Waiting s me past.disk st.waits.disk → Leads Turns past (settled s me entry outs st)
   unfolding settled
-  leads_settled s me entry outs st tick all is calm = of_end (end_in entry outs) (calm_ends entry outs all)
+  leads_settled entry outs st past calm is waiting = of_end (end_in entry outs) (calm_ends s me past st.log entry outs calm)
     where
-      of_end : (end : Option LiveEnd) → calm_end end ≡ true
-          → Leads assumed (Turns s) tick (option_map_or (λ e. Ends (Over e st.log)) end (greeted s me st))
-      of_end None good = leads_greeted s me st tick is calm
-      of_end (Some e) good = good
+      of_end : (end : Option LiveEnd) → EndedSo s me past st.log end → Leads Turns past (option_map_or (λ e. Ends (Over e st.log)) end (greeted s me st))
+      of_end None known = leads_greeted st past is waiting
+      of_end (Some e) known = known
 
-  leads_handled : (s : Settings) (me : ℕ) (st : RunState) (tick : ℕ) (found : Option Maker × What) → is_calm s found.1 ≡ true
-      → calm_waiting s st.waits.disk ≡ true → Leads assumed (Turns s) tick (handled s me st tick found)
+  leads_halted : (entry read : What) (st : RunState) (past : Past) (why : BootCause) → Caused s me past.disk read why → IsNewest read st.log
+      → Leads Turns past (outs_plan s me st (out.Halt (halt.Boot why) ∷ []) >>= settled s me entry (out.Halt (halt.Boot why) ∷ []))
+  unfolding outs_plan out_call settled
+  leads_halted entry read st past why caused newest =
+      λ c asked failure.
+      let same = disk_after_asked past.disk c (call.Halt (halt_code (halt.Boot why))) false asked refl in
+      let found = caused failure in (
+        subst (λ (l : Option Call). FailedLast s me l why) (sym same) found.0,
+        subst (λ (w : What). IsNewest w st.log) (found.1) newest,
+      )
+
+  leads_performed : (entry read : What) (st : RunState) (outs : List Out) (past : Past) → Halting (Caused s me past.disk read) outs
+      → IsNewest read st.log → now st.log ≡ past.tick → Waiting s me past.disk st.waits.disk → Leads Turns past (outs_plan s me st outs >>= settled s me entry outs)
+  leads_performed entry read st outs past (inl alone) newest is waiting =
+      subst (λ (o : List Out). Leads Turns past (outs_plan s me st o >>= settled s me entry o)) (sym alone.1)
+      (leads_halted entry read st past alone.0 alone.2 newest)
+  leads_performed entry read st outs past (inr calm) newest is waiting =
+      leads_then (Performed past.tick st.log) Turns past (outs_plan s me st outs) (settled s me entry outs)
+      (leads_outs past.tick st.log st outs past refl refl waiting)
+      (λ after left kept. leads_settled entry outs left after calm (ap now kept.1 ∙ is ∙ sym kept.0) kept.2)
+
+  leads_handled : (st : RunState) (past : Past) (found : Option Maker × What) → CausedBy s me past.disk found.1
+      → Waiting s me past.disk st.waits.disk → Leads Turns past (handled s me st past.tick found)
   unfolding handled
-  leads_handled s me st tick found good calm =
-      let after = taken s me st tick found in
-      leads_then assumed (Performed s tick after.log) (Turns s) tick (outs_plan s me after (newest_outs after.log)) (settled s me found.1 (newest_outs after.log))
-      (leads_outs s me tick after.log after (newest_outs after.log) tick refl refl calm)
-      (λ last left kept.
-      leads_settled s me found.1 (newest_outs after.log) left last (calm_newest s me st.log tick found.1 good)
-      (ap now kept.1 ∙ now_newest s me st.log tick found.1 ∙ sym kept.0) kept.2)
+  leads_handled st past found caused waiting =
+      let after = taken s me st past.tick found in
+      leads_performed found.1 (read_as s me st.log found.1) after (newest_outs after.log) past
+      (halting_newest s me st.log past.tick found.1 past.disk caused) (newest_read s me st.log past.tick found.1) (now_newest s me st.log past.tick found.1) waiting
 
-  abbrev choice_calm : Settings → Choice → Bool
-  choice_calm s (choice.Whole entry) = is_calm s entry
-  choice_calm s (choice.Open packet) = true
+  abbrev CausedChoice : Option Call → Choice → Type 0
+  CausedChoice last (choice.Whole entry) = CausedBy s me last entry
+  CausedChoice last (choice.Open packet) = Unit {0}
 
-  calm_look : (s : Settings) (seen : Option View) → is_calm s (view_or_tick seen) ≡ true
-  calm_look s None = refl
-  calm_look s (Some own) = refl
+  caused_look : (last : Option Call) (seen : Option View) → CausedBy s me last (view_or_tick seen)
+  caused_look last None = tt
+  caused_look last (Some own) = tt
 
-  calm_looked : (s : Settings) (tick : ℕ) (chosen : Choice) (maker : Option Maker) → choice_calm s chosen ≡ true
-      → is_calm s (looked tick chosen maker).1 ≡ true
-  calm_looked s tick (choice.Whole entry) maker calm = calm
-  calm_looked s tick (choice.Open p) None calm = refl
-  calm_looked s tick (choice.Open p) (Some m) calm = calm_look s (view_at tick (heard tick p m))
+  caused_looked : (last : Option Call) (tick : ℕ) (chosen : Choice) (maker : Option Maker) → CausedChoice last chosen
+      → CausedBy s me last (looked tick chosen maker).1
+  caused_looked last tick (choice.Whole entry) maker caused = caused
+  caused_looked last tick (choice.Open p) None caused = tt
+  caused_looked last tick (choice.Open p) (Some m) caused = caused_look last (view_at tick (heard tick p m))
 
-  not_assumed : (clock : Bool) → (clock ≡ true → true ≡ false) → not clock ≡ true
-  not_assumed true contrary = absurd (let impossible : true ≡ false = contrary refl in cc)
-  not_assumed false contrary = refl
-
-  leads_clocked : (s : Settings) (me : ℕ) (chosen : Choice × RunState) (tick : ℕ) → (assumed.clock ≡ true → now chosen.1.log ≤ tick)
-      → choice_calm s chosen.0 ≡ true → calm_waiting s chosen.1.waits.disk ≡ true → Leads assumed (Turns s) tick (clocked s me chosen tick)
+  leads_clocked : (chosen : Choice × RunState) (past : Past) → (nat_lt past.tick (now chosen.1.log) ≡ true → past.fell ≡ true)
+      → CausedChoice past.disk chosen.0 → Waiting s me past.disk chosen.1.waits.disk → Leads Turns past (clocked s me chosen past.tick)
   unfolding clocked
-  leads_clocked s me chosen tick rises good calm =
-      of_test (nat_lt tick (now chosen.1.log)) (λ clock. le-ltb tick (now chosen.1.log) (rises clock))
+  leads_clocked chosen past falls caused waiting = of_test (nat_lt past.tick (now chosen.1.log)) falls
     where
-      of_test : (back : Bool) → (assumed.clock ≡ true → back ≡ false)
-          → Leads assumed (Turns s) tick (if back then Ends (Over (end.ClockBack (now chosen.1.log) tick) chosen.1.log)
-          else handled s me chosen.1 tick (looked tick chosen.0 chosen.1.maker))
-      of_test true never = not_assumed assumed.clock never
-      of_test false never =
-          leads_handled s me chosen.1 tick (looked tick chosen.0 chosen.1.maker) (calm_looked s tick chosen.0 chosen.1.maker good) calm
+      of_test : (back : Bool) → (back ≡ true → past.fell ≡ true)
+          → Leads Turns past (if back then Ends (Over (end.ClockBack (now chosen.1.log) past.tick) chosen.1.log)
+          else handled s me chosen.1 past.tick (looked past.tick chosen.0 chosen.1.maker))
+      of_test true fell = fell refl
+      of_test false fell =
+          leads_handled chosen.1 past (looked past.tick chosen.0 chosen.1.maker) (caused_looked past.disk past.tick chosen.0 chosen.1.maker caused) waiting
 
-  leads_timed : (s : Settings) (me : ℕ) (chosen : Choice × RunState) (last : ℕ) → now chosen.1.log ≡ last → choice_calm s chosen.0 ≡ true
-      → calm_waiting s chosen.1.waits.disk ≡ true → Leads assumed (Turns s) last (timed s me chosen)
-  leads_timed s me chosen last is good calm = λ c asked given. of_call c asked given
+  leads_timed : (chosen : Choice × RunState) (past : Past) → now chosen.1.log ≡ past.tick → CausedChoice past.disk chosen.0
+      → Waiting s me past.disk chosen.1.waits.disk → Leads Turns past (timed s me chosen)
+  leads_timed chosen past is caused waiting = λ c asked. of_call c asked
     where
-      of_call : (c : Call) → blank c ≡ call.Now 0 → IsAsAssumed assumed last c → Leads assumed (Turns s) (tick_after c last) (clocked s me chosen (time_of c))
-      of_call (call.Now tick) asked given = leads_clocked s me chosen tick (λ clock. subst (λ (first : ℕ). first ≤ tick) (sym is) (given.rises clock)) good calm
-      of_call (call.OpenImage path ok) asked given = cc
-      of_call (call.OpenNode images image watchdog resource port rank ok) asked given = cc
-      of_call (call.Receive got) asked given = cc
-      of_call (call.Read sector bytes ok) asked given = cc
-      of_call (call.Write sector bytes ok) asked given = cc
-      of_call (call.Feed ok) asked given = cc
-      of_call (call.Start ok) asked given = cc
-      of_call (call.Stop ok) asked given = cc
-      of_call (call.Send to bytes ok) asked given = cc
-      of_call (call.Disarm ok) asked given = cc
-      of_call (call.Halt code) asked given = cc
+      of_call : (c : Call) → blank c ≡ call.Now 0 → Leads Turns (after_call c past) (clocked s me chosen (time_of c))
+      of_call (call.Now tick) asked =
+          leads_clocked chosen (after_call (call.Now tick) past)
+          (λ back. or_second past.fell (nat_lt tick past.tick) (subst (λ (first : ℕ). nat_lt tick first ≡ true) is back)) caused waiting
+      of_call (call.OpenImage path ok) asked = absurd cc
+      of_call (call.OpenNode images image watchdog resource port rank ok) asked = absurd cc
+      of_call (call.Receive got) asked = absurd cc
+      of_call (call.Read sector bytes ok) asked = absurd cc
+      of_call (call.Write sector bytes ok) asked = absurd cc
+      of_call (call.Feed ok) asked = absurd cc
+      of_call (call.Start ok) asked = absurd cc
+      of_call (call.Stop ok) asked = absurd cc
+      of_call (call.Send to bytes ok) asked = absurd cc
+      of_call (call.Disarm ok) asked = absurd cc
+      of_call (call.Halt code) asked = absurd cc
 
   -- what a turn takes
-  abbrev Chosen : Settings → ℕ → Choice × RunState → Type 0
-  Chosen s tick chosen = (now chosen.1.log ≡ tick) × (choice_calm s chosen.0 ≡ true) × (calm_waiting s chosen.1.waits.disk ≡ true)
+  abbrev Chosen : Past → Choice × RunState → Type 0
+  Chosen past chosen = (now chosen.1.log ≡ past.tick) × CausedChoice past.disk chosen.0 × Waiting s me past.disk chosen.1.waits.disk
 
-  calm_ready : (s : Settings) (leaves rests : Bool) (stopped : Option Bool) (disk : Option What) → calm_waiting s disk ≡ true
-      → IfSome (ready leaves rests (record { stopped = stopped; disk = disk })) (λ found. (is_calm s found.0 ≡ true) × (calm_waiting s found.1.disk ≡ true))
-  calm_ready s leaves rests (Some ok) disk calm = (refl, calm)
-  calm_ready s true false None None calm = (refl, refl)
-  calm_ready s false false None None calm = tt
-  calm_ready s leaves false None (Some entry) calm = (calm, refl)
-  calm_ready s true true None disk calm = (refl, calm)
-  calm_ready s false true None disk calm = tt
+  caused_ready : (last : Option Call) (leaves rests : Bool) (stopped : Option Bool) (disk : Option What) → Waiting s me last disk
+      → IfSome (ready leaves rests (record { stopped = stopped; disk = disk })) (λ found. CausedBy s me last found.0 × Waiting s me last found.1.disk)
+  caused_ready last leaves rests (Some ok) disk waiting = (tt, waiting)
+  caused_ready last true false None None waiting = (tt, tt)
+  caused_ready last false false None None waiting = tt
+  caused_ready last leaves false None (Some entry) waiting = (waiting, tt)
+  caused_ready last true true None disk waiting = (tt, waiting)
+  caused_ready last false true None disk waiting = tt
 
-  calm_packet : (s : Settings) (p : Packet) → is_calm s (entry_of p) ≡ true
-  calm_packet s (packet.Ask ask) = refl
-  calm_packet s (packet.Tell tell) = refl
-  calm_packet s (packet.Hello from) = refl
-  calm_packet s (packet.Announce from view) = refl
-  calm_packet s (packet.Vote agrees) = refl
+  caused_packet : (last : Option Call) (p : Packet) → CausedBy s me last (entry_of p)
+  caused_packet last (packet.Ask ask) = tt
+  caused_packet last (packet.Tell tell) = tt
+  caused_packet last (packet.Hello from) = tt
+  caused_packet last (packet.Announce from view) = tt
+  caused_packet last (packet.Vote agrees) = tt
 
-  calm_choice : (s : Settings) (me : ℕ) (p : Option Packet) → choice_calm s (choice_of me p) ≡ true
-  calm_choice s me None = refl
-  calm_choice s me (Some p) = of_test (is_entry_for me p)
+  caused_choice : (last : Option Call) (p : Option Packet) → CausedChoice last (choice_of me p)
+  caused_choice last None = tt
+  caused_choice last (Some p) = of_test (is_entry_for me p)
     where
-      of_test : (own : Bool) → choice_calm s (if own then choice.Whole (entry_of p) else choice.Open (Some p)) ≡ true
-      of_test true = calm_packet s p
-      of_test false = refl
+      of_test : (own : Bool) → CausedChoice last (if own then choice.Whole (entry_of p) else choice.Open (Some p))
+      of_test true = caused_packet last p
+      of_test false = tt
 
-  leads_choice : (s : Settings) (me : ℕ) (leaves : Bool) (st : RunState) (last : ℕ) → now st.log ≡ last → calm_waiting s st.waits.disk ≡ true
-      → Leads assumed (Chosen s) last (choice_plan me leaves st)
+  leads_choice : (leaves : Bool) (st : RunState) (past : Past) → now st.log ≡ past.tick → Waiting s me past.disk st.waits.disk
+      → Leads Chosen past (choice_plan me leaves st)
   unfolding choice_plan
-  leads_choice s me leaves st last is calm = of_ready (ready leaves st.rests st.waits) (calm_ready s leaves st.rests st.waits.stopped st.waits.disk calm)
+  leads_choice leaves st past is waiting =
+      of_ready (ready leaves st.rests st.waits) (caused_ready past.disk leaves st.rests st.waits.stopped st.waits.disk waiting)
     where
-      of_ready : (found : Option (What × Waits)) → IfSome found (λ f. (is_calm s f.0 ≡ true) × (calm_waiting s f.1.disk ≡ true))
-          → Leads assumed (Chosen s) last (option_map_or (λ f. Ends (choice.Whole f.0, record st { waits = f.1 })) found
+      of_ready : (found : Option (What × Waits)) → IfSome found (λ f. CausedBy s me past.disk f.0 × Waiting s me past.disk f.1.disk)
+          → Leads Chosen past (option_map_or (λ f. Ends (choice.Whole f.0, record st { waits = f.1 })) found
           (receive_plan >>= (λ p. Ends (choice_of me p, st))))
-      of_ready (Some f) good = (is, good.0, good.1)
+      of_ready (Some f) known = (is, known.0, known.1)
       of_ready None none =
-          λ c asked given. (is ∙ sym (asked_none last c (call.Receive received.Nothing) asked refl), calm_choice s me (packet_in (received_in c)), calm)
+          λ c asked. (
+            is ∙ sym (asked_none past.tick c (call.Receive received.Nothing) asked refl),
+            caused_choice (disk_after c past.disk) (packet_in (received_in c)),
+            subst (λ (l : Option Call). Waiting s me l st.waits.disk)
+                (sym (disk_after_asked past.disk c (call.Receive received.Nothing) false asked refl)) waiting,
+          )
 
-  leads_turn : (s : Settings) (me : ℕ) (leave : Option ℕ) (turn : ℕ) (st : RunState) (last : ℕ) → now st.log ≡ last
-      → calm_waiting s st.waits.disk ≡ true → Leads assumed (Turns s) last (turn_plan s me leave turn st)
-  leads_turn s me leave turn st last is calm =
-      leads_then assumed (Chosen s) (Turns s) last (choice_plan me (is_to_leave s leave turn st) st) (timed s me) (leads_choice s me (is_to_leave s leave turn st) st last is calm)
-      (λ tick chosen holds. leads_timed s me chosen tick holds.0 holds.1 holds.2)
+  leads_turn : (leave : Option ℕ) (turn : ℕ) (st : RunState) (past : Past) → now st.log ≡ past.tick
+      → Waiting s me past.disk st.waits.disk → Leads Turns past (turn_plan s me leave turn st)
+  leads_turn leave turn st past is waiting =
+      leads_then Chosen Turns past (choice_plan me (is_to_leave s leave turn st) st) (timed s me) (leads_choice (is_to_leave s leave turn st) st past is waiting)
+      (λ after chosen known. leads_timed chosen after known.0 known.1 known.2)
 
   -- ## The whole run
 
-  abbrev Ended : ℕ → Ran → Type 0
-  Ended tick ran = is_good assumed ran.end ≡ true
+  abbrev Ended : Past → Ran → Type 0
+  Ended past ran = EndsSo s me past ran.log ran.end
 
-  leads_later : (s : Settings) (next : RunState → Plan Ran)
-      → ((st : RunState) (last : ℕ) → now st.log ≡ last → calm_waiting s st.waits.disk ≡ true → Leads assumed Ended last (next st))
-      → (tick : ℕ) (turned : Turned) → Turns s tick turned → Leads assumed Ended tick (later next turned)
-  leads_later s next goes_on tick (Over end log) good = good
-  leads_later s next goes_on tick (Next st) good = goes_on st tick good.0 good.1
+  leads_later : (next : RunState → Plan Ran)
+      → ((st : RunState) (past : Past) → now st.log ≡ past.tick → Waiting s me past.disk st.waits.disk → Leads Ended past (next st))
+      → (past : Past) (turned : Turned) → Turns past turned → Leads Ended past (later next turned)
+  leads_later next goes_on past (Over end log) known = known
+  leads_later next goes_on past (Next st) known = goes_on st past known.0 known.1
 
-  leads_run : (s : Settings) (me : ℕ) (leave : Option ℕ) (more turn : ℕ) (st : RunState) (last : ℕ) → now st.log ≡ last
-      → calm_waiting s st.waits.disk ≡ true → Leads assumed Ended last (run_plan s me leave turn more st)
+  leads_run : (leave : Option ℕ) (more turn : ℕ) (st : RunState) (past : Past) → now st.log ≡ past.tick
+      → Waiting s me past.disk st.waits.disk → Leads Ended past (run_plan s me leave turn more st)
   unfolding run_plan
-  leads_run s me leave zero turn st last is calm = refl
-  leads_run s me leave (suc more) turn st last is calm =
-      leads_then assumed (Turns s) Ended last (turn_plan s me leave turn st) (later (run_plan s me leave (turn + 1) more)) (leads_turn s me leave turn st last is calm)
-      (leads_later s (run_plan s me leave (turn + 1) more) (leads_run s me leave more (turn + 1)))
+  leads_run leave zero turn st past is waiting = tt
+  leads_run leave (suc more) turn st past is waiting =
+      leads_then Turns Ended past (turn_plan s me leave turn st) (later (run_plan s me leave (turn + 1) more)) (leads_turn leave turn st past is waiting)
+      (leads_later (run_plan s me leave (turn + 1) more) (leads_run leave more (turn + 1)))
 
-  calm_begin : (s : Settings) (clean : Bool) → is_calm s (begin_of clean) ≡ true
-  calm_begin s true = refl
-  calm_begin s false = refl
+  caused_begin : (clean : Bool) → CausedBy s me None (begin_of clean)
+  caused_begin true = tt
+  caused_begin false = tt
 
-  leads_live : (s : Settings) (me : ℕ) (clean : Bool) (leave : Option ℕ) (turns : ℕ) → Leads assumed Ended 0 (live_plan s me clean leave turns)
+  leads_live : (clean : Bool) (leave : Option ℕ) (turns : ℕ) → Leads Ended at_first (live_plan s me clean leave turns)
   unfolding live_plan
-  leads_live s me clean leave turns =
-      leads_then assumed (Turns s) Ended 0 (timed s me (choice.Whole (begin_of clean), first_state)) (later (run_plan s me leave 2 (turns - 1)))
-      (leads_timed s me (choice.Whole (begin_of clean), first_state) 0 refl (calm_begin s clean) refl)
-      (leads_later s (run_plan s me leave 2 (turns - 1)) (leads_run s me leave (turns - 1) 2))
+  leads_live clean leave turns =
+      leads_then Turns Ended at_first (timed s me (choice.Whole (begin_of clean), first_state)) (later (run_plan s me leave 2 (turns - 1)))
+      (leads_timed (choice.Whole (begin_of clean), first_state) at_first refl (caused_begin clean) tt)
+      (leads_later (run_plan s me leave 2 (turns - 1)) (leads_run leave (turns - 1) 2))
 
--- ## The two laws
+-- ## The laws
 
-none_of : (a : Bool) → (a || false) ≡ true → not a ≡ false
-none_of true is = refl
-none_of false is = cc
+-- calls of which one is the last on the disk
+record Parted (made : Call) (calls : List Call) : Type 0 where
+  before : List Call
+  after : List Call
+  parts : calls ≡ before ++ made ∷ after
+  last : list_any is_on_disk after ≡ false
 
-not_by_call : (end : LiveEnd) → is_good (record { calls = true; clock = false }) end ≡ true → is_by_call end ≡ false
-not_by_call (end.Turns phase holds answer why) good = refl
-not_by_call (end.Left clean) good = refl
-not_by_call (end.ClockBack before now) good = refl
-not_by_call (end.SelfReset message) good = refl
-not_by_call (end.BootHalted why) good = none_of (is_no_failure why) good
+parted : (past : Past) (calls : List Call) (made : Call) → (after_calls calls past).disk ≡ Some made
+    → ((past.disk ≡ Some made) × (list_any is_on_disk calls ≡ false)) ⊎ Parted made calls
+parted past [] made is = inl (is, refl)
+parted past (first ∷ calls) made is = of_rest (parted (after_call first past) calls made is)
+  where
+    of_place : (on : Bool) → is_on_disk first ≡ on → (if on then Some first else past.disk) ≡ Some made → list_any is_on_disk calls ≡ false
+        → ((past.disk ≡ Some made) × (list_any is_on_disk (first ∷ calls) ≡ false)) ⊎ Parted made (first ∷ calls)
+    of_place true on same none =
+        let is_made : first ≡ made = cc in
+        inr (record { before = []; after = calls; parts = ap (λ (c : Call). c ∷ calls) is_made; last = none })
+    of_place false off same none = inl (same, or_neither (is_on_disk first) (list_any is_on_disk calls) off none)
 
-not_by_clock : (end : LiveEnd) → is_good (record { calls = false; clock = true }) end ≡ true → is_by_clock end ≡ false
-not_by_clock (end.Turns phase holds answer why) good = refl
-not_by_clock (end.Left clean) good = refl
-not_by_clock (end.ClockBack before now) good = sym good
-not_by_clock (end.SelfReset message) good = refl
-not_by_clock (end.BootHalted why) good = refl
+    of_rest : (((after_call first past).disk ≡ Some made) × (list_any is_on_disk calls ≡ false)) ⊎ Parted made calls
+        → ((past.disk ≡ Some made) × (list_any is_on_disk (first ∷ calls) ≡ false)) ⊎ Parted made (first ∷ calls)
+    of_rest (inl none) = of_place (is_on_disk first) refl none.0 none.1
+    of_rest (inr p) = inr (record { before = first ∷ p.before; after = p.after; parts = ap (λ (cs : List Call). first ∷ cs) p.parts; last = p.last })
 
-are_whole : (last : ℕ) (calls : List Call) → some_failed calls ≡ false → AreAsAssumed (record { calls = true; clock = false }) last calls
-are_whole last [] whole = tt
-are_whole last (call ∷ calls) whole = (
-  record { whole = λ is. or_left (is_failed call) (some_failed calls) whole; rises = λ is. absurd cc },
-  are_whole (tick_after call last) calls (or_right (is_failed call) (some_failed calls) whole),
-)
+-- a run whose boot a failed operation halted has a call that failed
+pub halted_failed : (plan_of : Call → Plan Call) (s : Settings) (me : ℕ) (why : BootCause) (calls : List Call) → HaltedBy plan_of s me why calls
+    → some_failed calls ≡ true
+halted_failed plan_of s me why calls halted =
+    ap some_failed halted.fails.parts
+    ∙ some_failed-append halted.fails.before (halted.fails.own ++ halted.fails.after)
+    ∙ or_second (some_failed halted.fails.before) (some_failed (halted.fails.own ++ halted.fails.after))
+    (some_failed-append halted.fails.own halted.fails.after ∙ ap (λ (some : Bool). some || some_failed halted.fails.after) halted.fails.failed)
 
-are_rising : (last : ℕ) (calls : List Call) → NeverFalls last calls → AreAsAssumed (record { calls = false; clock = true }) last calls
-are_rising last [] rises = tt
-are_rising last (call ∷ calls) rises =
-    (record { whole = λ is. absurd cc; rises = λ is. rises.0 }, are_rising (tick_after call last) calls rises.1)
+never_fell : (past : Past) (calls : List Call) → past.fell ≡ false → NeverFalls past.tick calls → (after_calls calls past).fell ≡ false
+never_fell past [] none rises = none
+never_fell past (call ∷ calls) none rises =
+    never_fell (after_call call past) calls
+    (or_neither past.fell (nat_lt (tick_after call past.tick) past.tick) none (le-ltb (tick_after call past.tick) past.tick rises.0)) rises.1
 
 module _ (s : Settings) (me : ℕ) (clean : Bool) (leave : Option ℕ) (turns : ℕ) (calls : List Call) (ran : Ran)
     (follows : Follows (live_plan s me clean leave turns) calls ran) where
+  ended : EndsSo s me (after_calls calls at_first) ran.log ran.end
+  ended = leads_end (Ended s me) at_first (live_plan s me clean leave turns) calls ran (leads_live s me clean leave turns) follows
+
+  -- a boot that a failed call halted was halted by the last operation on the disk: that it failed is the newest entry
+  pub halted_by : (why : BootCause) → ran.end ≡ end.BootHalted why → is_no_failure why ≡ false
+      → (halted : HaltedBy one_call s me why calls) × IsNewest (failed halted.op) ran.log
+  halted_by why is failure =
+      let known : HaltsSo s me (after_calls calls at_first) ran.log why =
+      subst (λ (e : LiveEnd). EndsSo s me (after_calls calls at_first) ran.log e) is ended in
+      of_last (known failure).0 (known failure).1
+    where
+      of_parts : (last : FailedLast s me (after_calls calls at_first).disk why) → IsNewest (failed last.op) ran.log
+          → ((at_first.disk ≡ Some last.made) × (list_any is_on_disk calls ≡ false)) ⊎ Parted last.made calls
+          → (halted : HaltedBy one_call s me why calls) × IsNewest (failed halted.op) ran.log
+      of_parts last newest (inl none) = absurd cc
+      of_parts last newest (inr p) = (
+        record {
+          op = last.op;
+          number = last.number;
+          halts = last.halts;
+          fails = record {
+            before = p.before;
+            own = last.made ∷ [];
+            after = p.after;
+            parts = p.parts;
+            told = last.made;
+            made = (last.asked, (refl, refl));
+            failed = rw last.fails refl;
+            told_failed = last.fails;
+            last = p.last;
+          };
+        },
+        newest,
+      )
+
+      of_last : (last : FailedLast s me (after_calls calls at_first).disk why) → IsNewest (failed last.op) ran.log
+          → (halted : HaltedBy one_call s me why calls) × IsNewest (failed halted.op) ran.log
+      of_last last newest = of_parts last newest (parted at_first calls last.made last.is_last)
+
   -- no call failed, so none halted the boot
   pub no_end_by_call : some_failed calls ≡ false → is_by_call ran.end ≡ false
-  no_end_by_call whole =
-      let assumed : Assumed = record { calls = true; clock = false } in
-      not_by_call ran.end (leads_end assumed (Ended assumed) 0 (live_plan s me clean leave turns) calls ran (leads_live assumed s me clean leave turns)
-      follows (are_whole 0 calls whole)).1
+  no_end_by_call whole = of_end ran.end refl
+    where
+      of_cause : (why : BootCause) (test : Bool) → ran.end ≡ end.BootHalted why → is_no_failure why ≡ test → not test ≡ false
+      of_cause why true is sound = refl
+      of_cause why false is failure =
+          let some : some_failed calls ≡ true = halted_failed one_call s me why calls (halted_by why is failure).0 in
+          absurd cc
+
+      of_end : (e : LiveEnd) → ran.end ≡ e → is_by_call e ≡ false
+      of_end (end.Turns phase holds answer why) is = refl
+      of_end (end.Left clean) is = refl
+      of_end (end.ClockBack before now) is = refl
+      of_end (end.SelfReset message) is = refl
+      of_end (end.BootHalted why) is = of_cause why (is_no_failure why) is refl
 
   -- no call told an earlier tick than the one before it, so the clock did not go back
   pub no_end_by_clock : NeverFalls 0 calls → is_by_clock ran.end ≡ false
-  no_end_by_clock rises =
-      let assumed : Assumed = record { calls = false; clock = true } in
-      not_by_clock ran.end (leads_end assumed (Ended assumed) 0 (live_plan s me clean leave turns) calls ran (leads_live assumed s me clean leave turns)
-      follows (are_rising 0 calls rises)).1
+  no_end_by_clock rises = of_end ran.end ended
+    where
+      of_end : (e : LiveEnd) → EndsSo s me (after_calls calls at_first) ran.log e → is_by_clock e ≡ false
+      of_end (end.Turns phase holds answer why) known = refl
+      of_end (end.Left clean) known = refl
+      of_end (end.ClockBack before now) fell = sym fell ∙ never_fell at_first calls refl rises
+      of_end (end.SelfReset message) known = refl
+      of_end (end.BootHalted why) known = refl
 
 -- an end that neither a failed call nor the clock made is a sound one
 pub sound_end : (end : LiveEnd) → is_by_call end ≡ false → is_by_clock end ≡ false → is_sound end ≡ true

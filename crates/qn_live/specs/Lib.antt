@@ -1,7 +1,9 @@
 pub mod Asking
+pub mod CalmOutputs
 pub mod Choosing
 pub mod EndLaws
 pub mod Greetings
+pub mod Halts
 pub mod Laws
 pub mod Machine
 pub mod Performing

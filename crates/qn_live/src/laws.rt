@@ -6,9 +6,13 @@ ghost use Rattle.qn_base.specs.Plans.{Follows};
 ghost use Rattle.qn_member.specs.Maker.{Maker};
 ghost use Rattle.qn_model.specs.declared.configuration.Settings.{Settings};
 ghost use Rattle.qn_model.specs.declared.entries.What.{What};
+ghost use Rattle.qn_model.specs.declared.outputs.BootCause.{BootCause};
+ghost use Rattle.qn_model.specs.World.{failed};
 ghost use Rattle.qn_live.specs.declared.place.Choice.{Choice};
+ghost use Rattle.qn_live.specs.declared.live_end.LiveEnd.{LiveEnd};
 ghost use Rattle.qn_live.specs.Choosing.{choice_plan, failed_answer};
-ghost use Rattle.qn_live.specs.Laws.{IsHistory, NeverFalls, is_by_call, is_by_clock, is_sound, outputs_among, outputs_of, takes_answer};
+ghost use Rattle.qn_live.specs.Halts.{HaltedBy, IsNewest, one_call};
+ghost use Rattle.qn_live.specs.Laws.{IsHistory, NeverFalls, is_by_call, is_by_clock, is_no_failure, is_sound, outputs_among, outputs_of, takes_answer};
 ghost use Rattle.qn_live.specs.Running.{Next, Ran, RunState};
 ghost use Rattle.qn_live.specs.Runs.{handled, live_plan};
 
@@ -68,6 +72,17 @@ pub fn law_end_causes()
         → Follows (live_plan s me clean leave turns) calls ran
         → NeverFalls 0 calls
         → is_by_clock ran.end ≡ false }
+{}
+
+/// Law: a boot that a failed call halted was halted by the last disk operation of the run: its call failed, and that it failed is
+/// the newest entry that the node was handed.
+pub fn law_boot_halted()
+    ensures { (s : Settings) (me : ℕ) (clean : Bool) (leave : Option ℕ) (turns : ℕ)
+        (calls : List Call) (ran : Ran) (cause : BootCause)
+        → Follows (live_plan s me clean leave turns) calls ran
+        → ran.end ≡ LiveEnd.BootHalted cause
+        → is_no_failure cause ≡ false
+        → (halted : HaltedBy one_call s me cause calls) × IsNewest (failed halted.op) ran.log }
 {}
 
 /// Law: where no call fails and no tick falls, no run ends because the clock goes back, and no boot halts because a read, its

@@ -4,8 +4,9 @@
 //! Promises: the calls that `run_node` makes are those of the plan `live_plan` of `specs/Runs`, and its end is the one of
 //! that plan, for every outside. The log of a run is one history of a node (`law_one_history`), and the calls without
 //! receive, now, Hello and Announce are the outputs of that history, in order (`law_outputs`). Where no call fails and no
-//! tick falls, no run ends because of the clock or of a failed step of the boot (`law_sound_end`). `NodeRun` is the same
-//! run as a machine, which names its next call and takes its answer. No call takes memory from an allocator.
+//! tick falls, no run ends because of the clock or of a failed step of the boot (`law_sound_end`), and a failed call halts
+//! a boot only by the disk operation that it was made for (`law_boot_halted`). `NodeRun` is the same run as a machine, which
+//! names its next call and takes its answer. No call takes memory from an allocator.
 #![tactic(auto)]
 
 mod asked;
@@ -24,7 +25,8 @@ pub use asked::{Asked, Given, Room};
 pub use calling::call;
 pub use disk::{done, id_of};
 pub use laws::{
-    law_end_causes, law_one_end, law_one_history, law_outputs, law_rest, law_sound_end,
+    law_boot_halted, law_end_causes, law_one_end, law_one_history, law_outputs, law_rest,
+    law_sound_end,
 };
 pub use live_end::LiveEnd;
 pub use run::NodeRun;

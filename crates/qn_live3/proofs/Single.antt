@@ -1,5 +1,5 @@
 -- A run on three images is a run on one: for its calls there are calls on one image that lead to the same end.
-use Rattle.std.proofs.Common.{◌≡◌, ◌≤◌, ℕ, Bool, true, false, not, ◌||◌, ◌&&◌, ◌==◌, ◌-◌, ◌/◌, List, [], ◌∷◌, ◌++◌, Option, None, Some, if◌then◌else◌, refl, sym, ap, subst, ◌∙◌, arith}
+use Rattle.std.proofs.Common.{◌≡◌, ◌≤◌, ℕ, Bool, true, false, not, ◌||◌, ◌==◌, ◌-◌, ◌/◌, List, [], ◌∷◌, ◌++◌, Option, None, Some, if◌then◌else◌, refl, sym, ap, subst, ◌∙◌, arith}
 use Rattle.std.specs.Prelude.{nat_lt}
 use Rattle.std.specs.List.{list_any}
 use Rattle.qn_base.specs.declared.calls.Call.{Call}
@@ -22,13 +22,14 @@ use Rattle.qn_base.specs.declared.ids.Rank.{Rank}
 use Rattle.qn_model.specs.Wanted.{rank_of}
 use Rattle.qn_model.specs.World.{failed}
 use Rattle.qn_safety.specs.declared.part.Part.{Part}
-use Rattle.qn_safety.specs.declared.part.Part.TheVariants.{Pending, Landed, Failed}
+use Rattle.qn_safety.specs.declared.part.Part.TheVariants.{Pending, Landed}
 use Rattle.qn_safety.specs.TripleWorld.{answer_among, answer_of, counting, has_failed, header_of, message_among, messages_among, slot_among, slots_among}
 use Rattle.qn_parts.specs.Parts.{is_good_on, part_on}
 use Rattle.qn_live.specs.Laws.{NeverFalls, tick_after}
 use Rattle.qn_live.specs.Performing.{done}
-use Rattle.qn_live3.specs.Disk.{Told, call_plan, if_failed, image_plan, images_plan, is_asked, is_failed_read, is_majority, is_strange, once, part_of, part_of_entry, part_plan, parts_plan, read_entry, read_of, read_plan, reading, sector_of, some_differ, write_plan}
+use Rattle.qn_live3.specs.Disk.{Told, call_plan, if_failed, image_plan, images_plan, is_asked, is_majority, is_strange, once, part_of, part_of_entry, part_plan, parts_plan, read_entry, read_of, read_plan, reading, sector_of, some_differ, write_plan}
 use Rattle.qn_live3.specs.Runs.{on_three}
+use Rattle.qn_live3.proofs.Stretches.{Stretches, or_left, or_neither, or_right}
 use Rattle.qn_live3.proofs.Wiped.{AsksWiped}
 
 -- ## Lists of calls
@@ -43,17 +44,6 @@ rising last [] more rises = (omega arith, rises)
 rising last (call ∷ calls) more rises =
     let rest = rising (tick_after call last) calls more rises.1 in
     (omega (arith, rises.0, rest.0), rest.1)
-
-or_left : (a b : Bool) → (a || b) ≡ false → a ≡ false
-or_left true b is = cc
-or_left false b is = refl
-
-or_right : (a b : Bool) → (a || b) ≡ false → b ≡ false
-or_right true b is = cc
-or_right false b is = is
-
-or_neither : (a b : Bool) → a ≡ false → b ≡ false → (a || b) ≡ false
-or_neither a b first second = rw (first, second) refl
 
 failed_first : (calls more : List Call) → some_failed (calls ++ more) ≡ false → some_failed calls ≡ false
 failed_first [] more none = refl
@@ -327,16 +317,23 @@ cut (Asks question left) next (call ∷ calls) result follows =
       goes_on = more.goes_on;
     }
 
--- calls on one image lead to the same value; none of them fails where none of these did, and they tell the same ticks
-pub record Single {A : Type 0} (plan : Plan A) (calls : List Call) (value : A) : Type 0 where
+-- what does not fail without a failure failed by one
+failed_by : (some failing : Bool) → (some ≡ false → failing ≡ false) → failing ≡ true → some ≡ true
+failed_by true failing none is = refl
+failed_by false failing none is = let never : failing ≡ false = none refl in absurd cc
+
+-- calls on one image lead to the same value; each of them stands for a stretch of these, none of them fails where none of these
+-- did, and they tell the same ticks
+pub record Single {A : Type 0} (s : Settings) (me : ℕ) (plan : Plan A) (calls : List Call) (value : A) : Type 0 where
   pub one : List Call
+  pub stretches : Stretches s me one calls
   pub follows : Follows plan one value
   pub whole : some_failed calls ≡ false → some_failed one ≡ false
   pub rises : (last : ℕ) → NeverFalls last calls → NeverFalls last one
 
-pub single : {A : Type 0} (s : Settings) (me : ℕ) (good : List Bool) (plan : Plan A) (calls : List Call) (value : A) → AsksWiped plan → Follows (on_three s me good plan) calls value → Single plan calls value
+pub single : {A : Type 0} (s : Settings) (me : ℕ) (good : List Bool) (plan : Plan A) (calls : List Call) (value : A) → AsksWiped plan → Follows (on_three s me good plan) calls value → Single s me plan calls value
 single s me good (Ends end) calls value wiped follows =
-    record { one = []; follows = (refl, follows.1); whole = λ none. refl; rises = λ last never. tt }
+    record { one = []; stretches = follows.0; follows = (refl, follows.1); whole = λ none. refl; rises = λ last never. tt }
 single s me good (Asks question left) calls value wiped follows =
     let parts = cut (call_plan s me good question) (λ told. on_three s me told.1 (left told.0)) calls value follows in
     let told = parts.value in
@@ -345,6 +342,19 @@ single s me good (Asks question left) calls value wiped follows =
     leads_end (OneTold last question) last false (call_plan s me good question) parts.first told (call_told s me good question last wiped.0) parts.follows in
     record {
       one = told.0 ∷ more.one;
+      stretches = (
+        parts.first,
+        parts.rest,
+        parts.joined,
+        record {
+          good = good;
+          told = told;
+          follows = subst (λ (q : Call). Follows (call_plan s me good q) parts.first told) (sym (each 0).0) parts.follows;
+          same = refl;
+          failed = failed_by (some_failed parts.first) (is_failed told.0) (each 0).1;
+        },
+        more.stretches,
+      );
       follows = ((each 0).0, more.follows);
       whole =
           λ none.

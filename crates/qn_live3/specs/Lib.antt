@@ -1,3 +1,4 @@
 pub mod Disk
+pub mod Halts
 pub mod Laws
 pub mod Runs

@@ -5,11 +5,16 @@ ghost use Rattle.qn_base.specs.Calls.{some_failed};
 ghost use Rattle.qn_base.specs.Plans.{Follows};
 ghost use Rattle.qn_model.specs.declared.configuration.Settings.{Settings};
 ghost use Rattle.qn_base.specs.declared.ids.Rank.{Rank};
+ghost use Rattle.qn_model.specs.declared.outputs.BootCause.{BootCause};
 ghost use Rattle.qn_model.specs.declared.outputs.DiskOp.{DiskOp};
+ghost use Rattle.qn_model.specs.World.{failed};
 ghost use Rattle.qn_safety.specs.declared.part.Part.{Part};
-ghost use Rattle.qn_live.specs.Laws.{IsHistory, NeverFalls, is_by_call, is_by_clock, is_sound};
+ghost use Rattle.qn_live.specs.declared.live_end.LiveEnd.{LiveEnd};
+ghost use Rattle.qn_live.specs.Halts.{IsNewest};
+ghost use Rattle.qn_live.specs.Laws.{IsHistory, NeverFalls, is_by_call, is_by_clock, is_no_failure, is_sound};
 ghost use Rattle.qn_live.specs.Running.{Ran};
 ghost use Rattle.qn_live3.specs.Disk.{part_of, read_entry};
+ghost use Rattle.qn_live3.specs.Halts.{HaltedOnThree};
 ghost use Rattle.qn_live3.specs.Laws.{IsTold, taken_from};
 ghost use Rattle.qn_live3.specs.Runs.{triple_plan};
 
@@ -58,6 +63,17 @@ pub fn law_triple_end_causes()
     law_end_causes();
     law_sound_end();
 }
+
+/// Law: a boot on three images that a failed call halted was halted by the last disk operation of the run: a call of that very
+/// operation failed, too few images told anything, and that it failed is the newest entry that the node was handed.
+pub fn law_triple_boot_halted()
+    ensures { (s : Settings) (me : ℕ) (clean : Bool) (leave : Option ℕ) (turns : ℕ)
+        (calls : List Call) (ran : Ran) (cause : BootCause)
+        → Follows (triple_plan s me clean leave turns) calls ran
+        → ran.end ≡ LiveEnd.BootHalted cause
+        → is_no_failure cause ≡ false
+        → (halted : HaltedOnThree s me cause calls) × IsNewest (failed halted.1.op) ran.log }
+{}
 
 /// Law: what a node on one image takes from the sector that stands for three is the entry that the three give together. Each
 /// part is what an image told.

@@ -3,7 +3,8 @@
 //! Promises: the calls that `run_node3` makes are those of `triple_plan` of `specs/Runs`, and its end is the one of that
 //! plan, for every outside. The plan is that of a node on one image, in which a call on the image is made on each of the
 //! three, and what they tell together is the entry that the world of three images gives (`qn_safety`'s `TripleWorld`).
-//! No call takes memory from an allocator.
+//! A failed call halts a boot only by the disk operation that it was made for (`law_triple_boot_halted`). No call takes
+//! memory from an allocator.
 #![tactic(auto)]
 
 mod entry;
@@ -13,5 +14,8 @@ mod part;
 mod running;
 mod sector;
 
-pub use laws::{law_triple_answers, law_triple_end, law_triple_end_causes, law_triple_history};
+pub use laws::{
+    law_triple_answers, law_triple_boot_halted, law_triple_end, law_triple_end_causes,
+    law_triple_history,
+};
 pub use running::run_node3;

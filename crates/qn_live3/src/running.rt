@@ -1,6 +1,11 @@
 //! Runs a node over an outside with three images.
-ghost use Rattle.std.specs.Prelude.{◌≤◌, ◌<◌, List, length};
-ghost use Rattle.qn_base.specs.Plans.{Did};
+ghost use Rattle.std.specs.Prelude.{◌≡◌, ◌≤◌, ◌<◌, false, List, length};
+ghost use Rattle.qn_base.specs.declared.calls.Call.{Call};
+ghost use Rattle.qn_base.specs.Faults.{HasRisen};
+ghost use Rattle.qn_base.specs.Plans.{Did, Made};
+ghost use Rattle.qn_live.specs.Laws.{is_no_failure};
+ghost use Rattle.qn_live3.specs.Halts.{HaltedOnThree};
+ghost use Rattle.qn_model.specs.declared.outputs.BootCause.{BootCause};
 ghost use Rattle.qn_model.specs.Log.{Line};
 ghost use Rattle.qn_model.specs.Settings.{IsValid};
 ghost use Rattle.qn_live3.specs.Runs.{triple_plan};
@@ -26,6 +31,11 @@ pub fn run_node3<E: Env>(
     requires some_turn { 1 ≤ turns }
     ensures did { (log : List Line) × Did (E.faults env.old) (E.faults env.new) (E.calls env.old) (E.calls env.new)
         (triple_plan settings.now me.0 clean leave_at turns) (record { end = result; log = log }) }
+    ensures halted { (cause : BootCause) → result ≡ LiveEnd.BootHalted cause
+        → is_no_failure cause ≡ false → (calls : List Call)
+        × Made (E.faults env.old) (E.faults env.new) (E.calls env.old) (E.calls env.new) calls
+        × HaltedOnThree settings.now me.0 cause calls
+        × HasRisen (E.faults env.old) (E.faults env.new) }
 {
     let mut run = NodeRun::new(settings.copy(), me, clean, leave_at, turns);
     let mut images = Images::new();

@@ -1,6 +1,6 @@
 -- `node` and `node3`: the member itself, a running node over its own outside, on one image or on three. votequorum(5), sbd(8),
 -- and this project's profile for its words.
-use Rattle.std.specs.Prelude.{◌≡◌, ◌≢◌, ℕ, Bool, true, false, List, [], ◌∷◌, Option, if◌then◌else◌, position, ◌==◌, IfOk, IfSome}
+use Rattle.std.specs.Prelude.{◌≡◌, ◌≢◌, ℕ, Bool, true, false, List, [], ◌∷◌, Option, if◌then◌else◌, position, ◌==◌, Result, IfOk, IfSome, IsOkAnd, IsSomeAnd}
 use Rattle.std.specs.Option.{option_map_or}
 use Rattle.qn_base.specs.declared.calls.Call.{Call}
 use Rattle.qn_base.specs.declared.calls.Call.TheVariants.{OpenNode}
@@ -8,9 +8,12 @@ use Rattle.qn_base.specs.declared.ids.NodeId.{NodeId}
 use Rattle.qn_base.specs.Calls.{is_failed, some_failed}
 use Rattle.qn_base.specs.Plans.{Follows, Made, Plan}
 use Rattle.qn_live.specs.declared.live_end.LiveEnd.{LiveEnd}
+use Rattle.qn_live.specs.declared.live_end.LiveEnd.TheVariants as end
+use Rattle.qn_live.specs.Halts.{HaltedBy, one_call}
 use Rattle.qn_live.specs.Running.{Ran}
 use Rattle.qn_live.specs.Runs.{live_plan}
 use Rattle.qn_live.specs.Laws.{NeverFalls, is_by_call, is_by_clock, is_no_failure}
+use Rattle.qn_live3.specs.Halts.{HaltedOnThree}
 use Rattle.qn_live3.specs.Runs.{triple_plan}
 use Rattle.qn_model.specs.declared.configuration.Settings.{Settings}
 use Rattle.qn_model.specs.declared.outputs.BootCause.{BootCause}
@@ -18,6 +21,7 @@ use Rattle.qn_model.specs.Lines.{Ended}
 use Rattle.qn_commands.specs.declared.commands.node.NodeWords.{NodeWords}
 use Rattle.qn_commands.specs.declared.node_images.NodeImages.{NodeImages}
 use Rattle.qn_commands.specs.declared.node_images.NodeImages.TheVariants.{One, Three}
+use Rattle.qn_commands.specs.declared.fault.Fault.{Fault}
 use Rattle.qn_commands.specs.declared.fault.Fault.TheVariants.{BootHalted, EnvFault, UnknownNode}
 use Rattle.qn_commands.specs.declared.status.Status.TheVariants as status
 use Rattle.qn_commands.specs.Endings.{AnswersWhole, refused}
@@ -49,10 +53,21 @@ abbrev pub node_plan : NodeImages → NodeWords → Settings → ℕ → Plan Ra
 node_plan One words settings rank = live_plan settings rank words.clean words.leave words.turns
 node_plan Three words settings rank = triple_plan settings rank words.clean words.leave words.turns
 
--- where no call fails, no failed call ends a run of the plan, and where no tick falls, no clock does
-pub record EndsWithCause (plan : Plan Ran) : Type 0 where
-  pub call : (calls : List Call) (ran : Ran) → Follows plan calls ran → some_failed calls ≡ false → is_by_call ran.end ≡ false
-  pub clock : (calls : List Call) (ran : Ran) → Follows plan calls ran → NeverFalls 0 calls → is_by_clock ran.end ≡ false
+-- the boot of the node of that rank was halted for this cause by a disk operation that failed, the last of these calls
+abbrev pub HaltedOn : NodeImages → Settings → ℕ → BootCause → List Call → Type 0
+HaltedOn One settings rank cause calls = HaltedBy one_call settings rank cause calls
+HaltedOn Three settings rank cause calls = HaltedOnThree settings rank cause calls
+
+-- where no call fails, no failed call ends a run of the node, and where no tick falls, no clock does; a boot that a failed call
+-- halted was halted by the operation that the call was made for
+pub record EndsWithCause (images : NodeImages) (words : NodeWords) (settings : Settings) (rank : ℕ) : Type 0 where
+  pub call : (calls : List Call) (ran : Ran) → Follows (node_plan images words settings rank) calls ran
+      → some_failed calls ≡ false → is_by_call ran.end ≡ false
+  pub clock : (calls : List Call) (ran : Ran) → Follows (node_plan images words settings rank) calls ran
+      → NeverFalls 0 calls → is_by_clock ran.end ≡ false
+  pub halted : (calls : List Call) (ran : Ran) (cause : BootCause)
+      → Follows (node_plan images words settings rank) calls ran → ran.end ≡ end.BootHalted cause
+      → is_no_failure cause ≡ false → HaltedOn images settings rank cause calls
 
 -- the run, and its last line
 unfoldable pub run_work : NodeImages → NodeWords → Settings → ℕ → Work
@@ -77,11 +92,15 @@ pub record FailsToOpen (images : NodeImages) (words : NodeWords) (before after :
   pub rank : ℕ
   pub made : Made before.faults after.faults before.calls after.calls (opening images words rank false ∷ [])
 
--- the boot was halted, which was written whole; a cause that a failed call gives comes only where the count of faults rose
-pub record HaltsBoot (before after : Seen) (code : ℕ) : Type 0 where
+-- the boot was halted, which was written whole; a cause that a failed call gives comes only where the count of faults rose, and
+-- where a call of the very disk operation that halted it failed, the last of all these calls
+pub record HaltsBoot (images : NodeImages) (words : NodeWords) (settings : Result Settings Fault)
+    (calls : List Call) (before after : Seen) (code : ℕ) : Type 0 where
   pub cause : BootCause
   pub answers : AnswersWhole (refused (BootHalted cause)) before.output after.output code
   pub fails : is_no_failure cause ≡ false → CallFails before.env after.env
+  pub operation : is_no_failure cause ≡ false → IsOkAnd settings (λ own.
+      IsSomeAnd (rank_with own words.id) (λ rank. HaltedOn images own rank cause calls))
 
 -- the line of an end was written whole, and neither a failed call nor the clock made that end
 pub record EndsUndisturbed (turns : ℕ) (before after : Output) (code : ℕ) : Type 0 where
@@ -98,7 +117,7 @@ pub record RunsNode (images : NodeImages) (words : NodeWords) (before after : Se
   pub ran : WorksOnSettings (node_work images words) before after code
   pub unopened : code ≡ 8 → FailsToOpen images words before.env after.env
   pub clock_back : code ≡ 12 → ¬ NeverFalls 0 ran.works.calls
-  pub halted : code ≡ 14 → HaltsBoot before after code
+  pub halted : code ≡ 14 → HaltsBoot images words ran.settings ran.works.calls before after code
   pub complete : code ≢ 11 → ¬ ReadFails before.input after.input
       → ¬ WriteFails before.output after.output → ¬ CallFails before.env after.env → NeverFalls 0 ran.works.calls
       → IfSome before.input.left (λ bytes. IfOk (input_settings Ended bytes) (λ settings.

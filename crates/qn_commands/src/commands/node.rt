@@ -18,8 +18,8 @@ use crate::settings_text::read_settings;
 use crate::status::Status;
 use qn_base::{Failed, NodeId, Rank};
 use qn_io::{Env, Opening, Sink, Source};
-use qn_live::{LiveEnd, law_end_causes, run_node};
-use qn_live3::{law_triple_end_causes, run_node3};
+use qn_live::{LiveEnd, law_boot_halted, law_end_causes, run_node};
+use qn_live3::{law_triple_boot_halted, law_triple_end_causes, run_node3};
 use qn_model::{NodeEntry, Settings};
 use std::alloc::Global;
 
@@ -161,11 +161,13 @@ fn run<E: Env>(
 }
 
 /// Law: a node in whose run no call failed was not halted in its boot by a failed call, and one whose ticks did not fall did not
-/// end because the clock went back.
+/// end because the clock went back. A boot that a failed call halted was halted by the last disk operation of the run.
 fn law_node_ends()
     ensures { (images : NodeImages) (words : NodeWords) (settings : Settings) (rank : ℕ)
-        → EndsWithCause (node_plan images words settings rank) }
+        → EndsWithCause images words settings rank }
 {
+    law_boot_halted();
     law_end_causes();
+    law_triple_boot_halted();
     law_triple_end_causes();
 }

@@ -1,11 +1,12 @@
 use Rattle.std.proofs.Common.{◌≡◌, Some, sym, ap, ◌∙◌}
 use Rattle.qn_base.specs.Calls.{blank}
 use Rattle.qn_base.specs.Plans.{question, left}
-use Rattle.qn_base.specs.PlanSteps.{at_start, at_over}
+use Rattle.qn_base.specs.PlanSteps.{at_start}
 use Rattle.qn_live.specs.Asking.{question_of, told}
 use Rattle.qn_live.specs.Runs.{live_plan}
-use Rattle.qn_live3.specs.Runs.{on_three, triple_plan}
+use Rattle.qn_live3.specs.Runs.{triple_plan}
 use Rattle.qn_live3.proofs.Calls.{at_on_three, blank-told, over_on_three}
+use Rattle.qn_live3.proofs.Halted.{halted_run}
 use Rattle.qn_live3.proofs.running.run_node3.Goals as goal
 
 pub calls-init : goal.calls-init
@@ -20,7 +21,8 @@ pub returns-in-Err : goal.returns-in-Err
 returns-in-Err g c =
     let i = c.calls.invariant in
     let over = c.in-Err.ensures.over i.0 i.1 in
-    record { did = (over.0, over_on_three _ _ _ i.0 _ i.2 over.1) }
+    let did = over_on_three _ _ _ i.0 _ i.2 over.1 in
+    record { did = (over.0, did); halted = halted_run c.args.settings.now c.args.me.0 c.args.clean c.args.leave_at c.args.turns _ _ did }
 
 pub calls-preserved : goal.calls-preserved
 calls-preserved g c =
