@@ -10,7 +10,6 @@
 #![tactic(auto)]
 
 mod disk;
-mod first;
 mod looking;
 mod pending;
 mod rules;
