@@ -46,9 +46,16 @@ module _ {Kept World Event : Type 0} (kind : WorldKind Kept World Event) where
   abbrev pub IsFormed : Kept → Event → Type 0
   IsFormed k event = kind.is_well_formed (kind.nodes k).settings event ≡ true
 
-  -- no rule refuses an event
+  -- the number of the rule that refuses an event, and that none does
+  abbrev pub rule_of : Kept → Event → World → Option ℕ
+  rule_of k event d = kind.refusal (kind.nodes k).settings (kind.timing k) event d
+
   abbrev pub IsAllowed : Kept → Event → World → Type 0
-  IsAllowed k event d = kind.refusal (kind.nodes k).settings (kind.timing k) event d ≡ None
+  IsAllowed k event d = rule_of k event d ≡ None
+
+  -- the step of an event appends a packet or a leftover
+  abbrev pub NeedsMemory : Kept → Event → World → Type 0
+  NeedsMemory k event d = kind.needs_memory (kind.nodes k).settings (kind.timing k) event d ≡ true
 
   -- the world after an event
   abbrev pub after_event : Kept → Event → World → World
@@ -96,8 +103,7 @@ module _ {Kept World Event : Type 0} (kind : WorldKind Kept World Event) where
   -- the world found no memory for the step of an event, and is as it was
   pub record OutOfMemory (old new : Kept) (event : Event) : Type 0 where
     pub same : new ≡ old
-    pub cause : (d : World) → kind.StandsFor old d → IsAllowed old event d
-        → kind.needs_memory (kind.nodes old).settings (kind.timing old) event d ≡ true
+    pub cause : (d : World) → kind.StandsFor old d → IsAllowed old event d → NeedsMemory old event d
 
   -- the event was allowed, and the world made its step, of which this is reported
   pub record Applied (old new : Kept) (event : Event) (r : Report) : Type 0 where
@@ -112,10 +118,8 @@ module _ {Kept World Event : Type 0} (kind : WorldKind Kept World Event) where
   -- the event was refused, and the world is as it was
   pub record Refuses (old new : Kept) (event : Event) (answer : Refused) : Type 0 where
     pub same : new ≡ old
-    pub why : (d : World) → kind.StandsFor old d
-        → RefusedBy (kind.refusal (kind.nodes old).settings (kind.timing old) event d) answer
-    pub memory : answer ≡ refused.NoMemory → (d : World) → kind.StandsFor old d
-        → kind.needs_memory (kind.nodes old).settings (kind.timing old) event d ≡ true
+    pub why : (d : World) → kind.StandsFor old d → RefusedBy (rule_of old event d) answer
+    pub memory : answer ≡ refused.NoMemory → (d : World) → kind.StandsFor old d → NeedsMemory old event d
 
   -- in each world that allowed events lead to, where the timing is safe, at most one node holds
   abbrev pub HoldsOnce : Type 0

@@ -7,7 +7,7 @@ use qn_model::{Outs, Refused, Report, Rule};
 pub trait Steps: HasNodes {
     ghost use Rattle.std.specs.Prelude.{◌≡◌, ◌<◌, ◌≤◌, [], None, Some, IfErr, MatchResult, OnErr, OnOk};
     ghost use Rattle.qn_base.specs.declared.limits.TheConstants.{LATEST_TIME};
-    ghost use Rattle.qn_disk.specs.WorldSteps.{Applied, IsFormed, IsReady, IsStanding, OutOfMemory, Refuses, Stepped, outs_of, report_of};
+    ghost use Rattle.qn_disk.specs.WorldSteps.{Applied, IsFormed, IsReady, IsStanding, OutOfMemory, Refuses, Stepped, outs_of, report_of, rule_of};
 
     /// The number of the rule that refuses an event: the first, where several do.
     fn refusal(&self, event: &Self::Event) -> Option<u8>
@@ -16,7 +16,7 @@ pub trait Steps: HasNodes {
         requires early { (Self.kind.nodes self.now).time ≤ LATEST_TIME }
         ensures { (d : Self.World)
             → Self.kind.StandsFor self.now d
-            → result ≡ Self.kind.refusal (Self.kind.nodes self.now).settings (Self.kind.timing self.now) event.now d };
+            → result ≡ rule_of Self.kind self.now event.now d };
 
     /// The world makes the step of an event that is allowed; or it finds no memory, and is as it was.
     fn step(&mut self, event: &Self::Event, outs: &mut Outs) -> Result<(), NoMemory>
@@ -40,8 +40,8 @@ pub trait Steps: HasNodes {
         requires standing { IsStanding Self.kind self.now }
         requires early { (Self.kind.nodes self.now).time ≤ LATEST_TIME }
         ensures { (d : Self.World) → Self.kind.StandsFor self.now d → MatchResult result
-            (λ _. Self.kind.refusal (Self.kind.nodes self.now).settings (Self.kind.timing self.now) event.now d ≡ None)
-            (λ rule. Self.kind.refusal (Self.kind.nodes self.now).settings (Self.kind.timing self.now) event.now d ≡ Some rule.0) }
+            (λ _. rule_of Self.kind self.now event.now d ≡ None)
+            (λ rule. rule_of Self.kind self.now event.now d ≡ Some rule.0) }
     {
         match self.refusal(event) {
             None => Ok(()),
@@ -59,10 +59,10 @@ pub trait Steps: HasNodes {
         ensures ok { OnOk result (Applied Self.kind self.old self.new event.now into.new) }
         ensures err { IfErr result (λ answer. Refuses Self.kind self.old self.new event.now answer) }
     {
+        into.outs.clear();
         if let Err(rule) = self.allowed(event) {
             return Err(Refused::NotAllowed(rule));
         }
-        into.outs.clear();
         self.spend();
         if self.step(event, &mut into.outs).is_err() {
             self.give_back();
