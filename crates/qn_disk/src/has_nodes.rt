@@ -5,7 +5,7 @@ use qn_model::{DiskOp, Event as NodeEvent, Timing};
 
 /// A world of nodes and their disk.
 ///
-/// `kind` is what the world stands for, and `World` a world of the definitions.
+/// `kind` says what the world is in the definitions, of which `World` is a world.
 pub trait HasNodes {
     ghost use Rattle.std.specs.Prelude.{◌≡◌, ◌<◌, ◌≤◌, ◌+◌, ◌-◌, true, length};
     ghost use Rattle.qn_base.specs.declared.limits.TheConstants.{LATEST_TIME};
@@ -28,7 +28,7 @@ pub trait HasNodes {
     fn cluster(&self) -> &Cluster
         ensures { result.now ≡ kind.nodes self.now };
 
-    /// The four times that were handed to the world.
+    /// The times that were handed to the world.
     fn timing(&self) -> &Timing
         ensures { result.now ≡ kind.timing self.now };
 
