@@ -1,5 +1,5 @@
 -- What a cluster stands for after one of its nodes changed.
-use Rattle.std.proofs.Common.{◌≡◌, ℕ, suc, zero, ◌+◌, ◌-◌, ◌<◌, ◌≤◌, true, false, List, [], ◌∷◌, ◌++◌, length, Some, ◌⊎◌, inl, inr, sym, ◌∙◌, ap, subst, arith, length-append}
+use Rattle.std.proofs.Common.{◌≡◌, ℕ, suc, zero, ◌+◌, ◌<◌, ◌≤◌, true, false, List, [], ◌∷◌, ◌++◌, length, Some, ◌⊎◌, inl, inr, sym, ◌∙◌, ap, subst, arith, length-append}
 use Rattle.std.specs.Prelude.{All, slice_get, slice_set, ◌==◌}
 use Rattle.std.proofs.lemmas.List.{append-nil, length-set}
 use Rattle.std.proofs.lemmas.List.Elements.{All-append, All-nil}
@@ -12,7 +12,7 @@ use Rattle.qn_node.specs.Node.{steps_of}
 use Rattle.qn_cluster.specs.declared.seat.Seat.{Seat}
 use Rattle.qn_cluster.specs.Nodes.{Nodes}
 use Rattle.qn_cluster.specs.Seats.{IsFresh, SeatFor}
-use Rattle.qn_cluster.specs.Standing.{ClusterFor, HasRoom, IsOpWithin, IsStanding, latest_clock}
+use Rattle.qn_cluster.specs.Standing.{ClusterFor, IsOpWithin, latest_clock}
 use Rattle.qn_cluster.proofs.Lists.{found, rank_cases}
 
 -- a seat is that of a configured rank
@@ -132,25 +132,3 @@ fresh_more seats more new fresh own e rank seat here = fresh_by seats new seat r
 
 pub counts_more : (seats more : List Seat) (new : Seat) (count : ℕ) → length seats ≡ count → more ≡ seats ++ new ∷ [] → length more ≡ count + 1
 counts_more seats more new count e f = let a = ap length f in let b = length-append seats (new ∷ []) in omega arith
-
--- ---- a step is taken from those that are left
-
-abbrev pub spent : Nodes → Nodes
-spent w = record w { steps = w.steps - 1 }
-
-pub spent_stands : (w : Nodes) (d : List Moment) → ClusterFor w d → ClusterFor (spent w) d
-spent_stands w d is =
-    record {
-      valid = is.valid;
-      count = is.count;
-      times = is.times;
-      nodes = is.nodes;
-      sent = is.sent;
-      clocks = is.clocks;
-      receivers = is.receivers;
-      targets = is.targets;
-      rooms = λ rank seat here. let r = is.rooms rank seat here in omega arith;
-    }
-
-pub spent_room : (w : Nodes) → IsStanding w → 0 < w.steps → HasRoom (spent w)
-spent_room w standing some = λ rank seat here. let r = standing.1.rooms rank seat here in omega arith

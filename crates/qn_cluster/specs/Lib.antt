@@ -5,5 +5,6 @@ pub mod Outputs
 pub mod Seats
 pub mod Seen
 pub mod Standing
+pub mod StandingLaws
 pub mod Stepping
 pub mod Tests

@@ -1,6 +1,6 @@
 -- Laws of lists whose items are replaced, and of the three images, for this crate and those above.
 use Rattle.std.proofs.Common.{◌≡◌, ◌≢◌, ℕ, suc, zero, ◌<◌, Bool, true, false, List, [], ◌∷◌, length, get_or, Some, None, refl, ◌⊎◌, inl, inr, sym, ◌∙◌, ap, subst, arith, eq-eqb, if◌then◌else◌}
-use Rattle.std.specs.Prelude.{Option, slice_get, slice_set, ◌==◌}
+use Rattle.std.specs.Prelude.{Option, replicate, slice_get, slice_set, ◌==◌}
 use Rattle.std.proofs.lemmas.Bool.{false≢true}
 use Rattle.std.proofs.lemmas.Bool.Decides.{Decides-eqb, nat_tests}
 use Rattle.std.proofs.lemmas.Option.{get_or_from_slice_get}
@@ -47,6 +47,12 @@ rank_put items values i value within before j below = put_by (rank_cases i j)
         subst (λ k. slice_get (slice_set items i value) k ≡ Some (put values i value k)) same
         (get_set_same items i value within ∙ ap (λ b. Some (if b then value else values i)) (sym (same_rank i)))
     put_by (inr apart) = get_set_other items i j value apart ∙ (before j below ∙ ap (λ b. Some (if b then value else values j)) (sym apart))
+
+-- each of so many equal items
+pub replicated : {A : Type 0} (count i : ℕ) (item : A) → i < count → slice_get (replicate count item) i ≡ Some item
+replicated zero i item below = absurd (omega arith)
+replicated (suc count) zero item below = refl
+replicated (suc count) (suc i) item below = replicated count i item (omega arith)
 
 -- the item at a place is the one that is read there
 pub read_at : {A : Type 0} (items others : List A) (place i : ℕ) (item d : A) → items ≡ others → place ≡ i → slice_get others i ≡ Some item → get_or items place d ≡ item

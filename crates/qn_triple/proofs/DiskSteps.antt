@@ -19,8 +19,9 @@ use Rattle.qn_safety.specs.declared.part.Part.{Part}
 use Rattle.qn_safety.specs.TripleRules.{is_image, none_pending}
 use Rattle.qn_safety.specs.TripleSteps.{written_on}
 use Rattle.qn_safety.specs.TripleWorld.{TripleWorld, all_pending, answer_of, good_after, has_landed, is_pending, mailboxes_on, put_on, slots_on}
-use Rattle.qn_triple.specs.Standing.{GoodAt, IsStanding, PartsAt, SectorsAt, TripleFor}
-use Rattle.qn_triple.specs.Stepping.{Mails, OtherDisk, Turns, Writes}
+use Rattle.qn_disk.specs.WorldSteps.{OtherDisk, Turns}
+use Rattle.qn_triple.specs.Standing.{GoodAt, IsStanding, PartsAt, SectorsAt, TripleFor, three_images}
+use Rattle.qn_triple.specs.Stepping.{Mails, Writes}
 use Rattle.qn_triple.specs.Whole.{Whole, cluster_of, with_nodes}
 use Rattle.qn_disk.specs.ListLaws.{by_image, get_set_apart, get_set_same, rank_cases, same_rank}
 
@@ -317,18 +318,18 @@ pub image_third : (image : ℕ) → is_image image ≡ true → image ≢ 1 → 
 image_third image one =
     by_image (λ image. image ≢ 1 → image ≢ 2 → image ≡ 3) (λ not_one not_two. absurd (not_one refl)) (λ not_one not_two. absurd (not_two refl)) (λ not_one not_two. refl) image one
 
-pub other_parts : (w new : Whole) (i : ℕ) (own : List Part) → new ≡ record w { parts = slice_set w.parts i own } → OtherDisk w new
+pub other_parts : (w new : Whole) (i : ℕ) (own : List Part) → new ≡ record w { parts = slice_set w.parts i own } → OtherDisk three_images w new
 other_parts w new i own e = record { nodes = ap cluster_of e; timing = ap (λ w. w.timing) e }
 
-pub other_good : (w new : Whole) (i : ℕ) (own : List Bool) → new ≡ record w { good = slice_set w.good i own } → OtherDisk w new
+pub other_good : (w new : Whole) (i : ℕ) (own : List Bool) → new ≡ record w { good = slice_set w.good i own } → OtherDisk three_images w new
 other_good w new i own e = record { nodes = ap cluster_of e; timing = ap (λ w. w.timing) e }
 
-pub other_sectors : (w new : Whole) (i : ℕ) (own : Sectors) → new ≡ record w { sectors = slice_set w.sectors i own } → OtherDisk w new
+pub other_sectors : (w new : Whole) (i : ℕ) (own : Sectors) → new ≡ record w { sectors = slice_set w.sectors i own } → OtherDisk three_images w new
 other_sectors w new i own e = record { nodes = ap cluster_of e; timing = ap (λ w. w.timing) e }
 
 pub part_turned : (w new : Whole) (i image : ℕ) (own changed : List Part) (value : Part) → i < 32 → slice_get w.parts i ≡ Some own
     → ((k : ℕ) → is_image k ≡ true → part_on changed k ≡ put (part_on own) image value k) → new ≡ record w { parts = slice_set w.parts i changed }
-    → Turns w new (λ d. record d { parts = put_on d.parts i image value })
+    → Turns three_images w new (λ d. record d { parts = put_on d.parts i image value })
 part_turned w new i image own changed value below here each e =
     record {
       rest = other_parts w new i changed e;
@@ -338,20 +339,20 @@ part_turned w new i image own changed value below here each e =
     }
 
 pub parts_turned : (w new : Whole) (i : ℕ) (own : List Part) (wanted : ℕ → Part) → i < 32 → new ≡ record w { parts = slice_set w.parts i own }
-    → ((image : ℕ) → is_image image ≡ true → part_on own image ≡ wanted image) → Turns w new (λ d. record d { parts = put d.parts i wanted })
+    → ((image : ℕ) → is_image image ≡ true → part_on own image ≡ wanted image) → Turns three_images w new (λ d. record d { parts = put d.parts i wanted })
 parts_turned w new i own wanted below e each =
     record { rest = other_parts w new i own e; stands = λ d is. parts_put w new d i own wanted is below e each }
 
 pub good_turned : (w new : Whole) (i : ℕ) (own : List Bool) (wanted : ℕ → Bool) → i < 32 → new ≡ record w { good = slice_set w.good i own }
-    → ((image : ℕ) → is_image image ≡ true → is_good_on own image ≡ wanted image) → Turns w new (λ d. record d { good = put d.good i wanted })
+    → ((image : ℕ) → is_image image ≡ true → is_good_on own image ≡ wanted image) → Turns three_images w new (λ d. record d { good = put d.good i wanted })
 good_turned w new i own wanted below e each =
     record { rest = other_good w new i own e; stands = λ d is. good_put w new d i own wanted is below e each }
 
 -- the good images after an answer, and then no parts
 pub closed_turned : (w mid new : Whole) (i : ℕ) (op : DiskOp) (parts : List Part) (good after : List Bool) → i < 32 → slice_get w.parts i ≡ Some parts
     → slice_get w.good i ≡ Some good → ((image : ℕ) → is_image image ≡ true → is_good_on after image ≡ good_after op (part_on parts) (is_good_on good) image)
-    → mid ≡ record w { good = slice_set w.good i after } → Turns mid new (λ d. record d { parts = put d.parts i all_pending })
-    → Turns w new (λ d. record d { parts = put d.parts i all_pending; good = put d.good i (good_after op (d.parts i) (d.good i)) })
+    → mid ≡ record w { good = slice_set w.good i after } → Turns three_images mid new (λ d. record d { parts = put d.parts i all_pending })
+    → Turns three_images w new (λ d. record d { parts = put d.parts i all_pending; good = put d.good i (good_after op (d.parts i) (d.good i)) })
 closed_turned w mid new i op parts good after below parts_here good_here is_after e forgets =
     record {
       rest = record { nodes = forgets.rest.nodes ∙ ap cluster_of e; timing = forgets.rest.timing ∙ ap (λ w. w.timing) e };
@@ -370,7 +371,7 @@ AtPlace w new place Changes =
     → (after : Sectors) × (new ≡ record w { sectors = slice_set w.sectors place after }) × Changes own after
 
 pub write_turned : (w new : Whole) (i image : ℕ) (op : DiskOp) → IsStanding w → is_image image ≡ true
-    → AtPlace w new (image - 1) (λ own after. Writes own after i op) → Turns w new (written_on i image op)
+    → AtPlace w new (image - 1) (λ own after. Writes own after i op) → Turns three_images w new (written_on i image op)
 write_turned w new i image op standing one made =
     let first = standing.1.images image one in
     let at = made first.own first.here in
@@ -382,7 +383,7 @@ write_turned w new i image op standing one made =
     }
 
 pub mail_turned : (w new : Whole) (i image : ℕ) (value : Message) → IsStanding w → is_image image ≡ true
-    → AtPlace w new (image - 1) (λ own after. Mails own after i value) → Turns w new (λ d. record d { mailboxes = put_on d.mailboxes i image value })
+    → AtPlace w new (image - 1) (λ own after. Mails own after i value) → Turns three_images w new (λ d. record d { mailboxes = put_on d.mailboxes i image value })
 mail_turned w new i image value standing one made =
     let first = standing.1.images image one in
     let at = made first.own first.here in
@@ -396,7 +397,7 @@ mail_turned w new i image value standing one made =
 -- the leftovers, as a call leaves them
 pub left_turned : (w new : Whole) (items : List Leftover) (change : (ℕ → ℕ → List DiskOp) → ℕ → ℕ → List DiskOp) → new ≡ record w { left = items }
     → ((d : TripleWorld) → TripleFor w d → LeftFor (length w.settings.nodes) w.left d.left → LeftFor (length w.settings.nodes) items (change d.left))
-    → Turns w new (λ d. record d { left = change d.left })
+    → Turns three_images w new (λ d. record d { left = change d.left })
 left_turned w new items change e changed =
     record {
       rest = record { nodes = ap cluster_of e; timing = ap (λ w. w.timing) e };

@@ -1,18 +1,18 @@
 -- What a world of three images stands for after an event.
-use Rattle.std.proofs.Common.{◌≡◌, ◌≢◌, ℕ, ◌≤◌, Bool, true, false, List, [], ◌∷◌, ◌++◌, length, Some, None, refl, if◌then◌else◌, ◌&&◌, ◌||◌, sym, ◌∙◌, ap, subst, arith, length-append}
-use Rattle.std.specs.Prelude.{All, Option, Result, Ok, Err, OnErr, OnOk, OnSome, is_some, ◌==◌, nat_lt}
+use Rattle.std.proofs.Common.{◌≡◌, ◌≢◌, ℕ, Bool, true, false, List, [], ◌∷◌, ◌++◌, length, Some, None, refl, if◌then◌else◌, ◌&&◌, sym, ◌∙◌, ap, subst, arith}
+use Rattle.std.specs.Prelude.{Option, is_some, ◌==◌, nat_lt}
 use Rattle.std.specs.Option.{option_map_or, option_or}
-use Rattle.std.specs.Result.{is_err}
 use Rattle.std.proofs.lemmas.Bool.{eqb-true}
 use Rattle.std.proofs.lemmas.Bool.Decides.{nat_tests}
 use Rattle.std.proofs.lemmas.List.{append-nil}
-use Rattle.std.proofs.lemmas.List.Elements.{All-nil}
 use Rattle.qn_base.specs.declared.ids.Rank.{Rank}
 use Rattle.qn_cluster.specs.Events.{CanStep, Starved, Stepped as NodesStepped, is_of_nodes}
 use Rattle.qn_cluster.specs.Seats.{IsDue}
 use Rattle.qn_cluster.specs.Standing.{IsOpWithin, IsWithin}
-use Rattle.qn_cluster.specs.Stepping.{Booted, Ended, Handed, SameFrame, Unhanded, grows}
+use Rattle.qn_cluster.specs.Stepping.{Booted, Ended, Handed, Unhanded, grows}
+use Rattle.qn_disk.specs.EventLaws.{failure_answers, first_some, is_some_none, longer_back, no_outputs, or_first, or_true, passed, passed_both, passed_first, wider}
 use Rattle.qn_disk.specs.Standing.{is_marked, left_over}
+use Rattle.qn_disk.specs.WorldStepLaws.{both_disks, framed, same_frames, turned}
 use Rattle.qn_model.specs.declared.configuration.Settings.{Settings}
 use Rattle.qn_model.specs.declared.disk.Message.{Message}
 use Rattle.qn_model.specs.declared.entries.What.{What}
@@ -27,8 +27,7 @@ use Rattle.qn_model.specs.Moments.{Adds, Boots, Ends, node}
 use Rattle.qn_model.specs.NodeOutputs.{newest_outs}
 use Rattle.qn_model.specs.Rules.{is_well_formed, refusal, unless}
 use Rattle.qn_model.specs.Steps.{outs_after, step}
-use Rattle.qn_model.specs.World.{failed, is_write, node_at, numbered, put, taken, without}
-use Rattle.qn_node.specs.Outputs.{IsNodeOutput}
+use Rattle.qn_model.specs.World.{is_write, node_at, numbered, put, taken, without}
 use Rattle.qn_safety.specs.declared.part.Part.{Part}
 use Rattle.qn_safety.specs.declared.part.Part.TheVariants.{Pending, Landed, Failed}
 use Rattle.qn_safety.specs.declared.triple_event.TripleEvent.{TripleEvent}
@@ -37,25 +36,14 @@ use Rattle.qn_safety.specs.TripleRules.{is_image, is_on_triple, may_be_done_trip
 use Rattle.qn_safety.specs.TripleSteps.{done_triple, ends_triple, failed_on, landed_on, lands_late_on, step_triple, written_on}
 use Rattle.qn_safety.specs.TripleWorld.{TripleWorld, all_good, all_pending, answer_among, answer_of, counting, good_after, image_of, is_pending, leaves_over, nodes_of, none_left, op_of, put_on, together}
 use Rattle.qn_triple.specs.Memory.{leaves_on, leaves_one}
-use Rattle.qn_triple.specs.Standing.{IsStanding, TripleFor}
-use Rattle.qn_triple.specs.Stepping.{GivesUp, IsReady, KeepsOn, OtherDisk, OutOfMemory, Stepped, Turns, boot_event, given_up_on, only_on}
+use Rattle.qn_disk.specs.WorldSteps.{IsReady, OutOfMemory, Stepped, Turns, boot_event}
+use Rattle.qn_triple.specs.Standing.{IsStanding, TripleFor, three_images}
+use Rattle.qn_triple.specs.Stepping.{GivesUp, KeepsOn, given_up_on, only_on}
 use Rattle.qn_triple.specs.Whole.{Whole, cluster_of, with_nodes}
 use Rattle.qn_triple.proofs.DiskSteps.{lefts_same, moved}
 use Rattle.qn_disk.specs.ListLaws.{by_image, same_rank}
 
 -- ---- what the rules leave
-
-passed : (b : Bool) (rule : ℕ) → unless b rule ≡ None → b ≡ true
-passed true rule e = refl
-passed false rule e = absurd (cc)
-
-passed_both : (on test : Bool) (rule : ℕ) → option_or (unless on 3) (unless test rule) ≡ None → (on ≡ true) × (test ≡ true)
-passed_both true test rule e = (refl, passed test rule e)
-passed_both false test rule e = absurd (cc)
-
-passed_first : (on : Bool) (rest : Option ℕ) → option_or (unless on 3) rest ≡ None → on ≡ true
-passed_first true rest e = refl
-passed_first false rest e = absurd (cc)
 
 land_ready : (w : Whole) (d : TripleWorld) (rank : Rank) (image : ℕ) → refusal_triple w.settings w.timing (triple.LandOn rank image) d ≡ None
     → (is_on_triple w.settings rank.0 d ≡ true) × (may_land_on w.settings rank.0 image d ≡ true)
@@ -77,24 +65,9 @@ crash_on : (w : Whole) (d : TripleWorld) (rank : Rank) → refusal_triple w.sett
 unfolding refusal_triple refusal
 crash_on w d rank e = passed_first (is_on_triple w.settings rank.0 d) None e
 
--- ---- frames
-
-no_outputs : (s : Settings) → All (IsNodeOutput s) []
-no_outputs s = All-nil (IsNodeOutput s)
-
-pub turned : (w new : Whole) → OtherDisk w new → SameFrame (cluster_of w) (cluster_of new)
-turned w new rest = record { settings = ap (λ c. c.settings) rest.nodes; steps = ap (λ c. c.steps) rest.nodes; count = ap (λ c. length c.seats) rest.nodes }
-
-pub both_disks : (w mid new : Whole) → OtherDisk w mid → OtherDisk mid new → OtherDisk w new
-both_disks w mid new first second = record { nodes = second.nodes ∙ first.nodes; timing = second.timing ∙ first.timing }
-
 -- an operation that is out of a running node, as the code knows it
 abbrev pub IsOut : Whole → ℕ → Option DiskOp → Type 0
 IsOut w i op = (d : TripleWorld) → TripleFor w d → is_on_triple w.settings i d ≡ true → op ≡ op_of w.settings i d
-
-first_some : (o : Option DiskOp) (rest : Bool) → (is_some o && rest) ≡ true → is_some o ≡ true
-first_some None rest e = e
-first_some (Some op) rest e = refl
 
 none_out : (o p : Option DiskOp) → o ≡ p → ((out : DiskOp) → o ≡ Some out → ⊥) → is_some p ≡ true → ⊥
 none_out None None same none e = absurd (cc)
@@ -103,11 +76,10 @@ none_out (Some op) p same none e = none op refl
 
 -- a step that is never allowed
 pub never_stepped : (w : Whole) (event : TripleEvent) (outs : List Out)
-    → ((d : TripleWorld) → TripleFor w d → refusal_triple w.settings w.timing event d ≡ None → ⊥) → Stepped w w event outs
+    → ((d : TripleWorld) → TripleFor w d → refusal_triple w.settings w.timing event d ≡ None → ⊥) → Stepped three_images w w event outs
 never_stepped w event outs never =
     record {
-      frame = record { settings = refl; steps = refl; count = refl };
-      timing = refl;
+      frame = record { settings = refl; timing = refl; steps = refl };
       stands = λ d is allowed. absurd (never d is allowed);
       gives = λ d is allowed. absurd (never d is allowed);
       ranks = λ d is allowed. absurd (never d is allowed);
@@ -117,13 +89,12 @@ never_stepped w event outs never =
 
 pub land_stepped : (w mid new : Whole) (rank : Rank) (image : ℕ) (op : DiskOp) (entry : What) → IsOut w rank.0 (Some op)
     → ((d : TripleWorld) → TripleFor w d → entry ≡ taken w.settings w.timing rank.0 op (image_of image d))
-    → Turns w mid (written_on rank.0 image op) → Turns mid new (λ d. record d { parts = put_on d.parts rank.0 image (Landed entry) })
-    → Stepped w new (triple.LandOn rank image) []
+    → Turns three_images w mid (written_on rank.0 image op) → Turns three_images mid new (λ d. record d { parts = put_on d.parts rank.0 image (Landed entry) })
+    → Stepped three_images w new (triple.LandOn rank image) []
 unfolding step_triple
 land_stepped w mid new rank image op entry out takes writes sets =
     record {
-      frame = turned w new (both_disks w mid new writes.rest sets.rest);
-      timing = sets.rest.timing ∙ writes.rest.timing;
+      frame = turned three_images w new (both_disks three_images w mid new writes.rest sets.rest);
       stands = λ d is allowed.
           let i = rank.0 in
           let op_is = out d is (land_ready w d rank image allowed).0 in
@@ -135,7 +106,7 @@ land_stepped w mid new rank image op entry out takes writes sets =
     }
 
 pub not_landed : (w : Whole) (rank : Rank) (image : ℕ) (op : Option DiskOp) (outs : List Out) → IsOut w rank.0 op → ((out : DiskOp) → op ≡ Some out → ⊥)
-    → Stepped w w (triple.LandOn rank image) outs
+    → Stepped three_images w w (triple.LandOn rank image) outs
 not_landed w rank image op outs out none =
     never_stepped w (triple.LandOn rank image) outs (λ d is allowed.
     let ready = land_ready w d rank image allowed in
@@ -200,14 +171,13 @@ left_one d i image op left left_is rank k one = by_rank (i == rank) refl
 
 pub fail_stepped : (w mid new : Whole) (rank : Rank) (image : ℕ) (op : DiskOp) (left : Bool) → IsOut w rank.0 (Some op)
     → ((d : TripleWorld) → TripleFor w d → left ≡ (is_write op && is_pending (d.parts rank.0 image)))
-    → Turns w mid (λ d. record d { left = left_over d.left rank.0 op (only_on left image) })
-    → Turns mid new (λ d. record d { parts = put_on d.parts rank.0 image Failed })
-    → Stepped w new (triple.FailOn rank image) []
+    → Turns three_images w mid (λ d. record d { left = left_over d.left rank.0 op (only_on left image) })
+    → Turns three_images mid new (λ d. record d { parts = put_on d.parts rank.0 image Failed })
+    → Stepped three_images w new (triple.FailOn rank image) []
 unfolding step_triple
 fail_stepped w mid new rank image op left out left_is leaves sets =
     record {
-      frame = turned w new (both_disks w mid new leaves.rest sets.rest);
-      timing = sets.rest.timing ∙ leaves.rest.timing;
+      frame = turned three_images w new (both_disks three_images w mid new leaves.rest sets.rest);
       stands = λ d is allowed.
           let i = rank.0 in
           let op_is = out d is (fail_ready w d rank image allowed).0 in
@@ -221,25 +191,13 @@ fail_stepped w mid new rank image op left out left_is leaves sets =
     }
 
 pub not_failed : (w : Whole) (rank : Rank) (image : ℕ) (op : Option DiskOp) (outs : List Out) → IsOut w rank.0 op → ((out : DiskOp) → op ≡ Some out → ⊥)
-    → Stepped w w (triple.FailOn rank image) outs
+    → Stepped three_images w w (triple.FailOn rank image) outs
 not_failed w rank image op outs out none =
     never_stepped w (triple.FailOn rank image) outs (λ d is allowed.
     let ready = fail_ready w d rank image allowed in
     none_out op (op_of w.settings rank.0 d) (out d is ready.0) none (first_some (op_of w.settings rank.0 d) _ ready.1))
 
 -- ---- where memory is wanted
-
-pub or_true : (a b : Bool) → b ≡ true → (a || b) ≡ true
-or_true true b e = refl
-or_true false b e = e
-
-pub or_first : (a b : Bool) → a ≡ true → (a || b) ≡ true
-or_first true b e = refl
-or_first false b e = absurd (cc)
-
-longer_back : {A : Type 0} (front back : List A) → back ≢ [] → nat_lt (length front) (length (front ++ back)) ≡ true
-longer_back front [] some = absurd (some refl)
-longer_back front (x ∷ back) some = let e = length-append front (x ∷ back) in grind (arith, nat_tests)
 
 one_of_three : (rank : ℕ) (d after : TripleWorld) (image : ℕ) → is_image image ≡ true → leaves_on rank image d after ≡ true → leaves_one rank d after ≡ true
 one_of_three rank d after =
@@ -261,7 +219,7 @@ marked_here false image k e = absurd (cc)
 
 pub fail_starved : (w new : Whole) (rank : Rank) (image : ℕ) (op : DiskOp) (left : Bool) → IsOut w rank.0 (Some op) → is_image image ≡ true
     → ((d : TripleWorld) → TripleFor w d → left ≡ (is_write op && is_pending (d.parts rank.0 image))) → new ≡ w
-    → (k : ℕ) × (is_image k ≡ true) × (is_marked (only_on left image) k ≡ true) → OutOfMemory w new (triple.FailOn rank image)
+    → (k : ℕ) × (is_image k ≡ true) × (is_marked (only_on left image) k ≡ true) → OutOfMemory three_images w new (triple.FailOn rank image)
 unfolding step_triple
 fail_starved w new rank image op left out one left_is e marked =
     record {
@@ -288,13 +246,12 @@ late_may w d rank image number e = passed (is_some (numbered (d.left rank.0 imag
 
 pub late_stepped : (w mid new : Whole) (rank : Rank) (image number : ℕ) (op : DiskOp)
     → ((d : TripleWorld) → TripleFor w d → Some op ≡ numbered (d.left rank.0 image) number)
-    → Turns w mid (λ d. record d { left = put_on d.left rank.0 image (without (d.left rank.0 image) number) }) → Turns mid new (written_on rank.0 image op)
-    → Stepped w new (triple.LateOn rank image number) []
+    → Turns three_images w mid (λ d. record d { left = put_on d.left rank.0 image (without (d.left rank.0 image) number) }) → Turns three_images mid new (written_on rank.0 image op)
+    → Stepped three_images w new (triple.LateOn rank image number) []
 unfolding step_triple
 late_stepped w mid new rank image number op found takes writes =
     record {
-      frame = turned w new (both_disks w mid new takes.rest writes.rest);
-      timing = writes.rest.timing ∙ takes.rest.timing;
+      frame = turned three_images w new (both_disks three_images w mid new takes.rest writes.rest);
       stands = λ d is allowed.
           subst (λ o. TripleFor new (option_map_or (λ op. lands_late_on rank.0 image number op d) o d)) (found d is)
           (writes.stands (record d { left = put_on d.left rank.0 image (without (d.left rank.0 image) number) }) (takes.stands d is));
@@ -302,24 +259,19 @@ late_stepped w mid new rank image number op found takes writes =
       ranks = λ d is allowed. no_outputs w.settings;
     }
 
-is_some_none : {A : Type 0} (o : Option A) → o ≡ None → is_some o ≡ true → ⊥
-is_some_none None e some = absurd (cc)
-is_some_none (Some x) e some = absurd (cc)
-
 pub not_late : (w new : Whole) (rank : Rank) (image number : ℕ) (outs : List Out) → new ≡ w
-    → ((d : TripleWorld) → TripleFor w d → None ≡ numbered (d.left rank.0 image) number) → Stepped w new (triple.LateOn rank image number) outs
+    → ((d : TripleWorld) → TripleFor w d → None ≡ numbered (d.left rank.0 image) number) → Stepped three_images w new (triple.LateOn rank image number) outs
 not_late w new rank image number outs e none =
-    subst (λ n. Stepped w n (triple.LateOn rank image number) outs) (sym e)
+    subst (λ n. Stepped three_images w n (triple.LateOn rank image number) outs) (sym e)
     (never_stepped w (triple.LateOn rank image number) outs (λ d is allowed.
     is_some_none (numbered (d.left rank.0 image) number) (sym (none d is)) (late_may w d rank image number allowed)))
 
 pub operator_stepped : (w new : Whole) (rank : Rank) (image : ℕ) (value : Message)
-    → Turns w new (λ d. record d { mailboxes = put_on d.mailboxes rank.0 image value }) → Stepped w new (triple.OperatorOn rank image value) []
+    → Turns three_images w new (λ d. record d { mailboxes = put_on d.mailboxes rank.0 image value }) → Stepped three_images w new (triple.OperatorOn rank image value) []
 unfolding step_triple
 operator_stepped w new rank image value puts =
     record {
-      frame = turned w new puts.rest;
-      timing = puts.rest.timing;
+      frame = turned three_images w new puts.rest;
       stands = λ d is allowed. puts.stands d is;
       gives = λ d is allowed. refl;
       ranks = λ d is allowed. no_outputs w.settings;
@@ -327,15 +279,14 @@ operator_stepped w new rank image value puts =
 
 -- ---- crash
 
-pub crash_stepped : (w left mid new : Whole) (rank : Rank) → GivesUp w left rank.0 → Turns left mid (λ d. record d { parts = put d.parts rank.0 all_pending })
-    → new ≡ with_nodes mid (cluster_of new) → Ended (cluster_of mid) (cluster_of new) rank.0 → Stepped w new (triple.One (event.Crash rank)) []
+pub crash_stepped : (w left mid new : Whole) (rank : Rank) → GivesUp w left rank.0 → Turns three_images left mid (λ d. record d { parts = put d.parts rank.0 all_pending })
+    → new ≡ with_nodes mid (cluster_of new) → Ended (cluster_of mid) (cluster_of new) rank.0 → Stepped three_images w new (triple.One (event.Crash rank)) []
 unfolding step_triple
 crash_stepped w left mid new rank gives_up forgets disk ends =
-    let rest = both_disks w left mid gives_up.rest forgets.rest in
+    let rest = both_disks three_images w left mid gives_up.rest forgets.rest in
     let ended : Ended (cluster_of w) (cluster_of new) rank.0 = subst (λ c. Ended c (cluster_of new) rank.0) rest.nodes ends in
     record {
-      frame = ended.frame;
-      timing = ap (λ w. w.timing) disk ∙ rest.timing;
+      frame = framed three_images w new (ap (λ w. w.timing) disk ∙ rest.timing) ended.frame;
       stands = λ d is allowed.
           let on = crash_on w d rank allowed in
           let d1 = record d { left = given_up_on w.settings rank.0 d } in
@@ -345,7 +296,7 @@ crash_stepped w left mid new rank gives_up forgets disk ends =
       ranks = λ d is allowed. no_outputs w.settings;
     }
 
-pub crash_starved : (w new : Whole) (rank : Rank) → KeepsOn w new rank.0 → OutOfMemory w new (triple.One (event.Crash rank))
+pub crash_starved : (w new : Whole) (rank : Rank) → KeepsOn w new rank.0 → OutOfMemory three_images w new (triple.One (event.Crash rank))
 unfolding step_triple
 crash_starved w new rank keeps =
     record {
@@ -375,16 +326,15 @@ boot_gives s t rank base false d = refl
 boot_gives s t rank base true d = refl
 
 pub boot_stepped : (w a b c new : Whole) (rank : Rank) (base : ℕ) (clean : Bool) (outs : List Out)
-    → Turns w a (λ d. record d { left = put d.left rank.0 none_left }) → Turns a b (λ d. record d { parts = put d.parts rank.0 all_pending })
-    → Turns b c (λ d. record d { good = put d.good rank.0 all_good }) → new ≡ with_nodes c (cluster_of new)
-    → Booted (cluster_of c) (cluster_of new) rank.0 base clean outs → Stepped w new (triple.One (boot_event rank base clean)) outs
+    → Turns three_images w a (λ d. record d { left = put d.left rank.0 none_left }) → Turns three_images a b (λ d. record d { parts = put d.parts rank.0 all_pending })
+    → Turns three_images b c (λ d. record d { good = put d.good rank.0 all_good }) → new ≡ with_nodes c (cluster_of new)
+    → Booted (cluster_of c) (cluster_of new) rank.0 base clean outs → Stepped three_images w new (triple.One (boot_event rank base clean)) outs
 boot_stepped w a b c new rank base clean outs drops forgets trusts disk boots =
     let i = rank.0 in
-    let rest = both_disks w a c drops.rest (both_disks a b c forgets.rest trusts.rest) in
+    let rest = both_disks three_images w a c drops.rest (both_disks three_images a b c forgets.rest trusts.rest) in
     let booted : Booted (cluster_of w) (cluster_of new) i base clean outs = subst (λ n. Booted n (cluster_of new) i base clean outs) rest.nodes boots in
     record {
-      frame = booted.frame;
-      timing = ap (λ w. w.timing) disk ∙ rest.timing;
+      frame = framed three_images w new (ap (λ w. w.timing) disk ∙ rest.timing) booted.frame;
       stands = λ d is allowed.
           let d1 = record d { left = put d.left i none_left } in
           let d2 = record d1 { parts = put d.parts i all_pending } in
@@ -400,17 +350,6 @@ boot_stepped w a b c new rank base clean outs drops forgets trusts disk boots =
     gives_by d e = e ∙ sym (boot_gives w.settings w.timing rank base clean d)
 
 -- ---- done
-
-failure_answers : (op : DiskOp) → answers_op (Some op) (failed op) ≡ true
-unfolding failed
-failure_answers disk.ReadHeader = refl
-failure_answers (disk.ReadSlot other) = same_rank other.0
-failure_answers disk.CheckMail = refl
-failure_answers (disk.WriteClaim number) = refl
-failure_answers disk.WriteClear = refl
-failure_answers disk.ReadMail = refl
-failure_answers (disk.WriteReset other) = same_rank other.0
-failure_answers (disk.WriteClose number) = refl
 
 together_answers : (op : DiskOp) (first : What) (values : List What) → answers_op (Some op) (together op first values) ≡ true
 together_answers disk.ReadHeader first values = refl
@@ -442,17 +381,13 @@ closed i op d = record d { parts = put d.parts i all_pending; good = put d.good 
 
 pub done_stepped : (w mid new : Whole) (rank : Rank) (op : DiskOp) (entry : What) (outs : List Out) → IsOut w rank.0 (Some op)
     → ((d : TripleWorld) → TripleFor w d → entry ≡ answer_of op (d.parts rank.0) (d.good rank.0))
-    → mid ≡ with_nodes w (cluster_of mid) → Handed (cluster_of w) (cluster_of mid) rank.0 entry outs → Turns mid new (closed rank.0 op)
-    → Stepped w new (triple.One (event.Done rank)) outs
+    → mid ≡ with_nodes w (cluster_of mid) → Handed (cluster_of w) (cluster_of mid) rank.0 entry outs → Turns three_images mid new (closed rank.0 op)
+    → Stepped three_images w new (triple.One (event.Done rank)) outs
 unfolding step_triple
 done_stepped w mid new rank op entry outs out answers disk hands closes =
     record {
-      frame = record {
-        settings = ap (λ c. c.settings) closes.rest.nodes ∙ hands.frame.settings;
-        steps = ap (λ c. c.steps) closes.rest.nodes ∙ hands.frame.steps;
-        count = ap (λ c. length c.seats) closes.rest.nodes ∙ hands.frame.count;
-      };
-      timing = closes.rest.timing ∙ ap (λ w. w.timing) disk;
+      frame =
+          same_frames three_images w mid new (framed three_images w mid (ap (λ w. w.timing) disk) hands.frame) (turned three_images mid new closes.rest);
       stands = λ d is allowed.
           let i = rank.0 in
           let on = (done_ready w d rank allowed).0 in
@@ -472,7 +407,7 @@ done_stepped w mid new rank op entry outs out answers disk hands closes =
 
 pub done_starved : (w new : Whole) (rank : Rank) (op : DiskOp) (entry : What) → IsOut w rank.0 (Some op)
     → ((d : TripleWorld) → TripleFor w d → entry ≡ answer_of op (d.parts rank.0) (d.good rank.0))
-    → new ≡ with_nodes w (cluster_of new) → Unhanded (cluster_of w) (cluster_of new) rank.0 entry → OutOfMemory w new (triple.One (event.Done rank))
+    → new ≡ with_nodes w (cluster_of new) → Unhanded (cluster_of w) (cluster_of new) rank.0 entry → OutOfMemory three_images w new (triple.One (event.Done rank))
 unfolding step_triple
 done_starved w new rank op entry out answers disk starved =
     record {
@@ -486,7 +421,7 @@ done_starved w new rank op entry out answers disk starved =
     }
 
 pub not_done : (w : Whole) (rank : Rank) (op : Option DiskOp) (outs : List Out) → IsOut w rank.0 op → ((out : DiskOp) → op ≡ Some out → ⊥)
-    → Stepped w w (triple.One (event.Done rank)) outs
+    → Stepped three_images w w (triple.One (event.Done rank)) outs
 not_done w rank op outs out none =
     never_stepped w (triple.One (event.Done rank)) outs (λ d is allowed.
     let ready = done_ready w d rank allowed in
@@ -524,7 +459,7 @@ pub formed_one : (s : Settings) (event : Event) → is_well_formed_triple s (tri
 unfolding is_well_formed_triple
 formed_one s event formed = formed
 
-pub can_step : (w : Whole) (event : Event) → is_of_nodes event ≡ true → IsReady w (triple.One event) → CanStep (cluster_of w) event
+pub can_step : (w : Whole) (event : Event) → is_of_nodes event ≡ true → IsReady three_images w (triple.One event) → CanStep (cluster_of w) event
 can_step w event nodes ready =
     record {
       nodes = nodes;
@@ -538,12 +473,11 @@ can_step w event nodes ready =
     }
 
 pub nodes_stepped : (w new : Whole) (event : Event) (outs : List Out) → is_of_nodes event ≡ true → new ≡ with_nodes w (cluster_of new)
-    → NodesStepped (cluster_of w) (cluster_of new) event outs → Stepped w new (triple.One event) outs
+    → NodesStepped (cluster_of w) (cluster_of new) event outs → Stepped three_images w new (triple.One event) outs
 nodes_stepped w new event outs nodes disk made =
     let of = of_nodes w.settings w.timing event nodes in
     record {
-      frame = made.frame;
-      timing = ap (λ w. w.timing) disk;
+      frame = framed three_images w new (ap (λ w. w.timing) disk) made.frame;
       stands = λ d is allowed.
           subst (λ after. TripleFor new after) (sym (of.moves d))
           (moved w new d (step w.settings w.timing event (nodes_of d)).moments is disk made.frame.settings
@@ -553,7 +487,7 @@ nodes_stepped w new event outs nodes disk made =
     }
 
 pub nodes_starved : (w new : Whole) (event : Event) → is_of_nodes event ≡ true → new ≡ with_nodes w (cluster_of new)
-    → Starved (cluster_of w) (cluster_of new) event → OutOfMemory w new (triple.One event)
+    → Starved (cluster_of w) (cluster_of new) event → OutOfMemory three_images w new (triple.One event)
 nodes_starved w new event nodes disk starved =
     let of = of_nodes w.settings w.timing event nodes in
     record {
@@ -566,39 +500,8 @@ nodes_starved w new event nodes disk starved =
 
 -- ---- ranks of the other node that an operation is about
 
-wider : (count : ℕ) (op : DiskOp) → count ≤ 32 → IsWithin count op → IsWithin 32 op
-wider count disk.ReadHeader few p = tt
-wider count (disk.ReadSlot other) few p = omega arith
-wider count disk.CheckMail few p = tt
-wider count (disk.WriteClaim number) few p = tt
-wider count disk.WriteClear few p = tt
-wider count disk.ReadMail few p = tt
-wider count (disk.WriteReset other) few p = omega arith
-wider count (disk.WriteClose number) few p = tt
-
 pub op_target : (w : Whole) (op : DiskOp) → IsStanding w → IsOpWithin (length w.settings.nodes) (Some op) → IsWithin 32 op
 op_target w op standing within = wider (length w.settings.nodes) op standing.1.cluster.valid.few_nodes within
-
--- what a result promises on one side
-pub ok_so : {A E : Type 0} (r : Result A E) {P Q : Type 0} → (P → Q) → OnOk r P → OnOk r Q
-ok_so (Ok x) so p = so p
-ok_so (Err e) so p = p
-
-pub err_so : {A E : Type 0} (r : Result A E) {P Q : Type 0} → (P → Q) → OnErr r P → OnErr r Q
-err_so (Ok x) so p = p
-err_so (Err e) so p = so p
-
-pub err_holds : {A E : Type 0} (r : Result A E) {P : Type 0} → is_err r ≡ true → OnErr r P → P
-err_holds (Ok x) e p = absurd (cc)
-err_holds (Err x) e p = p
-
-pub ok_holds : {A E : Type 0} (r : Result A E) {P : Type 0} → is_err r ≡ false → OnOk r P → P
-ok_holds (Ok x) e p = p
-ok_holds (Err x) e p = absurd (cc)
-
-pub some_so : {A : Type 0} (o : Option A) {P Q : Type 0} → (P → Q) → OnSome o P → OnSome o Q
-some_so None so p = p
-some_so (Some x) so p = so p
 
 -- the events that name no image, though their step is one of an image
 abbrev pub is_of_disk : Event → Bool
@@ -644,7 +547,7 @@ refused_one s t (event.Unstopped rank) d e allowed = cc
 refused_one s t (event.Leave rank) d e allowed = cc
 refused_one s t (event.Feed rank) d e allowed = cc
 
-pub never_one : (w : Whole) (event : Event) (outs : List Out) → is_of_disk event ≡ true → IsReady w (triple.One event) → Stepped w w (triple.One event) outs
+pub never_one : (w : Whole) (event : Event) (outs : List Out) → is_of_disk event ≡ true → IsReady three_images w (triple.One event) → Stepped three_images w w (triple.One event) outs
 never_one w event outs kind ready = absurd (refused_one w.settings w.timing event ready.standing.0 kind ready.allowed)
 
 -- ---- the operation of a node is given up
@@ -671,7 +574,7 @@ left_all s d i op marks are op_is rank k one = by_rank (i == rank) refl
         ∙ sym (ap (λ b. (if b then (λ (n : ℕ). d.left i n ++ leaves_over (op_of s i d) (d.parts i n)) else d.left rank) k) e)
 
 pub gives_up : (w new : Whole) (i : ℕ) (op : DiskOp) (marks : List Bool) → IsOut w i (Some op) → ((d : TripleWorld) → TripleFor w d → AreMarks d i op marks)
-    → Turns w new (λ d. record d { left = left_over d.left i op marks }) → GivesUp w new i
+    → Turns three_images w new (λ d. record d { left = left_over d.left i op marks }) → GivesUp w new i
 gives_up w new i op marks out are leaves =
     record {
       rest = leaves.rest;

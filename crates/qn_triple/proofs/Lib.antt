@@ -1,5 +1,5 @@
 mod LineForms
-pub mod ApplySteps
+pub mod FirstWorld
 pub mod DiskSteps
 pub mod EventSteps
 pub mod LineRows

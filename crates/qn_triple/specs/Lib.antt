@@ -1,3 +1,4 @@
+pub mod Lawful
 pub mod Memory
 pub mod Standing
 pub mod Stepping

@@ -3,15 +3,18 @@ use Rattle.std.specs.Prelude.{◌≡◌, ◌<◌, ◌-◌, ℕ, Bool, true, List
 use Rattle.qn_cluster.specs.Standing.{ClusterFor}
 use Rattle.qn_disk.specs.declared.sectors.Sectors.{Sectors}
 use Rattle.qn_disk.specs.Standing.{LeftFor, SectorsFor}
+use Rattle.qn_disk.specs.WorldKinds.{WorldKind}
+use Rattle.qn_disk.specs.WorldSteps as worlds
 use Rattle.qn_model.specs.declared.disk.Message.{Message}
 use Rattle.qn_model.specs.declared.disk.Slot.{Slot}
 use Rattle.qn_model.specs.Timing.{is_safe}
 use Rattle.qn_parts.specs.Parts.{is_good_on, part_on}
 use Rattle.qn_safety.specs.declared.part.Part.{Part}
 use Rattle.qn_safety.specs.declared.triple_event.TripleEvent.{TripleEvent}
-use Rattle.qn_safety.specs.TripleRules.{is_image}
-use Rattle.qn_safety.specs.TripleSteps.{AllAllowedTriple, run_triple}
-use Rattle.qn_safety.specs.TripleWorld.{TripleWorld}
+use Rattle.qn_safety.specs.TripleRules.{is_image, is_well_formed_triple, refusal_triple}
+use Rattle.qn_safety.specs.TripleSteps.{AllAllowedTriple, as_one, run_triple, step_triple}
+use Rattle.qn_safety.specs.TripleWorld.{TripleWorld, nodes_of}
+use Rattle.qn_triple.specs.Memory.{needs_memory}
 use Rattle.qn_triple.specs.Whole.{Whole, cluster_of}
 
 -- the parts of the operation of a rank
@@ -42,12 +45,28 @@ pub record TripleFor (w : Whole) (d : TripleWorld) : Type 0 where
       → SectorsAt w.sectors image (λ rank. d.slots rank image) (λ rank. d.mailboxes rank image)
   pub lefts : LeftFor (length w.settings.nodes) w.left d.left
 
+-- the world of three images is a kind of world
+abbrev pub three_images : WorldKind Whole TripleWorld TripleEvent
+three_images =
+    record {
+      nodes = cluster_of;
+      timing = λ w. w.timing;
+      with_steps = λ w n. record w { steps = n };
+      StandsFor = TripleFor;
+      nodes_of = nodes_of;
+      as_one = as_one;
+      is_well_formed = is_well_formed_triple;
+      refusal = refusal_triple;
+      step = step_triple;
+      needs_memory = needs_memory;
+      run = run_triple;
+      AllAllowed = AllAllowedTriple;
+    }
+
 -- the world stands for one of the definitions
 abbrev pub IsStanding : Whole → Type 0
-IsStanding w = (d : TripleWorld) × TripleFor w d
+IsStanding = worlds.IsStanding three_images
 
 -- a list of events, each well formed and allowed in its turn, led to this world
-pub record IsReached (w : Whole) : Type 0 where
-  pub events : List TripleEvent
-  pub allowed : AllAllowedTriple w.settings w.timing events
-  pub stands : TripleFor w (run_triple w.settings w.timing events)
+abbrev pub IsReached : Whole → Type 0
+IsReached = worlds.IsReached three_images

@@ -8,7 +8,7 @@ ghost use Rattle.qn_safety.specs.TripleWorld.{has_failed, is_pending};
 
 use crate::state::State;
 use qn_base::{NoMemory, Rank};
-use qn_disk::Sectors;
+use qn_disk::{HasNodes, Sectors};
 use qn_model::{DiskOp, Message, What};
 use qn_parts::{Part, answer_of, good_after};
 
@@ -83,8 +83,9 @@ impl State {
     ghost use Rattle.qn_safety.specs.TripleRules.{is_image, none_pending};
     ghost use Rattle.qn_safety.specs.TripleSteps.{written_on};
     ghost use Rattle.qn_safety.specs.TripleWorld.{TripleWorld, all_good, all_pending, answer_of, good_after, image_of, is_pending, none_left, put_on};
-    ghost use Rattle.qn_triple.specs.Standing.{IsStanding, TripleFor};
-    ghost use Rattle.qn_triple.specs.Stepping.{GivesUp, KeepsOn, Mails, Turns, Writes};
+    ghost use Rattle.qn_disk.specs.WorldSteps.{Turns};
+    ghost use Rattle.qn_triple.specs.Standing.{IsStanding, TripleFor, three_images};
+    ghost use Rattle.qn_triple.specs.Stepping.{GivesUp, KeepsOn, Mails, Writes};
 
     /// The parts of the operation of a rank.
     pub(crate) fn parts(&self, i: Rank) -> [Part; 3]
@@ -138,7 +139,7 @@ impl State {
     pub(crate) fn set_part(&mut self, i: Rank, image: u8, part: Part)
         requires within { i.0 < 32 }
         requires image { is_image image ≡ true }
-        ensures { Turns self.old self.new (λ d. record d { parts = put_on d.parts i.0 image part }) }
+        ensures { Turns three_images self.old self.new (λ d. record d { parts = put_on d.parts i.0 image part }) }
     {
         let parts = with_part(self.parts(i), image, part);
         self.set_parts(i, parts);
@@ -147,7 +148,7 @@ impl State {
     /// No part of a rank has landed or failed any more.
     pub(crate) fn forget_parts(&mut self, i: Rank)
         requires { i.0 < 32 }
-        ensures { Turns self.old self.new (λ d. record d { parts = put d.parts i.0 all_pending }) }
+        ensures { Turns three_images self.old self.new (λ d. record d { parts = put d.parts i.0 all_pending }) }
     {
         self.set_parts(i, [Part::Pending; 3]);
     }
@@ -155,7 +156,7 @@ impl State {
     /// Each image is a good one of a rank.
     pub(crate) fn trust_all(&mut self, i: Rank)
         requires { i.0 < 32 }
-        ensures { Turns self.old self.new (λ d. record d { good = put d.good i.0 all_good }) }
+        ensures { Turns three_images self.old self.new (λ d. record d { good = put d.good i.0 all_good }) }
     {
         self.set_good(i, [true; 3]);
     }
@@ -171,7 +172,7 @@ impl State {
     /// The operation of a rank was answered: no part of it is left, and its good images are those after the answer.
     pub(crate) fn close(&mut self, i: Rank, op: DiskOp)
         requires { i.0 < 32 }
-        ensures { Turns self.old self.new (λ d. record d {
+        ensures { Turns three_images self.old self.new (λ d. record d {
           parts = put d.parts i.0 all_pending;
           good = put d.good i.0 (good_after op (d.parts i.0) (d.good i.0));
         }) }
@@ -201,7 +202,7 @@ impl State {
             → result ≡ taken self.now.settings self.now.timing i.0 op (image_of image d) }
     {
         let sectors = self.sectors_at(place_of(image));
-        sectors.taken(self.settings(), self.timing, i, op)
+        sectors.taken(self.cluster.settings(), self.timing, i, op)
     }
 
     /// The message in the mailbox of a rank on an image.
@@ -243,7 +244,7 @@ impl State {
         requires within { i.0 < 32 }
         requires image { is_image image ≡ true }
         requires target { IsWithin 32 op }
-        ensures { Turns self.old self.new (written_on i.0 image op) }
+        ensures { Turns three_images self.old self.new (written_on i.0 image op) }
     {
         self.write_at(place_of(image), i, op);
     }
@@ -253,7 +254,7 @@ impl State {
         requires standing { IsStanding self.old }
         requires within { i.0 < 32 }
         requires image { is_image image ≡ true }
-        ensures { Turns self.old self.new (λ d. record d { mailboxes = put_on d.mailboxes i.0 image message }) }
+        ensures { Turns three_images self.old self.new (λ d. record d { mailboxes = put_on d.mailboxes i.0 image message }) }
     {
         self.mail_at(place_of(image), i, message);
     }
@@ -261,7 +262,7 @@ impl State {
     /// A write of a rank is left over on the images that are marked.
     pub(crate) fn leave_over(&mut self, i: Rank, op: DiskOp, on: [bool; 3]) -> Result<(), NoMemory>
         requires { (d : TripleWorld) → TripleFor self.old d → IsWithin (length self.old.settings.nodes) op }
-        ensures ok { OnOk result (Turns self.old self.new (λ d. record d { left = left_over d.left i.0 op on })) }
+        ensures ok { OnOk result (Turns three_images self.old self.new (λ d. record d { left = left_over d.left i.0 op on })) }
         ensures err { OnErr result (self.new ≡ self.old) }
         ensures cause { OnErr result ((image : ℕ) × (is_image image ≡ true) × (is_marked on image ≡ true)) }
     {
@@ -302,7 +303,7 @@ impl State {
         requires number { 1 ≤ number }
         ensures op { (d : TripleWorld) → TripleFor self.old d → result ≡ numbered (d.left i.0 image) number }
         ensures within { (d : TripleWorld) → TripleFor self.old d → IsOpWithin (length self.old.settings.nodes) result }
-        ensures rest { OnSome result (Turns self.old self.new (λ d. record d { left = put_on d.left i.0 image (without (d.left i.0 image) number) })) }
+        ensures rest { OnSome result (Turns three_images self.old self.new (λ d. record d { left = put_on d.left i.0 image (without (d.left i.0 image) number) })) }
         ensures none { result ≡ None → self.new ≡ self.old }
     {
         self.left.take(i, image, number)
@@ -310,7 +311,7 @@ impl State {
 
     /// The leftovers of a rank are dropped.
     pub(crate) fn drop_left(&mut self, i: Rank)
-        ensures { Turns self.old self.new (λ d. record d { left = put d.left i.0 none_left }) }
+        ensures { Turns three_images self.old self.new (λ d. record d { left = put d.left i.0 none_left }) }
     {
         self.left.drop_of(i);
     }

@@ -1,5 +1,6 @@
 //! The world of three images: the nodes of a cluster, the three images that they share, and the ten rules that an event
-//! has to obey; and the lines of its schedules. The nodes and the packets are those of `qn_cluster`.
+//! has to obey; and the lines of its schedules. The nodes and the packets are those of `qn_cluster`; how an event is taken
+//! stands in `qn_disk`: a world is one of its `Steps`.
 //!
 //! Promises: a `TripleWorld` stands for a world of the definitions (`specs/Standing`). `allowed` is exactly the rules;
 //! `apply` answers the rule that refuses an event, or makes exactly the step of the definitions and reports the new world.

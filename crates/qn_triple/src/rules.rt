@@ -7,7 +7,8 @@ use crate::disk::{has_failed, is_pending};
 use crate::state::State;
 use qn_base::Rank;
 use qn_cluster::unless;
-use qn_model::{DiskOp, Event, Message, Rule};
+use qn_disk::HasNodes;
+use qn_model::{DiskOp, Event, Message};
 use qn_parts::Part;
 use qn_safety::TripleEvent;
 
@@ -40,51 +41,15 @@ fn may_be_done(op: Option<DiskOp>, settled: bool) -> bool
 }
 
 impl State {
-    ghost use Rattle.std.specs.Prelude.{◌≡◌, ◌<◌, ◌≤◌, ℕ, true, None, Option, Some, MatchResult, length};
+    ghost use Rattle.std.specs.Prelude.{◌≡◌, ◌<◌, ◌≤◌, ℕ, true, Option, length};
     ghost use Rattle.qn_base.specs.declared.limits.TheConstants.{LATEST_TIME};
-    ghost use Rattle.qn_cluster.specs.Events.{is_ruled_by_nodes};
-    ghost use Rattle.qn_model.specs.Rules.{is_well_formed, may_be_late, may_operate, refusal, unless};
-    ghost use Rattle.qn_safety.specs.TripleRules.{is_image, is_on_triple, is_well_formed_triple, may_be_done_triple, may_fail_on, may_land_on, refusal_of_one, refusal_triple, unless_off};
-    ghost use Rattle.qn_safety.specs.TripleWorld.{TripleWorld, image_of, nodes_of};
+    ghost use Rattle.qn_model.specs.Rules.{is_well_formed, may_be_late, may_operate, unless};
+    ghost use Rattle.qn_safety.specs.TripleRules.{is_image, is_on_triple, may_be_done_triple, may_fail_on, may_land_on, refusal_of_one, unless_off};
+    ghost use Rattle.qn_safety.specs.TripleWorld.{TripleWorld, image_of};
     ghost use Rattle.qn_triple.specs.Standing.{IsStanding, TripleFor};
 
-    /// Whether the event is allowed, else the rule that refuses it.
-    pub(crate) fn allowed(&self, event: &TripleEvent) -> Result<(), Rule>
-        requires formed { is_well_formed_triple self.now.settings event.now ≡ true }
-        requires standing { IsStanding self.now }
-        requires early { self.now.time ≤ LATEST_TIME }
-        ensures { (d : TripleWorld) → TripleFor self.now d → MatchResult result
-            (λ _. refusal_triple self.now.settings self.now.timing event.now d ≡ None)
-            (λ rule. refusal_triple self.now.settings self.now.timing event.now d ≡ Some rule.0) }
-    {
-        match self.refusal(event) {
-            None => Ok(()),
-            Some(rule) => Err(Rule(rule)),
-        }
-    }
-
-    /// The number of the rule that refuses the event.
-    fn refusal(&self, event: &TripleEvent) -> Option<u8>
-        requires formed { is_well_formed_triple self.now.settings event.now ≡ true }
-        requires standing { IsStanding self.now }
-        requires early { self.now.time ≤ LATEST_TIME }
-        ensures { (d : TripleWorld)
-            → TripleFor self.now d
-            → result ≡ refusal_triple self.now.settings self.now.timing event.now d }
-    {
-        match event {
-            TripleEvent::One(event) => self.refuses_one(event),
-            TripleEvent::LandOn(i, image) => self.refuses_land(*i, *image),
-            TripleEvent::FailOn(i, image) => self.refuses_fail(*i, *image),
-            TripleEvent::LateOn(i, image, number) => self.refuses_late(*i, *image, *number),
-            TripleEvent::OperatorOn(i, image, message) => {
-                self.refuses_operator(*i, *image, *message)
-            }
-        }
-    }
-
     /// The number of the rule that refuses an event which names no image.
-    fn refuses_one(&self, event: &Event) -> Option<u8>
+    pub(crate) fn refuses_one(&self, event: &Event) -> Option<u8>
         requires formed { is_well_formed self.now.settings event.now ≡ true }
         requires standing { IsStanding self.now }
         requires early { self.now.time ≤ LATEST_TIME }
@@ -113,19 +78,6 @@ impl State {
         }
     }
 
-    /// The number of the rule that refuses an event whose rule looks at nodes alone.
-    fn refuses_node(&self, event: &Event) -> Option<u8>
-        requires formed { is_well_formed self.now.settings event.now ≡ true }
-        requires standing { IsStanding self.now }
-        requires early { self.now.time ≤ LATEST_TIME }
-        requires nodes { is_ruled_by_nodes event.now ≡ true }
-        ensures { (d : TripleWorld)
-            → TripleFor self.now d
-            → result ≡ refusal self.now.settings self.now.timing event.now (nodes_of d) }
-    {
-        self.cluster.refusal(event, &self.timing)
-    }
-
     /// Rule 3, and then another one: the node is running.
     fn unless_off(&self, i: Rank, other: Option<u8>) -> Option<u8>
         requires { i.0 < length self.now.seats }
@@ -150,7 +102,7 @@ impl State {
     }
 
     /// Rules 3 and 4.
-    fn refuses_land(&self, i: Rank, image: u8) -> Option<u8>
+    pub(crate) fn refuses_land(&self, i: Rank, image: u8) -> Option<u8>
         requires within { i.0 < length self.now.seats }
         requires few { i.0 < 32 }
         requires image { is_image image ≡ true }
@@ -163,7 +115,7 @@ impl State {
     }
 
     /// Rules 3 and 5, of a failure.
-    fn refuses_fail(&self, i: Rank, image: u8) -> Option<u8>
+    pub(crate) fn refuses_fail(&self, i: Rank, image: u8) -> Option<u8>
         requires within { i.0 < length self.now.seats }
         requires few { i.0 < 32 }
         requires image { is_image image ≡ true }
@@ -176,7 +128,7 @@ impl State {
     }
 
     /// Rule 6: there is a leftover of that number on the image.
-    fn refuses_late(&self, i: Rank, image: u8, number: u64) -> Option<u8>
+    pub(crate) fn refuses_late(&self, i: Rank, image: u8, number: u64) -> Option<u8>
         requires image { is_image image ≡ true }
         requires number { 1 ≤ number }
         ensures { (d : TripleWorld)
@@ -187,7 +139,7 @@ impl State {
     }
 
     /// Rule 10: the message is deadly, or the mailbox of the image holds no deadly one, or the node is off.
-    fn refuses_operator(&self, i: Rank, image: u8, message: Message) -> Option<u8>
+    pub(crate) fn refuses_operator(&self, i: Rank, image: u8, message: Message) -> Option<u8>
         requires within { i.0 < length self.now.seats }
         requires few { i.0 < 32 }
         requires image { is_image image ≡ true }

@@ -1,11 +1,26 @@
 //! A world of three images and its public calls.
+ghost use Rattle.std.specs.Prelude.{◌≡◌, IfOk, replicate};
+
 use crate::state::State;
 use qn_base::{Mask, NoMemory};
-use qn_cluster::blank_report;
+use qn_cluster::{Cluster, blank_report};
+use qn_disk::{HasNodes, Leftovers, Sectors, Steps};
 use qn_model::{Refused, Report, Rule, Settings, Timing};
+use qn_parts::Part;
 use qn_safety::{TripleEvent, law_triple_no_two_holders};
 use std::alloc::Global;
 use std::marker::Model;
+
+/// A list of so many equal items.
+fn filled<T: Copy + Drop>(alloc: Global, count: usize, item: T) -> Result<Vec<T>, NoMemory>
+    ensures { IfOk result (λ v. v.items ≡ replicate count item) }
+{
+    let mut items = Vec::new(alloc);
+    match items.resize(count, item) {
+        Ok(()) => Ok(items),
+        Err(_) => Err(NoMemory),
+    }
+}
 
 /// A cluster in true time, with its nodes, the three images that they share, and the packets that were sent. It changes
 /// by events, each of which one of ten rules may refuse; `apply` takes its memory from the allocator that `new` was given.
@@ -51,7 +66,18 @@ impl TripleWorld {
         ensures timing { IfOk result (λ w. w.timing ≡ timing) }
         ensures steps { IfOk result (λ w. w.steps ≡ u64.MAX) }
     {
-        let state = State::first(alloc, settings, timing)?;
+        let cluster = Cluster::new(alloc, settings)?;
+        let parts = filled(alloc, 32, [Part::Pending; 3])?;
+        let good = filled(alloc, 32, [true; 3])?;
+        let sectors = filled(alloc, 3, Sectors::new())?;
+        let state = State {
+            cluster,
+            timing,
+            parts,
+            good,
+            sectors,
+            left: Leftovers::new(alloc),
+        };
         Ok(TripleWorld { state })
     }
 
@@ -143,9 +169,7 @@ impl TripleWorld {
         ensures timing { self.new.timing ≡ self.old.timing }
     {
         law_triple_no_two_holders();
-        into.outs.clear();
-        self.state.apply(event, &mut into.outs)?;
-        self.state.fill(event, into);
+        self.state.apply_into(event, into)?;
         Ok(())
     }
 
@@ -154,21 +178,21 @@ impl TripleWorld {
         ensures same { result.now ≡ self.now.settings }
         ensures valid { IsValid self.now.settings }
     {
-        self.state.settings()
+        self.state.cluster().settings()
     }
 
     /// The true time, in milliseconds.
     pub fn time(&self) -> u64
         ensures { result ≡ self.now.time }
     {
-        self.state.time()
+        self.state.cluster().time()
     }
 
     /// How many events can still be applied.
     pub fn steps_left(&self) -> u64
         ensures { result ≡ self.now.steps }
     {
-        self.state.steps_left()
+        self.state.cluster().steps_left()
     }
 
     /// The nodes that hold the resource: at most one.
@@ -176,6 +200,7 @@ impl TripleWorld {
         ensures exact { (d : World) → TripleFor self.now d → result ≡ holders self.now.settings (nodes_of d) }
         ensures one_holder { (i j : ℕ) → IsTrue (is_member result i) → IsTrue (is_member result j) → i ≡ j }
     {
+        law_triple_no_two_holders();
         self.state.holders()
     }
 }

@@ -1,15 +1,13 @@
 -- What a world stands for after an event that hands a node an entry.
 use Rattle.std.proofs.Common.{◌≡◌, ◌≢◌, ℕ, ◌<◌, Bool, true, false, List, [], ◌++◌, length, Some, None, refl, ◌&&◌, sym, ◌∙◌, ap, subst, take}
-use Rattle.std.specs.Prelude.{Option, Result, Ok, Err, OnOk, OnErr, OnSome, is_some, slice_set}
+use Rattle.std.specs.Prelude.{Option, is_some, slice_set}
 use Rattle.std.specs.Option.{option_map_or}
-use Rattle.std.specs.Result.{is_err}
 use Rattle.qn_base.specs.declared.ids.Rank.{Rank}
 use Rattle.qn_cluster.specs.Seats.{IsDue}
 use Rattle.qn_cluster.specs.Stepping.{Handed, Unhanded}
 use Rattle.qn_model.specs.declared.entries.What.{What}
 use Rattle.qn_model.specs.declared.events.Event.TheVariants as event
 use Rattle.qn_model.specs.declared.outputs.DiskOp.{DiskOp}
-use Rattle.qn_model.specs.declared.outputs.DiskOp.TheVariants as disk
 use Rattle.qn_model.specs.declared.outputs.Out.{Out}
 use Rattle.qn_model.specs.Fitting.{answers_op}
 use Rattle.qn_model.specs.NodeOutputs.{newest_outs}
@@ -18,12 +16,14 @@ use Rattle.qn_model.specs.World.{World, failed, given_up, leftover_at, node_at, 
 use Rattle.qn_model.specs.Rules.{is_on, may_be_done, may_fail, refusal}
 use Rattle.qn_model.specs.Steps.{answered, fails, gives_up, happens, step}
 use Rattle.qn_world.specs.Memory.{leaves_between, sends_between}
-use Rattle.qn_world.specs.Standing.{WorldFor}
-use Rattle.qn_world.specs.Stepping.{Hands, HandsNot, LeavesOver, OutOfMemory, SameFrame, Stepped}
+use Rattle.qn_disk.specs.EventLaws.{failure_answers, or_first, or_true, passed_both}
+use Rattle.qn_disk.specs.WorldStepLaws.{framed, same_frames}
+use Rattle.qn_disk.specs.WorldSteps.{OutOfMemory, SameFrame, Stepped}
+use Rattle.qn_world.specs.Standing.{WorldFor, one_image}
+use Rattle.qn_world.specs.Stepping.{Hands, HandsNot, LeavesOver}
 use Rattle.qn_world.specs.Whole.{Whole, cluster_of}
-use Rattle.qn_world.proofs.EventSteps.{IsOut, gave_up, given_up_same, leaves_more, or_first, or_true, passed_both, some_op}
-use Rattle.qn_disk.specs.ListLaws.{same_rank}
-use Rattle.qn_world.proofs.WorldSteps.{adds_others, frame_of, put_here, same_frames, with_none}
+use Rattle.qn_world.proofs.EventSteps.{IsOut, gave_up, given_up_same, leaves_more, some_op}
+use Rattle.qn_world.proofs.WorldSteps.{adds_others, put_here, with_none}
 
 -- ---- done
 
@@ -39,15 +39,15 @@ answer_due w d i entry is on took kind = is.answers i entry took on
 pub done_stepped : (w mid new : Whole) (rank : Rank) (entry : What) (outs : List Out) → rank.0 < 32
     → ((d : World) → WorldFor w d → Some entry ≡ d.took rank.0)
     → Hands w mid rank.0 entry outs → new ≡ record mid { took = slice_set mid.took rank.0 None }
-    → Stepped w new (event.Done rank) outs
+    → Stepped one_image w new (event.Done rank) outs
 unfolding step
 done_stepped w mid new rank entry outs below took made e =
     let hands = made.hands in
     let nodes : cluster_of new ≡ cluster_of mid = ap cluster_of e in
     record {
       frame =
-          same_frames w mid new (frame_of w mid made.disk hands.frame)
-          (record { settings = ap (λ w. w.settings) e; timing = ap (λ w. w.timing) e; steps = ap (λ w. w.steps) e; count = ap (λ w. length w.seats) e });
+          same_frames one_image w mid new (framed one_image w mid (ap (λ w. w.timing) made.disk) hands.frame)
+          (record { settings = ap (λ w. w.settings) e; timing = ap (λ w. w.timing) e; steps = ap (λ w. w.steps) e });
       stands = λ d is allowed.
           let on = (done_ready w d rank allowed).0 in
           subst (λ o. WorldFor new (option_map_or (λ entry. answered rank.0 entry d) o d)) (took d is)
@@ -62,7 +62,7 @@ done_stepped w mid new rank entry outs below took made e =
     }
 
 pub done_starved : (w new : Whole) (rank : Rank) (entry : What) → ((d : World) → WorldFor w d → Some entry ≡ d.took rank.0)
-    → HandsNot w new rank.0 entry → OutOfMemory w new (event.Done rank)
+    → HandsNot w new rank.0 entry → OutOfMemory one_image w new (event.Done rank)
 unfolding step
 done_starved w new rank entry took starved =
     record {
@@ -89,10 +89,10 @@ none_took w d rank took same none allowed =
     none taken.0 (same ∙ taken.1)
 
 pub not_done : (w : Whole) (rank : Rank) (took : Option What) (outs : List Out) → ((d : World) → WorldFor w d → took ≡ d.took rank.0)
-    → ((entry : What) → took ≡ Some entry → ⊥) → Stepped w w (event.Done rank) outs
+    → ((entry : What) → took ≡ Some entry → ⊥) → Stepped one_image w w (event.Done rank) outs
 not_done w rank took outs same none =
     record {
-      frame = record { settings = refl; timing = refl; steps = refl; count = refl };
+      frame = record { settings = refl; timing = refl; steps = refl };
       stands = λ d is allowed. absurd (none_took w d rank took (same d is) none allowed);
       gives = λ d is allowed. absurd (none_took w d rank took (same d is) none allowed);
       ranks = λ d is allowed. absurd (none_took w d rank took (same d is) none allowed);
@@ -105,32 +105,21 @@ fail_ready : (w : Whole) (d : World) (rank : Rank) → refusal w.settings w.timi
 unfolding refusal
 fail_ready w d rank e = passed_both (is_on w.settings rank.0 d) (may_fail w.settings rank.0 d) 5 e
 
-failure_answers : (op : DiskOp) → answers_op (Some op) (failed op) ≡ true
-unfolding failed
-failure_answers disk.ReadHeader = refl
-failure_answers (disk.ReadSlot other) = same_rank other.0
-failure_answers disk.CheckMail = refl
-failure_answers (disk.WriteClaim number) = refl
-failure_answers disk.WriteClear = refl
-failure_answers disk.ReadMail = refl
-failure_answers (disk.WriteReset other) = same_rank other.0
-failure_answers (disk.WriteClose number) = refl
-
 fail_due : (w : Whole) (d : World) (i : ℕ) (op : DiskOp) (entry : What) → entry ≡ failed op → Some op ≡ op_at w.settings i d
     → IsDue (node_at w.settings i d) entry
 fail_due w d i op entry entry_is op_is kind =
     ap (λ entry. answers_op (op_at w.settings i d) entry) entry_is ∙ (ap (λ o. answers_op o (failed op)) (sym op_is) ∙ failure_answers op)
 
-left_frame : (w left : Whole) (i : ℕ) (ops : List DiskOp) → LeavesOver w left i ops → SameFrame w left
+left_frame : (w left : Whole) (i : ℕ) (ops : List DiskOp) → LeavesOver w left i ops → SameFrame one_image w left
 left_frame w left i ops leaves =
     let e = leaves.rest in
-    record { settings = ap (λ w. w.settings) e; timing = ap (λ w. w.timing) e; steps = ap (λ w. w.steps) e; count = ap (λ w. length w.seats) e }
+    record { settings = ap (λ w. w.settings) e; timing = ap (λ w. w.timing) e; steps = ap (λ w. w.steps) e }
 
 pub fail_stepped : (w left mid new : Whole) (rank : Rank) (op : DiskOp) (took : Option What) (entry : What) (outs : List Out) → IsOut w rank.0 (Some op) took
     → entry ≡ failed op
     → LeavesOver w left rank.0 (given_up (Some op) took)
     → Hands left mid rank.0 entry outs → new ≡ record mid { took = slice_set mid.took rank.0 None }
-    → Stepped w new (event.Fail rank) outs
+    → Stepped one_image w new (event.Fail rank) outs
 unfolding step
 fail_stepped w left mid new rank op took entry outs out entry_is leaves made e =
     let i = rank.0 in
@@ -139,9 +128,9 @@ fail_stepped w left mid new rank op took entry outs out entry_is leaves made e =
     let kept = left_frame w left i (given_up (Some op) took) leaves in
     record {
       frame =
-          same_frames w left new kept
-          (same_frames left mid new (frame_of left mid made.disk made.hands.frame)
-          (record { settings = ap (λ w. w.settings) e; timing = ap (λ w. w.timing) e; steps = ap (λ w. w.steps) e; count = ap (λ w. length w.seats) e }));
+          same_frames one_image w left new kept
+          (same_frames one_image left mid new (framed one_image left mid (ap (λ w. w.timing) made.disk) made.hands.frame)
+          (record { settings = ap (λ w. w.settings) e; timing = ap (λ w. w.timing) e; steps = ap (λ w. w.steps) e }));
       stands = λ d is allowed.
           let on = (fail_ready w d rank allowed).0 in
           let op_is = out.op_is d is on in
@@ -162,7 +151,7 @@ fail_stepped w left mid new rank op took entry outs out entry_is leaves made e =
     }
 
 pub fail_starved_left : (w new : Whole) (rank : Rank) (op : DiskOp) (took : Option What) → IsOut w rank.0 (Some op) took → new ≡ w
-    → given_up (Some op) took ≢ [] → OutOfMemory w new (event.Fail rank)
+    → given_up (Some op) took ≢ [] → OutOfMemory one_image w new (event.Fail rank)
 unfolding step
 fail_starved_left w new rank op took out e some =
     record {
@@ -180,7 +169,7 @@ pub fail_starved : (w left back new : Whole) (rank : Rank) (op : DiskOp) (took :
     → LeavesOver w left rank.0 (given_up (Some op) took)
     → HandsNot left back rank.0 entry
     → new ≡ record back { left = take (length w.left) back.left }
-    → OutOfMemory w new (event.Fail rank)
+    → OutOfMemory one_image w new (event.Fail rank)
 unfolding step
 fail_starved w left back new rank op took entry out entry_is leaves starved kept =
     let hands : Unhanded (cluster_of w) (cluster_of back) rank.0 entry = subst (λ c. Unhanded c (cluster_of back) rank.0 entry) (ap cluster_of leaves.rest) starved.hands in
@@ -207,36 +196,11 @@ none_failed w d rank op op_is none allowed =
 
 pub not_failed : (w : Whole) (rank : Rank) (op : Option DiskOp) (outs : List Out)
     → ((d : World) → WorldFor w d → is_on w.settings rank.0 d ≡ true → op ≡ op_at w.settings rank.0 d)
-    → ((out : DiskOp) → op ≡ Some out → ⊥) → Stepped w w (event.Fail rank) outs
+    → ((out : DiskOp) → op ≡ Some out → ⊥) → Stepped one_image w w (event.Fail rank) outs
 not_failed w rank op outs op_is none =
     record {
-      frame = record { settings = refl; timing = refl; steps = refl; count = refl };
+      frame = record { settings = refl; timing = refl; steps = refl };
       stands = λ d is allowed. absurd (none_failed w d rank op (op_is d is) none allowed);
       gives = λ d is allowed. absurd (none_failed w d rank op (op_is d is) none allowed);
       ranks = λ d is allowed. absurd (none_failed w d rank op (op_is d is) none allowed);
     }
-
--- what a result promises on one side
-pub ok_so : {A E : Type 0} (r : Result A E) {P Q : Type 0} → (P → Q) → OnOk r P → OnOk r Q
-ok_so (Ok x) so p = so p
-ok_so (Err e) so p = p
-
-pub err_so : {A E : Type 0} (r : Result A E) {P Q : Type 0} → (P → Q) → OnErr r P → OnErr r Q
-err_so (Ok x) so p = p
-err_so (Err e) so p = so p
-
-pub err_holds : {A E : Type 0} (r : Result A E) {P : Type 0} → is_err r ≡ true → OnErr r P → P
-err_holds (Ok x) e p = absurd (cc)
-err_holds (Err x) e p = p
-
-pub ok_holds : {A E : Type 0} (r : Result A E) {P : Type 0} → is_err r ≡ false → OnOk r P → P
-ok_holds (Ok x) e p = p
-ok_holds (Err x) e p = absurd (cc)
-
-pub both_ok : {A E : Type 0} (r : Result A E) {P Q S : Type 0} → (P → Q → S) → OnOk r P → OnOk r Q → OnOk r S
-both_ok (Ok x) so p q = so p q
-both_ok (Err e) so p q = p
-
-pub some_so : {A : Type 0} (o : Option A) {P Q : Type 0} → (P → Q) → OnSome o P → OnSome o Q
-some_so None so p = p
-some_so (Some x) so p = so p

@@ -14,26 +14,18 @@ use Rattle.qn_model.specs.declared.outputs.DiskOp.{DiskOp}
 use Rattle.qn_model.specs.World.{World, given_up, is_write, put, without}
 use Rattle.qn_safety.specs.TripleRules.{is_image}
 use Rattle.qn_safety.specs.TripleWorld.{put_on}
-use Rattle.qn_world.specs.Standing.{WorldFor, on_first}
-use Rattle.qn_world.specs.Stepping.{LeavesOver, OtherDisk, SameFrame, Turns}
+use Rattle.qn_disk.specs.WorldSteps.{Turns}
+use Rattle.qn_world.specs.Standing.{WorldFor, on_first, one_image}
+use Rattle.qn_world.specs.Stepping.{LeavesOver}
 use Rattle.qn_world.specs.Whole.{Whole, cluster_of}
 use Rattle.qn_disk.specs.ListLaws.{by_image}
-
-pub turned : (w new : Whole) → OtherDisk w new → SameFrame w new
-turned w new rest =
-    record {
-      settings = ap (λ c. c.settings) rest.nodes;
-      timing = rest.timing;
-      steps = ap (λ c. c.steps) rest.nodes;
-      count = ap (λ c. length c.seats) rest.nodes;
-    }
 
 -- ---- sectors
 
 -- the sectors, as a call leaves them
 pub sectors_turned : (w new : Whole) (after : Sectors) (slots : World → ℕ → Slot) (mailboxes : World → ℕ → Message) → new ≡ record w { sectors = after }
     → ((d : World) → SectorsFor w.sectors d.slots d.mailboxes → SectorsFor after (slots d) (mailboxes d))
-    → Turns w new (λ d. record d { slots = slots d; mailboxes = mailboxes d })
+    → Turns one_image w new (λ d. record d { slots = slots d; mailboxes = mailboxes d })
 sectors_turned w new after slots mailboxes e changed =
     record {
       rest = record { nodes = ap cluster_of e; timing = ap (λ w. w.timing) e };
@@ -71,7 +63,7 @@ pub left_turned : (w new : Whole) (items : List Leftover) (change : World → �
     → new ≡ record w { left = items }
     → ((d : World) → LeftFor (length w.settings.nodes) w.left (on_first d.left) → LeftFor (length w.settings.nodes) items (change d))
     → ((d : World) (rank image : ℕ) → is_image image ≡ true → change d rank image ≡ on_first (left d) rank image)
-    → Turns w new (λ d. record d { left = left d })
+    → Turns one_image w new (λ d. record d { left = left d })
 left_turned w new items change left e changed same =
     record {
       rest = record { nodes = ap cluster_of e; timing = ap (λ w. w.timing) e };

@@ -1,9 +1,7 @@
 -- What a world stands for after an event that hands no node an entry by itself.
-use Rattle.std.proofs.Common.{◌≡◌, ◌≢◌, ℕ, ◌<◌, ◌≤◌, Bool, true, false, List, [], ◌∷◌, ◌++◌, length, Some, None, refl, if◌then◌else◌, ◌&&◌, ◌||◌, ◌⊎◌, inl, inr, sym, ◌∙◌, ap, subst, arith, length-append}
-use Rattle.std.specs.Prelude.{All, Option, is_some, slice_get, slice_set, ◌==◌, nat_lt}
-use Rattle.std.specs.Option.{option_map_or, option_or}
-use Rattle.std.proofs.lemmas.Bool.Decides.{nat_tests}
-use Rattle.std.proofs.lemmas.List.Elements.{All-nil}
+use Rattle.std.proofs.Common.{◌≡◌, ◌≢◌, ℕ, ◌<◌, ◌≤◌, Bool, true, false, List, [], ◌++◌, length, Some, None, refl, if◌then◌else◌, ◌⊎◌, inl, inr, sym, ◌∙◌, ap, subst}
+use Rattle.std.specs.Prelude.{Option, is_some, slice_get, slice_set, ◌==◌, nat_lt}
+use Rattle.std.specs.Option.{option_map_or}
 use Rattle.qn_base.specs.declared.ids.Rank.{Rank}
 use Rattle.qn_cluster.specs.Events.{CanStep, KeepsOut, Starved, Stepped as NodesStepped, is_of_nodes}
 use Rattle.qn_cluster.specs.Standing.{IsOpWithin, IsWithin}
@@ -22,33 +20,17 @@ use Rattle.qn_model.specs.Fitting.{answers_op}
 use Rattle.qn_model.specs.Moments.{Adds, Boots, Ends, packets}
 use Rattle.qn_model.specs.NodeOutputs.{newest_outs}
 use Rattle.qn_model.specs.World.{World, given_up, leftover_at, node_at, numbered, op_at, put, taken, without}
-use Rattle.qn_model.specs.Rules.{is_configured, is_on, is_well_formed, may_be_late, may_land, refusal, unless}
+use Rattle.qn_model.specs.Rules.{is_configured, is_on, is_well_formed, may_be_late, may_land, refusal}
 use Rattle.qn_model.specs.Steps.{boots, entry_of, gives_up, happens, landed, lands_late, outs_after, step, touched, with_mail, written}
-use Rattle.qn_node.specs.Outputs.{IsNodeOutput}
-use Rattle.qn_world.specs.Standing.{IsStanding, WorldFor}
-use Rattle.qn_world.specs.Stepping.{IsReady, LeavesOver, OutOfMemory, Stepped, Turns, boot_event}
+use Rattle.qn_disk.specs.EventLaws.{first_some, is_some_none, longer_back, no_outputs, or_first, or_true, passed, passed_both, passed_first, wider}
+use Rattle.qn_disk.specs.WorldStepLaws.{framed, same_frames, turned}
+use Rattle.qn_disk.specs.WorldSteps.{IsReady, OutOfMemory, Stepped, Turns, boot_event}
+use Rattle.qn_world.specs.Standing.{IsStanding, WorldFor, one_image}
+use Rattle.qn_world.specs.Stepping.{LeavesOver}
 use Rattle.qn_world.specs.Whole.{Whole, cluster_of, with_nodes}
-use Rattle.qn_world.proofs.DiskSteps.{turned}
 use Rattle.qn_disk.specs.ListLaws.{rank_cases, same_rank}
 use Rattle.qn_world.proofs.RuleSteps.{le-true, second_true}
-use Rattle.qn_world.proofs.WorldSteps.{boots_others, ends_others, frame_of, put_here, same_frames, took_put, with_kept, with_none, with_took}
-
--- ---- what the rules leave
-
-pub passed : (b : Bool) (rule : ℕ) → unless b rule ≡ None → b ≡ true
-passed true rule e = refl
-passed false rule e = absurd (cc)
-
-pub passed_both : (on test : Bool) (rule : ℕ) → option_or (unless on 3) (unless test rule) ≡ None → (on ≡ true) × (test ≡ true)
-passed_both true test rule e = (refl, passed test rule e)
-passed_both false test rule e = absurd (cc)
-
-pub passed_first : (on : Bool) (rest : Option ℕ) → option_or (unless on 3) rest ≡ None → on ≡ true
-passed_first true rest e = refl
-passed_first false rest e = absurd (cc)
-
-pub no_outputs : (s : Settings) → All (IsNodeOutput s) []
-no_outputs s = All-nil (IsNodeOutput s)
+use Rattle.qn_world.proofs.WorldSteps.{boots_others, ends_others, put_here, took_put, with_kept, with_none, with_took}
 
 -- ---- leftovers
 
@@ -79,23 +61,11 @@ crash_on : (w : Whole) (d : World) (rank : Rank) → refusal w.settings w.timing
 unfolding refusal
 crash_on w d rank e = passed_first (is_on w.settings rank.0 d) None e
 
-longer_back : {A : Type 0} (front back : List A) → back ≢ [] → nat_lt (length front) (length (front ++ back)) ≡ true
-longer_back front [] some = absurd (some refl)
-longer_back front (x ∷ back) some = let e = length-append front (x ∷ back) in grind (arith, nat_tests)
-
-pub or_first : (a b : Bool) → a ≡ true → (a || b) ≡ true
-or_first true b e = refl
-or_first false b e = absurd (cc)
-
-pub or_true : (a b : Bool) → b ≡ true → (a || b) ≡ true
-or_true true b e = refl
-or_true false b e = e
-
 pub crash_stepped : (w left mid new : Whole) (rank : Rank) (op : Option DiskOp) (took : Option What) → IsOut w rank.0 op took
     → LeavesOver w left rank.0 (given_up op took)
     → mid ≡ record left { took = slice_set left.took rank.0 None }
     → new ≡ with_nodes mid (cluster_of new) → Ended (cluster_of mid) (cluster_of new) rank.0
-    → Stepped w new (event.Crash rank) []
+    → Stepped one_image w new (event.Crash rank) []
 unfolding step
 crash_stepped w left mid new rank op took out leaves f g ends =
     let e = leaves.rest in
@@ -103,9 +73,9 @@ crash_stepped w left mid new rank op took out leaves f g ends =
     let ended : Ended (cluster_of w) (cluster_of new) rank.0 = subst (λ c. Ended c (cluster_of new) rank.0) nodes ends in
     record {
       frame =
-          same_frames w mid new
-          (record { settings = ap (λ c. c.settings) nodes; timing = ap (λ w. w.timing) f ∙ ap (λ w. w.timing) e; steps = ap (λ c. c.steps) nodes; count = ap (λ c. length c.seats) nodes })
-          (frame_of mid new g ends.frame);
+          same_frames one_image w mid new
+          (record { settings = ap (λ c. c.settings) nodes; timing = ap (λ w. w.timing) f ∙ ap (λ w. w.timing) e; steps = ap (λ c. c.steps) nodes })
+          (framed one_image mid new (ap (λ w. w.timing) g) ends.frame);
       stands = λ d is allowed.
           let on = crash_on w d rank allowed in
           let i = rank.0 in
@@ -122,7 +92,7 @@ pub leaves_more : (d after : World) (rank : Rank) (ops : List DiskOp) → ops �
 leaves_more d after rank ops some e = ap (λ left. nat_lt (length (d.left rank.0)) (length left)) e ∙ longer_back (d.left rank.0) ops some
 
 pub crash_starved : (w new : Whole) (rank : Rank) (op : Option DiskOp) (took : Option What) → IsOut w rank.0 op took → new ≡ w → given_up op took ≢ []
-    → OutOfMemory w new (event.Crash rank)
+    → OutOfMemory one_image w new (event.Crash rank)
 unfolding step
 crash_starved w new rank op took out e some =
     record {
@@ -168,14 +138,14 @@ land_answers w d i op is op_is j entry took on = land_by (rank_cases i j)
 pub land_stepped : (w mid new : Whole) (rank : Rank) (op : DiskOp) (entry : What) → rank.0 < 32
     → ((d : World) → WorldFor w d → is_on w.settings rank.0 d ≡ true → Some op ≡ op_at w.settings rank.0 d)
     → ((d : World) → WorldFor w d → entry ≡ taken w.settings w.timing rank.0 op d)
-    → Turns w mid (written rank.0 op)
+    → Turns one_image w mid (written rank.0 op)
     → new ≡ record mid { took = slice_set mid.took rank.0 (Some entry) }
-    → Stepped w new (event.Land rank) []
+    → Stepped one_image w new (event.Land rank) []
 unfolding step
 land_stepped w mid new rank op entry below out takes writes e =
-    let frame = turned w mid writes.rest in
+    let frame = turned one_image w mid writes.rest in
     record {
-      frame = same_frames w mid new frame (record { settings = ap (λ w. w.settings) e; timing = ap (λ w. w.timing) e; steps = ap (λ w. w.steps) e; count = ap (λ w. length w.seats) e });
+      frame = same_frames one_image w mid new frame (record { settings = ap (λ w. w.settings) e; timing = ap (λ w. w.timing) e; steps = ap (λ w. w.steps) e });
       stands = λ d is allowed.
           let i = rank.0 in
           let ready = land_ready w d rank allowed in
@@ -192,10 +162,6 @@ land_stepped w mid new rank op entry below out takes writes e =
       ranks = λ d is allowed. no_outputs w.settings;
     }
 
-pub first_some : (o : Option DiskOp) (rest : Bool) → (is_some o && rest) ≡ true → is_some o ≡ true
-first_some None rest e = e
-first_some (Some op) rest e = refl
-
 pub some_op : (o : Option DiskOp) → is_some o ≡ true → (op : DiskOp) × (o ≡ Some op)
 some_op None e = absurd (cc)
 some_op (Some op) e = (op, refl)
@@ -209,10 +175,10 @@ none_out w d rank op is op_is none allowed =
     none found.0 (op_is ready.0 ∙ found.1)
 
 pub not_landed : (w : Whole) (rank : Rank) (op : Option DiskOp) → ((d : World) → WorldFor w d → is_on w.settings rank.0 d ≡ true → op ≡ op_at w.settings rank.0 d)
-    → ((out : DiskOp) → op ≡ Some out → ⊥) → Stepped w w (event.Land rank) []
+    → ((out : DiskOp) → op ≡ Some out → ⊥) → Stepped one_image w w (event.Land rank) []
 not_landed w rank op op_is none =
     record {
-      frame = record { settings = refl; timing = refl; steps = refl; count = refl };
+      frame = record { settings = refl; timing = refl; steps = refl };
       stands = λ d is allowed. absurd (none_out w d rank op is (op_is d is) none allowed);
       gives = λ d is allowed. refl;
       ranks = λ d is allowed. no_outputs w.settings;
@@ -247,7 +213,7 @@ moves s t (event.Fail rank) d e = absurd (cc)
 moves s t (event.Late rank number) d e = absurd (cc)
 moves s t (event.Operator rank message) d e = absurd (cc)
 
-pub can_step : (w : Whole) (event : Event) → is_of_nodes event ≡ true → IsReady w event → CanStep (cluster_of w) event
+pub can_step : (w : Whole) (event : Event) → is_of_nodes event ≡ true → IsReady one_image w event → CanStep (cluster_of w) event
 can_step w event nodes ready =
     record {
       nodes = nodes;
@@ -261,10 +227,10 @@ can_step w event nodes ready =
     }
 
 pub nodes_stepped : (w new : Whole) (event : Event) (outs : List Out) → is_of_nodes event ≡ true → new ≡ with_nodes w (cluster_of new)
-    → NodesStepped (cluster_of w) (cluster_of new) event outs → Stepped w new event outs
+    → NodesStepped (cluster_of w) (cluster_of new) event outs → Stepped one_image w new event outs
 nodes_stepped w new event outs nodes disk made =
     record {
-      frame = frame_of w new disk made.frame;
+      frame = framed one_image w new (ap (λ w. w.timing) disk) made.frame;
       stands = λ d is allowed.
           let after = step w.settings w.timing event d in
           subst (λ after. WorldFor new after) (sym (moves w.settings w.timing event d nodes))
@@ -274,7 +240,7 @@ nodes_stepped w new event outs nodes disk made =
       ranks = λ d is allowed. made.ranks w.timing d is.cluster allowed;
     }
 
-pub nodes_starved : (w new : Whole) (event : Event) → new ≡ with_nodes w (cluster_of new) → Starved (cluster_of w) (cluster_of new) event → OutOfMemory w new event
+pub nodes_starved : (w new : Whole) (event : Event) → new ≡ with_nodes w (cluster_of new) → Starved (cluster_of w) (cluster_of new) event → OutOfMemory one_image w new event
 nodes_starved w new event disk starved =
     record {
       same = disk ∙ ap (λ c. with_nodes w c) starved.same;
@@ -305,19 +271,19 @@ boot_reports s rank base false after = refl
 boot_reports s rank base true after = refl
 
 pub boot_stepped : (w left mid new : Whole) (rank : Rank) (base : ℕ) (clean : Bool) (outs : List Out) → rank.0 < 32
-    → Turns w left (λ d. record d { left = put d.left rank.0 [] })
+    → Turns one_image w left (λ d. record d { left = put d.left rank.0 [] })
     → mid ≡ record left { took = slice_set left.took rank.0 None }
     → new ≡ with_nodes mid (cluster_of new) → Booted (cluster_of mid) (cluster_of new) rank.0 base clean outs
-    → Stepped w new (boot_event rank base clean) outs
+    → Stepped one_image w new (boot_event rank base clean) outs
 boot_stepped w left mid new rank base clean outs below drops f g booting =
     let i = rank.0 in
     let nodes : cluster_of mid ≡ cluster_of w = ap cluster_of f ∙ drops.rest.nodes in
     let booted : Booted (cluster_of w) (cluster_of new) i base clean outs = subst (λ c. Booted c (cluster_of new) i base clean outs) nodes booting in
     record {
       frame =
-          same_frames w mid new
-          (record { settings = ap (λ c. c.settings) nodes; timing = ap (λ w. w.timing) f ∙ drops.rest.timing; steps = ap (λ c. c.steps) nodes; count = ap (λ c. length c.seats) nodes })
-          (frame_of mid new g booting.frame);
+          same_frames one_image w mid new
+          (record { settings = ap (λ c. c.settings) nodes; timing = ap (λ w. w.timing) f ∙ drops.rest.timing; steps = ap (λ c. c.steps) nodes })
+          (framed one_image mid new (ap (λ w. w.timing) g) booting.frame);
       stands = λ d is allowed.
           let d1 = record d { left = put d.left i [] } in
           subst (λ after. WorldFor new after) (sym (boot_steps w.settings w.timing rank base clean d))
@@ -339,12 +305,12 @@ unfolding refusal
 late_ready w d rank number e = passed (may_be_late rank.0 number d) 6 e
 
 pub late_stepped : (w mid new : Whole) (rank : Rank) (number : ℕ) (op : DiskOp) → ((d : World) → WorldFor w d → Some op ≡ numbered (d.left rank.0) number)
-    → Turns w mid (λ d. record d { left = put d.left rank.0 (without (d.left rank.0) number) }) → Turns mid new (written rank.0 op)
-    → Stepped w new (event.Late rank number) []
+    → Turns one_image w mid (λ d. record d { left = put d.left rank.0 (without (d.left rank.0) number) }) → Turns one_image mid new (written rank.0 op)
+    → Stepped one_image w new (event.Late rank number) []
 unfolding step
 late_stepped w mid new rank number op found takes writes =
     record {
-      frame = same_frames w mid new (turned w mid takes.rest) (turned mid new writes.rest);
+      frame = same_frames one_image w mid new (turned one_image w mid takes.rest) (turned one_image mid new writes.rest);
       stands = λ d is allowed.
           subst (λ o. WorldFor new (option_map_or (λ op. lands_late rank.0 number op d) o d)) (found d is)
           (writes.stands (record d { left = put d.left rank.0 (without (d.left rank.0) number) }) (takes.stands d is));
@@ -352,47 +318,33 @@ late_stepped w mid new rank number op found takes writes =
       ranks = λ d is allowed. no_outputs w.settings;
     }
 
-is_some_none : {A : Type 0} (o : Option A) → o ≡ None → is_some o ≡ true → ⊥
-is_some_none None e some = absurd (cc)
-is_some_none (Some x) e some = absurd (cc)
-
 none_late : (w : Whole) (d : World) (rank : Rank) (number : ℕ) → None ≡ numbered (d.left rank.0) number
     → refusal w.settings w.timing (event.Late rank number) d ≡ None → ⊥
 none_late w d rank number none allowed = is_some_none (numbered (d.left rank.0) number) (sym none) (late_ready w d rank number allowed)
 
 pub not_late : (w new : Whole) (rank : Rank) (number : ℕ) → new ≡ w → ((d : World) → WorldFor w d → None ≡ numbered (d.left rank.0) number)
-    → Stepped w new (event.Late rank number) []
+    → Stepped one_image w new (event.Late rank number) []
 not_late w new rank number e none =
-    subst (λ n. Stepped w n (event.Late rank number) []) (sym e)
+    subst (λ n. Stepped one_image w n (event.Late rank number) []) (sym e)
     (record {
-      frame = record { settings = refl; timing = refl; steps = refl; count = refl };
+      frame = record { settings = refl; timing = refl; steps = refl };
       stands = λ d is allowed. absurd (none_late w d rank number (none d is) allowed);
       gives = λ d is allowed. refl;
       ranks = λ d is allowed. no_outputs w.settings;
     })
 
 -- an operator replaces what a mailbox holds
-pub operator_stepped : (w new : Whole) (rank : Rank) (value : Message) → Turns w new (with_mail rank.0 value) → Stepped w new (event.Operator rank value) []
+pub operator_stepped : (w new : Whole) (rank : Rank) (value : Message) → Turns one_image w new (with_mail rank.0 value) → Stepped one_image w new (event.Operator rank value) []
 unfolding step
 operator_stepped w new rank value puts =
     record {
-      frame = turned w new puts.rest;
+      frame = turned one_image w new puts.rest;
       stands = λ d is allowed. puts.stands d is;
       gives = λ d is allowed. refl;
       ranks = λ d is allowed. no_outputs w.settings;
     }
 
 -- ---- ranks of the other node that an operation is about
-
-wider : (count : ℕ) (op : DiskOp) → count ≤ 32 → IsWithin count op → IsWithin 32 op
-wider count disk.ReadHeader few p = tt
-wider count (disk.ReadSlot other) few p = omega arith
-wider count disk.CheckMail few p = tt
-wider count (disk.WriteClaim number) few p = tt
-wider count disk.WriteClear few p = tt
-wider count disk.ReadMail few p = tt
-wider count (disk.WriteReset other) few p = omega arith
-wider count (disk.WriteClose number) few p = tt
 
 pub op_target : (w : Whole) (op : DiskOp) → IsStanding w → IsOpWithin (length w.settings.nodes) (Some op) → IsWithin 32 op
 op_target w op standing within = wider (length w.settings.nodes) op standing.1.cluster.valid.few_nodes within

@@ -1,5 +1,5 @@
 pub mod AnswerSteps
-pub mod ApplySteps
+pub mod FirstWorld
 pub mod DiskSteps
 pub mod EventSteps
 pub mod Looks

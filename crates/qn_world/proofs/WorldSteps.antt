@@ -5,7 +5,6 @@ use Rattle.std.proofs.lemmas.Option.{slice_get_within}
 use Rattle.qn_cluster.specs.Events.{KeepsOut}
 use Rattle.qn_cluster.specs.Nodes.{Nodes}
 use Rattle.qn_cluster.specs.Standing.{ClusterFor}
-use Rattle.qn_cluster.specs.Stepping.{SameFrame as SameNodes}
 use Rattle.qn_disk.specs.Standing.{LeftFor}
 use Rattle.qn_model.specs.declared.configuration.Settings.{Settings}
 use Rattle.qn_model.specs.declared.entries.What.{What}
@@ -17,25 +16,11 @@ use Rattle.qn_model.specs.Rules.{is_on}
 use Rattle.qn_model.specs.Steps.{happens}
 use Rattle.qn_model.specs.World.{World, op_at, put}
 use Rattle.qn_world.specs.Standing.{WorldFor, on_first}
-use Rattle.qn_world.specs.Stepping.{SameFrame}
 use Rattle.qn_world.specs.Whole.{Whole, cluster_of, with_nodes}
 use Rattle.qn_disk.specs.ListLaws.{rank_cases, rank_put, same_rank}
 
 pub put_here : {A : Type 0} (f : ℕ → A) (i : ℕ) (value : A) → put f i value i ≡ value
 put_here f i value = ap (λ b. if b then value else f i) (same_rank i)
-
--- other nodes, and the disk as it was
-pub frame_of : (w new : Whole) → new ≡ with_nodes w (cluster_of new) → SameNodes (cluster_of w) (cluster_of new) → SameFrame w new
-frame_of w new disk same = record { settings = same.settings; timing = ap (λ w. w.timing) disk; steps = same.steps; count = same.count }
-
-pub same_frames : (w mid new : Whole) → SameFrame w mid → SameFrame mid new → SameFrame w new
-same_frames w mid new first second =
-    record {
-      settings = second.settings ∙ first.settings;
-      timing = second.timing ∙ first.timing;
-      steps = second.steps ∙ first.steps;
-      count = second.count ∙ first.count;
-    }
 
 -- an answer that an operation took answers it, of each running node
 abbrev pub Answers : Settings → World → (ℕ → Option What) → Type 0

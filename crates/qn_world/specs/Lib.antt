@@ -1,3 +1,4 @@
+pub mod Lawful
 pub mod Memory
 pub mod Pending
 pub mod Seen

@@ -2,14 +2,17 @@
 use Rattle.std.specs.Prelude.{◌≡◌, ◌<◌, ◌==◌, ℕ, true, List, [], Some, length, slice_get, if◌then◌else◌}
 use Rattle.qn_cluster.specs.Standing.{ClusterFor}
 use Rattle.qn_disk.specs.Standing.{LeftFor, SectorsFor}
+use Rattle.qn_disk.specs.WorldKinds.{WorldKind}
+use Rattle.qn_disk.specs.WorldSteps as worlds
 use Rattle.qn_model.specs.declared.entries.What.{What}
 use Rattle.qn_model.specs.declared.events.Event.{Event}
 use Rattle.qn_model.specs.declared.outputs.DiskOp.{DiskOp}
 use Rattle.qn_model.specs.Timing.{is_safe}
 use Rattle.qn_model.specs.Fitting.{answers_op}
-use Rattle.qn_model.specs.Rules.{is_on}
+use Rattle.qn_model.specs.Rules.{is_on, is_well_formed, refusal}
 use Rattle.qn_model.specs.World.{World, op_at}
-use Rattle.qn_model.specs.Steps.{AllAllowed, run}
+use Rattle.qn_model.specs.Steps.{AllAllowed, run, step}
+use Rattle.qn_world.specs.Memory.{needs_memory}
 use Rattle.qn_world.specs.Whole.{Whole, cluster_of}
 
 -- the leftovers of the one image, by rank, as those of image 1 of three
@@ -26,12 +29,28 @@ pub record WorldFor (w : Whole) (d : World) : Type 0 where
   pub sectors : SectorsFor w.sectors d.slots d.mailboxes
   pub lefts : LeftFor (length w.settings.nodes) w.left (on_first d.left)
 
+-- the world of one image is a kind of world
+abbrev pub one_image : WorldKind Whole World Event
+one_image =
+    record {
+      nodes = cluster_of;
+      timing = λ w. w.timing;
+      with_steps = λ w n. record w { steps = n };
+      StandsFor = WorldFor;
+      nodes_of = λ d. d;
+      as_one = λ event. event;
+      is_well_formed = is_well_formed;
+      refusal = refusal;
+      step = step;
+      needs_memory = needs_memory;
+      run = run;
+      AllAllowed = AllAllowed;
+    }
+
 -- the world stands for one of the definitions
 abbrev pub IsStanding : Whole → Type 0
-IsStanding w = (d : World) × WorldFor w d
+IsStanding = worlds.IsStanding one_image
 
 -- a list of events, each well formed and allowed in its turn, led to this world
-pub record IsReached (w : Whole) : Type 0 where
-  pub events : List Event
-  pub allowed : AllAllowed w.settings w.timing events
-  pub stands : WorldFor w (run w.settings w.timing events)
+abbrev pub IsReached : Whole → Type 0
+IsReached = worlds.IsReached one_image

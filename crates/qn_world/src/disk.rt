@@ -23,8 +23,9 @@ impl State {
     ghost use Rattle.qn_model.specs.declared.entries.What.{What};
     ghost use Rattle.qn_model.specs.Steps.{with_mail, written};
     ghost use Rattle.qn_model.specs.World.{World, given_up, numbered, put, taken, without};
-    ghost use Rattle.qn_world.specs.Standing.{WorldFor};
-    ghost use Rattle.qn_world.specs.Stepping.{LeavesOver, Turns};
+    ghost use Rattle.qn_disk.specs.WorldSteps.{Turns};
+    ghost use Rattle.qn_world.specs.Standing.{WorldFor, one_image};
+    ghost use Rattle.qn_world.specs.Stepping.{LeavesOver};
 
     /// What the operation of a rank took.
     pub(crate) fn took(&self, i: Rank) -> Option<What>
@@ -48,7 +49,8 @@ impl State {
         requires target { IsWithin 32 op }
         ensures { (d : World) → WorldFor self.now d → result ≡ taken self.now.settings self.now.timing i.0 op d }
     {
-        self.sectors.taken(self.settings(), self.timing, i, op)
+        self.sectors
+            .taken(self.cluster.settings(), self.timing, i, op)
     }
 
     /// The message in the mailbox of a rank.
@@ -62,7 +64,7 @@ impl State {
     /// A message replaces what the mailbox of a rank holds.
     pub(crate) fn set_mailbox(&mut self, i: Rank, message: Message)
         requires { i.0 < 32 }
-        ensures { Turns self.old self.new (with_mail i.0 message) }
+        ensures { Turns one_image self.old self.new (with_mail i.0 message) }
     {
         self.sectors.set_mailbox(i, message);
     }
@@ -71,7 +73,7 @@ impl State {
     pub(crate) fn write(&mut self, i: Rank, op: DiskOp)
         requires within { i.0 < 32 }
         requires target { IsWithin 32 op }
-        ensures { Turns self.old self.new (written i.0 op) }
+        ensures { Turns one_image self.old self.new (written i.0 op) }
     {
         self.sectors.write(i, op);
     }
@@ -123,7 +125,7 @@ impl State {
         requires { 1 ≤ number }
         ensures op { (d : World) → WorldFor self.old d → result ≡ numbered (d.left i.0) number }
         ensures within { (d : World) → WorldFor self.old d → IsOpWithin (length self.old.settings.nodes) result }
-        ensures rest { OnSome result (Turns self.old self.new (λ d. record d { left = put d.left i.0 (without (d.left i.0) number) })) }
+        ensures rest { OnSome result (Turns one_image self.old self.new (λ d. record d { left = put d.left i.0 (without (d.left i.0) number) })) }
         ensures none { result ≡ None → self.new ≡ self.old }
     {
         self.left.take(i, 1, number)
@@ -131,7 +133,7 @@ impl State {
 
     /// The leftovers of a rank are dropped.
     pub(crate) fn drop_left(&mut self, i: Rank)
-        ensures { Turns self.old self.new (λ d. record d { left = put d.left i.0 [] }) }
+        ensures { Turns one_image self.old self.new (λ d. record d { left = put d.left i.0 [] }) }
     {
         self.left.drop_of(i);
     }

@@ -1,6 +1,6 @@
 //! The world of a cluster: its nodes in true time, the image that they share, the packets that were sent,
 //! and the ten rules that an event has to obey. The nodes and the packets are those of `qn_cluster`, the sectors and the
-//! leftovers those of `qn_disk`.
+//! leftovers those of `qn_disk`, which also says how an event is taken: a world is one of its `Steps`.
 //!
 //! Promises: a `World` stands for a world of the definitions (`specs/Standing`). `allowed` is exactly the
 //! rules; `apply` answers the rule that refuses an event, or makes exactly the step of the definitions and
@@ -10,7 +10,6 @@
 #![tactic(auto)]
 
 mod disk;
-mod first;
 mod looking;
 mod pending;
 mod rules;

@@ -1,9 +1,8 @@
 //! What a world shows of its nodes, and the reports that it gives.
 use crate::state::State;
-use qn_base::{Mask, Rank, View};
+use qn_base::{Rank, View};
 use qn_cluster::Waiting;
-use qn_model::{Answer, Event, Phase, Report, Sent, Why};
-use qn_safety::law_no_two_holders;
+use qn_model::{Answer, Phase, Report, Sent, Why};
 
 /// What a world shows of one node. Of a node that is off, running, out, landed, stop_due and holds are
 /// false, the phase is Gone, fed is 0, decided is None, the answer is that of the empty history, and why is
@@ -42,16 +41,6 @@ impl State {
     ghost use Rattle.qn_model.specs.World.{World, node_at};
     ghost use Rattle.qn_world.specs.Seen.{seen_of};
     ghost use Rattle.qn_world.specs.Standing.{IsReached, IsStanding, WorldFor};
-
-    /// The nodes that hold the resource.
-    pub(crate) fn holders(&self) -> Mask
-        requires { IsStanding self.now }
-        ensures exact { (d : World) → WorldFor self.now d → result ≡ holders self.now.settings d }
-        ensures one { IsReached self.now → (i j : ℕ) → IsTrue (is_member result i) → IsTrue (is_member result j) → i ≡ j }
-    {
-        law_no_two_holders();
-        self.cluster.holders()
-    }
 
     /// What the node of a rank waits for.
     pub(crate) fn waiting(&self, i: Rank) -> Waiting
@@ -159,18 +148,6 @@ impl State {
             Some(sent) => Some(sent.to),
             None => None,
         }
-    }
-
-    /// Fills in what is reported of an event once its step is made, beside the outputs that it gave.
-    pub(crate) fn fill(&self, event: &Event, into: &mut Report)
-        requires formed { is_well_formed self.now.settings event.now ≡ true }
-        requires standing { IsStanding self.now }
-        ensures { (d : World)
-            → WorldFor self.now d
-            → into.old.outs ≡ outs_after self.now.settings event.now d
-            → into.new ≡ report self.now.settings event.now d }
-    {
-        self.cluster.fill(event, into);
     }
 
     /// Fills in what is reported where nothing came out of a node, or no node was touched.

@@ -6,7 +6,8 @@ use crate::pending::has_landed;
 use crate::state::State;
 use qn_base::Rank;
 use qn_cluster::unless;
-use qn_model::{DiskOp, Event, Message, Rule, What};
+use qn_disk::HasNodes;
+use qn_model::{DiskOp, Message, What};
 
 /// Whether an operator may write a message over the one that is there, to a node that runs or is off.
 fn may_operate(message: Message, there: Message, on: bool) -> bool
@@ -23,66 +24,10 @@ fn is_under_way(op: Option<DiskOp>, took: Option<What>) -> bool
 }
 
 impl State {
-    ghost use Rattle.std.specs.Prelude.{◌≡◌, ◌<◌, ◌≤◌, true, None, Some, MatchResult, length};
-    ghost use Rattle.qn_base.specs.declared.limits.TheConstants.{LATEST_TIME};
-    ghost use Rattle.qn_cluster.specs.Events.{is_ruled_by_nodes};
-    ghost use Rattle.qn_model.specs.Rules.{is_on, is_well_formed, may_be_done, may_be_late, may_fail, may_land, may_operate, refusal, unless, unless_running};
+    ghost use Rattle.std.specs.Prelude.{◌≡◌, ◌<◌, ◌≤◌, true, length};
+    ghost use Rattle.qn_model.specs.Rules.{is_on, may_be_done, may_be_late, may_fail, may_land, may_operate, unless, unless_running};
     ghost use Rattle.qn_model.specs.World.{World};
-    ghost use Rattle.qn_world.specs.Standing.{IsStanding, WorldFor};
-
-    /// Whether the event is allowed, else the rule that refuses it.
-    pub(crate) fn allowed(&self, event: &Event) -> Result<(), Rule>
-        requires formed { is_well_formed self.now.settings event.now ≡ true }
-        requires standing { IsStanding self.now }
-        requires early { self.now.time ≤ LATEST_TIME }
-        ensures { (d : World) → WorldFor self.now d → MatchResult result
-            (λ _. refusal self.now.settings self.now.timing event.now d ≡ None)
-            (λ rule. refusal self.now.settings self.now.timing event.now d ≡ Some rule.0) }
-    {
-        match self.refusal(event) {
-            None => Ok(()),
-            Some(rule) => Err(Rule(rule)),
-        }
-    }
-
-    /// The number of the rule that refuses the event.
-    fn refusal(&self, event: &Event) -> Option<u8>
-        requires formed { is_well_formed self.now.settings event.now ≡ true }
-        requires standing { IsStanding self.now }
-        requires early { self.now.time ≤ LATEST_TIME }
-        ensures { (d : World) → WorldFor self.now d → result ≡ refusal self.now.settings self.now.timing event.now d }
-    {
-        match event {
-            Event::Land(i) => self.refuses_land(*i),
-            Event::Done(i) => self.refuses_done(*i),
-            Event::Fail(i) => self.refuses_fail(*i),
-            Event::Late(i, number) => self.refuses_late(*i, *number),
-            Event::Operator(i, message) => self.refuses_operator(*i, *message),
-            Event::Pass { .. }
-            | Event::Boot(_, _)
-            | Event::BootClean(_, _)
-            | Event::Crash(_)
-            | Event::View(_, _)
-            | Event::Deliver(_, _)
-            | Event::Device(_, _)
-            | Event::Tick(_)
-            | Event::Stopped(_)
-            | Event::Unstopped(_)
-            | Event::Leave(_)
-            | Event::Feed(_) => self.refuses_node(event),
-        }
-    }
-
-    /// The number of the rule that refuses an event whose rule looks at nodes alone.
-    fn refuses_node(&self, event: &Event) -> Option<u8>
-        requires formed { is_well_formed self.now.settings event.now ≡ true }
-        requires standing { IsStanding self.now }
-        requires early { self.now.time ≤ LATEST_TIME }
-        requires nodes { is_ruled_by_nodes event.now ≡ true }
-        ensures { (d : World) → WorldFor self.now d → result ≡ refusal self.now.settings self.now.timing event.now d }
-    {
-        self.cluster.refusal(event, &self.timing)
-    }
+    ghost use Rattle.qn_world.specs.Standing.{WorldFor};
 
     /// Whether the operation of a running node is out and has not landed.
     fn may_land(&self, i: Rank) -> bool
@@ -107,7 +52,7 @@ impl State {
     }
 
     /// Rules 3 and 4.
-    fn refuses_land(&self, i: Rank) -> Option<u8>
+    pub(crate) fn refuses_land(&self, i: Rank) -> Option<u8>
         requires within { i.0 < length self.now.seats }
         requires few { i.0 < 32 }
         ensures { (d : World) → WorldFor self.now d → result ≡ unless_running self.now.settings i.0 d (unless (may_land self.now.settings i.0 d) 4) }
@@ -116,7 +61,7 @@ impl State {
     }
 
     /// Rules 3 and 5, of an answer.
-    fn refuses_done(&self, i: Rank) -> Option<u8>
+    pub(crate) fn refuses_done(&self, i: Rank) -> Option<u8>
         requires within { i.0 < length self.now.seats }
         requires few { i.0 < 32 }
         ensures { (d : World) → WorldFor self.now d → result ≡ unless_running self.now.settings i.0 d (unless (may_be_done self.now.settings i.0 d) 5) }
@@ -126,7 +71,7 @@ impl State {
     }
 
     /// Rules 3 and 5, of a failure.
-    fn refuses_fail(&self, i: Rank) -> Option<u8>
+    pub(crate) fn refuses_fail(&self, i: Rank) -> Option<u8>
         requires { i.0 < length self.now.seats }
         ensures { (d : World) → WorldFor self.now d → result ≡ unless_running self.now.settings i.0 d (unless (may_fail self.now.settings i.0 d) 5) }
     {
@@ -135,7 +80,7 @@ impl State {
     }
 
     /// Rule 6: there is a leftover of that number.
-    fn refuses_late(&self, i: Rank, number: u64) -> Option<u8>
+    pub(crate) fn refuses_late(&self, i: Rank, number: u64) -> Option<u8>
         requires { 1 ≤ number }
         ensures { (d : World) → WorldFor self.now d → result ≡ unless (may_be_late i.0 number d) 6 }
     {
@@ -143,7 +88,7 @@ impl State {
     }
 
     /// Rule 10: the message is deadly, or the mailbox holds no deadly one, or the node is off.
-    fn refuses_operator(&self, i: Rank, message: Message) -> Option<u8>
+    pub(crate) fn refuses_operator(&self, i: Rank, message: Message) -> Option<u8>
         requires within { i.0 < length self.now.seats }
         requires few { i.0 < 32 }
         ensures { (d : World) → WorldFor self.now d → result ≡ unless (may_operate self.now.settings i.0 message d) 10 }

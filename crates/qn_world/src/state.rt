@@ -1,8 +1,8 @@
-//! What a world keeps, and the calls that concern its nodes alone.
+//! What a world keeps.
 use qn_base::{NoMemory, Rank};
 use qn_cluster::Cluster;
-use qn_disk::{Leftovers, Sectors};
-use qn_model::{DiskOp, Outs, Settings, Timing, What};
+use qn_disk::{HasNodes, Leftovers, Sectors};
+use qn_model::{Event, Outs, Timing, What};
 use std::marker::Model;
 
 /// What a world keeps: its nodes, what the operation of each took, and the image that they share.
@@ -33,64 +33,41 @@ impl Model for State {
     } };
 }
 
-impl State {
-    ghost use Rattle.std.specs.Prelude.{◌≡◌, ◌<◌, ◌+◌, ◌-◌, ◌≤◌, [], true, OnOk, OnErr, length};
-    ghost use Rattle.qn_cluster.specs.Standing.{HasRoom, IsOpWithin};
-    ghost use Rattle.qn_cluster.specs.Stepping.{Booted, Ended};
-    ghost use Rattle.qn_model.specs.Rules.{is_on};
-    ghost use Rattle.qn_model.specs.World.{World, op_at};
-    ghost use Rattle.qn_world.specs.Standing.{IsStanding, WorldFor};
-    ghost use Rattle.qn_world.specs.Stepping.{Hands, HandsNot};
-    ghost use Rattle.qn_world.specs.Whole.{cluster_of, with_nodes};
+impl HasNodes for State {
+    ghost use Rattle.qn_model.specs.World.{World};
+    ghost use Rattle.qn_world.specs.Lawful.{one_image_is_lawful};
+    ghost use Rattle.qn_world.specs.Standing.{one_image};
 
-    /// The settings of the world.
-    pub(crate) fn settings(&self) -> &Settings
-        ensures { result.now ≡ self.now.settings }
-    {
-        self.cluster.settings()
+    type Event = Event;
+
+    ghost World = { World };
+
+    ghost kind = { one_image };
+
+    ghost is_lawful = { one_image_is_lawful };
+
+    fn cluster(&self) -> &Cluster {
+        &self.cluster
     }
 
-    /// The true time, in milliseconds.
-    pub(crate) fn time(&self) -> u64
-        ensures { result ≡ self.now.time }
-    {
-        self.cluster.time()
+    fn timing(&self) -> &Timing {
+        &self.timing
     }
 
-    /// How many steps are left.
-    pub(crate) fn steps_left(&self) -> u64
-        ensures { result ≡ self.now.steps }
-    {
-        self.cluster.steps_left()
-    }
-
-    /// One step is taken from those that are left.
-    pub(crate) fn spend(&mut self)
-        requires { 0 < self.old.steps }
-        ensures spent { self.new ≡ record self.old { steps = self.old.steps - 1 } }
-        ensures few { self.new.steps < 18446744073709551615 }
-        ensures stands { (d : World) → WorldFor self.old d → WorldFor self.new d }
-        ensures room { IsStanding self.old → HasRoom (cluster_of self.new) }
-    {
+    fn spend(&mut self) {
         self.cluster.spend();
     }
 
-    /// One step is given back.
-    pub(crate) fn give_back(&mut self)
-        requires { self.old.steps < 18446744073709551615 }
-        ensures { self.new ≡ record self.old { steps = self.old.steps + 1 } }
-    {
+    fn give_back(&mut self) {
         self.cluster.give_back();
     }
+}
 
-    /// The disk operation of a running node that is out.
-    pub(crate) fn op(&self, i: Rank) -> Option<DiskOp>
-        requires { i.0 < length self.now.seats }
-        ensures exact { (d : World) → WorldFor self.now d → is_on self.now.settings i.0 d ≡ true → result ≡ op_at self.now.settings i.0 d }
-        ensures within { (d : World) → WorldFor self.now d → IsOpWithin (length self.now.settings.nodes) result }
-    {
-        self.cluster.op(i)
-    }
+impl State {
+    ghost use Rattle.std.specs.Prelude.{◌<◌, OnOk, OnErr, length};
+    ghost use Rattle.qn_cluster.specs.Standing.{HasRoom};
+    ghost use Rattle.qn_world.specs.Stepping.{Hands, HandsNot};
+    ghost use Rattle.qn_world.specs.Whole.{cluster_of};
 
     /// The running node of a rank is handed an entry.
     pub(crate) fn hand(&mut self, i: Rank, what: What, outs: &mut Outs) -> Result<(), NoMemory>
@@ -100,26 +77,5 @@ impl State {
         ensures err { OnErr result (HandsNot self.old self.new i.0 what) }
     {
         self.cluster.hand(i, what, outs)
-    }
-
-    /// The node of a rank boots, as a clean start or not.
-    pub(crate) fn boot_node(&mut self, i: Rank, base: u64, clean: bool, outs: &mut Outs)
-        requires within { i.0 < length self.old.seats }
-        requires configured { i.0 < length self.old.settings.nodes }
-        requires few { self.old.steps < 18446744073709551615 }
-        requires early { base ≤ 1000000000000000 }
-        ensures disk { self.new ≡ with_nodes self.old (cluster_of self.new) }
-        ensures boots { Booted (cluster_of self.old) (cluster_of self.new) i.0 base clean outs.new }
-    {
-        self.cluster.boot(i, base, clean, outs);
-    }
-
-    /// The node of a rank is off at once.
-    pub(crate) fn end_node(&mut self, i: Rank)
-        requires { i.0 < length self.old.seats }
-        ensures disk { self.new ≡ with_nodes self.old (cluster_of self.new) }
-        ensures ends { Ended (cluster_of self.old) (cluster_of self.new) i.0 }
-    {
-        self.cluster.end(i);
     }
 }

@@ -4,7 +4,8 @@ ghost use Rattle.qn_model.specs.World.{failed};
 
 use crate::state::State;
 use qn_base::{NoMemory, Rank};
-use qn_model::{DiskOp, Event, HeaderSeen, MailSeen, Message, Outs, Refused, SlotSeen, What};
+use qn_disk::{HasNodes, Steps};
+use qn_model::{DiskOp, Event, HeaderSeen, MailSeen, Message, Outs, Report, SlotSeen, What};
 
 /// The entry of an operation that failed.
 #[tactic(auto, unfolding(qn_model::specs::World::failed))]
@@ -23,42 +24,30 @@ fn failed(op: DiskOp) -> What
     }
 }
 
-impl State {
-    ghost use Rattle.std.specs.Prelude.{◌≡◌, ◌≤◌, ◌<◌, [], true, IfErr, OnOk, OnErr, length};
-    ghost use Rattle.qn_base.specs.declared.limits.TheConstants.{LATEST_TIME};
-    ghost use Rattle.qn_cluster.specs.Events.{is_of_nodes};
-    ghost use Rattle.qn_world.specs.Stepping.{Applied, IsReady, OutOfMemory, Refuses, Stepped, boot_event};
-    ghost use Rattle.qn_model.specs.Rules.{is_well_formed};
-    ghost use Rattle.qn_world.specs.Standing.{IsStanding};
-
-    /// The step of an event, if the event is allowed and there is memory for it.
-    pub(crate) fn apply(&mut self, event: &Event, outs: &mut Outs) -> Result<(), Refused>
-        requires formed { is_well_formed self.old.settings event.now ≡ true }
-        requires standing { IsStanding self.old }
-        requires early { self.old.time ≤ LATEST_TIME }
-        requires room { 0 < self.old.steps }
-        requires none { outs.old ≡ [] }
-        ensures ok { OnOk result (Applied self.old self.new event.now outs.new) }
-        ensures err { IfErr result (λ answer. Refuses self.old self.new event.now answer) }
-    {
-        if let Err(rule) = self.allowed(event) {
-            return Err(Refused::NotAllowed(rule));
+impl Steps for State {
+    fn refusal(&self, event: &Event) -> Option<u8> {
+        match event {
+            Event::Land(i) => self.refuses_land(*i),
+            Event::Done(i) => self.refuses_done(*i),
+            Event::Fail(i) => self.refuses_fail(*i),
+            Event::Late(i, number) => self.refuses_late(*i, *number),
+            Event::Operator(i, message) => self.refuses_operator(*i, *message),
+            Event::Pass { .. }
+            | Event::Boot(_, _)
+            | Event::BootClean(_, _)
+            | Event::Crash(_)
+            | Event::View(_, _)
+            | Event::Deliver(_, _)
+            | Event::Device(_, _)
+            | Event::Tick(_)
+            | Event::Stopped(_)
+            | Event::Unstopped(_)
+            | Event::Leave(_)
+            | Event::Feed(_) => self.refuses_node(event),
         }
-        self.spend();
-        if self.step(event, outs).is_err() {
-            self.give_back();
-            return Err(Refused::NoMemory);
-        }
-        Ok(())
     }
 
-    /// The world makes the step of an event that is allowed; or it finds no memory, and is as it was.
-    pub(crate) fn step(&mut self, event: &Event, outs: &mut Outs) -> Result<(), NoMemory>
-        requires ready { IsReady self.old event.now }
-        requires none { outs.old ≡ [] }
-        ensures ok { OnOk result (Stepped self.old self.new event.now outs.new) }
-        ensures err { OnErr result (OutOfMemory self.old self.new event.now) }
-    {
+    fn step(&mut self, event: &Event, outs: &mut Outs) -> Result<(), NoMemory> {
         match event {
             Event::Boot(i, base) => {
                 self.boot(*i, *base, false, outs);
@@ -95,45 +84,56 @@ impl State {
         }
     }
 
+    fn fill(&self, event: &Event, into: &mut Report) {
+        self.cluster.fill(event, into);
+    }
+}
+
+impl State {
+    ghost use Rattle.std.specs.Prelude.{◌≡◌, [], true, OnOk, OnErr};
+    ghost use Rattle.qn_cluster.specs.Events.{is_of_nodes};
+    ghost use Rattle.qn_disk.specs.WorldSteps.{IsReady, OutOfMemory, Stepped, boot_event};
+    ghost use Rattle.qn_world.specs.Standing.{one_image};
+
     /// The nodes make the step of an event that changes them alone.
     fn step_nodes(&mut self, event: &Event, outs: &mut Outs) -> Result<(), NoMemory>
-        requires ready { IsReady self.old event.now }
+        requires ready { IsReady one_image self.old event.now }
         requires nodes { is_of_nodes event.now ≡ true }
         requires none { outs.old ≡ [] }
-        ensures ok { OnOk result (Stepped self.old self.new event.now outs.new) }
-        ensures err { OnErr result (OutOfMemory self.old self.new event.now) }
+        ensures ok { OnOk result (Stepped one_image self.old self.new event.now outs.new) }
+        ensures err { OnErr result (OutOfMemory one_image self.old self.new event.now) }
     {
         self.cluster.step(event, outs)
     }
 
     /// A node boots, as a clean start or not; its leftovers are dropped.
     fn boot(&mut self, i: Rank, base: u64, clean: bool, outs: &mut Outs)
-        requires { IsReady self.old (boot_event i base clean) }
-        ensures { Stepped self.old self.new (boot_event i base clean) outs.new }
+        requires { IsReady one_image self.old (boot_event i base clean) }
+        ensures { Stepped one_image self.old self.new (boot_event i base clean) outs.new }
     {
         self.drop_left(i);
         self.take(i, None);
-        self.boot_node(i, base, clean, outs);
+        self.cluster.boot(i, base, clean, outs);
     }
 
     /// A node is off at once.
     fn crash(&mut self, i: Rank) -> Result<(), NoMemory>
-        requires { IsReady self.old (Event.Crash i) }
-        ensures ok { OnOk result (Stepped self.old self.new (Event.Crash i) []) }
-        ensures err { OnErr result (OutOfMemory self.old self.new (Event.Crash i)) }
+        requires { IsReady one_image self.old (Event.Crash i) }
+        ensures ok { OnOk result (Stepped one_image self.old self.new (Event.Crash i) []) }
+        ensures err { OnErr result (OutOfMemory one_image self.old self.new (Event.Crash i)) }
     {
         let op = self.op(i);
         let took = self.took(i);
         self.give_up(i, op, took)?;
         self.take(i, None);
-        self.end_node(i);
+        self.cluster.end(i);
         Ok(())
     }
 
     /// The operation of a node lands.
     fn land(&mut self, i: Rank)
-        requires { IsReady self.old (Event.Land i) }
-        ensures { Stepped self.old self.new (Event.Land i) [] }
+        requires { IsReady one_image self.old (Event.Land i) }
+        ensures { Stepped one_image self.old self.new (Event.Land i) [] }
     {
         if let Some(op) = self.op(i) {
             let entry = self.taken(i, op);
@@ -144,9 +144,9 @@ impl State {
 
     /// The operation of a node, which landed, is answered.
     fn done(&mut self, i: Rank, outs: &mut Outs) -> Result<(), NoMemory>
-        requires { IsReady self.old (Event.Done i) }
-        ensures ok { OnOk result (Stepped self.old self.new (Event.Done i) outs.new) }
-        ensures err { OnErr result (OutOfMemory self.old self.new (Event.Done i)) }
+        requires { IsReady one_image self.old (Event.Done i) }
+        ensures ok { OnOk result (Stepped one_image self.old self.new (Event.Done i) outs.new) }
+        ensures err { OnErr result (OutOfMemory one_image self.old self.new (Event.Done i)) }
     {
         if let Some(entry) = self.took(i) {
             self.hand(i, entry, outs)?;
@@ -157,9 +157,9 @@ impl State {
 
     /// The operation of a node fails; a write that did not land is left over.
     fn fail(&mut self, i: Rank, outs: &mut Outs) -> Result<(), NoMemory>
-        requires { IsReady self.old (Event.Fail i) }
-        ensures ok { OnOk result (Stepped self.old self.new (Event.Fail i) outs.new) }
-        ensures err { OnErr result (OutOfMemory self.old self.new (Event.Fail i)) }
+        requires { IsReady one_image self.old (Event.Fail i) }
+        ensures ok { OnOk result (Stepped one_image self.old self.new (Event.Fail i) outs.new) }
+        ensures err { OnErr result (OutOfMemory one_image self.old self.new (Event.Fail i)) }
     {
         if let Some(op) = self.op(i) {
             let took = self.took(i);
@@ -176,8 +176,8 @@ impl State {
 
     /// A leftover of a node lands.
     fn late(&mut self, i: Rank, number: u64)
-        requires { IsReady self.old (Event.Late i number) }
-        ensures { Stepped self.old self.new (Event.Late i number) [] }
+        requires { IsReady one_image self.old (Event.Late i number) }
+        ensures { Stepped one_image self.old self.new (Event.Late i number) [] }
     {
         if let Some(op) = self.take_left(i, number) {
             self.write(i, op);
@@ -186,8 +186,8 @@ impl State {
 
     /// An operator writes a message to the mailbox of a node.
     fn operate(&mut self, i: Rank, message: Message)
-        requires { IsReady self.old (Event.Operator i message) }
-        ensures { Stepped self.old self.new (Event.Operator i message) [] }
+        requires { IsReady one_image self.old (Event.Operator i message) }
+        ensures { Stepped one_image self.old self.new (Event.Operator i message) [] }
     {
         self.set_mailbox(i, message);
     }

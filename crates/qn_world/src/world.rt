@@ -4,6 +4,7 @@ use crate::pending::Pending;
 use crate::state::State;
 use qn_base::{Mask, NoMemory, Rank, View};
 use qn_cluster::blank_report;
+use qn_disk::{HasNodes, Leftovers, Sectors, Steps};
 use qn_model::{Event, Refused, Report, Rule, Settings, Timing};
 use qn_safety::law_no_two_holders;
 use std::alloc::Global;
@@ -57,7 +58,14 @@ impl World {
         ensures timing { IfOk result (λ w. w.timing ≡ timing) }
         ensures steps { IfOk result (λ w. w.steps ≡ u64.MAX) }
     {
-        let state = State::first(alloc, settings, timing)?;
+        let cluster = qn_cluster::Cluster::new(alloc, settings)?;
+        let state = State {
+            cluster,
+            timing,
+            took: [None; 32],
+            sectors: Sectors::new(),
+            left: Leftovers::new(alloc),
+        };
         Ok(World { state })
     }
 
@@ -136,9 +144,7 @@ impl World {
         ensures timing { self.new.timing ≡ self.old.timing }
     {
         law_no_two_holders();
-        into.outs.clear();
-        self.state.apply(event, &mut into.outs)?;
-        self.state.fill(event, into);
+        self.state.apply_into(event, into)?;
         Ok(())
     }
 
@@ -147,21 +153,21 @@ impl World {
         ensures same { result.now ≡ self.now.settings }
         ensures valid { IsValid self.now.settings }
     {
-        self.state.settings()
+        self.state.cluster().settings()
     }
 
     /// The true time, in milliseconds.
     pub fn time(&self) -> u64
         ensures { result ≡ self.now.time }
     {
-        self.state.time()
+        self.state.cluster().time()
     }
 
     /// How many events can still be applied.
     pub fn steps_left(&self) -> u64
         ensures { result ≡ self.now.steps }
     {
-        self.state.steps_left()
+        self.state.cluster().steps_left()
     }
 
     /// How many packets were ever sent.
@@ -215,6 +221,7 @@ impl World {
         ensures exact { (d : Cluster) → WorldFor self.now d → result ≡ holders self.now.settings d }
         ensures one_holder { (i j : ℕ) → IsTrue (is_member result i) → IsTrue (is_member result j) → i ≡ j }
     {
+        law_no_two_holders();
         self.state.holders()
     }
 

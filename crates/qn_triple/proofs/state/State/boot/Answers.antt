@@ -1,5 +1,7 @@
-use Rattle.std.proofs.Common.{◌<◌, ◌∙◌, length, subst, sym}
+use Rattle.std.proofs.Common.{◌<◌, ◌∙◌, ap, length, subst, sym}
 use Rattle.qn_cluster.specs.Nodes.{Nodes}
+use Rattle.qn_cluster.specs.Stepping.{Booted}
+use Rattle.qn_triple.specs.Whole.{cluster_of, with_nodes}
 use Rattle.qn_triple.proofs.EventSteps.{boot_stepped}
 use Rattle.qn_triple.proofs.RuleSteps.{boot_base, boot_rank, few, lt-true, within}
 use Rattle.qn_triple.proofs.state.State.boot.Goals as goal
@@ -10,9 +12,9 @@ forget_parts-requires c = few c.args.self.now c.args.i.0 c.requires.standing (bo
 pub trust_all-requires : goal.trust_all-requires
 trust_all-requires c = few c.args.self.now c.args.i.0 c.requires.standing (boot_rank c.args.self.now.settings c.args.i c.args.base c.args.clean c.requires.formed)
 
-pub boot_node-requires : goal.boot_node-requires
-boot_node-requires c =
-    let nodes = c.trust_all.ensures.rest.nodes ∙ (c.forget_parts.ensures.rest.nodes ∙ c.drop_left.ensures.rest.nodes) in
+pub boot-requires : goal.boot-requires
+boot-requires c =
+    let nodes = ap cluster_of c.self.view_is ∙ (c.trust_all.ensures.rest.nodes ∙ (c.forget_parts.ensures.rest.nodes ∙ c.drop_left.ensures.rest.nodes)) in
     let one = boot_rank c.args.self.now.settings c.args.i c.args.base c.args.clean c.requires.formed in
     record {
       within = subst (λ (n : Nodes). c.args.i.0 < length n.seats) (sym nodes) (within c.args.self.now c.args.i.0 c.requires.standing one);
@@ -23,5 +25,6 @@ boot_node-requires c =
 
 pub returns : goal.returns
 returns c =
-    boot_stepped c.args.self.now c.drop_left.new.self c.forget_parts.new.self c.trust_all.new.self c.boot_node.new.self c.args.i c.args.base c.args.clean c.boot_node.new.outs
-    c.drop_left.ensures c.forget_parts.ensures c.trust_all.ensures c.boot_node.ensures.disk c.boot_node.ensures.boots
+    boot_stepped c.args.self.now c.drop_left.new.self c.forget_parts.new.self c.trust_all.new.self _ c.args.i c.args.base c.args.clean c.boot.new.outs
+    c.drop_left.ensures c.forget_parts.ensures c.trust_all.ensures (ap (λ w. with_nodes w c.boot.new.self) c.self.view_is)
+    (subst (λ n. Booted n c.boot.new.self c.args.i.0 c.args.base c.args.clean c.boot.new.outs) (ap cluster_of c.self.view_is) c.boot.ensures)

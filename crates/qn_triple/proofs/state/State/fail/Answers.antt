@@ -5,7 +5,8 @@ use Rattle.qn_model.specs.World.{is_write}
 use Rattle.qn_disk.specs.Standing.{is_marked, left_over}
 use Rattle.qn_safety.specs.TripleRules.{is_image}
 use Rattle.qn_safety.specs.TripleWorld.{is_pending}
-use Rattle.qn_triple.specs.Stepping.{Turns}
+use Rattle.qn_disk.specs.WorldSteps.{Turns}
+use Rattle.qn_triple.specs.Standing.{three_images}
 use Rattle.qn_triple.proofs.EventSteps.{fail_starved, fail_stepped, not_failed}
 use Rattle.qn_triple.proofs.RuleSteps.{fail_image, fail_rank, few, within}
 use Rattle.qn_triple.proofs.state.State.fail.Goals as goal
@@ -44,7 +45,7 @@ returns-in_ok-leave_over-clause-ok c =
     fail_stepped c.args.self.now c.leave_over.new.self c.set_part.new.self c.args.i c.args.image c.in-Some.op c.is_left_over-left.result
     (λ d is on. sym c.in-Some.is ∙ c.op.ensures.exact d is on)
     (λ d is. c.is_left_over-left.ensures ∙ ap (λ part. is_write c.in-Some.op && is_pending part) (c.part.ensures d is))
-    (subst (λ on. Turns c.args.self.now c.leave_over.new.self (λ d. record d { left = left_over d.left c.args.i.0 c.in-Some.op on })) c.only_on.ensures c.in_ok-leave_over.ensures.ok)
+    (subst (λ on. Turns three_images c.args.self.now c.leave_over.new.self (λ d. record d { left = left_over d.left c.args.i.0 c.in-Some.op on })) c.only_on.ensures c.in_ok-leave_over.ensures.ok)
     c.set_part.ensures
 
 pub returns-in_default-clause-ok : goal.returns-in_default-clause-ok

@@ -1,31 +1,26 @@
-use Rattle.std.proofs.Common.{◌≡◌, subst, sym, true, ◌∷◌}
-use Rattle.std.specs.Prelude.{All, IsTrue}
-use Rattle.qn_base.specs.Members.{is_member}
+use Rattle.std.proofs.Common.{◌≡◌, subst, sym, true}
+use Rattle.qn_disk.specs.WorldStepLaws.{one_holder, reached_more}
 use Rattle.qn_safety.specs.TripleRules.{is_well_formed_triple}
-use Rattle.qn_node.specs.Outputs.{IsNodeOutput}
-use Rattle.qn_triple.proofs.ApplySteps.{allowed_more, holders_at_report, outs_at_report, reached_more, report_at}
+use Rattle.qn_safety.specs.TripleSteps.{report_triple, step_triple}
+use Rattle.qn_safety.specs.TripleWorld.{TripleWorld}
+use Rattle.qn_triple.specs.Lawful.{three_images_are_lawful}
+use Rattle.qn_triple.specs.Standing.{TripleFor, three_images}
+use Rattle.qn_triple.specs.Whole.{Whole}
 use Rattle.qn_triple.proofs.world.TripleWorld.apply_into.Goals as goal
 
 pub invariant_of-self-2 : goal.invariant_of-self-2
 invariant_of-self-2 c =
-    reached_more c.self.inside.state c.apply.new.self c.args.event.now c.apply.new.outs c.self.invariant
-    (subst (λ w. is_well_formed_triple w.settings c.args.event.now ≡ true) (sym c.self.view_is) c.requires.formed) c.in_ok-apply.ensures.ok
-
-pub returns-clause-outs : goal.returns-clause-outs
-returns-clause-outs c =
-    let w = c.self.inside.state in
-    let made = c.in_ok-apply.ensures.ok in
-    subst (λ w. All (IsNodeOutput w.settings) c.fill.new.into.outs) c.self.view_is
-    (outs_at_report w c.apply.new.self c.args.event.now c.apply.new.outs c.fill.new.into c.self.invariant made
-    (report_at w c.apply.new.self c.args.event.now c.apply.new.outs c.fill.new.into c.self.invariant made c.fill.ensures))
+    reached_more three_images three_images_are_lawful c.self.inside.state c.apply_into.new.self c.args.event.now c.apply_into.new.into c.self.invariant
+    (subst (λ w. is_well_formed_triple w.settings c.args.event.now ≡ true) (sym c.self.view_is) c.requires.formed) c.in_ok-apply_into.ensures.ok
 
 pub returns-clause-one_holder : goal.returns-clause-one_holder
-returns-clause-one_holder c = λ i j first second.
-    let w = c.self.inside.state in
-    let made = c.in_ok-apply.ensures.ok in
-    let formed = subst (λ w. is_well_formed_triple w.settings c.args.event.now ≡ true) (sym c.self.view_is) c.requires.formed in
-    let same = holders_at_report w c.args.event.now c.fill.new.into c.self.invariant
-    (report_at w c.apply.new.self c.args.event.now c.apply.new.outs c.fill.new.into c.self.invariant made c.fill.ensures) in
-    c.law_triple_no_two_holders.ensures.reported w.settings w.timing (c.args.event.now ∷ c.self.invariant.events) i j c.self.invariant.stands.safe
-    (allowed_more w c.apply.new.self c.args.event.now c.apply.new.outs c.self.invariant formed made)
-    (subst (λ mask. IsTrue (is_member mask i)) same first) (subst (λ mask. IsTrue (is_member mask j)) same second)
+returns-clause-one_holder c =
+    one_holder three_images three_images_are_lawful c.self.inside.state c.apply_into.new.self c.args.event.now c.apply_into.new.into c.self.invariant
+    (subst (λ w. is_well_formed_triple w.settings c.args.event.now ≡ true) (sym c.self.view_is) c.requires.formed) c.in_ok-apply_into.ensures.ok
+    c.law_triple_no_two_holders.ensures.reported
+
+pub returns-clause-report : goal.returns-clause-report
+unfolding report_triple
+returns-clause-report c =
+    subst (λ (w : Whole). (d : TripleWorld) → TripleFor w d → c.apply_into.new.into ≡ report_triple w.settings c.args.event.now (step_triple w.settings w.timing c.args.event.now d))
+    c.self.view_is c.in_ok-apply_into.ensures.ok.reports

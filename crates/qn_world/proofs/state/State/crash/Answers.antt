@@ -1,6 +1,9 @@
-use Rattle.std.proofs.Common.{◌<◌, length, refl, subst, sym}
+use Rattle.std.proofs.Common.{◌<◌, ◌∙◌, ap, length, refl, subst, sym}
+use Rattle.qn_cluster.specs.Nodes.{Nodes}
+use Rattle.qn_cluster.specs.Stepping.{Ended}
 use Rattle.qn_model.specs.declared.events.Event.TheVariants as event
 use Rattle.std.proofs.lemmas.Result.{err_from_is_err_and}
+use Rattle.qn_world.specs.Whole.{cluster_of, with_nodes}
 use Rattle.qn_world.proofs.EventSteps.{IsOut, crash_starved, crash_stepped, took_same}
 use Rattle.qn_world.proofs.RuleSteps.{rank_few, rank_within}
 use Rattle.qn_world.proofs.state.State.crash.Goals as goal
@@ -17,11 +20,11 @@ give_up-requires c = c.op-op.ensures.within
 pub take-requires : goal.take-requires
 take-requires c = rank_few c.args.self.now (event.Crash c.args.i) c.args.i c.requires.standing c.requires.formed refl
 
-pub end_node-requires : goal.end_node-requires
-end_node-requires c =
-    subst (λ w. c.args.i.0 < length w.seats) (sym c.take.ensures)
-    (subst (λ w. c.args.i.0 < length w.seats) (sym c.in_ok-give_up.ensures.ok.rest)
-    (rank_within c.args.self.now (event.Crash c.args.i) c.args.i c.requires.standing c.requires.formed refl))
+pub end-requires : goal.end-requires
+end-requires c =
+    subst (λ (n : Nodes). c.args.i.0 < length n.seats)
+    (sym (ap cluster_of c.self.view_is ∙ (ap cluster_of c.take.ensures ∙ ap cluster_of c.in_ok-give_up.ensures.ok.rest)))
+    (rank_within c.args.self.now (event.Crash c.args.i) c.args.i c.requires.standing c.requires.formed refl)
 
 pub returns-in_err-give_up-clause-err : goal.returns-in_err-give_up-clause-err
 returns-in_err-give_up-clause-err c =
@@ -41,5 +44,5 @@ returns-clause-ok c =
       op_is = c.op-op.ensures.exact;
       took_is = took_same c.args.self.now c.args.i.0 c.took-took.result (rank_few c.args.self.now (event.Crash c.args.i) c.args.i c.requires.standing c.requires.formed refl) c.took-took.ensures;
     } in
-    crash_stepped c.args.self.now c.give_up.new.self c.take.new.self c.end_node.new.self c.args.i c.op-op.result c.took-took.result out c.in_ok-give_up.ensures.ok
-    c.take.ensures c.end_node.ensures.disk c.end_node.ensures.ends
+    crash_stepped c.args.self.now c.give_up.new.self c.take.new.self _ c.args.i c.op-op.result c.took-took.result out c.in_ok-give_up.ensures.ok
+    c.take.ensures (ap (λ w. with_nodes w c.end.new.self) c.self.view_is) (subst (λ n. Ended n c.end.new.self c.args.i.0) (ap cluster_of c.self.view_is) c.end.ensures)
