@@ -1,12 +1,14 @@
 -- How an audit goes on over the lines of a log.
-use Rattle.std.proofs.Common.{◌≡◌, ◌≤◌, ℕ, ◌+◌, Bool, true, false, List, [], ◌∷◌, ◌++◌, Ok, Option, map, length, refl, sym, ap, ◌∙◌, append_assoc, append-nil, arith}
+use Rattle.std.proofs.Common.{◌≡◌, ◌≤◌, ℕ, ◌+◌, Bool, true, false, List, [], ◌∷◌, ◌++◌, Ok, Option, map, drop, length, refl, sym, ap, ◌∙◌, append_assoc, append-nil, arith}
 use Rattle.std.specs.Io.KnownBytes.{prepend_known}
 use Rattle.std.proofs.lemmas.List.{length-append}
 use Rattle.qn_base.specs.declared.calls.Call.{Call}
 use Rattle.qn_base.specs.Plans.{Plan}
 use Rattle.qn_io.specs.declared.lines.LineRead.{LineRead}
 use Rattle.qn_io.specs.declared.lines.LineRead.TheVariants as read
+use Rattle.qn_io.specs.declared.next_line.NextLine.{NextLine}
 use Rattle.qn_io.specs.Lines.{OnFailedLine, ReadsLine}
+use Rattle.qn_io.specs.NextLines.{own_count, read_of, text_of}
 use Rattle.qn_base.specs.Rising.{HasRisen-within}
 use Rattle.qn_io.specs.Outside.{HasRisen, prepend_known-append, prepend_known-nil}
 use Rattle.qn_live.specs.Running.{Ran}
@@ -79,6 +81,14 @@ last_read read.Rest line old more reads cause = record { last = line; takes = re
 last_read read.TooLong line old more reads cause =
     record { last = line ++ reads.byte ∷ []; takes = reads.takes; was = (reads.full, (reads.byte, refl)) }
 last_read read.Failed line old more reads cause = record { last = line; takes = reads; was = (refl, cause) }
+
+-- a line that was read where it stands, once its own bytes were passed over
+pub next_read : (next : NextLine) (what : LineRead) (line waiting copied passed : List ℕ) (count : ℕ) (old left : Option (List ℕ))
+    → what ≡ read_of next → line ≡ text_of next waiting copied → count ≡ own_count next → passed ≡ drop count waiting
+    → ReadsLine (read_of next) (text_of next waiting copied) old (prepend_known (drop (own_count next) waiting) left)
+    → ReadsLine what line old (prepend_known passed left)
+next_read next what line waiting copied passed count old left what_is line_is count_is passed_is reads =
+    rw (what_is, line_is, passed_is, count_is) reads
 
 -- a failed read, by the faults of a longer while
 pub failed_wider : (what : LineRead) (first second third : ℕ) → first ≤ second → second ≤ third → OnFailedLine what (HasRisen second third) → OnFailedLine what (HasRisen first third)

@@ -1,3 +1,5 @@
 mod Auditing
+mod Digits
 mod LogTexts
+mod OneWords
 mod Verdicts

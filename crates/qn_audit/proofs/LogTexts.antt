@@ -1,10 +1,10 @@
 -- How a log goes on by the lines of calls.
-use Rattle.std.proofs.Common.{◌≡◌, ◌≤◌, ℕ, Bool, true, false, List, [], ◌∷◌, ◌++◌, Option, refl, sym, ap, ◌∙◌, append_assoc, append-nil, arith}
+use Rattle.std.proofs.Common.{◌≡◌, ◌≤◌, ℕ, Bool, true, false, List, [], ◌∷◌, ◌++◌, refl, sym, ap, ◌∙◌, append_assoc, append-nil, arith}
 use Rattle.std.specs.Prelude.{codes}
 use Rattle.std.specs.Io.KnownBytes.{append_known}
 use Rattle.qn_base.specs.declared.calls.Call.{Call}
 use Rattle.qn_base.specs.Rising.{HasRisen-within}
-use Rattle.qn_io.specs.Outside.{HasRisen, append_known-append, append_known-nil}
+use Rattle.qn_io.specs.Outside.{append_known-append, append_known-nil}
 use Rattle.qn_base.specs.Calls.{blank}
 use Rattle.qn_live.specs.declared.asked.Asked.{Asked}
 use Rattle.qn_live.specs.declared.asked.Asked.TheVariants as asked

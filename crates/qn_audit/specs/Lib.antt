@@ -2,6 +2,7 @@ pub mod Judging
 pub mod JudgeLaws
 pub mod LogNames
 pub mod Logs
+pub mod LoggedCalls
 pub mod Reading
 pub mod Recording
 pub mod Auditing

@@ -1,5 +1,5 @@
 -- The call that a line of a log says, or its first fault: this project's profile.
-use Rattle.std.specs.Prelude.{ℕ, ◌^◌, ◌-◌, Bool, true, false, ◌||◌, nat_lt, if◌then◌else◌, List, [], ◌∷◌, length, Result, Ok, Err, codes}
+use Rattle.std.specs.Prelude.{◌≡◌, ◌==◌, All, ℕ, ◌^◌, ◌-◌, Bool, true, false, ◌||◌, nat_lt, if◌then◌else◌, List, [], ◌∷◌, length, Result, Ok, Err, codes}
 use Rattle.std.specs.List.{list_any}
 use Rattle.std.specs.Option.{ok_or}
 use Rattle.std.specs.Result.{result_ok}
@@ -18,6 +18,10 @@ use Rattle.qn_audit.specs.declared.log_name.LogName.{LogName}
 use Rattle.qn_audit.specs.declared.log_name.LogName.TheVariants as name
 use Rattle.qn_audit.specs.declared.log_name.DeviceCall.{DeviceCall}
 use Rattle.qn_audit.specs.LogNames.{device_call, log_name}
+
+-- no space is in the text, which is one word
+abbrev pub HasNoSpace : List ℕ → Type 0
+HasNoSpace text = All (λ byte. (byte == 32) ≡ false) text
 
 -- `ok` or `failed`
 unfoldable pub ok_of : List ℕ → Result Bool LineFault

@@ -1,8 +1,9 @@
 //! Judges the calls of a log, one after the other: each must be the one that the run asks for.
 ghost use Rattle.std.specs.Prelude.{◌≡◌};
 
-use crate::answering::answer_of;
-use qn_base::{Call, Rank};
+use crate::answering::is_wanted;
+use crate::logged_call::LoggedCall;
+use qn_base::Rank;
 use qn_live::{LiveEnd, NodeRun, Room};
 use qn_model::Settings;
 
@@ -34,7 +35,7 @@ impl Auditor {
     ghost use Rattle.qn_model.specs.Settings.{IsValid};
     ghost use Rattle.qn_audit.specs.Auditing.{IsJudging, StandsFor, VerdictFor};
     ghost use Rattle.qn_audit.specs.Judging.{IsNext};
-    ghost use Rattle.qn_audit.specs.Logs.{IsLogged};
+    ghost use Rattle.qn_audit.specs.LoggedCalls.{IsToldIn, call_in};
 
     /// The run of the node of that rank before its first call. `clean` says that its boot is a clean start, and
     /// `leave_at` is the number of the turn from which on it is to leave.
@@ -56,23 +57,23 @@ impl Auditor {
         }
     }
 
-    /// Takes the next call of the log with its answer. At `NotNext` the run stands where it stood.
-    pub fn take(&mut self, call: &Call) -> Result<(), NotNext>
+    /// Takes the next call of the log with its answer, whose bytes stand in the room. At `NotNext` the run stands where it stood.
+    pub fn take(&mut self, call: LoggedCall, room: &Room) -> Result<(), NotNext>
         requires judging { IsJudging self.old }
-        requires logged { IsLogged call.now }
-        ensures next { OnOk result ((plan : Plan Ran) → StandsFor self.old plan → IsNext plan call.now) }
-        ensures stands { OnOk result ((plan : Plan Ran) → StandsFor self.old plan → StandsFor self.new (left plan call.now)) }
-        ensures other { OnErr result ((plan : Plan Ran) → StandsFor self.old plan → IsNext plan call.now → ⊥) }
+        requires told { IsToldIn call room.now }
+        ensures next { OnOk result ((plan : Plan Ran) → StandsFor self.old plan → IsNext plan (call_in call room.now)) }
+        ensures stands { OnOk result ((plan : Plan Ran) → StandsFor self.old plan → StandsFor self.new (left plan (call_in call room.now))) }
+        ensures other { OnErr result ((plan : Plan Ran) → StandsFor self.old plan → IsNext plan (call_in call room.now) → ⊥) }
         ensures kept { OnErr result ((plan : Plan Ran) → StandsFor self.old plan → StandsFor self.new plan) }
     {
         let asked = match self.run.asks(&mut self.room) {
             Ok(asked) => asked,
             Err(_) => return Err(NotNext),
         };
-        let Some(given) = answer_of(asked, call, &mut self.room) else {
+        if !is_wanted(call.asked, room, asked, &self.room) {
             return Err(NotNext);
-        };
-        self.run.answer(given, &self.room);
+        }
+        self.run.answer(call.given, room);
         Ok(())
     }
 

@@ -19,6 +19,8 @@ mod log_line;
 mod log_name;
 mod log_place;
 mod log_text;
+mod log_word;
+mod logged_call;
 mod logging;
 mod recorder;
 
@@ -29,5 +31,6 @@ pub use log::audit_log;
 pub use log_line::read_call;
 pub use log_place::MOST_LOG_LINES;
 pub use log_text::{LOG_LINE, put_call_line};
+pub use logged_call::LoggedCall;
 pub use logging::run_recorded;
 pub use recorder::Recorder;

@@ -11,7 +11,8 @@ use crate::audit_end::AuditEnd;
 use crate::auditor::Auditor;
 use crate::log_place::LogPlace;
 use arrayvec::ArrayVec;
-use qn_io::{Pieces, Source, read_line};
+use qn_io::{Pieces, Source, read_next};
+use qn_live::Room;
 
 /// Judges the lines of an input after its head, which had so many lines: reads on after these pieces. No memory is
 /// taken, and no line is kept.
@@ -29,10 +30,13 @@ pub fn audit_log<I: Source>(
     ensures never_falls { I.faults input.old ≤ I.faults input.new }
 {
     let mut line = ArrayVec::new();
+    let mut room = Room::new();
     let mut place = LogPlace::new(head);
     'lines: loop {
-        let read = read_line(pieces, input, &mut line);
-        if let Err(end) = place.judge(auditor, read, line.as_slice()) {
+        let next = read_next(pieces, input, &mut line);
+        let judged = place.judge(auditor, next.read(), next.text(pieces, &line), &mut room);
+        pieces.pass_over(next.own_count());
+        if let Err(end) = judged {
             return end;
         }
     }

@@ -1,8 +1,12 @@
 //! The first words of the lines of a log.
 ghost use Rattle.std.specs.Prelude.{◌≡◌};
+ghost use Rattle.qn_live.specs.declared.asked.Room.{Room};
 ghost use Rattle.qn_audit.specs.LogNames.{device_call, device_word, log_name, log_word};
+ghost use Rattle.qn_audit.specs.LoggedCalls.{IsToldIn, call_in};
 
-use qn_base::Call;
+use crate::log_word::is_word;
+use crate::logged_call::LoggedCall;
+use qn_live::{Asked, Given};
 
 /// What the first word of a line says.
 #[derive(Clone, Copy, PartialEq, Eq, Debug)]
@@ -54,14 +58,19 @@ impl DeviceCall {
     }
 
     /// The call with its answer.
-    pub(crate) fn with(self, ok: bool) -> Call
-        ensures { result ≡ device_call self ok }
+    pub(crate) fn with(self, ok: bool) -> LoggedCall
+        ensures call { (room : Room) → call_in result room ≡ device_call self ok }
+        ensures told { (room : Room) → IsToldIn result room }
     {
-        match self {
-            DeviceCall::Feed => Call::Feed { ok },
-            DeviceCall::Start => Call::Start { ok },
-            DeviceCall::Stop => Call::Stop { ok },
-            DeviceCall::Disarm => Call::Disarm { ok },
+        let asked = match self {
+            DeviceCall::Feed => Asked::Feed,
+            DeviceCall::Start => Asked::Start,
+            DeviceCall::Stop => Asked::Stop,
+            DeviceCall::Disarm => Asked::Disarm,
+        };
+        LoggedCall {
+            asked,
+            given: Given::done(ok),
         }
     }
 }
@@ -91,5 +100,5 @@ pub(crate) fn log_name(word: &[u8]) -> Option<LogName>
     LOG_NAMES
         .iter()
         .copied()
-        .find(|name| name.word().as_bytes() == word)
+        .find(|name| is_word(name.word().as_bytes(), word))
 }

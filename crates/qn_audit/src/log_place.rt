@@ -4,8 +4,8 @@ ghost use Rattle.std.specs.Prelude.{◌≡◌, ◌≤◌, ◌<◌, ◌^◌};
 use crate::audit_end::AuditEnd;
 use crate::auditor::{Auditor, Verdict};
 use crate::log_line::{looks_at_clock, read_call};
-use qn_base::Call;
 use qn_io::LineRead;
+use qn_live::Room;
 use qn_model::LineFault;
 
 /// The most lines of a log.
@@ -43,12 +43,14 @@ impl LogPlace {
         }
     }
 
-    /// What comes of the bytes that were read of a line: it is taken as the next call, or the audit ends.
+    /// What comes of the bytes that were read of a line: it is taken as the next call, or the audit ends. The bytes of its
+    /// call are put into the room.
     pub(crate) fn judge(
         &mut self,
         auditor: &mut Auditor,
         read: LineRead,
         line: &[u8],
+        room: &mut Room,
     ) -> Result<(), AuditEnd>
         requires judging { IsJudging auditor.old }
         ensures takes { OnOk result ((read ≡ LineRead.Line) × Takes self.old self.new auditor.old auditor.new line.now) }
@@ -58,7 +60,7 @@ impl LogPlace {
             → EndsAt plan self.old.head self.old.lines self.old.turns last further end) }
     {
         match read {
-            LineRead::Line => self.take(auditor, line),
+            LineRead::Line => self.take(auditor, line, room),
             LineRead::Rest => Err(self.end_at(auditor, line)),
             LineRead::TooLong => Err(self.bad_line(LineFault::TooLong)),
             LineRead::Failed => Err(AuditEnd::ReadFault),
@@ -66,7 +68,7 @@ impl LogPlace {
     }
 
     /// Takes a whole line as the next call.
-    fn take(&mut self, auditor: &mut Auditor, line: &[u8]) -> Result<(), AuditEnd>
+    fn take(&mut self, auditor: &mut Auditor, line: &[u8], room: &mut Room) -> Result<(), AuditEnd>
         requires judging { IsJudging auditor.old }
         ensures takes { OnOk result (Takes self.old self.new auditor.old auditor.new line.now) }
         ensures end { IfErr result (λ end. (plan : Plan Ran) (further : Further)
@@ -76,17 +78,17 @@ impl LogPlace {
         if self.lines == MOST_LOG_LINES {
             return Err(self.bad_line(LineFault::TooMany));
         }
-        let call = match read_call(line) {
+        let call = match read_call(line, room) {
             Ok(call) => call,
             Err(fault) => return Err(self.bad_line(fault)),
         };
-        if auditor.take(&call).is_err() {
+        if auditor.take(call, room).is_err() {
             return Err(AuditEnd::NotARun {
                 line: self.next_line(),
             });
         }
         self.lines += 1;
-        if looks_at_clock(&call) {
+        if looks_at_clock(call) {
             self.turns += 1;
         }
         Ok(())

@@ -1,8 +1,11 @@
-use Rattle.std.proofs.Common.{◌≡◌, ℕ, ◌+◌, ◌*◌, ◌-◌, ◌^◌, ◌<◌, ◌≤◌, List, length, get_or, take, true, Some, refl, arith, nat_lt, nat_le, lit≤, lit<}
+use Rattle.std.proofs.Common.{◌≡◌, ℕ, zero, suc, ◌+◌, ◌*◌, ◌-◌, ◌^◌, ◌<◌, ◌≤◌, ◌&&◌, inl, inr, List, [], ◌∷◌, length, get_or, take, true, false, Option, Some, None, refl, sym, ap, ◌∙◌, arith, nat_lt, nat_le, lit≤, lit<}
 use Rattle.std.specs.Prelude.{decimal}
 use Rattle.std.specs.Str.{all_ascii_digits}
 use Rattle.std.specs.Int.{IsInRange}
-use Rattle.std.specs.Char.{digit_value}
+use Rattle.std.specs.Char.{digit_value, is_ascii_digit}
+use Rattle.std.specs.Option.{SomeIff}
+use Rattle.std.proofs.lemmas.Bool.{and_parts, cases_lt}
+use Rattle.std.proofs.lemmas.List.{take_all}
 use Rattle.std.specs.Str.Parse.{digits_value}
 use Rattle.std.proofs.lemmas.Bool.Decides.{nat_tests}
 use Rattle.std.proofs.lemmas.Str.{digit_value_digit}
@@ -15,9 +18,9 @@ use Rattle.qn_base.specs.Decimal.{number_of}
 pub numerals : IsNumeralModel (λ ds. all_ascii_digits ds ≡ true) (digits_value 10)
 numerals = numerals_by_value (λ ds. all_ascii_digits ds ≡ true) tells_all_ascii_digits
 
--- the value of at most 20 digits
-pub digits_value-lt_20 : (ds : List ℕ) → all_ascii_digits ds ≡ true → length ds ≤ 20 → digits_value 10 ds < 10 ^ 20
-digits_value-lt_20 ds digits short = digits_value_short numerals ds 20 digits short
+-- the value of at most 19 digits
+digits_value-lt_19 : (ds : List ℕ) → all_ascii_digits ds ≡ true → length ds ≤ 19 → digits_value 10 ds < 10 ^ 19
+digits_value-lt_19 ds digits short = digits_value_short numerals ds 19 digits short
 
 -- each place of a text of digits has one
 pub digit_at : (ds : List ℕ) (i : ℕ) → all_ascii_digits ds ≡ true → i < length ds → IsInRange 48 57 (get_or ds i 0)
@@ -33,10 +36,10 @@ value_more ds i digits lt =
     omega arith
 
 -- the value of the first digits is small
-pub value-take-lt : (ds : List ℕ) (i : ℕ) → all_ascii_digits ds ≡ true → length ds ≤ 20 → digits_value 10 (take i ds) < 10 ^ 20
+pub value-take-lt : (ds : List ℕ) (i : ℕ) → all_ascii_digits ds ≡ true → length ds ≤ 19 → digits_value 10 (take i ds) < 10 ^ 19
 value-take-lt ds i digits short =
     let below : digits_value 10 (take i ds) ≤ digits_value 10 ds = digits_value-take-le 10 ds i (lit≤ tt) in
-    let small : digits_value 10 ds < 10 ^ 20 = digits_value-lt_20 ds digits short in
+    let small : digits_value 10 ds < 10 ^ 19 = digits_value-lt_19 ds digits short in
     omega arith
 
 -- what is written is read back
@@ -50,3 +53,33 @@ number_of-decimal n small =
     let high : nat_le (length (decimal n)) 20 ≡ true = grind (arith, nat_tests) in
     let fits : nat_lt n (2 ^ 64) ≡ true = grind (arith, nat_tests) in
     rw (low, high, digits, value, fits) refl
+
+-- the first digits are digits
+pub all_ascii_digits-take : (i : ℕ) (ds : List ℕ) → all_ascii_digits ds ≡ true → all_ascii_digits (take i ds) ≡ true
+all_ascii_digits-take zero ds digits = refl
+all_ascii_digits-take (suc i) [] digits = refl
+all_ascii_digits-take (suc i) (d ∷ ds) digits =
+    let both = and_parts (is_ascii_digit d) (all_ascii_digits ds) digits in
+    ap (λ b. b && all_ascii_digits (take i ds)) both.0 ∙ all_ascii_digits-take i ds both.1
+
+-- the value of the last digit after that of those before it
+pub value-last : (ds : List ℕ) (i : ℕ) → all_ascii_digits ds ≡ true → i + 1 ≡ length ds → digits_value 10 ds ≡ digits_value 10 (take i ds) * 10 + (get_or ds i 0 - 48)
+value-last ds i digits last =
+    ap (digits_value 10) (sym (take_all (i + 1) ds (omega arith))) ∙ sym (value_more ds i digits (omega arith))
+
+-- a number of 1 to 20 digits, where its value fits
+pub number_of-value : (ds : List ℕ) (found : Option ℕ) → 0 < length ds → length ds ≤ 20 → all_ascii_digits ds ≡ true
+    → SomeIff found (digits_value 10 ds < 2 ^ 64) (digits_value 10 ds) → found ≡ number_of ds
+number_of-value ds (Some value) some short digits fits =
+    let low : nat_le 1 (length ds) ≡ true = grind (arith, nat_tests) in
+    let high : nat_le (length ds) 20 ≡ true = grind (arith, nat_tests) in
+    let small : nat_lt (digits_value 10 ds) (2 ^ 64) ≡ true = let lt = fits.0 in grind (arith, nat_tests, lt) in
+    rw (low, high, digits, small) (ap Some fits.1)
+number_of-value ds None some short digits fits =
+    let low : nat_le 1 (length ds) ≡ true = grind (arith, nat_tests) in
+    let high : nat_le (length ds) 20 ≡ true = grind (arith, nat_tests) in
+    let large : nat_lt (digits_value 10 ds) (2 ^ 64) ≡ false = elim (cases_lt (digits_value 10 ds) (2 ^ 64)) [
+      | inl below ↦ absurd (fits below)
+      | inr above ↦ grind (arith, nat_tests, above)
+    ] in
+    rw (low, high, digits, large) refl

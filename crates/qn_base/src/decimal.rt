@@ -18,7 +18,10 @@ pub fn read_decimal(text: &[u8]) -> Option<u64>
     if text.is_empty() || text.len() > MAX_DIGITS || !are_digits(text) {
         return None;
     }
-    u64::try_from(value_of_digits(text)).ok()
+    let last = text.len() - 1;
+    let digit = u64::from(text[last] - b'0');
+    let front = value_of_digits(text.split_at(last).0);
+    front.checked_mul(10)?.checked_add(digit)
 }
 
 /// Empties `into` and writes the decimal digits of `n`, without leading zeros.
@@ -42,15 +45,15 @@ fn are_digits(text: &[u8]) -> bool
     true
 }
 
-/// The value of at most 20 digits, which 128 bits hold.
-fn value_of_digits(digits: &[u8]) -> u128
-    requires short { length digits.now ≤ 20 }
+/// The value of at most 19 digits, which 64 bits hold.
+fn value_of_digits(digits: &[u8]) -> u64
+    requires short { length digits.now ≤ 19 }
     requires digits { all_ascii_digits digits.now ≡ true }
     ensures { result ≡ digits_value 10 digits.now }
 {
-    let mut value = 0u128;
+    let mut value = 0u64;
     for digit in digits {
-        value = value * 10 + u128::from(*digit - b'0');
+        value = value * 10 + u64::from(*digit - b'0');
     }
     value
 }

@@ -1,6 +1,7 @@
 pub mod Answered
 pub mod Lines
 pub mod Memory
+pub mod NextLines
 pub mod Openings
 pub mod Orders
 pub mod Outside

@@ -61,6 +61,7 @@ pub(crate) enum Refill {
 }
 
 impl Pieces {
+    ghost use Rattle.std.specs.Prelude.{IfNone, IfSome};
     ghost use Rattle.qn_io.specs.Lines.{HasLineFeed, HasNoLineFeed, Moves};
     ghost use Rattle.qn_io.specs.Reads.{Gives, IsDrained, OnFailed, OnFailedRefill, Refills};
 
@@ -107,6 +108,39 @@ impl Pieces {
     {
         let waiting = self.waiting();
         length_before_end(waiting) < waiting.len()
+    }
+
+    /// How many bytes the first line has that waits whole, without its `\n`, or none.
+    pub(crate) fn first_line(&self) -> Option<usize>
+        ensures inside { IfSome result (λ count. count < length self.now) }
+        ensures line { IfSome result (λ count. self.now ≡ take count self.now ++ 10 ∷ drop (count + 1) self.now) }
+        ensures unended { IfSome result (λ count. HasNoLineFeed (take count self.now)) }
+        ensures none { IfNone result (HasNoLineFeed self.now) }
+        ensures within { length self.now ≤ PIECE }
+    {
+        let waiting = self.waiting();
+        let count = length_before_end(waiting);
+        if count < waiting.len() {
+            Some(count)
+        } else {
+            None
+        }
+    }
+
+    /// The first bytes that wait, so many of them.
+    pub(crate) fn front(&self, count: usize) -> &[u8]
+        requires { count ≤ length self.now }
+        ensures { result.now ≡ take count self.now }
+    {
+        self.waiting().split_at(count).0
+    }
+
+    /// Passes over so many of the bytes that wait.
+    pub fn pass_over(&mut self, count: usize)
+        requires { count ≤ length self.old }
+        ensures { self.new ≡ drop count self.old }
+    {
+        self.from += count;
     }
 
     /// Empties `line` and moves the first line that waits into it. Its `\n` is taken too and left out, and

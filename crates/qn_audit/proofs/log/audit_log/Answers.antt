@@ -3,11 +3,12 @@ use Rattle.std.specs.Io.KnownBytes.{prepend_known}
 use Rattle.qn_base.specs.Plans.{left}
 use Rattle.qn_io.specs.declared.lines.LineRead.{LineRead}
 use Rattle.qn_io.specs.declared.lines.LineRead.TheVariants as read
-use Rattle.qn_io.specs.Lines.{ReadsLine}
+use Rattle.qn_io.specs.Lines.{OnFailedLine, ReadsLine}
+use Rattle.qn_io.specs.Outside.{HasRisen}
 use Rattle.qn_audit.specs.Auditing.{further}
 use Rattle.qn_audit.specs.Judging.{left_after}
 use Rattle.qn_audit.specs.JudgeLaws.{left_call_after}
-use Rattle.qn_audit.proofs.Auditing.{audited, failed_wider, last_read, taken_more, taken_none}
+use Rattle.qn_audit.proofs.Auditing.{audited, failed_wider, last_read, next_read, taken_more, taken_none}
 use Rattle.qn_audit.proofs.log.audit_log.Goals as goal
 
 pub lines-init : goal.lines-init
@@ -23,25 +24,33 @@ lines-init g c =
 pub returns-in-Err-clause-audited : goal.returns-in-Err-clause-audited
 returns-in-Err-clause-audited g c = λ plan stands.
     let taken = c.lines.invariant.taken plan stands in
-    let to_come = prepend_known c.read_line-read.new.pieces (g.I.Source.left c.read_line-read.new.input) in
+    let next = c.read_next-next in
+    let left = g.I.Source.left next.new.input in
+    let to_come = prepend_known c.pass_over.new.self left in
     let before = g.I.Source.faults c.args.input.now in
-    let after = g.I.Source.faults c.read_line-read.new.input in
-    let line = c.as_slice.result.now in
-    let what = c.read_line-read.result in
-    let reads : ReadsLine what line (prepend_known c.lines.pieces (g.I.Source.left c.lines.input)) to_come = rw c.as_slice.ensures.value c.read_line-read.ensures.reads in
-    let found = last_read what line _ (further to_come before after) reads (failed_wider what before (g.I.Source.faults c.lines.input) after c.lines.invariant.source c.read_line-read.ensures.never_falls c.read_line-read.ensures.cause) in
+    let here = g.I.Source.faults c.lines.input in
+    let after = g.I.Source.faults next.new.input in
+    let what = c.read.result in
+    let line = c.text.result.now in
+    let reads = next_read next.result what line next.new.pieces next.new.line.items c.pass_over.new.self c.own_count.result
+    (prepend_known c.lines.pieces (g.I.Source.left c.lines.input)) left c.read.ensures c.text.ensures c.own_count.ensures c.pass_over.ensures next.ensures.reads in
+    let cause : OnFailedLine what (HasRisen here after) = rw c.read.ensures next.ensures.cause in
+    let found = last_read what line _ (further to_come before after) reads (failed_wider what before here after c.lines.invariant.source next.ensures.never_falls cause) in
     let ends = c.in-Err.ensures.end (left_after plan taken.0.calls) found.last (further to_come before after) taken.1 found.was in
     audited plan c.args.head (further to_come before after) c.in-Err.end what line taken.0 found (rw (sym c.lines.invariant.head) ends)
 
 pub lines-preserved : goal.lines-preserved
 lines-preserved g c =
     let took = c.in_default.ensures.takes in
-    let before = g.I.Source.faults c.lines.input in
-    let to_come = prepend_known c.read_line-read.new.pieces (g.I.Source.left c.read_line-read.new.input) in
-    let line = c.as_slice.result.now in
-    let reads : ReadsLine read.Line line (prepend_known c.lines.pieces (g.I.Source.left c.lines.input)) to_come =
-    subst (λ (what : LineRead). ReadsLine what line (prepend_known c.lines.pieces (g.I.Source.left c.lines.input)) to_come) took.0
-    (rw c.as_slice.ensures.value c.read_line-read.ensures.reads) in
+    let next = c.read_next-next in
+    let left_of = g.I.Source.left next.new.input in
+    let to_come = prepend_known c.pass_over.new.self left_of in
+    let before = prepend_known c.lines.pieces (g.I.Source.left c.lines.input) in
+    let line = c.text.result.now in
+    let reads : ReadsLine read.Line line before to_come =
+    subst (λ (what : LineRead). ReadsLine what line before to_come) took.0
+    (next_read next.result c.read.result line next.new.pieces next.new.line.items c.pass_over.new.self c.own_count.result before left_of
+    c.read.ensures c.text.ensures c.own_count.ensures c.pass_over.ensures next.ensures.reads) in
     let judging = c.lines.invariant.judging in
     record {
       judging = (left judging.0 took.1.call, took.1.stands judging.0 judging.1);
@@ -52,5 +61,5 @@ lines-preserved g c =
             rw (left_call_after plan taken.0.calls took.1.call) (took.1.stands rest taken.1),
           );
       head = took.1.head ∙ c.lines.invariant.head;
-      source = omega (arith, c.lines.invariant.source, c.read_line-read.ensures.never_falls);
+      source = omega (arith, c.lines.invariant.source, next.ensures.never_falls);
     }
