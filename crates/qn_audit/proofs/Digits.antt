@@ -22,9 +22,9 @@ use Rattle.qn_audit.proofs.OneWords.{none_passes}
 -- a digit is no space
 digit_no_space : (digit : ℕ) → is_hex_digit digit ≡ true → (digit == 32) ≡ false
 digit_no_space digit is = elim (cases_eq digit 32) [
-    | inl same ↦ absurd (let here : is_hex_digit 32 ≡ true = rw same at is in cc)
-    | inr other ↦ ne_eqb digit 32 other
-  ]
+  | inl same ↦ absurd (let here : is_hex_digit 32 ≡ true = rw same at is in cc)
+  | inr other ↦ ne_eqb digit 32 other
+]
 
 ok_from : (bad : Bool) (decoded : Result (List ℕ) FromHexError) (bytes : List ℕ)
     → (if bad then Err BadNumber else ok_or (result_ok decoded) BadNumber) ≡ Ok bytes → (bad ≡ false) × (decoded ≡ Ok bytes)
@@ -95,9 +95,9 @@ wrong_bytes : (least most : ℕ) (found : Result (List ℕ) LineFault) → ((fau
     → (found >>= λ bytes. if nat_lt (length bytes) least || nat_lt most (length bytes) then Err BadNumber else Ok bytes) ≡ Err BadNumber
 wrong_bytes least most (Err fault) bad wrong = ap Err (bad fault refl)
 wrong_bytes least most (Ok bytes) bad wrong = elim (wrong bytes refl) [
-    | inl few ↦ grind (arith, nat_tests)
-    | inr more ↦ grind (arith, nat_tests)
-  ]
+  | inl few ↦ grind (arith, nat_tests)
+  | inr more ↦ grind (arith, nat_tests)
+]
 
 -- a word whose digits are too few or too many
 pub bytes_between-other : (least most : ℕ) (word : List ℕ) → bytes_eq word (codes "-") ≡ false
@@ -136,9 +136,9 @@ more_lower word i high low pair before k within =
     elim (cases_lt k (2 * i)) [
       | inl below ↦ before k below
       | inr above ↦ elim (cases_eq k (2 * i)) [
-            | inl same ↦ rw same first.0
-            | inr other ↦ let next : k ≡ 2 * i + 1 = omega arith in rw next second.0
-          ]
+        | inl same ↦ rw same first.0
+        | inr other ↦ let next : k ≡ 2 * i + 1 = omega arith in rw next second.0
+      ]
     ]
 
 -- digits of which none has upper case spell what they decode to

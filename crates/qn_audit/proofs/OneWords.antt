@@ -67,9 +67,9 @@ digits_no_space (digit ∷ text) digits =
   where
     other : (digit : ℕ) → is_ascii_digit digit ≡ true → (digit == 32) ≡ false
     other digit is = elim (cases_eq digit 32) [
-        | inl same ↦ absurd (let here : is_ascii_digit 32 ≡ true = rw same at is in cc)
-        | inr different ↦ ne_eqb digit 32 different
-      ]
+      | inl same ↦ absurd (let here : is_ascii_digit 32 ≡ true = rw same at is in cc)
+      | inr different ↦ ne_eqb digit 32 different
+    ]
 
 some_number : (decimal fits : Bool) (value number : ℕ) → ok_or (if decimal && fits then Some value else None) BadNumber ≡ Ok number → decimal ≡ true
 some_number true true value number ok = refl
