@@ -32,7 +32,8 @@ pub fn read_call(line: &[u8], room: &mut Room) -> Result<LoggedCall, LineFault>
     read_named(name, rest, room)
 }
 
-/// A call by what the first word of its line says.
+/// A call by what the first word of its line says. Nearly every line is a `now` or a `receive`: the readers of the others stay out
+/// of the loop over the lines.
 #[tactic(auto, unfolding(crate::specs::Reading::call_named))]
 fn read_named(name: LogName, rest: Option<&[u8]>, room: &mut Room) -> Result<LoggedCall, LineFault>
     ensures call { read_in result room.new ≡ call_named name (parts_left 32 (option_copied rest.entry)) }
@@ -106,6 +107,7 @@ fn read_received(word: &[u8], packet: &mut [u8; PACKET]) -> Result<Got, LineFaul
 
 /// `read S HEX` or `read S failed`
 #[tactic(auto, unfolding(crate::specs::Reading::read_of))]
+#[inline(never)]
 fn read_read(rest: Option<&[u8]>, room: &mut Room) -> Result<LoggedCall, LineFault>
     ensures call { read_in result room.new ≡ read_of (parts_left 32 (option_copied rest.entry)) }
     ensures told { IfOk result (λ call. IsToldIn call room.new) }
@@ -136,6 +138,7 @@ fn read_sector(word: &[u8], into: &mut [u8; SECTOR]) -> Result<bool, LineFault>
 
 /// `write S HEX ok` or `write S HEX failed`
 #[tactic(auto, unfolding(crate::specs::Reading::write_of))]
+#[inline(never)]
 fn read_write(rest: Option<&[u8]>, room: &mut Room) -> Result<LoggedCall, LineFault>
     ensures call { read_in result room.new ≡ write_of (parts_left 32 (option_copied rest.entry)) }
     ensures told { IfOk result (λ call. IsToldIn call room.new) }
@@ -152,6 +155,7 @@ fn read_write(rest: Option<&[u8]>, room: &mut Room) -> Result<LoggedCall, LineFa
 
 /// `send R HEX ok` or `send R HEX failed`
 #[tactic(auto, unfolding(crate::specs::Reading::send_of))]
+#[inline(never)]
 fn read_send(rest: Option<&[u8]>, room: &mut Room) -> Result<LoggedCall, LineFault>
     ensures call { read_in result room.new ≡ send_of (parts_left 32 (option_copied rest.entry)) }
     ensures told { IfOk result (λ call. IsToldIn call room.new) }
@@ -170,6 +174,7 @@ fn read_send(rest: Option<&[u8]>, room: &mut Room) -> Result<LoggedCall, LineFau
 
 /// `halt C`
 #[tactic(auto, unfolding(crate::specs::Reading::halt_of))]
+#[inline(never)]
 fn read_halt(rest: Option<&[u8]>) -> Result<LoggedCall, LineFault>
     ensures call { (room : Room) → read_in result room ≡ halt_of (parts_left 32 (option_copied rest.entry)) }
     ensures told { (room : Room) → IfOk result (λ call. IsToldIn call room) }
@@ -184,6 +189,7 @@ fn read_halt(rest: Option<&[u8]>) -> Result<LoggedCall, LineFault>
 
 /// `feed`, `start`, `stop` or `disarm`, and then `ok` or `failed`
 #[tactic(auto, unfolding(crate::specs::Reading::device_of))]
+#[inline(never)]
 fn read_device(device: DeviceCall, rest: Option<&[u8]>) -> Result<LoggedCall, LineFault>
     ensures call { (room : Room) → read_in result room ≡ device_of device (parts_left 32 (option_copied rest.entry)) }
     ensures told { (room : Room) → IfOk result (λ call. IsToldIn call room) }
