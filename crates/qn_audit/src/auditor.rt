@@ -57,13 +57,21 @@ impl Auditor {
         }
     }
 
-    /// Takes the next call of the log with its answer, whose bytes stand in the room. At `NotNext` the run stands where it stood.
+    /// Takes the next call of the log with its answer, whose bytes stand in the room. At `NotNext` the run stands where it
+    /// stood.
     pub fn take(&mut self, call: LoggedCall, room: &Room) -> Result<(), NotNext>
         requires judging { IsJudging self.old }
         requires told { IsToldIn call room.now }
-        ensures next { OnOk result ((plan : Plan Ran) → StandsFor self.old plan → IsNext plan (call_in call room.now)) }
-        ensures stands { OnOk result ((plan : Plan Ran) → StandsFor self.old plan → StandsFor self.new (left plan (call_in call room.now))) }
-        ensures other { OnErr result ((plan : Plan Ran) → StandsFor self.old plan → IsNext plan (call_in call room.now) → ⊥) }
+        ensures next { OnOk result ((plan : Plan Ran)
+            → StandsFor self.old plan
+            → IsNext plan (call_in call room.now)) }
+        ensures stands { OnOk result ((plan : Plan Ran)
+            → StandsFor self.old plan
+            → StandsFor self.new (left plan (call_in call room.now))) }
+        ensures other { OnErr result ((plan : Plan Ran)
+            → StandsFor self.old plan
+            → IsNext plan (call_in call room.now)
+            → ⊥) }
         ensures kept { OnErr result ((plan : Plan Ran) → StandsFor self.old plan → StandsFor self.new plan) }
     {
         let asked = match self.run.asks(&mut self.room) {

@@ -254,7 +254,8 @@ impl State {
         requires standing { IsStanding self.old }
         requires within { i.0 < 32 }
         requires image { is_image image ≡ true }
-        ensures { Turns three_images self.old self.new (λ d. record d { mailboxes = put_on d.mailboxes i.0 image message }) }
+        ensures { Turns three_images self.old self.new
+            (λ d. record d { mailboxes = put_on d.mailboxes i.0 image message }) }
     {
         self.mail_at(place_of(image), i, message);
     }
@@ -262,7 +263,8 @@ impl State {
     /// A write of a rank is left over on the images that are marked.
     pub(crate) fn leave_over(&mut self, i: Rank, op: DiskOp, on: [bool; 3]) -> Result<(), NoMemory>
         requires { (d : TripleWorld) → TripleFor self.old d → IsWithin (length self.old.settings.nodes) op }
-        ensures ok { OnOk result (Turns three_images self.old self.new (λ d. record d { left = left_over d.left i.0 op on })) }
+        ensures ok { OnOk result (Turns three_images self.old self.new
+            (λ d. record d { left = left_over d.left i.0 op on })) }
         ensures err { OnErr result (self.new ≡ self.old) }
         ensures cause { OnErr result ((image : ℕ) × (is_image image ≡ true) × (is_marked on image ≡ true)) }
     {
@@ -303,7 +305,8 @@ impl State {
         requires number { 1 ≤ number }
         ensures op { (d : TripleWorld) → TripleFor self.old d → result ≡ numbered (d.left i.0 image) number }
         ensures within { (d : TripleWorld) → TripleFor self.old d → IsOpWithin (length self.old.settings.nodes) result }
-        ensures rest { OnSome result (Turns three_images self.old self.new (λ d. record d { left = put_on d.left i.0 image (without (d.left i.0 image) number) })) }
+        ensures rest { OnSome result (Turns three_images self.old self.new
+            (λ d. record d { left = put_on d.left i.0 image (without (d.left i.0 image) number) })) }
         ensures none { result ≡ None → self.new ≡ self.old }
     {
         self.left.take(i, image, number)

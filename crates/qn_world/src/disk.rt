@@ -125,7 +125,8 @@ impl State {
         requires { 1 ≤ number }
         ensures op { (d : World) → WorldFor self.old d → result ≡ numbered (d.left i.0) number }
         ensures within { (d : World) → WorldFor self.old d → IsOpWithin (length self.old.settings.nodes) result }
-        ensures rest { OnSome result (Turns one_image self.old self.new (λ d. record d { left = put d.left i.0 (without (d.left i.0) number) })) }
+        ensures rest { OnSome result (Turns one_image self.old self.new
+            (λ d. record d { left = put d.left i.0 (without (d.left i.0) number) })) }
         ensures none { result ≡ None → self.new ≡ self.old }
     {
         self.left.take(i, 1, number)
