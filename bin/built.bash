@@ -9,13 +9,10 @@ is_current() {
         -not -path '*/out/*' -newer "$program" -print -quit)" ]
 }
 
-# how many crates are proved at a time: one a processor, and one for each 3 GB of memory that is free
+# how many crates rt works on at a time: one for each 2.5 GB of memory that is free. That is more than there are processors, since a
+# crate holds its place while it waits for those that it stands on.
 at_a_time() {
-    local processors gigabytes
-    processors=$(nproc)
-    gigabytes=$(awk '/^MemAvailable:/ { print int($2 / 1048576) }' /proc/meminfo)
-    local most=$((gigabytes / 3 > 1 ? gigabytes / 3 : 1))
-    echo $((processors < most ? processors : most))
+    awk '/^MemAvailable:/ { places = int($2 / 2621440); print places > 1 ? places : 1 }' /proc/meminfo
 }
 
 # proves the crates that the program needs, side by side, and then builds it

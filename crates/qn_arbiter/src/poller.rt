@@ -7,7 +7,7 @@ use qn_lease::{Poll, Reply};
 
 /// What a node that may poll shows of itself: the tick of its clock in milliseconds, its incarnation, its install number and
 /// its view.
-#[derive(Clone, Copy, PartialEq, Eq, Debug)]
+#[derive(Clone, Copy, PartialEq, Eq)]
 pub struct Standing {
     pub tick: u64,
     pub incarnation: u64,

@@ -2,7 +2,7 @@
 use qn_sched::ReplayEnd;
 
 /// How a replay beside an arbiter ended.
-#[derive(Clone, Copy, PartialEq, Eq, Debug)]
+#[derive(Clone, Copy, PartialEq, Eq)]
 pub enum ArbiterEnd {
     /// It ended as every replay may.
     Replay(ReplayEnd),

@@ -3,7 +3,7 @@ ghost use Rattle.std.specs.Prelude.{◌≡◌};
 ghost use Rattle.qn_arbiter_sched.specs.EventNames.{arbiter_name, arbiter_word};
 
 /// What the first word of such a line says.
-#[derive(Clone, Copy, PartialEq, Eq, Debug)]
+#[derive(Clone, Copy, PartialEq, Eq)]
 pub(crate) enum ArbiterName {
     PassWith,
     ArbiterBoot,

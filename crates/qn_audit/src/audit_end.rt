@@ -5,7 +5,7 @@ use qn_model::LineFault;
 use qn_settings::SettingsFault;
 
 /// How an audit ended. Lines are those of the whole input, from 1.
-#[derive(Clone, Copy, PartialEq, Eq, Debug)]
+#[derive(Clone, Copy, PartialEq, Eq)]
 pub enum AuditEnd {
     /// The log was read to its end, and is a whole run of so many turns.
     Whole { turns: u64 },

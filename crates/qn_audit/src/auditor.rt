@@ -15,7 +15,7 @@ pub struct Auditor {
 }
 
 /// How far the calls of a log are a run.
-#[derive(Clone, Copy, PartialEq, Eq, Debug)]
+#[derive(Clone, Copy, PartialEq, Eq)]
 pub enum Verdict {
     /// They are a whole run, which ends so.
     Whole(LiveEnd),
@@ -24,7 +24,7 @@ pub enum Verdict {
 }
 
 /// The call is not the one that the run asks for.
-#[derive(Clone, Copy, PartialEq, Eq, Debug)]
+#[derive(Clone, Copy, PartialEq, Eq)]
 pub struct NotNext;
 
 impl Auditor {

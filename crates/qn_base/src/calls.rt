@@ -6,7 +6,7 @@ use arrayvec::ArrayVec;
 use std::marker::Model;
 
 /// A list of at most 512 bytes, without memory of its own: a sector, a packet or a path.
-#[derive(Drop, Debug, PartialEq, Eq)]
+#[derive(Drop, PartialEq, Eq)]
 pub struct Bytes {
     bytes: ArrayVec<u8, 512>,
 }
@@ -50,7 +50,7 @@ impl Bytes {
 }
 
 /// What one `receive` gave.
-#[derive(Drop, Debug, PartialEq, Eq)]
+#[derive(Drop, PartialEq, Eq)]
 pub enum Received {
     Packet(Bytes),
     Nothing,
@@ -59,7 +59,7 @@ pub enum Received {
 
 /// One call on the outside of a node, with its arguments and its answer. `ok` is false exactly where
 /// the call answered `Failed`; a read that failed has no bytes.
-#[derive(Drop, Debug, PartialEq, Eq)]
+#[derive(Drop, PartialEq, Eq)]
 pub enum Call {
     OpenImage {
         path: Bytes,

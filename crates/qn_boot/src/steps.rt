@@ -18,7 +18,7 @@ impl<State> Model for Boot<State> {
 
 /// The header of the image is being read; it has to be one for that many nodes. `clean` says whether the
 /// boot is a clean start.
-#[derive(Clone, Copy, PartialEq, Eq, Debug)]
+#[derive(Clone, Copy, PartialEq, Eq)]
 pub struct WantHeader {
     pub nodes: u32,
     pub clean: bool,
@@ -26,28 +26,28 @@ pub struct WantHeader {
 
 /// The node's own slot is being read. The times are those of the header; `clean` says whether the boot is
 /// a clean start.
-#[derive(Clone, Copy, PartialEq, Eq, Debug)]
+#[derive(Clone, Copy, PartialEq, Eq)]
 pub struct WantSlot {
     pub times: Timing,
     pub clean: bool,
 }
 
 /// The node's own mailbox is being read in a clean start, before that incarnation is claimed.
-#[derive(Clone, Copy, PartialEq, Eq, Debug)]
+#[derive(Clone, Copy, PartialEq, Eq)]
 pub struct WantCheck {
     pub times: Timing,
     pub claims: u64,
 }
 
 /// The claim of that incarnation is being written into the node's own slot.
-#[derive(Clone, Copy, PartialEq, Eq, Debug)]
+#[derive(Clone, Copy, PartialEq, Eq)]
 pub struct WantClaim {
     pub times: Timing,
     pub claims: u64,
 }
 
 /// Empty is being written into the node's own mailbox.
-#[derive(Clone, Copy, PartialEq, Eq, Debug)]
+#[derive(Clone, Copy, PartialEq, Eq)]
 pub struct WantClear {
     pub times: Timing,
     pub claims: u64,
@@ -72,7 +72,7 @@ pub enum AfterSlot {
 }
 
 /// A boot that has failed, and why. Nothing of the boot is handed back with it.
-#[derive(Clone, Copy, PartialEq, Eq, Debug)]
+#[derive(Clone, Copy, PartialEq, Eq)]
 pub struct Halt {
     pub cause: BootCause,
 }

@@ -6,7 +6,7 @@ use qn_model::DiskOp;
 
 /// What a node waits for. Of a node that is off, running and stop_due are false, fed is 0, and decided and op are
 /// None.
-#[derive(Clone, Copy, PartialEq, Eq, Debug)]
+#[derive(Clone, Copy, PartialEq, Eq)]
 pub struct Waiting {
     pub running: bool,
     /// The true time of the last feed that took effect, or of the boot, in milliseconds.

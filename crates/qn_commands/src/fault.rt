@@ -13,7 +13,7 @@ use qn_sched::cause_number;
 use qn_settings::{Key, SettingsFault, TextFault};
 
 /// Why a command did not do its work, with what its last line says.
-#[derive(Clone, Copy, Debug)]
+#[derive(Clone, Copy)]
 pub enum Fault {
     /// The words are no command.
     Usage,

@@ -6,7 +6,7 @@ ghost use Rattle.qn_conf.specs.Line.{is_blank, is_name, meaning_of, pair_of, sec
 use crate::tree::{Item, Word};
 
 /// What a line of a settings text says.
-#[derive(Debug, Drop)]
+#[derive(Drop)]
 pub(crate) enum Meaning<'text> {
     /// Nothing: the line is empty or a comment.
     PassedOver,

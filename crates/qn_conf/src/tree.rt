@@ -4,7 +4,7 @@ ghost use Rattle.std.specs.Prelude.{◌≡◌, ℕ, List};
 use std::marker::Model;
 
 /// The name of a section or a key, or a value: bytes of the text, without blanks at the ends.
-#[derive(Debug, Drop)]
+#[derive(Drop)]
 pub struct Word<'text> {
     bytes: &'text [u8],
 }
@@ -38,7 +38,7 @@ impl<'text> Word<'text> {
 }
 
 /// What one line of a settings text says (corosync.conf(5)).
-#[derive(Debug, Drop)]
+#[derive(Drop)]
 pub enum Item<'text> {
     /// The section of this name begins.
     Enter(Word<'text>),
@@ -49,7 +49,7 @@ pub enum Item<'text> {
 }
 
 /// The items of a settings text, in text order.
-#[derive(Debug, Drop)]
+#[derive(Drop)]
 pub struct Tree<'text> {
     items: Vec<Item<'text>>,
 }

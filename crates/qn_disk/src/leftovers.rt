@@ -10,7 +10,7 @@ use std::alloc::Global;
 use std::marker::Model;
 
 /// A write that was given up before it landed, whose it was, and on which image, 1 to 3.
-#[derive(Clone, Copy, PartialEq, Eq, Debug)]
+#[derive(Clone, Copy, PartialEq, Eq)]
 pub struct Leftover {
     pub of: Rank,
     pub image: u8,

@@ -6,7 +6,7 @@ use qn_base::{Mask, Rank, View};
 use qn_model::{DiskOp, Settings, SlotSeen};
 
 /// What the fencing asks of the disk next (this project's profile, after sbd(8), `message`).
-#[derive(Clone, Copy, PartialEq, Eq, Debug)]
+#[derive(Clone, Copy, PartialEq, Eq)]
 pub enum Want {
     /// Nothing.
     None,
@@ -18,7 +18,7 @@ pub enum Want {
 
 /// Why a node outside the view is known not to hold the resource, or how much of it remains (sbd(8),
 /// `msgwait`; that a clean slot stands in place of a reset is this project's profile).
-#[derive(Clone, Copy, PartialEq, Eq, Debug)]
+#[derive(Clone, Copy, PartialEq, Eq)]
 pub enum Licence {
     /// Its slot was read as clean.
     Clean,
@@ -32,7 +32,7 @@ pub enum Licence {
 
 /// A node outside the view that has no licence: whether a reset was written to it, and then how many
 /// ticks of msgwait remain, else 0.
-#[derive(Clone, Copy, PartialEq, Eq, Debug)]
+#[derive(Clone, Copy, PartialEq, Eq)]
 pub struct Unfenced {
     pub rank: Rank,
     pub written: bool,

@@ -5,7 +5,7 @@ use qn_sched::ReplayEnd;
 use qn_settings::{SettingsFault, TextFault};
 
 /// How the reading of a settings text and the line `----` ended early. Lines are those of the whole input, from 1.
-#[derive(Clone, Copy, PartialEq, Eq, Debug)]
+#[derive(Clone, Copy, PartialEq, Eq)]
 pub enum HeadFault {
     /// The settings text is no configuration. Out of memory is `NoMemory` below.
     BadConf(ConfFault),

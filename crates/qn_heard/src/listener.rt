@@ -3,7 +3,7 @@ use qn_base::{Mask, Rank, View};
 use qn_model::{Ask, Tell};
 
 /// What a member said of the resource since the last view (this project's profile).
-#[derive(Clone, Copy, PartialEq, Eq, Debug)]
+#[derive(Clone, Copy, PartialEq, Eq)]
 pub enum Heardness {
     /// It said that it does not hold.
     Free,

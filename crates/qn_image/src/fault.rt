@@ -3,7 +3,7 @@ use qn_base::Failed;
 use qn_model::Message;
 
 /// Why a call on an image did not do its work.
-#[derive(Clone, Copy, PartialEq, Eq, Debug)]
+#[derive(Clone, Copy, PartialEq, Eq)]
 pub enum ImageFault {
     /// A read or a write of the disk failed; only where the outside's count of faults rose.
     Disk,

@@ -33,7 +33,7 @@ impl Model for Pieces {
 }
 
 /// What one call of [`Pieces::next`] found.
-#[derive(Clone, Copy, PartialEq, Eq, Debug)]
+#[derive(Clone, Copy, PartialEq, Eq)]
 pub enum Next {
     /// The next byte of the input.
     Byte(u8),

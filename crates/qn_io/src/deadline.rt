@@ -3,7 +3,7 @@ use std::io::{self, ErrorKind};
 use std::time::{Clock, Duration};
 
 /// The moment at which a wait ends, on the monotonic clock.
-#[derive(Clone, Copy, Debug)]
+#[derive(Clone, Copy)]
 pub(crate) struct Deadline(Duration);
 
 impl Deadline {

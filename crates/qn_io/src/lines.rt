@@ -9,7 +9,7 @@ use crate::outside::Source;
 use arrayvec::ArrayVec;
 
 /// How the reading of a line ended.
-#[derive(Clone, Copy, PartialEq, Eq, Debug)]
+#[derive(Clone, Copy, PartialEq, Eq)]
 pub enum LineRead {
     /// A whole line was read, and its `\n`, which is left out.
     Line,

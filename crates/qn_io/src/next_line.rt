@@ -11,7 +11,7 @@ use crate::outside::Source;
 use arrayvec::ArrayVec;
 
 /// Where the next line of an input stands.
-#[derive(Clone, Copy, PartialEq, Eq, Debug)]
+#[derive(Clone, Copy, PartialEq, Eq)]
 pub enum NextLine {
     /// The first so many bytes that wait in the pieces, where its `\n` follows them.
     Waits(usize),

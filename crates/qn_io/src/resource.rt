@@ -11,7 +11,7 @@ use std::time::Clock;
 const SOCKET: &str = "unix:";
 
 /// What a resource is told to do.
-#[derive(Clone, Copy, PartialEq, Eq, Debug)]
+#[derive(Clone, Copy, PartialEq, Eq)]
 pub(crate) enum Order {
     Start,
     Stop,

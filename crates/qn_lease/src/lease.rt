@@ -9,7 +9,7 @@ use qn_model::{Device, Settings};
 pub const LONGEST_LEASE: u64 = 36_000_000;
 
 /// The two times of a leased vote, in milliseconds (this project's profile).
-#[derive(Clone, Copy, PartialEq, Eq, Debug)]
+#[derive(Clone, Copy, PartialEq, Eq)]
 pub struct Lease {
     /// How old a node's poll may be when its reply is taken: 1 to `LONGEST_PERIOD`.
     pub limit: u64,

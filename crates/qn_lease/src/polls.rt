@@ -3,7 +3,7 @@ use qn_base::{Rank, View};
 
 /// A node asks its arbiter for a vote. Incarnation, install number and view are those that it has; its polls of one boot
 /// are numbered from 0 (this project's profile).
-#[derive(Clone, Copy, PartialEq, Eq, Debug)]
+#[derive(Clone, Copy, PartialEq, Eq)]
 pub struct Poll {
     pub from: Rank,
     pub number: u64,
@@ -13,7 +13,7 @@ pub struct Poll {
 }
 
 /// The answer to a [`Poll`], whose number, incarnation and install number it repeats (this project's profile).
-#[derive(Clone, Copy, PartialEq, Eq, Debug)]
+#[derive(Clone, Copy, PartialEq, Eq)]
 pub struct Reply {
     pub to: Rank,
     pub number: u64,

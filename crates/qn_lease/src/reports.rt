@@ -2,7 +2,7 @@
 use qn_model::Report;
 
 /// What was sent at an event. Polls and replies ever sent are numbered from 0, each of the two by itself.
-#[derive(Clone, Copy, PartialEq, Eq, Debug)]
+#[derive(Clone, Copy, PartialEq, Eq)]
 pub enum Said {
     /// Nothing was sent between nodes and the arbiter.
     Nothing,

@@ -2,7 +2,7 @@
 use qn_model::{Answer, BootCause, Message, Phase, Why};
 
 /// How a running node ended.
-#[derive(Clone, Copy, PartialEq, Eq, Debug)]
+#[derive(Clone, Copy, PartialEq, Eq)]
 pub enum LiveEnd {
     /// The last turn was handled, and the node goes on: its phase, whether it holds the resource, the count of its votes
     /// and the first condition that blocks a start, each at the tick of the last turn.

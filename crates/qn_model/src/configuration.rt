@@ -4,7 +4,7 @@ use crate::order::Order;
 
 /// The quorum device: its votes, and for how many milliseconds a yes of it counts
 /// (corosync.conf(5), `quorum`, `device`).
-#[derive(Clone, Copy, PartialEq, Eq, Debug)]
+#[derive(Clone, Copy, PartialEq, Eq)]
 pub struct Device {
     pub votes: u32,
     pub timeout: u64,

@@ -3,7 +3,7 @@ use crate::nodelist::NodeEntry;
 use qn_base::View;
 
 /// What a good line of the input of `count` says.
-#[derive(Clone, Copy, PartialEq, Eq, Debug)]
+#[derive(Clone, Copy, PartialEq, Eq)]
 pub enum CountLine {
     /// `node ID VOTES`: one more node.
     Node(NodeEntry),

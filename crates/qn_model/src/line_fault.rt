@@ -5,7 +5,7 @@ ghost use Rattle.qn_model.specs.Lines.{name_of};
 /// What is wrong with a line of a schedule or of the input of `count`. Where several apply, the first in
 /// the order TooLong, Unended, TooMany, UnknownWord, BadCount is meant, and then the fault of the first
 /// word that has one.
-#[derive(Clone, Copy, PartialEq, Eq, Debug)]
+#[derive(Clone, Copy, PartialEq, Eq)]
 pub enum LineFault {
     /// The first word names no line, or a later word is none of those that may stand there.
     UnknownWord,

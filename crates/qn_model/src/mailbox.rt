@@ -3,7 +3,7 @@ use crate::disk::Message;
 use qn_base::NodeId;
 
 /// Who wrote a message: a node, and the incarnation in which it wrote (this project's profile).
-#[derive(Clone, Copy, PartialEq, Eq, Debug)]
+#[derive(Clone, Copy, PartialEq, Eq)]
 pub struct Sender {
     /// 1 or more.
     pub id: NodeId,
@@ -12,7 +12,7 @@ pub struct Sender {
 
 /// What a mailbox holds. `by` is None where nobody is named: an operator's message, and the Empty of a node
 /// that cleared its own mailbox.
-#[derive(Clone, Copy, PartialEq, Eq, Debug)]
+#[derive(Clone, Copy, PartialEq, Eq)]
 pub struct Mail {
     pub message: Message,
     pub by: Option<Sender>,

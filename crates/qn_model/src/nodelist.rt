@@ -5,7 +5,7 @@ use std::marker::Model;
 
 /// A configured node with its votes (corosync.conf(5), `nodelist`, `node`, `nodeid` and `quorum_votes`), and
 /// how many milliseconds after the last view it may be reset (this project's profile).
-#[derive(Clone, Copy, PartialEq, Eq, Default, Debug)]
+#[derive(Clone, Copy, PartialEq, Eq, Default)]
 pub struct NodeEntry {
     pub id: NodeId,
     pub votes: u32,

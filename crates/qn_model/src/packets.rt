@@ -36,7 +36,7 @@ pub enum Packet {
 }
 
 /// A packet that was sent, with its receiver.
-#[derive(Clone, Copy, PartialEq, Eq, Debug)]
+#[derive(Clone, Copy, PartialEq, Eq)]
 pub struct Sent {
     pub to: Rank,
     pub packet: Packet,

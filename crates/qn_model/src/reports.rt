@@ -25,7 +25,7 @@ pub struct Report {
 }
 
 /// Why an event was refused. The world is as it was.
-#[derive(Clone, Copy, PartialEq, Eq, Debug)]
+#[derive(Clone, Copy, PartialEq, Eq)]
 pub enum Refused {
     /// The rule that refuses the event.
     NotAllowed(Rule),

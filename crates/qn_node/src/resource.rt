@@ -2,7 +2,7 @@
 use qn_model::What;
 
 /// What a node does with the resource. Ticks are milliseconds of the node's clock.
-#[derive(Clone, Copy, PartialEq, Eq, Debug)]
+#[derive(Clone, Copy, PartialEq, Eq)]
 pub enum Resource {
     /// The node does not hold it.
     Free,

@@ -1,7 +1,7 @@
 //! What a draw of a soak chooses.
 
 /// What a draw chooses.
-#[derive(Clone, Copy, PartialEq, Eq, Debug)]
+#[derive(Clone, Copy, PartialEq, Eq)]
 pub(crate) enum Choice {
     /// The next step of a node.
     Step,

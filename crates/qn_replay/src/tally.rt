@@ -6,7 +6,7 @@ use qn_model::{DiskOp, Event, Out, Report};
 
 /// What the events of a soak came to: boots and crashes count events, resets, starts and stops count outputs,
 /// and `most_holders` is the greatest number of nodes that held the resource after any event.
-#[derive(Clone, Copy, PartialEq, Eq, Debug)]
+#[derive(Clone, Copy, PartialEq, Eq)]
 pub(crate) struct Tally {
     pub(crate) boots: u64,
     pub(crate) crashes: u64,

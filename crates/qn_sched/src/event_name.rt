@@ -6,7 +6,7 @@ use qn_base::Rank;
 use qn_model::Event;
 
 /// What the first word of an event's line says.
-#[derive(Clone, Copy, PartialEq, Eq, Debug)]
+#[derive(Clone, Copy, PartialEq, Eq)]
 pub(crate) enum EventName {
     Pass,
     Boot,
@@ -21,7 +21,7 @@ pub(crate) enum EventName {
 }
 
 /// An event of which the line says the node alone.
-#[derive(Clone, Copy, PartialEq, Eq, Debug)]
+#[derive(Clone, Copy, PartialEq, Eq)]
 pub(crate) enum NodeEvent {
     Crash,
     Land,

@@ -4,7 +4,7 @@ use qn_model::{LineFault, Rule, Timing};
 use qn_settings::SettingsFault;
 
 /// How a replay ended. Lines are those of the whole input, from 1.
-#[derive(Clone, Copy, PartialEq, Eq, Debug)]
+#[derive(Clone, Copy, PartialEq, Eq)]
 pub enum ReplayEnd {
     /// The input was read to its end, and every line was good: so many were events.
     Done { events: u64 },

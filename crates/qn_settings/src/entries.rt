@@ -8,7 +8,7 @@ use qn_conf::{Item, Tree, Word};
 use std::marker::Model;
 
 /// What a tree says of the keys that are read.
-#[derive(Debug, Drop)]
+#[derive(Drop)]
 pub(crate) enum Entry<'tree> {
     /// A node section begins.
     NodeBegins,

@@ -6,7 +6,7 @@ use crate::key::Key;
 use std::marker::Model;
 
 /// A section of the settings text, as the table of keys knows it (corosync.conf(5)).
-#[derive(Clone, Copy, PartialEq, Eq, Debug)]
+#[derive(Clone, Copy, PartialEq, Eq)]
 pub(crate) enum Section {
     /// Outside every section.
     Outside,

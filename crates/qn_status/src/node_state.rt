@@ -4,7 +4,7 @@ use qn_model::{Answer, Phase, Why};
 
 /// What the status says of one node, at its present tick. Of a node that is off the phase is Gone, the
 /// answer that of the empty history, and the condition Down.
-#[derive(Clone, Copy, PartialEq, Eq, Debug)]
+#[derive(Clone, Copy, PartialEq, Eq)]
 pub struct NodeState {
     pub id: NodeId,
     pub phase: Phase,

@@ -20,7 +20,7 @@ use qn_world::World;
 use std::alloc::Global;
 
 /// Why a status was not written.
-#[derive(Clone, Copy, PartialEq, Eq, Debug)]
+#[derive(Clone, Copy, PartialEq, Eq)]
 pub enum StatusFault {
     /// The sink failed; a prefix of the status was written.
     Failed,

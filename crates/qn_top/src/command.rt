@@ -93,7 +93,7 @@ const AUDIT_OPTIONS: [OptionName; 4] = [
 ];
 
 /// The form of a status.
-#[derive(Clone, Copy, PartialEq, Eq, Debug)]
+#[derive(Clone, Copy, PartialEq, Eq)]
 pub enum Form {
     /// A line for each node.
     Text,

@@ -3,7 +3,7 @@ use qn_model::{MailSeen, Message, Timing};
 
 /// What a read of the own mailbox comes to (sbd(8), `watch`; the limit of a read is this project's
 /// profile).
-#[derive(Clone, Copy, PartialEq, Eq, Debug)]
+#[derive(Clone, Copy, PartialEq, Eq)]
 pub enum Verdict {
     /// It gave Empty or Test in time: the node feeds its watchdog.
     Feed,

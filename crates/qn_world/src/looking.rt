@@ -7,7 +7,7 @@ use qn_model::{Answer, Phase, Report, Sent, Why};
 /// What a world shows of one node. Of a node that is off, running, out, landed, stop_due and holds are
 /// false, the phase is Gone, fed is 0, decided is None, the answer is that of the empty history, and why is
 /// Down.
-#[derive(Clone, Copy, PartialEq, Eq, Debug)]
+#[derive(Clone, Copy, PartialEq, Eq)]
 pub struct NodeSeen {
     pub running: bool,
     pub phase: Phase,

@@ -7,7 +7,7 @@ use qn_model::{DiskOp, What};
 
 /// What is pending at one node. Of a node that is off, running, out, landed and stop_due are false, fed is 0 and
 /// decided is None.
-#[derive(Clone, Copy, PartialEq, Eq, Debug)]
+#[derive(Clone, Copy, PartialEq, Eq)]
 pub struct Pending {
     pub running: bool,
     /// The true time of the last feed that took effect, or of the boot, in milliseconds.
