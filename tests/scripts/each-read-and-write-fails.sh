@@ -100,6 +100,15 @@ def each_read_fails(words, source, due=None, answered=lambda content: 0):
     os.close(directory)
 
 
+def read_fails_after(content, status, answer):
+    """What a replay says where the read after these bytes fails: a fault that stands in them is answered, and nothing is read after it."""
+    fresh()
+    with resets_after(content) as stdin, open("got", "wb") as stdout:
+        got = run(["replay"], stdin, stdout)
+    errors = "quorumd: standard input: %s\n" % RESET if status == 6 else ""
+    want(["replay"], "where reading fails after %r" % content, (*got, read("got")), (status, errors, answer))
+
+
 def fails_to_write(words, where, source, stdout, word, left, **how):
     fresh()
     with open(source) as stdin:
@@ -164,6 +173,8 @@ def is_as_before(where, sector):
     want(["message"], where, read("disk"), read("image"))
 
 
+NODE = b"nodelist {\nnode {\nnodeid: 1\n}\n}\n"
+TIMES = b"----\ntiming 5000 10000 1000 2000 1000\n"
 COUNT = (["count"], "votes", "counted")
 REPLAY = (["replay"], "schedule", "trace")
 REPLAY3 = (["replay3"], "schedule3", "trace3")
@@ -181,6 +192,11 @@ each_read_fails(*REPLAY, answered=events)
 each_read_fails(*REPLAY3, answered=events)
 for command in STATUS, STATUS_AS_JSON, CREATE:
     each_read_fails(*command)
+for content in b"", b"x\n", b"x\n----", NODE, NODE + b"----\n", NODE + b"----\nt", NODE + TIMES, NODE + TIMES + b"x":
+    read_fails_after(content, 6, b"fault ReadFault\n")
+read_fails_after(b"x\n----\n", 3, b"fault BadConf BadLine line 1\n")
+read_fails_after(NODE + b"----\nt\n", 4, b"fault BadSchedule line 7 UnknownWord\n")
+read_fails_after(NODE + TIMES + b"x\n", 4, b"fault BadSchedule line 8 UnknownWord\n")
 for command in COUNT, REPLAY, REPLAY3, STATUS, STATUS_AS_JSON, SOAK, CREATE, DUMP, LIST, MESSAGE, HELP:
     each_write_fails(*command)
 each_sector_fails(*CREATE, left=is_none)

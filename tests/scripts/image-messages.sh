@@ -17,9 +17,23 @@ for held in reset off crashdump; do
     expect 15 "fault DeadlyThere $held\\n" message --image d --id 1 --kind test
     cmp d before
 done
-expect 0 'sent clear to 1\n' message --image d --id 1 --kind clear
-expect 0 'sent exit to 1\n' message --image d --id 1 --kind exit
-expect 0 'sent test to 1\n' message --image d --id 1 --kind test
+for held in clear test reset off exit crashdump; do
+    for sent in clear test reset off exit crashdump; do
+        expect 0 'sent clear to 1\n' message --image d --id 1 --kind clear
+        expect 0 "sent $held to 1\\n" message --image d --id 1 --kind "$held"
+        case $held-$sent in
+        reset-test | off-test | crashdump-test | reset-exit | off-exit | crashdump-exit)
+            expect 15 "fault DeadlyThere $held\\n" message --image d --id 1 --kind "$sent"
+            left=$held
+            ;;
+        *)
+            expect 0 "sent $sent to 1\\n" message --image d --id 1 --kind "$sent"
+            left=${sent/clear/empty}
+            ;;
+        esac
+        expect 0 "node 1 incarnation 0 clean mail $left\\n" list --image d
+    done
+done
 
 # words that are no kind, and ids that are in no slot
 for kind in empty CLEAR '' tests; do
@@ -33,8 +47,11 @@ cp d before
 expect 9 'fault BadImage sector 512\n' message --image d --id 1 --kind test
 expect 9 'fault BadImage sector 512\n' message --image d --id 1 --kind exit
 cmp d before
-expect 0 'sent clear to 1\n' message --image d --id 1 --kind clear
-expect 0 'node 1 incarnation 0 clean mail empty\n' list --image d
+for kind in reset off crashdump clear; do
+    cp before d
+    expect 0 "sent $kind to 1\\n" message --image d --id 1 --kind "$kind"
+    expect 0 "node 1 incarnation 0 clean mail ${kind/clear/empty}\\n" list --image d
+done
 
 # a reset that node 1 wrote in its incarnation 3: bytes of the format
 printf 'MAIL\002\000\000\000\000\000\000\001\000\000\000\000\000\000\000\003' |

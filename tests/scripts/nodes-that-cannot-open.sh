@@ -1,5 +1,5 @@
 # Openings of a node that fail: a port in use, a folder, no rights, no image. What comes after the thing that failed is not touched; a second
-# start of a node that runs leaves that one in peace. And an image that is none ends the boot.
+# start of a node that runs leaves that one in peace. And an image that is none, or is not that of the settings, ends the boot.
 cp "$QUORUMD" program
 chmod 755 . program
 PYTHONPATH=$TOP/tests python3 -B - <<'END'
@@ -75,6 +75,18 @@ def no_image():
     same("the watchdog", cluster.watchdog(1).strip("1"), "")
 
 
-try_all(port_in_use, second_start, folders, no_image)
+def other_headers():
+    """A header of another number of nodes, or with times that are not safe, ends a boot; the number is looked at first."""
+    for nodes, msgwait, cause in (2, 2100, 2), (2, 1, 2), (1, 1, 3):
+        cluster = Cluster("header-%d-%d" % (nodes, msgwait), ids=(1,))
+        with open(cluster.image, "r+b") as image:
+            image.seek(10)
+            image.write(nodes.to_bytes(2, "big"))
+            image.seek(24)
+            image.write(msgwait.to_bytes(8, "big"))
+        same("answer", cluster.node(1).end(), (14, "fault BootHalted %d\n" % cause))
+
+
+try_all(port_in_use, second_start, folders, no_image, other_headers)
 try_all(no_rights)
 END

@@ -48,6 +48,8 @@ told 3 'quorum {\ntwo_node 1\n}\n' 'fault: line 2: neither a section, nor `key: 
 told 3 '}\n' 'fault: line 1: `}` ends a section, and none is open\nline 1: }\n'
 told 3 "${one}quorum {\nexpected_votes: many\n}\n" 'fault: expected_votes: a value is no number in the range of the key\nline 7: expected_votes: many\n'
 told 3 '' 'fault: nodelist: there is no node section\n'
+told 3 'quorum {\n' 'fault: the text ends inside a section: a `}` is missing\n'
+told 3 'nodelist {\nnode {\nnodeid: 2\n}\nnode {\nnodeid: 2\n}\n}\n' 'fault: nodelist: nodeid 2 stands in two node sections\nline 3: nodeid: 2\nline 6: nodeid: 2\n'
 
 # a text is taken exactly where quorumd takes it: the texts of examples, and those of the rows
 agrees() {
