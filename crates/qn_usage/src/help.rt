@@ -10,26 +10,42 @@ pub fn help_text(
     is: &str,
     commands: &[Synopsis],
 ) -> Result<String, AllocError> {
-    let mut text = format!(in alloc; "{program} {VERSION}: {is}\n")?;
-    for command in commands {
-        let lines = command_text(alloc, program, command)?;
-        text.push_str(lines.as_str())?;
-    }
-    let last = format!(in alloc; "\n{program} --help | -h | --version\n")?;
-    text.push_str(last.as_str())?;
+    let mut text = String::new(alloc);
+    add_help(&mut text, program, is, commands)?;
     Ok(text)
 }
 
-/// The two lines of a command, after an empty one.
-fn command_text(alloc: Global, program: &str, command: &Synopsis) -> Result<String, AllocError> {
-    let line = command.line;
+fn add_help(
+    text: &mut String,
+    program: &str,
+    is: &str,
+    commands: &[Synopsis],
+) -> Result<(), AllocError> {
+    add_parts(text, &[program, " ", VERSION, ": ", is, "\n"])?;
+    for command in commands {
+        add_command(text, program, command)?;
+    }
+    add_parts(text, &["\n", program, " --help | -h | --version\n"])
+}
+
+/// Adds the two lines of a command, after an empty one.
+fn add_command(text: &mut String, program: &str, command: &Synopsis) -> Result<(), AllocError> {
     let reads = command.reads;
-    let does = command.does;
     let less = if reads.is_empty() { "" } else { " < " };
-    format!(in alloc; "\n{program} {line}{less}{reads}\n    {does}\n")
+    add_parts(text, &["\n", program, " ", command.line, less, reads])?;
+    add_parts(text, &["\n    ", command.does, "\n"])
 }
 
 /// What `--version` writes.
 pub fn version_text(alloc: Global, program: &str) -> Result<String, AllocError> {
-    format!(in alloc; "{program} {VERSION}\n")
+    let mut text = String::new(alloc);
+    add_parts(&mut text, &[program, " ", VERSION, "\n"])?;
+    Ok(text)
+}
+
+fn add_parts(text: &mut String, parts: &[&str]) -> Result<(), AllocError> {
+    for part in parts {
+        text.push_str(part)?;
+    }
+    Ok(())
 }

@@ -5,7 +5,7 @@
 /// The line begins with the command's name. The words after it stand for operands, up to the first option. An option begins with two
 /// dashes; the word after it stands for its value, and an option without one stands alone. Brackets stand round what may be left out.
 /// Options come in any order, each at most once. `is_value` says what a word for a value stands for.
-#[derive(Clone, Copy, Debug)]
+#[derive(Clone, Copy)]
 pub struct Synopsis {
     /// The words, without the name of the program.
     pub line: &'static str,
@@ -16,7 +16,7 @@ pub struct Synopsis {
 }
 
 /// What an option takes.
-#[derive(Clone, Copy, PartialEq, Eq, Debug)]
+#[derive(Clone, Copy)]
 pub enum Takes {
     /// Nothing: it stands alone.
     Nothing,
