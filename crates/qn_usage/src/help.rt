@@ -2,6 +2,7 @@
 use crate::quorumd::VERSION;
 use crate::synopsis::Synopsis;
 use std::alloc::{AllocError, Global};
+use std::fmt::Write;
 
 /// What `--help` writes: what the program is, and two lines a command.
 pub fn help_text(
@@ -21,31 +22,23 @@ fn add_help(
     is: &str,
     commands: &[Synopsis],
 ) -> Result<(), AllocError> {
-    add_parts(text, &[program, " ", VERSION, ": ", is, "\n"])?;
+    write!(text, "{program} {VERSION}: {is}\n")?;
     for command in commands {
         add_command(text, program, command)?;
     }
-    add_parts(text, &["\n", program, " --help | -h | --version\n"])
+    write!(text, "\n{program} --help | -h | --version\n")
 }
 
 /// Adds the two lines of a command, after an empty one.
 fn add_command(text: &mut String, program: &str, command: &Synopsis) -> Result<(), AllocError> {
+    let line = command.line;
     let reads = command.reads;
+    let does = command.does;
     let less = if reads.is_empty() { "" } else { " < " };
-    add_parts(text, &["\n", program, " ", command.line, less, reads])?;
-    add_parts(text, &["\n    ", command.does, "\n"])
+    write!(text, "\n{program} {line}{less}{reads}\n    {does}\n")
 }
 
 /// What `--version` writes.
 pub fn version_text(alloc: Global, program: &str) -> Result<String, AllocError> {
-    let mut text = String::new(alloc);
-    add_parts(&mut text, &[program, " ", VERSION, "\n"])?;
-    Ok(text)
-}
-
-fn add_parts(text: &mut String, parts: &[&str]) -> Result<(), AllocError> {
-    for part in parts {
-        text.push_str(part)?;
-    }
-    Ok(())
+    format!(in alloc; "{program} {VERSION}\n")
 }
