@@ -7,7 +7,7 @@ use std::fmt;
 use std::fmt::Display;
 
 /// What a node did that a journal is to show.
-#[derive(Clone, Copy, Debug)]
+#[derive(Clone, Copy)]
 pub(crate) enum Action<'a> {
     Open(&'a Opening<'a>),
     Start,

@@ -40,7 +40,7 @@ impl<R: Files<File = File> + Net + Clock + Eprint + Drop> Model for RealEnv<R> {
 }
 
 impl<R: Files<File = File> + Net + Clock + Eprint + Drop> RealEnv<R> {
-    ghost use Rattle.std.specs.Prelude.{◌≡◌, ◌≤◌, OnErr};
+    ghost use Rattle.std.specs.Prelude.{◌≡◌, ◌≤◌, IfOk, IfSome, OnErr};
     ghost use Rattle.qn_io.specs.Outside.{HasRisen};
 
     /// An outside over this runtime, with nothing opened and no fault so far.
@@ -63,6 +63,17 @@ impl<R: Files<File = File> + Net + Clock + Eprint + Drop> RealEnv<R> {
         if disk.has_lost() {
             self.faults = self.faults.saturating_add(1);
         }
+    }
+
+    /// Keeps what was opened for a node, and counts a fault where one of three images is lost.
+    fn keep(&mut self, opened: Result<(Disk, Devices), Failed>) -> Result<(), Failed>
+        ensures { self.old ≤ self.new }
+    {
+        let (disk, devices) = opened?;
+        self.count_lost(&disk);
+        self.disk = disk;
+        self.devices = Some(devices);
+        Ok(())
     }
 
     /// Counts a fault where the call failed.
@@ -95,6 +106,14 @@ impl<R: Files<File = File> + Net + Clock + Eprint + Drop> RealEnv<R> {
         let devices = self.devices.as_ref().ok_or(Failed)?;
         let done = devices.resource.order(&self.rt, order);
         reported(&self.rt, devices.resource.path(), done)
+    }
+
+    /// Takes a packet from the network, where that is open.
+    fn take_packet(&self, packet: &mut [u8; PACKET]) -> Result<Option<usize>, Failed>
+        ensures { IfOk result (λ came. IfSome came (λ count. count ≤ 129)) }
+    {
+        let network = &self.devices.as_ref().ok_or(Failed)?.network;
+        reported(&self.rt, "network", network.receive(&self.rt, packet))
     }
 
     /// Feeds the watchdog where that is in time.
@@ -148,15 +167,7 @@ impl<R: Files<File = File> + Net + Clock + Eprint + Drop> Env for RealEnv<R> {
         self.disk = Disk::closed();
         self.devices = None;
         let opened = Devices::open(&self.rt, opening);
-        let done = match opened {
-            Ok((disk, devices)) => {
-                self.count_lost(&disk);
-                self.disk = disk;
-                self.devices = Some(devices);
-                Ok(())
-            }
-            Err(failed) => Err(failed),
-        };
+        let done = self.keep(opened);
         let tick = self.tick().unwrap_or(0);
         let done = noted(&self.rt, tick, Action::Open(opening), done);
         self.counted(done)
@@ -173,14 +184,7 @@ impl<R: Files<File = File> + Net + Clock + Eprint + Drop> Env for RealEnv<R> {
 
     /// Waits at most 50 ms in all.
     fn receive(&mut self, packet: &mut [u8; PACKET]) -> Got {
-        let done = match &self.devices {
-            Some(devices) => {
-                let came = devices.network.receive(&self.rt, packet);
-                reported(&self.rt, "network", came)
-            }
-            None => Err(Failed),
-        };
-        match done {
+        match self.take_packet(packet) {
             Ok(Some(count)) => Got::Packet(count),
             Ok(None) => Got::Nothing,
             Err(failed) => {
