@@ -22,7 +22,7 @@ pub const SENT_PACKET: usize = 128;
 /// What a running node opens: how many images it has, 1 or 3, the path of its image, or those of its three
 /// images with a comma between each two, the paths of its watchdog and of its resource, and the first port of
 /// the cluster with its own rank, which together give the port that it listens at.
-#[derive(Clone, Copy, Debug)]
+#[derive(Clone, Copy)]
 pub struct Opening<'a> {
     pub images: u8,
     pub image: &'a str,
