@@ -7,6 +7,7 @@ use crate::devices::Devices;
 use crate::disk::Disk;
 use crate::reported::reported;
 use crate::resource::Order;
+use crate::watchdog::Watchdog;
 use qn_base::{Failed, Rank};
 use std::fs::File;
 use std::io;
@@ -120,12 +121,23 @@ impl<R: Files<File = File> + Net + Clock + Eprint + Drop> RealEnv<R> {
     fn feed_in_time(&self) -> Result<(), Failed> {
         let tick = self.tick().ok_or(Failed)?;
         let watchdog = &self.devices.as_ref().ok_or(Failed)?.watchdog;
-        let done = if is_feed_in_time(self.last_tick, tick) {
+        let done = self.feed_at(tick, watchdog);
+        reported(&self.rt, watchdog.path(), done)
+    }
+
+    /// Disarms the watchdog, where that is open.
+    fn disarm_watchdog(&self) -> Result<(), Failed> {
+        let watchdog = &self.devices.as_ref().ok_or(Failed)?.watchdog;
+        reported(&self.rt, watchdog.path(), watchdog.disarm())
+    }
+
+    /// Feeds the watchdog where that is in time at that tick.
+    fn feed_at(&self, tick: u64, watchdog: &Watchdog) -> io::Result<()> {
+        if is_feed_in_time(self.last_tick, tick) {
             watchdog.feed()
         } else {
             Err(io::Error::other("too late for a feed"))
-        };
-        reported(&self.rt, watchdog.path(), done)
+        }
     }
 }
 
@@ -238,13 +250,7 @@ impl<R: Files<File = File> + Net + Clock + Eprint + Drop> Env for RealEnv<R> {
     }
 
     fn disarm(&mut self) -> Result<(), Failed> {
-        let done = match &self.devices {
-            Some(devices) => {
-                let watchdog = &devices.watchdog;
-                reported(&self.rt, watchdog.path(), watchdog.disarm())
-            }
-            None => Err(Failed),
-        };
+        let done = self.disarm_watchdog();
         let done = self.note(Action::Disarm, done);
         self.counted(done)
     }
