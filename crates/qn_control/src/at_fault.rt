@@ -1,4 +1,5 @@
 //! The lines of a settings text that a fault speaks of.
+use crate::text::Text;
 use qn_conf::ConfFault;
 use qn_settings::{Key, SettingsFault, TextFault};
 use std::alloc::{AllocError, Global};
@@ -6,18 +7,20 @@ use std::str::from_utf8;
 
 /// The lines of the text that the fault names, each with its number: the line itself, or those on which its key stands.
 pub fn wrong_lines(alloc: Global, text: &[u8], fault: &TextFault) -> Result<String, AllocError> {
-    let mut lines = String::new(alloc);
+    let mut lines = Text::new(alloc);
     let text = from_utf8(text).unwrap_or("");
     let mut number = 0u64;
     for line in text.split('\n') {
         number = number.saturating_add(1);
         let line = line.trim();
         if is_named(fault, number, line) {
-            let told = format!(in alloc; "line {number}: {line}\n")?;
-            lines.push_str(told.as_str())?;
+            lines.add_number("line ", number);
+            lines.add(": ");
+            lines.add(line);
+            lines.add("\n");
         }
     }
-    Ok(lines)
+    lines.finish()
 }
 
 /// Whether the fault names this line of the text.

@@ -7,7 +7,7 @@ use std::alloc::{AllocError, Global};
 use std::fmt;
 
 /// What is risky in settings that are taken.
-#[derive(Clone, Copy, Debug, Drop)]
+#[derive(Clone, Copy, Drop)]
 pub enum Concern<'text> {
     /// last_man_standing without wait_for_all: votequorum(5) wants both.
     LastManWithoutWait,
@@ -26,20 +26,10 @@ pub enum Concern<'text> {
 impl fmt::Display for Concern<'_> {
     fn fmt<W: fmt::Write>(&self, f: &mut fmt::Formatter<W>) -> fmt::Result {
         match self {
-            Concern::LastManWithoutWait => { write!(f, "last_man_standing without wait_for_all") }
-            Concern::TwoNodeWithoutWait => write!(f, "two_node without wait_for_all"),
-            Concern::ExpectedBelow { expected, votes } => {
-                write!(
-                    f,
-                    "expected_votes {expected} is below the {votes} votes that there are"
-                )
-            }
-            Concern::ExpectedAbove { expected, votes } => {
-                write!(
-                    f,
-                    "expected_votes {expected} is above the {votes} votes that there are"
-                )
-            }
+            Concern::LastManWithoutWait => f.write_str("last_man_standing without wait_for_all"),
+            Concern::TwoNodeWithoutWait => f.write_str("two_node without wait_for_all"),
+            Concern::ExpectedBelow { expected, votes } => of_votes(f, *expected, "below", *votes),
+            Concern::ExpectedAbove { expected, votes } => of_votes(f, *expected, "above", *votes),
             Concern::EvenWithoutDecider { votes } => {
                 write!(
                     f,
@@ -49,6 +39,19 @@ impl fmt::Display for Concern<'_> {
             Concern::UnknownKey { key } => write!(f, "the key {key:?} is not known"),
         }
     }
+}
+
+/// Writes that the expected votes are above or below those that there are.
+fn of_votes<W: fmt::Write>(
+    f: &mut fmt::Formatter<W>,
+    expected: u64,
+    side: &str,
+    votes: u64,
+) -> fmt::Result {
+    write!(
+        f,
+        "expected_votes {expected} is {side} the {votes} votes that there are"
+    )
 }
 
 /// The keys of a node that are known (corosync.conf(5), nodelist), and fence_delay of this project's profile.
@@ -87,36 +90,56 @@ pub fn concerns_of<'text>(
     pairs: &[Pair<'text>],
 ) -> Result<Vec<Concern<'text>>, AllocError> {
     let mut concerns = Vec::new(alloc);
+    add_concerns(&mut concerns, settings, pairs)?;
+    Ok(concerns)
+}
+
+fn add_concerns<'text>(
+    concerns: &mut Vec<Concern<'text>>,
+    settings: &Settings,
+    pairs: &[Pair<'text>],
+) -> Result<(), AllocError> {
     if has_last_man_without_wait(settings) {
         concerns.push(Concern::LastManWithoutWait)?;
     }
     if has_two_node_without_wait(settings) {
         concerns.push(Concern::TwoNodeWithoutWait)?;
     }
-    let votes = node_votes(settings);
-    let all = votes.saturating_add(device_votes(settings));
-    let expected = settings.expected;
-    if expected < all {
-        concerns.push(Concern::ExpectedBelow {
-            expected,
-            votes: all,
-        })?;
+    if let Some(concern) = of_expected(settings) {
+        concerns.push(concern)?;
     }
-    if expected > all {
-        concerns.push(Concern::ExpectedAbove {
-            expected,
-            votes: all,
-        })?;
-    }
-    if votes % 2 == 0 && has_no_decider(settings) {
-        concerns.push(Concern::EvenWithoutDecider { votes })?;
+    if let Some(concern) = of_halves(settings) {
+        concerns.push(concern)?;
     }
     for pair in pairs {
         if !is_known(pair.place, pair.key) {
             concerns.push(Concern::UnknownKey { key: pair.key })?;
         }
     }
-    Ok(concerns)
+    Ok(())
+}
+
+/// What is risky in the expected votes: they are not those that there are.
+fn of_expected<'text>(settings: &Settings) -> Option<Concern<'text>> {
+    let expected = settings.expected;
+    let votes = node_votes(settings).saturating_add(device_votes(settings));
+    if expected < votes {
+        Some(Concern::ExpectedBelow { expected, votes })
+    } else if expected > votes {
+        Some(Concern::ExpectedAbove { expected, votes })
+    } else {
+        None
+    }
+}
+
+/// What is risky in the votes of the nodes: they can fall into halves.
+fn of_halves<'text>(settings: &Settings) -> Option<Concern<'text>> {
+    let votes = node_votes(settings);
+    if votes % 2 == 0 && has_no_decider(settings) {
+        Some(Concern::EvenWithoutDecider { votes })
+    } else {
+        None
+    }
 }
 
 fn has_last_man_without_wait(settings: &Settings) -> bool

@@ -3,7 +3,7 @@ use qn_base::NodeId;
 use std::fmt;
 
 /// What is wrong with an image, or does not fit a corosync.conf.
-#[derive(Clone, Copy, PartialEq, Eq, Debug, Drop)]
+#[derive(Clone, Copy, Drop)]
 pub enum Finding {
     /// The sector cannot be read.
     Unreadable {
@@ -48,38 +48,45 @@ pub enum Finding {
 impl fmt::Display for Finding {
     fn fmt<W: fmt::Write>(&self, f: &mut fmt::Formatter<W>) -> fmt::Result {
         match self {
-            Finding::Unreadable { sector } => write!(f, "sector {sector} cannot be read"),
-            Finding::NotImage => write!(f, "sector 0 is no header: the file is no image"),
-            Finding::OldVersion => write!(f, "the image is of version 1: quorumd migrate"),
-            Finding::UnsafeTimes => write!(f, "the times are not safe"),
-            Finding::NotSlot { sector } => write!(f, "sector {sector} is no slot"),
-            Finding::NotMailbox { sector } => write!(f, "sector {sector} is no mailbox"),
+            Finding::Unreadable { sector } => of_sector(f, *sector, " cannot be read"),
+            Finding::NotImage => f.write_str("sector 0 is no header: the file is no image"),
+            Finding::OldVersion => f.write_str("the image is of version 1: quorumd migrate"),
+            Finding::UnsafeTimes => f.write_str("the times are not safe"),
+            Finding::NotSlot { sector } => of_sector(f, *sector, " is no slot"),
+            Finding::NotMailbox { sector } => of_sector(f, *sector, " is no mailbox"),
             Finding::NotAscending { sector, id } => {
-                let id = id.0;
-                write!(
-                    f,
-                    "sector {sector} has the id {id}, which is not above the one before"
-                )
+                of_sector(f, *sector, " has the id ")?;
+                number(f, "", id.0, ", which is not above the one before")
             }
             Finding::Tail { bytes } => write!(f, "{bytes} bytes stand behind the image"),
             Finding::OtherCount { image, settings } => {
-                write!(
-                    f,
-                    "the image is for {image} nodes, and the settings have {settings}"
-                )
+                number(f, "the image is for ", *image, " nodes, and the settings")?;
+                number(f, " have ", *settings, "")
             }
             Finding::OtherId {
                 sector,
                 image,
                 settings,
             } => {
-                let image = image.0;
-                let settings = settings.0;
-                write!(
-                    f,
-                    "sector {sector} has the id {image}, and the settings have {settings} there"
-                )
+                of_sector(f, *sector, " has the id ")?;
+                number(f, "", image.0, ", and the settings have ")?;
+                number(f, "", settings.0, " there")
             }
         }
     }
+}
+
+/// Writes the number of a sector, and what is said of it.
+fn of_sector<W: fmt::Write>(f: &mut fmt::Formatter<W>, sector: u32, said: &str) -> fmt::Result {
+    number(f, "sector ", sector, said)
+}
+
+/// Writes a number between two texts.
+fn number<W: fmt::Write>(
+    f: &mut fmt::Formatter<W>,
+    before: &str,
+    number: u32,
+    after: &str,
+) -> fmt::Result {
+    write!(f, "{before}{number}{after}")
 }

@@ -20,7 +20,7 @@ pub trait Sectors {
 }
 
 /// What an image says of a node, as far as its sectors can be read and are what they should be.
-#[derive(Clone, Copy, Debug, Drop)]
+#[derive(Clone, Copy, Drop)]
 pub struct NodeSeen {
     pub slot: Option<(NodeId, Slot)>,
     pub mail: Option<Mail>,
@@ -48,11 +48,7 @@ pub fn look_at_image<S: Sectors>(
     };
     look_at_header(sectors, &mut seen)?;
     if let Some((version, nodes, _)) = seen.header {
-        for rank in 0..nodes.min(32) {
-            look_at_node(sectors, version, Rank(rank as u8), &mut seen)?;
-        }
-        look_at_ids(&mut seen)?;
-        look_at_end(version, nodes, sectors.length(), &mut seen)?;
+        look_at_nodes(sectors, version, nodes, &mut seen)?;
         if let Some(settings) = settings {
             compare(settings, nodes, &mut seen)?;
         }
@@ -79,6 +75,20 @@ fn look_at_header<S: Sectors>(sectors: &S, seen: &mut ImageSeen) -> Result<(), A
         }
     }
     Ok(())
+}
+
+/// Reads the slots and the mailboxes of all ranks, and what stands behind them.
+fn look_at_nodes<S: Sectors>(
+    sectors: &S,
+    version: u16,
+    nodes: u32,
+    seen: &mut ImageSeen,
+) -> Result<(), AllocError> {
+    for rank in 0..nodes.min(32) {
+        look_at_node(sectors, version, Rank(rank as u8), seen)?;
+    }
+    look_at_ids(seen)?;
+    look_at_end(version, nodes, sectors.length(), seen)
 }
 
 /// Reads the slot and the mailbox of a rank.

@@ -1,92 +1,107 @@
-//! What an image says, as JSON (RFC 8259).
+//! What an image says, as JSON (RFC 8259). Names and findings have no characters that JSON escapes.
 use crate::image::{ImageSeen, NodeSeen};
+use crate::text::Text;
 use qn_base::NodeId;
 use qn_model::{Mail, Slot, Timing, timing_safe};
-use serde_json::{Value, json};
 use std::alloc::{AllocError, Global};
 
 /// One line: an array with an object for each node.
 pub fn list_json(alloc: Global, nodes: &[NodeSeen]) -> Result<String, AllocError> {
-    line_of(alloc, &nodes_value(alloc, nodes)?)
+    let mut json = Text::new(alloc);
+    add_nodes(&mut json, nodes);
+    json.add("\n");
+    json.finish()
 }
 
 /// One line: an object with the header, the nodes and the findings.
 pub fn check_json(alloc: Global, seen: &ImageSeen) -> Result<String, AllocError> {
-    let nodes = nodes_value(alloc, seen.nodes.as_slice())?;
-    let mut findings = Vec::new(alloc);
-    for finding in seen.findings.as_slice() {
-        let text = format!(in alloc; "{finding}")?;
-        findings.push(Value::String(text))?;
+    let mut json = Text::new(alloc);
+    json.add("{\"findings\":");
+    add_findings(&mut json, seen);
+    json.add(",\"header\":");
+    match &seen.header {
+        Some((version, _, timing)) => add_header(&mut json, *version, timing),
+        None => json.add("null"),
     }
-    let header = match &seen.header {
-        Some((version, _, timing)) => header_value(alloc, *version, timing)?,
-        None => Value::Null,
-    };
-    let value = json!(in alloc; {
-        "findings": Value::Array(findings),
-        "header": header,
-        "nodes": nodes,
-    })?;
-    line_of(alloc, &value)
+    json.add(",\"nodes\":");
+    add_nodes(&mut json, seen.nodes.as_slice());
+    json.add("}\n");
+    json.finish()
 }
 
-/// A value as a line.
-fn line_of(alloc: Global, value: &Value) -> Result<String, AllocError> {
-    let mut line = value.to_string(alloc)?;
-    line.push('\n')?;
-    Ok(line)
+/// The array of the findings, as texts.
+fn add_findings(json: &mut Text, seen: &ImageSeen) {
+    let mut before = "[\"";
+    for finding in seen.findings.as_slice() {
+        json.add(before);
+        json.add_value(finding);
+        json.add("\"");
+        before = ",\"";
+    }
+    json.add(if seen.findings.is_empty() { "[]" } else { "]" });
 }
 
-fn header_value(alloc: Global, version: u16, timing: &Timing) -> Result<Value, AllocError> {
-    json!(in alloc; {
-        "feed_delay": timing.feed_delay,
-        "loop": timing.loop_ms,
-        "msgwait": timing.msgwait,
-        "read_limit": timing.read_limit,
-        "safe": timing_safe(timing),
-        "version": version,
-        "watchdog": timing.watchdog,
-    })
+fn add_header(json: &mut Text, version: u16, timing: &Timing) {
+    json.add_number("{\"feed_delay\":", timing.feed_delay);
+    json.add_number(",\"loop\":", timing.loop_ms);
+    json.add_number(",\"msgwait\":", timing.msgwait);
+    json.add_number(",\"read_limit\":", timing.read_limit);
+    json.add(",\"safe\":");
+    json.add(truth(timing_safe(timing)));
+    json.add_number(",\"version\":", u64::from(version));
+    json.add_number(",\"watchdog\":", timing.watchdog);
+    json.add("}");
 }
 
 /// The array of these nodes.
-fn nodes_value(alloc: Global, nodes: &[NodeSeen]) -> Result<Value, AllocError> {
-    let mut items = Vec::new(alloc);
+fn add_nodes(json: &mut Text, nodes: &[NodeSeen]) {
+    let mut before = "[";
     for node in nodes {
-        let value = node_value(alloc, node)?;
-        items.push(value)?;
+        json.add(before);
+        add_node(json, node);
+        before = ",";
     }
-    Ok(Value::Array(items))
+    json.add(if nodes.is_empty() { "[]" } else { "]" });
 }
 
 /// The object of a node; null stands for what cannot be read or is none.
-fn node_value(alloc: Global, node: &NodeSeen) -> Result<Value, AllocError> {
-    let slot = match &node.slot {
-        Some((id, slot)) => slot_value(alloc, *id, slot)?,
-        None => Value::Null,
-    };
-    let mail = match &node.mail {
-        Some(mail) => mail_value(alloc, mail)?,
-        None => Value::Null,
-    };
-    json!(in alloc; { "mail": mail, "slot": slot })
+fn add_node(json: &mut Text, node: &NodeSeen) {
+    json.add("{\"mail\":");
+    match &node.mail {
+        Some(mail) => add_mail(json, mail),
+        None => json.add("null"),
+    }
+    json.add(",\"slot\":");
+    match &node.slot {
+        Some((id, slot)) => add_slot(json, *id, slot),
+        None => json.add("null"),
+    }
+    json.add("}");
 }
 
-fn slot_value(alloc: Global, id: NodeId, slot: &Slot) -> Result<Value, AllocError> {
-    json!(in alloc; {
-        "clean": slot.clean,
-        "id": id.0,
-        "incarnation": slot.incarnation,
-    })
+fn add_slot(json: &mut Text, id: NodeId, slot: &Slot) {
+    json.add("{\"clean\":");
+    json.add(truth(slot.clean));
+    json.add_number(",\"id\":", u64::from(id.0));
+    json.add_number(",\"incarnation\":", slot.incarnation);
+    json.add("}");
 }
 
-fn mail_value(alloc: Global, mail: &Mail) -> Result<Value, AllocError> {
-    let sender = match mail.by {
-        Some(sender) => json!(in alloc; {
-            "id": sender.id.0,
-            "incarnation": sender.incarnation,
-        })?,
-        None => Value::Null,
-    };
-    json!(in alloc; { "by": sender, "message": mail.message.name() })
+fn add_mail(json: &mut Text, mail: &Mail) {
+    json.add("{\"by\":");
+    match mail.by {
+        Some(sender) => {
+            json.add_number("{\"id\":", u64::from(sender.id.0));
+            json.add_number(",\"incarnation\":", sender.incarnation);
+            json.add("}");
+        }
+        None => json.add("null"),
+    }
+    json.add(",\"message\":\"");
+    json.add(mail.message.name());
+    json.add("\"}");
+}
+
+fn truth(holds: bool) -> &'static str {
+    if holds { "true" } else { "false" }
 }

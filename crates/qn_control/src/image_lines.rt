@@ -1,54 +1,52 @@
 //! What an image says, in lines.
 use crate::image::{ImageSeen, NodeSeen};
+use crate::text::Text;
 use std::alloc::{AllocError, Global};
 
 /// A line for each node, as `quorumd list` writes it; a question mark stands for a slot or a mailbox that cannot be read or is none.
 pub fn node_lines(alloc: Global, nodes: &[NodeSeen]) -> Result<String, AllocError> {
-    let mut text = String::new(alloc);
+    let mut text = Text::new(alloc);
     for node in nodes {
-        let slot = slot_words(alloc, node)?;
-        let mail = mail_words(alloc, node)?;
-        let line = format!(in alloc; "node {slot} mail {mail}\n")?;
-        text.push_str(line.as_str())?;
+        text.add("node ");
+        add_slot(&mut text, node);
+        text.add(" mail ");
+        add_mail(&mut text, node);
+        text.add("\n");
     }
-    Ok(text)
+    text.finish()
 }
 
 /// A line for each thing that is wrong with an image.
 pub fn finding_lines(alloc: Global, seen: &ImageSeen) -> Result<String, AllocError> {
-    let mut text = String::new(alloc);
+    let mut text = Text::new(alloc);
     for finding in seen.findings.as_slice() {
-        let line = format!(in alloc; "warning: {finding}\n")?;
-        text.push_str(line.as_str())?;
+        text.add("warning: ");
+        text.add_value(finding);
+        text.add("\n");
     }
-    Ok(text)
+    text.finish()
 }
 
-fn slot_words(alloc: Global, node: &NodeSeen) -> Result<String, AllocError> {
+fn add_slot(text: &mut Text, node: &NodeSeen) {
     match &node.slot {
         Some((id, slot)) => {
-            let id = id.0;
-            let incarnation = slot.incarnation;
-            let end = if slot.clean { "clean" } else { "dirty" };
-            format!(in alloc; "{id} incarnation {incarnation} {end}")
+            text.add_number("", u64::from(id.0));
+            text.add_number(" incarnation ", slot.incarnation);
+            text.add(if slot.clean { " clean" } else { " dirty" });
         }
-        None => format!(in alloc; "?"),
+        None => text.add("?"),
     }
 }
 
-fn mail_words(alloc: Global, node: &NodeSeen) -> Result<String, AllocError> {
+fn add_mail(text: &mut Text, node: &NodeSeen) {
     match &node.mail {
         Some(mail) => {
-            let message = mail.message.name();
-            match mail.by {
-                Some(sender) => {
-                    let id = sender.id.0;
-                    let incarnation = sender.incarnation;
-                    format!(in alloc; "{message} by {id}:{incarnation}")
-                }
-                None => format!(in alloc; "{message}"),
+            text.add(mail.message.name());
+            if let Some(sender) = mail.by {
+                text.add_number(" by ", u64::from(sender.id.0));
+                text.add_number(":", sender.incarnation);
             }
         }
-        None => format!(in alloc; "?"),
+        None => text.add("?"),
     }
 }

@@ -13,6 +13,7 @@ mod image_json;
 mod image_lines;
 mod named;
 mod pairs;
+mod text;
 mod times;
 mod told;
 

@@ -4,7 +4,7 @@ use std::alloc::{AllocError, Global};
 use std::str::from_utf8;
 
 /// Where a key stands.
-#[derive(Clone, Copy, PartialEq, Eq, Debug)]
+#[derive(Clone, Copy, PartialEq, Eq)]
 pub enum Place {
     /// In `nodelist`.
     NodeList,
@@ -17,7 +17,7 @@ pub enum Place {
 }
 
 /// A key with its value.
-#[derive(Clone, Copy, Debug)]
+#[derive(Clone, Copy)]
 pub struct Pair<'text> {
     pub place: Place,
     pub key: &'text str,

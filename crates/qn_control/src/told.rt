@@ -2,6 +2,7 @@
 use crate::flags::reason_of;
 use crate::named::name_of;
 use crate::pairs::Pair;
+use crate::text::Text;
 use qn_model::Settings;
 use std::alloc::{AllocError, Global};
 
@@ -11,76 +12,62 @@ pub fn settings_text(
     settings: &Settings,
     pairs: &[Pair<'_>],
 ) -> Result<String, AllocError> {
-    let mut text = String::new(alloc);
-    add_nodes(&mut text, alloc, settings, pairs)?;
-    add_flags(&mut text, alloc, settings, pairs)?;
-    add_votes(&mut text, alloc, settings, pairs)?;
-    Ok(text)
+    let mut text = Text::new(alloc);
+    add_nodes(&mut text, settings, pairs);
+    add_flags(&mut text, settings, pairs);
+    add_votes(&mut text, settings, pairs);
+    text.finish()
 }
 
-fn add_nodes(
-    text: &mut String,
-    alloc: Global,
-    settings: &Settings,
-    pairs: &[Pair<'_>],
-) -> Result<(), AllocError> {
+fn add_nodes(text: &mut Text, settings: &Settings, pairs: &[Pair<'_>]) {
     for node in settings.nodes.as_slice() {
-        let id = node.id.0;
-        let votes = node.votes;
-        let delay = node.fence_delay;
-        let name = name_of(pairs, node.id).unwrap_or("-");
-        let line = format!(in alloc; "node {id} name {name} votes {votes} fence_delay {delay}\n")?;
-        text.push_str(line.as_str())?;
+        text.add_number("node ", u64::from(node.id.0));
+        text.add(" name ");
+        text.add(name_of(pairs, node.id).unwrap_or("-"));
+        text.add_number(" votes ", u64::from(node.votes));
+        text.add_number(" fence_delay ", node.fence_delay);
+        text.add("\n");
     }
-    Ok(())
 }
 
-fn add_flags(
-    text: &mut String,
-    alloc: Global,
-    settings: &Settings,
-    pairs: &[Pair<'_>],
-) -> Result<(), AllocError> {
-    let waits = if settings.two_node {
-        "two_node"
-    } else {
-        "default"
-    };
-    for (key, is_on, absent) in [
-        ("two_node", settings.two_node, "default"),
-        ("wait_for_all", settings.wait_for_all, waits),
-        ("last_man_standing", settings.last_man_standing, "default"),
-        ("auto_tie_breaker", settings.tie.is_some(), "default"),
-    ] {
-        let state = if is_on { "on" } else { "off" };
-        let reason = reason_of(pairs, key, absent);
-        let line = format!(in alloc; "{key} {state} by {reason}\n")?;
-        text.push_str(line.as_str())?;
-    }
-    Ok(())
+fn add_flags(text: &mut Text, settings: &Settings, pairs: &[Pair<'_>]) {
+    let two_node = settings.two_node;
+    let waits = if two_node { "two_node" } else { "default" };
+    let last_man = settings.last_man_standing;
+    let has_tie = settings.tie.is_some();
+    add_flag(text, pairs, "two_node", two_node, "default");
+    add_flag(text, pairs, "wait_for_all", settings.wait_for_all, waits);
+    add_flag(text, pairs, "last_man_standing", last_man, "default");
+    add_flag(text, pairs, "auto_tie_breaker", has_tie, "default");
 }
 
-fn add_votes(
-    text: &mut String,
-    alloc: Global,
-    settings: &Settings,
+/// The line of a flag, with what turned it on or off.
+fn add_flag(
+    text: &mut Text,
     pairs: &[Pair<'_>],
-) -> Result<(), AllocError> {
-    let device = match settings.device {
+    key: &'static str,
+    is_on: bool,
+    absent: &'static str,
+) {
+    text.add(key);
+    text.add(if is_on { " on by " } else { " off by " });
+    text.add(reason_of(pairs, key, absent));
+    text.add("\n");
+}
+
+fn add_votes(text: &mut Text, settings: &Settings, pairs: &[Pair<'_>]) {
+    match settings.device {
         Some(device) => {
-            let votes = device.votes;
-            let timeout = device.timeout;
-            format!(in alloc; "device votes {votes} timeout {timeout}\n")?
+            text.add_number("device votes ", u64::from(device.votes));
+            text.add_number(" timeout ", device.timeout);
         }
-        None => format!(in alloc; "device none\n")?,
-    };
-    text.push_str(device.as_str())?;
-    let window = settings.window;
+        None => text.add("device none"),
+    }
     let expected = settings.expected;
-    let quorum = settings.quorum(expected);
-    let reason = reason_of(pairs, "expected_votes", "the sum");
-    let votes = format!(in alloc;
-        "last_man_standing_window {window}\nexpected_votes {expected} by {reason}\nquorum {quorum}\n"
-    )?;
-    text.push_str(votes.as_str())
+    text.add_number("\nlast_man_standing_window ", settings.window);
+    text.add_number("\nexpected_votes ", expected);
+    text.add(" by ");
+    text.add(reason_of(pairs, "expected_votes", "the sum"));
+    text.add_number("\nquorum ", settings.quorum(expected));
+    text.add("\n");
 }

@@ -132,12 +132,13 @@ fn open_three<R: Files<File = File> + Eprint>(rt: &R, word: &str) -> Result<Disk
 
 /// The paths of a word with exactly two commas.
 fn three_paths(word: &str) -> io::Result<(&str, &str, &str)> {
-    let parts = word.split_once(',').and_then(|(first, rest)| rest
-        .split_once(',')
-        .map(|(second, third)| (first, second, third)));
-    match parts {
-        Some((first, second, third)) if !third.contains(',') => Ok((first, second, third)),
-        _ => Err(io::Error::from(ErrorKind::InvalidInput)),
+    let no_three = Err(io::Error::from(ErrorKind::InvalidInput));
+    let Some((first, rest)) = word.split_once(',') else {
+        return no_three;
+    };
+    match rest.split_once(',') {
+        Some((second, third)) if !third.contains(',') => Ok((first, second, third)),
+        _ => no_three,
     }
 }
 

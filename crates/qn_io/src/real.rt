@@ -7,6 +7,7 @@ use crate::devices::Devices;
 use crate::disk::Disk;
 use crate::reported::reported;
 use crate::resource::Order;
+use crate::watchdog::Watchdog;
 use qn_base::{Failed, Rank};
 use std::fs::File;
 use std::io;
@@ -40,7 +41,7 @@ impl<R: Files<File = File> + Net + Clock + Eprint + Drop> Model for RealEnv<R> {
 }
 
 impl<R: Files<File = File> + Net + Clock + Eprint + Drop> RealEnv<R> {
-    ghost use Rattle.std.specs.Prelude.{◌≡◌, ◌≤◌, OnErr};
+    ghost use Rattle.std.specs.Prelude.{◌≡◌, ◌≤◌, IfOk, IfSome, OnErr};
     ghost use Rattle.qn_io.specs.Outside.{HasRisen};
 
     /// An outside over this runtime, with nothing opened and no fault so far.
@@ -63,6 +64,17 @@ impl<R: Files<File = File> + Net + Clock + Eprint + Drop> RealEnv<R> {
         if disk.has_lost() {
             self.faults = self.faults.saturating_add(1);
         }
+    }
+
+    /// Keeps what was opened for a node, and counts a fault where one of three images is lost.
+    fn keep(&mut self, opened: Result<(Disk, Devices), Failed>) -> Result<(), Failed>
+        ensures { self.old ≤ self.new }
+    {
+        let (disk, devices) = opened?;
+        self.count_lost(&disk);
+        self.disk = disk;
+        self.devices = Some(devices);
+        Ok(())
     }
 
     /// Counts a fault where the call failed.
@@ -97,16 +109,35 @@ impl<R: Files<File = File> + Net + Clock + Eprint + Drop> RealEnv<R> {
         reported(&self.rt, devices.resource.path(), done)
     }
 
+    /// Takes a packet from the network, where that is open.
+    fn take_packet(&self, packet: &mut [u8; PACKET]) -> Result<Option<usize>, Failed>
+        ensures { IfOk result (λ came. IfSome came (λ count. count ≤ 129)) }
+    {
+        let network = &self.devices.as_ref().ok_or(Failed)?.network;
+        reported(&self.rt, "network", network.receive(&self.rt, packet))
+    }
+
     /// Feeds the watchdog where that is in time.
     fn feed_in_time(&self) -> Result<(), Failed> {
         let tick = self.tick().ok_or(Failed)?;
         let watchdog = &self.devices.as_ref().ok_or(Failed)?.watchdog;
-        let done = if is_feed_in_time(self.last_tick, tick) {
+        let done = self.feed_at(tick, watchdog);
+        reported(&self.rt, watchdog.path(), done)
+    }
+
+    /// Disarms the watchdog, where that is open.
+    fn disarm_watchdog(&self) -> Result<(), Failed> {
+        let watchdog = &self.devices.as_ref().ok_or(Failed)?.watchdog;
+        reported(&self.rt, watchdog.path(), watchdog.disarm())
+    }
+
+    /// Feeds the watchdog where that is in time at that tick.
+    fn feed_at(&self, tick: u64, watchdog: &Watchdog) -> io::Result<()> {
+        if is_feed_in_time(self.last_tick, tick) {
             watchdog.feed()
         } else {
             Err(io::Error::other("too late for a feed"))
-        };
-        reported(&self.rt, watchdog.path(), done)
+        }
     }
 }
 
@@ -148,15 +179,7 @@ impl<R: Files<File = File> + Net + Clock + Eprint + Drop> Env for RealEnv<R> {
         self.disk = Disk::closed();
         self.devices = None;
         let opened = Devices::open(&self.rt, opening);
-        let done = match opened {
-            Ok((disk, devices)) => {
-                self.count_lost(&disk);
-                self.disk = disk;
-                self.devices = Some(devices);
-                Ok(())
-            }
-            Err(failed) => Err(failed),
-        };
+        let done = self.keep(opened);
         let tick = self.tick().unwrap_or(0);
         let done = noted(&self.rt, tick, Action::Open(opening), done);
         self.counted(done)
@@ -173,14 +196,7 @@ impl<R: Files<File = File> + Net + Clock + Eprint + Drop> Env for RealEnv<R> {
 
     /// Waits at most 50 ms in all.
     fn receive(&mut self, packet: &mut [u8; PACKET]) -> Got {
-        let done = match &self.devices {
-            Some(devices) => {
-                let came = devices.network.receive(&self.rt, packet);
-                reported(&self.rt, "network", came)
-            }
-            None => Err(Failed),
-        };
-        match done {
+        match self.take_packet(packet) {
             Ok(Some(count)) => Got::Packet(count),
             Ok(None) => Got::Nothing,
             Err(failed) => {
@@ -234,13 +250,7 @@ impl<R: Files<File = File> + Net + Clock + Eprint + Drop> Env for RealEnv<R> {
     }
 
     fn disarm(&mut self) -> Result<(), Failed> {
-        let done = match &self.devices {
-            Some(devices) => {
-                let watchdog = &devices.watchdog;
-                reported(&self.rt, watchdog.path(), watchdog.disarm())
-            }
-            None => Err(Failed),
-        };
+        let done = self.disarm_watchdog();
         let done = self.note(Action::Disarm, done);
         self.counted(done)
     }

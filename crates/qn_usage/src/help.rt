@@ -2,6 +2,7 @@
 use crate::quorumd::VERSION;
 use crate::synopsis::Synopsis;
 use std::alloc::{AllocError, Global};
+use std::fmt::Write;
 
 /// What `--help` writes: what the program is, and two lines a command.
 pub fn help_text(
@@ -10,23 +11,31 @@ pub fn help_text(
     is: &str,
     commands: &[Synopsis],
 ) -> Result<String, AllocError> {
-    let mut text = format!(in alloc; "{program} {VERSION}: {is}\n")?;
-    for command in commands {
-        let lines = command_text(alloc, program, command)?;
-        text.push_str(lines.as_str())?;
-    }
-    let last = format!(in alloc; "\n{program} --help | -h | --version\n")?;
-    text.push_str(last.as_str())?;
+    let mut text = String::new(alloc);
+    add_help(&mut text, program, is, commands)?;
     Ok(text)
 }
 
-/// The two lines of a command, after an empty one.
-fn command_text(alloc: Global, program: &str, command: &Synopsis) -> Result<String, AllocError> {
+fn add_help(
+    text: &mut String,
+    program: &str,
+    is: &str,
+    commands: &[Synopsis],
+) -> Result<(), AllocError> {
+    write!(text, "{program} {VERSION}: {is}\n")?;
+    for command in commands {
+        add_command(text, program, command)?;
+    }
+    write!(text, "\n{program} --help | -h | --version\n")
+}
+
+/// Adds the two lines of a command, after an empty one.
+fn add_command(text: &mut String, program: &str, command: &Synopsis) -> Result<(), AllocError> {
     let line = command.line;
     let reads = command.reads;
     let does = command.does;
     let less = if reads.is_empty() { "" } else { " < " };
-    format!(in alloc; "\n{program} {line}{less}{reads}\n    {does}\n")
+    write!(text, "\n{program} {line}{less}{reads}\n    {does}\n")
 }
 
 /// What `--version` writes.

@@ -4,7 +4,7 @@ use crate::values::is_value;
 use std::fmt;
 
 /// Why words are no command of a program. It prints as one line.
-#[derive(Clone, Copy, Debug, Drop)]
+#[derive(Clone, Copy, Drop)]
 pub enum Refusal<'words> {
     /// There is no word.
     Empty,
@@ -24,26 +24,30 @@ pub enum Refusal<'words> {
 impl fmt::Display for Refusal<'_> {
     fn fmt<W: fmt::Write>(&self, f: &mut fmt::Formatter<W>) -> fmt::Result {
         match self {
-            Refusal::Empty => write!(f, "there is no command"),
+            Refusal::Empty => f.write_str("there is no command"),
             Refusal::Unknown(word) => write!(f, "{word:?} is no command"),
             Refusal::Word(word, synopsis) => {
-                let line = synopsis.line;
-                write!(f, "{word:?} is not taken; usage: {line}")
+                write!(f, "{word:?}")?;
+                usage(f, "", " is not taken", synopsis)
             }
-            Refusal::Lacks(name, synopsis) => {
-                let line = synopsis.line;
-                write!(f, "{name} is missing; usage: {line}")
-            }
+            Refusal::Lacks(name, synopsis) => usage(f, name, " is missing", synopsis),
             Refusal::LacksValue(kind, synopsis) => {
-                let line = synopsis.line;
-                write!(f, "a value is missing at the end, {kind}; usage: {line}")
+                usage(f, "a value is missing at the end, ", kind, synopsis)
             }
-            Refusal::LacksOperand(synopsis) => {
-                let line = synopsis.line;
-                write!(f, "a word is missing; usage: {line}")
-            }
+            Refusal::LacksOperand(synopsis) => usage(f, "a word is missing", "", synopsis),
         }
     }
+}
+
+/// Writes what is wrong, in two parts, and which words the command takes.
+fn usage<W: fmt::Write>(
+    f: &mut fmt::Formatter<W>,
+    wrong: &str,
+    more: &str,
+    synopsis: &Synopsis,
+) -> fmt::Result {
+    let line = synopsis.line;
+    write!(f, "{wrong}{more}; usage: {line}")
 }
 
 /// Why the words, which are those after the program's name, are none of these commands; None where nothing is found.

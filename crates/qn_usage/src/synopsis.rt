@@ -5,7 +5,7 @@
 /// The line begins with the command's name. The words after it stand for operands, up to the first option. An option begins with two
 /// dashes; the word after it stands for its value, and an option without one stands alone. Brackets stand round what may be left out.
 /// Options come in any order, each at most once. `is_value` says what a word for a value stands for.
-#[derive(Clone, Copy, Debug)]
+#[derive(Clone, Copy)]
 pub struct Synopsis {
     /// The words, without the name of the program.
     pub line: &'static str,
@@ -16,7 +16,7 @@ pub struct Synopsis {
 }
 
 /// What an option takes.
-#[derive(Clone, Copy, PartialEq, Eq, Debug)]
+#[derive(Clone, Copy)]
 pub enum Takes {
     /// Nothing: it stands alone.
     Nothing,
@@ -32,20 +32,18 @@ impl Synopsis {
 
     /// What the operand of this number, from 0, may be; None where there are not so many.
     pub fn operand(&self, number: usize) -> Option<&'static str> {
-        self.line
+        let (before, _options) = self.line.split_once("--").unwrap_or((self.line, ""));
+        before
+            .trim_end_matches('[')
             .split_whitespace()
             .skip(1)
-            .take_while(|word| !is_option(word))
             .nth(number)
     }
 
     /// What the option of this name takes; None where the command has no such option.
     pub fn option(&self, name: &str) -> Option<Takes> {
-        let mut words = self
-            .line
-            .split_whitespace()
-            .skip_while(|word| bare(word) != name);
-        let option = words.next()?;
+        let mut words = self.line.split_whitespace();
+        let option = words.find(|word| bare(word) == name)?;
         if !is_option(option) {
             return None;
         }
@@ -59,10 +57,16 @@ impl Synopsis {
 
     /// The option of this number, from 0, of those that the command needs; None where there are not so many.
     pub fn needed(&self, number: usize) -> Option<&'static str> {
-        self.line
-            .split_whitespace()
-            .filter(|word| word.starts_with("--"))
-            .nth(number)
+        let mut left = number;
+        for word in self.line.split_whitespace() {
+            if word.starts_with("--") {
+                if left == 0 {
+                    return Some(word);
+                }
+                left -= 1;
+            }
+        }
+        None
     }
 }
 

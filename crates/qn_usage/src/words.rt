@@ -2,8 +2,8 @@
 
 /// The value of this option: the word after it. A value is no option here, so no path begins with two dashes.
 pub fn value_of<'words>(words: &'words [String], name: &str) -> Option<&'words str> {
-    let mut after = words.iter().skip_while(|word| word.as_str() != name);
-    let _option = after.next()?;
+    let mut after = words.iter();
+    let _option = after.find(|word| word.as_str() == name)?;
     let value = after.next()?;
     Some(value.as_str())
 }

@@ -4,10 +4,13 @@ use crate::input::read_input;
 use crate::texts::say_fault;
 use crate::trouble::{Trouble, say};
 use qn_base::{NodeId, read_decimal};
-use qn_control::{ImageSeen, check_json, finding_lines, list_json, look_at_image, node_lines};
-use qn_model::Message;
+use qn_control::{
+    ImageSeen, NodeSeen, check_json, finding_lines, list_json, look_at_image, node_lines,
+};
+use qn_model::{Message, Settings, Timing};
 use qn_settings::settings_of_text;
 use qn_usage::value_of;
+use std::alloc::{AllocError, Global};
 use std::fs::File;
 use std::net::{Ipv4Addr, Net, UdpSocket};
 use std::rt::Files;
@@ -28,28 +31,38 @@ pub fn check<R: Files<File = File> + Input + Print + AllocGlobal>(
     path: &str,
     is_json: bool,
 ) -> Result<u8, Trouble> {
-    let alloc = rt.alloc();
     let text = read_input(rt)?;
-    let settings = if text.is_empty() {
-        None
-    } else {
-        match settings_of_text(alloc, text.as_slice()) {
-            Ok(settings) => Some(settings),
-            Err(fault) => return say_fault(rt, text.as_slice(), &fault),
-        }
-    };
+    if text.is_empty() {
+        return check_by(rt, path, is_json, None);
+    }
+    match settings_of_text(rt.alloc(), text.as_slice()) {
+        Ok(settings) => check_by(rt, path, is_json, Some(&settings)),
+        Err(fault) => say_fault(rt, text.as_slice(), &fault),
+    }
+}
+
+/// Says what is wrong with an image, by the settings where there are any.
+fn check_by<R: Files<File = File> + Print + AllocGlobal>(
+    rt: &R,
+    path: &str,
+    is_json: bool,
+    settings: Option<&Settings>,
+) -> Result<u8, Trouble> {
     let file = ImageFile::open(rt, path).map_err(Trouble::System)?;
-    let seen = look_at_image(alloc, &file, settings.as_ref())?;
-    let told = if is_json {
-        check_json(alloc, &seen)?
-    } else {
-        let mut lines = node_lines(alloc, seen.nodes.as_slice())?;
-        let findings = finding_lines(alloc, &seen)?;
-        lines.push_str(findings.as_str())?;
-        lines
-    };
-    say(rt, told.as_str())?;
+    let seen = look_at_image(rt.alloc(), &file, settings)?;
+    say(rt, check_text(rt.alloc(), &seen, is_json)?.as_str())?;
     Ok(if seen.findings.is_empty() { 0 } else { WRONG })
+}
+
+/// The nodes of an image, and what is wrong with it.
+fn check_text(alloc: Global, seen: &ImageSeen, is_json: bool) -> Result<String, AllocError> {
+    if is_json {
+        return check_json(alloc, seen);
+    }
+    let mut lines = node_lines(alloc, seen.nodes.as_slice())?;
+    let findings = finding_lines(alloc, seen)?;
+    lines.push_str(findings.as_str())?;
+    Ok(lines)
 }
 
 /// `list`: the nodes of an image.
@@ -58,26 +71,30 @@ pub fn list<R: Files<File = File> + Print + AllocGlobal>(
     path: &str,
     is_json: bool,
 ) -> Result<u8, Trouble> {
-    let alloc = rt.alloc();
     let file = ImageFile::open(rt, path).map_err(Trouble::System)?;
-    let seen = look_at_image(alloc, &file, None)?;
-    let told = if is_json {
-        list_json(alloc, seen.nodes.as_slice())?
-    } else {
-        node_lines(alloc, seen.nodes.as_slice())?
-    };
-    say(rt, told.as_str())?;
-    let is_whole = seen.header.is_some()
-        && seen
-            .nodes
-            .as_slice()
-            .iter()
-            .all(|node| node.slot.is_some() && node.mail.is_some());
+    let seen = look_at_image(rt.alloc(), &file, None)?;
+    let nodes = seen.nodes.as_slice();
+    say(rt, list_text(rt.alloc(), nodes, is_json)?.as_str())?;
+    let is_whole = seen.header.is_some() && nodes.iter().all(is_seen);
     Ok(if is_whole { 0 } else { WRONG })
 }
 
+/// The nodes of an image.
+fn list_text(alloc: Global, nodes: &[NodeSeen], is_json: bool) -> Result<String, AllocError> {
+    if is_json {
+        list_json(alloc, nodes)
+    } else {
+        node_lines(alloc, nodes)
+    }
+}
+
+/// Whether the slot and the mailbox of a node can be read and are what they should be.
+fn is_seen(node: &NodeSeen) -> bool {
+    node.slot.is_some() && node.mail.is_some()
+}
+
 /// What becomes of a message.
-#[derive(Clone, Copy, Debug)]
+#[derive(Clone, Copy)]
 enum Outcome {
     /// No slot has the id.
     UnknownNode,
@@ -97,8 +114,7 @@ pub fn wait<R: Files<File = File> + Net + Clock + Print + AllocGlobal>(
 ) -> Result<u8, Trouble> {
     let id = id_of(options);
     let file = ImageFile::open(rt, path).map_err(Trouble::System)?;
-    let seen = look_at_image(rt.alloc(), &file, None)?;
-    let Some((_, _, timing)) = seen.header else {
+    let Some(timing) = timing_of(rt.alloc(), &file)? else {
         say(rt, "fault: sector 0 is no header: the file is no image\n")?;
         return Ok(WRONG);
     };
@@ -106,14 +122,28 @@ pub fn wait<R: Files<File = File> + Net + Clock + Print + AllocGlobal>(
     let end = begin.saturating_add(Duration::from_millis(timing.msgwait));
     for _ in 0..u64::MAX {
         let is_over = rt.monotonic().map_err(Trouble::System)? >= end;
-        let seen = look_at_image(rt.alloc(), &file, None)?;
-        let outcome = outcome_of(&seen, id);
+        let outcome = outcome_at(rt.alloc(), &file, id)?;
         if is_over || !matches!(outcome, Outcome::Waits) {
             return say_outcome(rt, &outcome);
         }
         pause(rt)?;
     }
     Ok(0)
+}
+
+/// The times of an image; None where sector 0 is no header.
+fn timing_of(alloc: Global, file: &ImageFile) -> Result<Option<Timing>, AllocError> {
+    let seen = look_at_image(alloc, file, None)?;
+    Ok(match seen.header {
+        Some((_, _, timing)) => Some(timing),
+        None => None,
+    })
+}
+
+/// What became of the message to a node, by a look at the image.
+fn outcome_at(alloc: Global, file: &ImageFile, id: NodeId) -> Result<Outcome, AllocError> {
+    let seen = look_at_image(alloc, file, None)?;
+    Ok(outcome_of(&seen, id))
 }
 
 /// The id among the options.

@@ -4,7 +4,8 @@ use crate::trouble::{Trouble, say};
 use qn_base::read_decimal;
 use qn_conf::read_tree;
 use qn_control::{
-    concerns_of, least_msgwait, longest_take_over, pairs_of, settings_text, wrong_lines,
+    Concern, Pair, concerns_of, least_msgwait, longest_take_over, pairs_of, settings_text,
+    wrong_lines,
 };
 use qn_model::{Settings, Timing};
 use qn_settings::{TextFault, settings_of_text};
@@ -36,14 +37,27 @@ fn say_settings(
     let alloc = rt.alloc();
     let tree = read_tree(alloc, text).map_err(|_| Trouble::NoMemory)?;
     let pairs = pairs_of(alloc, &tree)?;
-    let lines = settings_text(alloc, settings, pairs.as_slice())?;
+    say_pairs(rt, settings, pairs.as_slice())
+}
+
+/// Says what settings and the pairs of their text are, and what of them is risky.
+fn say_pairs(
+    rt: &(impl Print + AllocGlobal),
+    settings: &Settings,
+    pairs: &[Pair<'_>],
+) -> Result<u8, Trouble> {
+    let lines = settings_text(rt.alloc(), settings, pairs)?;
     say(rt, lines.as_str())?;
-    let concerns = concerns_of(alloc, settings, pairs.as_slice())?;
+    let concerns = concerns_of(rt.alloc(), settings, pairs)?;
     for concern in concerns.as_slice() {
-        let line = format!(in alloc; "warning: {concern}\n")?;
-        say(rt, line.as_str())?;
+        say_concern(rt, concern)?;
     }
     Ok(if concerns.is_empty() { 0 } else { RISKY })
+}
+
+fn say_concern(rt: &(impl Print + AllocGlobal), concern: &Concern<'_>) -> Result<(), Trouble> {
+    let line = format!(in rt.alloc(); "warning: {concern}\n")?;
+    say(rt, line.as_str())
 }
 
 /// Says why a text gives no settings, and the lines that this speaks of.

@@ -3,7 +3,7 @@ use std::alloc::{AllocError, AllocFailed};
 use std::{fmt, io};
 
 /// What keeps a command from its work; each has a status of its own, which are those of `quorumd`.
-#[derive(Debug, Drop)]
+#[derive(Drop)]
 pub enum Trouble {
     /// Standard input cannot be read.
     Input(io::Error),
