@@ -1,5 +1,5 @@
 //! An outside of a node in memory, with three images, of which calls fail and images are lost.
-ghost use Rattle.std.specs.Prelude.{◌≡◌, ◌≤◌, OnErr};
+ghost use Rattle.std.specs.Prelude.{◌≤◌, OnErr};
 ghost use Rattle.qn_base.specs.Faults.{HasRisen};
 
 use qn_base::{Failed, Rank};
@@ -103,19 +103,12 @@ impl Outside {
         }
     }
 
-    /// A call is made.
-    fn made(&mut self)
-        ensures { self.new.faults ≡ self.old.faults }
-    {
-        self.counts.calls = self.counts.calls.saturating_add(1);
-    }
-
     /// A call is made that can fail: it does where that is so, or by its number.
     fn tried(&mut self, is_lost: bool) -> Result<(), Failed>
         ensures never_falls { self.old.faults ≤ self.new.faults }
         ensures cause { OnErr result (HasRisen self.old.faults self.new.faults) }
     {
-        self.made();
+        self.counts.calls = self.counts.calls.saturating_add(1);
         self.counts.can_fail = self.counts.can_fail.saturating_add(1);
         if is_lost || self.counts.can_fail == self.loss.call {
             self.faults = self.faults.saturating_add(1);
@@ -164,7 +157,7 @@ impl Env for Outside {
     }
 
     fn now(&mut self) -> u64 {
-        self.made();
+        self.counts.calls = self.counts.calls.saturating_add(1);
         let look = self.counts.looks;
         self.counts.looks = look.saturating_add(1);
         let last = self.ticks.last().copied();
@@ -226,6 +219,6 @@ impl Env for Outside {
     }
 
     fn halt(&mut self, _code: u8) {
-        self.made();
+        self.counts.calls = self.counts.calls.saturating_add(1);
     }
 }

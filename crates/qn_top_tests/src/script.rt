@@ -144,11 +144,22 @@ impl Script {
             return Err(io::Error::from(AllocError));
         };
         self.outside.counts = Counts::NONE;
-        let status = top(alloc, words, &mut input, &mut out, &mut self.outside);
+        let status = status_of(alloc, words, &mut input, &mut out, &mut self.outside);
         let text = str::from_utf8(out.written()).unwrap_or("no text");
         let text = text.replace(alloc, "\n", "|")?;
         Ok(format!(in alloc; "{status} {text}")?)
     }
+}
+
+/// Runs the program. It has no clauses, so that what `top` promises is read here alone.
+fn status_of(
+    alloc: Global,
+    words: &[String],
+    input: &mut MemSource,
+    out: &mut MemSink,
+    outside: &mut Outside,
+) -> u8 {
+    top(alloc, words, input, out, outside)
 }
 
 /// The four numbers of streams, or the usual ones.
