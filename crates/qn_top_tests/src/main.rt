@@ -1,7 +1,7 @@
 //! Runs of `top` over inputs that come in pieces, an output with little room, and an outside of which calls fail and images are lost. It
 //! reads them from standard input, a step a line, and writes what comes of each run. In a text `|` stands for each end of a line.
 //!
-//!     title: TEXT                      writes that text, as an empty line writes none
+//!     title: TEXT                      writes that text; an empty line writes an empty one
 //!     outside                          a fresh outside: three images of zeros, a clock of 10 ms steps, nobody who sends
 //!     clock TICKS                      its clock tells these ticks in each run, and then the last one again and again
 //!     hello                            the first packet of each run is a Hello of the node of rank 1

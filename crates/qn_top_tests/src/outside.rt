@@ -90,7 +90,7 @@ impl Outside {
         })
     }
 
-    /// Puts a byte: the number of its sector, its place in it, and its value.
+    /// Puts a byte, where these are the number of its sector, its place in it, and its value.
     pub fn put(&mut self, numbers: &[u64]) {
         let [sector, place, byte] = numbers else {
             return;
