@@ -2,4 +2,5 @@ mod Auditing
 mod Digits
 mod LogTexts
 mod OneWords
+mod Questions
 mod Verdicts

@@ -9,7 +9,7 @@ use crate::logged_call::LoggedCall;
 use qn_live::{Asked, Given};
 
 /// What the first word of a line says.
-#[derive(Clone, Copy, PartialEq, Eq)]
+#[derive(Clone, Copy)]
 pub(crate) enum LogName {
     Now,
     Receive,
@@ -22,7 +22,7 @@ pub(crate) enum LogName {
 }
 
 /// A call of the watchdog or of the resource.
-#[derive(Clone, Copy, PartialEq, Eq)]
+#[derive(Clone, Copy)]
 pub(crate) enum DeviceCall {
     Feed,
     Start,

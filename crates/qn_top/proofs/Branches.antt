@@ -1,53 +1,59 @@
 -- What the record of a command says of the exit status, whatever the command is.
-use Rattle.std.proofs.Common.{◌≡◌, ◌≢◌, ◌≤◌, ◌⊎◌, inl, inr, ℕ, Bool, false, true, List, [], ◌∷◌, Option, None, Some, refl, sym, ap, ◌∙◌, subst, arith}
+use Rattle.std.proofs.Common.{◌≡◌, ◌≢◌, ◌≤◌, ◌==◌, ◌⊎◌, inl, inr, ℕ, Bool, false, true, cond, List, [], ◌∷◌, Option, None, Some, refl, sym, ap, ◌∙◌, subst, arith}
+use Rattle.std.proofs.lemmas.Bool.{eqb-false, false≢true}
 use Rattle.qn_commands.specs.Endings.{Cut, Says, Whole}
 use Rattle.qn_commands.specs.Seen.{Output, Seen}
-use Rattle.qn_commands.specs.declared.status.Status.TheVariants.{Done, BadConf, BadSchedule, NotAllowed, ReadFault, WriteFault, EnvFault, UnsafeTiming, UnsafeLease, NoMemory, ClockBack, SelfReset, BootHalted, UnknownNode, NotARun}
-use Rattle.qn_commands.specs.Statuses.{HasCauses, IsOneOf}
-use Rattle.qn_replay.specs.Soak.{soaked}
+use Rattle.qn_commands.specs.declared.status.Status.{Status}
+use Rattle.qn_commands.specs.declared.status.Status.TheVariants.{Done, Usage, BadConf, BadSchedule, NotAllowed, ReadFault, WriteFault, EnvFault, BadImage, UnsafeTiming, UnsafeLease, NoMemory, ClockBack, SelfReset, BootHalted, DeadlyThere, UnknownNode, NotARun}
+use Rattle.qn_commands.specs.Statuses.{HasCauses, IsOneOf, code_of}
 use Rattle.qn_top.specs.declared.command.Command.{Command}
 use Rattle.qn_top.specs.declared.command.Command.TheVariants as command
 use Rattle.qn_top.specs.Does.{Does, takes_memory}
+use Rattle.qn_top.specs.Runs.{Runs, ShowsOneHolder}
 
 says_other : {text : List ℕ} {first last : Output} {status : ℕ} → Says text 10 first last status → status ≢ 11
 says_other (Whole is whole) eleven = omega arith
 says_other (Cut is fails prefix) eleven = omega arith
 
--- `node`, `node3` and `node-logged` are commands
-node_not_two : (code : ℕ) → IsOneOf (Done ∷ BadConf ∷ ReadFault ∷ WriteFault ∷ EnvFault ∷ NoMemory ∷ ClockBack ∷ SelfReset ∷ BootHalted ∷ UnknownNode ∷ []) code → code ≢ 2
-node_not_two code (inl is) two = omega arith
-node_not_two code (inr (inl is)) two = omega arith
-node_not_two code (inr (inr (inl is))) two = omega arith
-node_not_two code (inr (inr (inr (inl is)))) two = omega arith
-node_not_two code (inr (inr (inr (inr (inl is))))) two = omega arith
-node_not_two code (inr (inr (inr (inr (inr (inl is)))))) two = omega arith
-node_not_two code (inr (inr (inr (inr (inr (inr (inl is))))))) two = omega arith
-node_not_two code (inr (inr (inr (inr (inr (inr (inr (inl is)))))))) two = omega arith
-node_not_two code (inr (inr (inr (inr (inr (inr (inr (inr (inl is))))))))) two = omega arith
-node_not_two code (inr (inr (inr (inr (inr (inr (inr (inr (inr is))))))))) two = omega arith
+-- whether a code is that of one of these statuses
+abbrev has : ℕ → List Status → Bool
+has code [] = false
+has code (status ∷ others) = cond (code_of status == code) true (has code others)
 
--- `replay-arbiter` is a command
-arbiter_not_two : (code : ℕ) → IsOneOf (Done ∷ BadConf ∷ BadSchedule ∷ NotAllowed ∷ ReadFault ∷ WriteFault ∷ UnsafeTiming ∷ NoMemory ∷ UnsafeLease ∷ []) code → code ≢ 2
-arbiter_not_two code (inl is) two = omega arith
-arbiter_not_two code (inr (inl is)) two = omega arith
-arbiter_not_two code (inr (inr (inl is))) two = omega arith
-arbiter_not_two code (inr (inr (inr (inl is)))) two = omega arith
-arbiter_not_two code (inr (inr (inr (inr (inl is))))) two = omega arith
-arbiter_not_two code (inr (inr (inr (inr (inr (inl is)))))) two = omega arith
-arbiter_not_two code (inr (inr (inr (inr (inr (inr (inl is))))))) two = omega arith
-arbiter_not_two code (inr (inr (inr (inr (inr (inr (inr (inl is)))))))) two = omega arith
-arbiter_not_two code (inr (inr (inr (inr (inr (inr (inr (inr is)))))))) two = omega arith
+other_code : (code : ℕ) (own : ℕ) (rest : Bool) → cond (own == code) true rest ≡ false → (own ≢ code) × (rest ≡ false)
+other_code code own rest lacks = of_test (own == code) refl lacks
+  where
+    of_test : (test : Bool) → (own == code) ≡ test → cond test true rest ≡ false → (own ≢ code) × (rest ≡ false)
+    of_test true is never = absurd (false≢true (sym never))
+    of_test false is lacking = (eqb-false own code is, lacking)
 
--- `audit` is a command
-audit_not_two : (code : ℕ) → IsOneOf (Done ∷ BadConf ∷ BadSchedule ∷ ReadFault ∷ WriteFault ∷ NoMemory ∷ UnknownNode ∷ NotARun ∷ []) code → code ≢ 2
-audit_not_two code (inl is) two = omega arith
-audit_not_two code (inr (inl is)) two = omega arith
-audit_not_two code (inr (inr (inl is))) two = omega arith
-audit_not_two code (inr (inr (inr (inl is)))) two = omega arith
-audit_not_two code (inr (inr (inr (inr (inl is))))) two = omega arith
-audit_not_two code (inr (inr (inr (inr (inr (inl is)))))) two = omega arith
-audit_not_two code (inr (inr (inr (inr (inr (inr (inl is))))))) two = omega arith
-audit_not_two code (inr (inr (inr (inr (inr (inr (inr is))))))) two = omega arith
+-- a status that is one of these has none of the other codes
+lacks : (code : ℕ) (statuses : List Status) (status : ℕ) → has code statuses ≡ false → IsOneOf statuses status → status ≢ code
+lacks code [] status other never same = never
+lacks code (own ∷ []) status other is same = (other_code code (code_of own) false other).0 (sym is ∙ same)
+lacks code (own ∷ next ∷ others) status other (inl is) same = (other_code code (code_of own) (has code (next ∷ others)) other).0 (sym is ∙ same)
+lacks code (own ∷ next ∷ others) status other (inr is) same =
+    lacks code (next ∷ others) status (other_code code (code_of own) (has code (next ∷ others)) other).1 is same
+
+-- the statuses of the commands, and of words that are none
+abbrev statuses_of : Option Command → List Status
+statuses_of None = Usage ∷ WriteFault ∷ []
+statuses_of (Some command.Count) = Done ∷ BadSchedule ∷ ReadFault ∷ WriteFault ∷ []
+statuses_of (Some command.Replay) = Done ∷ BadConf ∷ BadSchedule ∷ NotAllowed ∷ ReadFault ∷ WriteFault ∷ UnsafeTiming ∷ NoMemory ∷ []
+statuses_of (Some (command.Status form)) = Done ∷ BadConf ∷ BadSchedule ∷ NotAllowed ∷ ReadFault ∷ WriteFault ∷ UnsafeTiming ∷ NoMemory ∷ []
+statuses_of (Some (command.Soak seed events)) = Done ∷ WriteFault ∷ NoMemory ∷ []
+statuses_of (Some (command.Create image timing)) = Done ∷ BadConf ∷ ReadFault ∷ WriteFault ∷ EnvFault ∷ UnsafeTiming ∷ NoMemory ∷ []
+statuses_of (Some (command.Dump image)) = Done ∷ BadImage ∷ WriteFault ∷ EnvFault ∷ []
+statuses_of (Some (command.List image)) = Done ∷ BadImage ∷ WriteFault ∷ EnvFault ∷ []
+statuses_of (Some (command.Message image id kind)) = Done ∷ BadImage ∷ DeadlyThere ∷ UnknownNode ∷ WriteFault ∷ EnvFault ∷ []
+statuses_of (Some (command.Node words)) = Done ∷ BadConf ∷ ReadFault ∷ WriteFault ∷ EnvFault ∷ NoMemory ∷ ClockBack ∷ SelfReset ∷ BootHalted ∷ UnknownNode ∷ []
+statuses_of (Some (command.Migrate image)) = Done ∷ BadImage ∷ WriteFault ∷ EnvFault ∷ []
+statuses_of (Some command.Replay3) = Done ∷ BadConf ∷ BadSchedule ∷ NotAllowed ∷ ReadFault ∷ WriteFault ∷ UnsafeTiming ∷ NoMemory ∷ []
+statuses_of (Some (command.Node3 words)) = Done ∷ BadConf ∷ ReadFault ∷ WriteFault ∷ EnvFault ∷ NoMemory ∷ ClockBack ∷ SelfReset ∷ BootHalted ∷ UnknownNode ∷ []
+statuses_of (Some command.ReplayArbiter) = Done ∷ BadConf ∷ BadSchedule ∷ NotAllowed ∷ ReadFault ∷ WriteFault ∷ UnsafeTiming ∷ NoMemory ∷ UnsafeLease ∷ []
+statuses_of (Some (command.NodeLogged words)) = Done ∷ BadConf ∷ ReadFault ∷ WriteFault ∷ EnvFault ∷ NoMemory ∷ ClockBack ∷ SelfReset ∷ BootHalted ∷ UnknownNode ∷ []
+statuses_of (Some (command.Audit words)) = Done ∷ BadConf ∷ BadSchedule ∷ ReadFault ∷ WriteFault ∷ NoMemory ∷ UnknownNode ∷ NotARun ∷ []
+statuses_of (Some command.Help) = Done ∷ WriteFault ∷ []
 
 module _ (before later : Seen) (status : ℕ) where
   -- each fault has its cause
@@ -72,42 +78,42 @@ module _ (before later : Seen) (status : ℕ) where
 
   -- no command ends with status 2
   no_usage : (does_what : Command) → Does (Some does_what) before later status → status ≢ 2
-  no_usage command.Count does two = let one_of = does.statuses in grind arith
-  no_usage command.Replay does two = let one_of = does.statuses in grind arith
-  no_usage (command.Status form) does two = let one_of = does.statuses in grind arith
-  no_usage (command.Soak seed events) does two = let one_of = does.statuses in grind arith
-  no_usage (command.Create image timing) does two = let one_of = does.statuses in grind arith
-  no_usage (command.Dump image) does two = let one_of = does.statuses in grind arith
-  no_usage (command.List image) does two = let one_of = does.statuses in grind arith
-  no_usage (command.Message image id kind) does two = let one_of = does.statuses in grind arith
-  no_usage (command.Node words) does two = node_not_two status does.statuses two
-  no_usage (command.Migrate image) does two = let one_of = does.statuses in grind arith
-  no_usage command.Replay3 does two = let one_of = does.statuses in grind arith
-  no_usage (command.Node3 words) does two = node_not_two status does.statuses two
-  no_usage command.ReplayArbiter does two = arbiter_not_two status does.statuses two
-  no_usage (command.NodeLogged words) does two = node_not_two status does.statuses two
-  no_usage (command.Audit words) does two = audit_not_two status does.statuses two
-  no_usage command.Help does two = let one_of = does.statuses in grind arith
+  no_usage command.Count does = lacks 2 (statuses_of (Some command.Count)) status refl does.statuses
+  no_usage command.Replay does = lacks 2 (statuses_of (Some command.Replay)) status refl does.statuses
+  no_usage (command.Status form) does = lacks 2 (statuses_of (Some (command.Status form))) status refl does.statuses
+  no_usage (command.Soak seed events) does = lacks 2 (statuses_of (Some (command.Soak seed events))) status refl does.statuses
+  no_usage (command.Create image timing) does = lacks 2 (statuses_of (Some (command.Create image timing))) status refl does.statuses
+  no_usage (command.Dump image) does = lacks 2 (statuses_of (Some (command.Dump image))) status refl does.statuses
+  no_usage (command.List image) does = lacks 2 (statuses_of (Some (command.List image))) status refl does.statuses
+  no_usage (command.Message image id kind) does = lacks 2 (statuses_of (Some (command.Message image id kind))) status refl does.statuses
+  no_usage (command.Node words) does = lacks 2 (statuses_of (Some (command.Node words))) status refl does.statuses
+  no_usage (command.Migrate image) does = lacks 2 (statuses_of (Some (command.Migrate image))) status refl does.statuses
+  no_usage command.Replay3 does = lacks 2 (statuses_of (Some command.Replay3)) status refl does.statuses
+  no_usage (command.Node3 words) does = lacks 2 (statuses_of (Some (command.Node3 words))) status refl does.statuses
+  no_usage command.ReplayArbiter does = lacks 2 (statuses_of (Some command.ReplayArbiter)) status refl does.statuses
+  no_usage (command.NodeLogged words) does = lacks 2 (statuses_of (Some (command.NodeLogged words))) status refl does.statuses
+  no_usage (command.Audit words) does = lacks 2 (statuses_of (Some (command.Audit words))) status refl does.statuses
+  no_usage command.Help does = lacks 2 (statuses_of (Some command.Help)) status refl does.statuses
 
   -- out of memory comes only to a command that takes memory
   enough : (words : Option Command) → Does words before later status → takes_memory words ≡ false → status ≢ 11
-  enough None does takes eleven = let one_of = does.statuses in grind arith
-  enough (Some command.Count) does takes eleven = let one_of = does.statuses in grind arith
-  enough (Some command.Replay) does takes eleven = cc
-  enough (Some (command.Status form)) does takes eleven = cc
-  enough (Some (command.Soak seed events)) does takes eleven = cc
-  enough (Some (command.Create image timing)) does takes eleven = says_other (does.unsafe_times takes).performs.1 eleven
-  enough (Some (command.Dump image)) does takes eleven = let one_of = does.statuses in grind arith
-  enough (Some (command.List image)) does takes eleven = let one_of = does.statuses in grind arith
-  enough (Some (command.Message image id kind)) does takes eleven = let one_of = does.statuses in grind arith
-  enough (Some (command.Node words)) does takes eleven = cc
-  enough (Some (command.Migrate image)) does takes eleven = let one_of = does.statuses in grind arith
-  enough (Some command.Replay3) does takes eleven = cc
-  enough (Some (command.Node3 words)) does takes eleven = cc
-  enough (Some command.ReplayArbiter) does takes eleven = cc
-  enough (Some (command.NodeLogged words)) does takes eleven = cc
-  enough (Some (command.Audit words)) does takes eleven = cc
-  enough (Some command.Help) does takes eleven = let one_of = does.statuses in grind arith
+  enough None does takes = lacks 11 (statuses_of None) status refl does.statuses
+  enough (Some command.Count) does takes = lacks 11 (statuses_of (Some command.Count)) status refl does.statuses
+  enough (Some command.Replay) does takes = absurd (false≢true (sym takes))
+  enough (Some (command.Status form)) does takes = absurd (false≢true (sym takes))
+  enough (Some (command.Soak seed events)) does takes = absurd (false≢true (sym takes))
+  enough (Some (command.Create image timing)) does takes = says_other (does.unsafe_times takes).performs.1
+  enough (Some (command.Dump image)) does takes = lacks 11 (statuses_of (Some (command.Dump image))) status refl does.statuses
+  enough (Some (command.List image)) does takes = lacks 11 (statuses_of (Some (command.List image))) status refl does.statuses
+  enough (Some (command.Message image id kind)) does takes = lacks 11 (statuses_of (Some (command.Message image id kind))) status refl does.statuses
+  enough (Some (command.Node words)) does takes = absurd (false≢true (sym takes))
+  enough (Some (command.Migrate image)) does takes = lacks 11 (statuses_of (Some (command.Migrate image))) status refl does.statuses
+  enough (Some command.Replay3) does takes = absurd (false≢true (sym takes))
+  enough (Some (command.Node3 words)) does takes = absurd (false≢true (sym takes))
+  enough (Some command.ReplayArbiter) does takes = absurd (false≢true (sym takes))
+  enough (Some (command.NodeLogged words)) does takes = absurd (false≢true (sym takes))
+  enough (Some (command.Audit words)) does takes = absurd (false≢true (sym takes))
+  enough (Some command.Help) does takes = lacks 11 (statuses_of (Some command.Help)) status refl does.statuses
 
   usage : (words : Option Command) → Does words before later status → words ≡ None → (status ≡ 2) ⊎ (status ≡ 7)
   usage None does none = does.statuses
@@ -118,39 +124,37 @@ module _ (before later : Seen) (status : ℕ) where
   usage_only (Some does_what) does two = absurd (no_usage does_what does two)
 
 -- what holds of every command
-pub record Ends (words : Option Command) (before later : Seen) (code : ℕ) : Type 0 where
-  pub does : Does words before later code
+pub record Ends (words : Option Command) (before later : Seen) (code : ℕ) (same_input same_env : Type 0) : Type 0 where
+  pub runs : Runs words before later code same_input same_env
   pub usage : words ≡ None → (code ≡ 2) ⊎ (code ≡ 7)
   pub usage_only : code ≡ 2 → words ≡ None
   pub memory : takes_memory words ≡ false → code ≢ 11
   pub causes : HasCauses before later code
+  pub one_holder : (own : Command) → words ≡ Some own → ShowsOneHolder (Some own) before.output later.output code
 
-of_record : (words : Option Command) (before later : Seen) (code : ℕ) → Does words before later code → Ends words before later code
-of_record words before later code does = record {
-  does = does;
-  usage = usage before later code words does;
-  usage_only = usage_only before later code words does;
-  memory = enough before later code words does;
-  causes = causes before later code words does;
+of_run : {same_input same_env : Type 0} (words : Option Command) (before later : Seen) (code : ℕ) → Runs words before later code same_input same_env
+    → Ends words before later code same_input same_env
+of_run words before later code runs = record {
+  runs = runs;
+  usage = usage before later code words runs.does;
+  usage_only = usage_only before later code words runs.does;
+  memory = enough before later code words runs.does;
+  causes = causes before later code words runs.does;
+  one_holder = λ own is. subst (λ (w : Option Command). ShowsOneHolder w before.output later.output code) is runs.one_holder;
 }
 
--- the words are a command, and its function met its record
-pub ends : (words own : Option Command) (before later : Seen) (code status : ℕ) → own ≡ words → code ≡ status → Does own before later status
-    → Ends words before later code
-ends words own before later code status same same_code does =
-    of_record words before later code
-    (subst (λ (w : Option Command). Does w before later code) same (subst (λ (s : ℕ). Does own before later s) (sym same_code) does))
+-- the run of the words ended with this status, and the program with its code
+pub ends : {same_input same_env : Type 0} {words : Option Command} {before later : Seen} (code : ℕ) {status : ℕ} → code ≡ status → Runs words before later status same_input same_env
+    → Ends words before later code same_input same_env
+ends {same_input} {same_env} {words} {before} {later} code same runs =
+    of_run words before later code (subst (λ (s : ℕ). Runs words before later s same_input same_env) (sym same) runs)
 
--- a test of another command
-pub tested : {P : Type 0} (test : Option Command → Bool) (words own : Option Command) → own ≡ words → test own ≡ true → test words ≡ false → P
-tested test words own same holds fails = let own_fails : test own ≡ false = ap test same ∙ fails in cc
+-- the words are this command, or none
+pub of_words : {same_input same_env : Type 0} {before later : Seen} {status : ℕ} (words own : Option Command) → words ≡ own
+    → Runs own before later status same_input same_env → Runs words before later status same_input same_env
+of_words {same_input} {same_env} {before} {later} {status} words own is runs =
+    subst (λ (w : Option Command). Runs w before later status same_input same_env) (sym is) runs
 
--- the tally of a soak, of the seed and the events of the words
-pub soak_holds : (own_seed own_events : ℕ) (words : Option Command) (code status : ℕ) → Some (command.Soak own_seed own_events) ≡ words → code ≡ status
-    → (status ≡ 0 → (soaked own_seed own_events).tally.most_holders ≤ 1)
-    → (seed events : ℕ) → words ≡ Some (command.Soak seed events) → code ≡ 0 → (soaked seed events).tally.most_holders ≤ 1
-soak_holds own_seed own_events words code status own same holds seed events is zero =
-    let same_seed : own_seed ≡ seed = cc in
-    let same_events : own_events ≡ events = cc in
-    subst (λ (s : ℕ). (soaked s events).tally.most_holders ≤ 1) same_seed
-    (subst (λ (e : ℕ). (soaked own_seed e).tally.most_holders ≤ 1) same_events (holds (sym same ∙ zero)))
+-- a command that uses what it is
+pub used : {P : Type 0} → true ≡ false → P
+used never = absurd (false≢true (sym never))

@@ -1,13 +1,15 @@
 //! The whole program over any source, sink and outside of a node: the words are a command, and `top` does it.
 ghost use Rattle.std.specs.Prelude.{◌≡◌, ◌≢◌, ◌≤◌, ◌⊎◌, ℕ, None, Some, false, map, string_bytes};
-ghost use Rattle.qn_commands.specs.Seen.{NeverFall, outside, seen, sink, source};
+ghost use Rattle.qn_commands.specs.Seen.{outside, seen, sink, source};
+ghost use Rattle.qn_commands.specs.Statuses.{code_of};
 ghost use Rattle.qn_io.specs.Outside.{HasRisen};
 ghost use Rattle.qn_replay.specs.Soak.{soaked};
 ghost use Rattle.qn_top.specs.Commands.Replay.{ShowsRun};
 ghost use Rattle.qn_top.specs.Commands.Replay3.{ShowsTripleRun};
 ghost use Rattle.qn_top.specs.Commands.ReplayArbiter.{ShowsRunBeside};
 ghost use Rattle.qn_top.specs.Does.{Does, calls_outside, reads_input, takes_memory};
-ghost use Rattle.qn_top.specs.Words.{command_of};
+ghost use Rattle.qn_top.specs.Runs.{Runs};
+ghost use Rattle.qn_top.specs.Words.{IsProper, command_of};
 
 use crate::command::{Command, command_of};
 use crate::commands::help::help;
@@ -69,31 +71,65 @@ pub fn top<I: Source, O: Sink, E: Env>(
         → command_of (map string_bytes words.now) ≡ Some (Command.Soak seed events) → result ≡ 0
         → (soaked seed events).tally.most_holders ≤ 1 }
 {
+    let status = run(alloc, words, input, out, env);
+    status.code()
+}
+
+/// Reads the words as a command and runs it, and says how it ended.
+fn run<I: Source, O: Sink, E: Env>(
+    alloc: Global,
+    words: &[String],
+    input: &mut I,
+    out: &mut O,
+    env: &mut E,
+) -> Status
+    ensures { let before = seen (source I.left I.faults input.old) (sink O.written O.faults out.old)
+        (outside E.calls E.faults env.old) in
+        let after = seen (source I.left I.faults input.new) (sink O.written O.faults out.new)
+        (outside E.calls E.faults env.new) in
+        Runs (command_of (map string_bytes words.now)) before after (code_of result)
+        (input.new ≡ input.old) (env.new ≡ env.old) }
+{
     match command_of(words) {
-        None => refuse(out, Fault::Usage).code(),
-        Some(Command::Count) => count(input, out).code(),
-        Some(Command::Replay) => run_replay(alloc, input, out).code(),
-        Some(Command::Status { form }) => run_status(alloc, form, input, out).code(),
-        Some(Command::Soak { seed, events }) => run_soak(alloc, seed, events, out).code(),
-        Some(Command::Help) => help(out).code(),
-        Some(Command::Create { image, timing }) => {
-            create(alloc, image.as_str(), timing, input, out, env).code()
+        None => refuse(out, Fault::Usage),
+        Some(command) => run_command(alloc, &command, input, out, env),
+    }
+}
+
+/// Runs a command, and says how it ended.
+fn run_command<I: Source, O: Sink, E: Env>(
+    alloc: Global,
+    command: &Command<'_>,
+    input: &mut I,
+    out: &mut O,
+    env: &mut E,
+) -> Status
+    requires { IsProper command.now }
+    ensures { let before = seen (source I.left I.faults input.old) (sink O.written O.faults out.old)
+        (outside E.calls E.faults env.old) in
+        let after = seen (source I.left I.faults input.new) (sink O.written O.faults out.new)
+        (outside E.calls E.faults env.new) in
+        Runs (Some command.now) before after (code_of result)
+        (input.new ≡ input.old) (env.new ≡ env.old) }
+{
+    match command {
+        Command::Count => count(input, out),
+        Command::Replay => run_replay(alloc, input, out),
+        Command::Status { form } => run_status(alloc, *form, input, out),
+        Command::Soak { seed, events } => run_soak(alloc, *seed, *events, out),
+        Command::Help => help(out),
+        Command::Create { image, timing } => {
+            create(alloc, image.as_str(), *timing, input, out, env)
         }
-        Some(Command::Dump { image }) => dump(image.as_str(), out, env).code(),
-        Some(Command::List { image }) => list(image.as_str(), out, env).code(),
-        Some(Command::Message { image, id, kind }) => {
-            send(image.as_str(), id, kind, out, env).code()
-        }
-        Some(Command::Node(words)) => {
-            node(alloc, NodeImages::One, &words, input, out, env).code()
-        }
-        Some(Command::Migrate { image }) => migrate(image.as_str(), out, env).code(),
-        Some(Command::Replay3) => run_replay3(alloc, input, out).code(),
-        Some(Command::Node3(words)) => {
-            node(alloc, NodeImages::Three, &words, input, out, env).code()
-        }
-        Some(Command::ReplayArbiter) => run_replay_arbiter(alloc, input, out).code(),
-        Some(Command::NodeLogged(words)) => node_logged(alloc, &words, input, out, env).code(),
-        Some(Command::Audit(words)) => run_audit(alloc, &words, input, out).code(),
+        Command::Dump { image } => dump(image.as_str(), out, env),
+        Command::List { image } => list(image.as_str(), out, env),
+        Command::Message { image, id, kind } => send(image.as_str(), *id, *kind, out, env),
+        Command::Node(words) => node(alloc, NodeImages::One, words, input, out, env),
+        Command::Migrate { image } => migrate(image.as_str(), out, env),
+        Command::Replay3 => run_replay3(alloc, input, out),
+        Command::Node3(words) => node(alloc, NodeImages::Three, words, input, out, env),
+        Command::ReplayArbiter => run_replay_arbiter(alloc, input, out),
+        Command::NodeLogged(words) => node_logged(alloc, words, input, out, env),
+        Command::Audit(words) => run_audit(alloc, words, input, out),
     }
 }
