@@ -19,9 +19,9 @@ const LINE: usize = 16;
 pub struct Machine<'a> {
     host: &'a HostRuntime,
     /// By how many milliseconds its clock is ahead of that of the host.
-    ahead: Cell<u64>,
+    ahead: Cell<u32>,
     /// How long the agent of the next connection takes, in milliseconds.
-    takes: Cell<u64>,
+    takes: Cell<u32>,
     /// The node's side of the next connection to an agent, where one is there.
     node_side: Rc<Cell<Option<UnixStream>>>,
     /// The agent's side of the same connection, which stays when that was taken.
@@ -41,12 +41,12 @@ impl<'a> Machine<'a> {
     }
 
     /// Sets the clock on by so many milliseconds.
-    pub fn pass(&self, time: u64) {
+    pub fn pass(&self, time: u32) {
         self.ahead.set(self.ahead.get().saturating_add(time));
     }
 
     /// Puts an agent behind the next connection, which takes so long.
-    pub fn expect_agent(&self, time: u64) -> io::Result<()> {
+    pub fn expect_agent(&self, time: u32) -> io::Result<()> {
         let (node, agent) = self.host.unix_pair()?;
         self.takes.set(time);
         self.node_side.set(Some(node));
@@ -90,7 +90,10 @@ impl<'a> Machine<'a> {
 
 /// Whether the bytes are those of this line.
 fn is_line(bytes: &[u8], line: &str) -> bool {
-    matches!(bytes.split_last(), Some((b'\n', text)) if text == line.as_bytes())
+    match bytes.strip_suffix(b"\n") {
+        Some(text) => text == line.as_bytes(),
+        None => false,
+    }
 }
 
 /// What is not there.
@@ -128,7 +131,7 @@ impl<'a> Net for Machine<'a> {
 
 impl<'a> Clock for Machine<'a> {
     fn monotonic(&self) -> io::Result<Duration> {
-        let ahead = Duration::from_millis(self.ahead.get());
+        let ahead = Duration::from_millis(u64::from(self.ahead.get()));
         Ok(self.host.monotonic()?.saturating_add(ahead))
     }
 

@@ -36,11 +36,10 @@ mod place;
 mod ports;
 mod report;
 mod stage;
+mod words;
 
 use machine::Machine;
-use ports::Ports;
 use qn_io::RealEnv;
-use report::Report;
 use stage::{Nodes, Stage};
 use std::io;
 
@@ -52,10 +51,5 @@ fn main(rt: HostRuntime) -> io::Result<()> {
         second: RealEnv::new(&machine),
         third: RealEnv::new(&machine),
     };
-    let mut report = Report::default();
-    for line in rt.lines(rt.alloc()) {
-        let line = line?;
-        stage.take_line(&mut report, &mut nodes, line.as_str())?;
-    }
-    report.end(&rt)
+    stage.play(&mut nodes)
 }

@@ -1,6 +1,7 @@
 //! The steps of a node.
 ghost use Rattle.std.specs.Prelude.{◌<◌, ◌≤◌};
 
+use crate::words::{byte, front_and_rest, number, size};
 use qn_base::Rank;
 use qn_io::{Env, Got, Opening, PACKET, SECTOR, SECTORS, SENT_PACKET};
 
@@ -26,22 +27,17 @@ pub fn node_step<E: Env>(node: &mut E, port: u16, step: &str) -> Option<bool> {
     }
 }
 
-/// The first word, and those after it.
-pub fn front_and_rest(words: &str) -> (&str, &str) {
-    words.split_once(' ').unwrap_or((words, ""))
-}
-
 fn opens<E: Env>(node: &mut E, port: u16, words: &str) -> Option<bool> {
-    let (rank, files) = words.split_once(' ')?;
-    let (image, devices) = files.split_once(' ')?;
-    let (watchdog, resource) = devices.split_once(' ')?;
+    let (rank, files) = front_and_rest(words);
+    let (image, devices) = front_and_rest(files);
+    let (watchdog, resource) = front_and_rest(devices);
     let opening = Opening {
         images: 1,
         image,
         watchdog,
         resource,
         port,
-        rank: Rank(rank.parse().ok()?),
+        rank: Rank(byte(rank)?),
     };
     Some(node.open_node(&opening).is_ok())
 }
@@ -52,19 +48,19 @@ fn begins_turn<E: Env>(node: &mut E) -> bool {
 }
 
 fn sends<E: Env>(node: &mut E, words: &str) -> Option<bool> {
-    let (to, length) = words.split_once(' ')?;
-    let to = Rank(to.parse().ok()?);
-    let length: usize = length.parse().ok()?;
+    let (to, length) = front_and_rest(words);
+    let to = Rank(byte(to)?);
+    let length = size(length)?.min(SENT_PACKET);
     let bytes = numbered();
-    Some(node.send(to, &bytes[..length.min(SENT_PACKET)]).is_ok())
+    Some(node.send(to, &bytes[..length]).is_ok())
 }
 
 fn receives<E: Env>(node: &mut E, length: &str) -> Option<bool> {
-    let length: usize = length.parse().ok()?;
+    let length = size(length)?.min(LONG);
     let bytes = numbered();
     let mut packet = [0; PACKET];
     let got = node.receive(&mut packet);
-    Some(got == Got::Packet(length) && packet.starts_with(&bytes[..length.min(LONG)]))
+    Some(got == Got::Packet(length) && packet.starts_with(&bytes[..length]))
 }
 
 fn hears_nothing<E: Env>(node: &mut E) -> bool {
@@ -73,25 +69,27 @@ fn hears_nothing<E: Env>(node: &mut E) -> bool {
 }
 
 fn writes<E: Env>(node: &mut E, words: &str) -> Option<bool> {
-    let (sector, byte) = words.split_once(' ')?;
-    let sector: u32 = sector.parse().ok()?;
-    let byte: u8 = byte.parse().ok()?;
-    Some(node.write(sector % SECTORS, &[byte; SECTOR]).is_ok())
+    let (sector, value) = front_and_rest(words);
+    let sector = number(sector)? % SECTORS;
+    let bytes = [byte(value)?; SECTOR];
+    Some(node.write(sector, &bytes).is_ok())
 }
 
 fn reads<E: Env>(node: &mut E, words: &str) -> Option<bool> {
-    let (sector, byte) = words.split_once(' ')?;
-    let sector: u32 = sector.parse().ok()?;
-    let byte: u8 = byte.parse().ok()?;
+    let (sector, value) = front_and_rest(words);
+    let sector = number(sector)? % SECTORS;
+    let wanted = [byte(value)?; SECTOR];
     let mut bytes = [0; SECTOR];
-    Some(node.read(sector % SECTORS, &mut bytes).is_ok() && bytes == [byte; SECTOR])
+    Some(node.read(sector, &mut bytes).is_ok() && bytes == wanted)
 }
 
 /// Bytes that differ from their neighbours.
 pub fn numbered() -> [u8; LONG] {
     let mut bytes = [0; LONG];
-    for (place, byte) in bytes.iter_mut().enumerate() {
-        *byte = (place % 251) as u8;
+    let mut next = 0_u8;
+    for byte in &mut bytes {
+        *byte = next;
+        next = next.wrapping_add(1);
     }
     bytes
 }

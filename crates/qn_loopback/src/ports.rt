@@ -1,7 +1,7 @@
 //! The ports of the nodes, and somebody else who sends to them.
 use crate::node::{LONG, numbered};
 use std::io;
-use std::net::{Ipv4Addr, Net, UdpSocket};
+use std::net::{Ipv4Addr, Net, SocketAddr, SocketAddrV4, UdpSocket};
 
 /// The first port that is tried. It is below the ports that a system hands out by itself.
 const FIRST_PORT: u16 = 20_000;
@@ -44,14 +44,18 @@ impl Ports {
     /// Whether the stranger sends so many bytes to the node of that rank.
     pub fn send(&self, rank: u8, length: usize) -> bool {
         let bytes = numbered();
-        let port = self.first.wrapping_add(u16::from(rank));
-        let sent = &bytes[..length.min(LONG)];
+        let to = address(self.first.wrapping_add(u16::from(rank)));
         self.stranger
-            .send_to(sent, (Ipv4Addr::LOCALHOST, port))
+            .send_to(&bytes[..length.min(LONG)], to)
             .is_ok()
     }
 }
 
 fn bind<N: Net>(net: &N, port: u16) -> io::Result<UdpSocket> {
-    UdpSocket::bind(net, (Ipv4Addr::LOCALHOST, port))
+    net.bind_udp(address(port))
+}
+
+/// The address of a port of this host.
+fn address(port: u16) -> SocketAddr {
+    SocketAddr::V4(SocketAddrV4::new(Ipv4Addr::LOCALHOST, port))
 }

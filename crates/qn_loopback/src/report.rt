@@ -1,33 +1,28 @@
 //! Says of each thing that is tried whether it is as it should be.
 use std::io;
 
-/// How many things were tried, how many of them were not as they should be, and how many steps since then were not.
+/// How many things were tried, how many of them were not as they should be, and whether a step since then was not.
 #[derive(Default, Drop)]
 pub struct Report {
     tried: u32,
     differ: u32,
-    wrong: u32,
+    is_wrong: bool,
 }
 
 impl Report {
-    /// Takes a step, and whether it was as it should be.
-    pub fn take(&mut self, rt: &impl Eprint, step: &str, is_right: bool) -> io::Result<()> {
-        if is_right {
-            return Ok(());
-        }
-        self.wrong = self.wrong.saturating_add(1);
+    /// Takes a step that was not as it should be.
+    pub fn take_wrong(&mut self, rt: &impl Eprint, step: &str) -> io::Result<()> {
+        self.is_wrong = true;
         eprintln!(rt; "not so: {step}")
     }
 
     /// Says of one thing whether all steps since the last one were as they should be.
     pub fn say(&mut self, rt: &impl Print, what: &str) -> io::Result<()> {
+        let answer = if self.is_wrong { "NO" } else { "yes" };
         self.tried = self.tried.saturating_add(1);
-        if self.wrong == 0 {
-            return println!(rt; "{what}: yes");
-        }
-        self.wrong = 0;
-        self.differ = self.differ.saturating_add(1);
-        println!(rt; "{what}: NO")
+        self.differ = self.differ.saturating_add(u32::from(self.is_wrong));
+        self.is_wrong = false;
+        println!(rt; "{what}: {answer}")
     }
 
     /// Says how many things were tried, and how many of them differ.

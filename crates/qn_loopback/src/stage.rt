@@ -1,9 +1,10 @@
 //! Takes the lines of a script.
 use crate::machine::Machine;
-use crate::node::{front_and_rest, node_step};
+use crate::node::node_step;
 use crate::place::{has, holds, makes_folder};
 use crate::ports::Ports;
 use crate::report::Report;
+use crate::words::{byte, front_and_rest, number, size};
 use qn_io::Env;
 use std::io::{self, ErrorKind};
 
@@ -30,8 +31,18 @@ impl<'a> Stage<'a> {
         Ok(Stage { rt, machine, ports })
     }
 
+    /// Takes the lines of standard input, and reports what became of them.
+    pub fn play<E: Env>(&self, nodes: &mut Nodes<E>) -> io::Result<()> {
+        let mut report = Report::default();
+        for line in self.rt.lines(self.rt.alloc()) {
+            let line = line?;
+            self.take_line(&mut report, nodes, line.as_str())?;
+        }
+        report.end(self.rt)
+    }
+
     /// Takes a line of the script.
-    pub fn take_line<E: Env>(
+    fn take_line<E: Env>(
         &self,
         report: &mut Report,
         nodes: &mut Nodes<E>,
@@ -48,7 +59,8 @@ impl<'a> Stage<'a> {
             None => (line, true),
         };
         match self.step(nodes, step) {
-            Some(holds) => report.take(self.rt, line, holds == wanted),
+            Some(holds) if holds == wanted => Ok(()),
+            Some(_) => report.take_wrong(self.rt, line),
             None => Err(io::Error::new(ErrorKind::InvalidInput, "a line that is no step")),
         }
     }
@@ -83,17 +95,17 @@ impl<'a> Stage<'a> {
     }
 
     fn stranger(&self, words: &str) -> Option<bool> {
-        let (rank, length) = words.split_once(' ')?;
-        Some(self.ports.send(rank.parse().ok()?, length.parse().ok()?))
+        let (rank, length) = front_and_rest(words);
+        Some(self.ports.send(byte(rank)?, size(length)?))
     }
 
     fn pass(&self, time: &str) -> Option<bool> {
-        self.machine.pass(time.parse().ok()?);
+        self.machine.pass(number(time)?);
         Some(true)
     }
 
     fn agent(&self, time: &str) -> Option<bool> {
-        Some(self.machine.expect_agent(time.parse().ok()?).is_ok())
+        Some(self.machine.expect_agent(number(time)?).is_ok())
     }
 
     fn file(&self, words: &str) -> bool {
