@@ -90,10 +90,7 @@ impl<'a> Machine<'a> {
 
 /// Whether the bytes are those of this line.
 fn is_line(bytes: &[u8], line: &str) -> bool {
-    match bytes.strip_suffix(b"\n") {
-        Some(text) => text == line.as_bytes(),
-        None => false,
-    }
+    bytes.len() == line.len() + 1 && bytes.starts_with(line.as_bytes()) && bytes.ends_with(b"\n")
 }
 
 /// What is not there.

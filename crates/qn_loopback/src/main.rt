@@ -41,15 +41,27 @@ mod words;
 use machine::Machine;
 use qn_io::RealEnv;
 use stage::{Nodes, Stage};
+use std::fs::File;
 use std::io;
+use std::net::Net;
+use std::rt::Files;
+use std::time::Clock;
 
 fn main(rt: HostRuntime) -> io::Result<()> {
     let machine = Machine::new(&rt)?;
     let stage = Stage::new(&rt, &machine)?;
+    play_on(&machine, &stage)
+}
+
+/// Plays the script with three nodes that run on that machine.
+fn play_on<R: Files<File = File> + Net + Clock + Eprint>(
+    machine: &R,
+    stage: &Stage<'_>,
+) -> io::Result<()> {
     let mut nodes = Nodes {
-        first: RealEnv::new(&machine),
-        second: RealEnv::new(&machine),
-        third: RealEnv::new(&machine),
+        first: RealEnv::new(machine),
+        second: RealEnv::new(machine),
+        third: RealEnv::new(machine),
     };
     stage.play(&mut nodes)
 }

@@ -2,7 +2,7 @@
 use std::io;
 
 /// How many things were tried, how many of them were not as they should be, and whether a step since then was not.
-#[derive(Default, Drop)]
+#[derive(Drop)]
 pub struct Report {
     tried: u32,
     differ: u32,
@@ -10,6 +10,15 @@ pub struct Report {
 }
 
 impl Report {
+    /// Nothing was tried so far.
+    pub fn new() -> Report {
+        Report {
+            tried: 0,
+            differ: 0,
+            is_wrong: false,
+        }
+    }
+
     /// Takes a step that was not as it should be.
     pub fn take_wrong(&mut self, rt: &impl Eprint, step: &str) -> io::Result<()> {
         self.is_wrong = true;
@@ -22,7 +31,7 @@ impl Report {
         self.tried = self.tried.saturating_add(1);
         self.differ = self.differ.saturating_add(u32::from(self.is_wrong));
         self.is_wrong = false;
-        println!(rt; "{what}: {answer}")
+        say_answer(rt, what, answer)
     }
 
     /// Says how many things were tried, and how many of them differ.
@@ -31,4 +40,8 @@ impl Report {
         let differ = self.differ;
         println!(rt; "tried {tried} differ {differ}")
     }
+}
+
+fn say_answer(rt: &impl Print, what: &str, answer: &str) -> io::Result<()> {
+    println!(rt; "{what}: {answer}")
 }

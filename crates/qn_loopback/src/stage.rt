@@ -33,7 +33,7 @@ impl<'a> Stage<'a> {
 
     /// Takes the lines of standard input, and reports what became of them.
     pub fn play<E: Env>(&self, nodes: &mut Nodes<E>) -> io::Result<()> {
-        let mut report = Report::default();
+        let mut report = Report::new();
         for line in self.rt.lines(self.rt.alloc()) {
             let line = line?;
             self.take_line(&mut report, nodes, line.as_str())?;

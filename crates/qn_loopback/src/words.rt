@@ -10,12 +10,12 @@ pub fn byte(word: &str) -> Option<u8> {
     word.parse().ok()
 }
 
-/// A number of sectors or of milliseconds.
+/// A greater number.
 pub fn number(word: &str) -> Option<u32> {
     word.parse().ok()
 }
 
 /// A number of bytes.
 pub fn size(word: &str) -> Option<usize> {
-    word.parse().ok()
+    Some(number(word)? as usize)
 }
