@@ -79,7 +79,7 @@ impl<'a> Machine<'a> {
         let Some(mut agent) = self.agent_side.replace(None) else {
             return false;
         };
-        let _unused = self.node_side.replace(None);
+        drop(self.node_side.replace(None));
         let mut sent = [0; LINE];
         match agent.read(&mut sent) {
             Ok(count) => is_line(&sent[..count], line),
