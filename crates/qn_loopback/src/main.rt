@@ -1,91 +1,67 @@
-//! Two real outsides of one process over one image, in a folder of its own: packets and sectors both ways, bytes from
-//! somebody else, watchdogs, resources and agents, openings that fail, and a run of each node on the image. It takes the first range of ports that opens, and
-//! says of each thing that it tries whether it is as it should be.
+//! Three outsides of one process over real files and sockets, which do what a script says: packets and sectors from one to the other, bytes
+//! from somebody else, watchdogs, resources and agents, and openings that fail. It says of each thing that the script tries whether
+//! it is as it should be.
 //!
-//! Promises: nothing. It is a test: what it must write stands beside it.
+//! Each line of the script, which is read from standard input, is a step that has to hold; after `not ` one that must not hold; or
+//! `says WHAT`, which says of WHAT whether all steps since the last such line were so. Empty lines and those from `#` on are passed over.
+//! N is the number of an outside, 0 to 2:
+//!
+//!     N open RANK IMAGE WATCHDOG RESOURCE    it opens these as the node of that rank
+//!     N start, N stop, N feed, N disarm      its call of that name succeeds
+//!     N now                                  its next turn begins
+//!     N send RANK LENGTH                     it sends so many bytes to the node of that rank
+//!     N receive LENGTH                       a packet of so many of these bytes comes
+//!     N silence                              no packet comes
+//!     N write SECTOR BYTE                    it writes a sector of such bytes
+//!     N read SECTOR BYTE                     it reads a sector of such bytes
+//!     stranger RANK LENGTH                   somebody else sends so many bytes to the port of the node of that rank
+//!     pass TIME                              the clock goes on by so many milliseconds, and nobody waits
+//!     agent TIME                             the next connection to an agent is made, and the clock goes on by so much meanwhile
+//!     line TEXT                              that agent answers with this line
+//!     part TEXT                              it answers with this text
+//!     closes                                 it closes its side
+//!     asked TEXT                             it was sent this line
+//!     folder NAME                            a folder is made
+//!     has NAME                               something of that name is there
+//!     file NAME TEXT                         the text of a file
+//!
+//! It makes its files in the folder where it is run, which has to be empty, and takes the first range of ports that is free.
+//!
+//! Promises: nothing. It is a test: its script, and what it must write, stand beside it.
 #![tactic(auto)]
 
-mod agent_runtime;
-mod agents;
-mod calls;
-mod devices;
-mod network;
-mod openings;
-mod pair;
+mod machine;
+mod node;
 mod place;
+mod ports;
 mod report;
-mod runs;
-mod sectors;
+mod stage;
+mod words;
 
-use anyhow::{Context, Result};
-use pair::{Pair, words_of_two};
-use place::{NodeWords, Place};
-use report::Report;
+use machine::Machine;
+use qn_io::RealEnv;
+use stage::{Nodes, Stage};
 use std::fs::File;
+use std::io;
 use std::net::Net;
 use std::rt::Files;
 use std::time::Clock;
-use std::{env, io, process};
 
-fn main(rt: HostRuntime) -> Result<()> {
-    let number = process::id(rt.process());
-    let parent = env::temp_dir(&rt)?;
-    let parent = parent.as_str();
-    let folder = format!(in rt.alloc(); "{parent}/qn_loopback-{number}")?;
-    let place = Place::new(&rt, rt.alloc(), folder)?;
-    let done = try_all(&rt, &place);
-    place.remove(&rt)?;
-    done
+fn main(rt: HostRuntime) -> io::Result<()> {
+    let machine = Machine::new(&rt)?;
+    let stage = Stage::new(&rt, &machine)?;
+    play_on(&machine, &stage)
 }
 
-/// Tries all in a folder.
-fn try_all<R: Files<File = File> + Net + Clock + Eprint + Print>(
-    rt: &R,
-    place: &Place,
-) -> Result<()> {
-    let mut report = Report::new(rt);
-    let words = words_of_two(place)?;
-    let mut pair = Pair::open(rt, &words).context("no range of ports opens")?;
-    let port = pair.port;
-    try_pair(rt, place, &words[0], &mut pair, &mut report)?;
-    try_openings(rt, place, port, &mut report)?;
-    drop(pair);
-    runs::check_runs(&mut report, rt, place, port)?;
-    report.end()?;
-    Ok(())
-}
-
-/// Tries what two nodes do that have opened.
-fn try_pair<R: Files<File = File> + Net + Clock + Eprint + Print>(
-    rt: &R,
-    place: &Place,
-    words: &NodeWords,
-    pair: &mut Pair<'_, R>,
-    report: &mut Report<'_, R>,
+/// Plays the script with three nodes that run on that machine.
+fn play_on<R: Files<File = File> + Net + Clock + Eprint>(
+    machine: &R,
+    stage: &Stage<'_>,
 ) -> io::Result<()> {
-    network::check_packets(report, &mut pair.first, &mut pair.second);
-    network::check_foreign(report, rt, pair.port, &mut pair.first)?;
-    sectors::check_sectors(report, &mut pair.first, &mut pair.second);
-    devices::check_resource(report, rt, place, &mut pair.first);
-    devices::check_watchdog(report, rt, place, &mut pair.first);
-    openings::check_second_start(report, rt, place, words, pair.port, &mut pair.first);
-    Ok(())
-}
-
-/// Tries openings of a third node.
-fn try_openings<R: Files<File = File> + Net + Clock + Eprint + Print>(
-    rt: &R,
-    place: &Place,
-    port: u16,
-    report: &mut Report<'_, R>,
-) -> io::Result<()> {
-    openings::check_folders(report, rt, place, port)?;
-    let words = NodeWords::new(place, "image", "watchdog.2", "resource.2")?;
-    devices::check_other_watchdogs(report, rt, &words, port);
-    devices::check_pipe(report, rt, place, port)?;
-    let words = agents::words_of_agent(place)?;
-    agents::check_lines(report, rt, place, &words, port)?;
-    agents::check_refused_start(report, rt, place, &words, port)?;
-    agents::check_answers(report, rt, place, &words, port);
-    agents::check_slow_stop(report, rt, place, &words, port)
+    let mut nodes = Nodes {
+        first: RealEnv::new(machine),
+        second: RealEnv::new(machine),
+        third: RealEnv::new(machine),
+    };
+    stage.play(&mut nodes)
 }

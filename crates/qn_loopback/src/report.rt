@@ -1,49 +1,47 @@
 //! Says of each thing that is tried whether it is as it should be.
 use std::io;
 
-/// What was tried, line by line on standard output, and how much of it was not as it should be.
+/// How many things were tried, how many of them were not as they should be, and whether a step since then was not.
 #[derive(Drop)]
-pub struct Report<'a, P: Print> {
-    out: &'a P,
+pub struct Report {
     tried: u32,
     differ: u32,
-    /// How many lines could not be written.
-    unwritten: u32,
+    is_wrong: bool,
 }
 
-impl<'a, P: Print> Report<'a, P> {
+impl Report {
     /// Nothing was tried so far.
-    pub fn new(out: &'a P) -> Report<'a, P> {
+    pub fn new() -> Report {
         Report {
-            out,
             tried: 0,
             differ: 0,
-            unwritten: 0,
+            is_wrong: false,
         }
     }
 
-    /// Says of one thing whether it is as it should be.
-    pub fn say(&mut self, what: &str, holds: bool) {
+    /// Takes a step that was not as it should be.
+    pub fn take_wrong(&mut self, rt: &impl Eprint, step: &str) -> io::Result<()> {
+        self.is_wrong = true;
+        eprintln!(rt; "not so: {step}")
+    }
+
+    /// Says of one thing whether all steps since the last one were as they should be.
+    pub fn say(&mut self, rt: &impl Print, what: &str) -> io::Result<()> {
+        let answer = if self.is_wrong { "NO" } else { "yes" };
         self.tried = self.tried.saturating_add(1);
-        let written = if holds {
-            println!(self.out; "{what}: yes")
-        } else {
-            self.differ = self.differ.saturating_add(1);
-            println!(self.out; "{what}: NO")
-        };
-        if written.is_err() {
-            self.unwritten = self.unwritten.saturating_add(1);
-        }
+        self.differ = self.differ.saturating_add(u32::from(self.is_wrong));
+        self.is_wrong = false;
+        say_answer(rt, what, answer)
     }
 
-    /// Says how many things were tried, and how many of them differ. Fails where a line could not be written.
-    pub fn end(&self) -> io::Result<()> {
+    /// Says how many things were tried, and how many of them differ.
+    pub fn end(&self, rt: &impl Print) -> io::Result<()> {
         let tried = self.tried;
         let differ = self.differ;
-        println!(self.out; "tried {tried} differ {differ}")?;
-        match self.unwritten {
-            0 => Ok(()),
-            _ => Err(io::Error::from(io::ErrorKind::Other)),
-        }
+        println!(rt; "tried {tried} differ {differ}")
     }
+}
+
+fn say_answer(rt: &impl Print, what: &str, answer: &str) -> io::Result<()> {
+    println!(rt; "{what}: {answer}")
 }

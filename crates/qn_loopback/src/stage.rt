@@ -1,0 +1,115 @@
+//! Takes the lines of a script.
+use crate::machine::Machine;
+use crate::node::node_step;
+use crate::place::{has, holds, makes_folder};
+use crate::ports::Ports;
+use crate::report::Report;
+use crate::words::{byte, front_and_rest, number, size};
+use qn_io::Env;
+use std::io::{self, ErrorKind};
+
+/// The nodes 0, 1 and 2.
+#[derive(Drop)]
+pub struct Nodes<E> {
+    pub first: E,
+    pub second: E,
+    pub third: E,
+}
+
+/// What is there besides the nodes.
+#[derive(Drop)]
+pub struct Stage<'a> {
+    rt: &'a HostRuntime,
+    machine: &'a Machine<'a>,
+    ports: Ports,
+}
+
+impl<'a> Stage<'a> {
+    /// A stage on that machine, with the first range of ports that is free.
+    pub fn new(rt: &'a HostRuntime, machine: &'a Machine<'a>) -> io::Result<Stage<'a>> {
+        let ports = Ports::find(rt)?;
+        Ok(Stage { rt, machine, ports })
+    }
+
+    /// Takes the lines of standard input, and reports what became of them.
+    pub fn play<E: Env>(&self, nodes: &mut Nodes<E>) -> io::Result<()> {
+        let mut report = Report::new();
+        for line in self.rt.lines(self.rt.alloc()) {
+            let line = line?;
+            self.take_line(&mut report, nodes, line.as_str())?;
+        }
+        report.end(self.rt)
+    }
+
+    /// Takes a line of the script.
+    fn take_line<E: Env>(
+        &self,
+        report: &mut Report,
+        nodes: &mut Nodes<E>,
+        line: &str,
+    ) -> io::Result<()> {
+        if line.is_empty() || line.starts_with('#') {
+            return Ok(());
+        }
+        if let Some(what) = line.strip_prefix("says ") {
+            return report.say(self.rt, what);
+        }
+        let (step, wanted) = match line.strip_prefix("not ") {
+            Some(step) => (step, false),
+            None => (line, true),
+        };
+        match self.step(nodes, step) {
+            Some(holds) if holds == wanted => Ok(()),
+            Some(_) => report.take_wrong(self.rt, line),
+            None => Err(io::Error::new(ErrorKind::InvalidInput, "a line that is no step")),
+        }
+    }
+
+    /// Whether a step holds; None where it is no step.
+    fn step<E: Env>(&self, nodes: &mut Nodes<E>, step: &str) -> Option<bool> {
+        let (who, what) = front_and_rest(step);
+        let port = self.ports.first;
+        match who {
+            "0" => node_step(&mut nodes.first, port, what),
+            "1" => node_step(&mut nodes.second, port, what),
+            "2" => node_step(&mut nodes.third, port, what),
+            _ => self.own_step(who, what),
+        }
+    }
+
+    /// Whether a step holds that is none of a node.
+    fn own_step(&self, verb: &str, words: &str) -> Option<bool> {
+        match verb {
+            "stranger" => self.stranger(words),
+            "pass" => self.pass(words),
+            "agent" => self.agent(words),
+            "line" => Some(self.machine.answers(words) && self.machine.answers("\n")),
+            "part" => Some(self.machine.answers(words)),
+            "closes" => Some(self.machine.closes()),
+            "asked" => Some(self.machine.was_asked(words)),
+            "folder" => Some(makes_folder(self.rt, words)),
+            "has" => Some(has(self.rt, words)),
+            "file" => Some(self.file(words)),
+            _ => None,
+        }
+    }
+
+    fn stranger(&self, words: &str) -> Option<bool> {
+        let (rank, length) = front_and_rest(words);
+        Some(self.ports.send(byte(rank)?, size(length)?))
+    }
+
+    fn pass(&self, time: &str) -> Option<bool> {
+        self.machine.pass(number(time)?);
+        Some(true)
+    }
+
+    fn agent(&self, time: &str) -> Option<bool> {
+        Some(self.machine.expect_agent(number(time)?).is_ok())
+    }
+
+    fn file(&self, words: &str) -> bool {
+        let (name, text) = front_and_rest(words);
+        holds(self.rt, name, text)
+    }
+}
