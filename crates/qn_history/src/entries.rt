@@ -1,100 +1,169 @@
 //! Reads one entry of a recorded history: its tick and what the node is handed.
-ghost use Rattle.std.specs.Prelude.{◌≡◌, [], ◌∷◌, map, take, IfOk};
+ghost use Rattle.std.specs.Prelude.{◌≡◌, [], ◌∷◌, map, take, IfSome};
 ghost use Rattle.qn_history.specs.Words.{kind_word};
 
-use crate::faults::HistoryFault;
 use crate::packets::{read_ask, read_tell};
-use crate::words::{
-    read_message, read_number, read_rank, read_small_number, read_truth, read_view,
-};
-use qn_model::{Entry, HeaderSeen, MailSeen, Slot, SlotSeen, Timing, What};
+use crate::words::{read_number, read_rank, read_small_number, read_truth, read_view};
+use qn_base::Rank;
+use qn_model::{Entry, HeaderSeen, MailSeen, Message, Slot, SlotSeen, Timing, What};
 use std::alloc::Global;
 
 /// An entry: its tick and what the node is handed, separated by a tab.
-pub fn read_entry(alloc: Global, line: &str) -> Result<Entry, HistoryFault> {
-    let (tick, what) = line.split_once('\t').ok_or(HistoryFault::NoEntry)?;
-    let words: Vec<&str> = what.split(' ').collect(alloc)?;
-    Ok(Entry {
+pub fn read_entry(alloc: Global, line: &str) -> Option<Entry> {
+    let (tick, what) = line.split_once('\t')?;
+    let words: Vec<&str> = what.split(' ').collect(alloc).ok()?;
+    Some(Entry {
         tick: read_number(tick)?,
         what: read_what(words.as_slice())?,
     })
 }
 
 /// What a node is handed: the words of an entry.
-pub fn read_what(words: &[&str]) -> Result<What, HistoryFault>
-    ensures kind { IfOk result (λ what. take 1 (map (λ word. word.now) words.now) ≡ kind_word what ∷ []) }
+pub fn read_what(words: &[&str]) -> Option<What>
+    ensures kind { IfSome result (λ what. take 1 (map (λ word. word.now) words.now) ≡ kind_word what ∷ []) }
 {
-    Ok(match words {
-        ["begin"] => What::Begin,
-        ["begin-clean"] => What::BeginClean,
-        ["tick"] => What::Tick,
-        ["leave"] => What::Leave,
-        ["header", seen @ ..] => What::Header(header_of(seen)?),
-        ["slot", of, seen @ ..] => What::SlotRead(read_rank(of)?, slot_of(seen)?),
-        ["checked", seen] => What::MailChecked(mail_of(seen)?),
-        ["claimed", ok] => What::Claimed(read_truth(ok)?),
-        ["cleared", ok] => What::Cleared(read_truth(ok)?),
-        ["closed", ok] => What::Closed(read_truth(ok)?),
-        ["stopped", ok] => What::Stopped(read_truth(ok)?),
-        ["device", agrees] => What::Device(read_truth(agrees)?),
-        ["mail", seen] => What::MailRead(mail_of(seen)?),
-        ["written", to, ok] => What::MailWritten(read_rank(to)?, read_truth(ok)?),
-        ["view", id, members] => What::View(read_view(id, members)?),
-        ["ask", ask @ ..] => What::Ask(read_ask(ask)?),
-        ["tell", tell @ ..] => What::Tell(read_tell(tell)?),
-        _ => return Err(HistoryFault::UnknownEntry),
-    })
+    match words {
+        [kind] => bare(kind),
+        [kind, part] => with_part(kind, part),
+        [kind, first, second] => with_two(kind, first, second),
+        [kind, parts @ ..] => with_more(kind, parts),
+        [] => None,
+    }
 }
 
-fn header_of(words: &[&str]) -> Result<HeaderSeen, HistoryFault> {
-    Ok(match words {
-        ["failed"] => HeaderSeen::Failed,
-        ["not-image"] => HeaderSeen::NotImage,
-        ["read", nodes, times @ ..] => HeaderSeen::Read {
-            nodes: read_small_number(nodes)?,
-            timing: timing_of(times)?,
-        },
-        _ => return Err(HistoryFault::BadHeader),
-    })
+/// What its first word alone says.
+fn bare(kind: &str) -> Option<What>
+    ensures { IfSome result (λ what. kind.now ≡ kind_word what) }
+{
+    match kind {
+        "begin" => Some(What::Begin),
+        "begin-clean" => Some(What::BeginClean),
+        "tick" => Some(What::Tick),
+        "leave" => Some(What::Leave),
+        _ => None,
+    }
 }
 
-fn timing_of(words: &[&str]) -> Result<Timing, HistoryFault> {
-    let [watchdog, msgwait, loop_ms, read_limit, feed_delay] = words else {
-        return Err(HistoryFault::BadHeader);
+fn with_part(kind: &str, part: &str) -> Option<What>
+    ensures { IfSome result (λ what. kind.now ≡ kind_word what) }
+{
+    match kind {
+        "header" => Some(What::Header(failed_header(part)?)),
+        "checked" => Some(What::MailChecked(mail_of(part)?)),
+        "mail" => Some(What::MailRead(mail_of(part)?)),
+        _ => with_truth(kind, read_truth(part)?),
+    }
+}
+
+fn with_truth(kind: &str, truth: bool) -> Option<What>
+    ensures { IfSome result (λ what. kind.now ≡ kind_word what) }
+{
+    match kind {
+        "claimed" => Some(What::Claimed(truth)),
+        "cleared" => Some(What::Cleared(truth)),
+        "closed" => Some(What::Closed(truth)),
+        "stopped" => Some(What::Stopped(truth)),
+        "device" => Some(What::Device(truth)),
+        _ => None,
+    }
+}
+
+fn with_two(kind: &str, first: &str, second: &str) -> Option<What>
+    ensures { IfSome result (λ what. kind.now ≡ kind_word what) }
+{
+    match kind {
+        "slot" => Some(What::SlotRead(read_rank(first)?, failed_slot(second)?)),
+        "written" => Some(What::MailWritten(read_rank(first)?, read_truth(second)?)),
+        "view" => Some(What::View(read_view(first, second)?)),
+        _ => None,
+    }
+}
+
+fn with_more(kind: &str, parts: &[&str]) -> Option<What>
+    ensures { IfSome result (λ what. kind.now ≡ kind_word what) }
+{
+    match kind {
+        "header" => Some(What::Header(header_of(parts)?)),
+        "slot" => {
+            let (of, seen) = slot_of(parts)?;
+            Some(What::SlotRead(of, seen))
+        }
+        "ask" => Some(What::Ask(read_ask(parts)?)),
+        "tell" => Some(What::Tell(read_tell(parts)?)),
+        _ => None,
+    }
+}
+
+fn failed_header(word: &str) -> Option<HeaderSeen> {
+    match word {
+        "failed" => Some(HeaderSeen::Failed),
+        "not-image" => Some(HeaderSeen::NotImage),
+        _ => None,
+    }
+}
+
+fn header_of(words: &[&str]) -> Option<HeaderSeen> {
+    let [
+        read,
+        nodes,
+        watchdog,
+        msgwait,
+        loop_ms,
+        read_limit,
+        feed_delay,
+    ] = words
+    else {
+        return None;
     };
-    Ok(Timing {
+    if *read != "read" {
+        return None;
+    }
+    let timing = Timing {
         watchdog: read_number(watchdog)?,
         msgwait: read_number(msgwait)?,
         loop_ms: read_number(loop_ms)?,
         read_limit: read_number(read_limit)?,
         feed_delay: read_number(feed_delay)?,
-    })
+    };
+    let nodes = read_small_number(nodes)?;
+    Some(HeaderSeen::Read { nodes, timing })
 }
 
-fn slot_of(words: &[&str]) -> Result<SlotSeen, HistoryFault> {
-    Ok(match words {
-        ["failed"] => SlotSeen::Failed,
-        ["damaged"] => SlotSeen::Damaged,
-        ["read", incarnation, state] => SlotSeen::Read(Slot {
-            incarnation: read_number(incarnation)?,
-            clean: is_clean(state)?,
-        }),
-        _ => return Err(HistoryFault::BadSlot),
-    })
-}
-
-fn is_clean(word: &str) -> Result<bool, HistoryFault> {
+fn failed_slot(word: &str) -> Option<SlotSeen> {
     match word {
-        "clean" => Ok(true),
-        "dirty" => Ok(false),
-        _ => Err(HistoryFault::BadSlot),
+        "failed" => Some(SlotSeen::Failed),
+        "damaged" => Some(SlotSeen::Damaged),
+        _ => None,
     }
 }
 
-fn mail_of(word: &str) -> Result<MailSeen, HistoryFault> {
-    Ok(match word {
-        "failed" => MailSeen::Failed,
-        "damaged" => MailSeen::Damaged,
-        _ => MailSeen::Read(read_message(word)?),
-    })
+/// The rank whose slot was read, and the slot.
+fn slot_of(words: &[&str]) -> Option<(Rank, SlotSeen)> {
+    let [of, read, incarnation, state] = words else {
+        return None;
+    };
+    if *read != "read" {
+        return None;
+    }
+    let slot = Slot {
+        incarnation: read_number(incarnation)?,
+        clean: is_clean(state)?,
+    };
+    Some((read_rank(of)?, SlotSeen::Read(slot)))
+}
+
+fn is_clean(word: &str) -> Option<bool> {
+    match word {
+        "clean" => Some(true),
+        "dirty" => Some(false),
+        _ => None,
+    }
+}
+
+fn mail_of(word: &str) -> Option<MailSeen> {
+    match word {
+        "failed" => Some(MailSeen::Failed),
+        "damaged" => Some(MailSeen::Damaged),
+        _ => Some(MailSeen::Read(Message::from_name(word)?)),
+    }
 }

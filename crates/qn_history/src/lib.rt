@@ -20,25 +20,19 @@
 //!     ask FROM TO INCARNATION INSTALL ID MEMBERS
 //!     tell FROM TO INCARNATION INSTALL ID MEMBERS HOLDS RELEASED
 //!
-//! Promises: a line is one of settings or of a rank exactly where it begins so; a number, a truth and a message are read
-//! exactly where the text spells one; settings are read only where each of their words begins with a key. Of the rest
-//! nothing is promised but an answer: the value, or a fault that says in words what was wrong.
+//! Promises: a line is one of settings or of a rank exactly where it begins so; a number and a truth are read
+//! exactly where the text spells one. Of the rest nothing is promised but an answer: the value, or none where a line or a part of it is
+//! none of a history.
 #![tactic(auto)]
 
 mod entries;
-mod faults;
 mod heads;
-mod keys;
 mod packets;
 mod settings;
 mod words;
 
 pub use entries::{read_entry, read_what};
-pub use faults::HistoryFault;
 pub use heads::{rank_word, settings_words};
-pub use keys::Key;
 pub use packets::{read_ask, read_tell};
 pub use settings::read_settings;
-pub use words::{
-    read_members, read_message, read_node_id, read_number, read_rank, read_truth, read_view,
-};
+pub use words::{read_members, read_number, read_rank, read_truth, read_view};

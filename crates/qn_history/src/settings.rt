@@ -1,102 +1,75 @@
 //! Reads the line of settings of a recorded history.
-ghost use Rattle.std.specs.Prelude.{◌≡◌, IsTrue, OnOk};
-ghost use Rattle.qn_history.specs.Keys.{are_known, is_known};
-
-use crate::faults::HistoryFault;
-use crate::keys::Key;
 use crate::words::{read_node_id, read_number, read_rank, read_small_number, read_truth};
 use qn_model::{Device, NodeEntry, Nodes, Order, Settings};
 
-/// The settings of these words, separated by spaces. Of two words with one key the first counts; a word that begins
-/// with no key is refused. Without `tie=` there is no tie breaker, and without `delays=` no fence delay.
-pub fn read_settings(words: &str) -> Result<Settings, HistoryFault>
-    ensures known { OnOk result (IsTrue (are_known words.now)) }
-{
-    if !all_known(words) {
-        return Err(HistoryFault::UnknownKey);
+/// The settings of these words, separated by spaces, each a key with its value in the order that is written above. Without
+/// `tie=` there is no tie breaker, and without `delays=`, which stands behind it, no fence delay.
+pub fn read_settings(text: &str) -> Option<Settings> {
+    let (text, more) = text.split_once(" tie=").unwrap_or((text, "none"));
+    let (order, delays) = more.split_once(" delays=").unwrap_or((more, "0"));
+    let mut words = text.split(' ');
+    let nodes = value_of(words.next(), "nodes=")?;
+    let two_node = value_of(words.next(), "two_node=")?;
+    let wait_for_all = value_of(words.next(), "wait_for_all=")?;
+    let last_man_standing = value_of(words.next(), "last_man_standing=")?;
+    let window = value_of(words.next(), "window=")?;
+    let device = value_of(words.next(), "device=")?;
+    let expected = value_of(words.next(), "expected=")?;
+    if words.next().is_some() {
+        return None;
     }
-    Ok(Settings {
-        nodes: read_nodes(value_of(words, Key::Nodes)?, read_delays(words)?)?,
-        two_node: read_truth(value_of(words, Key::TwoNode)?)?,
-        wait_for_all: read_truth(value_of(words, Key::WaitForAll)?)?,
-        last_man_standing: read_truth(value_of(words, Key::LastManStanding)?)?,
-        window: read_number(value_of(words, Key::Window)?)?,
-        device: read_device(value_of(words, Key::Device)?)?,
-        expected: read_number(value_of(words, Key::Expected)?)?,
-        tie: read_tie(words)?,
+    Some(Settings {
+        nodes: read_nodes(nodes, read_delays(delays)?)?,
+        two_node: read_truth(two_node)?,
+        wait_for_all: read_truth(wait_for_all)?,
+        last_man_standing: read_truth(last_man_standing)?,
+        window: read_number(window)?,
+        device: read_device(device)?,
+        expected: read_number(expected)?,
+        tie: read_tie(order)?,
     })
 }
 
-/// Whether each word begins with a key.
-fn all_known(words: &str) -> bool
-    ensures { result ≡ are_known words.now }
-{
-    words.split(' ').all(is_known)
-}
-
-/// Whether a word begins with a key.
-fn is_known(word: &str) -> bool
-    ensures { result ≡ is_known word.now }
-{
-    Key::ALL.iter().any(|key| key.begins(word))
-}
-
-/// The rest of the first word that begins with this key.
-fn value_of(words: &str, key: Key) -> Result<&str, HistoryFault> {
-    find_value(words, key).ok_or(HistoryFault::NoKey { key })
-}
-
-/// The rest of the first word that begins with this key, where there is one.
-fn find_value(words: &str, key: Key) -> Option<&str> {
-    for word in words.split(' ') {
-        if let Some(value) = word.strip_prefix(key.name()) {
-            return Some(value);
-        }
-    }
-    None
+/// The value of a word, where it begins with that key.
+fn value_of<'a>(word: Option<&'a str>, key: &str) -> Option<&'a str> {
+    word?.strip_prefix(key)
 }
 
 /// The fence delays by rank, in milliseconds: 0 for a rank that has none.
-fn read_delays(words: &str) -> Result<[u64; 32], HistoryFault> {
+fn read_delays(text: &str) -> Option<[u64; 32]> {
     let mut delays = [0u64; 32];
-    let Some(text) = find_value(words, Key::Delays) else {
-        return Ok(delays);
-    };
     let mut rank = 0usize;
     for word in text.split(',') {
         if rank >= 32 {
-            return Err(HistoryFault::TooManyDelays);
+            return None;
         }
         delays[rank] = read_number(word)?;
         rank += 1;
     }
-    Ok(delays)
+    Some(delays)
 }
 
 /// The order of the tie breaker: `none`, or ranks joined by commas.
-fn read_tie(words: &str) -> Result<Option<Order>, HistoryFault> {
-    let Some(text) = find_value(words, Key::Tie) else {
-        return Ok(None);
-    };
+fn read_tie(text: &str) -> Option<Option<Order>> {
     if text == "none" {
-        return Ok(None);
+        return Some(None);
     }
     let mut order = Order::new();
     for word in text.split(',') {
         if order.is_full() {
-            return Err(HistoryFault::LongOrder);
+            return None;
         }
         order.push(read_rank(word)?);
     }
-    Ok(Some(order))
+    Some(Some(order))
 }
 
-fn read_nodes(text: &str, delays: [u64; 32]) -> Result<Nodes, HistoryFault> {
+fn read_nodes(text: &str, delays: [u64; 32]) -> Option<Nodes> {
     let mut nodes = Nodes::new();
     for word in text.split(',') {
-        let (id, votes) = word.split_once(':').ok_or(HistoryFault::BadNode)?;
+        let (id, votes) = word.split_once(':')?;
         if nodes.is_full() {
-            return Err(HistoryFault::TooManyNodes);
+            return None;
         }
         nodes.push(NodeEntry {
             id: read_node_id(id)?,
@@ -104,15 +77,15 @@ fn read_nodes(text: &str, delays: [u64; 32]) -> Result<Nodes, HistoryFault> {
             fence_delay: delays[nodes.len()],
         });
     }
-    Ok(nodes)
+    Some(nodes)
 }
 
-fn read_device(text: &str) -> Result<Option<Device>, HistoryFault> {
+fn read_device(text: &str) -> Option<Option<Device>> {
     if text == "none" {
-        return Ok(None);
+        return Some(None);
     }
-    let (votes, timeout) = text.split_once(':').ok_or(HistoryFault::BadDevice)?;
-    Ok(Some(Device {
+    let (votes, timeout) = text.split_once(':')?;
+    Some(Some(Device {
         votes: read_small_number(votes)?,
         timeout: read_number(timeout)?,
     }))

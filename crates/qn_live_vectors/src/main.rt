@@ -2,50 +2,44 @@
 //! writes each that goes otherwise, and then how many there were.
 //!
 //!     case NAME
-//!     words --id N --turns K [--leave T] [--start-mode M]
-//!     end LINE                    what `node` writes at the end of the run
-//!     sector S HEX                what the image holds before the run, for the rows `failing`
-//!     ====                        (a head may have more lines, which are passed over)
-//!     the settings text
-//!     ----
-//!     the log, a call a line with its answer: the outside plays it
+//!     settings TEXT               the settings text, `|` for each end of a line
+//!     words ID TURNS LEAVE CLEAN  the node, its turns, the turn from which on it leaves or `-`, and `yes` for a clean start
+//!     holds write S HEX ok        what a sector of the image holds before the run, for the rows `fails`
+//!     any other line              a call of the log with its answer
+//!     ends STATUS LINE            the outside plays the log, and the node ends so
+//!     fails N CALLS DIGEST STATUS LINE
+//!                                 the outside is one in memory whose Nth call fails, and the log of so many calls has this
+//!                                 SHA-256; N is 0 where none fails
+//!     quiet CALLS DIGEST STATUS LINE
+//!                                 the same over an outside with a new image that never fails and hears nothing
 //!
-//! A row `failing` runs the last case again over an outside in memory, of which one call fails; its columns, after tabs, are
-//! the number of that call, the number of calls, the SHA-256 of the log, the end and the status. A row `quiet` is a run over an
-//! outside in memory that never fails and hears nothing: its name, settings, words, end, status, number of calls, and SHA-256.
-//!
-//! With a number of turns as its word it runs one node for so many turns over such an outside and writes how that ends, to be
+//! With a number of turns as its word it runs one node for so many turns over such a quiet outside and writes how that ends, to be
 //! timed by `bench/live`; with `three` as a second word on three images; and with `log` it writes what an audit of that run reads, for
 //! `bench/audit`.
 //!
 //! Promises: nothing. It is a test: what it is run on, and what it must write, stand beside it.
 #![tactic(auto)]
 
-mod call_line;
 mod case;
-mod end_text;
-mod in_memory;
 mod played;
-mod reading;
+mod running;
+mod scripted;
 mod timed;
-mod words;
-mod wrong;
 
 use case::Case;
-use in_memory::{Want, check_quiet};
-use qn_history::read_number;
+use qn_commands::NodeImages;
 use qn_io::StdSink;
+use running::{failing_text, played_text, quiet_text};
 use std::alloc::Global;
 use std::{env, io};
-use timed::{record_turns, run_turns, run_turns_on_three};
-use wrong::Wrong;
+use timed::{record_turns, run_turns};
 
-/// What was read so far: the present case and whether its log was run, and how many cases, calls of their logs and rows there
-/// were, and how many go otherwise.
-#[derive(Default, Drop)]
+/// What was read so far: the present case and its name, and how many cases, calls of their logs and rows there were, and how many go
+/// otherwise.
+#[derive(Drop)]
 struct Reader {
-    case: Option<Case>,
-    is_run: bool,
+    name: String,
+    case: Case,
     cases: u64,
     calls: u64,
     rows: u64,
@@ -55,47 +49,35 @@ struct Reader {
 fn main(rt: HostRuntime) -> io::Result<()> {
     let mut words = env::args(&rt)?;
     let _program = words.next();
-    match (words.next(), words.next()) {
-        (None, _) => check_all(&rt),
-        (Some(turns), None) => say(&rt, run_turns(rt.alloc(), turns.as_str())),
-        (Some(turns), Some(word)) => match word.as_str() {
-            "three" => say(&rt, run_turns_on_three(rt.alloc(), turns.as_str())),
-            _ => record(&rt, turns.as_str()),
-        },
-    }
-}
-
-/// Writes the line of an end, or what was wrong.
-fn say(rt: &HostRuntime, ended: Result<String, Wrong>) -> io::Result<()> {
-    match ended {
-        Ok(end) => println!(rt; "{end}"),
-        Err(wrong) => println!(rt; "{wrong}"),
-    }
-}
-
-/// Writes the settings and the log of a run of so many turns.
-fn record(rt: &HostRuntime, turns: &str) -> io::Result<()> {
-    let mut out = StdSink::new(io::writer(rt), rt);
-    match record_turns(rt.alloc(), turns, &mut out) {
-        Ok(()) => Ok(()),
-        Err(wrong) => println!(rt; "{wrong}"),
+    let (Some(turns), mode) = (words.next(), words.next()) else {
+        return check_all(&rt);
+    };
+    let mut out = StdSink::new(io::writer(&rt), &rt);
+    let turns = turns.as_str();
+    let done = match mode.as_ref().map_or("one", String::as_str) {
+        "one" => run_turns(rt.alloc(), NodeImages::One, turns, &mut out),
+        "three" => run_turns(rt.alloc(), NodeImages::Three, turns, &mut out),
+        _ => record_turns(rt.alloc(), turns, &mut out),
+    };
+    match done {
+        Some(()) => Ok(()),
+        None => println!(rt; "no run"),
     }
 }
 
 /// Runs what standard input has.
 fn check_all(rt: &HostRuntime) -> io::Result<()> {
-    let mut reader = Reader::default();
+    let mut reader = Reader {
+        name: String::new(rt.alloc()),
+        case: Case::new(rt.alloc()),
+        cases: 0,
+        calls: 0,
+        rows: 0,
+        differ: 0,
+    };
     for line in rt.lines(rt.alloc()) {
         let line = line?;
-        let text = line.as_str();
-        if let Err(wrong) = reader.take_line(rt.alloc(), text) {
-            reader.differ = reader.differ.saturating_add(1);
-            println!(rt; "{wrong} before or at: {text}")?;
-        }
-    }
-    if let Err(wrong) = reader.finish(rt.alloc()) {
-        reader.differ = reader.differ.saturating_add(1);
-        println!(rt; "{wrong} in the last case")?;
+        reader.take_line(rt, line.as_str())?;
     }
     println!(rt;
         "cases {} calls {} rows {} differ {}",
@@ -104,57 +86,58 @@ fn check_all(rt: &HostRuntime) -> io::Result<()> {
 }
 
 impl Reader {
-    fn take_line(&mut self, alloc: Global, text: &str) -> Result<(), Wrong> {
-        if text.starts_with("case ") {
-            let finished = self.finish(alloc);
-            self.case = Some(Case::new(alloc));
-            self.is_run = false;
-            return finished;
-        }
-        if let Some(row) = text.strip_prefix("failing\t") {
-            self.finish(alloc)?;
-            return self.check_failing(alloc, row);
-        }
-        if let Some(row) = text.strip_prefix("quiet\t") {
-            self.finish(alloc)?;
-            self.rows = self.rows.saturating_add(1);
-            return check_quiet(alloc, row);
-        }
-        match &mut self.case {
-            Some(case) => case.take_line(alloc, text),
-            None => Err(Wrong::Form),
+    /// Takes the next line: the beginning of a case, a run of the present one, or another line of it.
+    fn take_line(&mut self, rt: &HostRuntime, line: &str) -> io::Result<()> {
+        let alloc = rt.alloc();
+        let (word, rest) = first_word(line);
+        match word {
+            "case" => self.begin(alloc, rest),
+            "ends" => {
+                self.count_case();
+                let told = played_text(alloc, &self.case);
+                self.compare(rt, told, rest)
+            }
+            "fails" => {
+                self.rows = self.rows.saturating_add(1);
+                let (call, want) = first_word(rest);
+                let told = failing_text(alloc, &self.case, call);
+                self.compare(rt, told, want)
+            }
+            "quiet" => {
+                self.rows = self.rows.saturating_add(1);
+                let told = quiet_text(alloc, &self.case);
+                self.compare(rt, told, rest)
+            }
+            _ => self.case.take_line(alloc, line),
         }
     }
 
-    /// Runs the log of the case that was read, once.
-    fn finish(&mut self, alloc: Global) -> Result<(), Wrong> {
-        if self.is_run {
-            return Ok(());
-        }
-        self.is_run = true;
-        let Some(case) = &self.case else {
-            return Ok(());
-        };
+    fn begin(&mut self, alloc: Global, name: &str) -> io::Result<()> {
+        self.name = String::from_str(alloc, name)?;
+        self.case = Case::new(alloc);
+        Ok(())
+    }
+
+    fn count_case(&mut self) {
         self.cases = self.cases.saturating_add(1);
-        self.calls = self.calls.saturating_add(case.calls());
-        case.run(alloc)
+        self.calls = self.calls.saturating_add(self.case.calls());
     }
 
-    /// Runs the case again, of which one call fails.
-    fn check_failing(&mut self, alloc: Global, row: &str) -> Result<(), Wrong> {
-        self.rows = self.rows.saturating_add(1);
-        let Some(case) = &self.case else {
-            return Err(Wrong::Form);
-        };
-        let columns: Vec<&str> = row.split('\t').collect(alloc)?;
-        let [call, calls, digest, end, _] = columns.as_slice() else {
-            return Err(Wrong::Form);
-        };
-        let want = Want {
-            calls: read_number(calls)?,
-            digest,
-            end,
-        };
-        case.run_failing(alloc, read_number(call)?, &want)
+    /// Writes what a run came to, where it is something else than this.
+    fn compare(&mut self, rt: &HostRuntime, told: Option<String>, want: &str) -> io::Result<()> {
+        let told = told.as_ref().map_or("no run", String::as_str);
+        if told == want {
+            return Ok(());
+        }
+        self.differ = self.differ.saturating_add(1);
+        println!(rt; "{}: {told} in place of {want}", self.name)
+    }
+}
+
+/// The first word of a line, and what follows it.
+fn first_word(line: &str) -> (&str, &str) {
+    match line.split_once(' ') {
+        Some(parts) => parts,
+        None => (line, ""),
     }
 }

@@ -1,18 +1,11 @@
-//! Runs of one node that are timed, over an outside that never fails and hears nothing.
-ghost use Rattle.std.specs.Prelude.{◌≤◌, IfOk};
-ghost use Rattle.qn_model.specs.Settings.{IsValid};
+//! Runs of the first of three nodes that are timed, over an outside that never fails and hears nothing.
+ghost use Rattle.std.specs.Prelude.{◌≤◌, IfSome};
 
-use crate::end_text::end_text;
-use crate::reading::{rank_of, settings_of};
-use crate::wrong::Wrong;
-use qn_audit::{Recorder, run_recorded};
-use qn_base::Failed;
-use qn_history::read_number;
-use qn_image::create;
+use crate::case::node_words;
+use crate::running::{input_of, quiet_outside, record, sink_of};
+use qn_base::{Failed, NodeId, read_decimal};
+use qn_commands::{NodeImages, NodeWords, node};
 use qn_io::{Env, QuietEnv, SECTOR, Sink, put_all};
-use qn_live::run_node;
-use qn_live3::run_node3;
-use qn_model::{Settings, Timing};
 use std::alloc::Global;
 
 /// Three nodes with one vote each.
@@ -22,61 +15,39 @@ const THREE: &str =
 /// How many sectors an image has.
 const IMAGE_SECTORS: u32 = 1024;
 
-/// Runs the first of three nodes for so many turns, and gives the line of its end.
-pub fn run_turns(alloc: Global, turns: &str) -> Result<String, Wrong> {
-    let turns = number_of_turns(turns)?;
-    let settings = settings_of(alloc, THREE)?;
-    let me = rank_of(&settings, 1)?;
-    let mut env = quiet_outside(alloc, &settings)?;
-    let ended = run_node(&mut env, &settings, me, false, None, turns);
-    Ok(end_text(alloc, ended, turns)?)
+/// Runs the node on one image or on three for so many turns, and writes how it ended. None where it is not run.
+pub fn run_turns<O: Sink>(
+    alloc: Global,
+    images: NodeImages,
+    turns: &str,
+    out: &mut O,
+) -> Option<()> {
+    let words = words_for(turns)?;
+    let mut env = quiet_outside(alloc, THREE)?;
+    copy_image(&mut env).ok()?;
+    let mut input = input_of(alloc, THREE)?;
+    let _ = node(alloc, images, &words, &mut input, out, &mut env);
+    Some(())
 }
 
-/// Runs the same on three images.
-pub fn run_turns_on_three(alloc: Global, turns: &str) -> Result<String, Wrong> {
-    let turns = number_of_turns(turns)?;
-    let settings = settings_of(alloc, THREE)?;
-    let me = rank_of(&settings, 1)?;
-    let mut env = quiet_outside(alloc, &settings)?;
-    copy_image(&mut env).map_err(|_| Wrong::Outside)?;
-    let ended = run_node3(&mut env, &settings, me, false, None, turns);
-    Ok(end_text(alloc, ended, turns)?)
+/// Runs the node on one image for so many turns, and writes what an audit of the run reads: the settings, a line `----`,
+/// and the log. None where it is not run.
+pub fn record_turns<O: Sink>(alloc: Global, turns: &str, out: &mut O) -> Option<()> {
+    let words = words_for(turns)?;
+    let mut env = quiet_outside(alloc, THREE)?;
+    let mut end = sink_of(alloc, 256)?;
+    put_all(out, THREE.as_bytes()).ok()?;
+    put_all(out, b"----\n").ok()?;
+    let _ = record(alloc, THREE, &words, &mut env, out, &mut end)?;
+    Some(())
 }
 
-/// Runs the first of three nodes on one image, and writes what an audit of the run reads: the settings, a line `----`, and the log.
-pub fn record_turns<O: Sink>(alloc: Global, turns: &str, out: &mut O) -> Result<(), Wrong> {
-    let turns = number_of_turns(turns)?;
-    let settings = settings_of(alloc, THREE)?;
-    let me = rank_of(&settings, 1)?;
-    let mut env = quiet_outside(alloc, &settings)?;
-    put_all(out, THREE.as_bytes()).map_err(|_| Wrong::Outside)?;
-    put_all(out, b"----\n").map_err(|_| Wrong::Outside)?;
-    let mut recorder = Recorder::new(&mut env, out);
-    let _ended = run_recorded(&mut recorder, &settings, me, false, None, turns);
-    if !recorder.is_whole() {
-        return Err(Wrong::Outside);
-    }
-    Ok(())
-}
-
-/// How many turns a word says: at least one.
-fn number_of_turns(word: &str) -> Result<u64, Wrong>
-    ensures { IfOk result (λ turns. 1 ≤ turns) }
+/// The words of a run of so many turns: at least one.
+fn words_for(turns: &str) -> Option<NodeWords<'static>>
+    ensures { IfSome result (λ words. 1 ≤ words.turns) }
 {
-    let turns = read_number(word)?;
-    if turns == 0 {
-        return Err(Wrong::Form);
-    }
-    Ok(turns)
-}
-
-/// An outside in memory with an image for these settings.
-fn quiet_outside(alloc: Global, settings: &Settings) -> Result<QuietEnv, Wrong>
-    requires { IsValid settings.now }
-{
-    let mut env = QuietEnv::new(alloc).map_err(|_| Wrong::Outside)?;
-    create(&mut env, settings, Timing::usual()).map_err(|_| Wrong::Form)?;
-    Ok(env)
+    let turns = read_decimal(turns.as_bytes())?;
+    Some(node_words(NodeId(1), turns.max(1), None, false))
 }
 
 /// Copies the first image onto the second and the third.

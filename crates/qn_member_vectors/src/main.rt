@@ -13,17 +13,12 @@
 //! Promises: nothing. It is a test: what it is run on, and what it must write, stand beside it.
 #![tactic(auto)]
 
-mod answer;
-mod wrong;
-
-use answer::{Answer, read_answer};
-use qn_base::NodeId;
-use qn_history::{read_number, read_rank, read_view};
+use qn_base::{NodeId, View};
+use qn_history::{read_number, read_rank, read_truth, read_view};
 use qn_member::Member;
 use qn_model::{NodeEntry, Nodes, Settings};
 use std::alloc::Global;
 use std::io;
-use wrong::Wrong;
 
 /// What was read so far: how many view makers and calls there were, and the present view maker.
 #[derive(Default, Drop)]
@@ -39,10 +34,13 @@ fn main(rt: HostRuntime) -> io::Result<()> {
     for line in rt.lines(rt.alloc()) {
         let line = line?;
         let text = line.as_str();
-        if let Err(wrong) = reader.check(rt.alloc(), text) {
-            differ = differ.saturating_add(1);
-            println!(rt; "{wrong}: {text}")?;
-        }
+        let wrong = match reader.check(rt.alloc(), text) {
+            Some(true) => continue,
+            Some(false) => "another answer",
+            None => "no call",
+        };
+        differ = differ.saturating_add(1);
+        println!(rt; "{wrong}: {text}")?;
     }
     println!(rt;
         "makers {} calls {} differ {differ}",
@@ -51,60 +49,60 @@ fn main(rt: HostRuntime) -> io::Result<()> {
 }
 
 impl Reader {
-    /// Checks a line: a call and its answer.
-    fn check(&mut self, alloc: Global, line: &str) -> Result<(), Wrong> {
-        let (call, answer) = line.split_once('\t').ok_or(Wrong::Form)?;
-        let words: Vec<&str> = call.split(' ').collect(alloc)?;
-        if self.answer(words.as_slice())? == read_answer(answer)? {
-            Ok(())
-        } else {
-            Err(Wrong::Answer)
-        }
-    }
-
-    /// Makes a call, or the next view maker.
-    fn answer(&mut self, words: &[&str]) -> Result<Answer, Wrong> {
-        if let ["new", nodes, me, loop_ms] = words {
-            let count = u8::try_from(read_number(nodes)?).map_err(|_| Wrong::Form)?;
-            let settings = settings_of(count)?;
-            let member = Member::new(&settings, read_rank(me)?, read_number(loop_ms)?);
-            self.member = Some(member);
+    /// Checks a line: whether the call gives the answer. None where it is no call with its answer.
+    fn check(&mut self, alloc: Global, line: &str) -> Option<bool> {
+        let (call, answer) = line.split_once('\t')?;
+        let words: Vec<&str> = call.split(' ').collect(alloc).ok()?;
+        if let ["new", nodes, me, loop_ms] = words.as_slice() {
+            self.member = Some(member_of(nodes, me, loop_ms)?);
             self.makers = self.makers.saturating_add(1);
-            return Ok(Answer::Nothing);
+            return Some(answer == "-");
         }
         self.calls = self.calls.saturating_add(1);
-        match &mut self.member {
-            Some(member) => answer_of(member, words),
-            None => Err(Wrong::Form),
-        }
+        gives(self.member.as_mut()?, words.as_slice(), answer)
     }
 }
 
-/// Makes a call of a view maker.
-fn answer_of(member: &mut Member, words: &[&str]) -> Result<Answer, Wrong> {
-    Ok(match words {
+/// Makes a call of a view maker: whether it gives this answer.
+fn gives(member: &mut Member, words: &[&str], answer: &str) -> Option<bool> {
+    match words {
         ["on_hello", tick, from] => {
             member.on_hello(read_number(tick)?, read_rank(from)?);
-            Answer::Nothing
+            Some(answer == "-")
         }
         ["on_announce", tick, from, id, members] => {
             let view = read_view(id, members)?;
             member.on_announce(read_number(tick)?, read_rank(from)?, view);
-            Answer::Nothing
+            Some(answer == "-")
         }
-        ["on_tick", tick] => Answer::View(member.on_tick(read_number(tick)?)),
-        ["hello_due", tick] => Answer::Due(member.hello_due(read_number(tick)?)),
-        ["announces"] => Answer::View(member.announces()),
-        _ => return Err(Wrong::Form),
-    })
+        ["on_tick", tick] => Some(member.on_tick(read_number(tick)?) == view_of(answer)?),
+        ["hello_due", tick] => Some(member.hello_due(read_number(tick)?) == read_truth(answer)?),
+        ["announces"] => Some(member.announces() == view_of(answer)?),
+        _ => None,
+    }
+}
+
+/// A view, or `none`.
+fn view_of(text: &str) -> Option<Option<View>> {
+    if text == "none" {
+        return Some(None);
+    }
+    let (id, members) = text.split_once(' ')?;
+    Some(Some(read_view(id, members)?))
+}
+
+/// A view maker of so many nodes, of one vote each.
+fn member_of(nodes: &str, me: &str, loop_ms: &str) -> Option<Member> {
+    let settings = settings_of(u8::try_from(read_number(nodes)?).ok()?)?;
+    Some(Member::new(&settings, read_rank(me)?, read_number(loop_ms)?))
 }
 
 /// Settings of so many nodes, of one vote each.
-fn settings_of(count: u8) -> Result<Settings, Wrong> {
+fn settings_of(count: u8) -> Option<Settings> {
     let mut nodes = Nodes::new();
     for id in 1..=count {
         if nodes.is_full() {
-            return Err(Wrong::Form);
+            return None;
         }
         nodes.push(NodeEntry {
             id: NodeId(u32::from(id)),
@@ -112,7 +110,7 @@ fn settings_of(count: u8) -> Result<Settings, Wrong> {
             fence_delay: 0,
         });
     }
-    Ok(Settings {
+    Some(Settings {
         nodes,
         two_node: false,
         wait_for_all: false,

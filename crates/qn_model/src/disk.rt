@@ -2,7 +2,7 @@
 
 /// What a node's slot on the image says: its number of boots, and whether the last of them ended with a
 /// clean stop (this project's profile).
-#[derive(Clone, Copy, PartialEq, Eq)]
+#[derive(Clone, Copy, PartialEq, Eq, Debug)]
 pub struct Slot {
     pub incarnation: u64,
     pub clean: bool,

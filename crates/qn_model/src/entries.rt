@@ -6,14 +6,14 @@ use qn_base::{Rank, View};
 
 /// One entry of a node's history: what the node was handed, and at which tick of its own clock, in
 /// milliseconds.
-#[derive(Clone, Copy, PartialEq, Eq)]
+#[derive(Clone, Copy, PartialEq, Eq, Debug)]
 pub struct Entry {
     pub tick: u64,
     pub what: What,
 }
 
 /// What a node is handed (this project's profile).
-#[derive(Clone, Copy, PartialEq, Eq)]
+#[derive(Clone, Copy, PartialEq, Eq, Debug)]
 pub enum What {
     /// The boot begins, whatever the own mailbox holds (sbd(8), `-S 0`).
     Begin,

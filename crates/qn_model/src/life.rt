@@ -2,7 +2,7 @@
 use qn_base::NodeId;
 
 /// Where a node is in its life (this project's profile).
-#[derive(Clone, Copy, PartialEq, Eq)]
+#[derive(Clone, Copy, PartialEq, Eq, Debug)]
 pub enum Phase {
     /// The boot is under way.
     Booting,
@@ -17,7 +17,7 @@ pub enum Phase {
 }
 
 /// The first condition that blocks a start of the resource.
-#[derive(Clone, Copy, PartialEq, Eq)]
+#[derive(Clone, Copy, PartialEq, Eq, Debug)]
 pub enum Why {
     /// The node is not up.
     Down,

@@ -3,7 +3,7 @@ use crate::disk::{Message, Slot};
 use crate::times::Timing;
 
 /// What a read of the image's header gave.
-#[derive(Clone, Copy, PartialEq, Eq)]
+#[derive(Clone, Copy, PartialEq, Eq, Debug)]
 pub enum HeaderSeen {
     /// A header: its number of nodes and its times.
     Read { nodes: u32, timing: Timing },
@@ -14,7 +14,7 @@ pub enum HeaderSeen {
 }
 
 /// What a read of a slot gave.
-#[derive(Clone, Copy, PartialEq, Eq)]
+#[derive(Clone, Copy, PartialEq, Eq, Debug)]
 pub enum SlotSeen {
     Read(Slot),
     /// The sector is no slot of that node.
@@ -24,7 +24,7 @@ pub enum SlotSeen {
 }
 
 /// What a read of a mailbox gave.
-#[derive(Clone, Copy, PartialEq, Eq)]
+#[derive(Clone, Copy, PartialEq, Eq, Debug)]
 pub enum MailSeen {
     Read(Message),
     /// The sector is no mailbox.

@@ -7,7 +7,7 @@ use qn_base::LONGEST_PERIOD;
 /// The five times of an image, in milliseconds: the watchdog, how long a written message takes to be
 /// met (msgwait), the loop, the limit of a mailbox read, and the delay of a feed (sbd(8); read limit and
 /// feed delay are this project's profile).
-#[derive(Clone, Copy, PartialEq, Eq)]
+#[derive(Clone, Copy, PartialEq, Eq, Debug)]
 pub struct Timing {
     pub watchdog: u64,
     pub msgwait: u64,

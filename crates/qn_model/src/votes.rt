@@ -21,7 +21,7 @@ pub enum VoteWhat {
 
 /// The count of a node at a tick: whether it is quorate, the votes of its view with the device's (0
 /// without a view), the quorum, the expected votes, and whether it is released from wait_for_all.
-#[derive(Clone, Copy, PartialEq, Eq)]
+#[derive(Clone, Copy, PartialEq, Eq, Debug)]
 pub struct Answer {
     pub quorate: bool,
     pub votes: u64,

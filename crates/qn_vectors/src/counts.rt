@@ -1,5 +1,5 @@
 //! Checks a row of a count of votes, in both forms.
-use crate::wrong::Wrong;
+use crate::written::is_written;
 use qn_base::View;
 use qn_history::{read_members, read_number, read_settings, read_truth};
 use qn_model::{Answer, Settings, VoteEntry, VoteWhat};
@@ -7,33 +7,43 @@ use qn_plain::vote_answer;
 use qn_quorum::Quorum;
 use std::alloc::Global;
 
-/// Checks a count: its name, settings, entries, tick and answer, separated by tabs.
-pub fn check_count(alloc: Global, row: &str) -> Result<(), Wrong> {
-    let mut columns = row.split('\t');
-    let _name = columns.next().ok_or(Wrong::Form)?;
-    let settings = read_settings(columns.next().ok_or(Wrong::Form)?)?;
-    let votes = votes_of(alloc, columns.next().ok_or(Wrong::Form)?)?;
-    let tick = read_number(columns.next().ok_or(Wrong::Form)?)?;
-    let answer = answer_of(columns.next().ok_or(Wrong::Form)?)?;
-    if vote_answer(&settings, votes.as_slice(), tick) != answer {
-        return Err(Wrong::Other("the count from the whole list"));
-    }
-    if kept_count(&settings, votes.as_slice(), tick) != answer {
-        return Err(Wrong::Other("the count in fixed memory"));
-    }
-    Ok(())
+/// A count: settings, entries and a tick, and the answer at that tick as it is written.
+#[derive(Drop)]
+pub struct Count<'a> {
+    settings: Settings,
+    votes: Vec<VoteEntry>,
+    tick: u64,
+    answer: &'a str,
 }
 
-/// The five words of a count.
-pub fn answer_of(text: &str) -> Result<Answer, Wrong> {
-    let mut words = text.split(' ');
-    Ok(Answer {
-        quorate: read_truth(words.next().ok_or(Wrong::Form)?)?,
-        votes: read_number(words.next().ok_or(Wrong::Form)?)?,
-        quorum: read_number(words.next().ok_or(Wrong::Form)?)?,
-        expected: read_number(words.next().ok_or(Wrong::Form)?)?,
-        released: read_truth(words.next().ok_or(Wrong::Form)?)?,
-    })
+impl<'a> Count<'a> {
+    /// Reads a count: its name, settings, entries, tick and answer, separated by tabs.
+    pub fn read(alloc: Global, row: &'a str) -> Option<Count<'a>> {
+        let columns: Vec<&str> = row.split('\t').collect(alloc).ok()?;
+        let [_, settings, votes, tick, answer] = columns.as_slice() else {
+            return None;
+        };
+        Some(Count {
+            settings: read_settings(settings)?,
+            votes: votes_of(alloc, votes)?,
+            tick: read_number(tick)?,
+            answer,
+        })
+    }
+
+    /// What differs.
+    pub fn difference(&self, alloc: Global) -> Option<&'static str> {
+        let votes = self.votes.as_slice();
+        let whole = vote_answer(&self.settings, votes, self.tick);
+        if !is_written(alloc, &whole, self.answer) {
+            return Some("the count from the whole list");
+        }
+        let kept = kept_count(&self.settings, votes, self.tick);
+        if !is_written(alloc, &kept, self.answer) {
+            return Some("the count in fixed memory");
+        }
+        None
+    }
 }
 
 /// The count in fixed memory.
@@ -50,30 +60,40 @@ fn kept_count(settings: &Settings, votes: &[VoteEntry], tick: u64) -> Answer {
     quorum.answer(tick)
 }
 
-fn votes_of(alloc: Global, text: &str) -> Result<Vec<VoteEntry>, Wrong> {
+fn votes_of(alloc: Global, text: &str) -> Option<Vec<VoteEntry>> {
     let mut votes = Vec::new(alloc);
     if text == "-" {
-        return Ok(votes);
+        return Some(votes);
     }
     for entry in text.split("; ") {
-        let (tick, what) = entry.split_once(' ').ok_or(Wrong::Form)?;
-        votes.push(VoteEntry {
-            tick: read_number(tick)?,
-            what: vote_of(what)?,
-        })?;
+        votes.push(vote_of(entry)?).ok()?;
     }
-    Ok(votes)
+    Some(votes)
 }
 
-fn vote_of(text: &str) -> Result<VoteWhat, Wrong> {
-    Ok(match text {
-        "tick" => VoteWhat::Tick,
-        "released" => VoteWhat::Released,
-        "device yes" => VoteWhat::Device(true),
-        "device no" => VoteWhat::Device(false),
-        _ => VoteWhat::View(View {
-            id: 0,
-            members: read_members(text.strip_prefix("view ").ok_or(Wrong::Form)?)?,
-        }),
+fn vote_of(text: &str) -> Option<VoteEntry> {
+    let (tick, what) = text.split_once(' ')?;
+    Some(VoteEntry {
+        tick: read_number(tick)?,
+        what: what_of(what)?,
     })
+}
+
+fn what_of(text: &str) -> Option<VoteWhat> {
+    match text {
+        "tick" => Some(VoteWhat::Tick),
+        "released" => Some(VoteWhat::Released),
+        _ => seen_of(text),
+    }
+}
+
+fn seen_of(text: &str) -> Option<VoteWhat> {
+    match text.split_once(' ')? {
+        ("device", yes) => Some(VoteWhat::Device(read_truth(yes)?)),
+        ("view", members) => Some(VoteWhat::View(View {
+            id: 0,
+            members: read_members(members)?,
+        })),
+        _ => None,
+    }
 }

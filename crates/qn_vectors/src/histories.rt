@@ -1,6 +1,6 @@
 //! Checks the rows of a node's history, in both forms.
 use crate::rows::Row;
-use crate::wrong::Wrong;
+use crate::written::is_written;
 use qn_base::Rank;
 use qn_model::{Entry, Outs, Settings, What};
 use qn_node::Node;
@@ -18,12 +18,12 @@ pub struct History {
 
 impl History {
     /// The empty history of a configured rank.
-    pub fn new(alloc: Global, settings: Settings, me: Rank) -> Result<Self, Wrong> {
+    pub fn new(alloc: Global, settings: Settings, me: Rank) -> Option<Self> {
         if usize::from(me.0) >= settings.nodes.len() {
-            return Err(Wrong::Form);
+            return None;
         }
         let node = Node::new(&settings, me);
-        Ok(History {
+        Some(History {
             settings,
             me,
             entries: Vec::new(alloc),
@@ -31,59 +31,76 @@ impl History {
         })
     }
 
-    /// Takes in a row's entry, where it has one, and checks what is then known of the node.
-    pub fn check(&mut self, row: &Row) -> Result<(), Wrong> {
+    /// Takes in a row's entry, where it has one, and says what is then known otherwise of the node.
+    pub fn difference(&mut self, alloc: Global, row: Row<'_>) -> Option<&'static str> {
         if let Some(what) = row.what {
-            self.add(row, what)?;
+            if let Some(other) = self.add(alloc, row, what) {
+                return Some(other);
+            }
         }
-        let entries = self.entries.as_slice();
-        if answer(&self.settings, self.me, entries, row.tick) != row.answer {
-            return Err(Wrong::Other("the count from the whole list"));
+        if let Some(other) = self.whole_difference(alloc, row) {
+            return Some(other);
         }
-        let in_order = entries.iter().all(|entry| entry.tick <= row.tick);
-        if !in_order || why(&self.settings, self.me, entries, row.tick) != row.why {
-            return Err(Wrong::Other("the condition from the whole list"));
-        }
-        self.check_node(row)
+        self.node_difference(alloc, row)
     }
 
-    /// Takes in an entry, and checks what comes out of it.
-    fn add(&mut self, row: &Row, what: What) -> Result<(), Wrong> {
+    /// Takes in an entry, and says what comes out of it otherwise.
+    fn add(&mut self, alloc: Global, row: Row<'_>, what: What) -> Option<&'static str> {
         let entry = Entry {
             tick: row.tick,
             what,
         };
-        self.entries.push(entry)?;
-        let got = outs(&self.settings, self.me, self.entries.as_slice());
-        if got.as_slice() != row.outs.as_slice() {
-            return Err(Wrong::Other("what comes out from the whole list"));
+        if self.entries.push(entry).is_err() {
+            return Some("out of memory: this");
         }
-        let mut got = Outs::new();
+        let whole = outs(&self.settings, self.me, self.entries.as_slice());
+        if !is_written(alloc, &whole.as_slice(), row.outs) {
+            return Some("what comes out from the whole list");
+        }
+        let mut kept = Outs::new();
         if self.node.steps_left() > 0 {
-            self.node.step(entry, &mut got);
+            self.node.step(entry, &mut kept);
         }
-        if got.as_slice() != row.outs.as_slice() {
-            return Err(Wrong::Other("what comes out in fixed memory"));
+        if !is_written(alloc, &kept.as_slice(), row.outs) {
+            return Some("what comes out in fixed memory");
         }
-        Ok(())
+        None
     }
 
-    /// Checks what the node in fixed memory says of itself.
-    fn check_node(&self, row: &Row) -> Result<(), Wrong> {
-        if self.node.answer(row.tick) != row.answer {
-            return Err(Wrong::Other("the count in fixed memory"));
+    /// What is known otherwise from the whole list.
+    fn whole_difference(&self, alloc: Global, row: Row<'_>) -> Option<&'static str> {
+        let entries = self.entries.as_slice();
+        let count = answer(&self.settings, self.me, entries, row.tick);
+        if !is_written(alloc, &count, row.answer) {
+            return Some("the count from the whole list");
         }
-        if self.node.why(row.tick) != row.why {
-            return Err(Wrong::Other("the condition in fixed memory"));
+        if !entries.iter().all(|entry| entry.tick <= row.tick) {
+            return Some("the order of the ticks");
         }
-        if self.node.phase() != row.phase || self.node.holds() != row.holds {
-            return Err(Wrong::Other("the phase in fixed memory"));
+        let condition = why(&self.settings, self.me, entries, row.tick);
+        if !is_written(alloc, &condition, row.why) {
+            return Some("the condition from the whole list");
         }
-        match row.incarnation {
-            Some(incarnation) if self.node.incarnation() != incarnation => {
-                Err(Wrong::Other("the incarnation in fixed memory"))
-            }
-            _ => Ok(()),
+        None
+    }
+
+    /// What the node in fixed memory says otherwise of itself.
+    fn node_difference(&self, alloc: Global, row: Row<'_>) -> Option<&'static str> {
+        if !is_written(alloc, &self.node.answer(row.tick), row.answer) {
+            return Some("the count in fixed memory");
         }
+        if !is_written(alloc, &self.node.why(row.tick), row.why) {
+            return Some("the condition in fixed memory");
+        }
+        if !is_written(alloc, &self.node.phase(), row.phase) {
+            return Some("the phase in fixed memory");
+        }
+        if !is_written(alloc, &self.node.holds(), row.holds) {
+            return Some("what is held in fixed memory");
+        }
+        if row.incarnation != "*" && !is_written(alloc, &self.node.incarnation(), row.incarnation) {
+            return Some("the incarnation in fixed memory");
+        }
+        None
     }
 }

@@ -20,31 +20,35 @@ mod rows;
 mod running;
 mod texts;
 mod ties;
-mod wrong;
+mod written;
 
-use anyhow::{Context, Result, bail};
-use running::Recorded;
+use checking::check_all;
+use qn_history::read_number;
+use running::{Recorded, show};
 use std::env;
-use std::io::{BufRead, BufReader};
+use std::io::{self, BufRead, BufReader};
 
-fn main(rt: HostRuntime) -> Result<()> {
+fn main(rt: HostRuntime) -> io::Result<()> {
     let mut words = env::args(&rt)?;
     let _program = words.next();
+    let (mode, number) = (words.next(), words.next());
     let lines = BufReader::new(rt.alloc(), rt.reader())?.lines(rt.alloc());
-    let Some(mode) = words.next() else {
-        return checking::check_all(&rt, lines);
+    let Some(mode) = mode else {
+        return check_all(&rt, lines);
     };
     if mode.as_str() == "show" {
-        return running::show(&rt, lines);
+        return show(&rt, lines);
     }
-    let number = words.next().context("no number")?;
-    let count = number.as_str().parse::<usize>()?;
-    let recorded = Recorded::read(rt.alloc(), lines)?;
-    let outs = match mode.as_str() {
-        "steps" => recorded.step_all(count)?,
-        "plain" => recorded.evaluate(count),
-        _ => bail!("no such word"),
-    };
-    println!(rt; "{outs}")?;
-    Ok(())
+    let count = number
+        .and_then(|word| read_number(word.as_str()))
+        .unwrap_or(0);
+    let outs = Recorded::read(rt.alloc(), lines).and_then(|recorded| match mode.as_str() {
+        "steps" => recorded.step_all(count),
+        "plain" => Some(recorded.evaluate(count)),
+        _ => None,
+    });
+    match outs {
+        Some(outs) => println!(rt; "{outs}"),
+        None => println!(rt; "no history"),
+    }
 }

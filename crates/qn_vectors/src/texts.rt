@@ -1,5 +1,4 @@
 //! Settings texts from outside, and the settings that they give.
-use crate::wrong::Wrong;
 use qn_base::Rank;
 use qn_history::read_settings;
 use qn_model::{Order, Settings};
@@ -7,17 +6,15 @@ use qn_settings::settings_of_text;
 use std::alloc::Global;
 
 /// Checks a settings text, in which `|` stands for each end of a line, and the settings that it gives, separated
-/// by a tab.
-pub fn check_text(alloc: Global, row: &str) -> Result<(), Wrong> {
-    let (text, words) = row.rsplit_once('\t').ok_or(Wrong::Form)?;
-    let text = text.replace(alloc, '|', "\n")?;
-    let Ok(settings) = settings_of_text(alloc, text.as_bytes()) else {
-        return Err(Wrong::Other("that the text gives settings"));
-    };
-    if !are_equal(&settings, &read_settings(words)?) {
-        return Err(Wrong::Other("what the text gives"));
+/// by a tab. Whether it gives these settings.
+pub fn check_text(alloc: Global, row: &str) -> Option<bool> {
+    let (text, words) = row.rsplit_once('\t')?;
+    let wanted = read_settings(words)?;
+    let text = text.replace(alloc, '|', "\n").ok()?;
+    match settings_of_text(alloc, text.as_bytes()) {
+        Ok(settings) => Some(are_equal(&settings, &wanted)),
+        Err(_) => Some(false),
     }
-    Ok(())
 }
 
 fn are_equal(one: &Settings, other: &Settings) -> bool {

@@ -1,6 +1,6 @@
 //! Changes each byte of a packet to each other value, and counts what is read of it.
-use arrayvec::ArrayVec;
-use qn_wire::{get_packet, put_packet};
+use crate::rows::is_spelled;
+use qn_wire::get_packet;
 
 /// What came of changes of one byte.
 #[derive(Clone, Copy, Default)]
@@ -39,9 +39,7 @@ impl Changes {
             return;
         };
         self.packets = self.packets.saturating_add(1);
-        let mut spelled = ArrayVec::new();
-        put_packet(&packet, &mut spelled);
-        if spelled.as_slice() != bytes {
+        if !is_spelled(&packet, bytes) {
             self.differ = self.differ.saturating_add(1);
         }
     }

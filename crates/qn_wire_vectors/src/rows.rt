@@ -1,5 +1,4 @@
 //! Reads a row of bytes and a packet, and checks it in both directions.
-use crate::wrong::Wrong;
 use arrayvec::ArrayVec;
 use qn_history::{read_ask, read_rank, read_tell, read_truth, read_view};
 use qn_model::Packet;
@@ -9,57 +8,65 @@ use std::alloc::Global;
 /// Bytes, and the packet that they spell.
 #[derive(Drop)]
 pub struct Row {
-    /// The bytes as hex digits; empty where there are none.
-    digits: String,
     pub bytes: Vec<u8>,
     /// None where they spell none.
     pub packet: Option<Packet>,
 }
 
 /// Reads a row of two columns, separated by a tab: hex digits, or `-` for no byte at all, and a packet or `none`.
-pub fn row_of(alloc: Global, line: &str) -> Result<Row, Wrong> {
-    let (digits, packet) = line.split_once('\t').ok_or(Wrong::Form)?;
-    let digits = if digits == "-" { "" } else { digits };
-    let words: Vec<&str> = packet.split(' ').collect(alloc)?;
-    Ok(Row {
-        digits: String::from_str(alloc, digits)?,
-        bytes: hex::decode(alloc, digits)?,
-        packet: packet_of(words.as_slice())?,
+pub fn row_of(alloc: Global, line: &str) -> Option<Row> {
+    let (digits, packet) = line.split_once('\t')?;
+    let digits = digits.strip_prefix('-').unwrap_or(digits);
+    let words: Vec<&str> = packet.split(' ').collect(alloc).ok()?;
+    Some(Row {
+        bytes: hex::decode(alloc, digits).ok()?,
+        packet: none_or_packet(words.as_slice())?,
     })
 }
 
-fn packet_of(words: &[&str]) -> Result<Option<Packet>, Wrong> {
-    Ok(Some(match words {
-        ["none"] => return Ok(None),
-        ["ask", words @ ..] => Packet::Ask(read_ask(words)?),
-        ["tell", words @ ..] => Packet::Tell(read_tell(words)?),
-        ["hello", from] => Packet::Hello {
-            from: read_rank(from)?,
-        },
-        ["announce", from, id, members] => Packet::Announce {
-            from: read_rank(from)?,
-            view: read_view(id, members)?,
-        },
-        ["vote", yes] => Packet::Vote {
-            yes: read_truth(yes)?,
-        },
-        _ => return Err(Wrong::Form),
-    }))
+fn none_or_packet(words: &[&str]) -> Option<Option<Packet>> {
+    match words {
+        ["none"] => Some(None),
+        _ => Some(Some(packet_of(words)?)),
+    }
 }
 
-/// Checks a row in both directions.
-pub fn check_row(alloc: Global, row: &Row) -> Result<(), Wrong> {
-    if get_packet(row.bytes.as_slice()) != row.packet {
-        return Err(Wrong::Other("the packet that is read"));
+fn packet_of(words: &[&str]) -> Option<Packet> {
+    match words {
+        ["ask", words @ ..] => Some(Packet::Ask(read_ask(words)?)),
+        ["tell", words @ ..] => Some(Packet::Tell(read_tell(words)?)),
+        ["hello", from] => Some(Packet::Hello {
+            from: read_rank(from)?,
+        }),
+        ["announce", from, id, members] => Some(Packet::Announce {
+            from: read_rank(from)?,
+            view: read_view(id, members)?,
+        }),
+        ["vote", yes] => Some(Packet::Vote {
+            yes: read_truth(yes)?,
+        }),
+        _ => None,
     }
-    let Some(packet) = row.packet else {
-        return Ok(());
-    };
+}
+
+impl Row {
+    /// Whether these bytes are read as the packet.
+    pub fn is_read(&self) -> bool {
+        get_packet(self.bytes.as_slice()) == self.packet
+    }
+
+    /// Whether the packet, where there is one, is spelled by these bytes.
+    pub fn is_spelled(&self) -> bool {
+        match &self.packet {
+            Some(packet) => is_spelled(packet, self.bytes.as_slice()),
+            None => true,
+        }
+    }
+}
+
+/// Whether these bytes are the spelling of the packet.
+pub fn is_spelled(packet: &Packet, bytes: &[u8]) -> bool {
     let mut spelled = ArrayVec::new();
-    put_packet(&packet, &mut spelled);
-    if hex::encode(alloc, spelled.as_slice())? == row.digits {
-        Ok(())
-    } else {
-        Err(Wrong::Other("the spelling"))
-    }
+    put_packet(packet, &mut spelled);
+    spelled.as_slice() == bytes
 }
