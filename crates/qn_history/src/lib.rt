@@ -21,12 +21,13 @@
 //!     tell FROM TO INCARNATION INSTALL ID MEMBERS HOLDS RELEASED
 //!
 //! Promises: a line is one of settings or of a rank exactly where it begins so; a number and a truth are read
-//! exactly where the text spells one. Of the rest nothing is promised but an answer: the value, or none where a line or a part of it is
+//! exactly where the text spells one; settings are read only where each of their words begins with a key. Of the rest nothing is promised but an answer: the value, or none where a line or a part of it is
 //! none of a history.
 #![tactic(auto)]
 
 mod entries;
 mod heads;
+mod keys;
 mod packets;
 mod settings;
 mod words;

@@ -1,20 +1,48 @@
 //! Reads the line of settings of a recorded history.
+ghost use Rattle.std.specs.Prelude.{◌≡◌, IfSome, IsTrue};
+ghost use Rattle.qn_history.specs.Keys.{are_known, is_known};
+
+use crate::keys::Key;
 use crate::words::{read_node_id, read_number, read_rank, read_small_number, read_truth};
 use qn_model::{Device, NodeEntry, Nodes, Order, Settings};
 
 /// The settings of these words, separated by spaces, each a key with its value in the order that is written above. Without
 /// `tie=` there is no tie breaker, and without `delays=`, which stands behind it, no fence delay.
-pub fn read_settings(text: &str) -> Option<Settings> {
+pub fn read_settings(text: &str) -> Option<Settings>
+    ensures known { IfSome result (IsTrue (are_known text.now)) }
+{
+    if !all_known(text) {
+        return None;
+    }
+    read_words(text)
+}
+
+/// Whether each word begins with a key.
+fn all_known(words: &str) -> bool
+    ensures { result ≡ are_known words.now }
+{
+    words.split(' ').all(is_known)
+}
+
+/// Whether a word begins with a key.
+fn is_known(word: &str) -> bool
+    ensures { result ≡ is_known word.now }
+{
+    Key::ALL.iter().any(|key| key.begins(word))
+}
+
+/// The settings of words in their order.
+fn read_words(text: &str) -> Option<Settings> {
     let (text, more) = text.split_once(" tie=").unwrap_or((text, "none"));
     let (order, delays) = more.split_once(" delays=").unwrap_or((more, "0"));
     let mut words = text.split(' ');
-    let nodes = value_of(words.next(), "nodes=")?;
-    let two_node = value_of(words.next(), "two_node=")?;
-    let wait_for_all = value_of(words.next(), "wait_for_all=")?;
-    let last_man_standing = value_of(words.next(), "last_man_standing=")?;
-    let window = value_of(words.next(), "window=")?;
-    let device = value_of(words.next(), "device=")?;
-    let expected = value_of(words.next(), "expected=")?;
+    let nodes = value_of(words.next(), Key::Nodes)?;
+    let two_node = value_of(words.next(), Key::TwoNode)?;
+    let wait_for_all = value_of(words.next(), Key::WaitForAll)?;
+    let last_man_standing = value_of(words.next(), Key::LastManStanding)?;
+    let window = value_of(words.next(), Key::Window)?;
+    let device = value_of(words.next(), Key::Device)?;
+    let expected = value_of(words.next(), Key::Expected)?;
     if words.next().is_some() {
         return None;
     }
@@ -31,8 +59,8 @@ pub fn read_settings(text: &str) -> Option<Settings> {
 }
 
 /// The value of a word, where it begins with that key.
-fn value_of<'a>(word: Option<&'a str>, key: &str) -> Option<&'a str> {
-    word?.strip_prefix(key)
+fn value_of<'a>(word: Option<&'a str>, key: Key) -> Option<&'a str> {
+    word?.strip_prefix(key.name())
 }
 
 /// The fence delays by rank, in milliseconds: 0 for a rank that has none.
