@@ -112,6 +112,17 @@ def told_when_to_leave():
     same("its slot", cluster.listed(1), "incarnation 1 clean mail empty")
 
 
+def each_leaves_in_turn():
+    """Two nodes of one image run and leave, one after the other."""
+    cluster = Cluster("each", ids=(1, 2))
+    for ident in (1, 2):
+        node = cluster.node(ident, more=("--leave", "40"))
+        same("node %d" % ident, node.end(), (0, "left clean\n"))
+        same("watchdog of node %d" % ident, cluster.watchdog(ident).lstrip("1"), "V")
+        same("resource of node %d" % ident, cluster.resource(ident), "free")
+        same("slot of node %d" % ident, cluster.listed(ident), "incarnation 1 clean mail empty")
+
+
 def turns_are_used_up():
     cluster = Cluster("turns", ids=(1,))
     node = cluster.node(1, turns=40)
@@ -122,5 +133,5 @@ def turns_are_used_up():
     same("its slot", cluster.listed(1), "incarnation 1 dirty mail empty")
 
 
-try_all(killed_holder, reset_holder, leaving_holder, told_when_to_leave, turns_are_used_up)
+try_all(killed_holder, reset_holder, leaving_holder, told_when_to_leave, each_leaves_in_turn, turns_are_used_up)
 END
