@@ -9,7 +9,7 @@ use qn_model::{Device, NodeEntry, Nodes, Order, Settings};
 /// The settings of these words, separated by spaces, each a key with its value in the order that is written above. Without
 /// `tie=` there is no tie breaker, and without `delays=`, which stands behind it, no fence delay.
 pub fn read_settings(text: &str) -> Option<Settings>
-    ensures known { IfSome result (IsTrue (are_known text.now)) }
+    ensures known { IfSome result (λ _. IsTrue (are_known text.now)) }
 {
     if !all_known(text) {
         return None;
