@@ -12,7 +12,7 @@ is_current() {
 # how many crates rt works on at a time: one for each 2.5 GB of memory that is free. That is more than there are processors, since a
 # crate holds its place while it waits for those that it stands on.
 at_a_time() {
-    awk '/^MemAvailable:/ { places = int($2 / 2621440); print places > 1 ? places : 1 }' /proc/meminfo
+    awk '/^MemAvailable:/ { places = int($2 / 2621440); print (places > 1 ? places : 1) }' /proc/meminfo
 }
 
 # proves the crates that the program needs, side by side, and then builds it
