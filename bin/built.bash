@@ -24,7 +24,7 @@ if ! is_current; then
     if [ -x "$program" ]; then
         echo "$name: a source has changed: proving what depends on it and building, a minute to a quarter of an hour" >&2
     else
-        echo "$name: the first build: proving every crate and building, about half an hour on four processors" >&2
+        echo "$name: the first build: proving every crate and building, about forty minutes on four processors" >&2
     fi
     log=$(mktemp) || exit 1
     (build) </dev/null >"$log" 2>&1
