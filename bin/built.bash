@@ -9,32 +9,56 @@ is_current() {
         -not -path '*/out/*' -newer "$program" -print -quit)" ]
 }
 
-# how many crates rt works on at a time: one for each 2.5 GB of memory that is free. That is more than there are processors, since a
-# crate holds its place while it waits for those that it stands on.
-at_a_time() {
-    awk '/^MemAvailable:/ { places = int($2 / 2621440); print (places > 1 ? places : 1) }' /proc/meminfo
+# the lines of crates.txt of the program and of each crate that it stands on
+needed() {
+    awk -v program="$name" '
+        function take(crate,    words, count, i) {
+            if (!(crate in line) || crate in taken) return
+            taken[crate]
+            print line[crate]
+            count = split(line[crate], words)
+            for (i = 2; i <= count; i++) take(words[i])
+        }
+        /^[^#]/ { crate = $1; sub(/:$/, "", crate); line[crate] = $0 }
+        END { take(program) }' "$top/crates.txt"
 }
 
-# proves the crates that the program needs, side by side, and then builds it
+# makes the folder $1, a repository of what the program is proved from, with no must-fail edit
+copy_needed() {
+    local crate part
+    mkdir -- "$1" && needed >"$1/crates.txt" && cp "$top/HANDLES" "$1" || return 1
+    while IFS=: read -r crate _; do
+        mkdir -p "$1/crates/$crate" || return 1
+        for part in "$top/crates/$crate"/*; do
+            case ${part##*/} in
+                out | must-fail) ;;
+                *) cp -R -- "$part" "$1/crates/$crate" || return 1 ;;
+            esac
+        done
+    done <"$1/crates.txt"
+}
+
+# proves and builds the program in the new folder $1, with as many crates side by side as there are processors. The program is then older
+# than a source that was changed meanwhile.
 build() {
-    cd -- "$folder" && rt all check --jobs "$(at_a_time)" && rt run -- --build-only
+    copy_needed "$1" && (cd -- "$1" && rt ci) && touch -r "$1/crates.txt" "$1/crates/$name/out/$name" &&
+        mkdir -p "$folder/out" && mv -f -- "$1/crates/$name/out/$name" "$program"
 }
 
 if ! is_current; then
     if [ -x "$program" ]; then
-        echo "$name: a source has changed: proving what depends on it and building, a minute to a quarter of an hour" >&2
+        echo "$name: a source has changed: proving what depends on it and building, two to twenty minutes" >&2
     else
-        echo "$name: the first build: proving every crate and building, about forty minutes on four processors" >&2
+        echo "$name: the first build: proving every crate and building, about twenty minutes on four processors" >&2
     fi
-    log=$(mktemp) || exit 1
-    (build) </dev/null >"$log" 2>&1
-    if ! [ -x "$program" ] || ! grep -q '^rt: running' "$log"; then
-        cat "$log" >&2
-        rm -f "$log"
+    room=$(mktemp -d) || exit 1
+    trap 'rm -rf -- "$room"' EXIT
+    if ! build "$room/repository" </dev/null >"$room/log" 2>&1; then
+        cat "$room/log" >&2
         exit 1
     fi
-    rm -f "$log"
-    touch "$program"
+    rm -rf -- "$room"
+    trap - EXIT
 fi
 [ "${1-}" = --build-only ] && exit 0
 exec "$program" "$@"

@@ -40,37 +40,47 @@ status=0
 ../bin/quorumd create --image '' < one-node.conf > "$here/said" 2> "$here/errors" || status=$?
 same "$status $(cat "$here/said")" '8 fault EnvFault'
 
-# a first build, in a repository where the command rt is another one, which takes three seconds: what is built, and how
-# long that takes, stands on standard error within a second
+# a first build, in a repository where the command rt is another one, which takes three seconds: what is built, of what, and how long that
+# takes, stands on standard error within a second
 cd "$here"
-mkdir -p new/bin new/crates/quorumd/src rt-bin
+mkdir -p new/bin new/crates/quorumd/src new/crates/quorumd/out new/crates/low/src new/crates/low/must-fail new/crates/apart/src rt-bin
 cp "$TOP/bin/quorumd" "$TOP/bin/built.bash" new/bin
-touch new/crates.txt new/crates/quorumd/src/main.rt
+cp "$TOP/HANDLES" new
+printf '# NAME: what it uses\nlow: arrayvec\napart: low\nquorumd: low\n' > new/crates.txt
+touch new/crates/quorumd/src/main.rt new/crates/low/src/lib.rt new/crates/low/must-fail/one.edit new/crates/apart/src/main.rt
 cat > rt-bin/rt << 'RT'
 #!/usr/bin/env bash
-printf '%s in %s\n' "$*" "$PWD" >> "$CALLS"
-[ "$1" = all ] && exec sleep 3
+echo "$*: $(find . -type f | LC_ALL=C sort | tr '\n' ' ')" >> "$CALLS"
+sleep "${SECONDS_OF_RT:-0}"
+[ -z "${CHANGES-}" ] || touch "$CHANGES"
 [ -n "$PROGRAM" ] || { echo 'not proved'; exit 1; }
-mkdir -p out
-cp "$PROGRAM" out/quorumd
-echo 'rt: running out/quorumd' >&2
+mkdir -p crates/quorumd/out
+cp "$PROGRAM" crates/quorumd/out/quorumd
 RT
 chmod +x rt-bin/rt
-export CALLS=$here/calls PATH=$here/rt-bin:$PATH
+export CALLS=$here/calls PATH=$here/rt-bin:$PATH PROGRAM=$QUORUMD
 ln -s new/bin/quorumd new-link
-PROGRAM=$QUORUMD ./new-link help > said 2> errors &
+SECONDS_OF_RT=3 ./new-link help > said 2> errors &
 sleep 1
 grep -qE '^quorumd: the first build: .*, about .* on four processors$' errors
 same "$(wc -l < errors)" 1
 wait "$!"
 same "$(cat said)" "$commands"
 same "$(wc -l < errors)" 1
-same "$(sed 's/--jobs [0-9]*/--jobs N/' calls)" "all check --jobs N in $here/new/crates/quorumd
-run -- --build-only in $here/new/crates/quorumd"
+same "$(sed 's/ $//; s|\./||g' calls)" 'ci: HANDLES crates.txt crates/low/src/lib.rt crates/quorumd/src/main.rt'
 
-# it is built once; again where a source has changed; and a build that fails says why
+# it is built once; again where a source has changed, even during the build; and a build that fails says why
 called new/bin/quorumd
-same "$(wc -l < calls)" 2
+same "$(wc -l < calls)" 1
+sleep 0.1
+touch new/crates/low/src/lib.rt
+CHANGES=$here/new/crates/low/src/lib.rt SECONDS_OF_RT=0.1 new/bin/quorumd help > said 2> errors
+same "$(cat said)" "$commands"
+grep -q '^quorumd: a source has changed' errors
+new/bin/quorumd --build-only 2> errors
+grep -q '^quorumd: a source has changed' errors
+same "$(wc -l < calls)" 3
+called new/bin/quorumd
 sleep 0.1
 touch new/crates/quorumd/src/main.rt
 status=0
