@@ -35,7 +35,8 @@ def answer(member, word, values):
     sys.exit("a row of no kind: %s" % word)
 
 
-rows = [line.split("\t") for line in (TOP / "crates/qn_member_vectors/stdin").read_text().splitlines()]
+lines = (TOP / "crates/qn_vectors/stdin").read_text().splitlines()
+rows = [line.split("\t")[1:] for line in lines if line.startswith("maker\t")]
 wrong, member = [], None
 for number, (call, wanted) in enumerate(rows, 1):
     word, *values = call.split(" ")

@@ -1,10 +1,12 @@
 //! Checks all rows, and counts those from which a form differs.
 use crate::counts::Count;
 use crate::histories::History;
+use crate::history::{rank_word, read_rank, read_settings, settings_words};
+use crate::makers::Makers;
+use crate::packets::{Changes, PacketRow};
 use crate::rows::{check_entry, row_of};
 use crate::texts::check_text;
 use crate::ties::check_tie;
-use qn_history::{rank_word, read_rank, read_settings, settings_words};
 use qn_model::Settings;
 use qn_tie::Tie;
 use std::alloc::Global;
@@ -13,13 +15,17 @@ use std::io::{self, BufRead, Lines};
 /// What is said of a line that is no row.
 const NO_ROW: Option<&str> = Some("how a row is written");
 
-/// How many rows there were of each kind, and from how many of them a form differs.
+/// How many rows there were of each kind, what came of the changes of packets, and from how many rows a form differs.
 #[derive(Clone, Copy, Default)]
 struct Totals {
     texts: u64,
     lines: u64,
     counts: u64,
     ties: u64,
+    packets: u64,
+    /// How many of those rows spell a packet.
+    good: u64,
+    changes: Changes,
     histories: u64,
     entries: u64,
     looks: u64,
@@ -34,6 +40,7 @@ struct Reader {
     settings: Option<Settings>,
     history: Option<History>,
     tie: Option<Tie>,
+    makers: Makers,
 }
 
 /// Writes each row from which a form differs, and then how many rows there were.
@@ -50,21 +57,7 @@ pub fn check_all<R: BufRead + Drop>(
             println!(rt; "{other} differs: {text}")?;
         }
     }
-    reader.totals.write(rt)
-}
-
-impl Totals {
-    fn write(self, rt: &impl Print) -> io::Result<()> {
-        println!(rt; "settings texts {}", self.texts)?;
-        println!(rt; "lines of histories {}", self.lines)?;
-        println!(rt; "counts {}", self.counts)?;
-        println!(rt; "calls of a tie breaker {}", self.ties)?;
-        println!(rt;
-            "histories {} entries {} looks {}",
-            self.histories, self.entries, self.looks
-        )?;
-        println!(rt; "differ {}", self.differ)
-    }
+    reader.write(rt)
 }
 
 /// What is said of a row, by whether it is as it should be, or of a line that is none.
@@ -77,39 +70,56 @@ fn said(right: Option<bool>, what: &'static str) -> Option<&'static str> {
 }
 
 impl Reader {
-    /// What differs at a line: a settings text, a line of an entry, settings that are refused, a count, a call of a tie breaker, the settings that begin a history, the rank of its
-    /// node, or a row of it.
+    /// What differs at a line: a row of a kind, or a line that begins a history.
     fn difference(&mut self, alloc: Global, line: &str) -> Option<&'static str> {
-        match line.split_once('\t') {
-            Some(("text", row)) => {
+        let Some((kind, row)) = line.split_once('\t') else {
+            return self.begin(alloc, line).map_or(NO_ROW, |()| None);
+        };
+        match kind {
+            "text" => {
                 self.totals.texts = self.totals.texts.saturating_add(1);
                 said(check_text(alloc, row), "what a settings text gives")
             }
-            Some(("entry", row)) => {
+            "entry" => {
                 self.totals.lines = self.totals.lines.saturating_add(1);
                 said(check_entry(alloc, row), "what a line is read as")
             }
-            Some(("refused", words)) => {
+            "refused" => {
                 self.totals.lines = self.totals.lines.saturating_add(1);
-                said(
-                    Some(read_settings(words).is_none()),
-                    "that settings are refused",
-                )
+                let is_refused = read_settings(row).is_none();
+                said(Some(is_refused), "that settings are refused")
             }
-            Some(("count", row)) => {
-                self.totals.counts = self.totals.counts.saturating_add(1);
-                match Count::read(alloc, row) {
-                    Some(count) => count.difference(alloc),
-                    None => NO_ROW,
-                }
-            }
-            Some(("tie", row)) => {
+            "count" => self.count_difference(alloc, row),
+            "tie" => {
                 self.totals.ties = self.totals.ties.saturating_add(1);
                 said(check_tie(alloc, &mut self.tie, row), "the tie breaker")
             }
-            Some(_) => self.row_difference(alloc, line),
-            None => self.begin(alloc, line).map_or(NO_ROW, |()| None),
+            "packet" => self.packet_difference(alloc, row),
+            "maker" => said(self.makers.check(alloc, row), "the answer of a view maker"),
+            _ => self.row_difference(alloc, line),
         }
+    }
+
+    /// What differs at a count.
+    fn count_difference(&mut self, alloc: Global, row: &str) -> Option<&'static str> {
+        self.totals.counts = self.totals.counts.saturating_add(1);
+        match Count::read(alloc, row) {
+            Some(count) => count.difference(alloc),
+            None => NO_ROW,
+        }
+    }
+
+    /// What differs at the bytes of a packet. Where they spell one, their changes are tried too.
+    fn packet_difference(&mut self, alloc: Global, row: &str) -> Option<&'static str> {
+        self.totals.packets = self.totals.packets.saturating_add(1);
+        let Some(mut row) = PacketRow::read(alloc, row) else {
+            return NO_ROW;
+        };
+        if row.packet.is_some() {
+            self.totals.good = self.totals.good.saturating_add(1);
+            self.totals.changes.try_all(row.bytes.as_mut_slice());
+        }
+        row.difference()
     }
 
     /// Takes a line before the rows of a history: its settings, or the rank of its node.
@@ -135,5 +145,29 @@ impl Reader {
             self.totals.looks = self.totals.looks.saturating_add(1);
         }
         history.difference(alloc, row)
+    }
+
+    /// Writes how many rows there were, and from how many of them a form differs.
+    fn write(&self, rt: &impl Print) -> io::Result<()> {
+        let totals = self.totals;
+        let changes = totals.changes;
+        println!(rt; "settings texts {}", totals.texts)?;
+        println!(rt; "lines of histories {}", totals.lines)?;
+        println!(rt; "counts {}", totals.counts)?;
+        println!(rt; "calls of a tie breaker {}", totals.ties)?;
+        println!(rt; "packets {} good {}", totals.packets, totals.good)?;
+        println!(rt;
+            "changes of a byte {} packets {} differ {}",
+            changes.tried, changes.packets, changes.differ
+        )?;
+        println!(rt;
+            "view makers {} calls {}",
+            self.makers.made, self.makers.calls
+        )?;
+        println!(rt;
+            "histories {} entries {} looks {}",
+            totals.histories, totals.entries, totals.looks
+        )?;
+        println!(rt; "differ {}", totals.differ)
     }
 }

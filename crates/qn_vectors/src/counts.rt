@@ -1,7 +1,7 @@
 //! Checks a row of a count of votes, in both forms.
+use crate::history::{read_members, read_number, read_settings, read_truth};
 use crate::written::is_written;
 use qn_base::View;
-use qn_history::{read_members, read_number, read_settings, read_truth};
 use qn_model::{Answer, Settings, VoteEntry, VoteWhat};
 use qn_plain::vote_answer;
 use qn_quorum::Quorum;

@@ -1,6 +1,6 @@
 //! Rows that were worked out elsewhere, run through each form of a count of votes and of a node that the
-//! repository has: those from the whole list, and those in fixed memory; through the tie breaker in fixed memory; and
-//! settings texts, through their reader.
+//! repository has: those from the whole list, and those in fixed memory; through the tie breaker and the view maker in
+//! fixed memory; settings texts, through their reader; and packets, through their reader and their writer.
 //!
 //!     qn_vectors             reads rows, and writes each from which a form differs, and how many there were
 //!     qn_vectors show        reads one history, and writes what comes out of each entry
@@ -10,12 +10,16 @@
 //! What it reads stands on standard input. The last two write how many outputs there were; they are there to be
 //! timed, by `bench/node`.
 //!
-//! Promises: nothing. It is a test: what it is run on, and what it must write, stand beside it.
+//! Promises: what `history` promises of the lines of a recorded history, and nothing else. It is a test: what it is run
+//! on, and what it must write, stand beside it.
 #![tactic(auto)]
 
 mod checking;
 mod counts;
 mod histories;
+mod history;
+mod makers;
+mod packets;
 mod rows;
 mod running;
 mod texts;
@@ -23,7 +27,7 @@ mod ties;
 mod written;
 
 use checking::check_all;
-use qn_history::read_number;
+use history::read_number;
 use running::{Recorded, show};
 use std::env;
 use std::io::{self, BufRead, BufReader};

@@ -1,6 +1,6 @@
 //! Reads the rows of histories.
+use crate::history::{read_entry, read_number, read_what};
 use crate::written::is_written;
-use qn_history::{read_entry, read_number, read_what};
 use qn_model::What;
 use std::alloc::Global;
 

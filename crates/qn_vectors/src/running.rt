@@ -1,6 +1,6 @@
 //! Shows and times what comes out of a recorded history.
+use crate::history::{rank_word, read_entry, read_rank, read_settings, settings_words};
 use qn_base::Rank;
-use qn_history::{rank_word, read_entry, read_rank, read_settings, settings_words};
 use qn_model::{Entry, Outs, Settings};
 use qn_node::Node;
 use qn_plain::outs;

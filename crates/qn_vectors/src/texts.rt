@@ -1,6 +1,6 @@
 //! Settings texts from outside, and the settings that they give.
+use crate::history::read_settings;
 use qn_base::Rank;
-use qn_history::read_settings;
 use qn_model::{Order, Settings};
 use qn_settings::settings_of_text;
 use std::alloc::Global;

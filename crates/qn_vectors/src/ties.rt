@@ -1,6 +1,6 @@
 //! Calls of tie breakers from outside, and what each breaks.
+use crate::history::{read_members, read_number, read_settings, read_truth, settings_words};
 use qn_base::View;
-use qn_history::{read_members, read_number, read_settings, read_truth, settings_words};
 use qn_tie::Tie;
 use std::alloc::Global;
 

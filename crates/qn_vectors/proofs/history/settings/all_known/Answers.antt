@@ -1,8 +1,8 @@
 use Rattle.std.proofs.Common.{lit<, rules}
 use Rattle.std.proofs.lemmas.Iterator.Search.{all_from_yields_List}
 use Rattle.std.proofs.lemmas.Iterator.Splits.{YieldsList-from_str_split}
-use Rattle.qn_history.specs.Keys.{is_known}
-use Rattle.qn_history.proofs.settings.all_known.Goals as goal
+use Rattle.qn_vectors.specs.Keys.{is_known}
+use Rattle.qn_vectors.proofs.history.settings.all_known.Goals as goal
 
 pub returns : goal.returns
 returns c =

@@ -1,9 +1,9 @@
 //! Reads one entry of a recorded history: its tick and what the node is handed.
 ghost use Rattle.std.specs.Prelude.{◌≡◌, [], ◌∷◌, map, take, IfSome};
-ghost use Rattle.qn_history.specs.Words.{kind_word};
+ghost use Rattle.qn_vectors.specs.Words.{kind_word};
 
-use crate::packets::{read_ask, read_tell};
-use crate::words::{read_number, read_rank, read_small_number, read_truth, read_view};
+use super::packets::{read_ask, read_tell};
+use super::words::{read_number, read_rank, read_small_number, read_truth, read_view};
 use qn_base::Rank;
 use qn_model::{Entry, HeaderSeen, MailSeen, Message, Slot, SlotSeen, Timing, What};
 use std::alloc::Global;

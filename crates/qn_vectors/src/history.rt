@@ -6,7 +6,8 @@
 //!     TICK<TAB>ENTRY
 //!
 //! Two words of settings may follow: `tie=none` or the order of the tie breaker, ranks joined by commas; and
-//! `delays=MS,..`, the fence delays by rank. The device is `none` or `VOTES:TIMEOUT`. Members of a view are ranks joined by commas, and a truth is `yes` or `no`.
+//! `delays=MS,..`, the fence delays by rank. The device is `none` or `VOTES:TIMEOUT`. Members of a view are ranks joined
+//! by commas, and a truth is `yes` or `no`.
 //! An entry is one of
 //!
 //!     begin, begin-clean, tick, leave
@@ -21,10 +22,8 @@
 //!     tell FROM TO INCARNATION INSTALL ID MEMBERS HOLDS RELEASED
 //!
 //! Promises: a line is one of settings or of a rank exactly where it begins so; a number and a truth are read
-//! exactly where the text spells one; settings are read only where each of their words begins with a key. Of the rest nothing is promised but an answer: the value, or none where a line or a part of it is
-//! none of a history.
-#![tactic(auto)]
-
+//! exactly where the text spells one; settings are read only where each of their words begins with a key. Of the rest
+//! nothing is promised but an answer: the value, or none where a line or a part of it is none of a history.
 mod entries;
 mod heads;
 mod keys;

@@ -1,5 +1,4 @@
-//! Calls of view makers that were worked out elsewhere, each with its answer. It reads them from standard input, makes each
-//! call, writes each line that gives another answer, and then how many there were.
+//! Calls of view makers from outside, each with its answer.
 //!
 //!     new NODES ME LOOP                    a view maker of so many nodes, of that rank, with that loop's time
 //!     on_hello TICK FROM
@@ -9,53 +8,28 @@
 //!     announces
 //!
 //! The answer follows after a tab: `-` where the call gives nothing, `ID MEMBERS` or `none`, `yes` or `no`.
-//!
-//! Promises: nothing. It is a test: what it is run on, and what it must write, stand beside it.
-#![tactic(auto)]
-
+use crate::history::{read_number, read_rank, read_truth, read_view};
 use qn_base::{NodeId, View};
-use qn_history::{read_number, read_rank, read_truth, read_view};
 use qn_member::Member;
 use qn_model::{NodeEntry, Nodes, Settings};
 use std::alloc::Global;
-use std::io;
 
 /// What was read so far: how many view makers and calls there were, and the present view maker.
 #[derive(Default, Drop)]
-struct Reader {
-    makers: u64,
-    calls: u64,
+pub struct Makers {
+    pub made: u64,
+    pub calls: u64,
     member: Option<Member>,
 }
 
-fn main(rt: HostRuntime) -> io::Result<()> {
-    let mut reader = Reader::default();
-    let mut differ = 0u64;
-    for line in rt.lines(rt.alloc()) {
-        let line = line?;
-        let text = line.as_str();
-        let wrong = match reader.check(rt.alloc(), text) {
-            Some(true) => continue,
-            Some(false) => "another answer",
-            None => "no call",
-        };
-        differ = differ.saturating_add(1);
-        println!(rt; "{wrong}: {text}")?;
-    }
-    println!(rt;
-        "makers {} calls {} differ {differ}",
-        reader.makers, reader.calls
-    )
-}
-
-impl Reader {
-    /// Checks a line: whether the call gives the answer. None where it is no call with its answer.
-    fn check(&mut self, alloc: Global, line: &str) -> Option<bool> {
-        let (call, answer) = line.split_once('\t')?;
+impl Makers {
+    /// Checks a row: whether the call gives the answer. None where it is no call with its answer.
+    pub fn check(&mut self, alloc: Global, row: &str) -> Option<bool> {
+        let (call, answer) = row.split_once('\t')?;
         let words: Vec<&str> = call.split(' ').collect(alloc).ok()?;
         if let ["new", nodes, me, loop_ms] = words.as_slice() {
             self.member = Some(member_of(nodes, me, loop_ms)?);
-            self.makers = self.makers.saturating_add(1);
+            self.made = self.made.saturating_add(1);
             return Some(answer == "-");
         }
         self.calls = self.calls.saturating_add(1);

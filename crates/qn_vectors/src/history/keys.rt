@@ -16,8 +16,8 @@ pub(crate) enum Key {
 
 impl Key {
     ghost use Rattle.std.specs.Prelude.{◌≡◌};
-    ghost use Rattle.qn_history.specs.declared.keys.Key.{Key};
-    ghost use Rattle.qn_history.specs.Keys.{begins_with, key_name};
+    ghost use Rattle.qn_vectors.specs.declared.history.keys.Key.{Key};
+    ghost use Rattle.qn_vectors.specs.Keys.{begins_with, key_name};
 
     /// All keys, in the order in which they are written.
     pub(crate) const ALL: [Key; 9] = [

@@ -1,8 +1,8 @@
 -- The keys of the settings of a recorded history: this project's profile.
 use Rattle.std.specs.Prelude.{ℕ, Bool, List, [], ◌∷◌, ◌==◌, codes, nat_eq}
 use Rattle.std.specs.List.{list_all, list_any, slice_split, starts_with}
-use Rattle.qn_history.specs.declared.keys.Key.{Key}
-use Rattle.qn_history.specs.declared.keys.Key.TheVariants.{Nodes, TwoNode, WaitForAll, LastManStanding, Window, Device, Expected, Tie, Delays}
+use Rattle.qn_vectors.specs.declared.history.keys.Key.{Key}
+use Rattle.qn_vectors.specs.declared.history.keys.Key.TheVariants.{Nodes, TwoNode, WaitForAll, LastManStanding, Window, Device, Expected, Tie, Delays}
 
 -- what a word with the key begins with
 abbrev pub key_name : Key → List ℕ

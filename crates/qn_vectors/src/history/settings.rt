@@ -1,13 +1,13 @@
 //! Reads the line of settings of a recorded history.
 ghost use Rattle.std.specs.Prelude.{◌≡◌, IfSome, IsTrue};
-ghost use Rattle.qn_history.specs.Keys.{are_known, is_known};
+ghost use Rattle.qn_vectors.specs.Keys.{are_known, is_known};
 
-use crate::keys::Key;
-use crate::words::{read_node_id, read_number, read_rank, read_small_number, read_truth};
+use super::keys::Key;
+use super::words::{read_node_id, read_number, read_rank, read_small_number, read_truth};
 use qn_model::{Device, NodeEntry, Nodes, Order, Settings};
 
-/// The settings of these words, separated by spaces, each a key with its value in the order that is written above. Without
-/// `tie=` there is no tie breaker, and without `delays=`, which stands behind it, no fence delay.
+/// The settings of these words, separated by spaces, each a key with its value in the order that is written above.
+/// Without `tie=` there is no tie breaker, and without `delays=`, which stands behind it, no fence delay.
 pub fn read_settings(text: &str) -> Option<Settings>
     ensures known { IfSome result (λ _. IsTrue (are_known text.now)) }
 {

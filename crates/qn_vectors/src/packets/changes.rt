@@ -1,5 +1,5 @@
 //! Changes each byte of a packet to each other value, and counts what is read of it.
-use crate::rows::is_spelled;
+use super::rows::is_spelled;
 use qn_wire::get_packet;
 
 /// What came of changes of one byte.

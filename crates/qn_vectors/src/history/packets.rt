@@ -3,7 +3,7 @@ ghost use Rattle.std.specs.Prelude.{◌≡◌, [], ◌∷◌, length, map, take,
 ghost use Rattle.qn_base.specs.Decimal.{number_of};
 ghost use Rattle.qn_base.specs.Text.{yes_no};
 
-use crate::words::{read_number, read_rank, read_truth, read_view};
+use super::words::{read_number, read_rank, read_truth, read_view};
 use qn_model::{Ask, Tell};
 
 /// The six parts of an ask: from, to, incarnation, install number, and the number and members of the view.
