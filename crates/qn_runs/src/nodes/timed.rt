@@ -1,41 +1,50 @@
 //! Runs of the first of three nodes that are timed, over an outside that never fails and hears nothing.
 ghost use Rattle.std.specs.Prelude.{◌≤◌, IfSome};
 
-use crate::case::node_words;
-use crate::running::{input_of, quiet_outside, record, sink_of};
-use qn_base::{Failed, NodeId, read_decimal};
-use qn_commands::{NodeImages, NodeWords, node};
-use qn_io::{Env, QuietEnv, SECTOR, Sink, put_all};
+use crate::lines::number_of;
+use crate::memory::{IMAGE_SECTORS, output_of};
+use crate::nodes::case::node_words;
+use crate::nodes::running::{MOST_END_BYTES, quiet_outside, record, run_node};
+use qn_base::{Failed, NodeId};
+use qn_commands::{NodeImages, NodeWords};
+use qn_io::{Env, QuietEnv, SECTOR, Sink, StdSink, put_all};
 use std::alloc::Global;
+use std::io;
 
 /// Three nodes with one vote each.
 const THREE: &str =
     "nodelist {\nnode {\nnodeid: 1\n}\nnode {\nnodeid: 2\n}\nnode {\nnodeid: 3\n}\n}\n";
 
-/// How many sectors an image has.
-const IMAGE_SECTORS: u32 = 1024;
+/// Runs the node for so many turns on `one` image or on `three`, and writes how it ended; else on one image, and writes what an audit
+/// of the run reads.
+pub fn time_node(rt: &HostRuntime, turns: &str, mode: &str) -> io::Result<()> {
+    let mut out = StdSink::new(io::writer(rt), rt);
+    let done = match mode {
+        "one" => run_turns(rt.alloc(), NodeImages::One, turns, &mut out),
+        "three" => run_turns(rt.alloc(), NodeImages::Three, turns, &mut out),
+        _ => record_turns(rt.alloc(), turns, &mut out),
+    };
+    match done {
+        Some(()) => Ok(()),
+        None => println!(rt; "no run"),
+    }
+}
 
 /// Runs the node on one image or on three for so many turns, and writes how it ended. None where it is not run.
-pub fn run_turns<O: Sink>(
-    alloc: Global,
-    images: NodeImages,
-    turns: &str,
-    out: &mut O,
-) -> Option<()> {
+fn run_turns<O: Sink>(alloc: Global, images: NodeImages, turns: &str, out: &mut O) -> Option<()> {
     let words = words_for(turns)?;
     let mut env = quiet_outside(alloc, THREE)?;
     copy_image(&mut env).ok()?;
-    let mut input = input_of(alloc, THREE)?;
-    let _ = node(alloc, images, &words, &mut input, out, &mut env);
+    let _ = run_node(alloc, images, THREE, &words, &mut env, out)?;
     Some(())
 }
 
 /// Runs the node on one image for so many turns, and writes what an audit of the run reads: the settings, a line `----`,
 /// and the log. None where it is not run.
-pub fn record_turns<O: Sink>(alloc: Global, turns: &str, out: &mut O) -> Option<()> {
+fn record_turns<O: Sink>(alloc: Global, turns: &str, out: &mut O) -> Option<()> {
     let words = words_for(turns)?;
     let mut env = quiet_outside(alloc, THREE)?;
-    let mut end = sink_of(alloc, 256)?;
+    let mut end = output_of(alloc, MOST_END_BYTES, 0).ok()?;
     put_all(out, THREE.as_bytes()).ok()?;
     put_all(out, b"----\n").ok()?;
     let _ = record(alloc, THREE, &words, &mut env, out, &mut end)?;
@@ -46,7 +55,7 @@ pub fn record_turns<O: Sink>(alloc: Global, turns: &str, out: &mut O) -> Option<
 fn words_for(turns: &str) -> Option<NodeWords<'static>>
     ensures { IfSome result (λ words. 1 ≤ words.turns) }
 {
-    let turns = read_decimal(turns.as_bytes())?;
+    let turns = number_of(turns)?;
     Some(node_words(NodeId(1), turns.max(1), None, false))
 }
 

@@ -1,14 +1,16 @@
 //! A case: the settings and the words of a run, what its image holds before, and its log.
 ghost use Rattle.std.specs.Prelude.{◌≡◌, ◌≤◌, IfSome};
 
-use qn_base::{NodeId, read_decimal};
+use crate::lines::{first_word, number_of, text_of};
+use qn_base::NodeId;
 use qn_commands::{NodeWords, Path};
-use std::alloc::Global;
+use std::alloc::{AllocError, Global};
 use std::io;
 
 /// A case, as far as it was read.
 #[derive(Drop)]
 pub struct Case {
+    pub name: String,
     /// The settings text.
     pub settings: String,
     /// The words of the run.
@@ -20,14 +22,15 @@ pub struct Case {
 }
 
 impl Case {
-    /// A case of which nothing was read.
-    pub fn new(alloc: Global) -> Case {
-        Case {
+    /// A case of that name, of which nothing else was read.
+    pub fn new(alloc: Global, name: &str) -> Result<Case, AllocError> {
+        Ok(Case {
+            name: String::from_str(alloc, name)?,
             settings: String::new(alloc),
             words: None,
             held: String::new(alloc),
             log: String::new(alloc),
-        }
+        })
     }
 
     /// The words of the run, where they are such.
@@ -47,34 +50,28 @@ impl Case {
 
     /// Takes the next line: `settings`, `words`, `holds`, or a line of the log.
     pub fn take_line(&mut self, alloc: Global, line: &str) -> io::Result<()> {
-        if let Some(text) = line.strip_prefix("settings ") {
-            self.settings = text.replace(alloc, '|', "\n")?;
-            return Ok(());
+        match first_word(line) {
+            ("settings", text) => self.settings = text_of(alloc, text)?,
+            ("words", text) => self.words = words_of(text),
+            ("holds", write) => add_line(&mut self.held, write)?,
+            _ => add_line(&mut self.log, line)?,
         }
-        if let Some(text) = line.strip_prefix("words ") {
-            self.words = words_of(text);
-            return Ok(());
-        }
-        match line.strip_prefix("holds ") {
-            Some(write) => add_line(&mut self.held, write),
-            None => add_line(&mut self.log, line),
-        }
+        Ok(())
     }
 }
 
-fn add_line(text: &mut String, line: &str) -> io::Result<()> {
+fn add_line(text: &mut String, line: &str) -> Result<(), AllocError> {
     text.push_str(line)?;
-    text.push('\n')?;
-    Ok(())
+    text.push('\n')
 }
 
 /// The words of a run: the id of the node, how many turns it has, the turn from which on it leaves or `-`, and whether its
 /// boot is a clean start.
 fn words_of(text: &str) -> Option<NodeWords<'static>> {
     let mut words = text.split(' ');
-    let id = read_decimal(words.next()?.as_bytes())?;
-    let turns = read_decimal(words.next()?.as_bytes())?;
-    let leave = read_decimal(words.next()?.as_bytes());
+    let id = number_of(words.next()?)?;
+    let turns = number_of(words.next()?)?;
+    let leave = number_of(words.next()?);
     let clean = words.next()? == "yes";
     let id = NodeId(u32::try_from(id).ok()?);
     Some(node_words(id, turns, leave, clean))

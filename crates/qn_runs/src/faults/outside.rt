@@ -2,12 +2,10 @@
 ghost use Rattle.std.specs.Prelude.{◌≤◌, OnErr};
 ghost use Rattle.qn_base.specs.Faults.{HasRisen};
 
+use crate::memory::IMAGE_SECTORS;
 use qn_base::{Failed, Rank};
 use qn_io::{Env, Got, Opening, PACKET, SECTOR, SECTORS};
 use std::alloc::{AllocError, Global};
-
-/// How many sectors an image has.
-const IMAGE_SECTORS: usize = 1024;
 
 /// The Hello of the node of rank 1.
 const HELLO: [u8; 4] = [b'Q', b'N', 3, 1];
@@ -60,7 +58,7 @@ impl Counts {
 pub struct Outside {
     pub sectors: Vec<[u8; SECTOR]>,
     /// The sector of all at which the open image begins; 0 where all three are open.
-    begin: usize,
+    begin: u32,
     /// What its clock tells in each run, the last one again and again; where it is empty each look is 10 ms after the one before.
     pub ticks: Vec<u64>,
     /// Whether the first packet of each run is a Hello. There is no other one.
@@ -122,9 +120,9 @@ impl Outside {
         ensures never_falls { self.old.faults ≤ self.new.faults }
         ensures cause { OnErr result (HasRisen self.old.faults self.new.faults) }
     {
-        let place = self.begin.saturating_add(sector as usize);
+        let place = self.begin.saturating_add(sector) as usize;
         self.counts.reads_and_writes = self.counts.reads_and_writes.saturating_add(1);
-        let is_lost = self.loss.lost.get(place / IMAGE_SECTORS) == Some(&true);
+        let is_lost = self.loss.lost.get(place / IMAGE_SECTORS as usize) == Some(&true);
         self.tried(is_lost && self.has_lost())?;
         Ok(place)
     }

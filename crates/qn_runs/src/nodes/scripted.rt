@@ -1,5 +1,5 @@
 //! An outside in memory that answers as a log does, but for one call.
-use crate::case::Case;
+use crate::nodes::case::Case;
 use qn_audit::read_call;
 use qn_io::{Env, Got, MemEnv, PACKET, SECTORS, Script};
 use qn_live::{Asked, Room};

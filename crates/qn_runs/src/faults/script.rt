@@ -1,10 +1,11 @@
 //! The steps that are read, and what they set.
-use crate::outside::{Counts, Loss, Outside};
+use crate::faults::outside::{Counts, Loss, Outside};
+use crate::lines::{at_fault, first_word, number_of, text_of};
+use crate::memory::{input_of, output_of};
 use qn_io::{MemSink, MemSource};
 use qn_top::top;
 use std::alloc::{AllocError, Global};
-use std::io::{self, ErrorKind};
-use std::str;
+use std::{io, str};
 
 /// How the streams of a run behave: in pieces of how many bytes the input comes, and which read of it fails; for how many bytes
 /// the output has room, and which write of it fails. Numbers count from 1.
@@ -45,9 +46,9 @@ impl Script {
     }
 
     /// Takes a step.
-    pub fn take(&mut self, rt: &(impl Print + AllocGlobal), line: &str) -> io::Result<()> {
+    pub fn take_line(&mut self, rt: &(impl Print + AllocGlobal), line: &str) -> io::Result<()> {
         let (head, text) = line.split_once(": ").unwrap_or((line, ""));
-        let (kind, numbers) = head.split_once(' ').unwrap_or((head, ""));
+        let (kind, numbers) = first_word(head);
         let numbers = numbers_of(rt.alloc(), numbers)?;
         match kind {
             "" | "title" => rt.println(text),
@@ -65,9 +66,9 @@ impl Script {
             "clock" => self.outside.ticks = numbers,
             "hello" => self.outside.says_hello = true,
             "byte" => self.outside.put(numbers.as_slice()),
-            "input" => self.input = text.replace(alloc, "|", "\n")?,
+            "input" => self.input = text_of(alloc, text)?,
             "streams" => self.streams = streams_of(numbers.as_slice()),
-            _ => return Err(io::Error::from(ErrorKind::InvalidInput)),
+            _ => return Err(at_fault("no step of that name")),
         }
         Ok(())
     }
@@ -78,7 +79,7 @@ impl Script {
             "calls" => self.outside.counts.calls,
             "starts" => self.outside.starts,
             "late feeds" => self.outside.late_feeds,
-            _ => return Err(io::Error::from(ErrorKind::InvalidInput)),
+            _ => return Err(at_fault("no fact of that name")),
         };
         println!(rt; "{fact} {count}")
     }
@@ -104,7 +105,7 @@ impl Script {
         words: &str,
     ) -> io::Result<()> {
         let [first, last, images @ ..] = numbers else {
-            return Err(io::Error::from(ErrorKind::InvalidInput));
+            return Err(at_fault("a first and a last number are missing"));
         };
         let words = words_of(rt.alloc(), words)?;
         let mut before = String::new(rt.alloc());
@@ -136,13 +137,9 @@ impl Script {
             room,
             failing_write,
         } = self.streams;
-        let bytes = Vec::from_slice(alloc, self.input.as_str().as_bytes())?;
-        let fails = vec![in alloc; failing_read]?;
-        let mut input = MemSource::new(bytes, piece.max(1) as usize, fails);
-        let fails = vec![in alloc; failing_write]?;
-        let Ok(mut out) = MemSink::new(alloc, room as usize, fails) else {
-            return Err(io::Error::from(AllocError));
-        };
+        let text = self.input.as_str();
+        let mut input = input_of(alloc, text, piece as usize, failing_read)?;
+        let mut out = output_of(alloc, room as usize, failing_write)?;
         self.outside.counts = Counts::NONE;
         let status = status_of(alloc, words, &mut input, &mut out, &mut self.outside);
         let text = str::from_utf8(out.written()).unwrap_or("no text");
@@ -198,10 +195,10 @@ fn loss_of(number: u64, images: &[u64]) -> Loss {
 fn numbers_of(alloc: Global, text: &str) -> io::Result<Vec<u64>> {
     let mut numbers = Vec::new(alloc);
     for word in text.split_whitespace() {
-        let Ok(number) = word.parse() else {
-            return Err(io::Error::from(ErrorKind::InvalidInput));
-        };
-        numbers.push(number)?;
+        match number_of(word) {
+            Some(number) => numbers.push(number)?,
+            None => return Err(at_fault("a word that is no number")),
+        }
     }
     Ok(numbers)
 }

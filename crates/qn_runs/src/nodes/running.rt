@@ -2,13 +2,14 @@
 //! the exit status, and the line that the node writes at its end.
 ghost use Rattle.std.specs.Prelude.{◌≤◌};
 
-use crate::case::Case;
-use crate::played::Played;
-use crate::scripted::scripted;
+use crate::lines::number_of;
+use crate::memory::{input_of, output_of};
+use crate::nodes::case::Case;
+use crate::nodes::played::Played;
+use crate::nodes::scripted::scripted;
 use qn_audit::Recorder;
-use qn_base::read_decimal;
 use qn_commands::{NodeImages, NodeWords, Status, create, node};
-use qn_io::{Env, MemSink, MemSource, QuietEnv, Sink};
+use qn_io::{Env, MemSink, PIECE, QuietEnv, Sink};
 use qn_model::Timing;
 use sha2::{Digest, Sha256};
 use std::alloc::Global;
@@ -18,7 +19,7 @@ use std::str;
 const MOST_LOG_BYTES: usize = 1_000_000;
 
 /// The most bytes of what a node writes at its end.
-const MOST_END_BYTES: usize = 256;
+pub const MOST_END_BYTES: usize = 256;
 
 /// What a run came to.
 #[derive(Drop)]
@@ -41,8 +42,7 @@ pub fn played_text(alloc: Global, case: &Case) -> Option<String> {
 /// What the run comes to over an outside in memory that answers as the log of the case does, but that the call of that
 /// number fails; 0 is none.
 pub fn failing_text(alloc: Global, case: &Case, call: &str) -> Option<String> {
-    let call = read_decimal(call.as_bytes())?;
-    let mut env = scripted(alloc, case, call)?;
+    let mut env = scripted(alloc, case, number_of(call)?)?;
     run_case(alloc, case, &mut env)?.digest_text(alloc)
 }
 
@@ -55,8 +55,8 @@ pub fn quiet_text(alloc: Global, case: &Case) -> Option<String> {
 /// An outside that never fails and hears nothing, with a new image for these settings.
 pub fn quiet_outside(alloc: Global, settings: &str) -> Option<QuietEnv> {
     let mut env = QuietEnv::new(alloc).ok()?;
-    let mut input = input_of(alloc, settings)?;
-    let mut said = sink_of(alloc, MOST_END_BYTES)?;
+    let mut input = input_of(alloc, settings, PIECE, 0).ok()?;
+    let mut said = output_of(alloc, MOST_END_BYTES, 0).ok()?;
     let times = Timing::usual();
     match create(alloc, "image", times, &mut input, &mut said, &mut env) {
         Status::Done => Some(env),
@@ -65,8 +65,8 @@ pub fn quiet_outside(alloc: Global, settings: &str) -> Option<QuietEnv> {
 }
 
 fn run_case<E: Env>(alloc: Global, case: &Case, env: &mut E) -> Option<Ran> {
-    let mut log = sink_of(alloc, MOST_LOG_BYTES)?;
-    let mut end = sink_of(alloc, MOST_END_BYTES)?;
+    let mut log = output_of(alloc, MOST_LOG_BYTES, 0).ok()?;
+    let mut end = output_of(alloc, MOST_END_BYTES, 0).ok()?;
     let status = record(
         alloc,
         case.settings.as_str(),
@@ -78,7 +78,7 @@ fn run_case<E: Env>(alloc: Global, case: &Case, env: &mut E) -> Option<Ran> {
     Some(Ran { log, end, status })
 }
 
-/// Runs the node over the outside, and writes its calls and how it ended.
+/// Runs the node on one image over the outside, and writes its calls and how it ended.
 pub fn record<E: Env, L: Sink, O: Sink>(
     alloc: Global,
     settings: &str,
@@ -89,27 +89,23 @@ pub fn record<E: Env, L: Sink, O: Sink>(
 ) -> Option<Status>
     requires { 1 ≤ words.now.turns }
 {
-    let mut input = input_of(alloc, settings)?;
     let mut recorder = Recorder::new(env, log);
-    Some(node(
-        alloc,
-        NodeImages::One,
-        words,
-        &mut input,
-        end,
-        &mut recorder,
-    ))
+    run_node(alloc, NodeImages::One, settings, words, &mut recorder, end)
 }
 
-/// An input that is this text.
-pub fn input_of(alloc: Global, text: &str) -> Option<MemSource> {
-    let bytes = Vec::from_slice(alloc, text.as_bytes()).ok()?;
-    Some(MemSource::new(bytes, 4096, Vec::new(alloc)))
-}
-
-/// An output with room for that many bytes.
-pub fn sink_of(alloc: Global, room: usize) -> Option<MemSink> {
-    MemSink::new(alloc, room, Vec::new(alloc)).ok()
+/// Runs the node over the outside, and writes how it ended.
+pub fn run_node<E: Env, O: Sink>(
+    alloc: Global,
+    images: NodeImages,
+    settings: &str,
+    words: &NodeWords<'_>,
+    env: &mut E,
+    end: &mut O,
+) -> Option<Status>
+    requires { 1 ≤ words.now.turns }
+{
+    let mut input = input_of(alloc, settings, PIECE, 0).ok()?;
+    Some(node(alloc, images, words, &mut input, end, env))
 }
 
 impl Ran {
