@@ -1,6 +1,5 @@
 -- Worked rows of plans: which calls follow a plan, and with which end.
 use Rattle.std.proofs.Common.{ℕ, Bool, true, false, [], ◌∷◌, refl, cond}
-use Rattle.qn_base.specs.declared.calls.Call.{Call}
 use Rattle.qn_base.specs.declared.calls.Call.TheVariants.{Read, Feed}
 use Rattle.qn_base.specs.Calls.{is_failed}
 use Rattle.qn_base.specs.Plans.{Plan, Ends, Asks, ◌>>=◌, Follows}

@@ -1,4 +1,4 @@
-use Rattle.std.specs.Prelude.{ℕ, Bool, true, false, not, ◌||◌, List, [], ◌∷◌}
+use Rattle.std.specs.Prelude.{Bool, true, false, not, ◌||◌, List, [], ◌∷◌}
 use Rattle.qn_base.specs.declared.calls.Call.{Call}
 use Rattle.qn_base.specs.declared.calls.Call.TheVariants.{OpenImage, OpenNode, Now, Receive, Read, Write, Feed, Start, Stop, Send, Disarm, Halt}
 use Rattle.qn_base.specs.declared.calls.Received.{Received}

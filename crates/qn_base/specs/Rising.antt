@@ -1,4 +1,4 @@
-use Rattle.std.proofs.Common.{ℕ, ◌<◌, ◌≤◌, arith}
+use Rattle.std.proofs.Common.{ℕ, ◌≤◌, arith}
 use Rattle.qn_base.specs.Faults.{HasRisen}
 
 -- a count that rose in a part of the time rose over the whole of it
