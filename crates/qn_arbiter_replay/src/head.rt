@@ -33,7 +33,8 @@ pub(crate) fn read_arbiter_head<I: Source>(
     input: &mut I,
 ) -> Result<ArbiterHead, ReplayEnd>
     ensures head { IfOk result (λ head. Gives arbiter_head_part head
-        (prepend_known pieces.old (I.left input.old)) (prepend_known pieces.new (I.left input.new))) }
+        (prepend_known pieces.old (I.left input.old))
+        (prepend_known pieces.new (I.left input.new))) }
     ensures valid { IfOk result (λ head. IsValid head.settings) }
     ensures safe { IfOk result (λ head. is_safe head.timing ≡ true) }
     ensures few_lines { IfOk result (λ head. head.lines ≤ 4294967296) }

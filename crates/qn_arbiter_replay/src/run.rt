@@ -23,16 +23,20 @@ use std::alloc::Global;
 pub fn replay_arbiter<I: Source, O: Sink>(alloc: Global, input: &mut I, out: &mut O) -> ArbiterEnd
     // The end is the defined one of the bytes that were taken, and what was written is their trace, or a prefix
     // of it at WriteFault and NoMemory.
-    ensures replays { Replays (I.left input.old) (I.left input.new) (HasRisen (I.faults input.old) (I.faults input.new))
-        (O.written out.old) (O.written out.new) (HasRisen (O.faults out.old) (O.faults out.new)) result }
+    ensures replays { Replays (I.left input.old) (I.left input.new)
+        (HasRisen (I.faults input.old) (I.faults input.new))
+        (O.written out.old) (O.written out.new)
+        (HasRisen (O.faults out.old) (O.faults out.new)) result }
 
     ensures complete { ¬ HasRisen (I.faults input.old) (I.faults input.new)
         → ¬ HasRisen (O.faults out.old) (O.faults out.new)
         → result ≢ ArbiterEnd.Replay ReplayEnd.NoMemory
         → IfSome (I.left input.old) (λ bytes.
-        AnswersWhole (replay_arbiter_of Ended bytes) (O.written out.old) (O.written out.new) result) }
+        AnswersWhole (replay_arbiter_of Ended bytes) (O.written out.old)
+        (O.written out.new) result) }
     ensures done { IfDone result
-        (Completes (I.left input.old) (I.left input.new) (O.written out.old) (O.written out.new) result) }
+        (Completes (I.left input.old) (I.left input.new) (O.written out.old)
+        (O.written out.new) result) }
 
     // Out of memory.
     ensures memory { result ≡ ArbiterEnd.Replay ReplayEnd.NoMemory
@@ -51,8 +55,10 @@ pub fn replay_arbiter<I: Source, O: Sink>(alloc: Global, input: &mut I, out: &mu
 
 /// A replay up to its end.
 fn run<I: Source, O: Sink>(alloc: Global, input: &mut I, out: &mut O) -> ArbiterEnd
-    ensures replays { Replays (I.left input.old) (I.left input.new) (HasRisen (I.faults input.old) (I.faults input.new))
-        (O.written out.old) (O.written out.new) (HasRisen (O.faults out.old) (O.faults out.new)) result }
+    ensures replays { Replays (I.left input.old) (I.left input.new)
+        (HasRisen (I.faults input.old) (I.faults input.new))
+        (O.written out.old) (O.written out.new)
+        (HasRisen (O.faults out.old) (O.faults out.new)) result }
     ensures source_faults { I.faults input.old ≤ I.faults input.new }
     ensures sink_faults { O.faults out.old ≤ O.faults out.new }
 {

@@ -64,7 +64,8 @@ fn read_named(
     nodes: &Nodes,
     rest: Option<&[u8]>,
 ) -> Result<ArbiterEvent, LineFault>
-    ensures { result ≡ arbiter_event_named (ids nodes.now) name (parts_left 32 (option_copied rest.entry)) }
+    ensures { result
+        ≡ arbiter_event_named (ids nodes.now) name (parts_left 32 (option_copied rest.entry)) }
 {
     match name {
         ArbiterName::PassWith => read_pass_with(nodes, rest),

@@ -15,7 +15,8 @@ pub fn law_arbiter_lines()
     ensures { (s : Settings) (line : List ℕ) (event : ArbiterEvent)
         → IsValid s
         → (arbiter_event_of (ids s.nodes) line ≡ Ok event)
-        ↔ (IsTrue (is_well_formed_beside s event) × (arbiter_line (ids s.nodes) event ≡ Some line)) }
+        ↔ (IsTrue (is_well_formed_beside s event)
+        × (arbiter_line (ids s.nodes) event ≡ Some line)) }
 {
     law_event_lines();
 }

@@ -20,7 +20,8 @@ pub fn write_arbiter_trace(
     settings: &Settings,
     into: &mut ArrayVec<u8, 4096>,
 )
-    ensures text { into.new.items ≡ arbiter_trace_line (ids settings.now.nodes) number event.now report.now }
+    ensures text { into.new.items
+        ≡ arbiter_trace_line (ids settings.now.nodes) number event.now report.now }
     ensures fits { length into.new.items ≤ 4000 }
 {
     let nodes_report = &report.report;

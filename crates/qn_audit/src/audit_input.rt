@@ -43,7 +43,8 @@ pub fn audit<I: Source>(
 
 /// The rank of the node with that id.
 fn rank_of(nodes: &Nodes, id: NodeId) -> Option<Rank>
-    ensures named { IfSome result (λ rank. position (λ node. node.id.0 == id.0) nodes.now ≡ Some rank.0) }
+    ensures named { IfSome result
+        (λ rank. position (λ node. node.id.0 == id.0) nodes.now ≡ Some rank.0) }
     ensures unnamed { IfNone result (position (λ node. node.id.0 == id.0) nodes.now ≡ None) }
     ensures within { IfSome result (λ rank. rank.0 < length nodes.now) }
 {

@@ -72,7 +72,8 @@ impl Auditor {
             → StandsFor self.old plan
             → IsNext plan (call_in call room.now)
             → ⊥) }
-        ensures kept { OnErr result ((plan : Plan Ran) → StandsFor self.old plan → StandsFor self.new plan) }
+        ensures kept { OnErr result
+            ((plan : Plan Ran) → StandsFor self.old plan → StandsFor self.new plan) }
     {
         let asked = match self.run.asks(&mut self.room) {
             Ok(asked) => asked,

@@ -26,7 +26,8 @@ pub fn audit_log<I: Source>(
     requires numbered { head < 2 ^ 63 }
     ensures audited { (plan : Plan Ran) → StandsFor auditor.old plan → Audited plan head
         (prepend_known pieces.old (I.left input.old))
-        (further (prepend_known pieces.new (I.left input.new)) (I.faults input.old) (I.faults input.new)) result }
+        (further (prepend_known pieces.new (I.left input.new)) (I.faults input.old)
+        (I.faults input.new)) result }
     ensures never_falls { I.faults input.old ≤ I.faults input.new }
 {
     let mut line = ArrayVec::new();

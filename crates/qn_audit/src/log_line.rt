@@ -36,7 +36,8 @@ pub fn read_call(line: &[u8], room: &mut Room) -> Result<LoggedCall, LineFault>
 /// of the loop over the lines.
 #[tactic(auto, unfolding(crate::specs::Reading::call_named))]
 fn read_named(name: LogName, rest: Option<&[u8]>, room: &mut Room) -> Result<LoggedCall, LineFault>
-    ensures call { read_in result room.new ≡ call_named name (parts_left 32 (option_copied rest.entry)) }
+    ensures call { read_in result room.new
+        ≡ call_named name (parts_left 32 (option_copied rest.entry)) }
     ensures told { IfOk result (λ call. IsToldIn call room.new) }
 {
     match name {
@@ -53,7 +54,8 @@ fn read_named(name: LogName, rest: Option<&[u8]>, room: &mut Room) -> Result<Log
 /// `now T`
 #[tactic(auto, unfolding(crate::specs::Reading::now_of))]
 fn read_now(rest: Option<&[u8]>) -> Result<LoggedCall, LineFault>
-    ensures call { (room : Room) → read_in result room ≡ now_of (parts_left 32 (option_copied rest.entry)) }
+    ensures call { (room : Room)
+        → read_in result room ≡ now_of (parts_left 32 (option_copied rest.entry)) }
     ensures told { (room : Room) → IfOk result (λ call. IsToldIn call room) }
 {
     let text = rest.ok_or(LineFault::BadCount)?;
@@ -126,7 +128,8 @@ fn read_read(rest: Option<&[u8]>, room: &mut Room) -> Result<LoggedCall, LineFau
 /// The bytes of a sector that was read, put into `into`, or `failed`: whether the read succeeded.
 #[tactic(auto, unfolding(crate::specs::Reading::sector_read_of))]
 fn read_sector(word: &[u8], into: &mut [u8; SECTOR]) -> Result<bool, LineFault>
-    ensures call { (sector : ℕ) → sector_read_in sector result into.new ≡ sector_read_of sector word.now }
+    ensures call { (sector : ℕ)
+        → sector_read_in sector result into.new ≡ sector_read_of sector word.now }
     ensures one_word { OnOk result (HasNoSpace word.now) }
 {
     if is_word(word, b"failed") {
@@ -176,7 +179,8 @@ fn read_send(rest: Option<&[u8]>, room: &mut Room) -> Result<LoggedCall, LineFau
 #[tactic(auto, unfolding(crate::specs::Reading::halt_of))]
 #[inline(never)]
 fn read_halt(rest: Option<&[u8]>) -> Result<LoggedCall, LineFault>
-    ensures call { (room : Room) → read_in result room ≡ halt_of (parts_left 32 (option_copied rest.entry)) }
+    ensures call { (room : Room)
+        → read_in result room ≡ halt_of (parts_left 32 (option_copied rest.entry)) }
     ensures told { (room : Room) → IfOk result (λ call. IsToldIn call room) }
 {
     let word = one_word(rest)?;
@@ -191,7 +195,8 @@ fn read_halt(rest: Option<&[u8]>) -> Result<LoggedCall, LineFault>
 #[tactic(auto, unfolding(crate::specs::Reading::device_of))]
 #[inline(never)]
 fn read_device(device: DeviceCall, rest: Option<&[u8]>) -> Result<LoggedCall, LineFault>
-    ensures call { (room : Room) → read_in result room ≡ device_of device (parts_left 32 (option_copied rest.entry)) }
+    ensures call { (room : Room)
+        → read_in result room ≡ device_of device (parts_left 32 (option_copied rest.entry)) }
     ensures told { (room : Room) → IfOk result (λ call. IsToldIn call room) }
 {
     let word = one_word(rest)?;

@@ -53,7 +53,8 @@ impl LogPlace {
         room: &mut Room,
     ) -> Result<(), AuditEnd>
         requires judging { IsJudging auditor.old }
-        ensures takes { OnOk result ((read ≡ LineRead.Line) × Takes self.old self.new auditor.old auditor.new line.now) }
+        ensures takes { OnOk result
+            ((read ≡ LineRead.Line) × Takes self.old self.new auditor.old auditor.new line.now) }
         ensures end { IfErr result (λ end. (plan : Plan Ran) (last : List ℕ) (further : Further)
             → StandsFor auditor.old plan
             → WasRead read line.now last further
@@ -73,7 +74,8 @@ impl LogPlace {
         ensures takes { OnOk result (Takes self.old self.new auditor.old auditor.new line.now) }
         ensures end { IfErr result (λ end. (plan : Plan Ran) (further : Further)
             → StandsFor auditor.old plan
-            → EndsAt plan self.old.head self.old.lines self.old.turns (line.now ++ 10 ∷ []) further end) }
+            → EndsAt plan self.old.head self.old.lines self.old.turns
+            (line.now ++ 10 ∷ []) further end) }
     {
         if self.lines == MOST_LOG_LINES {
             return Err(self.bad_line(LineFault::TooMany));
@@ -97,7 +99,8 @@ impl LogPlace {
     /// The end of a log whose last end of a line these bytes follow.
     fn end_at(&self, auditor: &mut Auditor, rest: &[u8]) -> AuditEnd
         requires judging { IsJudging auditor.old }
-        ensures { (plan : Plan Ran) (further : Further) → StandsFor auditor.old plan → HasEnded further
+        ensures { (plan : Plan Ran) (further : Further) → StandsFor auditor.old plan
+            → HasEnded further
             → EndsAt plan self.now.head self.now.lines self.now.turns rest.now further result }
     {
         if !rest.is_empty() {

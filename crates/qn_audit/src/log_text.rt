@@ -68,7 +68,8 @@ fn add_device(line: &mut ArrayVec<u8, LOG_LINE>, word: &[u8], ok: bool)
 /// Bytes and an answer, a space before each.
 fn add_bytes_and_ok(line: &mut ArrayVec<u8, LOG_LINE>, bytes: &Bytes, ok: bool)
     requires { length line.old.items ≤ 32 }
-    ensures line { line.new.items ≡ line.old.items ++ codes " " ++ bytes_text bytes.now ++ codes " " ++ ok_text ok }
+    ensures line { line.new.items
+        ≡ line.old.items ++ codes " " ++ bytes_text bytes.now ++ codes " " ++ ok_text ok }
     ensures len { length line.new.items ≤ 1064 }
 {
     add(line, b" ");

@@ -27,7 +27,8 @@ pub fn run_recorded<E: Env, O: Sink>(
     requires valid { IsValid settings.now }
     requires configured { me.0 < length settings.now.nodes }
     requires some_turn { 1 ≤ turns }
-    ensures did { let before = recorded (E.faults recorder.old.env.now) (E.calls recorder.old.env.now)
+    ensures did { let before = recorded (E.faults recorder.old.env.now)
+        (E.calls recorder.old.env.now)
         (log_of O.written O.faults recorder.old) in
         let after = recorded (E.faults recorder.new.env.now) (E.calls recorder.new.env.now)
         (log_of O.written O.faults recorder.new) in
@@ -56,7 +57,8 @@ fn call<E: Env, O: Sink>(recorder: &mut Recorder<'_, E, O>, asked: Asked, room: 
     ensures made { Made (E.faults recorder.old.env.now) (E.faults recorder.new.env.now)
         (E.calls recorder.old.env.now) (E.calls recorder.new.env.now)
         (told asked room.old result room.new ∷ []) }
-    ensures logs { LogsCall (log_of O.written O.faults recorder.old) (log_of O.written O.faults recorder.new)
+    ensures logs { LogsCall (log_of O.written O.faults recorder.old)
+        (log_of O.written O.faults recorder.new)
         (told asked room.old result room.new) }
     ensures same_env { recorder.new.env.ghost_name ≡ recorder.old.env.ghost_name }
     ensures same_out { recorder.new.out.ghost_name ≡ recorder.old.out.ghost_name }

@@ -46,7 +46,8 @@ impl<'a, E: Env, O: Sink> Recorder<'a, E, O> {
 
     /// Writes the line of a call, where no write has failed so far.
     fn log(&mut self, call: &Call)
-        ensures logs { LogsCall (log_of O.written O.faults self.old) (log_of O.written O.faults self.new) call.now }
+        ensures logs { LogsCall (log_of O.written O.faults self.old)
+            (log_of O.written O.faults self.new) call.now }
         ensures env { self.new.env.now ≡ self.old.env.now }
         ensures same_env { self.new.env.ghost_name ≡ self.old.env.ghost_name }
         ensures same_out { self.new.out.ghost_name ≡ self.old.out.ghost_name }
@@ -75,8 +76,10 @@ impl<'a, E: Env, O: Sink> Env for Recorder<'a, E, O> {
 
     fn open_image(&mut self, path: &str) -> Result<(), Failed>
         ensures made { Made (E.faults self.old.env.now) (E.faults self.new.env.now)
-            (E.calls self.old.env.now) (E.calls self.new.env.now) (OpenImage path.now (is_ok result) ∷ []) }
-        ensures unwritten { log_of O.written O.faults self.new ≡ log_of O.written O.faults self.old }
+            (E.calls self.old.env.now) (E.calls self.new.env.now)
+            (OpenImage path.now (is_ok result) ∷ []) }
+        ensures unwritten { log_of O.written O.faults self.new
+            ≡ log_of O.written O.faults self.old }
         ensures same_env { self.new.env.ghost_name ≡ self.old.env.ghost_name }
         ensures same_out { self.new.out.ghost_name ≡ self.old.out.ghost_name }
     {
@@ -85,8 +88,10 @@ impl<'a, E: Env, O: Sink> Env for Recorder<'a, E, O> {
 
     fn open_node(&mut self, opening: &Opening<'_>) -> Result<(), Failed>
         ensures made { Made (E.faults self.old.env.now) (E.faults self.new.env.now)
-            (E.calls self.old.env.now) (E.calls self.new.env.now) (node_opening opening.now (is_ok result) ∷ []) }
-        ensures unwritten { log_of O.written O.faults self.new ≡ log_of O.written O.faults self.old }
+            (E.calls self.old.env.now) (E.calls self.new.env.now)
+            (node_opening opening.now (is_ok result) ∷ []) }
+        ensures unwritten { log_of O.written O.faults self.new
+            ≡ log_of O.written O.faults self.old }
         ensures same_env { self.new.env.ghost_name ≡ self.old.env.ghost_name }
         ensures same_out { self.new.out.ghost_name ≡ self.old.out.ghost_name }
     {
@@ -96,7 +101,8 @@ impl<'a, E: Env, O: Sink> Env for Recorder<'a, E, O> {
     fn now(&mut self) -> u64
         ensures made { Made (E.faults self.old.env.now) (E.faults self.new.env.now)
             (E.calls self.old.env.now) (E.calls self.new.env.now) (Now result ∷ []) }
-        ensures logs { LogsCall (log_of O.written O.faults self.old) (log_of O.written O.faults self.new)
+        ensures logs { LogsCall (log_of O.written O.faults self.old)
+            (log_of O.written O.faults self.new)
             (Now result) }
         ensures sink_faults { O.faults self.old.out.now ≤ O.faults self.new.out.now }
         ensures same_env { self.new.env.ghost_name ≡ self.old.env.ghost_name }
@@ -110,8 +116,10 @@ impl<'a, E: Env, O: Sink> Env for Recorder<'a, E, O> {
     fn receive(&mut self, packet: &mut [u8; PACKET]) -> Got
         ensures within { FitsPacket result }
         ensures made { Made (E.faults self.old.env.now) (E.faults self.new.env.now)
-            (E.calls self.old.env.now) (E.calls self.new.env.now) (Receive (received result packet.new) ∷ []) }
-        ensures logs { LogsCall (log_of O.written O.faults self.old) (log_of O.written O.faults self.new)
+            (E.calls self.old.env.now) (E.calls self.new.env.now)
+            (Receive (received result packet.new) ∷ []) }
+        ensures logs { LogsCall (log_of O.written O.faults self.old)
+            (log_of O.written O.faults self.new)
             (Receive (received result packet.new)) }
         ensures sink_faults { O.faults self.old.out.now ≤ O.faults self.new.out.now }
         ensures same_env { self.new.env.ghost_name ≡ self.old.env.ghost_name }
@@ -127,12 +135,15 @@ impl<'a, E: Env, O: Sink> Env for Recorder<'a, E, O> {
     fn read(&mut self, sector: u32, into: &mut [u8; SECTOR]) -> Result<(), Failed>
         requires { sector < 3072 }
         ensures ok { OnOk result (Made (E.faults self.old.env.now) (E.faults self.new.env.now)
-            (E.calls self.old.env.now) (E.calls self.new.env.now) (Read sector into.new true ∷ [])) }
+            (E.calls self.old.env.now) (E.calls self.new.env.now)
+            (Read sector into.new true ∷ [])) }
         ensures failed { OnErr result (Made (E.faults self.old.env.now) (E.faults self.new.env.now)
             (E.calls self.old.env.now) (E.calls self.new.env.now) (Read sector [] false ∷ [])) }
-        ensures logs_bytes { OnOk result (LogsCall (log_of O.written O.faults self.old) (log_of O.written O.faults self.new)
+        ensures logs_bytes { OnOk result
+            (LogsCall (log_of O.written O.faults self.old) (log_of O.written O.faults self.new)
             (Read sector into.new true)) }
-        ensures logs_failed { OnErr result (LogsCall (log_of O.written O.faults self.old) (log_of O.written O.faults self.new)
+        ensures logs_failed { OnErr result
+            (LogsCall (log_of O.written O.faults self.old) (log_of O.written O.faults self.new)
             (Read sector [] false)) }
         ensures sink_faults { O.faults self.old.out.now ≤ O.faults self.new.out.now }
         ensures same_env { self.new.env.ghost_name ≡ self.old.env.ghost_name }
@@ -154,8 +165,10 @@ impl<'a, E: Env, O: Sink> Env for Recorder<'a, E, O> {
     fn write(&mut self, sector: u32, from: &[u8; SECTOR]) -> Result<(), Failed>
         requires { sector < 3072 }
         ensures made { Made (E.faults self.old.env.now) (E.faults self.new.env.now)
-            (E.calls self.old.env.now) (E.calls self.new.env.now) (Write sector from.now (is_ok result) ∷ []) }
-        ensures logs { LogsCall (log_of O.written O.faults self.old) (log_of O.written O.faults self.new)
+            (E.calls self.old.env.now) (E.calls self.new.env.now)
+            (Write sector from.now (is_ok result) ∷ []) }
+        ensures logs { LogsCall (log_of O.written O.faults self.old)
+            (log_of O.written O.faults self.new)
             (Write sector from.now (is_ok result)) }
         ensures sink_faults { O.faults self.old.out.now ≤ O.faults self.new.out.now }
         ensures same_env { self.new.env.ghost_name ≡ self.old.env.ghost_name }
@@ -173,8 +186,10 @@ impl<'a, E: Env, O: Sink> Env for Recorder<'a, E, O> {
     fn send(&mut self, to: Rank, bytes: &[u8]) -> Result<(), Failed>
         requires { length bytes.now ≤ 128 }
         ensures made { Made (E.faults self.old.env.now) (E.faults self.new.env.now)
-            (E.calls self.old.env.now) (E.calls self.new.env.now) (Send to bytes.now (is_ok result) ∷ []) }
-        ensures logs { LogsCall (log_of O.written O.faults self.old) (log_of O.written O.faults self.new)
+            (E.calls self.old.env.now) (E.calls self.new.env.now)
+            (Send to bytes.now (is_ok result) ∷ []) }
+        ensures logs { LogsCall (log_of O.written O.faults self.old)
+            (log_of O.written O.faults self.new)
             (Send to bytes.now (is_ok result)) }
         ensures sink_faults { O.faults self.old.out.now ≤ O.faults self.new.out.now }
         ensures same_env { self.new.env.ghost_name ≡ self.old.env.ghost_name }
@@ -192,7 +207,8 @@ impl<'a, E: Env, O: Sink> Env for Recorder<'a, E, O> {
     fn feed(&mut self) -> Result<(), Failed>
         ensures made { Made (E.faults self.old.env.now) (E.faults self.new.env.now)
             (E.calls self.old.env.now) (E.calls self.new.env.now) (Feed (is_ok result) ∷ []) }
-        ensures logs { LogsCall (log_of O.written O.faults self.old) (log_of O.written O.faults self.new)
+        ensures logs { LogsCall (log_of O.written O.faults self.old)
+            (log_of O.written O.faults self.new)
             (Feed (is_ok result)) }
         ensures sink_faults { O.faults self.old.out.now ≤ O.faults self.new.out.now }
         ensures same_env { self.new.env.ghost_name ≡ self.old.env.ghost_name }
@@ -206,7 +222,8 @@ impl<'a, E: Env, O: Sink> Env for Recorder<'a, E, O> {
     fn start(&mut self) -> Result<(), Failed>
         ensures made { Made (E.faults self.old.env.now) (E.faults self.new.env.now)
             (E.calls self.old.env.now) (E.calls self.new.env.now) (Start (is_ok result) ∷ []) }
-        ensures logs { LogsCall (log_of O.written O.faults self.old) (log_of O.written O.faults self.new)
+        ensures logs { LogsCall (log_of O.written O.faults self.old)
+            (log_of O.written O.faults self.new)
             (Start (is_ok result)) }
         ensures sink_faults { O.faults self.old.out.now ≤ O.faults self.new.out.now }
         ensures same_env { self.new.env.ghost_name ≡ self.old.env.ghost_name }
@@ -220,7 +237,8 @@ impl<'a, E: Env, O: Sink> Env for Recorder<'a, E, O> {
     fn stop(&mut self) -> Result<(), Failed>
         ensures made { Made (E.faults self.old.env.now) (E.faults self.new.env.now)
             (E.calls self.old.env.now) (E.calls self.new.env.now) (Stop (is_ok result) ∷ []) }
-        ensures logs { LogsCall (log_of O.written O.faults self.old) (log_of O.written O.faults self.new)
+        ensures logs { LogsCall (log_of O.written O.faults self.old)
+            (log_of O.written O.faults self.new)
             (Stop (is_ok result)) }
         ensures sink_faults { O.faults self.old.out.now ≤ O.faults self.new.out.now }
         ensures same_env { self.new.env.ghost_name ≡ self.old.env.ghost_name }
@@ -234,7 +252,8 @@ impl<'a, E: Env, O: Sink> Env for Recorder<'a, E, O> {
     fn disarm(&mut self) -> Result<(), Failed>
         ensures made { Made (E.faults self.old.env.now) (E.faults self.new.env.now)
             (E.calls self.old.env.now) (E.calls self.new.env.now) (Disarm (is_ok result) ∷ []) }
-        ensures logs { LogsCall (log_of O.written O.faults self.old) (log_of O.written O.faults self.new)
+        ensures logs { LogsCall (log_of O.written O.faults self.old)
+            (log_of O.written O.faults self.new)
             (Disarm (is_ok result)) }
         ensures sink_faults { O.faults self.old.out.now ≤ O.faults self.new.out.now }
         ensures same_env { self.new.env.ghost_name ≡ self.old.env.ghost_name }
@@ -248,7 +267,8 @@ impl<'a, E: Env, O: Sink> Env for Recorder<'a, E, O> {
     fn halt(&mut self, code: u8)
         ensures made { Made (E.faults self.old.env.now) (E.faults self.new.env.now)
             (E.calls self.old.env.now) (E.calls self.new.env.now) (Halt code ∷ []) }
-        ensures logs { LogsCall (log_of O.written O.faults self.old) (log_of O.written O.faults self.new)
+        ensures logs { LogsCall (log_of O.written O.faults self.old)
+            (log_of O.written O.faults self.new)
             (Halt code) }
         ensures sink_faults { O.faults self.old.out.now ≤ O.faults self.new.out.now }
         ensures same_env { self.new.env.ghost_name ≡ self.old.env.ghost_name }

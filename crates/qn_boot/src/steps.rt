@@ -112,7 +112,8 @@ impl Boot<WantHeader> {
         ensures clean { IfOk result (λ next. next.clean ≡ self.clean) }
         ensures stands { (s : Settings) (me : ℕ) (log : List Line) (tick : ℕ)
             → WantHeaderFor s self log
-            → IfOk result (λ next. WantSlotFor s me next (with_read s me log tick (What.Header seen))) }
+            → IfOk result
+            (λ next. WantSlotFor s me next (with_read s me log tick (What.Header seen))) }
     {
         let (nodes, times) = match seen {
             HeaderSeen::Read { nodes, timing } => (nodes, timing),
@@ -150,10 +151,12 @@ impl Boot<WantSlot> {
     /// of the mailbox exactly in a clean start; else halts with ReadFailed, NotImage (for damaged bytes) or
     /// IncarnationSpent.
     pub fn slot(self, seen: SlotSeen) -> Result<AfterSlot, Halt>
-        ensures exact { (s : Settings) (own : Rank) → halted_by result ≡ boot_halt s (What.SlotRead own seen) }
+        ensures exact { (s : Settings) (own : Rank)
+            → halted_by result ≡ boot_halt s (What.SlotRead own seen) }
         ensures check { IfOk result (λ next. is_check next ≡ self.clean) }
         ensures next { IfOk result (λ next.
-            (times_after next ≡ self.times) × (claim_after seen ≡ Some (DiskOp.WriteClaim (claims_after next)))) }
+            (times_after next ≡ self.times)
+            × (claim_after seen ≡ Some (DiskOp.WriteClaim (claims_after next)))) }
         ensures stands { (s : Settings) (me : ℕ) (log : List Line) (tick : ℕ)
             → WantSlotFor s me self log
             → IfOk result (λ next.
@@ -202,10 +205,12 @@ impl Boot<WantCheck> {
     /// NotImage (for damaged bytes) or NotClean.
     pub fn checked(self, seen: MailSeen) -> Result<Boot<WantClaim>, Halt>
         ensures exact { (s : Settings) → halted_by result ≡ boot_halt s (What.MailChecked seen) }
-        ensures next { IfOk result (λ next. (next.times ≡ self.times) × (next.claims ≡ self.claims)) }
+        ensures next { IfOk result
+            (λ next. (next.times ≡ self.times) × (next.claims ≡ self.claims)) }
         ensures stands { (s : Settings) (me : ℕ) (log : List Line) (tick : ℕ)
             → WantCheckFor s self log
-            → IfOk result (λ next. WantClaimFor s next (with_read s me log tick (What.MailChecked seen))) }
+            → IfOk result
+            (λ next. WantClaimFor s next (with_read s me log tick (What.MailChecked seen))) }
     {
         match seen {
             MailSeen::Read(Message::Empty | Message::Exit) => {}
@@ -246,10 +251,12 @@ impl Boot<WantClaim> {
     /// The claim was written, or not. Goes on where it was; else halts with ClaimFailed.
     pub fn claimed(self, ok: bool) -> Result<Boot<WantClear>, Halt>
         ensures exact { (s : Settings) → halted_by result ≡ boot_halt s (What.Claimed ok) }
-        ensures next { IfOk result (λ next. (next.times ≡ self.times) × (next.claims ≡ self.claims)) }
+        ensures next { IfOk result
+            (λ next. (next.times ≡ self.times) × (next.claims ≡ self.claims)) }
         ensures stands { (s : Settings) (me : ℕ) (log : List Line) (tick : ℕ)
             → WantClaimFor s self log
-            → IfOk result (λ next. WantClearFor s next (with_read s me log tick (What.Claimed ok))) }
+            → IfOk result
+            (λ next. WantClearFor s next (with_read s me log tick (What.Claimed ok))) }
     {
         if !ok {
             return halted(BootCause::ClaimFailed);
@@ -275,7 +282,8 @@ impl Boot<WantClear> {
     /// The incarnation that was written.
     pub fn claims(&self) -> u64
         ensures value { result ≡ self.now.claims }
-        ensures stands { (s : Settings) (log : List Line) → WantClearFor s self.now log → claimed log ≡ Some result }
+        ensures stands { (s : Settings) (log : List Line) → WantClearFor s self.now log
+            → claimed log ≡ Some result }
     {
         self.state.claims
     }

@@ -29,7 +29,9 @@ pub(crate) fn advance_all(seats: &mut [Seat], dt: u64, clocks: &Clocks)
     requires few { length seats.old ≤ 32 }
     requires fits { (rank : ℕ) (seat : Seat) → slice_get seats.old rank ≡ Some seat → seat.on ≡ true
         → seat.clock + advance_of dt clocks.now rank < 2 ^ 64 }
-    ensures { (rank : ℕ) → slice_get seats.new rank ≡ option_map (advanced_seat (advance_of dt clocks.now rank)) (slice_get seats.old rank) }
+    ensures { (rank : ℕ)
+        → slice_get seats.new rank
+        ≡ option_map (advanced_seat (advance_of dt clocks.now rank)) (slice_get seats.old rank) }
 {
     for rank in 0..seats.len() {
         let advance = advance_of(dt, clocks, Rank(rank as u8));

@@ -63,7 +63,8 @@ impl Cluster {
         requires { 0 < self.old.steps }
         ensures spent { self.new ≡ record self.old { steps = self.old.steps - 1 } }
         ensures few { self.new.steps < 18446744073709551615 }
-        ensures stands { (moments : List Moment) → ClusterFor self.old moments → ClusterFor self.new moments }
+        ensures stands { (moments : List Moment) → ClusterFor self.old moments
+            → ClusterFor self.new moments }
         ensures room { IsStanding self.old → HasRoom self.new }
     {
         self.steps -= 1;
@@ -97,7 +98,8 @@ impl Cluster {
     pub(crate) fn switch_off(&mut self, i: Rank)
         requires { i.0 < length self.old.seats }
         ensures { (seat : Seat) → slice_get self.old.seats i.0 ≡ Some seat
-            → self.new ≡ record self.old { seats = slice_set self.old.seats i.0 (record seat { on = false }) } }
+            → self.new ≡ record self.old { seats = slice_set self.old.seats i.0
+            (record seat { on = false }) } }
     {
         let seat = &mut self.seats[usize::from(i.0)];
         seat.on = false;
@@ -107,7 +109,8 @@ impl Cluster {
     pub(crate) fn take_feed(&mut self, i: Rank)
         requires { i.0 < length self.old.seats }
         ensures { (seat : Seat) → slice_get self.old.seats i.0 ≡ Some seat
-            → self.new ≡ record self.old { seats = slice_set self.old.seats i.0 (record seat { fed = self.old.time }) } }
+            → self.new ≡ record self.old { seats = slice_set self.old.seats i.0
+            (record seat { fed = self.old.time }) } }
     {
         let time = self.time;
         let seat = &mut self.seats[usize::from(i.0)];
@@ -119,7 +122,9 @@ impl Cluster {
         requires within { i.0 < length self.old.seats }
         requires room { HasRoom self.old }
         ensures { (old : Seat) → slice_get self.old.seats i.0 ≡ Some old
-            → (new : Seat) × (self.new ≡ record self.old { seats = slice_set self.old.seats i.0 new }) × HandedSeat old new self.old.time what outs.new }
+            → (new : Seat)
+            × (self.new ≡ record self.old { seats = slice_set self.old.seats i.0 new })
+            × HandedSeat old new self.old.time what outs.new }
     {
         let time = self.time;
         let seat = &mut self.seats[usize::from(i.0)];
@@ -130,7 +135,9 @@ impl Cluster {
     pub(crate) fn boot_seat(&mut self, i: Rank, base: u64, clean: bool, outs: &mut Outs)
         requires within { i.0 < length self.old.seats }
         requires configured { i.0 < length self.old.settings.nodes }
-        ensures { (new : Seat) × (self.new ≡ record self.old { seats = slice_set self.old.seats i.0 new }) × BootedSeat new self.old.settings i.0 self.old.time base clean outs.new }
+        ensures { (new : Seat)
+            × (self.new ≡ record self.old { seats = slice_set self.old.seats i.0 new })
+            × BootedSeat new self.old.settings i.0 self.old.time base clean outs.new }
     {
         let time = self.time;
         let seat = &mut self.seats[usize::from(i.0)];
@@ -141,11 +148,15 @@ impl Cluster {
     pub(crate) fn advance(&mut self, dt: u64, clocks: &Clocks)
         requires short { dt ≤ 1000000000 }
         requires few { length self.old.seats ≤ 32 }
-        requires fits { (rank : ℕ) (seat : Seat) → slice_get self.old.seats rank ≡ Some seat → seat.on ≡ true
+        requires fits { (rank : ℕ) (seat : Seat) → slice_get self.old.seats rank ≡ Some seat
+            → seat.on ≡ true
             → seat.clock + advance_of dt clocks.now rank < 2 ^ 64 }
         ensures rest { self.new ≡ record self.old { seats = self.new.seats } }
         ensures count { length self.new.seats ≡ length self.old.seats }
-        ensures seats { (rank : ℕ) → slice_get self.new.seats rank ≡ option_map (advanced_seat (advance_of dt clocks.now rank)) (slice_get self.old.seats rank) }
+        ensures seats { (rank : ℕ)
+            → slice_get self.new.seats rank
+            ≡ option_map (advanced_seat (advance_of dt clocks.now rank))
+            (slice_get self.old.seats rank) }
     {
         advance_all(self.seats.as_mut_slice(), dt, clocks);
     }

@@ -20,7 +20,8 @@ impl Cluster {
         requires safe { is_safe timing.now ≡ true }
         requires early { self.now.time ≤ LATEST_TIME }
         requires nodes { is_ruled_by_nodes event.now ≡ true }
-        ensures { (d : World) → ClusterFor self.now d.moments → result ≡ refusal self.now.settings timing.now event.now d }
+        ensures { (d : World) → ClusterFor self.now d.moments
+            → result ≡ refusal self.now.settings timing.now event.now d }
     {
         match event {
             Event::Pass { dt, clocks } => self.refuses_pass(*dt, clocks, timing),

@@ -13,7 +13,9 @@ use std::alloc::Global;
 fn seats_of(alloc: Global, settings: &Settings) -> Result<Vec<Seat>, NoMemory>
     requires { length settings.now.nodes ≤ 32 }
     ensures count { IfOk result (λ seats. length seats.items ≡ length settings.now.nodes) }
-    ensures fresh { IfOk result (λ seats. (rank : ℕ) (seat : Seat) → slice_get seats.items rank ≡ Some seat → IsFresh seat) }
+    ensures fresh { IfOk result
+        (λ seats. (rank : ℕ) (seat : Seat) → slice_get seats.items rank ≡ Some seat
+        → IsFresh seat) }
 {
     let mut seats = Vec::new(alloc);
     for rank in 0..settings.nodes.len() {

@@ -75,7 +75,8 @@ impl Cluster {
     fn hand_live(&mut self, i: Rank, what: What, outs: &mut Outs) -> Result<(), NoMemory>
         requires within { i.0 < length self.old.seats }
         requires room { HasRoom self.old }
-        requires live { (seat : Seat) → slice_get self.old.seats i.0 ≡ Some seat → is_live (phase_of seat.node) ≡ true }
+        requires live { (seat : Seat) → slice_get self.old.seats i.0 ≡ Some seat
+            → is_live (phase_of seat.node) ≡ true }
         ensures ok { OnOk result (Handed self.old self.new i.0 what outs.new) }
         ensures err { OnErr result (Unhanded self.old self.new i.0 what) }
     {
@@ -93,7 +94,8 @@ impl Cluster {
     fn hand_copy(&mut self, i: Rank, what: What, outs: &mut Outs) -> Result<(), NoMemory>
         requires within { i.0 < length self.old.seats }
         requires room { HasRoom self.old }
-        requires live { (seat : Seat) → slice_get self.old.seats i.0 ≡ Some seat → is_live (phase_of seat.node) ≡ true }
+        requires live { (seat : Seat) → slice_get self.old.seats i.0 ≡ Some seat
+            → is_live (phase_of seat.node) ≡ true }
         ensures ok { OnOk result (Handed self.old self.new i.0 what outs.new) }
         ensures err { OnErr result (Unhanded self.old self.new i.0 what) }
     {

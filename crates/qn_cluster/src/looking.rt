@@ -117,7 +117,8 @@ impl Cluster {
     /// The nodes that hold the resource.
     pub fn holders(&self) -> Mask
         requires { length self.now.seats ≤ 32 }
-        ensures { (d : World) → ClusterFor self.now d.moments → result ≡ holders self.now.settings d }
+        ensures { (d : World) → ClusterFor self.now d.moments
+            → result ≡ holders self.now.settings d }
     {
         holders_of(self.seats.as_slice())
     }
@@ -338,7 +339,8 @@ fn answer_off(settings: &Settings) -> Answer
 fn holders_of(seats: &[Seat]) -> Mask
     requires { length seats.now ≤ 32 }
     ensures { (d : World) (s : Settings)
-        → ((rank : ℕ) (seat : Seat) → slice_get seats.now rank ≡ Some seat → SeatFor seat s rank (node_at s rank d))
+        → ((rank : ℕ) (seat : Seat) → slice_get seats.now rank ≡ Some seat
+        → SeatFor seat s rank (node_at s rank d))
         → length seats.now ≡ length s.nodes
         → result ≡ holders s d }
 {

@@ -85,7 +85,8 @@ impl Cluster {
         requires standing { IsStanding self.now }
         requires safe { is_safe timing.now ≡ true }
         requires early { self.now.time ≤ LATEST_TIME }
-        ensures { (d : World) → ClusterFor self.now d.moments → result ≡ unless (may_pass self.now.settings timing.now dt clocks.now d) 1 }
+        ensures { (d : World) → ClusterFor self.now d.moments
+            → result ≡ unless (may_pass self.now.settings timing.now dt clocks.now d) 1 }
     {
         unless(
             self.are_on(clocks) && self.all_pass(dt, clocks, timing.watchdog),
@@ -95,7 +96,8 @@ impl Cluster {
 
     /// Whether every named clock is that of a running node.
     fn are_on(&self, clocks: &Clocks) -> bool
-        requires { (place : ℕ) (clock : Rank × ℕ) → slice_get clocks.now place ≡ Some clock → clock.0.0 < length self.now.seats }
+        requires { (place : ℕ) (clock : Rank × ℕ) → slice_get clocks.now place ≡ Some clock
+            → clock.0.0 < length self.now.seats }
         ensures { result ≡ list_all (λ clock. on_at self.now clock.0.0) clocks.now }
     {
         for place in 0..clocks.len() {
@@ -109,7 +111,8 @@ impl Cluster {
     /// Whether the node of a rank is running.
     pub fn is_on(&self, i: Rank) -> bool
         requires { i.0 < length self.now.seats }
-        ensures exact { (d : World) → ClusterFor self.now d.moments → result ≡ is_on self.now.settings i.0 d }
+        ensures exact { (d : World) → ClusterFor self.now d.moments
+            → result ≡ is_on self.now.settings i.0 d }
         ensures seat { result ≡ on_at self.now i.0 }
     {
         self.seat(i).on
@@ -121,7 +124,9 @@ impl Cluster {
         requires early { self.now.time ≤ LATEST_TIME }
         requires period { watchdog ≤ LONGEST_PERIOD }
         requires few { length self.now.seats ≤ 32 }
-        ensures { result ≡ list_all (passes_at watchdog self.now dt clocks.now) (range_with_len 0 (length self.now.seats)) }
+        ensures { result
+            ≡ list_all (passes_at watchdog self.now dt clocks.now)
+            (range_with_len 0 (length self.now.seats)) }
     {
         for rank in 0..self.seats.len() {
             if !self.passes(Rank(rank as u8), dt, clocks, watchdog) {
@@ -146,7 +151,8 @@ impl Cluster {
     /// Rule 2: the node is off.
     pub fn refuses_boot(&self, i: Rank) -> Option<u8>
         requires { i.0 < length self.now.seats }
-        ensures { (d : World) → ClusterFor self.now d.moments → result ≡ unless (not (is_on self.now.settings i.0 d)) 2 }
+        ensures { (d : World) → ClusterFor self.now d.moments
+            → result ≡ unless (not (is_on self.now.settings i.0 d)) 2 }
     {
         unless(!self.seat(i).on, 2)
     }
@@ -154,7 +160,8 @@ impl Cluster {
     /// Rule 3 alone.
     pub fn refuses_off(&self, i: Rank) -> Option<u8>
         requires { i.0 < length self.now.seats }
-        ensures { (d : World) → ClusterFor self.now d.moments → result ≡ unless_running self.now.settings i.0 d None }
+        ensures { (d : World) → ClusterFor self.now d.moments
+            → result ≡ unless_running self.now.settings i.0 d None }
     {
         self.unless_running(i, None)
     }
@@ -162,7 +169,9 @@ impl Cluster {
     /// Rules 3 and 5, of a Stop.
     pub fn refuses_stopped(&self, i: Rank) -> Option<u8>
         requires { i.0 < length self.now.seats }
-        ensures { (d : World) → ClusterFor self.now d.moments → result ≡ unless_running self.now.settings i.0 d (unless (may_be_stopped self.now.settings i.0 d) 5) }
+        ensures { (d : World) → ClusterFor self.now d.moments
+            → result ≡ unless_running self.now.settings i.0 d
+            (unless (may_be_stopped self.now.settings i.0 d) 5) }
     {
         self.unless_running(i, unless(self.seat(i).stop_due, 5))
     }
@@ -170,7 +179,9 @@ impl Cluster {
     /// Rules 3 and 7: the members contain the node.
     pub fn refuses_view(&self, i: Rank, view: View) -> Option<u8>
         requires { i.0 < length self.now.seats }
-        ensures { (d : World) → ClusterFor self.now d.moments → result ≡ unless_running self.now.settings i.0 d (unless (is_member view.members i.0) 7) }
+        ensures { (d : World) → ClusterFor self.now d.moments
+            → result ≡ unless_running self.now.settings i.0 d
+            (unless (is_member view.members i.0) 7) }
     {
         self.unless_running(i, unless(view.members.has(i), 7))
     }
@@ -178,14 +189,17 @@ impl Cluster {
     /// Rules 3 and 8: the packet of that number was sent to the node.
     pub fn refuses_deliver(&self, i: Rank, number: u64) -> Option<u8>
         requires { i.0 < length self.now.seats }
-        ensures { (d : World) → ClusterFor self.now d.moments → result ≡ unless_running self.now.settings i.0 d (unless (may_deliver self.now.settings i.0 number d) 8) }
+        ensures { (d : World) → ClusterFor self.now d.moments
+            → result ≡ unless_running self.now.settings i.0 d
+            (unless (may_deliver self.now.settings i.0 number d) 8) }
     {
         self.unless_running(i, unless(self.may_deliver(i, number), 8))
     }
 
     /// Whether the packet of that number was sent to the node.
     fn may_deliver(&self, i: Rank, number: u64) -> bool
-        ensures { (d : World) → ClusterFor self.now d.moments → result ≡ may_deliver self.now.settings i.0 number d }
+        ensures { (d : World) → ClusterFor self.now d.moments
+            → result ≡ may_deliver self.now.settings i.0 number d }
     {
         match self.packet(number) {
             Some(sent) => sent.to.0 == i.0,
@@ -196,7 +210,9 @@ impl Cluster {
     /// Rules 3 and 9: a feed was decided since the boot, and at most the feed delay ago.
     pub fn refuses_feed(&self, i: Rank, timing: &Timing) -> Option<u8>
         requires { i.0 < length self.now.seats }
-        ensures { (d : World) → ClusterFor self.now d.moments → result ≡ unless_running self.now.settings i.0 d (unless (may_feed self.now.settings timing.now i.0 d) 9) }
+        ensures { (d : World) → ClusterFor self.now d.moments
+            → result ≡ unless_running self.now.settings i.0 d
+            (unless (may_feed self.now.settings timing.now i.0 d) 9) }
     {
         self.unless_running(
             i,

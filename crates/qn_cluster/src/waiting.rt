@@ -28,7 +28,8 @@ impl Seat {
 
     /// What the node waits for.
     fn waiting(&self) -> Waiting
-        ensures { (s : Settings) (me : ℕ) (node : Running) → SeatFor self.now s me node → result ≡ waiting_of node }
+        ensures { (s : Settings) (me : ℕ) (node : Running) → SeatFor self.now s me node
+            → result ≡ waiting_of node }
     {
         if self.on {
             Waiting {

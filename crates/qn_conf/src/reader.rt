@@ -24,8 +24,10 @@ const MAX_DEPTH: usize = 4;
 /// TooLong, NotText, the first line that is BadLine, ExtraClose or TooDeep, and last Unclosed. NoMemory comes
 /// only where it ran out of memory.
 pub fn read_tree(alloc: Global, text: &[u8]) -> Result<Tree<'_>, ConfFault>
-    ensures tree { UnlessNoMemory result ((tree : List Item) → (result ≡ Ok tree) ↔ Conf text.now tree) }
-    ensures fault { UnlessNoMemory result ((fault : ConfFault) → (result ≡ Err fault) ↔ IsFirstFault text.now fault) }
+    ensures tree { UnlessNoMemory result
+        ((tree : List Item) → (result ≡ Ok tree) ↔ Conf text.now tree) }
+    ensures fault { UnlessNoMemory result
+        ((fault : ConfFault) → (result ≡ Err fault) ↔ IsFirstFault text.now fault) }
     ensures answer { UnlessNoMemory result (result ≡ conf_of text.now) }
 {
     if text.len() > MOST_TEXT_BYTES {
@@ -40,7 +42,8 @@ pub fn read_tree(alloc: Global, text: &[u8]) -> Result<Tree<'_>, ConfFault>
 /// Reads the lines of a short text.
 fn read_lines(alloc: Global, text: &[u8]) -> Result<Tree<'_>, ConfFault>
     requires { length text.now ≤ 1048576 }
-    ensures { UnlessNoMemory result (result ≡ option_map_or Err (first_fault [] (lines text.now)) (tree_of (lines text.now))) }
+    ensures { UnlessNoMemory result
+        (result ≡ option_map_or Err (first_fault [] (lines text.now)) (tree_of (lines text.now))) }
 {
     let mut reader = Reader::new(alloc);
     for line in text.split(|byte| *byte == b'\n') {
@@ -74,11 +77,17 @@ impl<'text> Reader<'text> {
     /// Reads the next line.
     fn read(&mut self, line: &'text [u8]) -> Result<(), ConfFault>
         requires { self.old.lines < 2 ^ 32 }
-        ensures good { OnOk result (fault_in (self.old.lines + 1) self.old.depth (meaning_of line.now) ≡ None) }
+        ensures good { OnOk result
+            (fault_in (self.old.lines + 1) self.old.depth (meaning_of line.now) ≡ None) }
         ensures lines { OnOk result (self.new.lines ≡ self.old.lines + 1) }
-        ensures depth { OnOk result (self.new.depth ≡ depth_after_all self.old.depth (item_in (meaning_of line.now))) }
-        ensures items { OnOk result (self.new.items.items ≡ self.old.items.items ++ item_in (meaning_of line.now)) }
-        ensures fault { UnlessNoMemory result (IfErr result (λ fault. fault_in (self.old.lines + 1) self.old.depth (meaning_of line.now) ≡ Some fault)) }
+        ensures depth { OnOk result
+            (self.new.depth ≡ depth_after_all self.old.depth (item_in (meaning_of line.now))) }
+        ensures items { OnOk result
+            (self.new.items.items ≡ self.old.items.items ++ item_in (meaning_of line.now)) }
+        ensures fault { UnlessNoMemory result
+            (IfErr result
+            (λ fault. fault_in (self.old.lines + 1) self.old.depth (meaning_of line.now)
+            ≡ Some fault)) }
     {
         self.lines += 1;
         match read_line(line) {
@@ -93,8 +102,11 @@ impl<'text> Reader<'text> {
         ensures good { OnOk result (fault_of self.old.lines self.old.depth item.entry ≡ None) }
         ensures lines { OnOk result (self.new.lines ≡ self.old.lines) }
         ensures depth { OnOk result (self.new.depth ≡ depth_after self.old.depth item.entry) }
-        ensures items { OnOk result (self.new.items.items ≡ self.old.items.items ++ item.entry ∷ []) }
-        ensures fault { UnlessNoMemory result (IfErr result (λ fault. fault_of self.old.lines self.old.depth item.entry ≡ Some fault)) }
+        ensures items { OnOk result
+            (self.new.items.items ≡ self.old.items.items ++ item.entry ∷ []) }
+        ensures fault { UnlessNoMemory result
+            (IfErr result
+            (λ fault. fault_of self.old.lines self.old.depth item.entry ≡ Some fault)) }
     {
         self.depth = self.depth_after(&item)?;
         self.items.push(item)?;
@@ -103,9 +115,12 @@ impl<'text> Reader<'text> {
 
     /// How many sections stand open after the item.
     fn depth_after(&self, item: &Item<'text>) -> Result<usize, ConfFault>
-        ensures good { IfOk result (λ depth. (fault_of self.now.lines self.now.depth item.now ≡ None) × (depth ≡ depth_after self.now.depth item.now)) }
+        ensures good { IfOk result
+            (λ depth. (fault_of self.now.lines self.now.depth item.now ≡ None)
+            × (depth ≡ depth_after self.now.depth item.now)) }
         ensures shallow { IfOk result (λ depth. depth ≤ 4) }
-        ensures fault { IfErr result (λ fault. fault_of self.now.lines self.now.depth item.now ≡ Some fault) }
+        ensures fault { IfErr result
+            (λ fault. fault_of self.now.lines self.now.depth item.now ≡ Some fault) }
     {
         let line = self.lines;
         match item {
@@ -119,7 +134,8 @@ impl<'text> Reader<'text> {
 
     /// The tree, where every section is ended.
     fn finish(self) -> Result<Tree<'text>, ConfFault>
-        ensures { result ≡ (if self.entry.depth == 0 then Ok self.entry.items.items else Err Unclosed) }
+        ensures { result
+            ≡ (if self.entry.depth == 0 then Ok self.entry.items.items else Err Unclosed) }
     {
         if self.depth > 0 {
             return Err(ConfFault::Unclosed);

@@ -77,7 +77,8 @@ pub trait HasNodes {
         requires nodes { is_ruled_by_nodes event.now ≡ true }
         ensures { (d : Self.World)
             → kind.StandsFor self.now d
-            → result ≡ refusal (kind.nodes self.now).settings (kind.timing self.now) event.now (kind.nodes_of d) }
+            → result ≡ refusal (kind.nodes self.now).settings (kind.timing self.now) event.now
+            (kind.nodes_of d) }
     {
         self.cluster().refusal(event, self.timing())
     }

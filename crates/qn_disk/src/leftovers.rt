@@ -73,7 +73,8 @@ impl Leftovers {
     /// How many of the leftovers are those of a rank on an image.
     pub fn count_of(&self, i: Rank, image: u8) -> u64
         requires { is_image image ≡ true }
-        ensures { (count : ℕ) (left : ℕ → ℕ → List DiskOp) → LeftFor count self.now left → result ≡ length (left i.0 image) }
+        ensures { (count : ℕ) (left : ℕ → ℕ → List DiskOp) → LeftFor count self.now left
+            → result ≡ length (left i.0 image) }
     {
         count_of(self.items.as_slice(), i, image)
     }
@@ -87,7 +88,8 @@ impl Leftovers {
             → LeftFor count self.new (left_over left i.0 op on.now)) }
         ensures first { OnOk result (take (length self.old) self.new ≡ self.old) }
         ensures err { OnErr result (self.new ≡ self.old) }
-        ensures cause { OnErr result ((image : ℕ) × (is_image image ≡ true) × (is_marked on.now image ≡ true)) }
+        ensures cause { OnErr result
+            ((image : ℕ) × (is_image image ≡ true) × (is_marked on.now image ≡ true)) }
     {
         leave_all(&mut self.items, i, op, on)
     }
@@ -117,7 +119,8 @@ impl Leftovers {
         ensures op { (count : ℕ) (left : ℕ → ℕ → List DiskOp)
             → LeftFor count self.old left
             → result ≡ numbered (left i.0 image) number }
-        ensures within { (count : ℕ) (left : ℕ → ℕ → List DiskOp) → LeftFor count self.old left → IsOpWithin count result }
+        ensures within { (count : ℕ) (left : ℕ → ℕ → List DiskOp) → LeftFor count self.old left
+            → IsOpWithin count result }
         ensures rest { OnSome result ((count : ℕ) (left : ℕ → ℕ → List DiskOp)
             → LeftFor count self.old left
             → LeftFor count self.new (put_on left i.0 image (without (left i.0 image) number))) }
@@ -199,7 +202,8 @@ fn drop_left(left: &mut Vec<Leftover>, i: Rank)
 fn leave_all(left: &mut Vec<Leftover>, i: Rank, op: DiskOp, on: &[bool; 3]) -> Result<(), NoMemory>
     ensures ok { OnOk result (left.new.items ≡ left.old.items ++ marked_on i op on.now 3) }
     ensures err { OnErr result (left.new.items ≡ left.old.items) }
-    ensures cause { OnErr result ((image : ℕ) × (is_image image ≡ true) × (is_marked on.now image ≡ true)) }
+    ensures cause { OnErr result
+        ((image : ℕ) × (is_image image ≡ true) × (is_marked on.now image ≡ true)) }
 {
     let before = left.len();
     for image in 0..3 {
@@ -213,7 +217,8 @@ fn leave_all(left: &mut Vec<Leftover>, i: Rank, op: DiskOp, on: &[bool; 3]) -> R
 
 /// A write of a rank is left over on an image.
 fn leave_one(left: &mut Vec<Leftover>, i: Rank, image: u8, op: DiskOp) -> Result<(), NoMemory>
-    ensures ok { OnOk result (left.new.items ≡ left.old.items ++ (record { of = i; image = image; op = op }) ∷ []) }
+    ensures ok { OnOk result
+        (left.new.items ≡ left.old.items ++ (record { of = i; image = image; op = op }) ∷ []) }
     ensures err { OnErr result (left.new.items ≡ left.old.items) }
 {
     match left.push(Leftover { of: i, image, op }) {

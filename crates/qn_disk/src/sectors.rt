@@ -44,7 +44,8 @@ impl Sectors {
     /// The message in the mailbox of a rank.
     pub fn mailbox(&self, i: Rank) -> Message
         requires { i.0 < 32 }
-        ensures { (slots : ℕ → Slot) (mailboxes : ℕ → Message) → SectorsFor self.now slots mailboxes → result ≡ mailboxes i.0 }
+        ensures { (slots : ℕ → Slot) (mailboxes : ℕ → Message) → SectorsFor self.now slots mailboxes
+            → result ≡ mailboxes i.0 }
     {
         self.mailboxes[usize::from(i.0)]
     }
@@ -58,7 +59,8 @@ impl Sectors {
 
     fn put_message(&mut self, i: Rank, message: Message)
         requires { i.0 < 32 }
-        ensures { self.new ≡ record self.old { mailboxes = slice_set self.old.mailboxes i.0 message } }
+        ensures { self.new
+            ≡ record self.old { mailboxes = slice_set self.old.mailboxes i.0 message } }
     {
         self.mailboxes[usize::from(i.0)] = message;
     }
@@ -78,7 +80,8 @@ impl Sectors {
     pub fn taken(&self, settings: &Settings, timing: Timing, i: Rank, op: DiskOp) -> What
         requires within { i.0 < 32 }
         requires target { IsWithin 32 op }
-        ensures { (d : World) → SectorsFor self.now d.slots d.mailboxes → result ≡ taken settings.now timing i.0 op d }
+        ensures { (d : World) → SectorsFor self.now d.slots d.mailboxes
+            → result ≡ taken settings.now timing i.0 op d }
     {
         match op {
             DiskOp::ReadHeader => What::Header(header(settings, timing)),

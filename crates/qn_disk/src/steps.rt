@@ -57,7 +57,8 @@ pub trait Steps: HasNodes {
         requires early { (Self.kind.nodes self.old).time ≤ LATEST_TIME }
         requires room { 0 < (Self.kind.nodes self.old).steps }
         ensures ok { OnOk result (Applied Self.kind self.old self.new event.now into.new) }
-        ensures err { IfErr result (λ answer. Refuses Self.kind self.old self.new event.now answer) }
+        ensures err { IfErr result
+            (λ answer. Refuses Self.kind self.old self.new event.now answer) }
     {
         into.outs.clear();
         if let Err(rule) = self.allowed(event) {

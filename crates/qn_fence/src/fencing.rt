@@ -152,7 +152,8 @@ impl Fence {
     /// least node outside the view that was not read since it was last in one; else to reset the least one
     /// that was since then neither read as clean nor reset; else none.
     pub fn next(&self) -> Want
-        ensures { (s : Settings) (log : List Line) → FenceFor self.now s log → op_of result ≡ fencing_op s log }
+        ensures { (s : Settings) (log : List Line) → FenceFor self.now s log
+            → op_of result ≡ fencing_op s log }
     {
         let outside = self.members.outside();
         if let Some(rank) = outside.without(self.seen).first(self.count) {
@@ -251,7 +252,8 @@ impl Fence {
     /// An equal fencer: it stands for each log that this one stands for.
     pub fn copy(&self) -> Self
         ensures equal { result ≡ self.now }
-        ensures stands { (s : Settings) (log : List Line) → FenceFor self.now s log → FenceFor result s log }
+        ensures stands { (s : Settings) (log : List Line) → FenceFor self.now s log
+            → FenceFor result s log }
     {
         Fence {
             count: self.count,
@@ -276,9 +278,11 @@ impl Fence {
     fn note_slot(&mut self, j: Rank, seen: SlotSeen)
         ensures rest { self.new ≡ record self.old { seen = self.new.seen; clean = self.new.clean } }
         ensures seen { (rank : ℕ) → rank < 32
-            → is_member self.new.seen rank ≡ ((j.0 == rank && is_seen_slot seen) || is_member self.old.seen rank) }
+            → is_member self.new.seen rank
+            ≡ ((j.0 == rank && is_seen_slot seen) || is_member self.old.seen rank) }
         ensures clean { (rank : ℕ) → rank < 32
-            → is_member self.new.clean rank ≡ ((j.0 == rank && is_clean_slot seen) || is_member self.old.clean rank) }
+            → is_member self.new.clean rank
+            ≡ ((j.0 == rank && is_clean_slot seen) || is_member self.old.clean rank) }
     {
         match seen {
             SlotSeen::Read(slot) => {
@@ -294,9 +298,11 @@ impl Fence {
 
     /// Notes the write of a reset to a node at a tick.
     fn note_reset(&mut self, j: Rank, tick: u64, ok: bool)
-        ensures rest { self.new ≡ record self.old { written = self.new.written; ticks = self.new.ticks } }
+        ensures rest { self.new
+            ≡ record self.old { written = self.new.written; ticks = self.new.ticks } }
         ensures at { (rank : ℕ) → rank < 32
-            → written_at self.new rank ≡ (if j.0 == rank && ok then Some tick else written_at self.old rank) }
+            → written_at self.new rank
+            ≡ (if j.0 == rank && ok then Some tick else written_at self.old rank) }
     {
         if ok && j.0 < 32 {
             self.written = self.written.with(j);
@@ -319,7 +325,8 @@ impl Fence {
 
     /// The nodes to which a reset was written at least msgwait ago.
     fn fenced(&self, tick: u64) -> Mask
-        ensures { (rank : ℕ) → rank < 32 → is_member result rank ≡ is_waited_for self.now tick rank }
+        ensures { (rank : ℕ) → rank < 32
+            → is_member result rank ≡ is_waited_for self.now tick rank }
     {
         let mut fenced = Mask(0);
         for rank in 0..32 {

@@ -30,5 +30,6 @@ pub fn law_asked_inside()
     ensures more { (s : Settings) (me : ℕ) (log : List Line) (tick : ℕ) (entry : What)
         → IsAskedInside log
         → IsAskedInside (with_read s me log tick entry) }
-    ensures all { (s : Settings) (me : ℕ) (history : List Entry) → IsAskedInside (log_of s me history) }
+    ensures all { (s : Settings) (me : ℕ) (history : List Entry)
+        → IsAskedInside (log_of s me history) }
 {}

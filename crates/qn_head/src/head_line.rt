@@ -21,7 +21,8 @@ pub fn read_head_line<I: Source>(
 ) -> Result<(), ReplayEnd>
     requires { before < 2 ^ 32 }
     ensures line { OnOk result (Gives (line_part before) line.new.items
-        (prepend_known pieces.old (I.left input.old)) (prepend_known pieces.new (I.left input.new))) }
+        (prepend_known pieces.old (I.left input.old))
+        (prepend_known pieces.new (I.left input.new))) }
     ensures end { IfErr result (Refuses (line_part before)
         (prepend_known pieces.old (I.left input.old)) (prepend_known pieces.new (I.left input.new))
         ((pieces.new ≡ []) × IsAtEnd (I.left input.new))

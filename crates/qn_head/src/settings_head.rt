@@ -30,9 +30,11 @@ pub fn read_settings<I: Source>(
     input: &mut I,
 ) -> Result<SettingsHead, HeadFault>
     ensures settings { IfOk result (λ head. Gives settings_part head
-        (prepend_known pieces.old (I.left input.old)) (prepend_known pieces.new (I.left input.new))) }
+        (prepend_known pieces.old (I.left input.old))
+        (prepend_known pieces.new (I.left input.new))) }
     ensures text { IfOk result (λ head. HasText head.settings
-        (prepend_known pieces.old (I.left input.old)) (prepend_known pieces.new (I.left input.new))) }
+        (prepend_known pieces.old (I.left input.old))
+        (prepend_known pieces.new (I.left input.new))) }
     ensures valid { IfOk result (λ head. IsValid head.settings) }
     ensures few_lines { IfOk result (λ head. head.lines ≤ 1048577) }
     ensures fault { IfErr result (λ fault. Refuses settings_part
@@ -59,9 +61,11 @@ fn read_text<I: Source>(
     input: &mut I,
 ) -> Result<PartText, HeadFault>
     ensures text { IfOk result (λ text. Leads settings_part (whole_text text.whole text.lines)
-        (prepend_known pieces.old (I.left input.old)) (prepend_known pieces.new (I.left input.new))) }
+        (prepend_known pieces.old (I.left input.old))
+        (prepend_known pieces.new (I.left input.new))) }
     ensures taken { IfOk result (λ text. prepend_known pieces.old (I.left input.old)
-        ≡ prepend_known (text.whole ++ codes "----\n") (prepend_known pieces.new (I.left input.new))) }
+        ≡ prepend_known (text.whole ++ codes "----\n")
+        (prepend_known pieces.new (I.left input.new))) }
     ensures few_lines { IfOk result (λ text. text.lines ≤ 1048576) }
     ensures fault { IfErr result (λ fault. Refuses settings_part
         (prepend_known pieces.old (I.left input.old)) (prepend_known pieces.new (I.left input.new))

@@ -34,9 +34,11 @@ pub fn law_not_asking()
 pub fn law_asks_by_members()
     ensures { (s : Settings) (me : ℕ) (log : List Line) (mask : Mask)
         → length s.nodes ≤ 32
-        → ((rank : ℕ) → rank < 32 → is_member mask rank ≡ (is_asking s log && is_asked s me log rank))
+        → ((rank : ℕ) → rank < 32
+        → is_member mask rank ≡ (is_asking s log && is_asked s me log rank))
         → asks s me log ≡ option_map_or
-        (λ present. map (ask_to me log present) (filter (is_member mask) (range_with_len 0 (length s.nodes)))) (view log) [] }
+        (λ present. map (ask_to me log present)
+        (filter (is_member mask) (range_with_len 0 (length s.nodes)))) (view log) [] }
 {}
 
 /// No more views are installed than there are entries.

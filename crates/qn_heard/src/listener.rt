@@ -66,14 +66,16 @@ impl Heard {
     /// How many views were installed.
     pub fn installs(&self) -> u64
         ensures value { result ≡ installs_of self.now }
-        ensures exact { (s : Settings) (me : ℕ) (log : List Line) → HeardFor self.now s me log → result ≡ install log }
+        ensures exact { (s : Settings) (me : ℕ) (log : List Line) → HeardFor self.now s me log
+            → result ≡ install log }
     {
         self.installs
     }
 
     /// The present view: the last that was installed.
     pub fn view(&self) -> Option<View>
-        ensures { (s : Settings) (me : ℕ) (log : List Line) → HeardFor self.now s me log → result ≡ view log }
+        ensures { (s : Settings) (me : ℕ) (log : List Line) → HeardFor self.now s me log
+            → result ≡ view log }
     {
         self.view
     }
@@ -110,7 +112,8 @@ impl Heard {
             → now log ≡ tick
             → is_up (phase s log) ≡ true
             → released ≡ is_released s log
-            → (rank : ℕ) → rank < 32 → is_member result rank ≡ (is_asking s log && is_asked s me log rank) }
+            → (rank : ℕ) → rank < 32
+            → is_member result rank ≡ (is_asking s log && is_asked s me log rank) }
     {
         match self.next_ask {
             Some(due) if due <= tick => {
@@ -142,7 +145,8 @@ impl Heard {
     /// What a member said since the last view.
     pub fn state(&self, j: Rank) -> Heardness
         requires { j.0 < 32 }
-        ensures { (s : Settings) (me : ℕ) (log : List Line) → HeardFor self.now s me log → result ≡ heardness log j.0 }
+        ensures { (s : Settings) (me : ℕ) (log : List Line) → HeardFor self.now s me log
+            → result ≡ heardness log j.0 }
     {
         if self.free.contains(j) {
             Heardness::Free
@@ -186,7 +190,8 @@ impl Heard {
         ensures { (s : Settings) (me : ℕ) (log : List Line) (line : Line)
             → HeardFor self.now s me (line ∷ log)
             → claim_of (disk_of line.outs) ≡ None
-            → asks_sent to result ≡ option_map (λ present. ask_to me (line ∷ log) present to.0) (view (line ∷ log)) }
+            → asks_sent to result
+            ≡ option_map (λ present. ask_to me (line ∷ log) present to.0) (view (line ∷ log)) }
     {
         let view = self.view?;
         Some(Ask {
@@ -204,7 +209,8 @@ impl Heard {
     pub fn reply(&self, ask: &Ask, holds: bool, released: bool) -> Option<Tell>
         ensures given { (s : Settings) (me : ℕ) (log : List Line)
             → HeardFor self.now s me log
-            → is_some result ≡ (is_present log ask.now.view && is_member ask.now.view.members ask.now.from.0) }
+            → is_some result
+            ≡ (is_present log ask.now.view && is_member ask.now.view.members ask.now.from.0) }
         ensures exact { (s : Settings) (me : ℕ) (log : List Line)
             → HeardFor self.now s me log
             → released ≡ is_released s log
@@ -227,7 +233,8 @@ impl Heard {
     /// An equal listener: it stands for each log that this one stands for.
     pub fn copy(&self) -> Self
         ensures equal { result ≡ self.now }
-        ensures stands { (s : Settings) (me : ℕ) (log : List Line) → HeardFor self.now s me log → HeardFor result s me log }
+        ensures stands { (s : Settings) (me : ℕ) (log : List Line) → HeardFor self.now s me log
+            → HeardFor result s me log }
     {
         Heard {
             me: self.me,
@@ -243,7 +250,8 @@ impl Heard {
 
     /// Whether a Tell answers the present incarnation, install number and view.
     fn answers(&self, tell: &Tell) -> bool
-        ensures { (me : ℕ) (log : List Line) → Hears self.now me log → result ≡ answers log tell.now }
+        ensures { (me : ℕ) (log : List Line) → Hears self.now me log
+            → result ≡ answers log tell.now }
     {
         self.incarnation == tell.incarnation
             && self.installs == tell.install
@@ -252,7 +260,8 @@ impl Heard {
 
     /// Whether a view is the present one.
     fn is_present(&self, asked: View) -> bool
-        ensures { (me : ℕ) (log : List Line) → Hears self.now me log → result ≡ is_present log asked }
+        ensures { (me : ℕ) (log : List Line) → Hears self.now me log
+            → result ≡ is_present log asked }
     {
         match self.view {
             Some(own) => own.id == asked.id && own.members.0 == asked.members.0,
@@ -264,9 +273,12 @@ impl Heard {
     fn hear(&mut self, tell: &Tell, answers: bool)
         ensures rest { self.new ≡ record self.old { told = self.new.told; free = self.new.free } }
         ensures told { (j : ℕ) → j < 32
-            → is_member self.new.told j ≡ ((tell.now.from.0 == j && answers) || is_member self.old.told j) }
+            → is_member self.new.told j
+            ≡ ((tell.now.from.0 == j && answers) || is_member self.old.told j) }
         ensures free { (j : ℕ) → j < 32
-            → is_member self.new.free j ≡ ((tell.now.from.0 == j && answers && not tell.now.holds) || is_member self.old.free j) }
+            → is_member self.new.free j
+            ≡ ((tell.now.from.0 == j && answers && not tell.now.holds)
+            || is_member self.old.free j) }
     {
         if answers {
             self.told = self.told.with(tell.from);
@@ -280,7 +292,8 @@ impl Heard {
     fn others(&self) -> Mask
         ensures { (me : ℕ) (log : List Line)
             → Hears self.now me log
-            → (rank : ℕ) → rank < 32 → is_member result rank ≡ (is_in_view log rank && not (rank == me)) }
+            → (rank : ℕ) → rank < 32
+            → is_member result rank ≡ (is_in_view log rank && not (rank == me)) }
     {
         match self.view {
             Some(view) => view.members.without(Mask(0).with(self.me)),
@@ -293,7 +306,9 @@ impl Heard {
         ensures { (me : ℕ) (log : List Line)
             → Hears self.now me log
             → (rank : ℕ) → rank < 32
-            → is_member result rank ≡ (is_in_view log rank && not (rank == me) && (not released || not (is_free log rank))) }
+            → is_member result rank
+            ≡ (is_in_view log rank && not (rank == me)
+            && (not released || not (is_free log rank))) }
     {
         if released {
             self.others().without(self.free)

@@ -25,10 +25,12 @@ use qn_sector::{law_read_back, law_read_header_1};
 /// Law: with safe times the calls of a creation are its writes, in order, up to the first that fails,
 /// and no other; with times that are not safe it makes no call.
 pub fn law_creation_writes()
-    ensures safe { (nodes : List NodeEntry) (timing : Timing) (calls : List Call) (result : Result (Unit {0}) ImageFault)
+    ensures safe { (nodes : List NodeEntry) (timing : Timing) (calls : List Call)
+        (result : Result (Unit {0}) ImageFault)
         → Follows (create_plan nodes timing) calls result → is_safe timing ≡ true
         → IsTried (create_writes nodes timing) calls result }
-    ensures unsafe_timing { (nodes : List NodeEntry) (timing : Timing) (calls : List Call) (result : Result (Unit {0}) ImageFault)
+    ensures unsafe_timing { (nodes : List NodeEntry) (timing : Timing) (calls : List Call)
+        (result : Result (Unit {0}) ImageFault)
         → Follows (create_plan nodes timing) calls result → is_safe timing ≡ false
         → (calls ≡ []) × (result ≡ Err UnsafeTiming) }
 {}
@@ -45,25 +47,33 @@ pub fn law_stopped_creation()
 pub fn law_created_image()
     ensures header { (nodes : List NodeEntry) (timing : Timing) (image : ℕ → List ℕ)
         → written (create_writes nodes timing) image 0 ≡ header_bytes (length nodes) timing }
-    ensures slots { (nodes : List NodeEntry) (timing : Timing) (image : ℕ → List ℕ) (rank : ℕ) (node : NodeEntry)
+    ensures slots { (nodes : List NodeEntry) (timing : Timing) (image : ℕ → List ℕ) (rank : ℕ)
+        (node : NodeEntry)
         → length nodes ≤ 32 → slice_get nodes rank ≡ Some node
-        → written (create_writes nodes timing) image (slot_place rank) ≡ slot_bytes node.id.0 fresh_slot }
+        → written (create_writes nodes timing) image (slot_place rank)
+        ≡ slot_bytes node.id.0 fresh_slot }
     ensures mailboxes { (nodes : List NodeEntry) (timing : Timing) (image : ℕ → List ℕ) (rank : ℕ)
         → length nodes ≤ 32 → rank < length nodes
-        → written (create_writes nodes timing) image (mail_place rank) ≡ mail_bytes (anonymous Empty) }
+        → written (create_writes nodes timing) image (mail_place rank)
+        ≡ mail_bytes (anonymous Empty) }
     ensures others { (nodes : List NodeEntry) (timing : Timing) (image : ℕ → List ℕ) (sector : ℕ)
-        → sector ≢ 0 → ((rank : ℕ) → rank < length nodes → (sector ≢ slot_place rank) × (sector ≢ mail_place rank))
+        → sector ≢ 0
+        → ((rank : ℕ) → rank < length nodes
+        → (sector ≢ slot_place rank) × (sector ≢ mail_place rank))
         → written (create_writes nodes timing) image sector ≡ image sector }
 {}
 
 /// Law: each fault of an image has its cause in what was read, and comes wherever that was read.
 pub fn law_image_faults()
     ensures not_image { (bytes : List ℕ)
-        → Follows header_plan (Read 0 bytes true ∷ []) (Err NotImage) ↔ (any_header_of bytes ≡ None) }
+        → Follows header_plan (Read 0 bytes true ∷ []) (Err NotImage)
+        ↔ (any_header_of bytes ≡ None) }
     ensures damaged_slot { (version rank : ℕ) (bytes : List ℕ)
-        → Follows (line_plan version rank) (Read (slot_place rank) bytes true ∷ []) (Err (DamagedSector (slot_place rank)))
+        → Follows (line_plan version rank) (Read (slot_place rank) bytes true ∷ [])
+        (Err (DamagedSector (slot_place rank)))
         ↔ (slot_of bytes ≡ None) }
-    ensures damaged_mailbox { (version rank : ℕ) (slot mail : List ℕ) (found : NodeId × Slot) → slot_of slot ≡ Some found
+    ensures damaged_mailbox { (version rank : ℕ) (slot mail : List ℕ) (found : NodeId × Slot)
+        → slot_of slot ≡ Some found
         → Follows (line_plan version rank)
         (Read (slot_place rank) slot true ∷ Read (mailbox_place version rank) mail true ∷ [])
         (Err (DamagedSector (mailbox_place version rank)))
@@ -76,7 +86,8 @@ pub fn law_image_faults()
 /// a deadly message or was none.
 pub fn law_kept_messages()
     ensures deadly_there { (rank : ℕ) (message held : Message) (calls : List Call)
-        → Follows (send_plan rank message) calls (Err (DeadlyThere held)) ↔ FoundDeadly rank message held calls }
+        → Follows (send_plan rank message) calls (Err (DeadlyThere held))
+        ↔ FoundDeadly rank message held calls }
     ensures no_mailbox { (rank : ℕ) (message : Message) (calls : List Call)
         → Follows (send_plan rank message) calls (Err (DamagedSector (mail_place rank)))
         ↔ FoundNoMailbox rank message calls }
@@ -85,25 +96,34 @@ pub fn law_kept_messages()
 /// Law: on an image of version 2 a migration reads the header alone; on one of version 1 it ends with a sector that is
 /// no mailbox exactly where it read one, after the mailboxes of the lower ranks and before any write.
 pub fn law_migration()
-    ensures version_2 { (header : List ℕ) (nodes : ℕ) (timing : Timing) (calls : List Call) (result : Result ℕ ImageFault)
-        → Follows migrate_plan (Read 0 header true ∷ calls) result → any_header_of header ≡ Some (2, nodes, timing)
+    ensures version_2 { (header : List ℕ) (nodes : ℕ) (timing : Timing) (calls : List Call)
+        (result : Result ℕ ImageFault)
+        → Follows migrate_plan (Read 0 header true ∷ calls) result
+        → any_header_of header ≡ Some (2, nodes, timing)
         → (calls ≡ []) × (result ≡ Ok nodes) }
     ensures damaged { (rank : ℕ) (calls : List Call)
-        → Follows migrate_plan calls (Err (DamagedSector (mail_place_1 rank))) ↔ FoundDamaged rank calls }
+        → Follows migrate_plan calls (Err (DamagedSector (mail_place_1 rank)))
+        ↔ FoundDamaged rank calls }
 {}
 
 /// Law: stopped after any number of its writes, a migration leaves an image of version 1 with the same messages or,
 /// after its last write, one of version 2 with them; the slots stay as they are.
 pub fn law_stopped_migration()
-    ensures before_the_last { (nodes : ℕ) (timing : Timing) (messages : List Message) (image : ℕ → List ℕ) (done : ℕ)
+    ensures before_the_last { (nodes : ℕ) (timing : Timing) (messages : List Message)
+        (image : ℕ → List ℕ) (done : ℕ)
         → IsImage 1 nodes timing messages image → done ≤ nodes
-        → IsImage 1 nodes timing messages (λ s. written (take done (migrate_writes nodes timing messages)) image s) }
-    ensures after_the_last { (nodes : ℕ) (timing : Timing) (messages : List Message) (image : ℕ → List ℕ)
+        → IsImage 1 nodes timing messages
+        (λ s. written (take done (migrate_writes nodes timing messages)) image s) }
+    ensures after_the_last { (nodes : ℕ) (timing : Timing) (messages : List Message)
+        (image : ℕ → List ℕ)
         → IsImage 1 nodes timing messages image
-        → IsImage 2 nodes timing messages (λ s. written (migrate_writes nodes timing messages) image s) }
-    ensures slots { (nodes : ℕ) (timing : Timing) (messages : List Message) (image : ℕ → List ℕ) (done rank : ℕ)
+        → IsImage 2 nodes timing messages
+        (λ s. written (migrate_writes nodes timing messages) image s) }
+    ensures slots { (nodes : ℕ) (timing : Timing) (messages : List Message) (image : ℕ → List ℕ)
+        (done rank : ℕ)
         → rank < 32
-        → written (take done (migrate_writes nodes timing messages)) image (slot_place rank) ≡ image (slot_place rank) }
+        → written (take done (migrate_writes nodes timing messages)) image (slot_place rank)
+        ≡ image (slot_place rank) }
 {
     law_read_back();
     law_read_header_1();

@@ -50,9 +50,11 @@ fn convert<E: Env>(env: &mut E, nodes: u32, timing: &Timing) -> Result<(), Image
 /// The messages of the mailboxes of version 1.
 fn read_messages<E: Env>(env: &mut E, nodes: u32) -> Result<Messages, ImageFault>
     requires { nodes ≤ 32 }
-    ensures read { IfOk result (λ messages. Did (E.faults env.old) (E.faults env.new) (E.calls env.old) (E.calls env.new)
+    ensures read { IfOk result
+        (λ messages. Did (E.faults env.old) (E.faults env.new) (E.calls env.old) (E.calls env.new)
         (mailboxes_plan [] nodes) (Ok messages.items)) }
-    ensures stopped { IfErr result (λ fault. Did (E.faults env.old) (E.faults env.new) (E.calls env.old) (E.calls env.new)
+    ensures stopped { IfErr result
+        (λ fault. Did (E.faults env.old) (E.faults env.new) (E.calls env.old) (E.calls env.new)
         (mailboxes_plan [] nodes) (Err fault)) }
 {
     let mut messages = Messages::new();

@@ -10,7 +10,8 @@ pub(crate) const TRIES: u32 = 1000;
 /// Reads once, again after each interruption.
 pub(crate) fn read_again<R: Read>(reader: &mut R, into: &mut [u8]) -> io::Result<usize>
     ensures within { IfOk result (λ n. n ≤ length into.new) }
-    ensures consumes { ReadConsumes (R.remaining reader.old) (R.remaining reader.new) result into.new }
+    ensures consumes { ReadConsumes (R.remaining reader.old)
+        (R.remaining reader.new) result into.new }
 {
     'tries: for _ in 0..TRIES {
         match reader.read(into) {

@@ -88,7 +88,8 @@ fn closed() -> io::Error {
 
 /// Reads the answer, which is success only where it is the line `ok`.
 fn read_answer<R: Read>(reader: &mut R) -> io::Result<()>
-    ensures { OnOk result (Consumes (R.remaining reader.old) (R.remaining reader.new) (codes "ok\n")) }
+    ensures { OnOk result
+        (Consumes (R.remaining reader.old) (R.remaining reader.new) (codes "ok\n")) }
 {
     let mut answer = [0; 3];
     reader.read_exact(&mut answer)?;

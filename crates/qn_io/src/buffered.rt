@@ -78,7 +78,8 @@ impl Pieces {
 
     /// The next byte of the input, after a read of the source where no byte is left of the last piece.
     pub fn next<I: Source>(&mut self, source: &mut I) -> Next
-        ensures gives { Gives result (prepend_known self.old (I.left source.old)) (prepend_known self.new (I.left source.new)) }
+        ensures gives { Gives result (prepend_known self.old (I.left source.old))
+            (prepend_known self.new (I.left source.new)) }
         ensures drained { IsDrained result self.new }
         ensures within { length self.new ≤ PIECE }
         ensures never_falls { I.faults source.old ≤ I.faults source.new }
@@ -113,7 +114,8 @@ impl Pieces {
     /// How many bytes the first line has that waits whole, without its `\n`, or none.
     pub(crate) fn first_line(&self) -> Option<usize>
         ensures inside { IfSome result (λ count. count < length self.now) }
-        ensures line { IfSome result (λ count. self.now ≡ take count self.now ++ 10 ∷ drop (count + 1) self.now) }
+        ensures line { IfSome result
+            (λ count. self.now ≡ take count self.now ++ 10 ∷ drop (count + 1) self.now) }
         ensures unended { IfSome result (λ count. HasNoLineFeed (take count self.now)) }
         ensures none { IfNone result (HasNoLineFeed self.now) }
         ensures within { length self.now ≤ PIECE }
@@ -163,7 +165,8 @@ impl Pieces {
         ensures reads { Refills result self.new (I.left source.old) (I.left source.new) }
         ensures within { length self.new ≤ PIECE }
         ensures never_falls { I.faults source.old ≤ I.faults source.new }
-        ensures cause { OnFailedRefill result (HasRisen (I.faults source.old) (I.faults source.new)) }
+        ensures cause { OnFailedRefill result
+            (HasRisen (I.faults source.old) (I.faults source.new)) }
     {
         self.from = 0;
         self.to = 0;

@@ -57,7 +57,8 @@ pub trait Env {
 
     /// Opens an image for reading and writing.
     fn open_image(&mut self, path: &str) -> Result<(), Failed>
-        ensures { Made (faults self.old) (faults self.new) (calls self.old) (calls self.new) (OpenImage path.now (is_ok result) ∷ []) };
+        ensures { Made (faults self.old) (faults self.new) (calls self.old) (calls self.new)
+            (OpenImage path.now (is_ok result) ∷ []) };
 
     /// Opens all that a running node uses.
     fn open_node(&mut self, opening: &Opening<'_>) -> Result<(), Failed>
@@ -66,47 +67,60 @@ pub trait Env {
 
     /// The time in milliseconds, from any start.
     fn now(&mut self) -> u64
-        ensures { Made (faults self.old) (faults self.new) (calls self.old) (calls self.new) (Now result ∷ []) };
+        ensures { Made (faults self.old) (faults self.new) (calls self.old) (calls self.new)
+            (Now result ∷ []) };
 
     /// Takes a packet that came, if one does within a short while, and puts it at the beginning of
     /// `packet`. Of a longer packet the first 129 bytes are taken.
     fn receive(&mut self, packet: &mut [u8; PACKET]) -> Got
         ensures within { FitsPacket result }
-        ensures made { Made (faults self.old) (faults self.new) (calls self.old) (calls self.new) (Receive (received result packet.new) ∷ []) };
+        ensures made { Made (faults self.old) (faults self.new) (calls self.old) (calls self.new)
+            (Receive (received result packet.new) ∷ []) };
 
     /// Reads a sector of the image.
     fn read(&mut self, sector: u32, into: &mut [u8; SECTOR]) -> Result<(), Failed>
         requires { sector < 3072 }
-        ensures ok { OnOk result (Made (faults self.old) (faults self.new) (calls self.old) (calls self.new) (Read sector into.new true ∷ [])) }
-        ensures failed { OnErr result (Made (faults self.old) (faults self.new) (calls self.old) (calls self.new) (Read sector [] false ∷ [])) };
+        ensures ok { OnOk result
+            (Made (faults self.old) (faults self.new) (calls self.old) (calls self.new)
+            (Read sector into.new true ∷ [])) }
+        ensures failed { OnErr result
+            (Made (faults self.old) (faults self.new) (calls self.old) (calls self.new)
+            (Read sector [] false ∷ [])) };
 
     /// Writes a sector of the image. At `Ok` the bytes last.
     fn write(&mut self, sector: u32, from: &[u8; SECTOR]) -> Result<(), Failed>
         requires { sector < 3072 }
-        ensures { Made (faults self.old) (faults self.new) (calls self.old) (calls self.new) (Write sector from.now (is_ok result) ∷ []) };
+        ensures { Made (faults self.old) (faults self.new) (calls self.old) (calls self.new)
+            (Write sector from.now (is_ok result) ∷ []) };
 
     /// Feeds the watchdog.
     fn feed(&mut self) -> Result<(), Failed>
-        ensures { Made (faults self.old) (faults self.new) (calls self.old) (calls self.new) (Feed (is_ok result) ∷ []) };
+        ensures { Made (faults self.old) (faults self.new) (calls self.old) (calls self.new)
+            (Feed (is_ok result) ∷ []) };
 
     /// Starts the resource.
     fn start(&mut self) -> Result<(), Failed>
-        ensures { Made (faults self.old) (faults self.new) (calls self.old) (calls self.new) (Start (is_ok result) ∷ []) };
+        ensures { Made (faults self.old) (faults self.new) (calls self.old) (calls self.new)
+            (Start (is_ok result) ∷ []) };
 
     /// Stops the resource.
     fn stop(&mut self) -> Result<(), Failed>
-        ensures { Made (faults self.old) (faults self.new) (calls self.old) (calls self.new) (Stop (is_ok result) ∷ []) };
+        ensures { Made (faults self.old) (faults self.new) (calls self.old) (calls self.new)
+            (Stop (is_ok result) ∷ []) };
 
     /// Sends a packet to the node of that rank.
     fn send(&mut self, to: Rank, bytes: &[u8]) -> Result<(), Failed>
         requires { length bytes.now ≤ 128 }
-        ensures { Made (faults self.old) (faults self.new) (calls self.old) (calls self.new) (Send to bytes.now (is_ok result) ∷ []) };
+        ensures { Made (faults self.old) (faults self.new) (calls self.old) (calls self.new)
+            (Send to bytes.now (is_ok result) ∷ []) };
 
     /// Disarms the watchdog.
     fn disarm(&mut self) -> Result<(), Failed>
-        ensures { Made (faults self.old) (faults self.new) (calls self.old) (calls self.new) (Disarm (is_ok result) ∷ []) };
+        ensures { Made (faults self.old) (faults self.new) (calls self.old) (calls self.new)
+            (Disarm (is_ok result) ∷ []) };
 
     /// Ends the node with that code.
     fn halt(&mut self, code: u8)
-        ensures { Made (faults self.old) (faults self.new) (calls self.old) (calls self.new) (Halt code ∷ []) };
+        ensures { Made (faults self.old) (faults self.new) (calls self.old) (calls self.new)
+            (Halt code ∷ []) };
 }

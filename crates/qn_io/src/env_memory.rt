@@ -67,7 +67,8 @@ impl MemEnv {
     /// The calls so far with their answers, where they are told: exactly while at most `room` calls
     /// were made and no path was above 256 bytes.
     pub fn calls(&self) -> Option<&[Call]>
-        ensures { MatchOption result (self.now.telling.calls ≡ None) (λ calls. self.now.telling.calls ≡ Some calls.now) }
+        ensures { MatchOption result (self.now.telling.calls ≡ None)
+            (λ calls. self.now.telling.calls ≡ Some calls.now) }
     {
         self.told.calls()
     }
@@ -88,9 +89,11 @@ impl Env for MemEnv {
     ghost calls = { λ e. e.telling.calls };
 
     fn open_image(&mut self, path: &str) -> Result<(), Failed>
-        ensures made { Made self.old.counts.faults self.new.counts.faults self.old.telling.calls self.new.telling.calls (OpenImage path.now (is_ok result) ∷ []) }
+        ensures made { Made self.old.counts.faults self.new.counts.faults self.old.telling.calls
+            self.new.telling.calls (OpenImage path.now (is_ok result) ∷ []) }
         ensures by_number { IsErr result ↔ Contains self.old.counts.fails self.new.counts.made }
-        ensures after { self.new ≡ after_call self.old (is_ok result) (OpenImage path.now (is_ok result)) }
+        ensures after { self.new
+            ≡ after_call self.old (is_ok result) (OpenImage path.now (is_ok result)) }
     {
         let done = self.failures.done();
         self.told.add_open_image(path, done.is_ok());
@@ -98,9 +101,11 @@ impl Env for MemEnv {
     }
 
     fn open_node(&mut self, opening: &Opening<'_>) -> Result<(), Failed>
-        ensures made { Made self.old.counts.faults self.new.counts.faults self.old.telling.calls self.new.telling.calls (node_opening opening.now (is_ok result) ∷ []) }
+        ensures made { Made self.old.counts.faults self.new.counts.faults self.old.telling.calls
+            self.new.telling.calls (node_opening opening.now (is_ok result) ∷ []) }
         ensures by_number { IsErr result ↔ Contains self.old.counts.fails self.new.counts.made }
-        ensures after { self.new ≡ after_call self.old (is_ok result) (node_opening opening.now (is_ok result)) }
+        ensures after { self.new
+            ≡ after_call self.old (is_ok result) (node_opening opening.now (is_ok result)) }
     {
         let done = self.failures.done();
         self.told.add_open_node(opening, done.is_ok());
@@ -108,9 +113,12 @@ impl Env for MemEnv {
     }
 
     fn now(&mut self) -> u64
-        ensures made { Made self.old.counts.faults self.new.counts.faults self.old.telling.calls self.new.telling.calls (Now result ∷ []) }
+        ensures made { Made self.old.counts.faults self.new.counts.faults self.old.telling.calls
+            self.new.telling.calls (Now result ∷ []) }
         ensures in_order { result ≡ (next_tick self.old.ticks.left self.old.ticks.last).last }
-        ensures after { self.new ≡ record self.old { ticks = next_tick self.old.ticks.left self.old.ticks.last; telling = telling_after self.old.telling (Now result) } }
+        ensures after { self.new
+            ≡ record self.old { ticks = next_tick self.old.ticks.left self.old.ticks.last;
+            telling = telling_after self.old.telling (Now result) } }
     {
         let tick = self.ticks.next();
         self.told.add(Call::Now { tick });
@@ -119,11 +127,17 @@ impl Env for MemEnv {
 
     fn receive(&mut self, packet: &mut [u8; PACKET]) -> Got
         ensures within { FitsPacket result }
-        ensures made { Made self.old.counts.faults self.new.counts.faults self.old.telling.calls self.new.telling.calls (Receive (received result packet.new) ∷ []) }
-        ensures by_number { (result ≡ Got.Failed) ↔ Contains self.old.counts.fails self.new.counts.made }
-        ensures in_order { result ≢ Got.Failed → received result packet.new ≡ first_packet self.old.packets }
-        ensures after { result ≢ Got.Failed → self.new ≡ record (after_call self.old true (Receive (received result packet.new))) { packets = drop 1 self.old.packets } }
-        ensures after_failed { result ≡ Got.Failed → self.new ≡ after_call self.old false (Receive told.Failed) }
+        ensures made { Made self.old.counts.faults self.new.counts.faults self.old.telling.calls
+            self.new.telling.calls (Receive (received result packet.new) ∷ []) }
+        ensures by_number { (result ≡ Got.Failed)
+            ↔ Contains self.old.counts.fails self.new.counts.made }
+        ensures in_order { result ≢ Got.Failed
+            → received result packet.new ≡ first_packet self.old.packets }
+        ensures after { result ≢ Got.Failed
+            → self.new ≡ record (after_call self.old true
+            (Receive (received result packet.new))) { packets = drop 1 self.old.packets } }
+        ensures after_failed { result ≡ Got.Failed
+            → self.new ≡ after_call self.old false (Receive told.Failed) }
     {
         match self.failures.done() {
             Ok(()) => {
@@ -144,12 +158,18 @@ impl Env for MemEnv {
 
     fn read(&mut self, sector: u32, into: &mut [u8; SECTOR]) -> Result<(), Failed>
         requires { sector < 3072 }
-        ensures ok { OnOk result (Made self.old.counts.faults self.new.counts.faults self.old.telling.calls self.new.telling.calls (Read sector into.new true ∷ [])) }
-        ensures failed { OnErr result (Made self.old.counts.faults self.new.counts.faults self.old.telling.calls self.new.telling.calls (Read sector [] false ∷ [])) }
+        ensures ok { OnOk result
+            (Made self.old.counts.faults self.new.counts.faults self.old.telling.calls
+            self.new.telling.calls (Read sector into.new true ∷ [])) }
+        ensures failed { OnErr result
+            (Made self.old.counts.faults self.new.counts.faults self.old.telling.calls
+            self.new.telling.calls (Read sector [] false ∷ [])) }
         ensures by_number { IsErr result ↔ Contains self.old.counts.fails self.new.counts.made }
         ensures holds { OnOk result (slice_get self.old.sectors sector ≡ Some into.new) }
-        ensures after_ok { OnOk result (self.new ≡ after_call self.old true (Read sector into.new true)) }
-        ensures after_failed { OnErr result (self.new ≡ after_call self.old false (Read sector [] false)) }
+        ensures after_ok { OnOk result
+            (self.new ≡ after_call self.old true (Read sector into.new true)) }
+        ensures after_failed { OnErr result
+            (self.new ≡ after_call self.old false (Read sector [] false)) }
     {
         match self.failures.done() {
             Ok(()) => {
@@ -174,10 +194,14 @@ impl Env for MemEnv {
 
     fn write(&mut self, sector: u32, from: &[u8; SECTOR]) -> Result<(), Failed>
         requires { sector < 3072 }
-        ensures made { Made self.old.counts.faults self.new.counts.faults self.old.telling.calls self.new.telling.calls (Write sector from.now (is_ok result) ∷ []) }
+        ensures made { Made self.old.counts.faults self.new.counts.faults self.old.telling.calls
+            self.new.telling.calls (Write sector from.now (is_ok result) ∷ []) }
         ensures by_number { IsErr result ↔ Contains self.old.counts.fails self.new.counts.made }
-        ensures after_ok { OnOk result (self.new ≡ record (after_call self.old true (Write sector from.now true)) { sectors = slice_set self.old.sectors sector from.now }) }
-        ensures after_failed { OnErr result (self.new ≡ after_call self.old false (Write sector from.now false)) }
+        ensures after_ok { OnOk result
+            (self.new ≡ record (after_call self.old true (Write sector from.now true))
+            { sectors = slice_set self.old.sectors sector from.now }) }
+        ensures after_failed { OnErr result
+            (self.new ≡ after_call self.old false (Write sector from.now false)) }
     {
         let done = self.failures.done();
         self.told.add(Call::Write {
@@ -191,7 +215,8 @@ impl Env for MemEnv {
     }
 
     fn feed(&mut self) -> Result<(), Failed>
-        ensures made { Made self.old.counts.faults self.new.counts.faults self.old.telling.calls self.new.telling.calls (Feed (is_ok result) ∷ []) }
+        ensures made { Made self.old.counts.faults self.new.counts.faults self.old.telling.calls
+            self.new.telling.calls (Feed (is_ok result) ∷ []) }
         ensures by_number { IsErr result ↔ Contains self.old.counts.fails self.new.counts.made }
         ensures after { self.new ≡ after_call self.old (is_ok result) (Feed (is_ok result)) }
     {
@@ -201,7 +226,8 @@ impl Env for MemEnv {
     }
 
     fn start(&mut self) -> Result<(), Failed>
-        ensures made { Made self.old.counts.faults self.new.counts.faults self.old.telling.calls self.new.telling.calls (Start (is_ok result) ∷ []) }
+        ensures made { Made self.old.counts.faults self.new.counts.faults self.old.telling.calls
+            self.new.telling.calls (Start (is_ok result) ∷ []) }
         ensures by_number { IsErr result ↔ Contains self.old.counts.fails self.new.counts.made }
         ensures after { self.new ≡ after_call self.old (is_ok result) (Start (is_ok result)) }
     {
@@ -211,7 +237,8 @@ impl Env for MemEnv {
     }
 
     fn stop(&mut self) -> Result<(), Failed>
-        ensures made { Made self.old.counts.faults self.new.counts.faults self.old.telling.calls self.new.telling.calls (Stop (is_ok result) ∷ []) }
+        ensures made { Made self.old.counts.faults self.new.counts.faults self.old.telling.calls
+            self.new.telling.calls (Stop (is_ok result) ∷ []) }
         ensures by_number { IsErr result ↔ Contains self.old.counts.fails self.new.counts.made }
         ensures after { self.new ≡ after_call self.old (is_ok result) (Stop (is_ok result)) }
     {
@@ -222,9 +249,11 @@ impl Env for MemEnv {
 
     fn send(&mut self, to: Rank, bytes: &[u8]) -> Result<(), Failed>
         requires { length bytes.now ≤ 128 }
-        ensures made { Made self.old.counts.faults self.new.counts.faults self.old.telling.calls self.new.telling.calls (Send to bytes.now (is_ok result) ∷ []) }
+        ensures made { Made self.old.counts.faults self.new.counts.faults self.old.telling.calls
+            self.new.telling.calls (Send to bytes.now (is_ok result) ∷ []) }
         ensures by_number { IsErr result ↔ Contains self.old.counts.fails self.new.counts.made }
-        ensures after { self.new ≡ after_call self.old (is_ok result) (Send to bytes.now (is_ok result)) }
+        ensures after { self.new
+            ≡ after_call self.old (is_ok result) (Send to bytes.now (is_ok result)) }
     {
         let done = self.failures.done();
         self.told.add(Call::Send {
@@ -236,7 +265,8 @@ impl Env for MemEnv {
     }
 
     fn disarm(&mut self) -> Result<(), Failed>
-        ensures made { Made self.old.counts.faults self.new.counts.faults self.old.telling.calls self.new.telling.calls (Disarm (is_ok result) ∷ []) }
+        ensures made { Made self.old.counts.faults self.new.counts.faults self.old.telling.calls
+            self.new.telling.calls (Disarm (is_ok result) ∷ []) }
         ensures by_number { IsErr result ↔ Contains self.old.counts.fails self.new.counts.made }
         ensures after { self.new ≡ after_call self.old (is_ok result) (Disarm (is_ok result)) }
     {
@@ -246,8 +276,10 @@ impl Env for MemEnv {
     }
 
     fn halt(&mut self, code: u8)
-        ensures made { Made self.old.counts.faults self.new.counts.faults self.old.telling.calls self.new.telling.calls (Halt code ∷ []) }
-        ensures after { self.new ≡ record self.old { telling = telling_after self.old.telling (Halt code) } }
+        ensures made { Made self.old.counts.faults self.new.counts.faults self.old.telling.calls
+            self.new.telling.calls (Halt code ∷ []) }
+        ensures after { self.new
+            ≡ record self.old { telling = telling_after self.old.telling (Halt code) } }
     {
         self.told.add(Call::Halt { code });
     }

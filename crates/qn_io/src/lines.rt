@@ -27,7 +27,8 @@ pub fn read_line<I: Source>(
     input: &mut I,
     line: &mut ArrayVec<u8, LINE>,
 ) -> LineRead
-    ensures reads { ReadsLine result line.new.items (prepend_known pieces.old (I.left input.old)) (prepend_known pieces.new (I.left input.new)) }
+    ensures reads { ReadsLine result line.new.items (prepend_known pieces.old (I.left input.old))
+        (prepend_known pieces.new (I.left input.new)) }
     ensures unended { HasNoLineFeed line.new.items }
     ensures drained { IsDrainedLine result pieces.new }
     ensures within { length pieces.new ≤ PIECE }

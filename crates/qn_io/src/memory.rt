@@ -32,7 +32,9 @@ impl MemSource {
     /// 1, of the reads that fail.
     pub fn new(bytes: Vec<u8>, piece: usize, fails: Vec<u64>) -> MemSource
         requires { 0 < piece }
-        ensures { result ≡ record { left = bytes.items; piece = piece; counts = record { fails = fails.items; made = 0; faults = 0 } } }
+        ensures { result
+            ≡ record { left = bytes.items; piece = piece;
+            counts = record { fails = fails.items; made = 0; faults = 0 } } }
     {
         MemSource {
             bytes,
@@ -52,15 +54,18 @@ impl Source for MemSource {
     /// piece, the buffer and the bytes that are left allow.
     fn read(&mut self, into: &mut [u8]) -> Result<usize, Failed>
         ensures within { IfOk result (λ n. n ≤ length into.new) }
-        ensures takes { IfOk result (λ n. Some self.old.left ≡ prepend_known (take n into.new) (Some self.new.left)) }
-        ensures end { IfOk result (λ n. n ≡ 0 → 0 < length into.new → IsAtEnd (Some self.old.left)) }
+        ensures takes { IfOk result
+            (λ n. Some self.old.left ≡ prepend_known (take n into.new) (Some self.new.left)) }
+        ensures end { IfOk result
+            (λ n. n ≡ 0 → 0 < length into.new → IsAtEnd (Some self.old.left)) }
         ensures kept { OnErr result (Some self.new.left ≡ Some self.old.left) }
         ensures never_falls { self.old.counts.faults ≤ self.new.counts.faults }
         ensures cause { OnErr result (HasRisen self.old.counts.faults self.new.counts.faults) }
 
         ensures by_number { IsErr result ↔ Contains self.old.counts.fails self.new.counts.made }
         ensures counted { self.new.counts ≡ counts_after self.old.counts (is_ok result) }
-        ensures length { IfOk result (λ n. n ≡ min self.old.piece (min (length into.old) (length self.old.left))) }
+        ensures length { IfOk result
+            (λ n. n ≡ min self.old.piece (min (length into.old) (length self.old.left))) }
         ensures piece { self.new.piece ≡ self.old.piece }
     {
         if self.failures.call() {
@@ -94,7 +99,10 @@ impl MemSink {
     /// An output with room for that many bytes, for which memory is taken here. `fails` holds the
     /// numbers, from 1, of the writes that fail.
     pub fn new(alloc: Global, room: usize, fails: Vec<u64>) -> Result<MemSink, NoMemory>
-        ensures { IfOk result (λ sink. sink ≡ record { written = []; room = room; counts = record { fails = fails.items; made = 0; faults = 0 } }) }
+        ensures { IfOk result
+            (λ sink. sink
+            ≡ record { written = []; room = room;
+            counts = record { fails = fails.items; made = 0; faults = 0 } }) }
     {
         let Ok(bytes) = Vec::with_capacity(alloc, room) else {
             return Err(NoMemory);
@@ -124,14 +132,17 @@ impl Sink for MemSink {
     fn write(&mut self, from: &[u8]) -> Result<usize, Failed>
         ensures within { IfOk result (λ n. n ≤ length from.now) }
         ensures some { IfOk result (λ n. 0 < length from.now → 0 < n) }
-        ensures gives { IfOk result (λ n. Some self.new.written ≡ append_known (Some self.old.written) (take n from.now)) }
+        ensures gives { IfOk result
+            (λ n. Some self.new.written ≡ append_known (Some self.old.written) (take n from.now)) }
         ensures kept { OnErr result (Some self.new.written ≡ Some self.old.written) }
         ensures never_falls { self.old.counts.faults ≤ self.new.counts.faults }
         ensures cause { OnErr result (HasRisen self.old.counts.faults self.new.counts.faults) }
 
-        ensures by_number_or_full { IsErr result ↔ (Contains self.old.counts.fails self.new.counts.made ⊎ IsFull self.old from.now) }
+        ensures by_number_or_full { IsErr result
+            ↔ (Contains self.old.counts.fails self.new.counts.made ⊎ IsFull self.old from.now) }
         ensures counted { self.new.counts ≡ counts_after self.old.counts (is_ok result) }
-        ensures length { IfOk result (λ n. n ≡ min (length from.now) (self.old.room - length self.old.written)) }
+        ensures length { IfOk result
+            (λ n. n ≡ min (length from.now) (self.old.room - length self.old.written)) }
         ensures room { self.new.room ≡ self.old.room }
     {
         let fails = self.failures.call();

@@ -33,7 +33,8 @@ pub fn read_next<I: Source>(
     ensures waits { own_count result ≤ length pieces.new }
     ensures within { length pieces.new ≤ PIECE }
     ensures never_falls { I.faults input.old ≤ I.faults input.new }
-    ensures cause { OnFailedLine (read_of result) (HasRisen (I.faults input.old) (I.faults input.new)) }
+    ensures cause { OnFailedLine (read_of result)
+        (HasRisen (I.faults input.old) (I.faults input.new)) }
 {
     match pieces.first_line() {
         Some(count) => NextLine::Waits(count),

@@ -19,7 +19,8 @@ pub trait Source {
     /// no bytes.
     fn read(&mut self, into: &mut [u8]) -> Result<usize, Failed>
         ensures within { IfOk result (λ n. n ≤ length into.new) }
-        ensures takes { IfOk result (λ n. left self.old ≡ prepend_known (take n into.new) (left self.new)) }
+        ensures takes { IfOk result
+            (λ n. left self.old ≡ prepend_known (take n into.new) (left self.new)) }
         ensures end { IfOk result (λ n. n ≡ 0 → 0 < length into.new → IsAtEnd (left self.old)) }
         ensures kept { OnErr result (left self.new ≡ left self.old) }
         ensures never_falls { faults self.old ≤ faults self.new }
@@ -40,7 +41,8 @@ pub trait Sink {
     fn write(&mut self, from: &[u8]) -> Result<usize, Failed>
         ensures within { IfOk result (λ n. n ≤ length from.now) }
         ensures some { IfOk result (λ n. 0 < length from.now → 0 < n) }
-        ensures gives { IfOk result (λ n. written self.new ≡ append_known (written self.old) (take n from.now)) }
+        ensures gives { IfOk result
+            (λ n. written self.new ≡ append_known (written self.old) (take n from.now)) }
         ensures kept { OnErr result (written self.new ≡ written self.old) }
         ensures never_falls { faults self.old ≤ faults self.new }
         ensures cause { OnErr result (HasRisen (faults self.old) (faults self.new)) };

@@ -86,7 +86,8 @@ impl Env for QuietEnv {
     fn write(&mut self, sector: u32, from: &[u8; SECTOR]) -> Result<(), Failed>
         requires { sector < 3072 }
         ensures never_fails { result ≡ Ok tt }
-        ensures after { self.new ≡ record self.old { sectors = slice_set self.old.sectors sector from.now } }
+        ensures after { self.new
+            ≡ record self.old { sectors = slice_set self.old.sectors sector from.now } }
     {
         self.sectors.write(sector, from);
         Ok(())

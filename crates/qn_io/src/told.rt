@@ -101,7 +101,8 @@ impl Told {
 
     /// The calls so far, where they are told.
     pub(crate) fn calls(&self) -> Option<&[Call]>
-        ensures { MatchOption result (self.now.calls ≡ None) (λ calls. self.now.calls ≡ Some calls.now) }
+        ensures { MatchOption result (self.now.calls ≡ None)
+            (λ calls. self.now.calls ≡ Some calls.now) }
     {
         if self.tells {
             Some(self.calls.as_slice())

@@ -23,7 +23,8 @@ use qn_safety::{
 /// device and without last_man_standing, with expected votes of at least those of all nodes and of the device,
 /// and every safe lease. It holds for every timing. The events stand newest first.
 pub fn law_one_lease()
-    ensures { (s : Settings) (t : Timing) (times : Lease) (events : List ArbiterEvent) (i j : ℕ) (left right : View)
+    ensures { (s : Settings) (t : Timing) (times : Lease) (events : List ArbiterEvent) (i j : ℕ)
+        (left right : View)
         → LeasesVote s times
         → AllAllowedBeside s t times events
         → ¬ (i ≡ j)

@@ -65,7 +65,8 @@ fn ask_reset(settings: &Settings, me: Rank, incarnation: u64, rank: Rank, room: 
     requires valid { IsValid settings.now }
     requires configured { me.0 < length settings.now.nodes }
     requires rank { rank.0 < length settings.now.nodes }
-    ensures asked { question_of result room.new ≡ write_mail rank.0 (reset_by settings.now me.0 incarnation) }
+    ensures asked { question_of result room.new
+        ≡ write_mail rank.0 (reset_by settings.now me.0 incarnation) }
     ensures within { IsWithin result }
 {
     let by = Some(Sender {

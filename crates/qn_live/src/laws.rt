@@ -18,7 +18,8 @@ ghost use Rattle.qn_live.specs.Runs.{handled, live_plan};
 
 /// Law: what a node is handed in a run is one history.
 pub fn law_one_history()
-    ensures { (s : Settings) (me : ℕ) (clean : Bool) (leave : Option ℕ) (turns : ℕ) (calls : List Call) (ran : Ran)
+    ensures { (s : Settings) (me : ℕ) (clean : Bool) (leave : Option ℕ) (turns : ℕ)
+        (calls : List Call) (ran : Ran)
         → Follows (live_plan s me clean leave turns) calls ran
         → IsHistory s me ran.log }
 {}
@@ -26,18 +27,21 @@ pub fn law_one_history()
 /// Law: the calls of a run, but for those that receive, look at the clock, or send a Hello or an Announce, are the outputs of
 /// what the node was handed, in order.
 pub fn law_outputs()
-    ensures { (s : Settings) (me : ℕ) (clean : Bool) (leave : Option ℕ) (turns : ℕ) (calls : List Call) (ran : Ran)
+    ensures { (s : Settings) (me : ℕ) (clean : Bool) (leave : Option ℕ) (turns : ℕ)
+        (calls : List Call) (ran : Ran)
         → Follows (live_plan s me clean leave turns) calls ran
         → outputs_among calls ≡ outputs_of s me ran.log }
 {}
 
 /// Law: a run ends once, and in one way.
 pub fn law_one_end()
-    ensures one { (s : Settings) (me : ℕ) (clean : Bool) (leave : Option ℕ) (turns : ℕ) (calls : List Call) (ran other : Ran)
+    ensures one { (s : Settings) (me : ℕ) (clean : Bool) (leave : Option ℕ) (turns : ℕ)
+        (calls : List Call) (ran other : Ran)
         → Follows (live_plan s me clean leave turns) calls ran
         → Follows (live_plan s me clean leave turns) calls other
         → ran ≡ other }
-    ensures once { (s : Settings) (me : ℕ) (clean : Bool) (leave : Option ℕ) (turns : ℕ) (calls : List Call) (call : Call)
+    ensures once { (s : Settings) (me : ℕ) (clean : Bool) (leave : Option ℕ) (turns : ℕ)
+        (calls : List Call) (call : Call)
         (more : List Call) (ran other : Ran)
         → Follows (live_plan s me clean leave turns) calls ran
         → Follows (live_plan s me clean leave turns) (calls ++ call ∷ more) other
@@ -47,15 +51,18 @@ pub fn law_one_end()
 /// Law: after a failed answer of the disk the next turn takes no answer of the disk, and the one that waits goes on waiting.
 /// The turn after that one rests only where its own entry was a failed answer.
 pub fn law_rest()
-    ensures none { (me : ℕ) (leaves : Bool) (st : RunState) (calls : List Call) (chosen : Choice × RunState)
+    ensures none { (me : ℕ) (leaves : Bool) (st : RunState) (calls : List Call)
+        (chosen : Choice × RunState)
         → st.rests ≡ true
         → Follows (choice_plan me leaves st) calls chosen
         → takes_answer chosen.0 ≡ false }
-    ensures waits { (me : ℕ) (leaves : Bool) (st : RunState) (calls : List Call) (chosen : Choice × RunState)
+    ensures waits { (me : ℕ) (leaves : Bool) (st : RunState) (calls : List Call)
+        (chosen : Choice × RunState)
         → st.rests ≡ true
         → Follows (choice_plan me leaves st) calls chosen
         → chosen.1.waits.disk ≡ st.waits.disk }
-    ensures next { (s : Settings) (me : ℕ) (st : RunState) (tick : ℕ) (found : Option Maker × What) (calls : List Call)
+    ensures next { (s : Settings) (me : ℕ) (st : RunState) (tick : ℕ) (found : Option Maker × What)
+        (calls : List Call)
         (next : RunState)
         → Follows (handled s me st tick found) calls (Next next)
         → next.rests ≡ failed_answer found.1 }
@@ -64,11 +71,13 @@ pub fn law_rest()
 /// Law: a run in which no call failed was not halted in its boot by a failed call, and one in which no tick fell did not end
 /// because the clock went back.
 pub fn law_end_causes()
-    ensures calls { (s : Settings) (me : ℕ) (clean : Bool) (leave : Option ℕ) (turns : ℕ) (calls : List Call) (ran : Ran)
+    ensures calls { (s : Settings) (me : ℕ) (clean : Bool) (leave : Option ℕ) (turns : ℕ)
+        (calls : List Call) (ran : Ran)
         → Follows (live_plan s me clean leave turns) calls ran
         → some_failed calls ≡ false
         → is_by_call ran.end ≡ false }
-    ensures clock { (s : Settings) (me : ℕ) (clean : Bool) (leave : Option ℕ) (turns : ℕ) (calls : List Call) (ran : Ran)
+    ensures clock { (s : Settings) (me : ℕ) (clean : Bool) (leave : Option ℕ) (turns : ℕ)
+        (calls : List Call) (ran : Ran)
         → Follows (live_plan s me clean leave turns) calls ran
         → NeverFalls 0 calls
         → is_by_clock ran.end ≡ false }
@@ -88,7 +97,8 @@ pub fn law_boot_halted()
 /// Law: where no call fails and no tick falls, no run ends because the clock goes back, and no boot halts because a read, its
 /// claim or its clear failed.
 pub fn law_sound_end()
-    ensures { (s : Settings) (me : ℕ) (clean : Bool) (leave : Option ℕ) (turns : ℕ) (calls : List Call) (ran : Ran)
+    ensures { (s : Settings) (me : ℕ) (clean : Bool) (leave : Option ℕ) (turns : ℕ)
+        (calls : List Call) (ran : Ran)
         → Follows (live_plan s me clean leave turns) calls ran
         → some_failed calls ≡ false
         → NeverFalls 0 calls

@@ -106,7 +106,8 @@ impl NodeRun {
             → question plan ≡ Some (question_of asked room.new)) }
         ensures within { IfOk result IsWithin }
         ensures work { OnOk result (0 < work self.now) }
-        ensures over { IfErr result (λ end. (plan : Plan Ran) → RunFor self.now plan → EndsWith plan end) }
+        ensures over { IfErr result
+            (λ end. (plan : Plan Ran) → RunFor self.now plan → EndsWith plan end) }
     {
         match self.place {
             Place::Receive => Ok(Asked::Receive),
@@ -124,7 +125,8 @@ impl NodeRun {
         ensures asked { (log : List Line) (out : Out)
             → Stands self.now log
             → slice_get self.now.outs at ≡ Some out
-            → question_of result room.new ≡ out_call self.now.settings self.now.me.0 (own_number log) out }
+            → question_of result room.new
+            ≡ out_call self.now.settings self.now.me.0 (own_number log) out }
         ensures within { IsWithin result }
     {
         let incarnation = self.node.incarnation().unwrap_or(0);
@@ -203,7 +205,8 @@ impl NodeRun {
             → slice_get self.old.outs at ≡ Some out
             → Tells call given room.now
             → blank call ≡ out_call self.old.settings self.old.me.0 (own_number log) out
-            → RunFor self.new (acting self.old (noted self.old.settings out call (state_of self.old log)) (at + 1)) }
+            → RunFor self.new
+            (acting self.old (noted self.old.settings out call (state_of self.old log)) (at + 1)) }
         ensures work { work self.new < 128 * self.old.after + 80 + (41 - at) }
     {
         let out = self.outs.get(at);
@@ -287,7 +290,8 @@ impl NodeRun {
             ≡ to_send self.now.settings self.now.me.0 self.now.member next.0 next.1) }
         ensures more { IfSome result (λ next.
             HasMore self.now.settings self.now.me.0 self.now.outs (Place.Greet next.0 next.1)) }
-        ensures work { IfSome result (λ next. calls_of_greeting next.0 next.1 ≤ calls_of_greeting greeting from) }
+        ensures work { IfSome result
+            (λ next. calls_of_greeting next.0 next.1 ≤ calls_of_greeting greeting from) }
     {
         if let Some(to) = self.other_from(from) {
             return Some((greeting, to));
@@ -304,7 +308,8 @@ impl NodeRun {
     fn other_from(&self, from: u8) -> Option<u8>
         ensures none { IfNone result (others_from self.now.settings self.now.me.0 from ≡ []) }
         ensures same { IfSome result (λ to.
-            others_from self.now.settings self.now.me.0 from ≡ others_from self.now.settings self.now.me.0 to) }
+            others_from self.now.settings self.now.me.0 from
+            ≡ others_from self.now.settings self.now.me.0 to) }
         ensures after { IfSome result (λ to. from ≤ to) }
         ensures within { IfSome result (λ to. to < length self.now.settings.nodes) }
         ensures other { IfSome result (λ to. (to == self.now.me.0) ≡ false) }
@@ -373,7 +378,8 @@ impl NodeRun {
     fn is_to_leave(&self) -> bool
         ensures { (log : List Line)
             → Stands self.now log
-            → result ≡ is_to_leave self.now.settings self.now.leave_at self.now.turn (state_of self.now log) }
+            → result ≡ is_to_leave self.now.settings self.now.leave_at self.now.turn
+            (state_of self.now log) }
     {
         match self.leave_at {
             Some(from) => from <= self.turn && matches!(self.node.phase(), Phase::Up),

@@ -26,7 +26,8 @@ pub fn run_node<E: Env>(
     requires valid { IsValid settings.now }
     requires configured { me.0 < length settings.now.nodes }
     requires some_turn { 1 ≤ turns }
-    ensures did { (log : List Line) × Did (E.faults env.old) (E.faults env.new) (E.calls env.old) (E.calls env.new)
+    ensures did { (log : List Line)
+        × Did (E.faults env.old) (E.faults env.new) (E.calls env.old) (E.calls env.new)
         (live_plan settings.now me.0 clean leave_at turns) (record { end = result; log = log }) }
 {
     let mut run = NodeRun::new(settings.copy(), me, clean, leave_at, turns);

@@ -137,7 +137,8 @@ impl Images {
         requires within { sector < 1024 }
         requires rank { me.0 < 32 }
         ensures { Did (E.faults env.old) (E.faults env.new) (E.calls env.old) (E.calls env.new)
-            (write_plan me.0 self.old.good sector from.now) (Write sector from.now result, self.new.good) }
+            (write_plan me.0 self.old.good sector from.now)
+            (Write sector from.now result, self.new.good) }
     {
         let written = write_each(env, sector, from);
         self.good = good_after_write(me, sector, written, self.good);

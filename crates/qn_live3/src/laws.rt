@@ -23,7 +23,8 @@ use qn_sector::law_read_back;
 
 /// Law: what a node is handed in a run on three images is one history.
 pub fn law_triple_history()
-    ensures { (s : Settings) (me : ℕ) (clean : Bool) (leave : Option ℕ) (turns : ℕ) (calls : List Call) (ran : Ran)
+    ensures { (s : Settings) (me : ℕ) (clean : Bool) (leave : Option ℕ) (turns : ℕ)
+        (calls : List Call) (ran : Ran)
         → Follows (triple_plan s me clean leave turns) calls ran
         → IsHistory s me ran.log }
 {
@@ -32,11 +33,13 @@ pub fn law_triple_history()
 
 /// Law: a run on three images ends once, and in one way.
 pub fn law_triple_end()
-    ensures one { (s : Settings) (me : ℕ) (clean : Bool) (leave : Option ℕ) (turns : ℕ) (calls : List Call) (ran other : Ran)
+    ensures one { (s : Settings) (me : ℕ) (clean : Bool) (leave : Option ℕ) (turns : ℕ)
+        (calls : List Call) (ran other : Ran)
         → Follows (triple_plan s me clean leave turns) calls ran
         → Follows (triple_plan s me clean leave turns) calls other
         → ran ≡ other }
-    ensures once { (s : Settings) (me : ℕ) (clean : Bool) (leave : Option ℕ) (turns : ℕ) (calls : List Call) (call : Call)
+    ensures once { (s : Settings) (me : ℕ) (clean : Bool) (leave : Option ℕ) (turns : ℕ)
+        (calls : List Call) (call : Call)
         (more : List Call) (ran other : Ran)
         → Follows (triple_plan s me clean leave turns) calls ran
         → Follows (triple_plan s me clean leave turns) (calls ++ call ∷ more) other
@@ -46,15 +49,18 @@ pub fn law_triple_end()
 /// Law: a run on three images in which no call failed was not halted in its boot by a failed call, and one in which no tick
 /// fell did not end because the clock went back.
 pub fn law_triple_end_causes()
-    ensures calls { (s : Settings) (me : ℕ) (clean : Bool) (leave : Option ℕ) (turns : ℕ) (calls : List Call) (ran : Ran)
+    ensures calls { (s : Settings) (me : ℕ) (clean : Bool) (leave : Option ℕ) (turns : ℕ)
+        (calls : List Call) (ran : Ran)
         → Follows (triple_plan s me clean leave turns) calls ran
         → some_failed calls ≡ false
         → is_by_call ran.end ≡ false }
-    ensures clock { (s : Settings) (me : ℕ) (clean : Bool) (leave : Option ℕ) (turns : ℕ) (calls : List Call) (ran : Ran)
+    ensures clock { (s : Settings) (me : ℕ) (clean : Bool) (leave : Option ℕ) (turns : ℕ)
+        (calls : List Call) (ran : Ran)
         → Follows (triple_plan s me clean leave turns) calls ran
         → NeverFalls 0 calls
         → is_by_clock ran.end ≡ false }
-    ensures sound { (s : Settings) (me : ℕ) (clean : Bool) (leave : Option ℕ) (turns : ℕ) (calls : List Call) (ran : Ran)
+    ensures sound { (s : Settings) (me : ℕ) (clean : Bool) (leave : Option ℕ) (turns : ℕ)
+        (calls : List Call) (ran : Ran)
         → Follows (triple_plan s me clean leave turns) calls ran
         → some_failed calls ≡ false
         → NeverFalls 0 calls
@@ -80,16 +86,23 @@ pub fn law_triple_boot_halted()
 pub fn law_triple_answers()
     ensures told { (s : Settings) (op : DiskOp) (call : Call) → IsTold s op (part_of s op call) }
     ensures header { (s : Settings) (sector : ℕ) (one two three : Part) (good : List Bool)
-        → IsTold s DiskOp.ReadHeader one → IsTold s DiskOp.ReadHeader two → IsTold s DiskOp.ReadHeader three
-        → taken_from s DiskOp.ReadHeader sector (read_entry DiskOp.ReadHeader (one ∷ two ∷ three ∷ []) good)
+        → IsTold s DiskOp.ReadHeader one → IsTold s DiskOp.ReadHeader two
+        → IsTold s DiskOp.ReadHeader three
+        → taken_from s DiskOp.ReadHeader sector
+        (read_entry DiskOp.ReadHeader (one ∷ two ∷ three ∷ []) good)
         ≡ read_entry DiskOp.ReadHeader (one ∷ two ∷ three ∷ []) good }
-    ensures slot { (s : Settings) (rank : Rank) (sector : ℕ) (one two three : Part) (good : List Bool)
-        → IsTold s (DiskOp.ReadSlot rank) one → IsTold s (DiskOp.ReadSlot rank) two → IsTold s (DiskOp.ReadSlot rank) three
-        → taken_from s (DiskOp.ReadSlot rank) sector (read_entry (DiskOp.ReadSlot rank) (one ∷ two ∷ three ∷ []) good)
+    ensures slot { (s : Settings) (rank : Rank) (sector : ℕ) (one two three : Part)
+        (good : List Bool)
+        → IsTold s (DiskOp.ReadSlot rank) one → IsTold s (DiskOp.ReadSlot rank) two
+        → IsTold s (DiskOp.ReadSlot rank) three
+        → taken_from s (DiskOp.ReadSlot rank) sector
+        (read_entry (DiskOp.ReadSlot rank) (one ∷ two ∷ three ∷ []) good)
         ≡ read_entry (DiskOp.ReadSlot rank) (one ∷ two ∷ three ∷ []) good }
     ensures mailbox { (s : Settings) (sector : ℕ) (one two three : Part) (good : List Bool)
-        → IsTold s DiskOp.ReadMail one → IsTold s DiskOp.ReadMail two → IsTold s DiskOp.ReadMail three
-        → taken_from s DiskOp.ReadMail sector (read_entry DiskOp.ReadMail (one ∷ two ∷ three ∷ []) good)
+        → IsTold s DiskOp.ReadMail one → IsTold s DiskOp.ReadMail two
+        → IsTold s DiskOp.ReadMail three
+        → taken_from s DiskOp.ReadMail sector
+        (read_entry DiskOp.ReadMail (one ∷ two ∷ three ∷ []) good)
         ≡ read_entry DiskOp.ReadMail (one ∷ two ∷ three ∷ []) good }
 {
     law_read_back();

@@ -29,7 +29,8 @@ pub fn run_node3<E: Env>(
     requires valid { IsValid settings.now }
     requires configured { me.0 < length settings.now.nodes }
     requires some_turn { 1 ≤ turns }
-    ensures did { (log : List Line) × Did (E.faults env.old) (E.faults env.new) (E.calls env.old) (E.calls env.new)
+    ensures did { (log : List Line)
+        × Did (E.faults env.old) (E.faults env.new) (E.calls env.old) (E.calls env.new)
         (triple_plan settings.now me.0 clean leave_at turns) (record { end = result; log = log }) }
     ensures halted { (cause : BootCause) → result ≡ LiveEnd.BootHalted cause
         → is_no_failure cause ≡ false → (calls : List Call)

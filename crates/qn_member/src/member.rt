@@ -183,7 +183,8 @@ impl Member {
         ensures exact { result ≡ next_view tick self.now }
         ensures other { IfSome result (λ view. self.now.view ≢ Some view) }
         ensures contains { IfSome result (λ view. is_member view.members self.now.me ≡ true) }
-        ensures configured { IfSome result (λ view. has_configured self.now.nodes view.members ≡ true) }
+        ensures configured { IfSome result
+            (λ view. has_configured self.now.nodes view.members ≡ true) }
     {
         let visible = self.visible_nodes(tick);
         if !self.may_install(tick, visible) {
@@ -269,7 +270,8 @@ impl Member {
         ensures exact { result ≡ followed_view self.now leader.0 }
         ensures other { IfSome result (λ view. self.now.view ≢ Some view) }
         ensures contains { IfSome result (λ view. is_member view.members self.now.me ≡ true) }
-        ensures configured { IfSome result (λ view. has_configured self.now.nodes view.members ≡ true) }
+        ensures configured { IfSome result
+            (λ view. has_configured self.now.nodes view.members ≡ true) }
     {
         let view = self.announced[usize::from(leader.0)]?;
         if self.is_taken(leader, view) {

@@ -54,7 +54,8 @@ impl Message {
     /// The message of that name, where there is one.
     pub fn from_name(name: &str) -> Option<Message>
         ensures named { IfSome result (λ message. name.now ≡ message_name message) }
-        ensures every { (message : Message) → name.now ≡ message_name message → result ≡ Some message }
+        ensures every { (message : Message) → name.now ≡ message_name message
+            → result ≡ Some message }
     {
         match name {
             "empty" => Some(Message::Empty),
@@ -81,7 +82,8 @@ impl Message {
     /// The message that an operator sends by that word, where there is one.
     pub fn from_operator_word(word: &str) -> Option<Message>
         ensures named { IfSome result (λ message. word.now ≡ operator_word message) }
-        ensures every { (message : Message) → word.now ≡ operator_word message → result ≡ Some message }
+        ensures every { (message : Message) → word.now ≡ operator_word message
+            → result ≡ Some message }
     {
         match word {
             "clear" => Some(Message::Empty),

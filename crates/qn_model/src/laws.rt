@@ -18,14 +18,16 @@ ghost use Rattle.qn_model.specs.NodeOutputs.{log_of, outs_of, resets};
 /// Under plain majority, two vote lists whose present views have no node in common are never both
 /// quorate, at whatever ticks; and so two nodes, each by its whole history, where no tie is broken.
 pub fn law_disjoint_views()
-    ensures lists { (s : Settings) (first second : List VoteEntry) (tick later : ℕ) (left right : View)
+    ensures lists { (s : Settings) (first second : List VoteEntry) (tick later : ℕ)
+        (left right : View)
         → IsPlainMajority s
         → present_view first ≡ Some left
         → present_view second ≡ Some right
         → AreDisjoint left right
         → IsTrue (is_quorate s first tick)
         → ¬ IsTrue (is_quorate s second later) }
-    ensures histories { (s : Settings) (me other : ℕ) (first second : List Entry) (tick later : ℕ) (left right : View)
+    ensures histories { (s : Settings) (me other : ℕ) (first second : List Entry) (tick later : ℕ)
+        (left right : View)
         → IsPlainMajority s
         → s.tie ≡ None
         → view (log_of s me first) ≡ Some left
@@ -65,7 +67,8 @@ pub fn law_released_first()
 pub fn law_reset_outside()
     ensures outside { (s : Settings) (me : ℕ) (history : List Entry) (rank : Rank)
         → Contains (outs_of s me history) (resets rank)
-        → (is_in_view (log_of s me history) rank.0 ≡ false) × (is_clean (log_of s me history) rank.0 ≡ false) }
+        → (is_in_view (log_of s me history) rank.0 ≡ false)
+        × (is_clean (log_of s me history) rank.0 ≡ false) }
     ensures delayed { (s : Settings) (me : ℕ) (history : List Entry) (rank : Rank)
         → Contains (outs_of s me history) (resets rank)
         → IsTrue (is_delay_over s (log_of s me history) rank.0) }

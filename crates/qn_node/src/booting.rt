@@ -29,9 +29,11 @@ pub fn begin(own: &Own, tick: u64, what: What, outs: &mut Outs) -> Stage
     requires { outs.old ≡ [] }
     ensures few { installs_in result ≡ 0 }
     ensures stands { StageFor result own.now.settings own.now.me.0
-        (with_read own.now.settings own.now.me.0 [] tick (read_as own.now.settings own.now.me.0 [] what)) }
+        (with_read own.now.settings own.now.me.0 [] tick
+        (read_as own.now.settings own.now.me.0 [] what)) }
     ensures outs { outs.new ≡ newest_outs
-        (with_read own.now.settings own.now.me.0 [] tick (read_as own.now.settings own.now.me.0 [] what)) }
+        (with_read own.now.settings own.now.me.0 [] tick
+        (read_as own.now.settings own.now.me.0 [] what)) }
 {
     match what {
         What::Begin => begun(own, false, outs),
@@ -77,11 +79,13 @@ pub fn header(boot: Boot<WantHeader>, own: &Own, tick: u64, what: What, outs: &m
     ensures stands { (log : List Line)
         → WantHeaderFor own.now.settings boot log
         → StageFor result own.now.settings own.now.me.0
-        (with_read own.now.settings own.now.me.0 log tick (read_as own.now.settings own.now.me.0 log what)) }
+        (with_read own.now.settings own.now.me.0 log tick
+        (read_as own.now.settings own.now.me.0 log what)) }
     ensures outs { (log : List Line)
         → WantHeaderFor own.now.settings boot log
         → outs.new ≡ newest_outs
-        (with_read own.now.settings own.now.me.0 log tick (read_as own.now.settings own.now.me.0 log what)) }
+        (with_read own.now.settings own.now.me.0 log tick
+        (read_as own.now.settings own.now.me.0 log what)) }
 {
     qn_boot::law_boot_waits();
     let What::Header(seen) = what else {
@@ -103,11 +107,13 @@ pub fn slot(boot: Boot<WantSlot>, own: &Own, tick: u64, what: What, outs: &mut O
     ensures stands { (log : List Line)
         → WantSlotFor own.now.settings own.now.me.0 boot log
         → StageFor result own.now.settings own.now.me.0
-        (with_read own.now.settings own.now.me.0 log tick (read_as own.now.settings own.now.me.0 log what)) }
+        (with_read own.now.settings own.now.me.0 log tick
+        (read_as own.now.settings own.now.me.0 log what)) }
     ensures outs { (log : List Line)
         → WantSlotFor own.now.settings own.now.me.0 boot log
         → outs.new ≡ newest_outs
-        (with_read own.now.settings own.now.me.0 log tick (read_as own.now.settings own.now.me.0 log what)) }
+        (with_read own.now.settings own.now.me.0 log tick
+        (read_as own.now.settings own.now.me.0 log what)) }
 {
     qn_boot::law_boot_waits();
     let What::SlotRead(rank, seen) = what else {
@@ -150,11 +156,13 @@ pub fn checked(boot: Boot<WantCheck>, own: &Own, tick: u64, what: What, outs: &m
     ensures stands { (log : List Line)
         → WantCheckFor own.now.settings boot log
         → StageFor result own.now.settings own.now.me.0
-        (with_read own.now.settings own.now.me.0 log tick (read_as own.now.settings own.now.me.0 log what)) }
+        (with_read own.now.settings own.now.me.0 log tick
+        (read_as own.now.settings own.now.me.0 log what)) }
     ensures outs { (log : List Line)
         → WantCheckFor own.now.settings boot log
         → outs.new ≡ newest_outs
-        (with_read own.now.settings own.now.me.0 log tick (read_as own.now.settings own.now.me.0 log what)) }
+        (with_read own.now.settings own.now.me.0 log tick
+        (read_as own.now.settings own.now.me.0 log what)) }
 {
     qn_boot::law_boot_waits();
     let What::MailChecked(seen) = what else {
@@ -176,11 +184,13 @@ pub fn claimed(boot: Boot<WantClaim>, own: &Own, tick: u64, what: What, outs: &m
     ensures stands { (log : List Line)
         → WantClaimFor own.now.settings boot log
         → StageFor result own.now.settings own.now.me.0
-        (with_read own.now.settings own.now.me.0 log tick (read_as own.now.settings own.now.me.0 log what)) }
+        (with_read own.now.settings own.now.me.0 log tick
+        (read_as own.now.settings own.now.me.0 log what)) }
     ensures outs { (log : List Line)
         → WantClaimFor own.now.settings boot log
         → outs.new ≡ newest_outs
-        (with_read own.now.settings own.now.me.0 log tick (read_as own.now.settings own.now.me.0 log what)) }
+        (with_read own.now.settings own.now.me.0 log tick
+        (read_as own.now.settings own.now.me.0 log what)) }
 {
     qn_boot::law_boot_waits();
     let claims = boot.claims();
@@ -204,11 +214,13 @@ pub fn cleared(boot: Boot<WantClear>, own: &Own, tick: u64, what: What, outs: &m
         → WantClearFor own.now.settings boot log
         → IsAskedInside log
         → StageFor result own.now.settings own.now.me.0
-        (with_read own.now.settings own.now.me.0 log tick (read_as own.now.settings own.now.me.0 log what)) }
+        (with_read own.now.settings own.now.me.0 log tick
+        (read_as own.now.settings own.now.me.0 log what)) }
     ensures outs { (log : List Line)
         → WantClearFor own.now.settings boot log
         → outs.new ≡ newest_outs
-        (with_read own.now.settings own.now.me.0 log tick (read_as own.now.settings own.now.me.0 log what)) }
+        (with_read own.now.settings own.now.me.0 log tick
+        (read_as own.now.settings own.now.me.0 log what)) }
 {
     qn_boot::law_boot_waits();
     let claims = boot.claims();
@@ -236,7 +248,8 @@ fn go_on(op: DiskOp, outs: &mut Outs)
 /// A step of the boot halts it.
 fn halted(cause: BootCause, claims: Option<u64>, outs: &mut Outs) -> Stage
     requires { outs.old ≡ [] }
-    ensures stage { result ≡ Stage.Rest (record { phase = Phase.Gone; claims = claims; resource = Resource.Free }) }
+    ensures stage { result
+        ≡ Stage.Rest (record { phase = Phase.Gone; claims = claims; resource = Resource.Free }) }
     ensures outs { outs.new ≡ Out.Halt (HaltKind.Boot cause) ∷ [] }
 {
     outs.push(Out::Halt(HaltKind::Boot(cause)));

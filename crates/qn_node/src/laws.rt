@@ -7,7 +7,8 @@ ghost use Rattle.qn_fence.specs.Fence.{IsOutside};
 
 /// The operations of a node that takes part are about no member of its view.
 pub fn law_outside()
-    ensures { (s : Settings) (me : ℕ) (log : List Line) → IsOutside log (wanted_with_delay s me log) }
+    ensures { (s : Settings) (me : ℕ) (log : List Line)
+        → IsOutside log (wanted_with_delay s me log) }
 {
     qn_fence::law_outside();
 }

@@ -62,8 +62,10 @@ impl Live {
             → timing log ≡ ready.timing
             → mail_tick log ≡ 0
             → IsAskedInside log
-            → ReadyFor own.now.settings ready (with_read own.now.settings own.now.me.0 log ready.tick (What.Cleared ok))
-            → LiveFor result own.now.settings own.now.me.0 (with_read own.now.settings own.now.me.0 log ready.tick (What.Cleared ok)) }
+            → ReadyFor own.now.settings ready
+            (with_read own.now.settings own.now.me.0 log ready.tick (What.Cleared ok))
+            → LiveFor result own.now.settings own.now.me.0
+            (with_read own.now.settings own.now.me.0 log ready.tick (What.Cleared ok)) }
     {
         let mut watch = Watch::new(ready.timing);
         watch.issued(ready.tick);
@@ -95,7 +97,8 @@ impl Live {
         ensures counts { (log : List Line)
             → LiveFor self.old own.now.settings own.now.me.0 log
             → TallyFor tally.old own.now.settings (votes log)
-            → TallyFor tally.new own.now.settings (votes (with_entry own.now.settings own.now.me.0 log entry)) }
+            → TallyFor tally.new own.now.settings
+            (votes (with_entry own.now.settings own.now.me.0 log entry)) }
         ensures stands { (log : List Line)
             → LiveFor self.old own.now.settings own.now.me.0 log
             → TallyFor tally.old own.now.settings (votes log)
@@ -133,7 +136,8 @@ impl Live {
 
     /// An entry as it is read: one that does not fit is a Tick.
     fn read(&self, own: &Own, what: What) -> What
-        ensures { result ≡ (if fits_live own.now.settings own.now.me.0 self.now what then what else What.Tick) }
+        ensures { result
+            ≡ (if fits_live own.now.settings own.now.me.0 self.now what then what else What.Tick) }
     {
         if self.fits(own, what) {
             what
@@ -231,9 +235,11 @@ impl Live {
     /// votes.
     fn hear(&mut self, tick: u64, what: What) -> VoteWhat
         requires { installs_of self.old.heard < u64.MAX }
-        ensures rest { self.new ≡ record self.old { heard = self.new.heard; fence = self.new.fence } }
+        ensures rest { self.new
+            ≡ record self.old { heard = self.new.heard; fence = self.new.fence } }
         ensures few { installs_of self.new.heard ≤ installs_of self.old.heard + 1 }
-        ensures vote { (s : Settings) (me : ℕ) (log : List Line) → HeardFor self.old.heard s me log → result ≡ vote_of log what }
+        ensures vote { (s : Settings) (me : ℕ) (log : List Line) → HeardFor self.old.heard s me log
+            → result ≡ vote_of log what }
         ensures hears { (s : Settings) (me : ℕ) (log : List Line) (line : Line)
             → HeardFor self.old.heard s me log
             → is_boot_entry what ≡ false
@@ -246,7 +252,8 @@ impl Live {
             → is_boot_entry what ≡ false
             → line.tick ≡ tick
             → line.what ≡ what
-            → (is_answer what ≡ true → (line.asked ≡ ask_place log) × (answers_op (op_out log) what ≡ true))
+            → (is_answer what ≡ true
+            → (line.asked ≡ ask_place log) × (answers_op (op_out log) what ≡ true))
             → now log ≤ line.tick
             → disk_of line.outs ≡ None
             → FenceFor self.new.fence s (line ∷ log) }
@@ -293,7 +300,8 @@ impl Live {
     /// Takes in what an entry, as it was read, says of the disk operation and of the resource.
     fn settle(&mut self, tick: u64, what: What)
         ensures { let op = if is_answer what then None else self.old.op in
-            self.new ≡ record self.old { op = op; resource = after_entry tick what self.old.resource } }
+            self.new ≡ record self.old { op = op;
+            resource = after_entry tick what self.old.resource } }
     {
         if what.is_answer() {
             self.op = None;
@@ -328,7 +336,9 @@ impl Live {
 
     /// The node, once nothing comes of it any more.
     fn rest(&self, phase: Phase) -> Rest
-        ensures { result ≡ record { phase = phase; claims = Some self.now.incarnation; resource = self.now.resource } }
+        ensures { result
+            ≡ record { phase = phase; claims = Some self.now.incarnation;
+            resource = self.now.resource } }
     {
         Rest {
             phase,

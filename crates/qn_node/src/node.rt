@@ -112,7 +112,8 @@ impl Node {
     /// The install number of the present view, which counts the views since the boot from 1, and that view; None
     /// without a view.
     pub fn present(&self) -> Option<(u64, View)>
-        ensures { (s : Settings) (me : ℕ) (log : List Line) → NodeFor self.now s me log → result ≡ present log }
+        ensures { (s : Settings) (me : ℕ) (log : List Line) → NodeFor self.now s me log
+            → result ≡ present log }
     {
         qn_model::law_present_view();
         self.tally.present()
@@ -120,7 +121,8 @@ impl Node {
 
     /// Whether the node holds the resource.
     pub fn holds(&self) -> bool
-        ensures { (s : Settings) (me : ℕ) (log : List Line) → NodeFor self.now s me log → result ≡ holds log }
+        ensures { (s : Settings) (me : ℕ) (log : List Line) → NodeFor self.now s me log
+            → result ≡ holds log }
     {
         self.stage.holds()
     }
@@ -128,14 +130,16 @@ impl Node {
     /// Where the node is in its life.
     pub fn phase(&self) -> Phase
         ensures value { result ≡ phase_of self.now }
-        ensures exact { (s : Settings) (me : ℕ) (log : List Line) → NodeFor self.now s me log → result ≡ phase s log }
+        ensures exact { (s : Settings) (me : ℕ) (log : List Line) → NodeFor self.now s me log
+            → result ≡ phase s log }
     {
         self.stage.phase()
     }
 
     /// The incarnation that the node claimed: None up to the entry that gives the claim, that entry included.
     pub fn incarnation(&self) -> Option<u64>
-        ensures { (s : Settings) (me : ℕ) (log : List Line) → NodeFor self.now s me log → result ≡ incarnation log }
+        ensures { (s : Settings) (me : ℕ) (log : List Line) → NodeFor self.now s me log
+            → result ≡ incarnation log }
     {
         self.incarnation
     }
@@ -150,7 +154,8 @@ impl Node {
     /// An equal node, of one that is up or leaving: it stands for each log that this one stands for.
     pub fn copy(&self) -> Node
         requires { is_live (phase_of self.now) ≡ true }
-        ensures stands { (s : Settings) (me : ℕ) (log : List Line) → NodeFor self.now s me log → NodeFor result s me log }
+        ensures stands { (s : Settings) (me : ℕ) (log : List Line) → NodeFor self.now s me log
+            → NodeFor result s me log }
         ensures count { steps_of result ≡ steps_of self.now }
     {
         Node {

@@ -51,7 +51,8 @@ impl Stage {
         ensures counts { (log : List Line)
             → StageFor self.old own.now.settings own.now.me.0 log
             → TallyFor tally.old own.now.settings (votes log)
-            → TallyFor tally.new own.now.settings (votes (with_entry own.now.settings own.now.me.0 log entry)) }
+            → TallyFor tally.new own.now.settings
+            (votes (with_entry own.now.settings own.now.me.0 log entry)) }
         ensures stands { (log : List Line)
             → StageFor self.old own.now.settings own.now.me.0 log
             → TallyFor tally.old own.now.settings (votes log)
@@ -84,7 +85,8 @@ impl Stage {
         ensures stands { (log : List Line)
             → StageFor self own.now.settings own.now.me.0 log
             → IsAskedInside log
-            → StageFor result own.now.settings own.now.me.0 (with_read own.now.settings own.now.me.0 log entry.tick
+            → StageFor result own.now.settings own.now.me.0
+            (with_read own.now.settings own.now.me.0 log entry.tick
             (read_as own.now.settings own.now.me.0 log entry.what)) }
         ensures outs { (log : List Line)
             → StageFor self own.now.settings own.now.me.0 log

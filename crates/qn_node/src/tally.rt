@@ -64,7 +64,8 @@ impl Tally {
         ensures few { self.new.installs ≡ self.old.installs + 1 }
         ensures stands { (past : List VoteEntry)
             → TallyFor self.old own.now.settings past
-            → TallyFor self.new own.now.settings (record { tick = tick; what = VoteWhat.View view } ∷ past) }
+            → TallyFor self.new own.now.settings
+            (record { tick = tick; what = VoteWhat.View view } ∷ past) }
     {
         self.quorum.on_view(tick, view);
         let votes = own.settings.nodes.votes_among(view.members);
@@ -107,7 +108,8 @@ impl Tally {
 
     /// The tick at which the present view was installed, 0 without a view.
     pub fn view_tick(&self) -> u64
-        ensures { (s : Settings) (past : List VoteEntry) → TallyFor self.now s past → result ≡ view_tick past }
+        ensures { (s : Settings) (past : List VoteEntry) → TallyFor self.now s past
+            → result ≡ view_tick past }
     {
         self.view_tick
     }

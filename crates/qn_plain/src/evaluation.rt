@@ -44,7 +44,8 @@ struct Evaluation {
 fn evaluate(settings: &Settings, me: Rank, history: &[Entry]) -> Evaluation
     ensures stands { PastFor settings.now result.past (log_of settings.now me.0 history.now) }
     ensures outs { result.outs ≡ outs_of settings.now me.0 history.now }
-    ensures resets { (tick : ℕ) → All (λ entry. entry.tick ≤ tick) history.now → ResetsBy result.past tick }
+    ensures resets { (tick : ℕ) → All (λ entry. entry.tick ≤ tick) history.now
+        → ResetsBy result.past tick }
 {
     let mut past = Past::new(settings);
     let mut outs = Outs::new();

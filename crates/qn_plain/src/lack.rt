@@ -73,7 +73,8 @@ impl Past {
 
     /// The least member of the present view where it is another node.
     fn other_chosen(&self, settings: &Settings, me: Rank, tick: u64) -> Option<Rank>
-        ensures value { result ≡ other_than me.0 (least_sought settings.now sought.Member me.0 tick self.now) }
+        ensures value { result
+            ≡ other_than me.0 (least_sought settings.now sought.Member me.0 tick self.now) }
         ensures within { IfSome result (λ rank. rank.0 < length settings.now.nodes) }
     {
         let chosen = self.least(settings, Sought::Member, me, tick);

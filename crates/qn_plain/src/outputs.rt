@@ -110,7 +110,9 @@ impl Past {
 
     /// What comes out of an entry while the node takes part.
     fn live_outs(&self, settings: &Settings, me: Rank, timely: bool, tick: u64, what: What) -> Outs
-        ensures { result ≡ live_outs_at settings.now me.0 tick self.now what (feeds_on (message_of what) && timely) (deadly_of (message_of what)) }
+        ensures { result
+            ≡ live_outs_at settings.now me.0 tick self.now what
+            (feeds_on (message_of what) && timely) (deadly_of (message_of what)) }
     {
         let message = message_of(what);
         let mut outs = Outs::new();
@@ -199,7 +201,8 @@ impl Past {
 
     fn push_asks_under(&self, outs: &mut Outs, settings: &Settings, me: Rank, present: View)
         requires { length outs.old ≤ 4 }
-        ensures adds { outs.new ≡ outs.old ++ asks_from me.0 self.now present 0 (length settings.now.nodes) }
+        ensures adds { outs.new
+            ≡ outs.old ++ asks_from me.0 self.now present 0 (length settings.now.nodes) }
         ensures room { length outs.new ≤ length outs.old + 32 }
     {
         let count = settings.nodes.len() as u8;

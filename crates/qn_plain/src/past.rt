@@ -58,7 +58,8 @@ impl Past {
             → place ≡ suc (length log)
             → PastFor settings.now self.old log
             → result ≡ newest_outs (with_entry settings.now me.0 log entry.now) }
-        ensures resets { (tick : ℕ) → entry.now.tick ≤ tick → ResetsBy self.old tick → ResetsBy self.new tick }
+        ensures resets { (tick : ℕ) → entry.now.tick ≤ tick → ResetsBy self.old tick
+            → ResetsBy self.new tick }
     {
         let what = self.read(settings, me, place, entry.what);
         let before = self.life.phase;
@@ -201,7 +202,8 @@ fn vote_said(answers: bool, what: What) -> VoteWhat
 
 /// Says an entry to each rank.
 fn after_entry(peers: &mut [Peer; 32], reading: &Reading)
-    ensures { (rank : ℕ) → rank < 32 → peer_at peers.new rank ≡ peer_after rank reading.now (peer_at peers.old rank) }
+    ensures { (rank : ℕ) → rank < 32
+        → peer_at peers.new rank ≡ peer_after rank reading.now (peer_at peers.old rank) }
 {
     for rank in 0..32u8 {
         let place = usize::from(rank);

@@ -28,7 +28,8 @@ impl Tally {
     }
 
     fn first_in_majority(&self, settings: &Settings, ranks: &[Rank]) -> Option<Rank>
-        ensures { result ≡ find (λ rank. was_in_majority_of settings.now self.now rank.0) ranks.now }
+        ensures { result
+            ≡ find (λ rank. was_in_majority_of settings.now self.now rank.0) ranks.now }
     {
         ranks
             .iter()

@@ -49,14 +49,20 @@ impl Lines {
         out: &mut O,
     ) -> Result<LineRead, Failed>
         ensures reads { IfOk result (λ read. ReadsLine read self.new.line.items
-            (prepend_known self.old.pieces (I.left input.old)) (prepend_known self.new.pieces (I.left input.new))) }
+            (prepend_known self.old.pieces (I.left input.old))
+            (prepend_known self.new.pieces (I.left input.new))) }
         ensures unended { OnOk result (HasNoLineFeed self.new.line.items) }
         ensures drained { IfOk result (λ read. IsDrainedLine read self.new.pieces) }
-        ensures read_failed { IfOk result (λ read. OnFailedLine read (HasRisen (I.faults input.old) (I.faults input.new))) }
-        ensures given { OnOk result (GivesOut (O.written out.old) (O.written out.new) self.new.output self.old.output) }
+        ensures read_failed { IfOk result
+            (λ read. OnFailedLine read (HasRisen (I.faults input.old) (I.faults input.new))) }
+        ensures given { OnOk result
+            (GivesOut (O.written out.old) (O.written out.new) self.new.output self.old.output) }
 
-        ensures kept { OnErr result (prepend_known self.new.pieces (I.left input.new) ≡ prepend_known self.old.pieces (I.left input.old)) }
-        ensures prefix { OnErr result (AppendsFront (O.written out.old) (O.written out.new) self.old.output) }
+        ensures kept { OnErr result
+            (prepend_known self.new.pieces (I.left input.new)
+            ≡ prepend_known self.old.pieces (I.left input.old)) }
+        ensures prefix { OnErr result
+            (AppendsFront (O.written out.old) (O.written out.new) self.old.output) }
         ensures write_failed { OnErr result (HasRisen (O.faults out.old) (O.faults out.new)) }
 
         ensures within { length self.new.pieces ≤ PIECE }
@@ -75,11 +81,13 @@ impl Lines {
     fn read<I: Source>(&mut self, input: &mut I) -> LineRead
         requires { self.old.output ≡ [] }
         ensures reads { ReadsLine result self.new.line.items
-            (prepend_known self.old.pieces (I.left input.old)) (prepend_known self.new.pieces (I.left input.new)) }
+            (prepend_known self.old.pieces (I.left input.old))
+            (prepend_known self.new.pieces (I.left input.new)) }
         ensures unended { HasNoLineFeed self.new.line.items }
         ensures drained { IsDrainedLine result self.new.pieces }
         ensures within { length self.new.pieces ≤ PIECE }
-        ensures read_failed { OnFailedLine result (HasRisen (I.faults input.old) (I.faults input.new)) }
+        ensures read_failed { OnFailedLine result
+            (HasRisen (I.faults input.old) (I.faults input.new)) }
         ensures never_falls { I.faults input.old ≤ I.faults input.new }
         ensures output { self.new.output ≡ [] }
     {

@@ -46,8 +46,10 @@ impl Output {
     /// fit. At `Failed` a prefix of both was written.
     pub fn put<O: Sink>(&mut self, out: &mut O, text: &[u8]) -> Result<(), Failed>
         requires { length text.now ≤ MOST_LINE_BYTES }
-        ensures given { OnOk result (GivesOut (O.written out.old) (O.written out.new) self.new (self.old ++ text.now)) }
-        ensures prefix { OnErr result (AppendsFront (O.written out.old) (O.written out.new) (self.old ++ text.now)) }
+        ensures given { OnOk result
+            (GivesOut (O.written out.old) (O.written out.new) self.new (self.old ++ text.now)) }
+        ensures prefix { OnErr result
+            (AppendsFront (O.written out.old) (O.written out.new) (self.old ++ text.now)) }
         ensures never_falls { O.faults out.old ≤ O.faults out.new }
         ensures cause { OnErr result (HasRisen (O.faults out.old) (O.faults out.new)) }
     {
@@ -68,9 +70,11 @@ impl Output {
 
     /// Writes all that waits. At `Failed` a prefix of it was written.
     pub fn flush<O: Sink>(&mut self, out: &mut O) -> Result<(), Failed>
-        ensures whole { OnOk result (O.written out.new ≡ append_known (O.written out.old) self.old) }
+        ensures whole { OnOk result
+            (O.written out.new ≡ append_known (O.written out.old) self.old) }
         ensures empty { OnOk result (self.new ≡ []) }
-        ensures prefix { OnErr result (AppendsFront (O.written out.old) (O.written out.new) self.old) }
+        ensures prefix { OnErr result
+            (AppendsFront (O.written out.old) (O.written out.new) self.old) }
         ensures never_falls { O.faults out.old ≤ O.faults out.new }
         ensures cause { OnErr result (HasRisen (O.faults out.old) (O.faults out.new)) }
     {

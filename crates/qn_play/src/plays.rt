@@ -28,13 +28,19 @@ pub trait Plays {
         line: &[u8],
         text: &mut ArrayVec<u8, MOST_LINE_BYTES>,
     ) -> Result<(), ReplayEnd>
-        requires { (start : Self) × ((earlier : List (List ℕ)) × stands start self.old earlier × (length earlier < MOST_EVENTS)) }
-        ensures text { OnOk result ((start : Self) (earlier : List (List ℕ)) → stands start self.old earlier
+        requires { (start : Self)
+            × ((earlier : List (List ℕ)) × stands start self.old earlier
+            × (length earlier < MOST_EVENTS)) }
+        ensures text { OnOk result
+            ((start : Self) (earlier : List (List ℕ)) → stands start self.old earlier
             → play start earlier line.now ≡ Ok text.new.items) }
-        ensures stands { OnOk result ((start : Self) (earlier : List (List ℕ)) → stands start self.old earlier
+        ensures stands { OnOk result
+            ((start : Self) (earlier : List (List ℕ)) → stands start self.old earlier
             → stands start self.new (line.now ∷ earlier)) }
-        ensures end { IfErr result (λ end. (start : Self) (earlier : List (List ℕ)) → stands start self.old earlier
+        ensures end { IfErr result
+            (λ end. (start : Self) (earlier : List (List ℕ)) → stands start self.old earlier
             → RefusesAt (play start) (wants start) earlier line.now end) }
-        ensures kept { OnErr result ((start : Self) (earlier : List (List ℕ)) → stands start self.old earlier
+        ensures kept { OnErr result
+            ((start : Self) (earlier : List (List ℕ)) → stands start self.old earlier
             → stands start self.new earlier) };
 }

@@ -32,14 +32,18 @@ pub fn play<W: Plays, I: Source, O: Sink>(
     // The trace and the end are the defined ones of the bytes that were taken, or a prefix of the trace was written.
     ensures runs { Runs (rest_of (W.play world.old) head []) (W.stands world.old world.new)
         (WantsAtLine (W.play world.old) (W.wants world.old) (W.stands world.old world.new) head)
-        (prepend_known pieces (I.left input.old)) (I.left input.new) (HasRisen (I.faults input.old) (I.faults input.new))
-        (O.written out.old) (O.written out.new) (HasRisen (O.faults out.old) (O.faults out.new)) result }
+        (prepend_known pieces (I.left input.old)) (I.left input.new)
+        (HasRisen (I.faults input.old) (I.faults input.new))
+        (O.written out.old) (O.written out.new)
+        (HasRisen (O.faults out.old) (O.faults out.new)) result }
 
     // Where nothing failed, they are those of all the bytes that were there.
-    ensures complete { ¬ HasRisen (I.faults input.old) (I.faults input.new) → ¬ HasRisen (O.faults out.old) (O.faults out.new)
+    ensures complete { ¬ HasRisen (I.faults input.old) (I.faults input.new)
+        → ¬ HasRisen (O.faults out.old) (O.faults out.new)
         → result ≢ ReplayEnd.NoMemory
         → IfSome (prepend_known pieces (I.left input.old)) (λ bytes.
-        AnswersWhole (rest_of (W.play world.old) head [] Ended bytes) (O.written out.old) (O.written out.new) result) }
+        AnswersWhole (rest_of (W.play world.old) head [] Ended bytes) (O.written out.old)
+        (O.written out.new) result) }
 
     ensures source_faults { I.faults input.old ≤ I.faults input.new }
     ensures sink_faults { O.faults out.old ≤ O.faults out.new }
@@ -62,7 +66,8 @@ pub fn play<W: Plays, I: Source, O: Sink>(
 
 /// The end of a run, before which what waits is written.
 fn finish<O: Sink>(end: ReplayEnd, output: &mut Output, out: &mut O) -> ReplayEnd
-    ensures finishes { Finishes end output.old (O.written out.old) (O.written out.new) (HasRisen (O.faults out.old) (O.faults out.new)) result }
+    ensures finishes { Finishes end output.old (O.written out.old) (O.written out.new)
+        (HasRisen (O.faults out.old) (O.faults out.new)) result }
     ensures never_falls { O.faults out.old ≤ O.faults out.new }
 {
     match output.flush(out) {
@@ -95,12 +100,19 @@ impl Place {
         requires numbered { self.old.head < 2 ^ 63 }
         requires short { length line.now ≤ MOST_LINE_BYTES }
         ensures text { OnOk result ((start : W) (earlier : Taken) → W.stands start world.old earlier
-            → length earlier ≡ self.old.events → judged (W.play start) self.old.head read earlier line.now ≡ Ok text.new.items) }
-        ensures stands { OnOk result ((start : W) (earlier : Taken) → W.stands start world.old earlier
+            → length earlier ≡ self.old.events
+            → judged (W.play start) self.old.head read earlier line.now ≡ Ok text.new.items) }
+        ensures stands { OnOk result
+            ((start : W) (earlier : Taken) → W.stands start world.old earlier
             → W.stands start world.new (line.now ∷ earlier)) }
-        ensures end { IfErr result (λ end. (start : W) (earlier : Taken) → W.stands start world.old earlier
-            → length earlier ≡ self.old.events → RefusesAt (judged (W.play start) self.old.head read) (W.wants start) earlier line.now end) }
-        ensures kept { OnErr result ((start : W) (earlier : Taken) → W.stands start world.old earlier → W.stands start world.new earlier) }
+        ensures end { IfErr result
+            (λ end. (start : W) (earlier : Taken) → W.stands start world.old earlier
+            → length earlier ≡ self.old.events
+            → RefusesAt (judged (W.play start) self.old.head read)
+            (W.wants start) earlier line.now end) }
+        ensures kept { OnErr result
+            ((start : W) (earlier : Taken) → W.stands start world.old earlier
+            → W.stands start world.new earlier) }
         ensures counted { OnOk result (self.new.events ≡ self.old.events + 1) }
         ensures few { OnOk result (self.old.events < MOST_EVENTS) }
         ensures head { self.new.head ≡ self.old.head }
@@ -124,12 +136,19 @@ impl Place {
         requires numbered { self.old.head < 2 ^ 63 }
         requires short { length line.now ≤ MOST_LINE_BYTES }
         ensures text { OnOk result ((start : W) (earlier : Taken) → W.stands start world.old earlier
-            → length earlier ≡ self.old.events → line_of (W.play start) self.old.head earlier line.now ≡ Ok text.new.items) }
-        ensures stands { OnOk result ((start : W) (earlier : Taken) → W.stands start world.old earlier
+            → length earlier ≡ self.old.events
+            → line_of (W.play start) self.old.head earlier line.now ≡ Ok text.new.items) }
+        ensures stands { OnOk result
+            ((start : W) (earlier : Taken) → W.stands start world.old earlier
             → W.stands start world.new (line.now ∷ earlier)) }
-        ensures end { IfErr result (λ end. (start : W) (earlier : Taken) → W.stands start world.old earlier
-            → length earlier ≡ self.old.events → RefusesAt (line_of (W.play start) self.old.head) (W.wants start) earlier line.now end) }
-        ensures kept { OnErr result ((start : W) (earlier : Taken) → W.stands start world.old earlier → W.stands start world.new earlier) }
+        ensures end { IfErr result
+            (λ end. (start : W) (earlier : Taken) → W.stands start world.old earlier
+            → length earlier ≡ self.old.events
+            → RefusesAt (line_of (W.play start) self.old.head)
+            (W.wants start) earlier line.now end) }
+        ensures kept { OnErr result
+            ((start : W) (earlier : Taken) → W.stands start world.old earlier
+            → W.stands start world.new earlier) }
         ensures counted { OnOk result (self.new.events ≡ self.old.events + 1) }
         ensures few { OnOk result (self.old.events < MOST_EVENTS) }
         ensures head { self.new.head ≡ self.old.head }
@@ -146,7 +165,8 @@ impl Place {
     fn bad_line(&self, fault: LineFault) -> ReplayEnd
         requires numbered { self.now.head < 2 ^ 63 }
         requires few { self.now.events ≤ MOST_EVENTS }
-        ensures { (earlier : Taken) → length earlier ≡ self.now.events → result ≡ bad_line self.now.head earlier fault }
+        ensures { (earlier : Taken) → length earlier ≡ self.now.events
+            → result ≡ bad_line self.now.head earlier fault }
     {
         ReplayEnd::BadSchedule {
             line: self.head + self.events + 1,
@@ -158,7 +178,8 @@ impl Place {
     fn end_at(&self, rest: &[u8]) -> ReplayEnd
         requires numbered { self.now.head < 2 ^ 63 }
         requires few { self.now.events ≤ MOST_EVENTS }
-        ensures { (earlier : Taken) → length earlier ≡ self.now.events → result ≡ end_at self.now.head earlier rest.now }
+        ensures { (earlier : Taken) → length earlier ≡ self.now.events
+            → result ≡ end_at self.now.head earlier rest.now }
     {
         if rest.is_empty() {
             return ReplayEnd::Done {

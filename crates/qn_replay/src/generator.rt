@@ -46,7 +46,8 @@ impl Gen {
         ensures drawn { (d : WorldBefore) → WorldFor world.now d
             → record { event = result; state = self.new } ≡ next_event d self.old }
         ensures formed { is_well_formed soak_settings result ≡ true }
-        ensures allowed { (d : WorldBefore) → WorldFor world.now d → refusal soak_settings soak_timing result d ≡ None }
+        ensures allowed { (d : WorldBefore) → WorldFor world.now d
+            → refusal soak_settings soak_timing result d ≡ None }
     {
         let mut event = Event::Tick(Rank(0));
         self.next_into(world, &mut event);
@@ -61,7 +62,8 @@ impl Gen {
         ensures drawn { (d : WorldBefore) → WorldFor world.now d
             → record { event = into.new; state = self.new } ≡ next_event d self.old }
         ensures formed { is_well_formed soak_settings into.new ≡ true }
-        ensures allowed { (d : WorldBefore) → WorldFor world.now d → refusal soak_settings soak_timing into.new d ≡ None }
+        ensures allowed { (d : WorldBefore) → WorldFor world.now d
+            → refusal soak_settings soak_timing into.new d ≡ None }
     {
         self.candidate(world, into);
         keep_or_replace(into, world);
@@ -70,7 +72,8 @@ impl Gen {
     /// The candidate for the next event.
     fn candidate(&mut self, world: &World, into: &mut Event)
         requires settings { world.now.settings ≡ soak_settings }
-        ensures drawn { (d : WorldBefore) → WorldFor world.now d → record { event = into.new; state = self.new } ≡ candidate d self.old }
+        ensures drawn { (d : WorldBefore) → WorldFor world.now d
+            → record { event = into.new; state = self.new } ≡ candidate d self.old }
         ensures formed { is_well_formed soak_settings into.new ≡ true }
     {
         let choice = Choice::of(self.draw() % 16);
@@ -100,7 +103,8 @@ impl Gen {
     #[tactic(auto, unfolding(crate::specs::Generator::next_step, qn_model::specs::Rules::is_well_formed))]
     fn next_step(&mut self, pending: Pending, now: u64, rank: Rank, into: &mut Event)
         requires rank { rank.0 < 3 }
-        ensures drawn { record { event = into.new; state = self.new } ≡ next_step pending now rank self.old }
+        ensures drawn { record { event = into.new; state = self.new }
+            ≡ next_step pending now rank self.old }
         ensures formed { is_well_formed soak_settings into.new ≡ true }
     {
         if !pending.running {
@@ -123,7 +127,8 @@ impl Gen {
     fn pass_of(&mut self, world: &World, into: &mut Event)
         requires { world.now.settings ≡ soak_settings }
         ensures drawn { (d : WorldBefore) → WorldFor world.now d
-            → record { event = into.new; state = self.new } ≡ chosen_event d Choice.Pass (record { 0 = 0 }) self.old }
+            → record { event = into.new; state = self.new }
+            ≡ chosen_event d Choice.Pass (record { 0 = 0 }) self.old }
         ensures formed { is_well_formed soak_settings into.new ≡ true }
     {
         let first = world.pending(Rank(0));
@@ -134,7 +139,8 @@ impl Gen {
 
     /// A pass, with a clock for each of the nodes that run.
     fn pass(&mut self, first: bool, second: bool, third: bool, into: &mut Event)
-        ensures drawn { record { event = into.new; state = self.new } ≡ pass_at first second third (next_state self.old) }
+        ensures drawn { record { event = into.new; state = self.new }
+            ≡ pass_at first second third (next_state self.old) }
         ensures formed { is_well_formed soak_settings into.new ≡ true }
     {
         let dt = 1 + self.draw() % 400;
@@ -150,7 +156,8 @@ impl Gen {
     fn add_clock(&mut self, clocks: &mut Clocks, dt: u64, rank: Rank, running: bool)
         requires room { length clocks.old < 30 }
         requires short { dt ≤ 400 }
-        ensures drawn { record { clocks = clocks.new; state = self.new } ≡ with_clock dt rank.0 running (record { clocks = clocks.old; state = self.old }) }
+        ensures drawn { record { clocks = clocks.new; state = self.new }
+            ≡ with_clock dt rank.0 running (record { clocks = clocks.old; state = self.old }) }
         ensures len { length clocks.new ≤ length clocks.old + 1 }
     {
         if running {
@@ -163,7 +170,8 @@ impl Gen {
     #[tactic(auto, unfolding(crate::specs::Generator::view_at))]
     fn view(&mut self, rank: Rank, into: &mut Event)
         requires { rank.0 < 3 }
-        ensures drawn { record { event = into.new; state = self.new } ≡ view_at rank (next_state self.old) }
+        ensures drawn { record { event = into.new; state = self.new }
+            ≡ view_at rank (next_state self.old) }
         ensures formed { is_well_formed soak_settings into.new ≡ true }
     {
         let kind = self.draw() % 3;
@@ -183,7 +191,8 @@ impl Gen {
         requires settings { world.now.settings ≡ soak_settings }
         requires rank { rank.0 < 3 }
         ensures drawn { (d : WorldBefore) → WorldFor world.now d
-            → record { event = into.new; state = self.new } ≡ delivery rank (length (packets soak_settings d.moments)) d self.old }
+            → record { event = into.new; state = self.new }
+            ≡ delivery rank (length (packets soak_settings d.moments)) d self.old }
         ensures formed { is_well_formed soak_settings into.new ≡ true }
     {
         let count = world.packets();

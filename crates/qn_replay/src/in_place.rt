@@ -19,7 +19,8 @@ pub(crate) fn keep_or_replace(event: &mut Event, world: &World)
     requires formed { is_well_formed soak_settings event.old ≡ true }
     ensures drawn { (d : WorldBefore) → WorldFor world.now d → event.new ≡ in_place d event.old }
     ensures formed { is_well_formed soak_settings event.new ≡ true }
-    ensures allowed { (d : WorldBefore) → WorldFor world.now d → refusal soak_settings soak_timing event.new d ≡ None }
+    ensures allowed { (d : WorldBefore) → WorldFor world.now d
+        → refusal soak_settings soak_timing event.new d ≡ None }
 {
     match world.allowed(event) {
         Ok(()) => {}
@@ -35,7 +36,8 @@ fn write_moment_or_forced(world: &World, into: &mut Event)
     ensures drawn { (d : WorldBefore) → WorldFor world.now d
         → into.new ≡ (if may_happen moment d then moment else forced d) }
     ensures formed { is_well_formed soak_settings into.new ≡ true }
-    ensures allowed { (d : WorldBefore) → WorldFor world.now d → refusal soak_settings soak_timing into.new d ≡ None }
+    ensures allowed { (d : WorldBefore) → WorldFor world.now d
+        → refusal soak_settings soak_timing into.new d ≡ None }
 {
     write_moment(into);
     match world.allowed(into) {
@@ -74,7 +76,8 @@ fn write_forced(world: &World, into: &mut Event)
 fn overdue(world: &World) -> Option<Rank>
     requires settings { world.now.settings ≡ soak_settings }
     requires early { world.now.time ≤ LATEST_TIME }
-    ensures least { (d : WorldBefore) → WorldFor world.now d → option_map (λ rank. rank.0) result ≡ overdue d }
+    ensures least { (d : WorldBefore) → WorldFor world.now d
+        → option_map (λ rank. rank.0) result ≡ overdue d }
     ensures configured { IfSome result (λ rank. rank.0 < 3) }
 {
     let now = world.time();

@@ -16,11 +16,14 @@ use std::alloc::Global;
 /// is never `Done` or `WriteFault`; `NoMemory` comes only where it ran out of memory. It reads as `replay` does,
 /// and writes nothing.
 pub fn last_world<I: Source>(alloc: Global, input: &mut I) -> Result<World, ReplayEnd>
-    ensures reaches { Reaches (I.left input.old) (I.left input.new) (HasRisen (I.faults input.old) (I.faults input.new)) result }
-    ensures complete { ¬ HasRisen (I.faults input.old) (I.faults input.new) → result ≢ Err ReplayEnd.NoMemory
+    ensures reaches { Reaches (I.left input.old) (I.left input.new)
+        (HasRisen (I.faults input.old) (I.faults input.new)) result }
+    ensures complete { ¬ HasRisen (I.faults input.old) (I.faults input.new)
+        → result ≢ Err ReplayEnd.NoMemory
         → IfSome (I.left input.old) (λ bytes. GivesWorld result (replay_of Ended bytes)) }
     ensures fault { IfErr result IsFault }
-    ensures read_fault { result ≡ Err ReplayEnd.ReadFault → HasRisen (I.faults input.old) (I.faults input.new) }
+    ensures read_fault { result ≡ Err ReplayEnd.ReadFault
+        → HasRisen (I.faults input.old) (I.faults input.new) }
     ensures source_faults { I.faults input.old ≤ I.faults input.new }
 {
     run_silent(alloc, input)
@@ -28,7 +31,8 @@ pub fn last_world<I: Source>(alloc: Global, input: &mut I) -> Result<World, Repl
 
 /// A replay up to its end, of which nothing is written.
 fn run_silent<I: Source>(alloc: Global, input: &mut I) -> Result<World, ReplayEnd>
-    ensures reaches { Reaches (I.left input.old) (I.left input.new) (HasRisen (I.faults input.old) (I.faults input.new)) result }
+    ensures reaches { Reaches (I.left input.old) (I.left input.new)
+        (HasRisen (I.faults input.old) (I.faults input.new)) result }
     ensures fault { IfErr result IsFault }
     ensures source_faults { I.faults input.old ≤ I.faults input.new }
 {

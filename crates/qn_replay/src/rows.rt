@@ -22,11 +22,15 @@ pub fn law_heads()
     ensures event { (replay_of Ended
         (codes "nodelist {\nnode {\nnodeid: 1\n}\n}\n----\ntiming 5000 10000 1000 2000 1000\ntock 1\n")).end
         ≡ BadSchedule 8 UnknownWord }
-    ensures no_timing { replay_of Ended (codes "nodelist {\nnode {\nnodeid: 1\n}\n}\n----\n") ≡ ends (BadSchedule 7 Unended) }
-    ensures failed { replay_of ReadFailed (codes "nodelist {\nnode {\nnodeid: 1\n}\n}\n----\n") ≡ ends ReadFault }
+    ensures no_timing { replay_of Ended (codes "nodelist {\nnode {\nnodeid: 1\n}\n}\n----\n")
+        ≡ ends (BadSchedule 7 Unended) }
+    ensures failed { replay_of ReadFailed (codes "nodelist {\nnode {\nnodeid: 1\n}\n}\n----\n")
+        ≡ ends ReadFault }
     ensures unsafe_times { replay_of Ended
         (codes "nodelist {\nnode {\nnodeid: 1\n}\n}\n----\ntiming 5000 8163 1000 2000 1000\n")
-        ≡ ends (UnsafeTiming (record { watchdog = 5000; msgwait = 8163; loop_ms = 1000; read_limit = 2000; feed_delay = 1000 })) }
+        ≡ ends (UnsafeTiming
+        (record { watchdog = 5000; msgwait = 8163; loop_ms = 1000; read_limit = 2000;
+        feed_delay = 1000 })) }
 {}
 
 /// The faults of a settings text come at its end `----`, before the timing line; without that end they do
@@ -34,7 +38,8 @@ pub fn law_heads()
 pub fn law_texts()
     ensures empty { replay_of Ended (codes "") ≡ ends (BadSchedule 1 Unended) }
     ensures no_nodes { replay_of Ended (codes "----\n") ≡ ends (BadSettings NoNodes) }
-    ensures extra_close { replay_of Ended (codes "}\n----\ntock\n") ≡ ends (BadConf (ExtraClose 1)) }
+    ensures extra_close { replay_of Ended (codes "}\n----\ntock\n")
+        ≡ ends (BadConf (ExtraClose 1)) }
     ensures no_end { replay_of Ended (codes "}\n----") ≡ ends (BadSchedule 2 Unended) }
 {}
 

@@ -21,11 +21,15 @@ use std::alloc::Global;
 pub fn soak<O: Sink>(alloc: Global, seed: u64, events: u64, out: &mut O) -> ReplayEnd
     requires { events ≤ MOST_EVENTS }
     ensures ends { IsSoakEnd events result }
-    ensures done { result ≡ ReplayEnd.Done events → O.written out.new ≡ append_known (O.written out.old) (soak_text seed events) }
-    ensures one_holder { result ≡ ReplayEnd.Done events → (soaked seed events).tally.most_holders ≤ 1 }
-    ensures cut { result ≡ ReplayEnd.WriteFault → AppendsFront (O.written out.old) (O.written out.new) (soak_text seed events) }
+    ensures done { result ≡ ReplayEnd.Done events
+        → O.written out.new ≡ append_known (O.written out.old) (soak_text seed events) }
+    ensures one_holder { result ≡ ReplayEnd.Done events
+        → (soaked seed events).tally.most_holders ≤ 1 }
+    ensures cut { result ≡ ReplayEnd.WriteFault
+        → AppendsFront (O.written out.old) (O.written out.new) (soak_text seed events) }
     ensures wanted { result ≡ ReplayEnd.NoMemory → out.new ≡ out.old }
-    ensures write_fault { result ≡ ReplayEnd.WriteFault → HasRisen (O.faults out.old) (O.faults out.new) }
+    ensures write_fault { result ≡ ReplayEnd.WriteFault
+        → HasRisen (O.faults out.old) (O.faults out.new) }
     ensures sink_faults { O.faults out.old ≤ O.faults out.new }
 {
     match tally_of(alloc, seed, events) {

@@ -22,7 +22,8 @@ pub(crate) fn start<I: Source>(
     ensures begins { IfOk result Begins }
     ensures fault { IfErr result IsFault }
     ensures head { IfOk result (λ playback. GoesOn replay_of (event_rest (start_of playback))
-        (prepend_known pieces.old (I.left input.old)) (prepend_known pieces.new (I.left input.new))) }
+        (prepend_known pieces.old (I.left input.old))
+        (prepend_known pieces.new (I.left input.new))) }
     ensures end { IfErr result (Stops replay_of None Anywhere
         (prepend_known pieces.old (I.left input.old)) (prepend_known pieces.new (I.left input.new))
         ((pieces.new ≡ []) × IsAtEnd (I.left input.new))

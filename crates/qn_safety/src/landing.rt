@@ -15,7 +15,8 @@ ghost use Rattle.qn_safety.specs.Lemmas.{HasEnded};
 /// mailbox of that other node holds it; and the incarnation of it that was up then, if one was, is not running any more
 /// once msgwait has passed by the clock of the node that wrote the reset.
 pub fn law_landed_reset()
-    ensures mailbox { (s : Settings) (t : Timing) (events earlier : List Event) (writer other : Rank)
+    ensures mailbox { (s : Settings) (t : Timing) (events earlier : List Event)
+        (writer other : Rank)
         → LandsReset s t writer other earlier events
         → (run s t (event.Land writer ∷ earlier)).mailboxes other.0 ≡ message.Reset }
     ensures ended { (s : Settings) (t : Timing) (events earlier : List Event) (writer other : Rank)

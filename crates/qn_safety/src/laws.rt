@@ -63,7 +63,8 @@ pub fn law_incarnations()
     ensures number { (s : Settings) (t : Timing) (events : List Event) (rank : ℕ)
         → AllAllowed s t events
         → IsUp s rank (run s t events).moments
-        → incarnation (node_at s rank (run s t events)).log ≡ Some ((run s t events).slots rank).incarnation }
+        → incarnation (node_at s rank (run s t events)).log
+        ≡ Some ((run s t events).slots rank).incarnation }
     ensures dirty { (s : Settings) (t : Timing) (events : List Event) (rank : ℕ)
         → AllAllowed s t events
         → IsUp s rank (run s t events).moments

@@ -16,19 +16,23 @@ ghost use Rattle.qn_safety.specs.Timed.{IsAdded, IsBetween, IsTimedRun};
 /// that the incarnation of the other node that was up at it, if one was, is not running any more once
 /// msgwait has passed for the node since the answer.
 pub fn law_fence()
-    ensures { (s : Settings) (t : Timing) (moments : List Moment) (rank other : ℕ) (line : Line) (past : List Line) (before : List Moment)
+    ensures { (s : Settings) (t : Timing) (moments : List Moment) (rank other : ℕ) (line : Line)
+        (past : List Line) (before : List Moment)
         → IsTrue (is_safe t)
         → IsTimedRun s t moments
         → IsAdded s rank line past before moments
         → IsTrue (writes_reset other line.what)
-        → (between : List Moment) × IsBetween s rank line before between × ((now : List Moment) → Before now moments → HasWaited s t rank line before now → HasEnded s other between now) }
+        → (between : List Moment) × IsBetween s rank line before between
+        × ((now : List Moment) → Before now moments → HasWaited s t rank line before now
+        → HasEnded s other between now) }
 {}
 
 /// The Tell lemma. A Tell that answers its reader was sent after the reader's last View, by a node whose
 /// present view then was that of the Tell. Where it says not holding, what its sender holds later it started
 /// after the Tell.
 pub fn law_tells()
-    ensures { (s : Settings) (t : Timing) (moments : List Moment) (reader : ℕ) (line : Line) (past : List Line) (before : List Moment) (tell : Tell)
+    ensures { (s : Settings) (t : Timing) (moments : List Moment) (reader : ℕ) (line : Line)
+        (past : List Line) (before : List Moment) (tell : Tell)
         → IsTimedRun s t moments
         → IsAdded s reader line past before moments
         → line.what ≡ what.Tell tell

@@ -24,7 +24,9 @@ pub fn read_line(line: &[u8], settings: &Settings) -> Result<Event, LineFault>
     requires { IsValid settings.now }
     ensures first_fault { result ≡ event_of (ids settings.now.nodes) line.now }
     ensures spelled { (event : Event)
-        → (result ≡ Ok event) ↔ (IsTrue (is_well_formed settings.now event) × (line.now ≡ event_line (ids settings.now.nodes) event)) }
+        → (result ≡ Ok event)
+        ↔ (IsTrue (is_well_formed settings.now event)
+        × (line.now ≡ event_line (ids settings.now.nodes) event)) }
 {
     let mut event = Event::Tick(Rank(0));
     read_line_into(line, settings, &mut event)?;
@@ -36,7 +38,8 @@ pub fn read_line_into(line: &[u8], settings: &Settings, into: &mut Event) -> Res
     requires { IsValid settings.now }
     ensures first_fault { filled_in result into.new ≡ event_of (ids settings.now.nodes) line.now }
     ensures spelled { (event : Event) → (filled_in result into.new ≡ Ok event)
-        ↔ (IsTrue (is_well_formed settings.now event) × (line.now ≡ event_line (ids settings.now.nodes) event)) }
+        ↔ (IsTrue (is_well_formed settings.now event)
+        × (line.now ≡ event_line (ids settings.now.nodes) event)) }
 {
     read_event(line, &settings.nodes, into)
 }
@@ -61,7 +64,8 @@ fn read_named(
     rest: Option<&[u8]>,
     into: &mut Event,
 ) -> Result<(), LineFault>
-    ensures { filled_in result into.new ≡ event_named (ids nodes.now) name (parts_left 32 (option_copied rest.entry)) }
+    ensures { filled_in result into.new
+        ≡ event_named (ids nodes.now) name (parts_left 32 (option_copied rest.entry)) }
 {
     match name {
         EventName::Pass => read_pass(nodes, rest, into),
@@ -81,7 +85,8 @@ fn read_named(
 /// holds after a fault is not said.
 #[tactic(auto, unfolding(crate::specs::EventReading::pass_of))]
 pub fn read_pass(nodes: &Nodes, rest: Option<&[u8]>, into: &mut Event) -> Result<(), LineFault>
-    ensures { filled_in result into.new ≡ pass_of (ids nodes.now) (parts_left 32 (option_copied rest.entry)) }
+    ensures { filled_in result into.new
+        ≡ pass_of (ids nodes.now) (parts_left 32 (option_copied rest.entry)) }
 {
     let (first, rest) = next_word(rest)?;
     let dt = number_between(1, 1_000_000_000, first)?;
@@ -93,7 +98,8 @@ pub fn read_pass(nodes: &Nodes, rest: Option<&[u8]>, into: &mut Event) -> Result
 /// `boot ID BASE`
 #[tactic(auto, unfolding(crate::specs::EventReading::boot_of))]
 fn read_boot(nodes: &Nodes, rest: Option<&[u8]>, into: &mut Event) -> Result<(), LineFault>
-    ensures { filled_in result into.new ≡ boot_of (ids nodes.now) (parts_left 32 (option_copied rest.entry)) }
+    ensures { filled_in result into.new
+        ≡ boot_of (ids nodes.now) (parts_left 32 (option_copied rest.entry)) }
 {
     let (rank, base) = read_numbered(nodes, 0, 1_000_000_000_000_000, rest)?;
     *into = Event::Boot(rank, base);
@@ -103,7 +109,8 @@ fn read_boot(nodes: &Nodes, rest: Option<&[u8]>, into: &mut Event) -> Result<(),
 /// `boot-clean ID BASE`
 #[tactic(auto, unfolding(crate::specs::EventReading::boot_clean_of))]
 fn read_boot_clean(nodes: &Nodes, rest: Option<&[u8]>, into: &mut Event) -> Result<(), LineFault>
-    ensures { filled_in result into.new ≡ boot_clean_of (ids nodes.now) (parts_left 32 (option_copied rest.entry)) }
+    ensures { filled_in result into.new
+        ≡ boot_clean_of (ids nodes.now) (parts_left 32 (option_copied rest.entry)) }
 {
     let (rank, base) = read_numbered(nodes, 0, 1_000_000_000_000_000, rest)?;
     *into = Event::BootClean(rank, base);
@@ -113,7 +120,8 @@ fn read_boot_clean(nodes: &Nodes, rest: Option<&[u8]>, into: &mut Event) -> Resu
 /// `late ID K`
 #[tactic(auto, unfolding(crate::specs::EventReading::late_of))]
 fn read_late(nodes: &Nodes, rest: Option<&[u8]>, into: &mut Event) -> Result<(), LineFault>
-    ensures { filled_in result into.new ≡ late_of (ids nodes.now) (parts_left 32 (option_copied rest.entry)) }
+    ensures { filled_in result into.new
+        ≡ late_of (ids nodes.now) (parts_left 32 (option_copied rest.entry)) }
 {
     let (rank, number) = read_numbered(nodes, 1, MOST_EVENTS, rest)?;
     *into = Event::Late(rank, number);
@@ -123,7 +131,8 @@ fn read_late(nodes: &Nodes, rest: Option<&[u8]>, into: &mut Event) -> Result<(),
 /// `deliver ID N`
 #[tactic(auto, unfolding(crate::specs::EventReading::deliver_of))]
 fn read_deliver(nodes: &Nodes, rest: Option<&[u8]>, into: &mut Event) -> Result<(), LineFault>
-    ensures { filled_in result into.new ≡ deliver_of (ids nodes.now) (parts_left 32 (option_copied rest.entry)) }
+    ensures { filled_in result into.new
+        ≡ deliver_of (ids nodes.now) (parts_left 32 (option_copied rest.entry)) }
 {
     let (rank, number) = read_numbered(nodes, 0, u64::MAX, rest)?;
     *into = Event::Deliver(rank, number);
@@ -138,7 +147,8 @@ fn read_numbered(
     high: u64,
     rest: Option<&[u8]>,
 ) -> Result<(Rank, u64), LineFault>
-    ensures { result ≡ numbered_of (ids nodes.now) low high (parts_left 32 (option_copied rest.entry)) }
+    ensures { result
+        ≡ numbered_of (ids nodes.now) low high (parts_left 32 (option_copied rest.entry)) }
 {
     let (id, number) = two_words(rest)?;
     let rank = known_rank(nodes, id)?;
@@ -149,7 +159,8 @@ fn read_numbered(
 /// `view ID VID MEMBERS`
 #[tactic(auto, unfolding(crate::specs::EventReading::view_of))]
 fn read_view(nodes: &Nodes, rest: Option<&[u8]>, into: &mut Event) -> Result<(), LineFault>
-    ensures { filled_in result into.new ≡ view_of (ids nodes.now) (parts_left 32 (option_copied rest.entry)) }
+    ensures { filled_in result into.new
+        ≡ view_of (ids nodes.now) (parts_left 32 (option_copied rest.entry)) }
 {
     let (node, id, members) = three_words(rest)?;
     let rank = known_rank(nodes, node)?;
@@ -162,7 +173,8 @@ fn read_view(nodes: &Nodes, rest: Option<&[u8]>, into: &mut Event) -> Result<(),
 /// `device ID yes` or `device ID no`
 #[tactic(auto, unfolding(crate::specs::EventReading::device_of))]
 fn read_device(nodes: &Nodes, rest: Option<&[u8]>, into: &mut Event) -> Result<(), LineFault>
-    ensures { filled_in result into.new ≡ device_of (ids nodes.now) (parts_left 32 (option_copied rest.entry)) }
+    ensures { filled_in result into.new
+        ≡ device_of (ids nodes.now) (parts_left 32 (option_copied rest.entry)) }
 {
     let (id, answer) = two_words(rest)?;
     let rank = known_rank(nodes, id)?;
@@ -187,7 +199,8 @@ fn read_yes_or_no(word: &[u8]) -> Result<bool, LineFault>
 /// `operator ID MESSAGE`
 #[tactic(auto, unfolding(crate::specs::EventReading::operator_of))]
 fn read_operator(nodes: &Nodes, rest: Option<&[u8]>, into: &mut Event) -> Result<(), LineFault>
-    ensures { filled_in result into.new ≡ operator_of (ids nodes.now) (parts_left 32 (option_copied rest.entry)) }
+    ensures { filled_in result into.new
+        ≡ operator_of (ids nodes.now) (parts_left 32 (option_copied rest.entry)) }
 {
     let (id, word) = two_words(rest)?;
     let rank = known_rank(nodes, id)?;
@@ -225,7 +238,8 @@ fn read_node_event(
     rest: Option<&[u8]>,
     into: &mut Event,
 ) -> Result<(), LineFault>
-    ensures { filled_in result into.new ≡ node_event_of (ids nodes.now) event (parts_left 32 (option_copied rest.entry)) }
+    ensures { filled_in result into.new
+        ≡ node_event_of (ids nodes.now) event (parts_left 32 (option_copied rest.entry)) }
 {
     let word = one_word(rest)?;
     let rank = known_rank(nodes, word)?;

@@ -50,7 +50,8 @@ fn add_event(into: &mut ArrayVec<u8, 4096>, nodes: &Nodes, event: &Event)
 /// Adds a word and the id of a node.
 fn add_node(into: &mut ArrayVec<u8, 4096>, word: &[u8], nodes: &Nodes, rank: Rank)
     requires { length into.old.items + length word.now ≤ 1000 }
-    ensures text { into.new.items ≡ into.old.items ++ (word.now ++ 32 ∷ id_word (ids nodes.now) rank) }
+    ensures text { into.new.items
+        ≡ into.old.items ++ (word.now ++ 32 ∷ id_word (ids nodes.now) rank) }
     ensures len { length into.new.items ≤ length into.old.items + length word.now + 21 }
 {
     add(into, word);
@@ -61,7 +62,9 @@ fn add_node(into: &mut ArrayVec<u8, 4096>, word: &[u8], nodes: &Nodes, rank: Ran
 /// Adds a word, the id of a node, and a number.
 fn add_numbered(into: &mut ArrayVec<u8, 4096>, word: &[u8], nodes: &Nodes, rank: Rank, number: u64)
     requires { length into.old.items + length word.now ≤ 1000 }
-    ensures text { into.new.items ≡ into.old.items ++ (word.now ++ 32 ∷ (id_word (ids nodes.now) rank ++ 32 ∷ decimal number)) }
+    ensures text { into.new.items
+        ≡ into.old.items
+        ++ (word.now ++ 32 ∷ (id_word (ids nodes.now) rank ++ 32 ∷ decimal number)) }
     ensures len { length into.new.items ≤ length into.old.items + length word.now + 42 }
 {
     add_node(into, word, nodes, rank);
@@ -73,7 +76,9 @@ fn add_numbered(into: &mut ArrayVec<u8, 4096>, word: &[u8], nodes: &Nodes, rank:
 fn add_view(into: &mut ArrayVec<u8, 4096>, nodes: &Nodes, rank: Rank, view: View)
     requires { length into.old.items ≤ 100 }
     ensures { into.new.items ≡ into.old.items
-        ++ (codes "view" ++ 32 ∷ (id_word (ids nodes.now) rank ++ 32 ∷ (decimal view.id ++ 32 ∷ member_word (ids nodes.now) view.members))) }
+        ++ (codes "view"
+        ++ 32 ∷ (id_word (ids nodes.now) rank
+        ++ 32 ∷ (decimal view.id ++ 32 ∷ member_word (ids nodes.now) view.members))) }
 {
     add_numbered(into, b"view", nodes, rank, view.id);
     add(into, b" ");
@@ -83,7 +88,9 @@ fn add_view(into: &mut ArrayVec<u8, 4096>, nodes: &Nodes, rank: Rank, view: View
 /// Adds the line of a device.
 fn add_device(into: &mut ArrayVec<u8, 4096>, nodes: &Nodes, rank: Rank, agrees: bool)
     requires { length into.old.items ≤ 100 }
-    ensures { into.new.items ≡ into.old.items ++ (codes "device" ++ 32 ∷ (id_word (ids nodes.now) rank ++ 32 ∷ yes_no agrees)) }
+    ensures { into.new.items
+        ≡ into.old.items
+        ++ (codes "device" ++ 32 ∷ (id_word (ids nodes.now) rank ++ 32 ∷ yes_no agrees)) }
 {
     add_node(into, b"device", nodes, rank);
     add(into, b" ");
@@ -104,7 +111,10 @@ fn add_operator(into: &mut ArrayVec<u8, 4096>, nodes: &Nodes, rank: Rank, messag
 /// Adds the line of a pass.
 fn add_pass(into: &mut ArrayVec<u8, 4096>, nodes: &Nodes, dt: u64, clocks: &Clocks)
     requires { length into.old.items ≤ 100 }
-    ensures { into.new.items ≡ into.old.items ++ join_with_byte 32 (codes "pass" ∷ decimal dt ∷ map (clock_word (ids nodes.now)) clocks.now) }
+    ensures { into.new.items
+        ≡ into.old.items
+        ++ join_with_byte 32
+        (codes "pass" ∷ decimal dt ∷ map (clock_word (ids nodes.now)) clocks.now) }
 {
     add(into, b"pass ");
     add_number(into, dt);

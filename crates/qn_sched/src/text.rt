@@ -44,7 +44,8 @@ pub(crate) fn member_ids(nodes: &Nodes, members: Mask) -> ArrayVec<u32, 32>
 /// Adds the ids of the members, ascending, joined by a byte.
 pub(crate) fn add_members(into: &mut ArrayVec<u8, 4096>, byte: u8, nodes: &Nodes, members: Mask)
     requires { length into.old.items ≤ 3000 }
-    ensures text { into.new.items ≡ into.old.items ++ joined byte (ids_from 0 (ids nodes.now) members) }
+    ensures text { into.new.items
+        ≡ into.old.items ++ joined byte (ids_from 0 (ids nodes.now) members) }
     ensures len { length into.new.items ≤ length into.old.items + 21 * 32 }
 {
     let list = member_ids(nodes, members);

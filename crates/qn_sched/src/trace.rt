@@ -35,7 +35,8 @@ pub fn write_why(why: &Why, into: &mut ArrayVec<u8, 64>)
 /// Adds a count that is too low.
 fn add_not_quorate(into: &mut ArrayVec<u8, 64>, votes: u64, quorum: u64)
     requires { into.old.items ≡ [] }
-    ensures { into.new.items ≡ codes "not-quorate:" ++ decimal votes ++ codes "/" ++ decimal quorum }
+    ensures { into.new.items
+        ≡ codes "not-quorate:" ++ decimal votes ++ codes "/" ++ decimal quorum }
 {
     add(into, b"not-quorate:");
     add_number(into, votes);
@@ -94,7 +95,8 @@ pub fn write_trace_with(
     into: &mut ArrayVec<u8, 4096>,
 )
     requires short { length said.now ≤ 100 }
-    ensures text { into.new.items ≡ trace_line_with (ids settings.now.nodes) number report.now said.now }
+    ensures text { into.new.items
+        ≡ trace_line_with (ids settings.now.nodes) number report.now said.now }
     ensures fits { length into.new.items ≤ 4000 }
 {
     let nodes = &settings.nodes;
@@ -120,7 +122,8 @@ fn begin_line(number: u64, time: u64, into: &mut ArrayVec<u8, 4096>)
 fn add_untouched(into: &mut ArrayVec<u8, 4096>, nodes: &Nodes, report: &Report, said: &[u8])
     requires room { length into.old.items ≤ 100 }
     requires short { length said.now ≤ 100 }
-    ensures text { into.new.items ≡ into.old.items ++ touched_with (ids nodes.now) report.now said.now None }
+    ensures text { into.new.items
+        ≡ into.old.items ++ touched_with (ids nodes.now) report.now said.now None }
     ensures len { length into.new.items ≤ length into.old.items + 3000 }
 {
     add(into, b" ");
@@ -132,7 +135,8 @@ fn add_untouched(into: &mut ArrayVec<u8, 4096>, nodes: &Nodes, report: &Report, 
 /// Adds what stands after the time at an event of a node.
 fn add_touched(into: &mut ArrayVec<u8, 4096>, nodes: &Nodes, report: &Report, rank: Rank)
     requires { length into.old.items ≤ 100 }
-    ensures text { into.new.items ≡ into.old.items ++ touched_text (ids nodes.now) report.now (Some rank) }
+    ensures text { into.new.items
+        ≡ into.old.items ++ touched_text (ids nodes.now) report.now (Some rank) }
     ensures len { length into.new.items ≤ length into.old.items + 3000 }
 {
     add(into, b" ");
@@ -146,7 +150,8 @@ fn add_touched(into: &mut ArrayVec<u8, 4096>, nodes: &Nodes, report: &Report, ra
 fn add_said(into: &mut ArrayVec<u8, 4096>, nodes: &Nodes, report: &Report, rank: Rank, said: &[u8])
     requires room { length into.old.items ≤ 100 }
     requires short { length said.now ≤ 100 }
-    ensures text { into.new.items ≡ into.old.items ++ touched_with (ids nodes.now) report.now said.now (Some rank) }
+    ensures text { into.new.items
+        ≡ into.old.items ++ touched_with (ids nodes.now) report.now said.now (Some rank) }
     ensures len { length into.new.items ≤ length into.old.items + 3000 }
 {
     add(into, b" ");
@@ -257,7 +262,8 @@ fn add_out(into: &mut ArrayVec<u8, 4096>, nodes: &Nodes, out: &Out)
 
 fn add_send(into: &mut ArrayVec<u8, 4096>, nodes: &Nodes, rank: Rank, packet: Packet)
     requires { length into.old.items ≤ 4000 }
-    ensures text { into.new.items ≡ into.old.items ++ (packet_word packet ++ codes ">" ++ id_word (ids nodes.now) rank) }
+    ensures text { into.new.items
+        ≡ into.old.items ++ (packet_word packet ++ codes ">" ++ id_word (ids nodes.now) rank) }
     ensures len { length into.new.items ≤ length into.old.items + 40 }
 {
     add(into, packet_name(packet).as_bytes());

@@ -9,7 +9,8 @@ use qn_model::LineFault;
 /// The first part of a text round a byte, and the text after that byte, or none where the byte is not
 /// there.
 pub fn first_part(text: &[u8], byte: u8) -> (&[u8], Option<&[u8]>)
-    ensures parts { parts byte text.entry.now ≡ result.0.now ∷ parts_left byte (option_copied result.1) }
+    ensures parts { parts byte text.entry.now
+        ≡ result.0.now ∷ parts_left byte (option_copied result.1) }
     ensures front_fits { length result.0.now ≤ length text.entry.now }
     ensures rest_shrinks { IfSome result.1 (λ rest. length rest.now < length text.entry.now) }
 {
@@ -26,7 +27,8 @@ pub fn first_part(text: &[u8], byte: u8) -> (&[u8], Option<&[u8]>)
 /// no further word.
 pub fn next_word(rest: Option<&[u8]>) -> Result<(&[u8], Option<&[u8]>), LineFault>
     ensures word { IfOk result
-        (λ next. parts_left 32 (option_copied rest.entry) ≡ next.0.now ∷ parts_left 32 (option_copied next.1)) }
+        (λ next. parts_left 32 (option_copied rest.entry)
+        ≡ next.0.now ∷ parts_left 32 (option_copied next.1)) }
     ensures none { OnErr result (rest.entry ≡ None) }
     ensures fault { IfErr result (λ fault. fault ≡ LineFault.BadCount) }
 {
@@ -48,8 +50,10 @@ pub fn no_more_words(rest: Option<&[u8]>) -> Result<(), LineFault>
 
 /// The one word that is left of a line. BadCount where there is none, or more than one.
 pub fn one_word(rest: Option<&[u8]>) -> Result<&[u8], LineFault>
-    ensures word { IfOk result (λ word. one_word (parts_left 32 (option_copied rest.entry)) ≡ Ok word.now) }
-    ensures fault { IfErr result (λ fault. one_word (parts_left 32 (option_copied rest.entry)) ≡ Err fault) }
+    ensures word { IfOk result
+        (λ word. one_word (parts_left 32 (option_copied rest.entry)) ≡ Ok word.now) }
+    ensures fault { IfErr result
+        (λ fault. one_word (parts_left 32 (option_copied rest.entry)) ≡ Err fault) }
 {
     let (word, rest) = next_word(rest)?;
     no_more_words(rest)?;
@@ -59,8 +63,10 @@ pub fn one_word(rest: Option<&[u8]>) -> Result<&[u8], LineFault>
 /// The two words that are left of a line. BadCount where there are fewer or more.
 pub fn two_words(rest: Option<&[u8]>) -> Result<(&[u8], &[u8]), LineFault>
     ensures words { IfOk result
-        (λ pair. two_words (parts_left 32 (option_copied rest.entry)) ≡ Ok (pair.0.now, pair.1.now)) }
-    ensures fault { IfErr result (λ fault. two_words (parts_left 32 (option_copied rest.entry)) ≡ Err fault) }
+        (λ pair. two_words (parts_left 32 (option_copied rest.entry))
+        ≡ Ok (pair.0.now, pair.1.now)) }
+    ensures fault { IfErr result
+        (λ fault. two_words (parts_left 32 (option_copied rest.entry)) ≡ Err fault) }
 {
     let (first, rest) = next_word(rest)?;
     let (second, rest) = next_word(rest)?;
@@ -71,8 +77,10 @@ pub fn two_words(rest: Option<&[u8]>) -> Result<(&[u8], &[u8]), LineFault>
 /// The three words that are left of a line. BadCount where there are fewer or more.
 pub fn three_words(rest: Option<&[u8]>) -> Result<(&[u8], &[u8], &[u8]), LineFault>
     ensures words { IfOk result
-        (λ three. three_words (parts_left 32 (option_copied rest.entry)) ≡ Ok (three.0.now, three.1.now, three.2.now)) }
-    ensures fault { IfErr result (λ fault. three_words (parts_left 32 (option_copied rest.entry)) ≡ Err fault) }
+        (λ three. three_words (parts_left 32 (option_copied rest.entry))
+        ≡ Ok (three.0.now, three.1.now, three.2.now)) }
+    ensures fault { IfErr result
+        (λ fault. three_words (parts_left 32 (option_copied rest.entry)) ≡ Err fault) }
 {
     let (first, rest) = next_word(rest)?;
     let (second, rest) = next_word(rest)?;

@@ -45,7 +45,8 @@ fn spell(version: u16, nodes: u32, timing: &Timing, into: &mut [u8; 512])
 /// are safe is not tested.
 pub fn get_header(from: &[u8; 512]) -> Option<(u32, Timing)>
     ensures some { IfSome result (λ h. SpellsHeader 2 from.now h.0 h.1) }
-    ensures none { IfNone result ((nodes : ℕ) (timing : Timing) → SpellsHeader 2 from.now nodes timing → ⊥) }
+    ensures none { IfNone result
+        ((nodes : ℕ) (timing : Timing) → SpellsHeader 2 from.now nodes timing → ⊥) }
     ensures gives { result ≡ header_of from.now }
 {
     read_header(2, from)
@@ -54,7 +55,8 @@ pub fn get_header(from: &[u8; 512]) -> Option<(u32, Timing)>
 /// The same of a header of version 1.
 pub fn get_header_1(from: &[u8; 512]) -> Option<(u32, Timing)>
     ensures some { IfSome result (λ h. SpellsHeader 1 from.now h.0 h.1) }
-    ensures none { IfNone result ((nodes : ℕ) (timing : Timing) → SpellsHeader 1 from.now nodes timing → ⊥) }
+    ensures none { IfNone result
+        ((nodes : ℕ) (timing : Timing) → SpellsHeader 1 from.now nodes timing → ⊥) }
     ensures gives { result ≡ header_of_1 from.now }
 {
     read_header(1, from)

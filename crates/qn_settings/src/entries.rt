@@ -86,7 +86,8 @@ impl<'tree> Entries<'tree> {
 
     /// Goes past the beginning of the next node section, or to the end where there is none.
     pub(crate) fn skip_to_node(&mut self) -> bool
-        ensures { sections self.old ≡ (if result then own_entries self.new ∷ sections self.new else []) }
+        ensures { sections self.old
+            ≡ (if result then own_entries self.new ∷ sections self.new else []) }
     {
         while let Some(entry) = self.next() {
             if let Entry::NodeBegins = entry {

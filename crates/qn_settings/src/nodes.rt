@@ -21,7 +21,8 @@ const MAX_NODES: usize = 32;
 /// The nodes in ascending id, or their first fault.
 pub(crate) fn read_nodes(tree: &Tree) -> Result<Nodes, SettingsFault>
     ensures { MatchResult result
-        (λ nodes. (first_some (node_faults (entries_of tree.now)) ≡ None) × (nodes ≡ nodes_of (entries_of tree.now)))
+        (λ nodes. (first_some (node_faults (entries_of tree.now)) ≡ None)
+        × (nodes ≡ nodes_of (entries_of tree.now)))
         (λ fault. first_some (node_faults (entries_of tree.now)) ≡ Some fault) }
 {
     let count = count_nodes(tree)?;
@@ -44,7 +45,8 @@ pub(crate) fn read_nodes(tree: &Tree) -> Result<Nodes, SettingsFault>
 /// How many node sections there are, where each has an id.
 fn count_nodes(tree: &Tree) -> Result<u64, SettingsFault>
     ensures { MatchResult result
-        (λ count. (no_id (entries_of tree.now) ≡ None) × (count ≡ length (sections (entries_of tree.now))))
+        (λ count. (no_id (entries_of tree.now) ≡ None)
+        × (count ≡ length (sections (entries_of tree.now))))
         (λ fault. no_id (entries_of tree.now) ≡ Some fault) }
 {
     let mut entries = Entries::of(tree);

@@ -27,7 +27,8 @@ pub fn settings(tree: &Tree) -> Result<Settings, SettingsFault>
     ensures ok { IsOk result ↔ (fault_of tree.now ≡ None) }
     ensures settings { IfOk result (λ settings. settings ≡ settings_of tree.now) }
     ensures valid { IfOk result IsValid }
-    ensures fault { (fault : SettingsFault) → (result ≡ Err fault) ↔ (fault_of tree.now ≡ Some fault) }
+    ensures fault { (fault : SettingsFault)
+        → (result ≡ Err fault) ↔ (fault_of tree.now ≡ Some fault) }
     ensures answer { result ≡ answer_of tree.now }
 {
     if let Some(fault) = value_fault(tree) {

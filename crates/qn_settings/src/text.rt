@@ -15,7 +15,8 @@ use std::alloc::Global;
 /// text come before those of the tree. `Conf(NoMemory)` comes only where it ran out of memory.
 #[tactic(auto, unfolding(crate::specs::Text::settings_of_text))]
 pub fn settings_of_text(alloc: Global, text: &[u8]) -> Result<Settings, TextFault>
-    ensures answer { (result ≡ settings_of_text text.now) ⊎ (result ≡ Err (TextFault.Conf NoMemory)) }
+    ensures answer { (result ≡ settings_of_text text.now)
+        ⊎ (result ≡ Err (TextFault.Conf NoMemory)) }
     ensures valid { IfOk result IsValid }
 {
     match read_tree(alloc, text) {

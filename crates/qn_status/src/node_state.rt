@@ -21,7 +21,8 @@ impl Default for NodeState {
         ensures id { result.id.0 ≡ 0 }
         ensures phase { result.phase ≡ Phase.Gone }
         ensures holds { result.holds ≡ false }
-        ensures answer { result.answer ≡ record { quorate = false; votes = 0; quorum = 0; expected = 0; released = false } }
+        ensures answer { result.answer
+            ≡ record { quorate = false; votes = 0; quorum = 0; expected = 0; released = false } }
         ensures why { result.why ≡ Why.Down }
     {
         NodeState {

@@ -51,7 +51,8 @@ pub fn status_json<O: Sink>(alloc: Global, world: &World, out: &mut O) -> Result
         → AppendsFront (O.written out.old) (O.written out.new) (status_json world.now.settings d) }
     ensures wanted { IsErrOf result StatusFault.NoMemory → out.new ≡ out.old }
     ensures never_falls { O.faults out.old ≤ O.faults out.new }
-    ensures cause { IsErrOf result StatusFault.Failed → HasRisen (O.faults out.old) (O.faults out.new) }
+    ensures cause { IsErrOf result StatusFault.Failed
+        → HasRisen (O.faults out.old) (O.faults out.new) }
 {
     let nodes = node_states(world);
     match states_line(alloc, nodes.as_slice()) {
@@ -66,7 +67,8 @@ pub fn status_json<O: Sink>(alloc: Global, world: &World, out: &mut O) -> Result
 /// The nodes of a world in ascending id.
 #[tactic(auto, unfolding(crate::specs::NodeStates::node_states))]
 fn node_states(world: &World) -> ArrayVec<NodeState, 32>
-    ensures { (d : WorldBefore) → WorldFor world.now d → result.items ≡ node_states world.now.settings d }
+    ensures { (d : WorldBefore) → WorldFor world.now d
+        → result.items ≡ node_states world.now.settings d }
 {
     let mut nodes = ArrayVec::new();
     'ranks: for rank in 0..world.settings().nodes.len() {
@@ -78,7 +80,8 @@ fn node_states(world: &World) -> ArrayVec<NodeState, 32>
 /// The node of a rank.
 fn node_state(world: &World, rank: Rank) -> NodeState
     requires { rank.0 < length world.now.settings.nodes }
-    ensures { (d : WorldBefore) → WorldFor world.now d → result ≡ node_state world.now.settings d rank.0 }
+    ensures { (d : WorldBefore) → WorldFor world.now d
+        → result ≡ node_state world.now.settings d rank.0 }
 {
     let seen = world.seen(rank);
     NodeState {

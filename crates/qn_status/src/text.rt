@@ -15,8 +15,10 @@ use qn_sched::{answer_text, phase_name, write_why};
 
 /// Writes the line of each node. At `Failed` a prefix of the lines was written.
 pub(crate) fn write_lines<O: Sink>(nodes: &[NodeState], out: &mut O) -> Result<(), Failed>
-    ensures whole { OnOk result (O.written out.new ≡ append_known (O.written out.old) (flat_map state_line nodes.now)) }
-    ensures front { OnErr result (AppendsFront (O.written out.old) (O.written out.new) (flat_map state_line nodes.now)) }
+    ensures whole { OnOk result
+        (O.written out.new ≡ append_known (O.written out.old) (flat_map state_line nodes.now)) }
+    ensures front { OnErr result
+        (AppendsFront (O.written out.old) (O.written out.new) (flat_map state_line nodes.now)) }
     ensures never_falls { O.faults out.old ≤ O.faults out.new }
     ensures cause { OnErr result (HasRisen (O.faults out.old) (O.faults out.new)) }
 {

@@ -279,7 +279,8 @@ fn node_of(options: &[String]) -> Option<Command<'_>>
 
 /// `node3` with these options.
 fn node3_of(options: &[String]) -> Option<Command<'_>>
-    ensures command { result ≡ option_map Command.Node3 (node3_words (map string_bytes options.now)) }
+    ensures command { result
+        ≡ option_map Command.Node3 (node3_words (map string_bytes options.now)) }
     ensures proper { IfSome result IsProper }
 {
     let words = node3_words(options)?;
@@ -288,7 +289,8 @@ fn node3_of(options: &[String]) -> Option<Command<'_>>
 
 /// `node-logged` with these options.
 fn node_logged_of(options: &[String]) -> Option<Command<'_>>
-    ensures command { result ≡ option_map Command.NodeLogged (node_words (map string_bytes options.now)) }
+    ensures command { result
+        ≡ option_map Command.NodeLogged (node_words (map string_bytes options.now)) }
     ensures proper { IfSome result IsProper }
 {
     let words = node_words(options)?;
@@ -297,7 +299,8 @@ fn node_logged_of(options: &[String]) -> Option<Command<'_>>
 
 /// `audit` with these options.
 fn audit_of(options: &[String]) -> Option<Command<'_>>
-    ensures command { result ≡ option_map Command.Audit (audit_words (map string_bytes options.now)) }
+    ensures command { result
+        ≡ option_map Command.Audit (audit_words (map string_bytes options.now)) }
     ensures proper { IfSome result IsProper }
 {
     let words = audit_words(options)?;
@@ -457,7 +460,9 @@ fn timing_in(text: &[u8]) -> Option<Timing>
 
 /// The next of the times that are left, from 1 to `LONGEST_PERIOD` milliseconds, and what is left after it.
 fn next_time(rest: Option<&[u8]>) -> Option<(u64, Option<&[u8]>)>
-    ensures some { IfSome result (λ next. next_time (parts_left 44 (option_copied rest.entry)) ≡ Some (next.0, parts_left 44 (option_copied next.1))) }
+    ensures some { IfSome result
+        (λ next. next_time (parts_left 44 (option_copied rest.entry))
+        ≡ Some (next.0, parts_left 44 (option_copied next.1))) }
     ensures none { IfNone result (next_time (parts_left 44 (option_copied rest.entry)) ≡ None) }
 {
     let (part, rest) = first_part(rest?, b',');

@@ -139,7 +139,8 @@ impl State {
     pub(crate) fn set_part(&mut self, i: Rank, image: u8, part: Part)
         requires within { i.0 < 32 }
         requires image { is_image image ≡ true }
-        ensures { Turns three_images self.old self.new (λ d. record d { parts = put_on d.parts i.0 image part }) }
+        ensures { Turns three_images self.old self.new
+            (λ d. record d { parts = put_on d.parts i.0 image part }) }
     {
         let parts = with_part(self.parts(i), image, part);
         self.set_parts(i, parts);
@@ -148,7 +149,8 @@ impl State {
     /// No part of a rank has landed or failed any more.
     pub(crate) fn forget_parts(&mut self, i: Rank)
         requires { i.0 < 32 }
-        ensures { Turns three_images self.old self.new (λ d. record d { parts = put d.parts i.0 all_pending }) }
+        ensures { Turns three_images self.old self.new
+            (λ d. record d { parts = put d.parts i.0 all_pending }) }
     {
         self.set_parts(i, [Part::Pending; 3]);
     }
@@ -156,7 +158,8 @@ impl State {
     /// Each image is a good one of a rank.
     pub(crate) fn trust_all(&mut self, i: Rank)
         requires { i.0 < 32 }
-        ensures { Turns three_images self.old self.new (λ d. record d { good = put d.good i.0 all_good }) }
+        ensures { Turns three_images self.old self.new
+            (λ d. record d { good = put d.good i.0 all_good }) }
     {
         self.set_good(i, [true; 3]);
     }
@@ -164,7 +167,8 @@ impl State {
     /// The entry that answers an operation of a rank by its parts.
     pub(crate) fn answer(&self, i: Rank, op: DiskOp) -> What
         requires { i.0 < 32 }
-        ensures { (d : TripleWorld) → TripleFor self.now d → result ≡ answer_of op (d.parts i.0) (d.good i.0) }
+        ensures { (d : TripleWorld) → TripleFor self.now d
+            → result ≡ answer_of op (d.parts i.0) (d.good i.0) }
     {
         answer_of(op, &self.parts(i), &self.good(i))
     }
@@ -221,7 +225,9 @@ impl State {
         requires within { i.0 < 32 }
         requires target { IsWithin 32 op }
         ensures { (own : Sectors) → slice_get self.old.sectors place ≡ Some own
-            → (after : Sectors) × (self.new ≡ record self.old { sectors = slice_set self.old.sectors place after }) × Writes own after i.0 op }
+            → (after : Sectors)
+            × (self.new ≡ record self.old { sectors = slice_set self.old.sectors place after })
+            × Writes own after i.0 op }
     {
         let sectors = &mut self.sectors[place];
         sectors.write(i, op);
@@ -232,7 +238,9 @@ impl State {
         requires place { place < 3 }
         requires within { i.0 < 32 }
         ensures { (own : Sectors) → slice_get self.old.sectors place ≡ Some own
-            → (after : Sectors) × (self.new ≡ record self.old { sectors = slice_set self.old.sectors place after }) × Mails own after i.0 message }
+            → (after : Sectors)
+            × (self.new ≡ record self.old { sectors = slice_set self.old.sectors place after })
+            × Mails own after i.0 message }
     {
         let sectors = &mut self.sectors[place];
         sectors.set_mailbox(i, message);
@@ -262,11 +270,13 @@ impl State {
 
     /// A write of a rank is left over on the images that are marked.
     pub(crate) fn leave_over(&mut self, i: Rank, op: DiskOp, on: [bool; 3]) -> Result<(), NoMemory>
-        requires { (d : TripleWorld) → TripleFor self.old d → IsWithin (length self.old.settings.nodes) op }
+        requires { (d : TripleWorld) → TripleFor self.old d
+            → IsWithin (length self.old.settings.nodes) op }
         ensures ok { OnOk result (Turns three_images self.old self.new
             (λ d. record d { left = left_over d.left i.0 op on })) }
         ensures err { OnErr result (self.new ≡ self.old) }
-        ensures cause { OnErr result ((image : ℕ) × (is_image image ≡ true) × (is_marked on image ≡ true)) }
+        ensures cause { OnErr result
+            ((image : ℕ) × (is_image image ≡ true) × (is_marked on image ≡ true)) }
     {
         self.left.leave(i, op, &on)
     }
@@ -294,7 +304,8 @@ impl State {
     pub(crate) fn has_left(&self, i: Rank, image: u8, number: u64) -> bool
         requires image { is_image image ≡ true }
         requires number { 1 ≤ number }
-        ensures { (d : TripleWorld) → TripleFor self.now d → result ≡ is_some (numbered (d.left i.0 image) number) }
+        ensures { (d : TripleWorld) → TripleFor self.now d
+            → result ≡ is_some (numbered (d.left i.0 image) number) }
     {
         self.left.has(i, image, number)
     }
@@ -303,10 +314,13 @@ impl State {
     pub(crate) fn take_left(&mut self, i: Rank, image: u8, number: u64) -> Option<DiskOp>
         requires image { is_image image ≡ true }
         requires number { 1 ≤ number }
-        ensures op { (d : TripleWorld) → TripleFor self.old d → result ≡ numbered (d.left i.0 image) number }
-        ensures within { (d : TripleWorld) → TripleFor self.old d → IsOpWithin (length self.old.settings.nodes) result }
+        ensures op { (d : TripleWorld) → TripleFor self.old d
+            → result ≡ numbered (d.left i.0 image) number }
+        ensures within { (d : TripleWorld) → TripleFor self.old d
+            → IsOpWithin (length self.old.settings.nodes) result }
         ensures rest { OnSome result (Turns three_images self.old self.new
-            (λ d. record d { left = put_on d.left i.0 image (without (d.left i.0 image) number) })) }
+            (λ d. record d
+            { left = put_on d.left i.0 image (without (d.left i.0 image) number) })) }
         ensures none { result ≡ None → self.new ≡ self.old }
     {
         self.left.take(i, image, number)
@@ -314,7 +328,8 @@ impl State {
 
     /// The leftovers of a rank are dropped.
     pub(crate) fn drop_left(&mut self, i: Rank)
-        ensures { Turns three_images self.old self.new (λ d. record d { left = put d.left i.0 none_left }) }
+        ensures { Turns three_images self.old self.new
+            (λ d. record d { left = put d.left i.0 none_left }) }
     {
         self.left.drop_of(i);
     }

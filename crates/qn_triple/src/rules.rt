@@ -95,7 +95,8 @@ impl State {
         requires few { i.0 < 32 }
         ensures { (d : TripleWorld)
             → TripleFor self.now d
-            → result ≡ unless_off self.now.settings i.0 d (unless (may_be_done_triple self.now.settings i.0 d) 5) }
+            → result ≡ unless_off self.now.settings i.0 d
+            (unless (may_be_done_triple self.now.settings i.0 d) 5) }
     {
         let may = may_be_done(self.op(i), self.none_pending(i));
         self.unless_off(i, unless(may, 5))
@@ -108,7 +109,8 @@ impl State {
         requires image { is_image image ≡ true }
         ensures { (d : TripleWorld)
             → TripleFor self.now d
-            → result ≡ unless_off self.now.settings i.0 d (unless (may_land_on self.now.settings i.0 image d) 4) }
+            → result ≡ unless_off self.now.settings i.0 d
+            (unless (may_land_on self.now.settings i.0 image d) 4) }
     {
         let may = may_land(self.op(i), self.part(i, image));
         self.unless_off(i, unless(may, 4))
@@ -121,7 +123,8 @@ impl State {
         requires image { is_image image ≡ true }
         ensures { (d : TripleWorld)
             → TripleFor self.now d
-            → result ≡ unless_off self.now.settings i.0 d (unless (may_fail_on self.now.settings i.0 image d) 5) }
+            → result ≡ unless_off self.now.settings i.0 d
+            (unless (may_fail_on self.now.settings i.0 image d) 5) }
     {
         let may = may_fail(self.op(i), self.part(i, image));
         self.unless_off(i, unless(may, 5))

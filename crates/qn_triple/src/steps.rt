@@ -62,8 +62,10 @@ impl State {
     fn step_one(&mut self, event: &Event, outs: &mut Outs) -> Result<(), NoMemory>
         requires ready { IsReady three_images self.old (TripleEvent.One event.now) }
         requires none { outs.old ≡ [] }
-        ensures ok { OnOk result (Stepped three_images self.old self.new (TripleEvent.One event.now) outs.new) }
-        ensures err { OnErr result (OutOfMemory three_images self.old self.new (TripleEvent.One event.now)) }
+        ensures ok { OnOk result
+            (Stepped three_images self.old self.new (TripleEvent.One event.now) outs.new) }
+        ensures err { OnErr result
+            (OutOfMemory three_images self.old self.new (TripleEvent.One event.now)) }
     {
         match event {
             Event::Boot(i, base) => {
@@ -97,8 +99,10 @@ impl State {
         requires ready { IsReady three_images self.old (TripleEvent.One event.now) }
         requires nodes { is_of_nodes event.now ≡ true }
         requires none { outs.old ≡ [] }
-        ensures ok { OnOk result (Stepped three_images self.old self.new (TripleEvent.One event.now) outs.new) }
-        ensures err { OnErr result (OutOfMemory three_images self.old self.new (TripleEvent.One event.now)) }
+        ensures ok { OnOk result
+            (Stepped three_images self.old self.new (TripleEvent.One event.now) outs.new) }
+        ensures err { OnErr result
+            (OutOfMemory three_images self.old self.new (TripleEvent.One event.now)) }
     {
         self.cluster.step(event, outs)
     }
@@ -107,7 +111,8 @@ impl State {
     /// answered.
     fn boot(&mut self, i: Rank, base: u64, clean: bool, outs: &mut Outs)
         requires { IsReady three_images self.old (TripleEvent.One (boot_event i base clean)) }
-        ensures { Stepped three_images self.old self.new (TripleEvent.One (boot_event i base clean)) outs.new }
+        ensures { Stepped three_images self.old self.new
+            (TripleEvent.One (boot_event i base clean)) outs.new }
     {
         self.drop_left(i);
         self.forget_parts(i);
@@ -118,8 +123,10 @@ impl State {
     /// A node is off at once: each pending write is left over on its image.
     fn crash(&mut self, i: Rank) -> Result<(), NoMemory>
         requires { IsReady three_images self.old (TripleEvent.One (Event.Crash i)) }
-        ensures ok { OnOk result (Stepped three_images self.old self.new (TripleEvent.One (Event.Crash i)) []) }
-        ensures err { OnErr result (OutOfMemory three_images self.old self.new (TripleEvent.One (Event.Crash i))) }
+        ensures ok { OnOk result
+            (Stepped three_images self.old self.new (TripleEvent.One (Event.Crash i)) []) }
+        ensures err { OnErr result
+            (OutOfMemory three_images self.old self.new (TripleEvent.One (Event.Crash i))) }
     {
         self.give_up(i)?;
         self.forget_parts(i);
@@ -130,8 +137,10 @@ impl State {
     /// The operation of a node is answered by its parts.
     fn done(&mut self, i: Rank, outs: &mut Outs) -> Result<(), NoMemory>
         requires { IsReady three_images self.old (TripleEvent.One (Event.Done i)) }
-        ensures ok { OnOk result (Stepped three_images self.old self.new (TripleEvent.One (Event.Done i)) outs.new) }
-        ensures err { OnErr result (OutOfMemory three_images self.old self.new (TripleEvent.One (Event.Done i))) }
+        ensures ok { OnOk result
+            (Stepped three_images self.old self.new (TripleEvent.One (Event.Done i)) outs.new) }
+        ensures err { OnErr result
+            (OutOfMemory three_images self.old self.new (TripleEvent.One (Event.Done i))) }
     {
         if let Some(op) = self.op(i) {
             let entry = self.answer(i, op);
@@ -156,8 +165,10 @@ impl State {
     /// The part of an operation of a node fails on an image: a write that did not land there is left over.
     fn fail(&mut self, i: Rank, image: u8) -> Result<(), NoMemory>
         requires { IsReady three_images self.old (TripleEvent.FailOn i image) }
-        ensures ok { OnOk result (Stepped three_images self.old self.new (TripleEvent.FailOn i image) []) }
-        ensures err { OnErr result (OutOfMemory three_images self.old self.new (TripleEvent.FailOn i image)) }
+        ensures ok { OnOk result
+            (Stepped three_images self.old self.new (TripleEvent.FailOn i image) []) }
+        ensures err { OnErr result
+            (OutOfMemory three_images self.old self.new (TripleEvent.FailOn i image)) }
     {
         if let Some(op) = self.op(i) {
             let left = is_left_over(op, self.part(i, image));
@@ -180,7 +191,8 @@ impl State {
     /// An operator writes a message to the mailbox of a node on an image.
     fn operate(&mut self, i: Rank, image: u8, message: Message)
         requires { IsReady three_images self.old (TripleEvent.OperatorOn i image message) }
-        ensures { Stepped three_images self.old self.new (TripleEvent.OperatorOn i image message) [] }
+        ensures { Stepped three_images self.old self.new
+            (TripleEvent.OperatorOn i image message) [] }
     {
         self.set_mailbox(i, image, message);
     }

@@ -197,8 +197,10 @@ impl TripleWorld {
 
     /// The nodes that hold the resource: at most one.
     pub fn holders(&self) -> Mask
-        ensures exact { (d : World) → TripleFor self.now d → result ≡ holders self.now.settings (nodes_of d) }
-        ensures one_holder { (i j : ℕ) → IsTrue (is_member result i) → IsTrue (is_member result j) → i ≡ j }
+        ensures exact { (d : World) → TripleFor self.now d
+            → result ≡ holders self.now.settings (nodes_of d) }
+        ensures one_holder { (i j : ℕ) → IsTrue (is_member result i) → IsTrue (is_member result j)
+            → i ≡ j }
     {
         law_triple_no_two_holders();
         self.state.holders()

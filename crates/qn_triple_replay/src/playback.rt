@@ -33,7 +33,8 @@ impl Playback {
         requires safe { is_safe head.timing ≡ true }
         requires few_lines { head.lines ≤ 4294967296 }
         ensures begins { IfOk result (λ playback. HasPlayed playback playback []) }
-        ensures start { IfOk result (λ playback. start_of triple_rules (place_at playback) ≡ start_after head) }
+        ensures start { IfOk result
+            (λ playback. start_of triple_rules (place_at playback) ≡ start_after head) }
     {
         let world = TripleWorld::new(alloc, head.settings, head.timing)?;
         Ok(Playback {

@@ -20,8 +20,10 @@ use std::alloc::Global;
 pub fn replay3<I: Source, O: Sink>(alloc: Global, input: &mut I, out: &mut O) -> ReplayEnd
     // The end is the defined one of the bytes that were taken, and what was written is their trace, or a prefix
     // of it at WriteFault and NoMemory.
-    ensures replays { Replays (I.left input.old) (I.left input.new) (HasRisen (I.faults input.old) (I.faults input.new))
-        (O.written out.old) (O.written out.new) (HasRisen (O.faults out.old) (O.faults out.new)) result }
+    ensures replays { Replays (I.left input.old) (I.left input.new)
+        (HasRisen (I.faults input.old) (I.faults input.new))
+        (O.written out.old) (O.written out.new)
+        (HasRisen (O.faults out.old) (O.faults out.new)) result }
 
     ensures complete { ¬ HasRisen (I.faults input.old) (I.faults input.new)
         → ¬ HasRisen (O.faults out.old) (O.faults out.new)
@@ -29,15 +31,18 @@ pub fn replay3<I: Source, O: Sink>(alloc: Global, input: &mut I, out: &mut O) ->
         → IfSome (I.left input.old) (λ bytes.
         AnswersWhole (replay3_of Ended bytes) (O.written out.old) (O.written out.new) result) }
     ensures done { IfDone result
-        (Completes (I.left input.old) (I.left input.new) (O.written out.old) (O.written out.new) result) }
+        (Completes (I.left input.old) (I.left input.new) (O.written out.old)
+        (O.written out.new) result) }
 
     // Out of memory.
     ensures memory { result ≡ ReplayEnd.NoMemory
         → Wants (I.left input.old) (I.left input.new) (O.written out.old) (O.written out.new) }
 
     // The faults of the outside.
-    ensures read_fault { result ≡ ReplayEnd.ReadFault → HasRisen (I.faults input.old) (I.faults input.new) }
-    ensures write_fault { result ≡ ReplayEnd.WriteFault → HasRisen (O.faults out.old) (O.faults out.new) }
+    ensures read_fault { result ≡ ReplayEnd.ReadFault
+        → HasRisen (I.faults input.old) (I.faults input.new) }
+    ensures write_fault { result ≡ ReplayEnd.WriteFault
+        → HasRisen (O.faults out.old) (O.faults out.new) }
     ensures source_faults { I.faults input.old ≤ I.faults input.new }
     ensures sink_faults { O.faults out.old ≤ O.faults out.new }
 {
@@ -46,8 +51,10 @@ pub fn replay3<I: Source, O: Sink>(alloc: Global, input: &mut I, out: &mut O) ->
 
 /// A replay up to its end.
 fn run<I: Source, O: Sink>(alloc: Global, input: &mut I, out: &mut O) -> ReplayEnd
-    ensures replays { Replays (I.left input.old) (I.left input.new) (HasRisen (I.faults input.old) (I.faults input.new))
-        (O.written out.old) (O.written out.new) (HasRisen (O.faults out.old) (O.faults out.new)) result }
+    ensures replays { Replays (I.left input.old) (I.left input.new)
+        (HasRisen (I.faults input.old) (I.faults input.new))
+        (O.written out.old) (O.written out.new)
+        (HasRisen (O.faults out.old) (O.faults out.new)) result }
     ensures source_faults { I.faults input.old ≤ I.faults input.new }
     ensures sink_faults { O.faults out.old ≤ O.faults out.new }
 {

@@ -48,7 +48,8 @@ impl Watch {
         ensures at { (log : List Line)
             → WatchFor self.now log
             → result ≡ nat_le (mail_tick log + (timing log).loop_ms) tick }
-        ensures defined { (log : List Line) → WatchFor self.now log → now log ≡ tick → result ≡ is_mail_due log }
+        ensures defined { (log : List Line) → WatchFor self.now log → now log ≡ tick
+            → result ≡ is_mail_due log }
     {
         tick >= self.asked && tick - self.asked >= self.times.loop_ms
     }

@@ -47,7 +47,8 @@ impl State {
     pub(crate) fn taken(&self, i: Rank, op: DiskOp) -> What
         requires within { i.0 < 32 }
         requires target { IsWithin 32 op }
-        ensures { (d : World) → WorldFor self.now d → result ≡ taken self.now.settings self.now.timing i.0 op d }
+        ensures { (d : World) → WorldFor self.now d
+            → result ≡ taken self.now.settings self.now.timing i.0 op d }
     {
         self.sectors
             .taken(self.cluster.settings(), self.timing, i, op)
@@ -80,7 +81,8 @@ impl State {
 
     /// A write is left over.
     fn leave_over(&mut self, i: Rank, op: DiskOp) -> Result<(), NoMemory>
-        requires { (d : World) → WorldFor self.old d → IsWithin (length self.old.settings.nodes) op }
+        requires { (d : World) → WorldFor self.old d
+            → IsWithin (length self.old.settings.nodes) op }
         ensures ok { OnOk result (LeavesOver self.old self.new i.0 (op ∷ [])) }
         ensures err { OnErr result (self.new ≡ self.old) }
     {
@@ -94,7 +96,8 @@ impl State {
         op: Option<DiskOp>,
         took: Option<What>,
     ) -> Result<(), NoMemory>
-        requires { (d : World) → WorldFor self.old d → IsOpWithin (length self.old.settings.nodes) op }
+        requires { (d : World) → WorldFor self.old d
+            → IsOpWithin (length self.old.settings.nodes) op }
         ensures ok { OnOk result (LeavesOver self.old self.new i.0 (given_up op took)) }
         ensures err { OnErr result (self.new ≡ self.old) }
         ensures cause { OnErr result (given_up op took ≢ []) }
@@ -108,7 +111,8 @@ impl State {
     /// Whether there is a leftover of a rank with that number, from 1.
     pub(crate) fn has_left(&self, i: Rank, number: u64) -> bool
         requires { 1 ≤ number }
-        ensures { (d : World) → WorldFor self.now d → result ≡ is_some (numbered (d.left i.0) number) }
+        ensures { (d : World) → WorldFor self.now d
+            → result ≡ is_some (numbered (d.left i.0) number) }
     {
         self.left.has(i, 1, number)
     }
@@ -124,7 +128,8 @@ impl State {
     pub(crate) fn take_left(&mut self, i: Rank, number: u64) -> Option<DiskOp>
         requires { 1 ≤ number }
         ensures op { (d : World) → WorldFor self.old d → result ≡ numbered (d.left i.0) number }
-        ensures within { (d : World) → WorldFor self.old d → IsOpWithin (length self.old.settings.nodes) result }
+        ensures within { (d : World) → WorldFor self.old d
+            → IsOpWithin (length self.old.settings.nodes) result }
         ensures rest { OnSome result (Turns one_image self.old self.new
             (λ d. record d { left = put d.left i.0 (without (d.left i.0) number) })) }
         ensures none { result ≡ None → self.new ≡ self.old }

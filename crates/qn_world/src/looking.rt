@@ -45,7 +45,8 @@ impl State {
     /// What the node of a rank waits for.
     pub(crate) fn waiting(&self, i: Rank) -> Waiting
         requires { i.0 < length self.now.seats }
-        ensures { (d : World) → WorldFor self.now d → result ≡ waiting_of (node_at self.now.settings i.0 d) }
+        ensures { (d : World) → WorldFor self.now d
+            → result ≡ waiting_of (node_at self.now.settings i.0 d) }
     {
         self.cluster.waiting(i)
     }
@@ -53,7 +54,8 @@ impl State {
     /// The tick of the clock of the node of a rank; None where it is off.
     pub(crate) fn tick(&self, i: Rank) -> Option<u64>
         requires { i.0 < length self.now.seats }
-        ensures { (d : World) → WorldFor self.now d → result ≡ tick_now (node_at self.now.settings i.0 d) }
+        ensures { (d : World) → WorldFor self.now d
+            → result ≡ tick_now (node_at self.now.settings i.0 d) }
     {
         self.cluster.tick(i)
     }
@@ -61,7 +63,8 @@ impl State {
     /// The tick, the incarnation, the install number and the view of the node of a rank; None where it is not up or has no view.
     pub(crate) fn polls(&self, i: Rank) -> Option<(u64, u64, u64, View)>
         requires { i.0 < length self.now.seats }
-        ensures { (d : World) → WorldFor self.now d → result ≡ polls_now self.now.settings (node_at self.now.settings i.0 d) }
+        ensures { (d : World) → WorldFor self.now d
+            → result ≡ polls_now self.now.settings (node_at self.now.settings i.0 d) }
     {
         self.cluster.polls(i)
     }
@@ -91,7 +94,8 @@ impl State {
 
     fn answer(&self, i: Rank) -> Answer
         requires { i.0 < length self.now.seats }
-        ensures { (d : World) → WorldFor self.now d → result ≡ answer_now self.now.settings (node_at self.now.settings i.0 d) }
+        ensures { (d : World) → WorldFor self.now d
+            → result ≡ answer_now self.now.settings (node_at self.now.settings i.0 d) }
     {
         self.cluster.answer(i)
     }
@@ -108,29 +112,34 @@ impl State {
 
     fn phase(&self, i: Rank) -> Phase
         requires { i.0 < length self.now.seats }
-        ensures { (d : World) → WorldFor self.now d → result ≡ phase_now self.now.settings (node_at self.now.settings i.0 d) }
+        ensures { (d : World) → WorldFor self.now d
+            → result ≡ phase_now self.now.settings (node_at self.now.settings i.0 d) }
     {
         self.cluster.phase(i)
     }
 
     fn holds(&self, i: Rank) -> bool
         requires { i.0 < length self.now.seats }
-        ensures { (d : World) → WorldFor self.now d → result ≡ is_holder self.now.settings d.moments i.0 }
+        ensures { (d : World) → WorldFor self.now d
+            → result ≡ is_holder self.now.settings d.moments i.0 }
     {
         self.cluster.holds(i)
     }
 
     /// How many packets were ever sent.
     pub(crate) fn packets(&self) -> u64
-        ensures { (d : World) → WorldFor self.now d → result ≡ length (packets self.now.settings d.moments) }
+        ensures { (d : World) → WorldFor self.now d
+            → result ≡ length (packets self.now.settings d.moments) }
     {
         self.cluster.packets()
     }
 
     /// The packet of that number, from 0.
     pub(crate) fn packet(&self, number: u64) -> Option<Sent>
-        ensures exact { (d : World) → WorldFor self.now d → result ≡ slice_get (packets self.now.settings d.moments) number }
-        ensures configured { (d : World) → WorldFor self.now d → IfSome result (λ sent. sent.to.0 < length self.now.settings.nodes) }
+        ensures exact { (d : World) → WorldFor self.now d
+            → result ≡ slice_get (packets self.now.settings d.moments) number }
+        ensures configured { (d : World) → WorldFor self.now d
+            → IfSome result (λ sent. sent.to.0 < length self.now.settings.nodes) }
     {
         self.cluster.packet(number)
     }
@@ -139,7 +148,8 @@ impl State {
     pub(crate) fn packet_to(&self, number: u64) -> Option<Rank>
         ensures to { (d : World)
             → WorldFor self.now d
-            → result ≡ option_map (λ sent. sent.to) (slice_get (packets self.now.settings d.moments) number) }
+            → result ≡ option_map (λ sent. sent.to)
+            (slice_get (packets self.now.settings d.moments) number) }
         ensures configured { (d : World)
             → WorldFor self.now d
             → IfSome result (λ rank. rank.0 < length self.now.settings.nodes) }

@@ -33,7 +33,8 @@ impl State {
     fn may_land(&self, i: Rank) -> bool
         requires within { i.0 < length self.now.seats }
         requires few { i.0 < 32 }
-        ensures { (d : World) → WorldFor self.now d → is_on self.now.settings i.0 d ≡ true → result ≡ may_land self.now.settings i.0 d }
+        ensures { (d : World) → WorldFor self.now d → is_on self.now.settings i.0 d ≡ true
+            → result ≡ may_land self.now.settings i.0 d }
     {
         let op = self.op(i);
         let took = self.took(i);
@@ -44,7 +45,8 @@ impl State {
     fn may_be_done(&self, i: Rank) -> bool
         requires within { i.0 < length self.now.seats }
         requires few { i.0 < 32 }
-        ensures { (d : World) → WorldFor self.now d → is_on self.now.settings i.0 d ≡ true → result ≡ may_be_done self.now.settings i.0 d }
+        ensures { (d : World) → WorldFor self.now d → is_on self.now.settings i.0 d ≡ true
+            → result ≡ may_be_done self.now.settings i.0 d }
     {
         let op = self.op(i);
         let took = self.took(i);
@@ -55,7 +57,9 @@ impl State {
     pub(crate) fn refuses_land(&self, i: Rank) -> Option<u8>
         requires within { i.0 < length self.now.seats }
         requires few { i.0 < 32 }
-        ensures { (d : World) → WorldFor self.now d → result ≡ unless_running self.now.settings i.0 d (unless (may_land self.now.settings i.0 d) 4) }
+        ensures { (d : World) → WorldFor self.now d
+            → result ≡ unless_running self.now.settings i.0 d
+            (unless (may_land self.now.settings i.0 d) 4) }
     {
         self.cluster.unless_running(i, unless(self.may_land(i), 4))
     }
@@ -64,7 +68,9 @@ impl State {
     pub(crate) fn refuses_done(&self, i: Rank) -> Option<u8>
         requires within { i.0 < length self.now.seats }
         requires few { i.0 < 32 }
-        ensures { (d : World) → WorldFor self.now d → result ≡ unless_running self.now.settings i.0 d (unless (may_be_done self.now.settings i.0 d) 5) }
+        ensures { (d : World) → WorldFor self.now d
+            → result ≡ unless_running self.now.settings i.0 d
+            (unless (may_be_done self.now.settings i.0 d) 5) }
     {
         self.cluster
             .unless_running(i, unless(self.may_be_done(i), 5))
@@ -73,7 +79,9 @@ impl State {
     /// Rules 3 and 5, of a failure.
     pub(crate) fn refuses_fail(&self, i: Rank) -> Option<u8>
         requires { i.0 < length self.now.seats }
-        ensures { (d : World) → WorldFor self.now d → result ≡ unless_running self.now.settings i.0 d (unless (may_fail self.now.settings i.0 d) 5) }
+        ensures { (d : World) → WorldFor self.now d
+            → result ≡ unless_running self.now.settings i.0 d
+            (unless (may_fail self.now.settings i.0 d) 5) }
     {
         self.cluster
             .unless_running(i, unless(self.op(i).is_some(), 5))
@@ -91,7 +99,8 @@ impl State {
     pub(crate) fn refuses_operator(&self, i: Rank, message: Message) -> Option<u8>
         requires within { i.0 < length self.now.seats }
         requires few { i.0 < 32 }
-        ensures { (d : World) → WorldFor self.now d → result ≡ unless (may_operate self.now.settings i.0 message d) 10 }
+        ensures { (d : World) → WorldFor self.now d
+            → result ≡ unless (may_operate self.now.settings i.0 message d) 10 }
     {
         unless(
             may_operate(message, self.mailbox(i), self.cluster.is_on(i)),

@@ -86,17 +86,27 @@ impl World {
         requires formed { is_well_formed self.old.settings event.now ≡ true }
         requires early { self.old.time ≤ LATEST_TIME }
         requires room { 0 < self.old.steps }
-        ensures stands { OnOk result ((d : Cluster) → WorldFor self.old d → WorldFor self.new (step self.old.settings self.old.timing event.now d)) }
+        ensures stands { OnOk result
+            ((d : Cluster) → WorldFor self.old d
+            → WorldFor self.new (step self.old.settings self.old.timing event.now d)) }
         ensures report { IfOk result (λ r. (d : Cluster) → WorldFor self.old d
-            → r ≡ report self.old.settings event.now (step self.old.settings self.old.timing event.now d)) }
+            → r ≡ report self.old.settings event.now
+            (step self.old.settings self.old.timing event.now d)) }
         ensures outs { IfOk result (λ r. All (IsNodeOutput self.old.settings) r.outs) }
-        ensures one_holder { IfOk result (λ r. (i j : ℕ) → IsTrue (is_member r.holders i) → IsTrue (is_member r.holders j) → i ≡ j) }
-        ensures allowed { OnOk result ((d : Cluster) → WorldFor self.old d → refusal self.old.settings self.old.timing event.now d ≡ None) }
+        ensures one_holder { IfOk result
+            (λ r. (i j : ℕ) → IsTrue (is_member r.holders i) → IsTrue (is_member r.holders j)
+            → i ≡ j) }
+        ensures allowed { OnOk result
+            ((d : Cluster) → WorldFor self.old d
+            → refusal self.old.settings self.old.timing event.now d ≡ None) }
         ensures steps { OnOk result (self.new.steps + 1 ≡ self.old.steps) }
 
         // An event is refused by the first rule that refuses it, or since there is no memory for it.
-        ensures refused { IfErr result (λ r. (d : Cluster) → WorldFor self.old d → RefusedBy (refusal self.old.settings self.old.timing event.now d) r) }
-        ensures memory { result ≡ Err Refused.NoMemory → (d : Cluster) → WorldFor self.old d → needs_memory self.old.settings self.old.timing event.now d ≡ true }
+        ensures refused { IfErr result
+            (λ r. (d : Cluster) → WorldFor self.old d
+            → RefusedBy (refusal self.old.settings self.old.timing event.now d) r) }
+        ensures memory { result ≡ Err Refused.NoMemory → (d : Cluster) → WorldFor self.old d
+            → needs_memory self.old.settings self.old.timing event.now d ≡ true }
         ensures err { OnErr result (self.new ≡ self.old) }
 
         ensures settings { self.new.settings ≡ self.old.settings }
@@ -172,14 +182,17 @@ impl World {
 
     /// How many packets were ever sent.
     pub fn packets(&self) -> u64
-        ensures { (d : Cluster) → WorldFor self.now d → result ≡ length (packets self.now.settings d.moments) }
+        ensures { (d : Cluster) → WorldFor self.now d
+            → result ≡ length (packets self.now.settings d.moments) }
     {
         self.state.packets()
     }
 
     /// To whom the packet of that number, from 0, was sent; None where it was not sent.
     pub fn packet_to(&self, n: u64) -> Option<Rank>
-        ensures to { (d : Cluster) → WorldFor self.now d → result ≡ option_map (λ sent. sent.to) (slice_get (packets self.now.settings d.moments) n) }
+        ensures to { (d : Cluster) → WorldFor self.now d
+            → result ≡ option_map (λ sent. sent.to)
+            (slice_get (packets self.now.settings d.moments) n) }
         ensures configured { IfSome result (λ rank. rank.0 < length self.now.settings.nodes) }
     {
         self.state.packet_to(n)
@@ -219,7 +232,8 @@ impl World {
     /// The nodes that hold the resource: at most one.
     pub fn holders(&self) -> Mask
         ensures exact { (d : Cluster) → WorldFor self.now d → result ≡ holders self.now.settings d }
-        ensures one_holder { (i j : ℕ) → IsTrue (is_member result i) → IsTrue (is_member result j) → i ≡ j }
+        ensures one_holder { (i j : ℕ) → IsTrue (is_member result i) → IsTrue (is_member result j)
+            → i ≡ j }
     {
         law_no_two_holders();
         self.state.holders()
@@ -236,7 +250,8 @@ impl World {
     /// What is pending at the node of a rank: what `seen` shows of it that needs no count of votes.
     pub fn pending(&self, i: Rank) -> Pending
         requires { i.0 < length self.now.settings.nodes }
-        ensures { (d : Cluster) → WorldFor self.now d → result ≡ pending_of self.now.settings i.0 d }
+        ensures { (d : Cluster) → WorldFor self.now d
+            → result ≡ pending_of self.now.settings i.0 d }
     {
         self.state.pending(i)
     }

@@ -35,7 +35,8 @@ pub fn create<I: Source, O: Sink, E: Env>(
 ) -> Status
     ensures unread { is_safe timing ≡ false → input.new ≡ input.old }
     ensures uncalled { is_safe timing ≡ false → env.new ≡ env.old }
-    ensures creates { let before = seen (source I.left I.faults input.old) (sink O.written O.faults out.old)
+    ensures creates { let before = seen (source I.left I.faults input.old)
+        (sink O.written O.faults out.old)
         (outside E.calls E.faults env.old) in
         let after = seen (source I.left I.faults input.new) (sink O.written O.faults out.new)
         (outside E.calls E.faults env.new) in

@@ -124,9 +124,11 @@ pub(crate) fn open<E: Env>(
     rank: Rank,
     env: &mut E,
 ) -> Result<(), Failed>
-    ensures opened { OnOk result (Made (E.faults env.old) (E.faults env.new) (E.calls env.old) (E.calls env.new)
+    ensures opened { OnOk result
+        (Made (E.faults env.old) (E.faults env.new) (E.calls env.old) (E.calls env.new)
         (opening images words.now rank.0 true ∷ [])) }
-    ensures failed { OnErr result (Made (E.faults env.old) (E.faults env.new) (E.calls env.old) (E.calls env.new)
+    ensures failed { OnErr result
+        (Made (E.faults env.old) (E.faults env.new) (E.calls env.old) (E.calls env.new)
         (opening images words.now rank.0 false ∷ [])) }
 {
     env.open_node(&Opening {

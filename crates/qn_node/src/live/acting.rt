@@ -46,7 +46,8 @@ impl Live {
             → LiveTook self.old own.now.settings own.now.me.0 past tick what
             → TallyFor tally.now own.now.settings (votes (taken_in past tick what))
             → LiveFor self.new own.now.settings own.now.me.0
-            (with_outs past tick what (acts own.now.settings own.now.me.0 (taken_in past tick what) what feeds)) }
+            (with_outs past tick what
+            (acts own.now.settings own.now.me.0 (taken_in past tick what) what feeds)) }
         ensures outs { (past : List Line)
             → LiveTook self.old own.now.settings own.now.me.0 past tick what
             → TallyFor tally.now own.now.settings (votes (taken_in past tick what))
@@ -83,7 +84,8 @@ impl Live {
             → now log ≡ tick
             → phase s log ≡ live_phase self.old.leaving
             → released ≡ is_released s log
-            → (rank : ℕ) → rank < 32 → is_member result rank ≡ (is_asking s log && is_asked s me log rank) }
+            → (rank : ℕ) → rank < 32
+            → is_member result rank ≡ (is_asking s log && is_asked s me log rank) }
     {
         if self.leaving {
             qn_heard::law_not_asking();
@@ -293,7 +295,8 @@ impl Live {
             → HeardFor self.now.heard own.now.settings me (line ∷ log)
             → claim_of (disk_of line.outs) ≡ None
             → ((rank : ℕ) → rank < 32 → is_member asked rank
-            ≡ (is_asking own.now.settings (line ∷ log) && is_asked own.now.settings me (line ∷ log) rank))
+            ≡ (is_asking own.now.settings (line ∷ log)
+            && is_asked own.now.settings me (line ∷ log) rank))
             → outs.new ≡ outs.old ++ asks own.now.settings me (line ∷ log) }
     {
         qn_heard::law_asks_by_members();
@@ -310,7 +313,8 @@ impl Live {
             → HeardFor self.now.heard s me (line ∷ log)
             → claim_of (disk_of line.outs) ≡ None
             → outs.new ≡ outs.old ++ option_map_or
-            (λ present. if is_member asked rank.0 then ask_to me (line ∷ log) present rank.0 ∷ [] else [])
+            (λ present. if is_member asked rank.0 then ask_to me (line ∷ log) present rank.0 ∷ []
+            else [])
             (view (line ∷ log)) [] }
     {
         if !asked.has(rank) {
@@ -352,7 +356,8 @@ impl Live {
 
 /// Whether the fencing waits at this tick: it wants to reset a node whose fence delay is not over.
 fn must_wait(own: &Own, want: Want, tick: u64, since: u64) -> bool
-    ensures { result ≡ must_wait (λ rank. nat_le (since + fence_delay own.now.settings rank) tick) want }
+    ensures { result
+        ≡ must_wait (λ rank. nat_le (since + fence_delay own.now.settings rank) tick) want }
 {
     match want {
         Want::WriteReset(rank) => !own.is_delay_over(rank, since, tick),

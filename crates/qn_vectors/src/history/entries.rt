@@ -20,7 +20,8 @@ pub fn read_entry(alloc: Global, line: &str) -> Option<Entry> {
 
 /// What a node is handed: the words of an entry.
 pub fn read_what(words: &[&str]) -> Option<What>
-    ensures kind { IfSome result (λ what. take 1 (map (λ word. word.now) words.now) ≡ kind_word what ∷ []) }
+    ensures kind { IfSome result
+        (λ what. take 1 (map (λ word. word.now) words.now) ≡ kind_word what ∷ []) }
 {
     match words {
         [kind] => bare(kind),

@@ -10,7 +10,8 @@ use qn_model::{Ask, Tell};
 pub fn read_ask(words: &[&str]) -> Option<Ask>
     ensures six { IfSome result (λ _. length words.now ≡ 6) }
     ensures numbers { IfSome result (λ ask. take 5 (map (λ word. number_of word.now) words.now)
-        ≡ Some ask.from.0 ∷ Some ask.to.0 ∷ Some ask.incarnation ∷ Some ask.install ∷ Some ask.view.id ∷ []) }
+        ≡ Some ask.from.0 ∷ Some ask.to.0 ∷ Some ask.incarnation ∷ Some ask.install
+        ∷ Some ask.view.id ∷ []) }
 {
     let [from, to, incarnation, install, id, members] = words else {
         return None;
@@ -28,9 +29,12 @@ pub fn read_ask(words: &[&str]) -> Option<Ask>
 pub fn read_tell(words: &[&str]) -> Option<Tell>
     ensures eight { IfSome result (λ _. length words.now ≡ 8) }
     ensures numbers { IfSome result (λ tell. take 5 (map (λ word. number_of word.now) words.now)
-        ≡ Some tell.from.0 ∷ Some tell.to.0 ∷ Some tell.incarnation ∷ Some tell.install ∷ Some tell.view.id ∷ []) }
-    ensures holds { IfSome result (λ tell. slice_get (map (λ word. word.now) words.now) 6 ≡ Some (yes_no tell.holds)) }
-    ensures released { IfSome result (λ tell. slice_get (map (λ word. word.now) words.now) 7 ≡ Some (yes_no tell.released)) }
+        ≡ Some tell.from.0 ∷ Some tell.to.0 ∷ Some tell.incarnation ∷ Some tell.install
+        ∷ Some tell.view.id ∷ []) }
+    ensures holds { IfSome result
+        (λ tell. slice_get (map (λ word. word.now) words.now) 6 ≡ Some (yes_no tell.holds)) }
+    ensures released { IfSome result
+        (λ tell. slice_get (map (λ word. word.now) words.now) 7 ≡ Some (yes_no tell.released)) }
 {
     let [from, to, incarnation, install, id, members, holds, released] = words else {
         return None;

@@ -15,7 +15,8 @@ pub fn read_number(word: &str) -> Option<u64>
 /// A number of 32 bits.
 pub(crate) fn read_small_number(word: &str) -> Option<u32>
     ensures value { IfSome result (λ number. number_of word.now ≡ Some number) }
-    ensures succeeds { (number : ℕ) → number_of word.now ≡ Some number → number < 2 ^ 32 → IsSome result }
+    ensures succeeds { (number : ℕ) → number_of word.now ≡ Some number → number < 2 ^ 32
+        → IsSome result }
 {
     u32::try_from(read_number(word)?).ok()
 }
@@ -23,7 +24,8 @@ pub(crate) fn read_small_number(word: &str) -> Option<u32>
 /// The id of a node: a number of 32 bits.
 pub(crate) fn read_node_id(word: &str) -> Option<NodeId>
     ensures value { IfSome result (λ id. number_of word.now ≡ Some id.0) }
-    ensures succeeds { (number : ℕ) → number_of word.now ≡ Some number → number < 2 ^ 32 → IsSome result }
+    ensures succeeds { (number : ℕ) → number_of word.now ≡ Some number → number < 2 ^ 32
+        → IsSome result }
 {
     Some(NodeId(read_small_number(word)?))
 }
@@ -31,7 +33,8 @@ pub(crate) fn read_node_id(word: &str) -> Option<NodeId>
 /// A rank: a number of 8 bits. One that is no rank of a mask, 32 or more, may stand in an entry that does not fit.
 pub fn read_rank(word: &str) -> Option<Rank>
     ensures value { IfSome result (λ rank. number_of word.now ≡ Some rank.0) }
-    ensures succeeds { (number : ℕ) → number_of word.now ≡ Some number → number < 2 ^ 8 → IsSome result }
+    ensures succeeds { (number : ℕ) → number_of word.now ≡ Some number → number < 2 ^ 8
+        → IsSome result }
 {
     Some(Rank(u8::try_from(read_number(word)?).ok()?))
 }
