@@ -98,8 +98,10 @@ impl Cluster {
     pub(crate) fn switch_off(&mut self, i: Rank)
         requires { i.0 < length self.old.seats }
         ensures { (seat : Seat) → slice_get self.old.seats i.0 ≡ Some seat
-            → self.new ≡ record self.old { seats = slice_set self.old.seats i.0
-            (record seat { on = false }) } }
+            → self.new ≡ record self.old {
+              seats = slice_set self.old.seats i.0
+                  (record seat { on = false });
+            } }
     {
         let seat = &mut self.seats[usize::from(i.0)];
         seat.on = false;
@@ -109,8 +111,10 @@ impl Cluster {
     pub(crate) fn take_feed(&mut self, i: Rank)
         requires { i.0 < length self.old.seats }
         ensures { (seat : Seat) → slice_get self.old.seats i.0 ≡ Some seat
-            → self.new ≡ record self.old { seats = slice_set self.old.seats i.0
-            (record seat { fed = self.old.time }) } }
+            → self.new ≡ record self.old {
+              seats = slice_set self.old.seats i.0
+                  (record seat { fed = self.old.time });
+            } }
     {
         let time = self.time;
         let seat = &mut self.seats[usize::from(i.0)];

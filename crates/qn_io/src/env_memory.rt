@@ -117,8 +117,10 @@ impl Env for MemEnv {
             self.new.telling.calls (Now result ∷ []) }
         ensures in_order { result ≡ (next_tick self.old.ticks.left self.old.ticks.last).last }
         ensures after { self.new
-            ≡ record self.old { ticks = next_tick self.old.ticks.left self.old.ticks.last;
-            telling = telling_after self.old.telling (Now result) } }
+            ≡ record self.old {
+              ticks = next_tick self.old.ticks.left self.old.ticks.last;
+              telling = telling_after self.old.telling (Now result);
+            } }
     {
         let tick = self.ticks.next();
         self.told.add(Call::Now { tick });

@@ -33,8 +33,11 @@ impl MemSource {
     pub fn new(bytes: Vec<u8>, piece: usize, fails: Vec<u64>) -> MemSource
         requires { 0 < piece }
         ensures { result
-            ≡ record { left = bytes.items; piece = piece;
-            counts = record { fails = fails.items; made = 0; faults = 0 } } }
+            ≡ record {
+              left = bytes.items;
+              piece = piece;
+              counts = record { fails = fails.items; made = 0; faults = 0 };
+            } }
     {
         MemSource {
             bytes,
@@ -101,8 +104,11 @@ impl MemSink {
     pub fn new(alloc: Global, room: usize, fails: Vec<u64>) -> Result<MemSink, NoMemory>
         ensures { IfOk result
             (λ sink. sink
-            ≡ record { written = []; room = room;
-            counts = record { fails = fails.items; made = 0; faults = 0 } }) }
+            ≡ record {
+              written = [];
+              room = room;
+              counts = record { fails = fails.items; made = 0; faults = 0 };
+            }) }
     {
         let Ok(bytes) = Vec::with_capacity(alloc, room) else {
             return Err(NoMemory);

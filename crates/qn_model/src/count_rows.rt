@@ -11,14 +11,14 @@ pub fn law_half_and_majority()
         (codes "node 1 1\nnode 2 1\nnode 3 1\nnode 4 1\nview 1 1,2\nview 2 1,2,3\n")
         ≡ record {
           text = codes
-          "view 1 votes 2 quorum 3 quorate no\nview 2 votes 3 quorum 3 quorate yes\nend 2\n";
+              "view 1 votes 2 quorum 3 quorate no\nview 2 votes 3 quorum 3 quorate yes\nend 2\n";
           status = 0;
         } }
     ensures failed { count_of ReadFailed
         (codes "node 1 1\nnode 2 1\nnode 3 1\nnode 4 1\nview 1 1,2\nview 2 1,2,3\n")
         ≡ record {
           text = codes
-          "view 1 votes 2 quorum 3 quorate no\nview 2 votes 3 quorum 3 quorate yes\nfault ReadFault\n";
+              "view 1 votes 2 quorum 3 quorate no\nview 2 votes 3 quorum 3 quorate yes\nfault ReadFault\n";
           status = 6;
         } }
 {}

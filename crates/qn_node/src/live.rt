@@ -300,8 +300,10 @@ impl Live {
     /// Takes in what an entry, as it was read, says of the disk operation and of the resource.
     fn settle(&mut self, tick: u64, what: What)
         ensures { let op = if is_answer what then None else self.old.op in
-            self.new ≡ record self.old { op = op;
-            resource = after_entry tick what self.old.resource } }
+            self.new ≡ record self.old {
+              op = op;
+              resource = after_entry tick what self.old.resource;
+            } }
     {
         if what.is_answer() {
             self.op = None;
@@ -337,8 +339,11 @@ impl Live {
     /// The node, once nothing comes of it any more.
     fn rest(&self, phase: Phase) -> Rest
         ensures { result
-            ≡ record { phase = phase; claims = Some self.now.incarnation;
-            resource = self.now.resource } }
+            ≡ record {
+              phase = phase;
+              claims = Some self.now.incarnation;
+              resource = self.now.resource;
+            } }
     {
         Rest {
             phase,

@@ -29,8 +29,13 @@ pub fn law_heads()
     ensures unsafe_times { replay_of Ended
         (codes "nodelist {\nnode {\nnodeid: 1\n}\n}\n----\ntiming 5000 8163 1000 2000 1000\n")
         ≡ ends (UnsafeTiming
-        (record { watchdog = 5000; msgwait = 8163; loop_ms = 1000; read_limit = 2000;
-        feed_delay = 1000 })) }
+        (record {
+          watchdog = 5000;
+          msgwait = 8163;
+          loop_ms = 1000;
+          read_limit = 2000;
+          feed_delay = 1000;
+        })) }
 {}
 
 /// The faults of a settings text come at its end `----`, before the timing line; without that end they do
