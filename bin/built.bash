@@ -1,5 +1,5 @@
-# For bin/quorumd and bin/quorumctl: builds the program $name of the repository $top where a source has changed since it was built, and starts
-# it with the words of the script.
+# For bin/quorumd, bin/quorumctl and the programs that bench times: builds the program $name of the repository $top where a source has changed
+# since it was built, and starts it with the words of the script.
 folder=$top/crates/$name
 program=$folder/out/$name
 
