@@ -1,5 +1,5 @@
 -- What the end of a replay beside an arbiter says of the exit status.
-use Rattle.std.proofs.Common.{◌≡◌, ◌≢◌, ◌⊎◌, inl, inr, ℕ, List, [], ◌∷◌, Option, None, Some, IfSome, refl, sym, ◌∙◌, subst, arith}
+use Rattle.std.proofs.Common.{◌≡◌, ◌≢◌, ◌⊎◌, inl, inr, ℕ, List, [], ◌∷◌, refl, arith}
 use Rattle.qn_arbiter_replay.specs.declared.arbiter_end.ArbiterEnd.{ArbiterEnd}
 use Rattle.qn_arbiter_replay.specs.declared.arbiter_end.ArbiterEnd.TheVariants.{Replay, UnsafeLease}
 use Rattle.qn_arbiter_replay.specs.Endings.{EndFits, ReplayFits}

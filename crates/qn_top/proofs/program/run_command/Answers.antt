@@ -1,6 +1,5 @@
 use Rattle.std.proofs.Common.{Some, ℕ, List, ap, refl, sym, ◌∙◌}
 use Rattle.qn_commands.specs.Seen.{outside, source}
-use Rattle.qn_top.specs.declared.command.Command.{Command}
 use Rattle.qn_top.specs.declared.command.Command.TheVariants as command
 use Rattle.qn_top.proofs.Branches.{of_words, used}
 use Rattle.qn_top.proofs.program.run_command.Goals as goal

@@ -1,4 +1,3 @@
-use Rattle.std.proofs.Common.{Some}
 use Rattle.qn_top.specs.declared.command.Command.TheVariants as command
 use Rattle.qn_top.proofs.Branches.{ends}
 use Rattle.qn_top.proofs.program.top.Goals as goal
