@@ -1,6 +1,6 @@
-# No crate cites the proofs of another one; and the table of crates in docs/ARCHITECTURE.md has the crates of crates.txt and
-# what each stands on: a row names crates of its line there, and the others of that line stand below those. The row of a
-# crate that is not built yet says so.
+# No crate cites the proofs of another one, and each names every library of its line in crates.txt; and the table of crates in
+# docs/ARCHITECTURE.md has the crates of crates.txt and what each stands on: a row names crates of its line there, and the
+# others of that line stand below those. The row of a crate that is not built yet says so.
 python3 - "$TOP" <<'END'
 import pathlib
 import re
@@ -11,10 +11,9 @@ wrong = []
 
 
 def lines_of_crates():
-    """The crates of crates.txt, each with the crates of this repository that it uses."""
+    """The crates of crates.txt, each with the libraries that it uses, of this repository and of the kit."""
     lines = [line.split("#")[0].strip() for line in (TOP / "crates.txt").read_text().splitlines()]
-    uses = {line.split(":")[0].split()[0]: line.split(":")[1].split() for line in lines if line}
-    return {crate: {it for it in used if it in uses} for crate, used in uses.items()}
+    return {line.split(":")[0].split()[0]: {*line.split(":")[1].split()} for line in lines if line}
 
 
 def rows_of_crates():
@@ -48,20 +47,28 @@ def look_at_rows(uses, rows):
             wrong.append("docs/ARCHITECTURE.md does not say that %s stands on %s" % (crate, other))
 
 
-def look_at_sources(uses):
-    cited = re.compile(r"\b(%s)(?:\.|::)proofs\b" % "|".join(uses))
-    for crate in uses:
-        folder = TOP / "crates" / crate
-        files = [file for part in ("src", "specs", "proofs") for file in (folder / part).rglob("*")]
-        for file in sorted(file for file in files if file.suffix in (".antt", ".rt")):
-            for number, line in enumerate(file.read_text().splitlines(), 1):
+def sources_of(crate):
+    """The files of a crate that a check reads, with their texts."""
+    files = [file for part in ("src", "specs", "proofs") for file in (TOP / "crates" / crate / part).rglob("*")]
+    return {file: file.read_text() for file in sorted(files) if file.suffix in (".antt", ".rt")}
+
+
+def look_at_sources(libraries):
+    cited = re.compile(r"\b(%s)(?:\.|::)proofs\b" % "|".join(libraries))
+    for crate, used in libraries.items():
+        sources = sources_of(crate)
+        words = {word for text in sources.values() for word in re.findall(r"\w+", text)}
+        for library in sorted(used - words):
+            wrong.append("crates.txt says that %s uses %s, and no file of it does" % (crate, library))
+        for file, text in sources.items():
+            for number, line in enumerate(text.splitlines(), 1):
                 for other in sorted({*cited.findall(line)} - {crate}):
                     wrong.append("%s:%d cites the proofs of %s" % (file.relative_to(TOP), number, other))
 
 
-uses = lines_of_crates()
-look_at_rows(uses, rows_of_crates())
-look_at_sources(uses)
+libraries = lines_of_crates()
+look_at_rows({crate: used & libraries.keys() for crate, used in libraries.items()}, rows_of_crates())
+look_at_sources(libraries)
 print("\n".join(dict.fromkeys(wrong)))
 sys.exit(1 if wrong else 0)
 END
