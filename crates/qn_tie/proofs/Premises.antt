@@ -1,12 +1,11 @@
 -- Four nodes with ids 1 to 4, which are cut into two halves: the one with node 1 goes on.
-use Rattle.std.proofs.Common.{◌≡◌, ◌≢◌, ◌≤◌, ◌<◌, ◌+◌, ◌==◌, ◌⊎◌, inl, inr, ℕ, true, false, List, [], ◌∷◌, ◌++◌, length, All, AllPairs, Some, None, IsSome, slice_index, refl, sym, ap, ◌∙◌, subst, arith}
+use Rattle.std.proofs.Common.{◌≡◌, ◌≢◌, ◌≤◌, ◌<◌, ◌+◌, ◌==◌, ◌⊎◌, inl, inr, ℕ, zero, suc, true, false, List, [], ◌∷◌, All, AllPairs, Some, None, slice_index, refl, sym, ap, ◌∙◌, arith}
 use Rattle.std.proofs.lemmas.Bool.{cases_lt, false≢true}
 use Rattle.std.proofs.lemmas.List.Elements.{All-nil, All-cons}
 use Rattle.std.proofs.lemmas.List.Kept.{AllPairs-cons}
 use Rattle.std.proofs.lemmas.Nat.Bits.{bit_at_above, bit_at_mask_below}
 use Rattle.qn_base.specs.declared.ids.Rank.{Rank}
 use Rattle.qn_base.specs.declared.ids.View.{View}
-use Rattle.qn_base.specs.Members.{is_member}
 use Rattle.qn_model.specs.declared.configuration.Settings.{Settings}
 use Rattle.qn_model.specs.declared.entries.Entry.{Entry}
 use Rattle.qn_model.specs.declared.entries.What.{What}
@@ -14,7 +13,6 @@ use Rattle.qn_model.specs.declared.entries.What.TheVariants as what
 use Rattle.qn_model.specs.declared.nodelist.NodeEntry.{NodeEntry}
 use Rattle.qn_model.specs.declared.seen.HeaderSeen.TheVariants as header
 use Rattle.qn_model.specs.declared.seen.SlotSeen.TheVariants as slot
-use Rattle.qn_model.specs.Fitting.{read_as}
 use Rattle.qn_model.specs.Hearing.{told}
 use Rattle.qn_model.specs.Holding.{holds, stop_due, may_stop}
 use Rattle.qn_model.specs.Laws.{AreDisjoint}
@@ -24,7 +22,7 @@ use Rattle.qn_model.specs.NodeOutputs.{moment, acts, log_from, log_of, outs_at, 
 use Rattle.qn_model.specs.NodeVotes.{view, install, quorate, quorate_with_tie, votes}
 use Rattle.qn_model.specs.Phases.{phase}
 use Rattle.qn_model.specs.Settings.{IsOrder, IsValid, ids}
-use Rattle.qn_model.specs.Tie.{majority_view, was_in_majority}
+use Rattle.qn_model.specs.Tie.{majority_view}
 use Rattle.qn_model.specs.Timing.{usual_times}
 use Rattle.qn_model.specs.Unmet.{least_from, unmet}
 use Rattle.qn_model.specs.Votes.{answer_at, present_view, view_tick, is_released, expected_votes, device_yes}
