@@ -1,6 +1,5 @@
 -- A schedule in which a node holds the resource by the leased vote: alone in its view it has one vote of the two that it needs.
-use Rattle.std.proofs.Common.{◌≡◌, ◌++◌, ℕ, true, List, [], ◌∷◌, None, refl, arith}
-use Rattle.qn_base.specs.declared.ids.Rank.{Rank}
+use Rattle.std.proofs.Common.{◌≡◌, ◌++◌, true, List, [], ◌∷◌, refl, arith}
 use Rattle.qn_base.specs.Members.{is_member}
 use Rattle.qn_model.specs.declared.events.Event.TheVariants as event
 use Rattle.qn_model.specs.Log.{op_out, ask_place, ask_tick, begins_clean, claimed, slot_number, timing}
