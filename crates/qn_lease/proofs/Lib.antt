@@ -11,3 +11,4 @@ pub mod Remembering
 pub mod Granting
 pub mod Leases
 pub mod Premises
+mod Holder

@@ -38,7 +38,7 @@ use Rattle.qn_lease.specs.ArbiterRules.{is_well_formed_beside, refusal_beside}
 use Rattle.qn_lease.specs.ArbiterSteps.{arbiter_after, played, pollers_after, poll_sent, reply_sent, step_beside}
 
 -- two nodes of one vote each, and a device of one vote whose yes counts for 10000 milliseconds
-abbrev with_device : Settings
+abbrev pub with_device : Settings
 with_device =
     record {
       nodes = record { id = record { 0 = 1 }; votes = 1; fence_delay = 0 } ∷ record { id = record { 0 = 2 }; votes = 1; fence_delay = 0 } ∷ [];
@@ -51,20 +51,20 @@ with_device =
       tie = None;
     }
 
-abbrev least_lease : Lease
+abbrev pub least_lease : Lease
 least_lease = record { limit = 2000; lease = 12244 }
 
-abbrev left_node : Rank
+abbrev pub left_node : Rank
 left_node = record { 0 = 0 }
 
 abbrev right_node : Rank
 right_node = record { 0 = 1 }
 
-abbrev sees : ℕ → View
+abbrev pub sees : ℕ → View
 sees members = record { id = 1; members = record { 0 = members } }
 
 -- a lease after the arbiter's boot the first node, alone in its view, polls and has the vote
-abbrev left_has_it : List ArbiterEvent
+abbrev pub left_has_it : List ArbiterEvent
 left_has_it = beside.Reply 0 ∷ beside.Hear 0 ∷ beside.Poll left_node ∷ beside.One (event.View left_node (sees 1)) ∷ beside.One (event.Done left_node) ∷ beside.One (event.Land left_node) ∷ beside.One (event.Done left_node) ∷ beside.One (event.Land left_node) ∷ beside.One (event.Done left_node) ∷ beside.One (event.Land left_node) ∷ beside.One (event.Done left_node) ∷ beside.One (event.Land left_node) ∷ beside.One (event.Boot left_node 0) ∷ beside.One (event.Pass 12244 []) ∷ beside.ArbiterBoot 0 ∷ []
 
 -- it lives on, and its yes ends; more than a lease behind that yes the second node, alone in its
@@ -115,7 +115,7 @@ each_node P one two = All-cons P one_vote (two_votes ∷ []) one (All-cons P two
     two_votes : NodeEntry
     two_votes = record { id = record { 0 = 2 }; votes = 1; fence_delay = 0 }
 
-with_device_valid : IsValid with_device
+pub with_device_valid : IsValid with_device
 with_device_valid = record {
   some_node = omega arith;
   few_nodes = omega arith;

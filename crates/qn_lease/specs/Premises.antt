@@ -1,13 +1,16 @@
--- The premises of the law of one leased vote are met: a schedule of a valid cluster in which the vote goes from one half to the
--- other, both of which run.
-use Rattle.std.specs.Prelude.{◌≡◌, ℕ, true, List, Some, IsTrue}
+-- The premises of the laws beside an arbiter are met: a schedule of a valid cluster in which the vote goes from one half to the
+-- other, both of which run, and one in which a node holds by the vote.
+use Rattle.std.specs.Prelude.{◌≡◌, ◌<◌, ℕ, true, List, Some, IsTrue}
 use Rattle.qn_base.specs.declared.ids.View.{View}
+use Rattle.qn_base.specs.Members.{is_member}
 use Rattle.qn_model.specs.declared.configuration.Settings.{Settings}
 use Rattle.qn_model.specs.declared.times.Timing.{Timing}
 use Rattle.qn_model.specs.Laws.{AreDisjoint}
 use Rattle.qn_model.specs.Moments.{Before}
 use Rattle.qn_model.specs.NodeVotes.{view}
+use Rattle.qn_model.specs.Steps.{answer_now, holders}
 use Rattle.qn_model.specs.Timing.{is_safe}
+use Rattle.qn_model.specs.Votes.{votes_among}
 use Rattle.qn_model.specs.World.{node_at}
 use Rattle.qn_lease.specs.declared.events.ArbiterEvent.{ArbiterEvent}
 use Rattle.qn_lease.specs.declared.lease.Lease.{Lease}
@@ -36,3 +39,20 @@ pub record VoteGoesOver : Type 0 where
   pub second_quorate : IsQuorateIn settings second right (run_beside settings timing times events)
   pub first_runs : (node_at settings first (run_beside settings timing times events).world).on ≡ true
   pub first_sees : view (node_at settings first (run_beside settings timing times events).world).log ≡ Some left
+
+-- settings, safe timing, a safe lease and events that are each allowed, newest first: after them a node holds the resource, whose
+-- view alone has fewer votes than it needs
+pub record HoldsByVote : Type 0 where
+  pub settings : Settings
+  pub timing : Timing
+  pub times : Lease
+  pub events : List ArbiterEvent
+  pub holder : ℕ
+  pub seen : View
+  pub leases : LeasesVote settings times
+  pub safe : IsTrue (is_safe timing)
+  pub allowed : AllAllowedBeside settings timing times events
+  pub quorate : IsQuorateIn settings holder seen (run_beside settings timing times events)
+  pub few : votes_among settings.nodes seen.members
+      < (answer_now settings (node_at settings holder (run_beside settings timing times events).world)).quorum
+  pub holds : IsTrue (is_member (holders settings (run_beside settings timing times events).world) holder)

@@ -11,7 +11,7 @@ ghost use Rattle.qn_lease.specs.declared.events.ArbiterEvent.{ArbiterEvent};
 ghost use Rattle.qn_lease.specs.declared.lease.Lease.{Lease};
 ghost use Rattle.qn_lease.specs.ArbiterSteps.{AllAllowedBeside, run_beside};
 ghost use Rattle.qn_lease.specs.Law.{IsQuorateIn, LeasesVote};
-ghost use Rattle.qn_lease.specs.Premises.{VoteGoesOver};
+ghost use Rattle.qn_lease.specs.Premises.{HoldsByVote, VoteGoesOver};
 
 use qn_model::{law_disjoint_votes, law_present_view};
 use qn_safety::{
@@ -46,6 +46,12 @@ pub fn law_one_lease()
 /// one, while the first still runs with its view.
 pub fn law_leased_vote_goes_over()
     ensures { VoteGoesOver }
+{}
+
+/// And so is there a schedule in which a node holds the resource by the vote: its view alone has fewer votes than
+/// it needs.
+pub fn law_node_holds_by_leased_vote()
+    ensures { HoldsByVote }
 {}
 
 /// Beside an arbiter too at most one node holds the resource after any events, each well formed and allowed in its turn: for

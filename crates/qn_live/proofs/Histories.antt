@@ -36,7 +36,7 @@ unfolding log_from
 log_from-more s me past [] entry = refl
 log_from-more s me past (first ∷ history) entry = log_from-more s me (with_entry s me past first) history entry
 
-one_more : (s : Settings) (me : ℕ) (log : List Line) (entry : Entry) → IsHistory s me log → IsHistory s me (with_entry s me log entry)
+pub one_more : (s : Settings) (me : ℕ) (log : List Line) (entry : Entry) → IsHistory s me log → IsHistory s me (with_entry s me log entry)
 one_more s me log entry is =
     (is.0 ++ entry ∷ [], ap (λ l. with_entry s me l entry) is.1 ∙ sym (log_from-more s me [] is.0 entry))
 

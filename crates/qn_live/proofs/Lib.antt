@@ -1,6 +1,7 @@
 pub mod Always
 pub mod Answering
 pub mod Coming
+pub mod Handing
 pub mod Histories
 pub mod Ids
 pub mod Joining

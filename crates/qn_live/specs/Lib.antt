@@ -3,6 +3,7 @@ pub mod CalmOutputs
 pub mod Choosing
 pub mod EndLaws
 pub mod Greetings
+pub mod Handed
 pub mod Halts
 pub mod Laws
 pub mod Machine

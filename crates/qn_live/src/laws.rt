@@ -12,6 +12,7 @@ ghost use Rattle.qn_live.specs.declared.place.Choice.{Choice};
 ghost use Rattle.qn_live.specs.declared.live_end.LiveEnd.{LiveEnd};
 ghost use Rattle.qn_live.specs.Choosing.{choice_plan, failed_answer};
 ghost use Rattle.qn_live.specs.Halts.{HaltedBy, IsNewest, one_call};
+ghost use Rattle.qn_live.specs.Handed.{HandsHistory};
 ghost use Rattle.qn_live.specs.Laws.{IsHistory, NeverFalls, is_by_call, is_by_clock, is_no_failure, is_sound, outputs_among, outputs_of, takes_answer};
 ghost use Rattle.qn_live.specs.Running.{Next, Ran, RunState};
 ghost use Rattle.qn_live.specs.Runs.{handled, live_plan};
@@ -22,6 +23,16 @@ pub fn law_one_history()
         (calls : List Call) (ran : Ran)
         → Follows (live_plan s me clean leave turns) calls ran
         → IsHistory s me ran.log }
+{}
+
+/// Law: what a node is handed in a run begins with the one entry that begins its boot, cleanly or not as it was told, its ticks
+/// never fall, and they are what the clock told in the calls of the run, one after the other. A clock that went back told one
+/// tick more, and ended the run.
+pub fn law_handed_history()
+    ensures { (s : Settings) (me : ℕ) (clean : Bool) (leave : Option ℕ) (turns : ℕ)
+        (calls : List Call) (ran : Ran)
+        → Follows (live_plan s me clean leave turns) calls ran
+        → HandsHistory s me clean calls ran }
 {}
 
 /// Law: the calls of a run, but for those that receive, look at the clock, or send a Hello or an Announce, are the outputs of

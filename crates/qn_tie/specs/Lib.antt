@@ -1,2 +1,3 @@
 pub mod Halves
+pub mod Premises
 pub mod Tie

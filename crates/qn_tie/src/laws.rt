@@ -10,6 +10,7 @@ ghost use Rattle.qn_model.specs.NodeVotes.{quorate_with_tie, view};
 ghost use Rattle.qn_model.specs.Votes.{newer_view};
 ghost use Rattle.qn_tie.specs.declared.breaker.Tie.{Tie};
 ghost use Rattle.qn_tie.specs.Halves.{SplitAlike};
+ghost use Rattle.qn_tie.specs.Premises.{OneHalfGoesOn};
 ghost use Rattle.qn_tie.specs.Tie.{TieFor};
 
 use qn_model::{law_disjoint_votes, law_present_view};
@@ -37,3 +38,9 @@ pub fn law_tie_halves()
     law_disjoint_votes();
     law_present_view();
 }
+
+/// The premises are met: there are valid settings of nodes with different ids, and two nodes with such views and
+/// histories, of which the first is quorate by the breaker.
+pub fn law_tie_premises_are_met()
+    ensures { OneHalfGoesOn }
+{}
