@@ -1,0 +1,3 @@
+pub mod Seals
+pub mod Opening
+pub mod Receiving
