@@ -2,9 +2,10 @@
 //!
 //! Promises: `lease_safe` is exactly the definition of a safe lease; beside an arbiter no two nodes with disjoint present
 //! views are ever both quorate (`law_one_lease`), the vote does go from one half to the other
-//! (`law_leased_vote_goes_over`), and at most one node holds (`law_one_holder_beside`). `specs/Arbiter` and `specs/Poller` say
-//! what an arbiter answers and which reply a node takes; `specs/ArbiterWorld`, `specs/ArbiterRules` and `specs/ArbiterSteps`
-//! are the world of a cluster beside its arbiter, its rules and its runs. Nothing here says how anything is computed.
+//! (`law_leased_vote_goes_over`), at most one node holds (`law_one_holder_beside`), and every run is a timed run
+//! (`law_runs_beside_are_timed`). `specs/Arbiter` and `specs/Poller` say what an arbiter answers and which reply a node
+//! takes; `specs/ArbiterWorld`, `specs/ArbiterRules` and `specs/ArbiterSteps` are the world of a cluster beside its arbiter,
+//! its rules and its runs. Nothing here says how anything is computed.
 #![tactic(auto)]
 
 mod events;
@@ -14,7 +15,9 @@ mod polls;
 mod reports;
 
 pub use events::ArbiterEvent;
-pub use laws::{law_leased_vote_goes_over, law_one_holder_beside, law_one_lease};
+pub use laws::{
+    law_leased_vote_goes_over, law_one_holder_beside, law_one_lease, law_runs_beside_are_timed,
+};
 pub use lease::{LONGEST_LEASE, Lease, lease_safe};
 pub use polls::{Poll, Reply};
 pub use reports::{ArbiterReport, Said};
