@@ -1,11 +1,12 @@
 -- Small facts on options, tests and lists.
-use Rattle.std.proofs.Common.{◌≡◌, ℕ, suc, zero, ◌+◌, ◌<◌, ◌≤◌, Bool, true, false, List, [], ◌∷◌, ◌++◌, length, Some, None, Option, refl, sym, ◌∙◌, subst, arith, ◌&&◌, ◌||◌, not, ◌⊎◌, inl, inr, is_some}
+use Rattle.std.proofs.Common.{◌≡◌, ℕ, suc, zero, ◌+◌, ◌<◌, ◌≤◌, Bool, true, false, List, [], ◌∷◌, ◌++◌, Some, None, Option, refl, sym, ◌∙◌, subst, arith, ◌&&◌, ◌||◌, not, ◌⊎◌, inl, inr, is_some}
 use Rattle.std.specs.Prelude.{slice_get}
 use Rattle.std.specs.Option.{option_map_or, option_or, option_to_list}
 use Rattle.std.specs.List.{list_all, list_any, range_with_len}
 use Rattle.std.proofs.lemmas.Bool.{false≢true, true≢false, cases_order}
 use Rattle.qn_model.specs.Moments.{Before, Itself, Later}
 use Rattle.qn_model.specs.Rules.{unless}
+pub use Rattle.qn_safety.specs.Earlier.{before_length, before_tail, before_then, before_total}
 
 pub some_same : {A : Type 0} (a b : A) → Some a ≡ Some b → a ≡ b
 some_same a b e = cc
@@ -51,24 +52,6 @@ allows false rule ok = none_some rule (sym ok)
 pub first_allows : (test : Bool) (rule : ℕ) (other : Option ℕ) → option_or (unless test rule) other ≡ None → (test ≡ true) × (other ≡ None)
 first_allows true rule other ok = (refl, ok)
 first_allows false rule other ok = none_some rule (sym ok)
-
--- an earlier state of a list is shorter
-pub before_length : {A : Type 0} {old new : List A} → Before old new → length old ≤ length new
-before_length Itself = omega arith
-before_length (Later newest more) = let rest = before_length more in omega arith
-
-pub before_then : {A : Type 0} {a b c : List A} → Before a b → Before b c → Before a c
-before_then first Itself = first
-before_then first (Later newest more) = Later newest (before_then first more)
-
-pub before_tail : {A : Type 0} {x : A} {old new : List A} → Before (x ∷ old) new → Before old new
-before_tail {x = x} first = before_then (Later x Itself) first
-
--- of two earlier states of one list one is earlier than the other
-pub before_total : {A : Type 0} {a b c : List A} → Before a c → Before b c → Before a b ⊎ Before b a
-before_total Itself second = inr second
-before_total (Later newest first) Itself = inl (Later newest first)
-before_total (Later newest first) (Later other second) = before_total first second
 
 -- an earlier state of a list with one item more is that list, or an earlier state of the rest
 pub newest_state : {A : Type 0} {old rest : List A} {newest : A} → Before old (newest ∷ rest) → (old ≡ newest ∷ rest) ⊎ Before old rest

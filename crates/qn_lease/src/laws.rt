@@ -7,6 +7,7 @@ ghost use Rattle.qn_model.specs.declared.times.Timing.{Timing};
 ghost use Rattle.qn_model.specs.Laws.{AreDisjoint};
 ghost use Rattle.qn_model.specs.Steps.{holders};
 ghost use Rattle.qn_model.specs.Timing.{is_safe};
+ghost use Rattle.qn_safety.specs.Timed.{IsTimedRun};
 ghost use Rattle.qn_lease.specs.declared.events.ArbiterEvent.{ArbiterEvent};
 ghost use Rattle.qn_lease.specs.declared.lease.Lease.{Lease};
 ghost use Rattle.qn_lease.specs.ArbiterSteps.{AllAllowedBeside, run_beside};
@@ -65,4 +66,14 @@ pub fn law_one_holder_beside()
         → i ≡ j }
 {
     law_no_two_holders();
+}
+
+/// The moments of every run of the world beside an arbiter are a timed run, as those of a run without one are: what is proved
+/// of each timed run holds there too.
+pub fn law_runs_beside_are_timed()
+    ensures { (s : Settings) (t : Timing) (times : Lease) (events : List ArbiterEvent)
+        → AllAllowedBeside s t times events
+        → IsTimedRun s t (run_beside s t times events).world.moments }
+{
+    law_runs_are_timed();
 }

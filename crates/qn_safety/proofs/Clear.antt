@@ -12,7 +12,7 @@ use Rattle.qn_model.specs.Hearing.{is_free, is_held}
 use Rattle.qn_model.specs.Licences.{is_licensed, is_written, left_to_wait}
 use Rattle.qn_model.specs.Unmet.{unmet, is_clear, id_of, chosen, holder, unheard, unfenced, or_else, other_chosen}
 use Rattle.qn_safety.proofs.Tools.{some_none, clash}
-use Rattle.qn_safety.proofs.Least.{least_none, least_below}
+use Rattle.qn_safety.specs.LeastRanks.{least_none, least_below}
 
 -- what a start rests on
 pub record IsClear (s : Settings) (me : ℕ) (log : List Line) (tick : ℕ) : Type 0 where

@@ -1,5 +1,4 @@
 pub mod Tools
-pub mod Least
 pub mod Says
 pub mod Clear
 pub mod Logs
@@ -44,3 +43,4 @@ pub mod TripleHolders
 pub mod TripleRows
 pub mod TriplePremises
 pub mod LogMoves
+pub mod UpNodes

@@ -29,7 +29,7 @@ use Rattle.qn_model.specs.NodeVotes.{install, view, is_in_view, is_present, rele
 use Rattle.qn_model.specs.Unmet.{unmet, is_clear, is_chosen}
 use Rattle.qn_model.specs.Wanted.{wanted_with_delay, fencing_op_with_delay, is_delay_over, to_read, to_reset, to_reset_now, boot_op, close_op, rank_of, is_mail_due, may_fence}
 use Rattle.qn_model.specs.NodeOutputs.{acts, outs_at, live_outs, boot_outs, boot_step_outs, is_boot_step, is_begin, disk_outs, when, replies, reply, asks_under, ask_to, is_asking, gives_stop, gives_start, mail_feeds}
-use Rattle.qn_safety.proofs.Least.{least_passes}
+use Rattle.qn_safety.specs.LeastRanks.{least_passes}
 use Rattle.qn_safety.proofs.Tools.{some_same, none_some, and_left_of, and_right_of, not_true}
 
 -- an operation of the boot: the entry is a step of the boot that goes on

@@ -1,3 +1,5 @@
+pub mod Earlier
+pub mod LeastRanks
 pub mod Clocks
 pub mod Closing
 pub mod Timed

@@ -1,10 +1,13 @@
 //! What holds of the log of one node from one moment to a later one.
-ghost use Rattle.std.specs.Prelude.{◌≡◌, ◌≤◌, ℕ, List, ◌∷◌};
+ghost use Rattle.std.specs.Prelude.{◌≡◌, ◌≤◌, ℕ, Bool, List, ◌∷◌, IsTrue};
 ghost use Rattle.qn_model.specs.declared.configuration.Settings.{Settings};
+ghost use Rattle.qn_model.specs.declared.entries.What.TheVariants as what;
 ghost use Rattle.qn_model.specs.declared.events.Event.{Event};
 ghost use Rattle.qn_model.specs.declared.times.Timing.{Timing};
-ghost use Rattle.qn_model.specs.Log.{incarnation};
+ghost use Rattle.qn_model.specs.Fitting.{fits};
+ghost use Rattle.qn_model.specs.Log.{incarnation, timing};
 ghost use Rattle.qn_model.specs.Moments.{Before, Moment, node, time};
+ghost use Rattle.qn_model.specs.Phases.{is_booting, phase};
 ghost use Rattle.qn_model.specs.Steps.{AllAllowed, run};
 ghost use Rattle.qn_safety.specs.Clocks.{RunsOn};
 ghost use Rattle.qn_safety.specs.LogMoves.{LogMove};
@@ -38,4 +41,19 @@ pub fn law_log_moves()
     ensures log { (s : Settings) (t : Timing) (event : Event) (earlier : List Event) (rank : ℕ)
         → AllAllowed s t (event ∷ earlier)
         → LogMove s rank event (run s t earlier).moments (run s t (event ∷ earlier)).moments }
+{}
+
+/// What holds of the log of a node in every timed run: once the node is up it works with the times of the run, and the answer to
+/// the clearing of its mailbox, which ends a boot, fits it only while it boots.
+pub fn law_up_nodes()
+    ensures times { (s : Settings) (t : Timing) (rank : ℕ) (moments now : List Moment)
+        → IsTimedRun s t moments
+        → Before now moments
+        → IsUp s rank now
+        → timing (node s rank now).log ≡ t }
+    ensures cleared { (s : Settings) (t : Timing) (rank : ℕ) (moments now : List Moment) (ok : Bool)
+        → IsTimedRun s t moments
+        → Before now moments
+        → IsTrue (fits s rank (node s rank now).log (what.Cleared ok))
+        → IsTrue (is_booting (phase s (node s rank now).log)) }
 {}

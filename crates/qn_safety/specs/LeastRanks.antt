@@ -1,24 +1,25 @@
--- The least number that passes a test: it passes, none below it does, and where there is none nothing passes.
-use Rattle.std.proofs.Common.{◌≡◌, ℕ, suc, zero, ◌+◌, ◌<◌, ◌≤◌, Bool, true, false, Some, None, Option, refl, cond, arith, subst, ◌⊎◌, inl, inr}
+-- The least number that passes a test: it passes, none below it does, and where there is none nothing passes. Lemmas for the
+-- proofs of this crate and of those above. This project's profile.
+use Rattle.std.proofs.Common.{◌≡◌, ℕ, suc, zero, ◌+◌, ◌<◌, ◌≤◌, Bool, true, false, Some, None, Option, refl, sym, cond, arith, subst, ◌⊎◌, inl, inr}
 use Rattle.std.proofs.lemmas.Bool.{cases_order}
 use Rattle.qn_model.specs.Unmet.{least_from}
-use Rattle.qn_safety.proofs.Tools.{some_same, none_some, some_none}
+use Rattle.std.proofs.lemmas.Option.{none-some, same_Some}
 
 passes_here : (test : ℕ → Bool) (from found : ℕ) (later : Option ℕ) (b : Bool) → test from ≡ b
     → (later ≡ Some found → test found ≡ true) → cond b (Some from) later ≡ Some found → test found ≡ true
-passes_here test from found later true passed rest is = subst (λ n. test n ≡ true) (some_same _ _ is) passed
+passes_here test from found later true passed rest is = subst (λ n. test n ≡ true) (same_Some _ _ is) passed
 passes_here test from found later false passed rest is = rest is
 
 -- the least number that passes a test passes it
 pub least_passes : (count from : ℕ) (test : ℕ → Bool) (found : ℕ) → least_from count from test ≡ Some found → test found ≡ true
 unfolding least_from
-least_passes zero from test found e = none_some found e
+least_passes zero from test found e = absurd (none-some found e)
 least_passes (suc count) from test found e =
     passes_here test from found (least_from count (from + 1) test) (test from) refl (least_passes count (from + 1) test found) e
 
 none_here : (test : ℕ → Bool) (from : ℕ) (later : Option ℕ) (b : Bool) → test from ≡ b → cond b (Some from) later ≡ None
     → (test from ≡ false) × (later ≡ None)
-none_here test from later true passed e = some_none from e
+none_here test from later true passed e = absurd (none-some from (sym e))
 none_here test from later false refused e = (refused, e)
 
 -- where there is none nothing passes
@@ -38,7 +39,7 @@ least_none (suc count) from test e j above below =
 least_at : (test : ℕ → Bool) (from found j : ℕ) (later : Option ℕ) (b : Bool) → test from ≡ b → cond b (Some from) later ≡ Some found
     → from ≤ j → j < found → (from < j → later ≡ Some found → test j ≡ false) → test j ≡ false
 least_at test from found j later true passed e above below rest =
-    let same : from ≡ found = some_same _ _ e in absurd (omega arith)
+    let same : from ≡ found = same_Some _ _ e in absurd (omega arith)
 least_at test from found j later false refused e above below rest = at_or_behind (cases_order from j)
   where
     at_or_behind : (from ≡ j) ⊎ ((from < j) ⊎ (j < from)) → test j ≡ false
@@ -50,7 +51,7 @@ least_at test from found j later false refused e above below rest = at_or_behind
 pub least_below : (count from : ℕ) (test : ℕ → Bool) (found : ℕ) → least_from count from test ≡ Some found
     → (j : ℕ) → from ≤ j → j < found → test j ≡ false
 unfolding least_from
-least_below zero from test found e j above below = none_some found e
+least_below zero from test found e j above below = absurd (none-some found e)
 least_below (suc count) from test found e j above below =
     least_at test from found j (least_from count (from + 1) test) (test from) refl e above below
     (λ past rest. least_below count (from + 1) test found rest j (omega arith) below)

@@ -1,0 +1,11 @@
+mod Tools
+mod Below
+mod Totals
+mod Given
+mod Entries
+mod Next
+mod Busy
+mod Steps
+mod Starts
+mod Over
+mod Rows

@@ -1,0 +1,90 @@
+//! The bounded take-over.
+ghost use Rattle.std.specs.Prelude.{◌≤◌, ◌<◌, ◌+◌, ℕ, List, IsTrue};
+ghost use Rattle.qn_model.specs.declared.configuration.Settings.{Settings};
+ghost use Rattle.qn_model.specs.declared.events.Event.{Event};
+ghost use Rattle.qn_model.specs.declared.times.Timing.{Timing};
+ghost use Rattle.qn_model.specs.Moments.{Moment, is_holder, node, tick_of};
+ghost use Rattle.qn_model.specs.NodeVotes.{install};
+ghost use Rattle.qn_model.specs.Steps.{AllAllowed, run};
+ghost use Rattle.qn_safety.specs.declared.triple_event.TripleEvent.{TripleEvent};
+ghost use Rattle.qn_safety.specs.Timed.{IsTimedRun};
+ghost use Rattle.qn_safety.specs.TripleSteps.{AllAllowedTriple, run_triple};
+ghost use Rattle.qn_lease.specs.declared.events.ArbiterEvent.{ArbiterEvent};
+ghost use Rattle.qn_lease.specs.declared.lease.Lease.{Lease};
+ghost use Rattle.qn_lease.specs.ArbiterSteps.{AllAllowedBeside, run_beside};
+ghost use Rattle.qn_progress.specs.Pace.{Pace, outside, take_over_ticks};
+ghost use Rattle.qn_progress.specs.Premises.{TakesOver};
+ghost use Rattle.qn_progress.specs.Quiet.{
+  DelaysOver,
+  HasTakenTicks,
+  HasTakenTime,
+  IsAlone,
+  QuietSince,
+  StaysQuiet,
+};
+
+use qn_lease::law_runs_beside_are_timed;
+use qn_safety::{law_clocks, law_runs_are_timed, law_triple_runs_are_timed, law_up_nodes};
+
+/// In a quiet world the least member of a view holds the resource after a bounded time, and from then on: once the nodes
+/// outside the view are fenced, and each other member was heard. In ticks of its clock, in every timed run.
+pub fn law_least_member_holds()
+    ensures heard { (s : Settings) (t : Timing) (pace : Pace) (rank : ℕ) (old mid new : List Moment)
+        → IsTimedRun s t new
+        → StaysQuiet s t rank pace old mid new
+        → HasTakenTicks s t rank pace old mid new
+        → IsTrue (is_holder s new rank) }
+    ensures alone { (s : Settings) (t : Timing) (pace : Pace) (rank : ℕ) (old new : List Moment)
+        → IsTimedRun s t new
+        → pace.disk < t.loop_ms
+        → QuietSince s rank pace (install (node s rank old).log) old new
+        → DelaysOver s (tick_of (node s rank old).clock) (node s rank old).log
+        → IsAlone s rank (node s rank old).log
+        → tick_of (node s rank old).clock + take_over_ticks t pace (outside s (node s rank old).log)
+        ≤ tick_of (node s rank new).clock
+        → IsTrue (is_holder s new rank) }
+{
+    law_clocks();
+    law_up_nodes();
+}
+
+/// The same in true milliseconds: in every timed run, and after any events, each well formed and allowed in its turn, in the
+/// world of one image, in that of three images, and beside an arbiter. Who holds then goes on holding while the world stays
+/// quiet. The events stand newest first.
+pub fn law_take_over()
+    ensures timed { (s : Settings) (t : Timing) (pace : Pace) (rank : ℕ) (old mid new : List Moment)
+        → IsTimedRun s t new
+        → StaysQuiet s t rank pace old mid new
+        → HasTakenTime s t rank pace old mid new
+        → IsTrue (is_holder s new rank) }
+    ensures world { (s : Settings) (t : Timing) (pace : Pace) (rank : ℕ) (events : List Event)
+        (old mid : List Moment)
+        → AllAllowed s t events
+        → StaysQuiet s t rank pace old mid (run s t events).moments
+        → HasTakenTime s t rank pace old mid (run s t events).moments
+        → IsTrue (is_holder s (run s t events).moments rank) }
+    ensures three_images { (s : Settings) (t : Timing) (pace : Pace) (rank : ℕ) (events : List TripleEvent)
+        (old mid : List Moment)
+        → AllAllowedTriple s t events
+        → StaysQuiet s t rank pace old mid (run_triple s t events).moments
+        → HasTakenTime s t rank pace old mid (run_triple s t events).moments
+        → IsTrue (is_holder s (run_triple s t events).moments rank) }
+    ensures beside { (s : Settings) (t : Timing) (pace : Pace) (rank : ℕ) (times : Lease)
+        (events : List ArbiterEvent) (old mid : List Moment)
+        → AllAllowedBeside s t times events
+        → StaysQuiet s t rank pace old mid (run_beside s t times events).world.moments
+        → HasTakenTime s t rank pace old mid (run_beside s t times events).world.moments
+        → IsTrue (is_holder s (run_beside s t times events).world.moments rank) }
+{
+    law_clocks();
+    law_runs_are_timed();
+    law_runs_beside_are_timed();
+    law_triple_runs_are_timed();
+    law_up_nodes();
+}
+
+/// The premises are met: there are valid settings, safe timing and events, each allowed in its turn, that are quiet for as
+/// long as a take-over takes, from a moment on at which nobody holds.
+pub fn law_take_over_is_met()
+    ensures { TakesOver }
+{}
