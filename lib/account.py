@@ -98,7 +98,7 @@ class Account:
             "boots": "node %d boots" % deed.node,
             "up": "node %d is up (incarnation %d)" % (deed.node, node.incarnation),
             "leaves": "node %d leaves" % deed.node,
-            "left": "node %d has left, and its slot is clean" % deed.node,
+            "left": "node %d has left, and its slot is %s" % (deed.node, "clean" if node.is_closed else "dirty"),
             "crashes": "node %d is down: %s" % (deed.node, cause),
             "halts": "node %d gives up its boot: %s (halt:%s)" % (deed.node, CAUSES.get(deed.text, deed.text), deed.text),
             "view": "node %d is told a view of %s: " % (deed.node, deed.text) + self.quorum_in_words(node),

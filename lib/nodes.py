@@ -51,6 +51,7 @@ class Node:
         self.operation = None  # asked of the disk and not answered
         self.has_landed = False
         self.lost = []  # writes that were given up before they landed, oldest first
+        self.is_closed = False  # whether its slot was written as clean, and that was answered so
         self.quorate = False
         self.votes = 0
         self.quorum = 0
@@ -74,7 +75,7 @@ class Node:
     # ---- what an event does, by its words
 
     def boots(self, words):
-        self.phase, self.lost = "booting", []
+        self.phase, self.lost, self.is_closed = "booting", [], False
         return self.deed("boots", words[0])
 
     def crashes(self, words):
@@ -90,8 +91,13 @@ class Node:
         return self.landing(self.lost.pop(int(words[2]) - 1))
 
     def is_answered(self, words):
+        self.is_closed = self.operation is not None and self.operation[0] == "close" and self.was_written(words)
         self.give_up()
         return []
+
+    def was_written(self, words):
+        """Whether a write that is answered by this event succeeded."""
+        return words[0] == "done"
 
     def is_told_view(self, words):
         return self.deed("view", words[3]) if self.phase in ("up", "leaving") else []
@@ -178,6 +184,7 @@ class NodeOnThree(Node):
     def __init__(self, ident):
         super().__init__(ident)
         self.pending = set()  # the images on which the part of the operation that is out has neither landed nor failed
+        self.failed = set()  # those on which it failed
         self.lost = {image: [] for image in IMAGES}
 
     def boots(self, words):
@@ -191,10 +198,15 @@ class NodeOnThree(Node):
 
     def part_fails(self, words):
         image = int(words[2])
+        self.failed.add(image)
         if image in self.pending:
             self.lose(image)
             self.pending.discard(image)
         return []
+
+    def was_written(self, words):
+        """A write succeeds on two images or more."""
+        return len(self.failed) < 2
 
     def lands_late(self, words):
         return self.landing(self.lost[int(words[2])].pop(int(words[3]) - 1))
@@ -212,7 +224,7 @@ class NodeOnThree(Node):
             self.lost[image].append(self.operation)
 
     def asks_disk(self, word, rest):
-        self.pending = set(IMAGES)
+        self.pending, self.failed = set(IMAGES), set()
         return super().asks_disk(word, rest)
 
 

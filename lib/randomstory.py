@@ -97,7 +97,7 @@ class Chooser:
         return ["split", *ids[:cut], "|", *ids[cut:]]
 
     def heal(self):
-        return ["heal"] if set(self.world.part.values()) != {0} else None
+        return None if self.world.network.is_whole() else ["heal"]
 
     def message(self):
         """A deadly message at any time; another one where the node is off, since it may take no deadly one back."""

@@ -1,4 +1,4 @@
-"""A run of `quorumd replay` that is fed through a pipe: an event is written, and its trace line is read before the next one."""
+"""A run of `quorumd replay`, `replay3` or `replay-arbiter` that is fed through a pipe: an event is written, and its trace line is read before the next one."""
 import subprocess
 
 from traces import Refused, program, report_of, to_bytes
@@ -9,10 +9,11 @@ MOST_EVENTS = 200000
 class Replay:
     """The events that are written are kept too, as lines of a schedule, where a file is given."""
 
-    def __init__(self, head, kept=None):
+    def __init__(self, head, kept=None, command="replay"):
         self.events = 0
         self.kept = kept
-        self.child = subprocess.Popen([program(), "replay"], stdin=subprocess.PIPE, stdout=subprocess.PIPE, bufsize=0)
+        self.command = command
+        self.child = subprocess.Popen([program(), command], stdin=subprocess.PIPE, stdout=subprocess.PIPE, bufsize=0)
         self.answers = open(self.child.stdout.fileno(), "rb", closefd=False)
         self.write(head)
 
@@ -34,7 +35,7 @@ class Replay:
         answer = self.answers.readline().decode().rstrip("\n")
         if not answer[:1].isdigit():
             self.child.wait()
-            raise Refused(self.child.returncode, answer or "quorumd replay ended with status %d" % self.child.returncode)
+            raise Refused(self.child.returncode, answer or "quorumd %s ended with status %d" % (self.command, self.child.returncode))
         return report_of(answer)
 
     def end(self):

@@ -15,14 +15,18 @@ class Commands:
         self.world = world
         self.actions = {
             "up": self.up,
+            "up-together": self.up_together,
             "up-clean": self.up_clean,
             "kill": self.kill,
             "hang": self.hang,
             "wake": self.wake,
             "leave": self.leave,
             "message": self.message,
-            "split": self.split,
-            "heal": self.heal,
+            "split": world.network.split,
+            "cut": self.cut,
+            "cut-out": self.cut_out,
+            "cut-in": self.cut_in,
+            "heal": world.network.heal,
             "slow-network": self.slow_network,
             "slow-disk": self.slow_disk,
             "broken-disk": self.broken_disk,
@@ -44,20 +48,23 @@ class Commands:
     def running(self, ident):
         host = self.world.hosts[ident]
         if not host.node.runs:
-            raise NotNow("node %d does not run" % ident)
+            raise NotNow("node %d does not run%s" % (ident, " yet" if host.is_awaited else ""))
+        return host
+
+    def off(self, ident):
+        host = self.world.hosts[ident]
+        if host.node.runs or host.is_awaited:
+            raise NotNow("node %d %s already" % (ident, "boots" if host.is_awaited else "runs"))
         return host
 
     # ---- nodes
 
     def up(self, ids, word="boot"):
-        for ident in ids:
-            host = self.world.hosts[ident]
-            if host.node.runs:
-                raise NotNow("node %d runs already" % ident)
-            host.begin(self.world.now)
-            self.world.event("%s %d 0" % (word, ident))
-            self.world.later_in_boot(0, host, self.world.turn)
-            self.world.later_in_boot(self.world.timing.watchdog, host, self.world.watchdog)
+        self.world.boot_staggered([self.off(ident) for ident in ids], word)
+
+    def up_together(self, ids):
+        for host in [self.off(ident) for ident in ids]:
+            self.world.boot(host, "boot")
 
     def up_clean(self, ids):
         self.up(ids, "boot-clean")
@@ -86,7 +93,7 @@ class Commands:
 
     def message(self, ident, message):
         try:
-            self.world.event("operator %d %s" % (ident, message))
+            self.world.message(ident, message)
         except Refused as refused:
             if not refused.line.endswith("rule 10"):
                 raise
@@ -94,14 +101,18 @@ class Commands:
 
     # ---- network, disks, clocks, the quorum device
 
-    def split(self, parts):
-        self.world.part = {ident: number for number, part in enumerate(parts) for ident in part}
+    def cut(self, ids):
+        self.cut_out(ids)
+        self.cut_in(ids)
 
-    def heal(self):
-        self.split([self.world.ids])
+    def cut_out(self, ids):
+        self.world.network.unheard.update(ids)
+
+    def cut_in(self, ids):
+        self.world.network.deaf.update(ids)
 
     def slow_network(self, milliseconds):
-        self.world.network_ms = milliseconds
+        self.world.network.milliseconds = milliseconds
 
     def slow_disk(self, ident, milliseconds):
         self.world.hosts[ident].disk_ms = milliseconds

@@ -19,6 +19,7 @@ Command = namedtuple("Command", "usage what")
 
 COMMANDS = {
     "up": Command("up ID..", "ids"),
+    "up-together": Command("up-together ID..", "ids"),
     "up-clean": Command("up-clean ID..", "ids"),
     "kill": Command("kill ID..", "ids"),
     "hang": Command("hang ID..", "ids"),
@@ -26,6 +27,9 @@ COMMANDS = {
     "leave": Command("leave ID..", "ids"),
     "message": Command("message ID clear|test|reset|off|exit|crashdump", "id message"),
     "split": Command("split ID.. | ID..", "parts"),
+    "cut": Command("cut ID..", "ids"),
+    "cut-out": Command("cut-out ID..", "ids"),
+    "cut-in": Command("cut-in ID..", "ids"),
     "heal": Command("heal", ""),
     "slow-network": Command("slow-network MS", "delay"),
     "slow-disk": Command("slow-disk ID MS", "id delay"),

@@ -13,6 +13,7 @@ NETWORK_MS = 2  # from the sending of a packet to its arrival
 STOP_MS = 50  # from the asking for a stop of the resource to its answer
 DOWN_MS = 10  # from the reading of a deadly message until the machine is down
 LOOKS = 5  # how often a node looks at its clock in the loop's time of the image
+STAGGER = 618  # thousandths of the loop's time between two boots of one line, counted round within a loop
 
 
 class TooLong(Exception):
@@ -22,22 +23,24 @@ class TooLong(Exception):
 class Host:
     """A machine with its node, as it goes on in true time."""
 
-    def __init__(self, ident):
-        self.node = Node(ident)
-        self.ident = ident
+    def __init__(self, node):
+        self.node = node
+        self.ident = node.ident
         self.disk_ms, self.is_broken = DISK_MS, False
         self.stop_ms = STOP_MS
         self.percent = 100  # how fast its clock runs
+        self.is_awaited = False  # it is about to boot
         self.boots = 0
         self.clock = 0  # in hundredths of a millisecond
         self.fed = 0  # the true time at which its watchdog was fed last
         self.hangs = False
         self.missed = []  # what its machine would have handed it while it hung
         self.member = None
-        self.voted = None  # its tick when the device told it yes last, and the view then
+        self.voted = None  # its tick when the device was heard or asked last, and the view then
 
     def begin(self, now):
         """A boot begins: the watchdog is armed, and the clock starts."""
+        self.is_awaited = False
         self.boots += 1
         self.clock, self.fed = 0, now
         self.hangs, self.missed = False, []
@@ -54,17 +57,41 @@ class Host:
         return self.is_ready() and self.node.phase in ("up", "leaving")
 
 
+class Network:
+    """Which nodes the network joins: those of one part, where neither the sender nor the receiver is cut off."""
+
+    def __init__(self, ids):
+        self.ids = ids
+        self.milliseconds = NETWORK_MS
+        self.heal()
+
+    def heal(self):
+        self.part = {ident: 0 for ident in self.ids}
+        self.unheard, self.deaf = set(), set()
+
+    def split(self, parts):
+        self.part = {ident: number for number, part in enumerate(parts) for ident in part}
+
+    def joins(self, sender, receiver):
+        return self.part[sender] == self.part[receiver] and sender not in self.unheard and receiver not in self.deaf
+
+    def is_whole(self):
+        return set(self.part.values()) == {0} and not self.unheard and not self.deaf
+
+
 class World:
     """All hosts at a moment of true time, and what is about to happen. `watch.event(words, report, deeds, cause)` is told of each event."""
+
+    COMMAND = "replay"
+    NODE = Node
 
     def __init__(self, replay, ids, timing, watch):
         self.replay, self.timing, self.watch = replay, timing, watch
         self.ids = tuple(ids)
-        self.hosts = {ident: Host(ident) for ident in ids}
+        self.hosts = {ident: Host(self.NODE(ident)) for ident in ids}
         self.now = 0
         self.queue, self.order = [], itertools.count()
-        self.part = {ident: 0 for ident in ids}
-        self.network_ms = NETWORK_MS
+        self.network = Network(self.ids)
         self.packets = 0
         self.device = ()
 
@@ -109,7 +136,7 @@ class World:
         report = self.replay.event(line)
         if report.node is None:
             self.watch.event(words, report, [], cause)
-            return
+            return report
         host = self.hosts[report.node]
         deeds = host.node.take(words, report)
         self.watch.event(words, report, deeds, cause)
@@ -119,12 +146,14 @@ class World:
                 host.member = Member(host.ident, self.ids, self.timing.loop)
             if deed.kind == "halts" and host.node.runs:
                 self.later_in_boot(DOWN_MS, host, self.crash, "by that message")
+            if deed.kind == "left" and host.node.is_closed:
+                self.part_from(host)
+        return report
 
     def serve(self, host, outs):
         """What the outputs of a node ask its machine and the network for."""
         if operation_in(outs):
-            self.later_in_boot(host.disk_ms // 2, host, self.land, host.is_broken)
-            self.later_in_boot(host.disk_ms, host, self.handed, self.answer, host.is_broken)
+            self.ask_disk(host)
         for out in outs:
             if out == "stop":
                 self.later_in_boot(host.stop_ms, host, self.handed, self.stopped)
@@ -149,6 +178,15 @@ class World:
             if host.node.runs:
                 action(host, *values)
 
+    def stopped(self, host):
+        self.event("stopped %d" % host.ident)
+
+    # ---- the disk
+
+    def ask_disk(self, host):
+        self.later_in_boot(host.disk_ms // 2, host, self.land, host.is_broken)
+        self.later_in_boot(host.disk_ms, host, self.handed, self.answer, host.is_broken)
+
     def land(self, host, fails):
         if not fails:
             self.event("land %d" % host.ident)
@@ -156,8 +194,27 @@ class World:
     def answer(self, host, fails):
         self.event("%s %d" % ("fail" if fails else "done", host.ident))
 
-    def stopped(self, host):
-        self.event("stopped %d" % host.ident)
+    def message(self, ident, message):
+        """An operator writes into the mailbox of a node."""
+        self.event("operator %d %s" % (ident, message))
+
+    # ---- machines
+
+    def boot_staggered(self, hosts, word):
+        """They boot one after the other within a loop, so that no two are of one phase."""
+        for place, host in enumerate(hosts):
+            delay = self.timing.loop * (STAGGER * place % 1000) // 1000
+            if delay == 0:
+                self.boot(host, word)
+            else:
+                host.is_awaited = True
+                self.later(delay, self.boot, host, word)
+
+    def boot(self, host, word):
+        host.begin(self.now)
+        self.event("%s %d 0" % (word, host.ident))
+        self.later_in_boot(0, host, self.turn)
+        self.later_in_boot(self.timing.watchdog, host, self.watchdog)
 
     def crash(self, host, cause):
         self.event("crash %d" % host.ident, cause)
@@ -178,15 +235,21 @@ class World:
 
     def transmit(self, host, receiver, action, *values):
         """What is sent arrives where the network joins the two when it is sent and when it arrives."""
-        if self.part[host.ident] == self.part[receiver]:
-            self.later(self.network_ms, self.arrive, host.ident, self.hosts[receiver], action, values)
+        if self.network.joins(host.ident, receiver):
+            self.later(self.network.milliseconds, self.arrive, host.ident, self.hosts[receiver], action, values)
 
     def arrive(self, sender, host, action, values):
-        if host.is_ready() and self.part[sender] == self.part[host.ident]:
+        if host.is_ready() and self.network.joins(sender, host.ident):
             action(host, *values)
 
     def deliver(self, host, number):
         self.event("deliver %d %d" % (host.ident, number))
+
+    def tell_others(self, host, action, *values):
+        """A packet to each other node, in ascending order."""
+        for other in self.ids:
+            if other != host.ident:
+                self.transmit(host, other, action, host.ident, *values)
 
     # ---- membership, looks at the clock, and the quorum device
 
@@ -199,7 +262,7 @@ class World:
             self.event("tick %d" % host.ident)
         if host.takes_part() and host.member.is_hello_due(host.tick):
             self.greet(host)
-        if host.takes_part() and host.ident in self.device:
+        if host.takes_part():
             self.vote(host)
 
     def look(self, host):
@@ -211,12 +274,15 @@ class World:
 
     def greet(self, host):
         view = host.member.to_announce()
-        for other in self.ids:
-            if other != host.ident:
-                self.transmit(host, other, self.hear_hello, host.ident)
-        for other in self.ids:
-            if other != host.ident and view is not None:
-                self.transmit(host, other, self.hear_announce, host.ident, view)
+        self.tell_others(host, self.hear_hello)
+        if view is not None:
+            self.tell_others(host, self.hear_announce, view)
+
+    def part_from(self, host):
+        """A node that left clean says farewell to the others, unless nobody else is in its view."""
+        view = host.member.farewell()
+        if view is not None:
+            self.tell_others(host, self.hear_announce, view)
 
     def hear_hello(self, host, sender):
         if host.takes_part():
@@ -229,8 +295,13 @@ class World:
             self.look(host)
 
     def vote(self, host):
-        """The device says yes under each new view, and once in the loop's time."""
-        now = (host.tick, host.member.view)
-        if host.voted is None or host.voted[1] != now[1] or now[0] >= host.voted[0] + self.timing.loop:
-            host.voted = now
+        """The device says yes to some nodes: under each new view, and once in the loop's time."""
+        if host.ident in self.device and self.is_vote_due(host):
             self.event("device %d yes" % host.ident)
+
+    def is_vote_due(self, host):
+        now = (host.tick, host.member.view)
+        is_due = host.voted is None or host.voted[1] != now[1] or now[0] >= host.voted[0] + self.timing.loop
+        if is_due:
+            host.voted = now
+        return is_due

@@ -83,11 +83,14 @@ class Cluster:
         self.image = self.images[0]
         nodes = "".join("node {\nnodeid: %d\n}\n" % ident for ident in ids)
         (self.folder / "conf").write_text("nodelist {\n%s}\nquorum {\nprovider: corosync_votequorum\n}\n" % nodes)
-        self.port, self.started = free_ports(len(ids)), 0
+        self.port, self.started = self.first_port(len(ids)), 0
         for image in self.images:
             with open(self.folder / "conf") as settings:
                 created = self.quorumd("create", "--timing", timing, stdin=settings, image=image)
             same("create", created, (0, "created nodes %d\n" % len(ids)))
+
+    def first_port(self, count):
+        return free_ports(count)
 
     def quorumd(self, command, *words, stdin=subprocess.DEVNULL, image=None):
         """The status and the output of a command on an image, the first one where none is given."""
@@ -135,14 +138,14 @@ class TripleCluster(Cluster):
 class Node:
     """A node that was started. What it says is kept in files."""
 
-    def __init__(self, cluster, ident, watchdog=None, resource=None, image=None, more=(), turns=TURNS, run_as=()):
+    def __init__(self, cluster, ident, watchdog=None, resource=None, image=None, port=None, more=(), turns=TURNS, run_as=()):
         self.cluster, self.ident = cluster, ident
         words = {
             "id": ident,
             "image": image or ",".join(map(str, cluster.images)),
             "watchdog": watchdog or cluster.folder / ("watchdog.%d" % ident),
             "resource": resource or cluster.folder / ("resource.%d" % ident),
-            "port": cluster.port,
+            "port": port or cluster.port,
             "turns": turns,
         }
         self.words = {name: str(value) for name, value in words.items()}

@@ -32,7 +32,7 @@ for told in "$TOP"/examples/incidents/*/story; do
     same "$told: $(grep -c ' STARTS the resource$' account)" "$told: $(grep -cE '^[0-9]+ [0-9]+ [0-9]+ ([^ ]*,)?start[, ]' trace)"
     grep -q '](story)' "$incident/story.md" || { printf '%s/story.md does not name its story\n' "$incident"; exit 1; }
 done
-[ "$number" -ge 15 ] || { printf 'only %s incidents are told as a story\n' "$number"; exit 1; }
+[ "$number" -ge 16 ] || { printf 'only %s incidents are told as a story\n' "$number"; exit 1; }
 
 # tell LINE..: plays these lines with two nodes, each of which may be quorate alone; leaves the account and the schedule
 tell() {
@@ -62,10 +62,10 @@ says 'node 2 writes a reset to node 1$'
 same "$(holders trace)" 'holders=- holders=1 holders=- holders=2'
 
 # a node that hangs for a while goes on; one that hangs for longer is ended by its watchdog
-tell 'up 1 2' 'run 2000' 'hang 1' 'run 1500' 'wake 1' 'run 5000'
+tell 'up 1 2' 'run 3000' 'hang 1' 'run 1500' 'wake 1' 'run 5000'
 never 'is down'
 same "$(holders trace)" 'holders=- holders=1'
-tell 'up 1 2' 'run 2000' 'hang 1' 'run 6000'
+tell 'up 1 2' 'run 3000' 'hang 1' 'run 6000'
 says 'node 1 is down: its watchdog was not fed$'
 
 # a disk that is slower than the loop: the node reads no slot and writes no reset; one that fails ends its node
@@ -81,13 +81,57 @@ says 'node 1 is up \(incarnation 1\)$'
 tell 'up 1 2' 'run 3000' 'split 1 | 2' 'run 1500' 'heal' 'run 5000'
 never 'reset'
 same "$(holders trace)" 'holders=- holders=1'
-tell 'slow-network 400' 'up 1 2' 'run 3000'
+tell 'slow-network 400' 'up 1 2' 'run 4000'
 grep -q '^node 1 up holds=yes' status
 
+# boots of one line come one after the other, within a loop, and at one moment where that is asked for
+tell 'up 1 2' 'run 1000'
+same "$(grep -E ' boots$' account | xargs)" '0 ms node 1 boots 618 ms node 2 boots'
+tell 'up-together 1 2' 'run 1000'
+same "$(grep -E ' boots$' account | xargs)" '0 ms node 1 boots 0 ms node 2 boots'
+printf '%s\n' 'nodes 1 2 3 4 5' 'timing 2000 4000 300 800 300' 'up 5 4 3 2 1' 'run 300' > story.txt
+same "$(story story.txt | grep -E ' boots$' | xargs)" '0 ms node 5 boots 70 ms node 3 boots 141 ms node 1 boots 185 ms node 4 boots 256 ms node 2 boots'
+
+# cut STORY-LINE.. : three nodes, of which node 1 holds; leaves the account
+three() {
+    printf '%s\n' 'nodes 1 2 3' 'up 1 2 3' 'run 5000' "$@" > story.txt
+    story --keep kept story.txt > account
+    "$QUORUMD" replay < kept > trace
+}
+
+# the holder is cut off: it alone is reset, and another takes over; an outage of less than three loops costs nobody anything
+three 'cut 1' 'run 20000'
+same "$(holders trace)" 'holders=- holders=1 holders=- holders=2'
+same "$(grep -oE 'node [0-9] writes a reset to node [0-9]$' account | sort -u)" 'node 2 writes a reset to node 1'
+for outage in 500 1000 2000 2900; do
+    three 'cut 1' "run $outage" 'heal' 'run 8000'
+    never 'reset'
+    same "$(holders trace)" 'holders=- holders=1'
+done
+# one that is not heard is reset; one that hears nobody is so too, since it takes itself for alone and stops; both are back after the heal
+three 'cut-out 1' 'run 20000' 'heal' 'up 1' 'run 5000'
+same "$(grep -oE 'node [0-9] writes a reset to node [0-9]$' account | sort -u)" 'node 2 writes a reset to node 1'
+says '^  node 2 is up, and holds the resource$'
+three 'cut-in 2' 'run 8000' 'heal' 'run 8000'
+never 'reset to node 3$'
+never 'reset to node 1$'
+# the network is as it was after a heal, and a node that is in another part stays there when another one is cut
+three 'split 1 2 | 3' 'cut 2' 'heal' 'run 8000'
+never 'reset'
+
+# a holder that leaves clean says so: the next one starts within two loops, and nobody is reset
+three 'leave 1' 'run 2000'
+says 'node 1 has left, and its slot is clean$'
+says 'node 2 STARTS the resource$'
+never 'reset'
+three 'slow-stop 1 10' 'leave 1' 'run 9' 'broken-disk 1' 'run 2000'
+says 'node 1 has left, and its slot is dirty$'
+never 'node 2 STARTS'
+
 # a slow stop, an operator who lets the holder leave, and clocks that run as fast and as slow as they may
-tell 'slow-stop 1 3000' 'up 1 2' 'run 2000' 'leave 1' 'run 2500'
+tell 'slow-stop 1 3000' 'up 1 2' 'run 3000' 'leave 1' 'run 2500'
 grep -q '^node 1 leaving holds=yes' status
-tell 'clock 1 101' 'clock 2 99' 'up 1 2' 'run 2000' 'message 1 exit' 'run 8000'
+tell 'clock 1 101' 'clock 2 99' 'up 1 2' 'run 3000' 'message 1 exit' 'run 8000'
 grep -qE '^pass [0-9]+ 1=[0-9]+ 2=[0-9]+$' kept
 same "$(holders trace)" 'holders=- holders=1 holders=- holders=2'
 tell 'message 1 off' 'up-clean 1' 'run 100' 'up 2' 'run 5000'
@@ -131,6 +175,11 @@ faulty 'line 2: split: node 2 stands in no part' 'split 1'
 faulty 'line 2: |: a part without a node' 'split 1 2 |'
 faulty 'line 2: heal: 0 words after it, not 1' 'heal 1'
 faulty 'line 3: up 1: node 1 runs already' 'up 1' 'up 1'
+faulty 'line 3: up-together 2: node 2 boots already' 'up 1 2' 'up-together 2'
+faulty 'line 3: kill 2: node 2 does not run yet' 'up 1 2' 'kill 2'
+faulty 'line 2: cut: no id' 'cut'
+faulty 'line 2: 3: no node of this cluster' 'cut-in 1 3'
+faulty 'line 2: 1: this node stands there twice' 'cut-out 1 1'
 faulty 'line 2: kill 2: node 2 does not run' 'kill 2'
 faulty 'line 3: leave 1: node 1 is not up' 'up 1' 'leave 1'
 faulty 'line 3: wake 1: node 1 does not hang' 'up 1' 'wake 1'

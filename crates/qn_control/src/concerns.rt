@@ -13,6 +13,8 @@ pub enum Concern<'text> {
     LastManWithoutWait,
     /// two_node without wait_for_all: after a boot of both each can start alone, and reset the other one.
     TwoNodeWithoutWait,
+    /// two_node, and no node's reset waits longer than the other one's: cut apart, each resets the other one at once.
+    TwoNodeAlike,
     /// Fewer votes are expected than there are: two parts of the cluster can be quorate.
     ExpectedBelow { expected: u64, votes: u64 },
     /// More votes are expected than there are.
@@ -28,6 +30,9 @@ impl fmt::Display for Concern<'_> {
         match self {
             Concern::LastManWithoutWait => f.write_str("last_man_standing without wait_for_all"),
             Concern::TwoNodeWithoutWait => f.write_str("two_node without wait_for_all"),
+            Concern::TwoNodeAlike => f.write_str(
+                "two nodes with equal fence_delays reset each other where the network is cut",
+            ),
             Concern::ExpectedBelow { expected, votes } => of_votes(f, *expected, "below", *votes),
             Concern::ExpectedAbove { expected, votes } => of_votes(f, *expected, "above", *votes),
             Concern::EvenWithoutDecider { votes } => {
@@ -105,6 +110,9 @@ fn add_concerns<'text>(
     if has_two_node_without_wait(settings) {
         concerns.push(Concern::TwoNodeWithoutWait)?;
     }
+    if has_two_node_alike(settings) {
+        concerns.push(Concern::TwoNodeAlike)?;
+    }
     if let Some(concern) = of_expected(settings) {
         concerns.push(concern)?;
     }
@@ -152,6 +160,14 @@ fn has_two_node_without_wait(settings: &Settings) -> bool
     ensures { result ≡ (settings.now.two_node && not settings.now.wait_for_all) }
 {
     settings.two_node && !settings.wait_for_all
+}
+
+/// Whether two nodes are each quorate alone, and neither one's reset waits for longer than the other one's.
+fn has_two_node_alike(settings: &Settings) -> bool {
+    match settings.nodes.as_slice() {
+        [first, second] => settings.two_node && first.fence_delay == second.fence_delay,
+        _ => false,
+    }
 }
 
 /// Whether nothing decides between halves of equal votes.

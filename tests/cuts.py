@@ -1,0 +1,175 @@
+"""For the scripts that drop packets between nodes: clusters whose nodes start one after the other, and a network in which each way from
+one node to another can be cut. It is the firewall of a network namespace of its own, where those are to be had, else a relay between
+the nodes."""
+import os
+import selectors
+import socket
+import subprocess
+import threading
+
+from live import Cluster, Wrong, free_ports, milliseconds, same, wait_for
+
+TIMES = "500,2100,1000,1000,500"
+MSGWAIT, LOOP = 2100, 1000
+BOUND = MSGWAIT + 8 * LOOP  # from a cut until a majority that is well has a holder, as docs/LIVE.md says
+STAGGER = 618  # thousandths of a loop between two starts, counted round within a loop
+
+RULES = """table inet cuts {
+    set cut { type inet_service . inet_service; }
+    chain arrivals { type filter hook input priority 0; policy accept; udp sport . udp dport @cut drop; }
+}
+"""
+
+
+class Firewall:
+    """Drops packets by their two ports, in a network namespace of its own."""
+
+    def __init__(self):
+        self.lock = threading.Lock()
+        subprocess.run(["ip", "link", "set", "lo", "up"], check=True)
+        self.nft(RULES)
+
+    def nft(self, text):
+        with self.lock:
+            subprocess.run(["nft", "-f", "-"], input=text.encode(), check=True)
+
+    def ports(self, count):
+        """The first port that each node is given: its own is as many after that as its rank says."""
+        first = free_ports(count)
+        return [first] * count
+
+    def set(self, ports, ways, is_cut):
+        """Cuts or joins the ways, which are pairs of ranks."""
+        pairs = ", ".join("%d . %d" % (ports[sender] + sender, ports[receiver] + receiver) for sender, receiver in sorted(ways))
+        if pairs:
+            self.nft("%s element inet cuts cut { %s }\n" % ("add" if is_cut else "delete", pairs))
+
+
+class Relay:
+    """Each node has first ports of its own: behind that of another node the relay listens, and hands on what comes there."""
+
+    def __init__(self):
+        self.cut = set()  # pairs of the port that it listens at and the port that it hands on to
+        self.selector = selectors.DefaultSelector()
+        threading.Thread(target=self.serve, daemon=True).start()
+
+    def ports(self, count):
+        first = free_ports(count * count)
+        ports = [first + rank * count for rank in range(count)]
+        for sender in range(count):
+            for receiver in range(count):
+                if sender != receiver:
+                    listener = socket.socket(socket.AF_INET, socket.SOCK_DGRAM)
+                    listener.bind(("127.0.0.1", ports[sender] + receiver))
+                    self.selector.register(listener, selectors.EVENT_READ, (ports[sender] + receiver, ports[receiver] + receiver))
+        return ports
+
+    def serve(self):
+        while True:
+            for key, _ in self.selector.select(0.05):
+                packet = key.fileobj.recv(4096)
+                if key.data not in self.cut:
+                    key.fileobj.sendto(packet, ("127.0.0.1", key.data[1]))
+
+    def set(self, ports, ways, is_cut):
+        pairs = {(ports[sender] + receiver, ports[receiver] + receiver) for sender, receiver in ways}
+        self.cut = self.cut | pairs if is_cut else self.cut - pairs
+
+
+def network():
+    """The network of a script: the one that its shell found to be had."""
+    return Firewall() if os.environ["NETWORK"] == "namespace" else Relay()
+
+
+class CutCluster(Cluster):
+    """A cluster of so many nodes, which start one after the other and all see each other; node 1 holds."""
+
+    def __init__(self, name, count, joined):
+        self.count, self.joined = count, joined
+        self.ways = {(sender, receiver) for sender in range(count) for receiver in range(count) if sender != receiver}
+        self.is_cut = set()
+        super().__init__(name, ids=range(1, count + 1), timing=TIMES)
+        self.nodes, self.killed = [], {}
+
+    def first_port(self, count):
+        self.ports = self.joined.ports(count)
+        return self.ports[0]
+
+    def start(self, number):
+        """All boot within a loop, and how they stand to one another differs from number to number."""
+        places = sorted(range(self.count), key=lambda rank: STAGGER * (rank + number) % LOOP)
+        began = milliseconds()
+        nodes = {}
+        for rank in places:
+            due = began + STAGGER * (rank + number) % LOOP
+            threading.Event().wait(max(0, due - milliseconds()) / 1000)
+            nodes[rank] = self.node(rank + 1, port=self.ports[rank])
+        self.nodes = [nodes[rank] for rank in range(self.count)]
+        self.nodes[0].waits_for("start: ok")
+        threading.Event().wait(2 * LOOP / 1000 + STAGGER * number % LOOP / 1000)
+        self.all_are_quiet()
+        return self
+
+    def kill(self, ident):
+        self.killed[ident] = milliseconds()
+        self.nodes[ident - 1].kill()
+        return self.killed[ident]
+
+    # ---- cuts
+
+    def cut(self, ways):
+        self.joined.set(self.ports, ways - self.is_cut, True)
+        self.is_cut |= ways
+        return milliseconds()
+
+    def heal(self):
+        self.joined.set(self.ports, self.is_cut, False)
+        self.is_cut = set()
+        return milliseconds()
+
+    def of(self, ident, out=True, into=True):
+        """The ways from a node, and those to it."""
+        return {way for way in self.ways if out and way[0] == ident - 1 or into and way[1] == ident - 1}
+
+    # ---- what is so
+
+    def all_are_quiet(self):
+        """Node 1 holds, and nothing else happened."""
+        same("said", [node.said()[1:] for node in self.nodes], [["start: ok"]] + [[] for _ in self.nodes[1:]])
+        same("runs", [node.runs() for node in self.nodes], [True] * self.count)
+
+    def stay_quiet(self, loops):
+        threading.Event().wait(loops * LOOP / 1000)
+        self.all_are_quiet()
+
+    def only_ended(self, *idents):
+        """Which nodes have ended: these, and no other."""
+        same("ended", [node.ident for node in self.nodes if not node.runs()], list(idents))
+
+    def is_reset(self, ident):
+        same("node %d" % ident, self.nodes[ident - 1].end(), (13, "fault SelfReset reset\n"))
+
+    def holds(self):
+        """Of each time that a node held by its own words: when it started, when it held no more or was killed, and its id."""
+        spans = []
+        for node in self.nodes:
+            ends = sorted(tick for line in ("stop: ok", "halt 2: ok", "disarm: ok") for tick in node.ticks(line))
+            for begin in node.ticks("start: ok"):
+                spans.append((begin, min([tick for tick in ends if tick >= begin], default=self.killed.get(node.ident)), node.ident))
+        return sorted(spans)
+
+    def never_two_hold(self):
+        """By the clock that all of them read."""
+        spans = self.holds()
+        for (_, end, before), (begin, _, after) in zip(spans, spans[1:]):
+            if end is None or end > begin:
+                raise Wrong("node %d holds until %s, and node %d from %d on" % (before, end, after, begin))
+
+    def holder_within(self, since, loops_and_msgwait=BOUND):
+        """The node that holds, once there is one again after this moment, which has to be in time."""
+        def held():
+            return [(begin, ident) for begin, end, ident in self.holds() if begin > since and end is None and self.nodes[ident - 1].runs()]
+        begin, ident = wait_for("a holder after %d" % since, held)[0]
+        if begin - since > loops_and_msgwait:
+            raise Wrong("node %d starts %d ms after that, and not within %d" % (ident, begin - since, loops_and_msgwait))
+        return ident

@@ -1,0 +1,149 @@
+# Three and five nodes whose packets are dropped: the cluster's majority has a holder within the bound of docs/LIVE.md, no node that it sees
+# is reset, and no two hold. The holder is cut off, and another node; no packet comes for two seconds and for five; one way is cut; the
+# network heals. A holder that leaves clean is followed within two loops, and an announced view of the greatest number stops no take-over.
+# The packets are dropped by the firewall of a network namespace, where both are to be had, else by a relay between the nodes.
+run() {
+    NETWORK=$1 PYTHONPATH=$TOP/tests "${@:2}" python3 -B - <<'END'
+import socket
+import struct
+
+from live import milliseconds, same, try_all, wait_for
+from cuts import LOOP, CutCluster, network
+
+JOINED = network()
+LAST = 2**64 - 1
+
+
+def test(name, count, number, scene):
+    """A scene with so many nodes; of another number the nodes stand to one another in another way."""
+    def tried():
+        cluster = CutCluster(tried.__name__, count, JOINED).start(number)
+        scene(cluster)
+        cluster.never_two_hold()
+    tried.__name__ = "%s-of-%d-%d" % (name, count, number)
+    return tried
+
+
+def holder_cut(cluster):
+    """The holder is reset, and nobody else: another one takes over. It stays so once the network has healed."""
+    cut = cluster.cut(cluster.of(1))
+    same("holder", cluster.holder_within(cut), 2)
+    cluster.is_reset(1)
+    cluster.heal()
+    back = cluster.node(1, port=cluster.ports[0])
+    wait_for("node 1 is up again", lambda: cluster.listed(1) == "incarnation 2 dirty mail empty")
+    milliseconds_pass(4 * LOOP)
+    same("node 1 said", back.said()[1:], [])
+    same("node 2 said", cluster.nodes[1].said()[1:], ["start: ok"])
+    cluster.only_ended(1)
+
+
+def other_cut(cluster):
+    """Another node than the holder is reset, and the holder goes on."""
+    cluster.cut(cluster.of(cluster.count))
+    cluster.is_reset(cluster.count)
+    cluster.heal()
+    milliseconds_pass(4 * LOOP)
+    cluster.only_ended(cluster.count)
+    same("node 1 said", cluster.nodes[0].said()[1:], ["start: ok"])
+
+
+def dark_for_two_seconds(cluster):
+    """Two loops without any packet, twice: nothing happens."""
+    for _ in range(2):
+        cluster.cut(cluster.ways)
+        milliseconds_pass(2000)
+        cluster.heal()
+        cluster.stay_quiet(loops=5)
+
+
+def dark_for_five_seconds(cluster):
+    """Five loops: nobody has a quorum, so the holder stops. Nobody is reset, and there is a holder again."""
+    cluster.cut(cluster.ways)
+    milliseconds_pass(5000)
+    healed = cluster.heal()
+    wait_for("the holder stops", lambda: cluster.nodes[0].ticks("stop: ok"))
+    same("holder", cluster.holder_within(healed), 1)
+    milliseconds_pass(4 * LOOP)
+    cluster.only_ended()
+
+
+def not_heard(cluster):
+    """A node whose packets are lost, but which hears the others, is reset, and the holder goes on."""
+    cluster.cut(cluster.of(cluster.count, into=False))
+    cluster.is_reset(cluster.count)
+    cluster.heal()
+    milliseconds_pass(4 * LOOP)
+    cluster.only_ended(cluster.count)
+    same("node 1 said", cluster.nodes[0].said()[1:], ["start: ok"])
+
+
+def deaf(cluster):
+    """A node that hears nobody and is heard is not reset, and is a member again after the heal."""
+    cluster.cut(cluster.of(cluster.count, out=False))
+    cluster.stay_quiet(loops=8)
+    cluster.heal()
+    cluster.stay_quiet(loops=5)
+
+
+def holder_not_heard(cluster):
+    cut = cluster.cut(cluster.of(1, into=False))
+    same("holder", cluster.holder_within(cut), 2)
+    cluster.is_reset(1)
+    cluster.only_ended(1)
+
+
+def holder_deaf(cluster):
+    """It sees nobody and stops. The others see it, and wait for the view that it leads; nobody is reset. After the heal it holds again."""
+    cluster.cut(cluster.of(1, out=False))
+    cluster.nodes[0].waits_for("stop: ok")
+    milliseconds_pass(4 * LOOP)
+    healed = cluster.heal()
+    same("holder", cluster.holder_within(healed), 1)
+    cluster.only_ended()
+
+
+def exit_of_the_holder(cluster):
+    """The next one starts within two loops of its Disarm; nobody is reset."""
+    cluster.message(1, "exit")
+    same("node 1", cluster.nodes[0].end(), (0, "left clean\n"))
+    left = cluster.nodes[0].ticks("disarm: ok")[0]
+    same("holder", cluster.holder_within(left - 1, 2 * LOOP + 1), 2)
+    same("no reset is written", cluster.listed(1), "incarnation 1 clean mail exit")
+    milliseconds_pass(4 * LOOP)
+    cluster.only_ended(1)
+
+
+def greatest_number(cluster):
+    """Node 3 is said to announce a view of the greatest number to each node. Then the holder is killed."""
+    packet = b"QN\4" + bytes([2]) + struct.pack(">QI", LAST, 2**cluster.count - 1)
+    with socket.socket(socket.AF_INET, socket.SOCK_DGRAM) as stranger:
+        for rank in range(cluster.count):
+            stranger.sendto(packet, ("127.0.0.1", cluster.ports[rank] + rank))
+    cluster.stay_quiet(loops=2)
+    same("holder", cluster.holder_within(cluster.kill(1)), 2)
+    cluster.only_ended(1)
+
+
+def milliseconds_pass(count):
+    end = milliseconds() + count
+    wait_for("so many milliseconds pass", lambda: milliseconds() >= end)
+
+
+SCENES = (holder_cut, other_cut, dark_for_two_seconds, dark_for_five_seconds, not_heard, deaf, holder_not_heard, holder_deaf,
+          exit_of_the_holder, greatest_number)
+tests = [test(scene.__name__, count, number, scene) for number, scene in enumerate(SCENES) for count in (3, 5)]
+tests += [test("holder_cut", 3, number, holder_cut) for number in (12, 14, 17)]
+try_all(*tests)
+END
+}
+
+# a network namespace with nft, as root or as a user of a namespace of its own
+if unshare -n sh -c 'ip link set lo up && nft list ruleset' > /dev/null 2>&1; then
+    run namespace unshare -n
+elif unshare -rn sh -c 'ip link set lo up && nft list ruleset' > /dev/null 2>&1; then
+    run namespace unshare -rn
+else
+    echo 'skipped: no network namespace with nft: the packets are dropped by a relay'
+    run relay env
+fi
