@@ -88,7 +88,8 @@ class Account:
         node = self.nodes[report.node]
         self.count(node, is_view=words[0] == "view")
         for deed in deeds:
-            self.say(self.of_deed(deed, node, cause))
+            if deed.kind != "poll":  # one in the loop's time says nothing new
+                self.say(self.of_deed(deed, node, cause))
         why = self.blocked[node.ident].see(node, self.now, self.patience)
         if why:
             self.say("node %d does not start: %s (%s)" % (node.ident, condition_in_words(why), why))

@@ -2,7 +2,9 @@
 from account import Account
 from replaying import Replay
 from storycommands import Commands
+from storyarbiter import ArbiterWorld
 from storytext import head_of_story, lines_of
+from storytriple import TripleWorld
 from storyworld import World
 from traces import head_of, ids_of
 
@@ -10,9 +12,11 @@ from traces import head_of, ids_of
 class Play:
     """A world of a story's head that lines can be played in. `watch` is told of each event."""
 
-    def __init__(self, settings, timing, ids, watch, kept=None):
-        self.replay = Replay(head_of(settings, timing), kept)
-        self.world = World(self.replay, ids, timing, watch)
+    def __init__(self, head, ids, watch, kept=None):
+        kind = TripleWorld if head.images == 3 else ArbiterWorld if head.lease else World
+        lease = "lease %d %d\n" % tuple(head.lease) if head.lease else ""
+        self.replay = Replay(head_of(head.settings, head.timing) + lease, kept, kind.COMMAND)
+        self.world = kind(self.replay, ids, head.timing, watch)
         self.commands = Commands(self.world)
 
     def nodes(self):
@@ -32,7 +36,7 @@ def tell_story(text, write, keep=None):
     account = Account(write, head.timing.loop)
     kept = open(keep, "wb") if keep else None
     try:
-        play = Play(head.settings, head.timing, ids, account, kept)
+        play = Play(head, ids, account, kept)
         account.knows(play.nodes())
         try:
             for line in lines:

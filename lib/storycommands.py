@@ -33,6 +33,11 @@ class Commands:
             "good-disk": self.good_disk,
             "slow-stop": self.slow_stop,
             "clock": self.clock,
+            "lose-image": self.lose_image,
+            "good-image": self.good_image,
+            "arbiter-up": self.arbiter_up,
+            "arbiter-down": self.arbiter_down,
+            "cut-arbiter": self.cut_arbiter,
             "device": self.device,
             "no-device": self.no_device,
             "run": world.run,
@@ -133,7 +138,38 @@ class Commands:
         self.world.hosts[ident].percent = percent
 
     def device(self, ids):
+        if self.world.COMMAND == "replay-arbiter":
+            raise NotNow("beside an arbiter only that says yes")
         self.world.device = tuple(ids)
 
     def no_device(self):
         self.device(())
+
+    # ---- three images, and an arbiter
+
+    def lost_images(self):
+        if self.world.COMMAND != "replay3":
+            raise NotNow("this story has one image: `images 3` in its head is for three")
+        return self.world.lost_images
+
+    def lose_image(self, image):
+        self.lost_images().add(image)
+
+    def good_image(self, image):
+        self.lost_images().discard(image)
+
+    def arbiter_world(self, runs=None):
+        if self.world.COMMAND != "replay-arbiter":
+            raise NotNow("this story has no arbiter: `lease LIMIT LEASE` in its head is for one")
+        if runs is not None and self.world.arbiter_runs != runs:
+            raise NotNow("the arbiter %s" % ("does not run" if runs else "runs already"))
+        return self.world
+
+    def arbiter_up(self):
+        self.arbiter_world(runs=False).arbiter_up()
+
+    def arbiter_down(self):
+        self.arbiter_world(runs=True).arbiter_down()
+
+    def cut_arbiter(self, ids):
+        self.arbiter_world().network.without_arbiter.update(ids)

@@ -11,8 +11,9 @@ MOST_RUN = 86400000
 # A line of a story: its number, its words as they stand, the command, and its values: a list of ids, a list of parts, or one a word.
 Line = namedtuple("Line", "number words command values")
 
-# A story: its settings text, the times of the image, its lines that are left to read, as number and words.
-Head = namedtuple("Head", "settings timing lines")
+# A story: its settings text, the times of the image, the number of images, the times of a lease or None, its lines that are left to
+# read, as number and words.
+Head = namedtuple("Head", "settings timing images lease lines")
 
 # A command: how it is written, and what its words are.
 Command = namedtuple("Command", "usage what")
@@ -37,13 +38,18 @@ COMMANDS = {
     "good-disk": Command("good-disk ID..", "ids"),
     "slow-stop": Command("slow-stop ID MS", "id delay"),
     "clock": Command("clock ID PERCENT", "id percent"),
+    "lose-image": Command("lose-image K", "image"),
+    "good-image": Command("good-image K", "image"),
+    "arbiter-up": Command("arbiter-up", ""),
+    "arbiter-down": Command("arbiter-down", ""),
+    "cut-arbiter": Command("cut-arbiter ID..", "ids"),
     "device": Command("device ID..", "ids"),
     "no-device": Command("no-device", ""),
     "run": Command("run MS", "run"),
 }
 
 MESSAGES = ("clear", "test", "exit") + DEADLY
-RANGES = {"delay": (1, MOST_TIME), "percent": (99, 101), "run": (1, MOST_RUN)}
+RANGES = {"image": (1, 3), "delay": (1, MOST_TIME), "percent": (99, 101), "run": (1, MOST_RUN)}
 
 
 class StoryFault(Exception):
@@ -91,16 +97,37 @@ def settings_of(number, words):
 
 
 def timed_head(settings, lines):
-    if not lines or lines[0][1][0] != "timing":
-        return Head(settings, USUAL_TIMING, lines)
-    usage = "timing WATCHDOG MSGWAIT LOOP READ_LIMIT FEED_DELAY"
+    """The head, with what its lines say of times, images and an arbiter, in this order."""
+    times, lines = times_of("timing", "timing WATCHDOG MSGWAIT LOOP READ_LIMIT FEED_DELAY", lines)
+    images, lines = images_of(lines)
+    lease, lines = times_of("lease", "lease LIMIT LEASE", lines)
+    if lease and images == 3:
+        raise StoryFault(lines[0][0] if lines else 1, "lease", "a story has three images or an arbiter, and not both")
+    return Head(settings, Timing(*times) if times else USUAL_TIMING, images, lease, lines)
+
+
+def times_of(word, usage, lines):
+    """The times of the first line, where it begins with this word, and the lines after it."""
+    if not lines or lines[0][1][0] != word:
+        return None, lines
     number, words = lines[0]
-    if len(words) != 6:
-        raise StoryFault(number, "timing", "there are five times", usage)
+    count = len(usage.split())
+    if len(words) != count:
+        raise StoryFault(number, word, "there are %s times" % {6: "five", 3: "two"}[count], usage)
     times = [number_of(word, 1, MOST_TIME) for word in words[1:]]
     if None in times:
         raise StoryFault(number, words[1 + times.index(None)], "no time, which is 1 to %d milliseconds" % MOST_TIME, usage)
-    return Head(settings, Timing(*times), lines[1:])
+    return times, lines[1:]
+
+
+def images_of(lines):
+    """The number of images of the first line, where it says that, and the lines after it."""
+    if not lines or lines[0][1][0] != "images":
+        return 1, lines
+    number, words = lines[0]
+    if words[1:] != ["3"]:
+        raise StoryFault(number, "images", "the disk is one image, or three", "images 3")
+    return 3, lines[1:]
 
 
 def lines_of(head, ids):

@@ -33,6 +33,7 @@ class Host:
         self.boots = 0
         self.clock = 0  # in hundredths of a millisecond
         self.fed = 0  # the true time at which its watchdog was fed last
+        self.answer_due = 0  # the true time at which its disk answers what it was asked for last
         self.hangs = False
         self.missed = []  # what its machine would have handed it while it hung
         self.member = None
@@ -68,6 +69,7 @@ class Network:
     def heal(self):
         self.part = {ident: 0 for ident in self.ids}
         self.unheard, self.deaf = set(), set()
+        self.without_arbiter = set()
 
     def split(self, parts):
         self.part = {ident: number for number, part in enumerate(parts) for ident in part}
@@ -75,8 +77,11 @@ class Network:
     def joins(self, sender, receiver):
         return self.part[sender] == self.part[receiver] and sender not in self.unheard and receiver not in self.deaf
 
+    def reaches_arbiter(self, ident):
+        return ident not in self.without_arbiter | self.unheard | self.deaf
+
     def is_whole(self):
-        return set(self.part.values()) == {0} and not self.unheard and not self.deaf
+        return set(self.part.values()) == {0} and not self.without_arbiter | self.unheard | self.deaf
 
 
 class World:
@@ -94,6 +99,7 @@ class World:
         self.network = Network(self.ids)
         self.packets = 0
         self.device = ()
+        self.holders = ()
 
     # ---- time
 
@@ -134,6 +140,7 @@ class World:
             raise TooLong("a schedule has at most %d events" % MOST_EVENTS)
         words = line.split(" ")
         report = self.replay.event(line)
+        self.holders = report.holders
         if report.node is None:
             self.watch.event(words, report, [], cause)
             return report
@@ -153,6 +160,7 @@ class World:
     def serve(self, host, outs):
         """What the outputs of a node ask its machine and the network for."""
         if operation_in(outs):
+            host.answer_due = self.now + host.disk_ms
             self.ask_disk(host)
         for out in outs:
             if out == "stop":
