@@ -3,6 +3,6 @@ nodes 1 2 3
 up 1 2 3
 run 3000
 kill 1
-run 14000
+run 15000
 up 1
 run 5000

@@ -11,13 +11,13 @@ from traces import Timing, head_of, ids_of
 QUICK_TIMING = Timing(2000, 4000, 300, 800, 300)
 SHORT_WAIT = Timing(1500, 2000, 1000, 200, 200)  # a msgwait of two loops, so that there are many starts
 MOST_SCENES = 30
-ROOM = MOST_EVENTS // 4  # a story ends where it has had so many events
+ROOM = MOST_EVENTS // 8  # a story ends where it has had so many events
 LIMIT = 2000  # of a lease: how old a poll may be
 
 
-def nodes_text(count, delayed=0):
+def nodes_text(count, delayed=0, milliseconds=2500):
     """A list of nodes with a vote each; a fence delay stands at one of them, or at none."""
-    delay = "        fence_delay: 2500\n"
+    delay = "        fence_delay: %d\n" % milliseconds
     return "nodelist {\n%s}\n" % "".join("    node {\n        nodeid: %d\n%s    }\n" % (ident, delay if ident == delayed else "")
                                          for ident in range(1, count + 1))
 
@@ -33,11 +33,11 @@ def device_text(timeout):
 class Setting:
     """Settings to draw from, and what a judge has to know of them: how many nodes are a majority whatever else is so, and the longest delay."""
 
-    def __init__(self, count, *lines, delayed=0, timeout=0, enough=None):
-        self.text = nodes_text(count, delayed) + (device_text(timeout) if timeout else quorum_text(*lines) if lines else "")
+    def __init__(self, count, *lines, delayed=0, delay=2500, timeout=0, enough=None):
+        self.text = nodes_text(count, delayed, delay) + (device_text(timeout) if timeout else quorum_text(*lines) if lines else "")
         self.count, self.timeout = count, timeout
         self.enough = enough or (count + (timeout > 0)) // 2 + 1
-        self.delay = 2500 if delayed else 0
+        self.delay = delay if delayed else 0
 
 
 SETTINGS = (
@@ -64,8 +64,8 @@ class Chooser:
         self.loop, self.msgwait = world.timing.loop, world.timing.msgwait
         self.image = rng.choice(IMAGES)  # the one that may be lost
         self.choices = [
-            (12, self.take_over), (16, self.hand_over), (6, self.cut_off), (8, self.outage), (3, self.dark), (3, self.parted),
-            (10, self.wait), (8, self.up), (2, self.kill), (2, self.hang), (3, self.wake), (1, self.leave), (3, self.heal), (1, self.message),
+            (16, self.take_over), (30, self.hand_over), (6, self.cut_off), (8, self.outage), (2, self.dark), (3, self.parted),
+            (6, self.wait), (10, self.up), (2, self.kill), (2, self.hang), (3, self.wake), (1, self.leave), (3, self.heal), (1, self.message),
             (1, self.slow_network), (1, self.slow_disk), (1, self.broken_disk), (3, self.good_disk), (1, self.slow_stop), (2, self.clock)]
         self.choices += {
             "replay": [(2, self.device)],
@@ -107,12 +107,12 @@ class Chooser:
     def take_over(self):
         """The holder is killed, and comes back after another one has taken over."""
         holders = self.world.holders
-        return [["kill", holders[0]], self.take_over_time(), self.up, self.loops(1.5, 4)] if holders else None
+        return [["kill", holders[0]], self.take_over_time(), self.up, self.loops(1.5, 3)] if holders else None
 
     def hand_over(self):
         """The holder leaves, and comes back."""
         ids = [ident for ident in self.world.holders if self.may_leave(self.world.hosts[ident])]
-        return [["leave", ids[0]], self.loops(2, 3), self.up, self.loops(1.5, 4)] if ids else None
+        return [["leave", ids[0]], self.loops(2, 3), self.up, self.loops(1.5, 3)] if ids else None
 
     def cut_off(self):
         """A node is cut off, one way or both, until a take-over is done; then the network heals, and who is off comes back."""
@@ -151,7 +151,7 @@ class Chooser:
     # ---- commands
 
     def wait(self):
-        return [self.loops(*self.rng.choice(((.01, .5), (.5, 3), (3, 6), (6, 20))))]
+        return [self.loops(*self.rng.choice(((.01, .5), (.5, 3), (3, 6), (6, 12))))]
 
     def up(self):
         ids = self.off()
@@ -227,7 +227,7 @@ class RandomStory:
         self.rng = random.Random(seed)
         images, is_leased = self.rng.choice(((1, False), (1, False), (3, False), (1, True)))
         self.setting = self.rng.choice(BESIDE_ARBITER if is_leased else SETTINGS)
-        timing = self.rng.choice((USUAL_TIMING, QUICK_TIMING, SHORT_WAIT, SHORT_WAIT, SHORT_WAIT))
+        timing = self.rng.choice((USUAL_TIMING, QUICK_TIMING, *[SHORT_WAIT] * 6))
         lease = [LIMIT, (self.setting.timeout + LIMIT) * 103 // 100] if is_leased else None
         self.head = Head(self.setting.text, timing, images, lease, [])
         self.lines = []

@@ -1,4 +1,5 @@
-# bench/campaign: a second of it, the stories of seeds, and failures: they are told with their seed and a command that shows them again.
+# bench/campaign: a second of it, the stories of seeds, and failures: they are told with their seed and a command that shows them again. What counts
+# as one is judged: a majority that is well has no holder, and a node is reset that is heard.
 . "$TOP/tests/expect.sh"
 
 export QUORUMD
@@ -7,16 +8,52 @@ campaign() {
 }
 
 campaign 1 > said 2> progress
-grep -qE '^campaign from seed 1: [0-9]+ s: [1-9][0-9]* soaks, [1-9][0-9]* stories, [0-9]+ events, .* take-overs, most holders 1, 0 failed$' said
+counts='[0-9]+ events, [0-9]+ boots, [0-9]+ crashes, [0-9]+ resets, [0-9]+ starts, [0-9]+ take-overs'
+grep -qE "^campaign from seed 1: [0-9]+ s: [1-9][0-9]* soaks of $counts; [1-9][0-9]* stories of $counts; most holders 1, longest without one [0-9]+ % of the bound, 0 failed\$" said
 same "$(wc -l < said)" 1
 
 # the story of a seed is a story, and the same each time
-for seed in 1 2 3; do
+for seed in 1 2 3 4; do
     campaign --story $seed > story
     campaign --story $seed | cmp - story
     "$TOP/bin/story" --keep kept story > account
-    "$QUORUMD" replay < kept | tail -n 1 | grep -q '^end '
+    command=replay
+    ! grep -q '^images 3$' story || command=replay3
+    ! grep -q '^lease ' story || command=replay-arbiter
+    "$QUORUMD" $command < kept | tail -n 1 | grep -q '^end '
 done
+
+# judged STORY-LINE..: what the judge says of a story of three nodes
+judged() {
+    printf '%s\n' 'nodes 1 2 3' 'up 1 2 3' 'run 5000' "$@" > story
+    PYTHONPATH=$TOP/lib python3 -B - story << 'END'
+import sys
+
+from judge import Failure, Judge
+from stories import Play, read_story
+
+head, ids, lines = read_story(open(sys.argv[1]).read())
+watch = Judge()
+play = Play(head, ids, watch)
+watch.knows(play.world, 2, 0)
+try:
+    for line in lines:
+        if line.command == "message" and line.values[1] == "test":  # stands for a node that nobody starts at
+            play.world.hosts[line.values[0]].member.look = lambda tick: None
+        elif line.command == "message" and line.values[1] == "clear":  # stands for a reset of a node that is heard
+            play.world.event("view 1 9 1,2")
+        else:
+            play.commands.do(line)
+    print("well")
+except Failure as failure:
+    print(failure)
+play.replay.end()
+END
+}
+same "$(judged 'cut 1' 'run 20000')" well
+same "$(judged 'split 1 | 2 | 3' 'run 5000' 'heal' 'run 8000')" well
+judged 'message 3 clear' 'run 3000' | grep -qE '^node 1 resets node 3, which it did not hear from 0 to [0-9]+$'
+judged 'message 2 test' 'message 3 test' 'kill 1' 'run 40000' | grep -qE '^nodes 2,3 are well, and nobody holds from [0-9]+ to [0-9]+$'
 
 # programs at fault: a soak with two holders, and a replay that ends at the first event
 cat > faulty <<'PROGRAM'

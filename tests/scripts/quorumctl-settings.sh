@@ -23,8 +23,8 @@ flags() {
     printf "$2" | "$QUORUMCTL" settings > got 2> errors || status=$?
     same "$status $(grep -v '^node ' got; cat errors)" "$1 $(printf "$3")"
 }
-flags 0 "${two}quorum {\ntwo_node: 1\n}\n" 'two_node on by two_node\nwait_for_all on by two_node\nlast_man_standing off by default\nauto_tie_breaker off by default
-device none\nlast_man_standing_window 10000\nexpected_votes 2 by the sum\nquorum 1\n'
+flags 1 "${two}quorum {\ntwo_node: 1\n}\n" 'two_node on by two_node\nwait_for_all on by two_node\nlast_man_standing off by default\nauto_tie_breaker off by default
+device none\nlast_man_standing_window 10000\nexpected_votes 2 by the sum\nquorum 1\nwarning: two nodes with equal fence_delays reset each other where the network is cut\n'
 flags 0 "${two}quorum {\nwait_for_all: 1\nauto_tie_breaker: 1\nlast_man_standing_window: 5\nexpected_votes: 2\n}\n" 'two_node off by default\nwait_for_all on by wait_for_all
 last_man_standing off by default\nauto_tie_breaker on by auto_tie_breaker\ndevice none\nlast_man_standing_window 5\nexpected_votes 2 by expected_votes\nquorum 2\n'
 flags 0 "${two}quorum {\ndevice {\nmodel: net\nvotes: 1\n}\n}\n" 'two_node off by default\nwait_for_all off by default\nlast_man_standing off by default\nauto_tie_breaker off by default
@@ -37,7 +37,11 @@ warned() {
     same "$status $(grep '^warning' got)" "1 $(printf "$2")"
 }
 warned "${one}quorum {\nlast_man_standing: 1\n}\n" 'warning: last_man_standing without wait_for_all\n'
-warned "${two}quorum {\ntwo_node: 1\nwait_for_all: 0\n}\n" 'warning: two_node without wait_for_all\n'
+warned "${two}quorum {\ntwo_node: 1\nwait_for_all: 0\n}\n" 'warning: two_node without wait_for_all\nwarning: two nodes with equal fence_delays reset each other where the network is cut\n'
+warned "${two}quorum {\ntwo_node: 1\n}\n" 'warning: two nodes with equal fence_delays reset each other where the network is cut\n'
+warned 'nodelist {\nnode {\nnodeid: 1\nfence_delay: 5000\n}\nnode {\nfence_delay: 5000\nnodeid: 2\n}\n}\nquorum {\ntwo_node: 1\n}\n' 'warning: two nodes with equal fence_delays reset each other where the network is cut\n'
+flags 0 'nodelist {\nnode {\nnodeid: 1\nfence_delay: 5000\n}\nnode {\nnodeid: 2\n}\n}\nquorum {\ntwo_node: 1\n}\n' 'two_node on by two_node\nwait_for_all on by two_node
+last_man_standing off by default\nauto_tie_breaker off by default\ndevice none\nlast_man_standing_window 10000\nexpected_votes 2 by the sum\nquorum 1\n'
 warned "${one}quorum {\nexpected_votes: 3\n}\n" 'warning: expected_votes 3 is above the 1 votes that there are\n'
 warned "${two}quorum {\nexpected_votes: 1\n}\n" 'warning: expected_votes 1 is below the 2 votes that there are\nwarning: 2 votes can fall into halves: there is neither a device nor a tie breaker\n'
 warned "$two" 'warning: 2 votes can fall into halves: there is neither a device nor a tie breaker\n'

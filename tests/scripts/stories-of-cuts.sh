@@ -1,0 +1,87 @@
+# Stories of three, five and nine nodes at drawn moments: the holder is cut off, and the majority has a holder within the bound; packets are lost
+# for half a loop to 2.9 loops, of all nodes or of one, one way or both, and nobody is reset; two nodes of which one has a fence delay.
+# RUNS says how many of each there are.
+export QUORUMD
+RUNS=${RUNS-2} PYTHONPATH=$TOP/lib python3 -B - <<'END'
+import concurrent.futures
+import os
+import random
+import sys
+
+from judge import Failure, Judge
+from randomstory import Setting
+from stories import Play
+from storytext import USUAL_TIMING, Head, line_of
+from traces import head_of, ids_of
+
+LOOP, MSGWAIT = USUAL_TIMING.loop, USUAL_TIMING.msgwait
+
+
+class Scene(Judge):
+    """A story of so many nodes that came up and are disturbed at a drawn moment."""
+
+    def __init__(self, setting, seed):
+        super().__init__()
+        self.rng = random.Random(seed)
+        self.setting, self.resets, self.lines = setting, [], []
+
+    def event(self, words, report, deeds, cause):
+        self.resets += [deed.node for deed in deeds if deed.kind == "asked"]
+        super().event(words, report, deeds, cause)
+
+    def play(self, *lines):
+        """Plays these lines after the boots; gives the nodes whose resets were asked for, and who holds at the end."""
+        head = Head(self.setting.text, USUAL_TIMING, 1, None, [])
+        ids = ids_of(head_of(head.settings, head.timing))
+        play = Play(head, ids, self)
+        self.knows(play.world, self.setting.enough, self.setting.delay)
+        try:
+            for line in ("up %s" % " ".join(map(str, ids)), "run %d" % (4 * LOOP + self.rng.randrange(LOOP)), *lines):
+                self.lines.append(line)
+                play.commands.do(line_of(len(self.lines), line.split(), ids))
+        finally:
+            play.replay.end()
+        return sorted(set(self.resets)), play.world.holders
+
+
+def holder_cut(count, seed):
+    """It alone is reset, and the next one holds."""
+    scene = Scene(Setting(count), seed)
+    return scene, scene.play("cut 1", "run %d" % (MSGWAIT + 8 * LOOP)), ([1], (2,))
+
+
+def outage(count, seed):
+    """Nobody is reset, and node 1 holds."""
+    scene = Scene(Setting(count), seed)
+    draw = scene.rng
+    cut = draw.choice(["%s %d" % (word, draw.randrange(1, count + 1)) for word in ("cut", "cut-in", "cut-out")]
+                      + ["split %s" % " | ".join(map(str, range(1, count + 1)))])
+    lines = (cut, "run %d" % draw.randrange(LOOP // 2, 29 * LOOP // 10 + 1), "heal", "run %d" % (6 * LOOP))
+    return scene, scene.play(*lines), ([], (1,))
+
+
+def two_with_delay(_, seed):
+    """The node whose resets wait survives, whichever holds."""
+    scene = Scene(Setting(2, "two_node: 1", delayed=2, delay=5 * LOOP, enough=2), seed)
+    return scene, scene.play("split 1 | 2", "run %d" % (MSGWAIT + 8 * LOOP)), ([1], (2,))
+
+
+def tried(job):
+    scene, count, seed = job
+    try:
+        played, got, wanted = scene(count, seed)
+        return None if got == wanted else "%s of %d, seed %d: %r, not %r\n  %s" % (scene.__name__, count, seed, got, wanted, "; ".join(played.lines))
+    except Failure as failure:
+        return "%s of %d, seed %d: %s" % (scene.__name__, count, seed, failure)
+
+
+RUNS = int(os.environ["RUNS"])
+jobs = [(scene, count, seed) for seed in range(RUNS) for scene in (holder_cut, outage) for count in (3, 5, 9)]
+jobs += [(two_with_delay, 2, seed) for seed in range(RUNS)]
+with concurrent.futures.ProcessPoolExecutor() as pool:
+    wrong = [said for said in pool.map(tried, jobs) if said]
+print("%d stories, %d at fault" % (len(jobs), len(wrong)))
+if wrong:
+    print("\n".join(wrong[:20]))
+    sys.exit(1)
+END
