@@ -13,7 +13,7 @@ grep -qE "^campaign from seed 1: [0-9]+ s: [1-9][0-9]* soaks of $counts; [1-9][0
 same "$(wc -l < said)" 1
 
 # the story of a seed is a story, and the same each time
-for seed in 1 2 3 4; do
+for seed in 15 7 9; do
     campaign --story $seed > story
     campaign --story $seed | cmp - story
     "$TOP/bin/story" --keep kept story > account
@@ -60,7 +60,7 @@ cat > faulty <<'PROGRAM'
 #!/usr/bin/env bash
 case $1 in
 soak) echo "soak seed $2 events $3 boots 1 crashes 1 resets 1 starts 2 stops 1 most_holders 2" ;;
-replay) exit 9 ;;
+replay*) exit 9 ;;
 *) exec "$REAL" "$@" ;;
 esac
 PROGRAM
@@ -69,13 +69,14 @@ status=0
 REAL=$QUORUMD QUORUMD=$PWD/faulty campaign 0 17 > said 2> progress || status=$?
 same "$status" 1
 grep -A 1 '^FAILED soak of seed 17: 2 nodes hold at once$' said | grep -q '^  bin/quorumd soak 17 200000$'
-grep -A 1 '^FAILED story of seed 17: quorumd replay ended with status 9$' said | grep -q '^  bench/campaign --story 17 | bin/story$'
+grep -A 1 '^FAILED story of seed 17: quorumd replay[a-z0-9-]* ended with status 9$' said | grep -q '^  bench/campaign --story 17 | bin/story$'
 tail -n 1 said | grep -qE '^campaign from seed 17: .*, [1-9][0-9]* failed$'
 REAL=$QUORUMD QUORUMD=$PWD/faulty campaign --story 17 > story 2> errors
-same "$(cat errors)" 'campaign: quorumd replay ended with status 9'
+grep -qE '^campaign: quorumd replay[a-z0-9-]* ended with status 9$' errors
 status=0
 REAL=$QUORUMD QUORUMD=$PWD/faulty "$TOP/bin/story" story > account 2> errors || status=$?
-same "$status $(cat errors)" '9 story: quorumd replay ended with status 9'
+same "$status" 9
+grep -qE '^story: quorumd replay[a-z0-9-]* ended with status 9$' errors
 
 for words in '' x '1 x' '1 2 3' '--story' '--story x' '--story 1 2' '--other'; do
     status=0
