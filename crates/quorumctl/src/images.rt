@@ -178,13 +178,17 @@ impl Outcome {
             ),
             Outcome::UnknownNode => ("fault: no slot of the image has the id\n", UNKNOWN_NODE),
             Outcome::Empty if was_exit => (
-                "fault: the exit is gone from the mailbox, and the node has not left: a boot of it, or an operator, took it away\n",
+                "fault: the exit is gone from the mailbox, and the node was not seen to leave: a boot of it, or an operator, took it away\n",
                 WRONG,
             ),
             Outcome::Empty => ("the mailbox is empty\n", 0),
             Outcome::Left => ("the node left clean\n", 0),
             Outcome::Exit => (
                 "fault: msgwait has passed, and the node has not left: the exit stands in its mailbox\n",
+                WRONG,
+            ),
+            Outcome::Waits if was_exit => (
+                "fault: another message stands in place of the exit\n",
                 WRONG,
             ),
             Outcome::Waits => ("msgwait has passed\n", 0),
