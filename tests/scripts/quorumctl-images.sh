@@ -44,6 +44,8 @@ cp whole disk
 put 0 QN
 put 0 XX
 ctl 1 'warning: sector 0 is no header: the file is no image\n' check --image disk < /dev/null
+ctl 1 'fault: sector 0 is no header: the file is no image\n' list --image disk
+same "$("$QUORUMCTL" list --image disk --json 2>&1 || true)" "$(printf '[]\nquorumctl: sector 0 is no header: the file is no image')"
 # times that are not safe: msgwait 8163
 cp whole disk
 printf '\37\343' | dd of=disk bs=1 seek=30 conv=notrunc status=none
@@ -60,6 +62,7 @@ ctl 1 'node 1 incarnation 0 clean mail off\nnode 2 incarnation 1 dirty mail empt
 # sectors that cannot be read: a folder is one
 mkdir folder
 ctl 1 'warning: sector 0 cannot be read\n' check --image folder < /dev/null
+ctl 1 'fault: sector 0 cannot be read\n' list --image folder
 # nothing is made
 ctl 8 'quorumctl: No such file or directory (os error 2)\n' check --image absent < /dev/null
 ctl 8 'quorumctl: No such file or directory (os error 2)\n' list --image absent
@@ -107,5 +110,50 @@ passed=$((($(date +%s%N) - begin) / 1000000))
 ctl 0 'the mailbox is empty\n' wait --image disk --id 2
 wait
 ctl 16 'fault: no slot of the image has the id\n' wait --image disk --id 3
+
+# an exit that the node does not take: it runs on, it boots, or the exit is cleared. `slot CLEAN` writes the slot of node 1 in incarnation 7
+slot() {
+    printf "SLOT\\0\\0\\0\\1\\0\\0\\0\\0\\0\\0\\0\\7\\$1" | dd of=disk bs=512 seek=1 conv=notrunc status=none
+}
+"$QUORUMD" create --image disk < "$TOP/examples/two-node.conf" > said
+slot 0
+"$QUORUMD" message --image disk --id 1 --kind exit > said
+(sleep 0.5; "$QUORUMD" message --image disk --id 1 --kind clear > said) &
+ctl 1 'fault: the exit is gone from the mailbox, and the node was not seen to leave: a boot of it, or an operator, took it away\n' wait --image disk --id 1
+wait
+"$QUORUMD" message --image disk --id 1 --kind exit > said
+(sleep 0.5; slot 1) &
+ctl 0 'the node left clean\n' wait --image disk --id 1
+wait
+"$QUORUMD" create --image disk --timing 300,500,100,50,50 < "$TOP/examples/two-node.conf" > said
+slot 0
+"$QUORUMD" message --image disk --id 1 --kind exit > said
+ctl 1 'fault: msgwait has passed, and the node has not left: the exit stands in its mailbox\n' wait --image disk --id 1
+# a node that runs passes a test over, and its mailbox keeps it; of a mailbox or a slot that is none nothing is known
+"$QUORUMD" message --image disk --id 1 --kind test > said
+ctl 0 'msgwait has passed\n' wait --image disk --id 1
+put 512 MALL
+ctl 1 'fault: the slot or the mailbox cannot be read or is none\n' wait --image disk --id 1
+put 1 SLOP
+ctl 1 'fault: the slot or the mailbox cannot be read or is none\n' wait --image disk --id 1
+
 : > disk
 ctl 1 'fault: sector 0 is no header: the file is no image\n' wait --image disk --id 3
+
+# at a terminal it is said that a text is read, by each command that reads one; elsewhere nothing is said
+cat > terminal.py << 'PYTHON'
+import os
+import pty
+import subprocess
+import sys
+
+main, side = pty.openpty()
+os.write(main, b"\x04")  # Ctrl-D: the text ends
+done = subprocess.run(sys.argv[1:], stdin=side, stdout=subprocess.PIPE, stderr=subprocess.PIPE, text=True, timeout=60)
+print(done.returncode, done.stderr, end="")
+PYTHON
+cp whole disk
+reads='quorumctl: a corosync.conf is read from the terminal; Ctrl-D on a line of its own ends it'
+same "$(python3 terminal.py "$QUORUMCTL" check --image disk)" "0 $reads"
+same "$(python3 terminal.py "$QUORUMCTL" settings)" "3 $reads"
+same "$(python3 terminal.py "$QUORUMCTL" list --image disk)" '0 '

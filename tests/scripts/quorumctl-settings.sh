@@ -9,13 +9,14 @@ told() {
     same "$status $(cat got errors)" "$1 $(printf "$3")"
 }
 
-told 0 'nodelist {\nnode {\nname: alpha\nnodeid: 7\nquorum_votes: 3\n}\nnode {\nfence_delay: 50\nnodeid: 02\n}\nnode {\nname: x\nname: y\nnodeid: 3\n}\n}\n' \
+told 0 'nodelist {\nnode {\nname: alpha\nnodeid: 7\nquorum_votes: 3\n}\nnode {\nfence_delay: 50\nnodeid: 02\n}\nnode {\nname: x\nname: y\nnodeid: 3\n}\n}\nquorum {\nprovider: corosync_votequorum\n}\n' \
     'node 2 name - votes 1 fence_delay 50\nnode 3 name y votes 1 fence_delay 0\nnode 7 name alpha votes 3 fence_delay 0
 two_node off by default\nwait_for_all off by default\nlast_man_standing off by default\nauto_tie_breaker off by default
 device none\nlast_man_standing_window 10000\nexpected_votes 5 by the sum\nquorum 3\n'
 
-one='nodelist {\nnode {\nnodeid: 1\n}\n}\n'
-two='nodelist {\nnode {\nnodeid: 1\n}\nnode {\nnodeid: 2\n}\n}\n'
+provider='quorum {\nprovider: corosync_votequorum\n}\n'
+one="nodelist {\nnode {\nnodeid: 1\n}\n}\n$provider"
+two="nodelist {\nnode {\nnodeid: 1\n}\nnode {\nnodeid: 2\n}\n}\n$provider"
 
 # flags STATUS 'TEXT' 'LINES': the lines behind those of the nodes
 flags() {
@@ -25,10 +26,12 @@ flags() {
 }
 flags 1 "${two}quorum {\ntwo_node: 1\n}\n" 'two_node on by two_node\nwait_for_all on by two_node\nlast_man_standing off by default\nauto_tie_breaker off by default
 device none\nlast_man_standing_window 10000\nexpected_votes 2 by the sum\nquorum 1\nwarning: two nodes with equal fence_delays reset each other where the network is cut\n'
-flags 0 "${two}quorum {\nwait_for_all: 1\nauto_tie_breaker: 1\nlast_man_standing_window: 5\nexpected_votes: 2\n}\n" 'two_node off by default\nwait_for_all on by wait_for_all
-last_man_standing off by default\nauto_tie_breaker on by auto_tie_breaker\ndevice none\nlast_man_standing_window 5\nexpected_votes 2 by expected_votes\nquorum 2\n'
-flags 0 "${two}quorum {\ndevice {\nmodel: net\nvotes: 1\n}\n}\n" 'two_node off by default\nwait_for_all off by default\nlast_man_standing off by default\nauto_tie_breaker off by default
-device votes 1 timeout 10000\nlast_man_standing_window 10000\nexpected_votes 3 by the sum\nquorum 2\n'
+flags 1 "${two}quorum {\nwait_for_all: 1\nauto_tie_breaker: 1\nlast_man_standing_window: 5\nexpected_votes: 2\n}\n" 'two_node off by default\nwait_for_all on by wait_for_all
+last_man_standing off by default\nauto_tie_breaker on by auto_tie_breaker\ndevice none\nlast_man_standing_window 5\nexpected_votes 2 by expected_votes\nquorum 2
+warning: Corosync arms wait_for_all again at each loss of quorum\n'
+flags 1 "${two}quorum {\ndevice {\nmodel: net\nvotes: 1\n}\n}\n" 'two_node off by default\nwait_for_all off by default\nlast_man_standing off by default\nauto_tie_breaker off by default
+device votes 1 timeout 10000\nlast_man_standing_window 10000\nexpected_votes 3 by the sum\nquorum 2
+warning: Corosync'"'"'s node that boots alone does not expect a device'"'"'s written votes\n'
 
 # warned 'TEXT' 'WARNINGS'
 warned() {
@@ -36,21 +39,23 @@ warned() {
     printf "$1" | "$QUORUMCTL" settings > got || status=$?
     same "$status $(grep '^warning' got)" "1 $(printf "$2")"
 }
-warned "${one}quorum {\nlast_man_standing: 1\n}\n" 'warning: last_man_standing without wait_for_all\n'
+warned "${one}quorum {\nlast_man_standing: 1\n}\n" 'warning: last_man_standing without wait_for_all
+warning: Corosync'"'"'s last_man_standing_window begins where nodes are lost, and not at each view
+warning: Corosync gives a node that joins the expected votes of those that are quorate\n'
 warned "${two}quorum {\ntwo_node: 1\nwait_for_all: 0\n}\n" 'warning: two_node without wait_for_all\nwarning: two nodes with equal fence_delays reset each other where the network is cut\n'
 warned "${two}quorum {\ntwo_node: 1\n}\n" 'warning: two nodes with equal fence_delays reset each other where the network is cut\n'
-warned 'nodelist {\nnode {\nnodeid: 1\nfence_delay: 5000\n}\nnode {\nfence_delay: 5000\nnodeid: 2\n}\n}\nquorum {\ntwo_node: 1\n}\n' 'warning: two nodes with equal fence_delays reset each other where the network is cut\n'
-flags 0 'nodelist {\nnode {\nnodeid: 1\nfence_delay: 5000\n}\nnode {\nnodeid: 2\n}\n}\nquorum {\ntwo_node: 1\n}\n' 'two_node on by two_node\nwait_for_all on by two_node
+warned 'nodelist {\nnode {\nnodeid: 1\nfence_delay: 5000\n}\nnode {\nfence_delay: 5000\nnodeid: 2\n}\n}\nquorum {\nprovider: corosync_votequorum\ntwo_node: 1\n}\n' 'warning: two nodes with equal fence_delays reset each other where the network is cut\n'
+flags 0 'nodelist {\nnode {\nnodeid: 1\nfence_delay: 5000\n}\nnode {\nnodeid: 2\n}\n}\nquorum {\nprovider: corosync_votequorum\ntwo_node: 1\n}\n' 'two_node on by two_node\nwait_for_all on by two_node
 last_man_standing off by default\nauto_tie_breaker off by default\ndevice none\nlast_man_standing_window 10000\nexpected_votes 2 by the sum\nquorum 1\n'
 warned "${one}quorum {\nexpected_votes: 3\n}\n" 'warning: expected_votes 3 is above the 1 votes that there are\n'
 warned "${two}quorum {\nexpected_votes: 1\n}\n" 'warning: expected_votes 1 is below the 2 votes that there are\nwarning: 2 votes can fall into halves: there is neither a device nor a tie breaker\n'
 warned "$two" 'warning: 2 votes can fall into halves: there is neither a device nor a tie breaker\n'
 warned "${one}quorum {\ntwo_nodes: 1\n}\n" 'warning: the key "two_nodes" is not known\n'
-warned 'nodelist {\nnodes: 1\nnode {\nnodeid: 1\nvotes: 1\nring0_addr: a\n}\n}\ntotem {\nnode: 1\n}\n' 'warning: the key "nodes" is not known\nwarning: the key "votes" is not known\n'
+warned 'nodelist {\nnodes: 1\nnode {\nnodeid: 1\nvotes: 1\nring0_addr: a\n}\n}\ntotem {\nnode: 1\n}\nquorum {\nprovider: corosync_votequorum\n}\n' 'warning: the key "nodes" is not known\nwarning: the key "votes" is not known\n'
 
 told 3 'quorum {\ntwo_node 1\n}\n' 'fault: line 2: neither a section, nor `key: value`, nor `}`, nor a comment\nline 2: two_node 1\n'
 told 3 '}\n' 'fault: line 1: `}` ends a section, and none is open\nline 1: }\n'
-told 3 "${one}quorum {\nexpected_votes: many\n}\n" 'fault: expected_votes: a value is no number in the range of the key\nline 7: expected_votes: many\n'
+told 3 "${one}quorum {\nexpected_votes: many\n}\n" 'fault: expected_votes: a value is no number in the range of the key\nline 10: expected_votes: many\n'
 told 3 '' 'fault: nodelist: there is no node section\n'
 told 3 'quorum {\n' 'fault: the text ends inside a section: a `}` is missing\n'
 told 3 'nodelist {\nnode {\nnodeid: 2\n}\nnode {\nnodeid: 2\n}\n}\n' 'fault: nodelist: nodeid 2 stands in two node sections\nline 3: nodeid: 2\nline 6: nodeid: 2\n'

@@ -21,7 +21,7 @@ pub enum Concern<'text> {
     ExpectedAbove { expected: u64, votes: u64 },
     /// An even number of votes, and nothing that decides where the cluster falls into halves.
     EvenWithoutDecider { votes: u64 },
-    /// A key of `quorum`, `nodelist` or `node` that corosync.conf(5) and votequorum(5) do not have, which is passed over.
+    /// A key of `quorum`, its device, `nodelist` or `node` that corosync.conf(5) and votequorum(5) do not have, which is passed over.
     UnknownKey { key: &'text str },
 }
 
@@ -86,7 +86,11 @@ const QUORUM_KEYS: &[&str] = &[
     "auto_tie_breaker",
     "auto_tie_breaker_node",
     "allow_downscale",
+    "expected_votes_tracking",
 ];
+
+/// The keys of a device that are known (corosync-qdevice(8)).
+const DEVICE_KEYS: &[&str] = &["model", "timeout", "sync_timeout", "votes"];
 
 /// What is risky in these settings, and in the pairs of their text.
 pub fn concerns_of<'text>(
@@ -176,7 +180,7 @@ fn has_no_decider(settings: &Settings) -> bool {
 }
 
 /// The votes of all nodes.
-fn node_votes(settings: &Settings) -> u64 {
+pub(crate) fn node_votes(settings: &Settings) -> u64 {
     let mut votes = 0u64;
     for node in settings.nodes.as_slice() {
         votes = votes.saturating_add(u64::from(node.votes));
@@ -185,7 +189,7 @@ fn node_votes(settings: &Settings) -> u64 {
 }
 
 /// The votes of the device that count: with last_man_standing it counts for nothing.
-fn device_votes(settings: &Settings) -> u64 {
+pub(crate) fn device_votes(settings: &Settings) -> u64 {
     match settings.device {
         Some(device) if !settings.last_man_standing => u64::from(device.votes),
         _ => 0,
@@ -198,6 +202,7 @@ fn is_known(place: Place, key: &str) -> bool {
         Place::NodeList => false,
         Place::Node(_) => NODE_KEYS.iter().any(|known| *known == key),
         Place::Quorum => QUORUM_KEYS.iter().any(|known| *known == key),
+        Place::Device => DEVICE_KEYS.iter().any(|known| *known == key),
         Place::Elsewhere => true,
     }
 }

@@ -6,6 +6,7 @@
 
 mod at_fault;
 mod concerns;
+mod differences;
 mod findings;
 mod flags;
 mod image;
@@ -14,15 +15,18 @@ mod image_lines;
 mod named;
 mod pairs;
 mod text;
+mod text_concerns;
 mod times;
 mod told;
 
 pub use at_fault::wrong_lines;
 pub use concerns::{Concern, concerns_of};
+pub use differences::{Difference, differences_of};
 pub use findings::Finding;
 pub use image::{ImageSeen, NodeSeen, Sectors, look_at_image};
 pub use image_json::{check_json, list_json};
 pub use image_lines::{finding_lines, node_lines};
 pub use pairs::{Pair, Place, pairs_of};
+pub use text_concerns::{TextConcern, has_byte_order_mark, text_concerns_of};
 pub use times::{least_msgwait, longest_take_over};
 pub use told::settings_text;

@@ -7,7 +7,7 @@ use qn_base::{NodeId, read_decimal};
 use qn_control::{
     ImageSeen, NodeSeen, check_json, finding_lines, list_json, look_at_image, node_lines,
 };
-use qn_model::{Message, Settings, Timing};
+use qn_model::{Mail, Message, Settings, Slot, Timing};
 use qn_settings::settings_of_text;
 use qn_usage::value_of;
 use std::alloc::{AllocError, Global};
@@ -26,7 +26,7 @@ const UNKNOWN_NODE: u8 = 16;
 const LOOK: u64 = 100;
 
 /// `check`: what is wrong with an image, and whether it fits the settings on standard input, where there are any.
-pub fn check<R: Files<File = File> + Input + Print + AllocGlobal>(
+pub fn check<R: Files<File = File> + Input + Print + Eprint + AllocGlobal>(
     rt: &R,
     path: &str,
     is_json: bool,
@@ -65,18 +65,40 @@ fn check_text(alloc: Global, seen: &ImageSeen, is_json: bool) -> Result<String, 
     Ok(lines)
 }
 
-/// `list`: the nodes of an image.
-pub fn list<R: Files<File = File> + Print + AllocGlobal>(
+/// `list`: the nodes of an image. Of a file that is none it says so: in a line, and with `--json` on standard error.
+pub fn list<R: Files<File = File> + Print + Eprint + AllocGlobal>(
     rt: &R,
     path: &str,
     is_json: bool,
 ) -> Result<u8, Trouble> {
     let file = ImageFile::open(rt, path).map_err(Trouble::System)?;
     let seen = look_at_image(rt.alloc(), &file, None)?;
+    if seen.header.is_none() && !is_json {
+        return say_no_image(rt, &seen);
+    }
     let nodes = seen.nodes.as_slice();
     say(rt, list_text(rt.alloc(), nodes, is_json)?.as_str())?;
+    if seen.header.is_none() {
+        warn_no_image(rt, &seen);
+    }
     let is_whole = seen.header.is_some() && nodes.iter().all(is_seen);
     Ok(if is_whole { 0 } else { WRONG })
+}
+
+/// Says in a line why a file is no image.
+fn say_no_image(rt: &(impl Print + AllocGlobal), seen: &ImageSeen) -> Result<u8, Trouble> {
+    for finding in seen.findings.as_slice() {
+        let line = format!(in rt.alloc(); "fault: {finding}\n")?;
+        say(rt, line.as_str())?;
+    }
+    Ok(WRONG)
+}
+
+/// Says on standard error why a file is no image.
+fn warn_no_image(rt: &impl Eprint, seen: &ImageSeen) {
+    for finding in seen.findings.as_slice() {
+        let _ = eprintln!(rt; "quorumctl: {finding}");
+    }
 }
 
 /// The nodes of an image.
@@ -93,17 +115,23 @@ fn is_seen(node: &NodeSeen) -> bool {
     node.slot.is_some() && node.mail.is_some()
 }
 
-/// What becomes of a message.
+/// What a look says of a message to a node.
 #[derive(Clone, Copy)]
 enum Outcome {
+    /// Sector 0 is no header.
+    NotImage,
     /// No slot has the id.
     UnknownNode,
     /// The mailbox is empty: a boot of the node cleared it, or there was no message.
     Empty,
     /// The node left clean, at an exit.
     Left,
-    /// It is not known to be read.
+    /// An exit stands in the mailbox, and the node has not left.
+    Exit,
+    /// Another message stands in the mailbox.
     Waits,
+    /// The slot or the mailbox cannot be read or is none.
+    Unread,
 }
 
 /// `wait`: returns when the message to a node was read, or msgwait has passed.
@@ -115,20 +143,61 @@ pub fn wait<R: Files<File = File> + Net + Clock + Print + AllocGlobal>(
     let id = id_of(options);
     let file = ImageFile::open(rt, path).map_err(Trouble::System)?;
     let Some(timing) = timing_of(rt.alloc(), &file)? else {
-        say(rt, "fault: sector 0 is no header: the file is no image\n")?;
-        return Ok(WRONG);
+        return say_outcome(rt, &Outcome::NotImage, false);
     };
     let begin = rt.monotonic().map_err(Trouble::System)?;
     let end = begin.saturating_add(Duration::from_millis(timing.msgwait));
+    let mut was_exit = false;
     for _ in 0..u64::MAX {
         let is_over = rt.monotonic().map_err(Trouble::System)? >= end;
         let outcome = outcome_at(rt.alloc(), &file, id)?;
-        if is_over || !matches!(outcome, Outcome::Waits) {
-            return say_outcome(rt, &outcome);
+        if is_over || !outcome.may_change() {
+            return say_outcome(rt, &outcome, was_exit);
         }
+        was_exit = was_exit || matches!(outcome, Outcome::Exit);
         pause(rt)?;
     }
     Ok(0)
+}
+
+impl Outcome {
+    /// Whether a later look may say more.
+    fn may_change(self) -> bool {
+        match self {
+            Outcome::Exit | Outcome::Waits | Outcome::Unread => true,
+            Outcome::NotImage | Outcome::UnknownNode | Outcome::Empty | Outcome::Left => false,
+        }
+    }
+
+    /// The line of a last look, and the exit status; `was_exit` says whether a look before found an exit.
+    fn said(self, was_exit: bool) -> (&'static str, u8) {
+        match self {
+            Outcome::NotImage => (
+                "fault: sector 0 is no header: the file is no image\n",
+                WRONG,
+            ),
+            Outcome::UnknownNode => ("fault: no slot of the image has the id\n", UNKNOWN_NODE),
+            Outcome::Empty if was_exit => (
+                "fault: the exit is gone from the mailbox, and the node was not seen to leave: a boot of it, or an operator, took it away\n",
+                WRONG,
+            ),
+            Outcome::Empty => ("the mailbox is empty\n", 0),
+            Outcome::Left => ("the node left clean\n", 0),
+            Outcome::Exit => (
+                "fault: msgwait has passed, and the node has not left: the exit stands in its mailbox\n",
+                WRONG,
+            ),
+            Outcome::Waits if was_exit => (
+                "fault: another message stands in place of the exit\n",
+                WRONG,
+            ),
+            Outcome::Waits => ("msgwait has passed\n", 0),
+            Outcome::Unread => (
+                "fault: the slot or the mailbox cannot be read or is none\n",
+                WRONG,
+            ),
+        }
+    }
 }
 
 /// The times of an image; None where sector 0 is no header.
@@ -154,31 +223,43 @@ fn id_of(options: &[String]) -> NodeId {
 }
 
 /// Says what became of a message, and gives the exit status.
-fn say_outcome(rt: &impl Print, outcome: &Outcome) -> Result<u8, Trouble> {
-    let (text, status) = match outcome {
-        Outcome::UnknownNode => ("fault: no slot of the image has the id\n", UNKNOWN_NODE),
-        Outcome::Empty => ("the mailbox is empty\n", 0),
-        Outcome::Left => ("the node left clean\n", 0),
-        Outcome::Waits => ("msgwait has passed\n", 0),
-    };
+fn say_outcome(rt: &impl Print, outcome: &Outcome, was_exit: bool) -> Result<u8, Trouble> {
+    let (text, status) = outcome.said(was_exit);
     say(rt, text)?;
     Ok(status)
 }
 
 /// What became of the message to a node, as far as the image says it.
 fn outcome_of(seen: &ImageSeen, id: NodeId) -> Outcome {
-    for node in seen.nodes.as_slice() {
+    if seen.header.is_none() {
+        return Outcome::NotImage;
+    }
+    let nodes = seen.nodes.as_slice();
+    for node in nodes {
         if let Some((other, slot)) = node.slot {
             if other == id {
-                return match node.mail {
-                    Some(mail) if mail.message == Message::Empty => Outcome::Empty,
-                    Some(mail) if mail.message == Message::Exit && slot.clean => Outcome::Left,
-                    _ => Outcome::Waits,
-                };
+                return outcome_by(&slot, node.mail.as_ref());
             }
         }
     }
-    Outcome::UnknownNode
+    if nodes.iter().all(|node| node.slot.is_some()) {
+        Outcome::UnknownNode
+    } else {
+        Outcome::Unread
+    }
+}
+
+/// What became of a message, by the slot and the mailbox of its node.
+fn outcome_by(slot: &Slot, mail: Option<&Mail>) -> Outcome {
+    let Some(mail) = mail else {
+        return Outcome::Unread;
+    };
+    match mail.message {
+        Message::Empty => Outcome::Empty,
+        Message::Exit if slot.clean => Outcome::Left,
+        Message::Exit => Outcome::Exit,
+        Message::Test | Message::Reset | Message::Off | Message::Crashdump => Outcome::Waits,
+    }
 }
 
 /// Lets a moment pass: waits at a port at which nothing comes.

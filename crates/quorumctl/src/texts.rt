@@ -4,12 +4,15 @@ use crate::trouble::{Trouble, say};
 use qn_base::read_decimal;
 use qn_conf::read_tree;
 use qn_control::{
-    Concern, Pair, concerns_of, least_msgwait, longest_take_over, pairs_of, settings_text,
-    wrong_lines,
+    TextConcern, concerns_of, differences_of, has_byte_order_mark, least_msgwait,
+    longest_take_over, pairs_of, settings_text, text_concerns_of, wrong_lines,
 };
 use qn_model::{Settings, Timing};
 use qn_settings::{TextFault, settings_of_text};
 use qn_usage::value_of;
+use std::fmt::Display;
+use std::fs::File;
+use std::rt::Files;
 
 /// The status where something is risky.
 const RISKY: u8 = 1;
@@ -20,8 +23,10 @@ const BAD_CONF: u8 = 3;
 /// The status where no times are safe.
 const UNSAFE_TIMING: u8 = 10;
 
-/// `settings`: what was read, and what of it is risky.
-pub fn settings(rt: &(impl Input + Print + AllocGlobal)) -> Result<u8, Trouble> {
+/// `settings`: what was read, and what of it is risky or read otherwise by Corosync.
+pub fn settings<R: Files<File = File> + Input + Print + Eprint + AllocGlobal>(
+    rt: &R,
+) -> Result<u8, Trouble> {
     let text = read_input(rt)?;
     match settings_of_text(rt.alloc(), text.as_slice()) {
         Ok(settings) => say_settings(rt, text.as_slice(), &settings),
@@ -29,6 +34,7 @@ pub fn settings(rt: &(impl Input + Print + AllocGlobal)) -> Result<u8, Trouble> 
     }
 }
 
+/// Says what settings are, and what of them and of their text is risky or read otherwise by Corosync.
 fn say_settings(
     rt: &(impl Print + AllocGlobal),
     text: &[u8],
@@ -37,27 +43,29 @@ fn say_settings(
     let alloc = rt.alloc();
     let tree = read_tree(alloc, text).map_err(|_| Trouble::NoMemory)?;
     let pairs = pairs_of(alloc, &tree)?;
-    say_pairs(rt, settings, pairs.as_slice())
-}
-
-/// Says what settings and the pairs of their text are, and what of them is risky.
-fn say_pairs(
-    rt: &(impl Print + AllocGlobal),
-    settings: &Settings,
-    pairs: &[Pair<'_>],
-) -> Result<u8, Trouble> {
-    let lines = settings_text(rt.alloc(), settings, pairs)?;
+    let pairs = pairs.as_slice();
+    let lines = settings_text(alloc, settings, pairs)?;
     say(rt, lines.as_str())?;
-    let concerns = concerns_of(rt.alloc(), settings, pairs)?;
-    for concern in concerns.as_slice() {
-        say_concern(rt, concern)?;
-    }
-    Ok(if concerns.is_empty() { 0 } else { RISKY })
+    let concerns = concerns_of(alloc, settings, pairs)?;
+    let differences = differences_of(alloc, settings, pairs)?;
+    let of_text = text_concerns_of(alloc, text, &tree, pairs)?;
+    say_warnings(rt, concerns.as_slice())?;
+    say_warnings(rt, differences.as_slice())?;
+    say_warnings(rt, of_text.as_slice())?;
+    let is_plain = concerns.is_empty() && differences.is_empty() && of_text.is_empty();
+    Ok(if is_plain { 0 } else { RISKY })
 }
 
-fn say_concern(rt: &(impl Print + AllocGlobal), concern: &Concern<'_>) -> Result<(), Trouble> {
-    let line = format!(in rt.alloc(); "warning: {concern}\n")?;
-    say(rt, line.as_str())
+/// A line for each warning.
+fn say_warnings<T: Display>(
+    rt: &(impl Print + AllocGlobal),
+    warnings: &[T],
+) -> Result<(), Trouble> {
+    for warning in warnings {
+        let line = format!(in rt.alloc(); "warning: {warning}\n")?;
+        say(rt, line.as_str())?;
+    }
+    Ok(())
 }
 
 /// Says why a text gives no settings, and the lines that this speaks of.
@@ -73,6 +81,9 @@ pub fn say_fault(
     let lines = wrong_lines(alloc, text, fault)?;
     let line = format!(in alloc; "fault: {fault}\n{lines}")?;
     say(rt, line.as_str())?;
+    if has_byte_order_mark(text) {
+        say_warnings(rt, &[TextConcern::ByteOrderMark])?;
+    }
     Ok(BAD_CONF)
 }
 
