@@ -41,17 +41,22 @@ grep -q '^License: Apache-2.0$' "$doc/copyright"
 zcat "$doc/changelog.Debian.gz" | head -n 1 | grep -qF "quorumd ($version) "
 same "$(ls control | xargs)" 'conffiles control md5sums postinst postrm prerm'
 same "$(xargs < control/conffiles)" '/etc/quorumd/agent.env /etc/quorumd/node.env'
-same "$(ls root/lib/systemd/system | xargs)" 'quorumd-agent.socket quorumd-agent@.service quorumd@.service'
+same "$(ls root/lib/systemd/system | xargs)" 'quorumd-agent.socket quorumd-agent@.service quorumd-handover.service quorumd-renew@.service quorumd-renew@.timer quorumd-resource.service quorumd@.service'
+same "$(ls root/usr/libexec/quorumd | xargs)" 'hand-over node-check node-ended node-images node-leave node-opened quorumd-agent'
+same "$(ls root/usr/sbin | xargs)" 'quorumctl quorumd quorumd-resource quorumd-setup'
+same "$(ls root/usr/share/man/man8 | xargs)" 'quorumctl.8.gz quorumd-resource.8.gz quorumd-setup.8.gz quorumd.8.gz'
 # systemd takes the units; what they call is where they say
 if command -v systemd-analyze > /dev/null; then
     same "$(systemd-analyze verify --man=no root/lib/systemd/system/quorumd* 2>&1 | grep -v ': Command /usr/[^ ]* is not executable' || true)" ''
+    systemd-analyze security --offline=true --threshold=25 root/lib/systemd/system/quorumd@.service > said || { tail -n 1 said; exit 1; }
 else
     printf 'skipped: systemd-analyze is not installed (Debian: systemd), so the units were not looked at\n'
 fi
-for called in $(sed -n 's|^Exec[A-Za-z]*=\(/usr/[^ ]*\).*|\1|p' root/lib/systemd/system/*); do
-    [ -x "root$called" ] || { printf 'a unit calls %s, which is not in the package\n' "$called"; exit 1; }
+for called in $(sed -n 's|^Exec[A-Za-z]*=+\{0,1\}\(/usr/[^ ]*\).*|\1|p' root/lib/systemd/system/*); do
+    [ "$called" = /usr/bin/systemctl ] || [ -x "root$called" ] || { printf 'a unit calls %s, which is not in the package\n' "$called"; exit 1; }
 done
-# the words of the unit, with what the template of a node says, are a node of quorumd: its settings text is read, and it has no node 9
+# the words of the unit, with what the template of a node says, are a node of quorumd: its settings text is read, and it has no node 9. What
+# systemd makes of the units is seen in tests/hosts.
 # shellcheck disable=SC1091
 . root/etc/quorumd/node.env
 words=$(sed -n 's|^ExecStart=/usr/sbin/quorumd||p' root/lib/systemd/system/quorumd@.service | sed 's/%i/9/g')
@@ -59,31 +64,6 @@ status=0
 # shellcheck disable=SC2086
 eval "$built $words" < "$TOP/examples/two-node.conf" > said || status=$?
 same "$status $(cat said)" '16 fault UnknownNode 9'
-
-# what becomes of a host at each end of a node
-mkdir calls
-printf '#!/bin/sh\necho "$@"\n' > calls/systemctl
-chmod 755 calls/systemctl
-ended() {
-    printf '%s' "$3" > line
-    same "$1: $(PATH=$PWD/calls:$PATH EXIT_CODE=${1%%/*} EXIT_STATUS=${1#*/} root/usr/libexec/quorumd/node-ended line)" "$1: $2"
-}
-reset='reboot --force --force'
-ended exited/0 '' $'left clean\n'
-ended exited/0 '' $'left dirty\n'
-ended exited/0 "$reset" $'turns 9 up holds=no quorate=no 0/1 why=no-view\n'
-ended exited/0 "$reset" ''
-for status in 2 3 6 8 11 16 203; do
-    ended exited/$status '' $'fault\n'
-done
-ended exited/7 "$reset" ''
-ended exited/12 "$reset" $'fault ClockBack 2 1\n'
-ended exited/13 "$reset" $'fault SelfReset reset\n'
-ended exited/13 'poweroff --force --force' $'fault SelfReset off\n'
-ended exited/14 "$reset" $'fault BootHalted 1\n'
-ended killed/KILL "$reset" ''
-ended dumped/SEGV "$reset" $'left clean\n'
-ended / '' ''
 
 # dpkg installs it into an empty root, without the libraries that it depends on, and removes all of it again
 if [ "$(id -u)" = 0 ]; then
@@ -138,7 +118,7 @@ for words in --help 'one two' no-such-folder; do
 done
 
 if command -v lintian > /dev/null; then
-    lintian --fail-on error "../$package"
+    same "$(lintian --allow-root --fail-on error,warning "../$package" 2>&1)" ''
 else
     printf 'skipped: lintian is not installed (Debian: lintian), so the package was not looked at by it\n'
 fi

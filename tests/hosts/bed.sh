@@ -1,0 +1,207 @@
+# The bed of containers: a base system, three hosts on it, their network, their watchdogs. Sourced by `containers`.
+
+# make_base: a Debian 12 with systemd, what the package needs, and PostgreSQL and OCF agents; kept for the next run
+make_base() {
+    base=$cache/base
+    [ -e "$cache/complete" ] && return
+    echo "containers: making a Debian in $cache: some minutes, once" >&2
+    rm -rf "$cache"
+    mkdir -p "$cache"
+    debootstrap --variant=minbase --include=systemd,systemd-sysv,dbus,iproute2,procps,python3 bookworm "$base" ${mirror:+"$mirror"} > "$cache/log" 2>&1 &&
+        printf '#!/bin/sh\nexit 101\n' > "$base/usr/sbin/policy-rc.d" && chmod 755 "$base/usr/sbin/policy-rc.d" &&
+        DEBIAN_FRONTEND=noninteractive chroot "$base" apt-get install --no-install-recommends -y \
+            resource-agents postgresql e2fsprogs libpam-systemd iputils-arping psmisc kmod >> "$cache/log" 2>&1 &&
+        rm "$base/usr/sbin/policy-rc.d" && touch "$cache/complete" || { tail "$cache/log" >&2; exit 1; }
+}
+
+in_root() { chroot "$1" env PATH=/usr/sbin:/usr/bin:/sbin:/bin DEBIAN_FRONTEND=noninteractive "${@:2}"; }
+
+# set_up: three hosts that are off, of one settings text, with the package installed
+set_up() {
+    local n conf=$room/corosync.conf
+    rm -rf "$room"/host?.upper "$room"/host?.consoles "$shared"
+    mkdir -p "$shared"
+    : > "$shared/journal"
+    : > "$room/events"
+    printf 'nodelist {\n node {\n nodeid: 1\n }\n node {\n nodeid: 2\n }\n node {\n nodeid: 3\n }\n}\nquorum {\n provider: corosync_votequorum\n}\n' > "$conf"
+    rm -f "$shared/disk"
+    # a disk for the resource's file system, which all hosts see
+    rm -f "$room/store"
+    truncate -s 256M "$room/store"
+    mkfs.ext4 -q "$room/store"
+    ip netns add "$tag"
+    ip -n "$tag" link add br0 type bridge
+    ip -n "$tag" address add 10.77.0.254/24 dev br0
+    ip -n "$tag" link set br0 up
+    ip -n "$tag" link set lo up
+    for n in 1 2 3; do
+        # a loop device for each host: a cache of its own, as hosts have of a shared disk
+        loops[n]=$(losetup --find --show "$room/store") || exit 1
+        mkdir -p "$room/host$n" "$room/host$n.upper" "$room/host$n.work" "$room/wd$n"
+        mkfifo "$room/wd$n/watchdog"
+        mount -t overlay "$tag-$n" -o "lowerdir=$base,upperdir=$room/host$n.upper,workdir=$room/host$n.work" "$room/host$n"
+        fill_host "$n" "$room/host$n" || exit 1
+    done
+    chroot "$room/host1" /usr/sbin/quorumd create --image /var/tmp/disk < "$conf" > /dev/null && mv "$room/host1/var/tmp/disk" "$shared/disk"
+}
+
+# fill_host N ROOT: what an operator does on host N
+fill_host() {
+    local n=$1 root=$2
+    cp "$package" "$root/var/tmp/quorumd.deb"
+    in_root "$root" dpkg -i /var/tmp/quorumd.deb > "$room/dpkg" 2>&1 || { cat "$room/dpkg"; return 1; }
+    echo "host$n" > "$root/etc/hostname"
+    : > "$root/etc/machine-id"
+    mkdir -p "$root/var/log/journal" "$root/srv/cluster" "$root/srv/watchdog" "$root/srv/db"
+    mknod "$root/srv/store" b $((0x$(stat -c %t "${loops[n]}"))) $((0x$(stat -c %T "${loops[n]}")))
+    cp "$room/corosync.conf" "$root/etc/quorumd/corosync.conf"
+    sed -e 's#^WATCHDOG=.*#WATCHDOG=/srv/watchdog/watchdog#' "$root/etc/quorumd/node.env" > "$root/etc/quorumd/node-$n.env"
+    # no kernel watchdog in a container: the check of the package is told so
+    echo 'WATCHDOG_IS_NO_DEVICE=yes' >> "$root/etc/quorumd/node-$n.env"
+    cp "$here/relay" "$here/database" "$root/usr/local/bin/"
+    cp "$here/test-network.service" "$here/database.service" "$root/etc/systemd/system/"
+    sed -i "s/@N@/$n/" "$root/etc/systemd/system/test-network.service" "$root/usr/local/bin/database"
+    in_root "$root" systemctl -q enable test-network.service "quorumd@$n.service" || return 1
+    in_root "$root" systemctl -q mask postgresql.service systemd-logind-varlink.socket e2scrub_reap.service || return 1
+    [ -e "$root/usr/sbin/quorumd-resource" ] && cp "$here/resources.conf" "$root/etc/quorumd/resources.conf"
+    return 0
+}
+
+# trees: the control groups in which systemd keeps its units: one hierarchy, or two of them where the first is of version 1
+trees() {
+    awk '$3 == "cgroup2" || ($3 == "cgroup" && $4 ~ /name=systemd/) { print $2 }' /proc/mounts
+}
+
+# in_group NAME COMMAND..: a control group of its own for each host, or their units would share theirs
+in_group() {
+    local tree
+    for tree in $(trees); do
+        mkdir -p "$tree/$1" && echo "$BASHPID" > "$tree/$1/cgroup.procs"
+    done
+    shift
+    exec "$@"
+}
+
+drop_groups() {
+    local tree group
+    for tree in $(trees); do
+        for group in "$tree/$tag"-host?; do
+            [ ! -d "$group" ] || find "$group" -depth -type d -exec rmdir {} \;
+        done
+    done
+}
+
+# power N: lets host N run; a reset starts it again after the time of a firmware, a power-off does not
+power() {
+    local n=$1
+    (
+        while :; do
+            binds=(--bind="$room/wd$n:/srv/watchdog")
+            [ -e "$room/no-storage" ] || binds+=(--bind="$shared:/srv/cluster")
+            python3 "$here/watchdog" "$room/wd$n/watchdog" "$room/host$n.pid" "$room/events" "host$n" &
+            dog=$!
+            in_group "$tag-host$n" nsenter --net="/run/netns/$tag" systemd-nspawn --quiet --register=no --keep-unit --directory="$room/host$n" --machine="$tag-host$n" --hostname="host$n" \
+                --network-bridge=br0 "${binds[@]}" --boot systemd.log_target=journal > "$room/host$n.console" 2>&1 < /dev/null &
+            echo $! > "$room/host$n.pid"
+            wait $!
+            status=$?
+            kill "$dog" 2> /dev/null
+            rm -f "$room/host$n.pid"
+            cat "$room/host$n.console" >> "$room/host$n.consoles"
+            how=reset
+            [ "$status" != 0 ] || how=off
+            printf '%s host%s %s\n' "$(date +%s.%3N)" "$n" "$how" >> "$room/events"
+            [ "$how" = reset ] && [ ! -e "$room/ending" ] || break
+            sleep "${FIRMWARE:-6}"
+            [ ! -e "$room/ending" ] || break
+        done
+    ) &
+    powered+=($!)
+}
+
+# lead N: the first process of host N
+lead() {
+    local pid
+    pid=$(cat "$room/host$1.pid" 2> /dev/null) || return 1
+    pgrep -P "$pid" | head -n 1
+}
+
+# on N COMMAND..: runs a command on host N
+on() {
+    local first
+    first=$(lead "$1") || return 99
+    [ -n "$first" ] || return 99
+    shift
+    nsenter -t "$first" -m -u -i -p -n --root env -i -C / PATH=/usr/sbin:/usr/bin:/sbin:/bin HOME=/root LANG=C.UTF-8 SYSTEMD_COLORS=0 "$@"
+}
+
+# until_true SECONDS COMMAND..: waits for it; says how long it took
+until_true() {
+    local began now limit=$1
+    began=$(date +%s%3N)
+    shift
+    until "$@" > /dev/null 2>&1; do
+        now=$(date +%s%3N)
+        [ $((now - began)) -lt $((limit * 1000)) ] || { echo "not within $limit s: $*"; return 1; }
+        sleep 0.1
+    done
+    echo "after $(($(date +%s%3N) - began)) ms: $*"
+}
+
+# owner: the host that wrote into the journal within the last second
+owner() {
+    local when who now=${EPOCHREALTIME/[.,]/}
+    read -r when who < <(tail -n 1 "$shared/journal") || return 1
+    when=${when/./}
+    [ -n "$who" ] && [ $((now / 1000 - when)) -lt 1000 ] && echo "$who"
+}
+owns() { [ "$(owner)" = "$1" ]; }
+nobody_owns() { ! owner; }
+another_owns() { local who; who=$(owner) && [ "$who" != "$1" ]; }
+
+# overlaps: the moments at which two hosts ran the resource at once
+overlaps() {
+    awk '{ if ($2 != last && last != "" && ($2 in seen) && $1 - seen[$2] < 0.3) print "two owners:", last, $2, "at", $1; seen[$2] = $1; last = $2 }' "$shared/journal"
+}
+
+# owners: who owned after whom, and how long nobody did
+owners() {
+    awk '{ if ($2 != last && last != "") printf "%s after %s: %.1f s without an owner\n", $2, last, $1 - when; last = $2; when = $1 }' "$shared/journal"
+}
+
+# resets N: how often host N was reset
+resets() { grep -c "host$1 reset" "$room/events"; }
+is_off() { [ ! -e "$room/host$1.pid" ] && tail -n 1 <(grep "host$1 " "$room/events") | grep -q ' off$'; }
+
+take_down() {
+    local n pid
+    touch "$room/ending"
+    for n in 1 2 3; do
+        timeout 2 nsenter -t "$(lead "$n")" -m -p --root journalctl --sync 2> /dev/null
+        pid=$(lead "$n") && [ -n "$pid" ] && kill -KILL "$pid" 2> /dev/null
+    done
+    for pid in "${powered[@]-}"; do
+        [ -n "$pid" ] && wait "$pid" 2> /dev/null
+    done
+    powered=()
+    for n in 1 2 3; do
+        umount "$room/host$n" 2> /dev/null
+    done
+    for loop in "${loops[@]-}"; do
+        [ -z "$loop" ] || losetup --detach "$loop"
+    done
+    loops=()
+    drop_groups
+    ip netns delete "$tag" 2> /dev/null
+    rm -f "$room/ending" "$room/no-storage"
+    rm -rf "$room"/host?.work "$room"/wd?
+    return 0
+}
+
+# between scenes the hosts are made anew; at the end nothing stays but the base
+tear_down() {
+    take_down
+    rm -rf "$room"
+}
+powered=()
+loops=()

@@ -1,0 +1,446 @@
+# The scenes. Each is a function that fails where something else came than should. Sourced by `containers`.
+all_scenes='clean_stop exit_message off_message reboot_of_holder poweroff_of_holder kill_node hang_node no_image other_image slow_stop stuck_stop
+by_hand supervisor_dies stop_while_starting edited start_mode resource_dies start_fails maintenance planned_handover turns_used renewed three_images confined
+postgres pgsql upgrade purge setup'
+
+# begun [HOST]: the cluster is up and this host holds
+begun() {
+    local n
+    for n in 1 2 3; do power "$n"; done
+    until_true "${BEGIN:-60}" owns "${1:-1}"
+}
+
+# unit_is N WORD: the state of the unit of host N's node
+unit_is() { [ "$(on "$1" systemctl is-active "quorumd@$1.service")" = "$2" ]; }
+not_reset() { [ "$(resets "$1")" = 0 ] || { echo "host $1 was reset"; return 1; }; }
+said() { on "$1" journalctl -o cat "${@:3}" | grep -e "$2"; }
+
+# A clean stop of the unit lets the node leave: another host takes over, and this one stays up.
+scene_clean_stop() {
+    begun || return 1
+    on 1 systemctl stop quorumd@1.service || { echo "stop: $?"; return 1; }
+    until_true 20 another_owns 1 || return 1
+    sleep 3
+    not_reset 1 || return 1
+    on 1 quorumd list --image /srv/cluster/disk | grep '^node 1 .* clean '
+}
+
+# An exit hands over, and neither resets the host nor brings the node back.
+scene_exit_message() {
+    begun || return 1
+    on 2 quorumd message --image /srv/cluster/disk --id 1 --kind exit || return 1
+    until_true 20 another_owns 1 || return 1
+    sleep 3
+    not_reset 1 && unit_is 1 inactive
+}
+
+# The message off switches the host off, and it stays off.
+scene_off_message() {
+    begun || return 1
+    on 2 quorumd message --image /srv/cluster/disk --id 1 --kind off || return 1
+    until_true 30 is_off 1 || return 1
+    until_true 30 another_owns 1 || return 1
+    sleep 8
+    is_off 1 && not_reset 1
+}
+
+# A reboot of the host that holds: another takes over within seconds, and the host goes down in order and comes back as a standby.
+scene_reboot_of_holder() {
+    begun || return 1
+    on 1 systemctl reboot
+    until_true 20 another_owns 1 || { on 1 systemctl list-jobs; return 1; }
+    until_true 60 unit_is 1 active || return 1
+    said 1 'disarm: ok' -b -1 -u quorumd@1.service || return 1
+    sleep 5
+    until_true 3 another_owns 1
+}
+
+# A power-off of the host that holds is none that ends in a reset.
+scene_poweroff_of_holder() {
+    begun || return 1
+    on 1 systemctl poweroff
+    until_true 20 another_owns 1 || return 1
+    until_true 30 is_off 1 || return 1
+    sleep 8
+    is_off 1 && not_reset 1
+}
+
+# A killed node: its host is reset at once and says why, another takes over after msgwait, and it comes back as a standby.
+scene_kill_node() {
+    FIRMWARE=20 begun || return 1
+    on 1 systemctl kill --kill-whom=main -s KILL quorumd@1.service
+    until_true 5 nobody_owns || return 1
+    until_true 30 another_owns 1 || return 1
+    until_true 60 unit_is 1 active || return 1
+    said 1 'node 1 ended with killed' -b -1 || return 1
+    sleep 5
+    until_true 3 another_owns 1 && [ "$(resets 1)" = 1 ]
+}
+
+# A node that hangs is fed no more: its watchdog resets the host.
+scene_hang_node() {
+    FIRMWARE=20 begun || return 1
+    on 1 systemctl kill --kill-whom=main -s STOP quorumd@1.service
+    until_true 30 another_owns 1 || return 1
+    grep 'host1 watchdog' "$room/events" && until_true 60 unit_is 1 active
+}
+
+# A host that boots without the image stays up, and its unit fails.
+scene_no_image() {
+    echo 'WAIT=5' >> "$room/host3/etc/quorumd/node-3.env"
+    touch "$room/no-storage"
+    power 3
+    until_true 40 unit_is 3 failed || return 1
+    sleep 10
+    not_reset 3 && said 3 'no such image'
+}
+
+# Nor is a host reset whose image is that of another cluster.
+scene_other_image() {
+    printf 'nodelist {\n node {\n nodeid: 3\n }\n}\nquorum {\n provider: corosync_votequorum\n}\n' > "$room/host3/etc/quorumd/corosync.conf"
+    power 3
+    until_true 40 unit_is 3 failed || return 1
+    sleep 10
+    not_reset 3
+}
+
+# slowly N: the database of host N takes 9 seconds to stop, which is longer than the watchdog's time
+slowly() {
+    printf '[Service]\nExecStop=/bin/sleep 9\nTimeoutStopSec=20\n' | on "$1" sh -c 'mkdir -p /run/systemd/system/database.service.d; cat > /run/systemd/system/database.service.d/slow.conf; systemctl daemon-reload'
+}
+
+# A stop that is planned may take longer than the watchdog's time.
+scene_slow_stop() {
+    begun || return 1
+    slowly 1
+    on 1 systemctl stop quorumd@1.service || return 1
+    until_true 20 another_owns 1 || return 1
+    not_reset 1
+}
+
+# A resource that does not stop is ended with its host.
+scene_stuck_stop() {
+    # a process of the host keeps the file system, and the agent may not kill it
+    sed -i '/^\[store\]/a force_unmount = false\nstop-timeout = 20' "$room/host1/etc/quorumd/resources.conf"
+    FIRMWARE=20 begun || return 1
+    on 1 sh -c 'cd /srv/db && exec sleep 1000' &
+    sleep 1
+    on 1 systemctl stop --no-block quorumd@1.service
+    until_true 150 another_owns 1 || return 1
+    [ "$(resets 1)" = 1 ]
+}
+
+# again PID: whether the database of host 1 runs again, as another process
+again() {
+    local pid
+    pid=$(on 1 systemctl show -P MainPID database.service) && [ "$pid" != 0 ] && [ "$pid" != "$1" ] && owns 1
+}
+
+kill_database() { on 1 systemctl kill -s KILL database.service; }
+
+# A resource that dies is started again, and after three times handed over; the node comes back as a standby.
+scene_resource_dies() {
+    local round pid
+    begun || return 1
+    for round in 1 2 3; do
+        pid=$(on 1 systemctl show -P MainPID database.service)
+        kill_database
+        until_true 15 again "$pid" || return 1
+    done
+    kill_database
+    until_true 30 another_owns 1 || return 1
+    said 1 'database: failed 4 times' -u quorumd-resource.service || return 1
+    said 1 'hands over' -u quorumd-handover.service || return 1
+    until_true 60 unit_is 1 active || return 1
+    sleep 5
+    until_true 3 another_owns 1 && not_reset 1
+}
+
+# A start of the resources by hand, beside their owner, is refused; and so is a second node of one host.
+scene_by_hand() {
+    begun || return 1
+    on 2 systemctl start quorumd-resource.service && return 1
+    cp "$room/host2/etc/quorumd/node-2.env" "$room/host2/etc/quorumd/node-3.env"
+    on 2 systemctl start quorumd@3.service && return 1
+    said 2 'is a node of this host' || return 1
+    owns 1 && unit_is 2 active && not_reset 2
+}
+
+# Where the process that looks after the resources dies they are stopped, and handed over.
+scene_supervisor_dies() {
+    begun || return 1
+    on 1 systemctl kill --kill-whom=main -s KILL quorumd-resource.service
+    until_true 30 another_owns 1 || return 1
+    until_true 60 unit_is 1 active || return 1
+    not_reset 1
+}
+
+# A stop while a resource still waits for its start: it is called off, and does not come later.
+scene_stop_while_starting() {
+    local n
+    mkdir -p "$room/host1/etc/systemd/system/database.service.d"
+    printf '[Unit]\nWants=slow.service\nAfter=slow.service\n' > "$room/host1/etc/systemd/system/database.service.d/slow.conf"
+    printf '[Service]\nType=oneshot\nExecStart=/bin/sleep 12\n' > "$room/host1/etc/systemd/system/slow.service"
+    for n in 1 2 3; do power "$n"; done
+    until_true 60 said 1 'database: start' -u quorumd-resource.service || return 1
+    on 1 systemctl stop quorumd@1.service || return 1
+    until_true 20 another_owns 1 || return 1
+    sleep 14
+    ! grep ' 1$' "$shared/journal" && not_reset 1
+}
+
+# What was started is stopped, also where the file does not name it any more.
+scene_edited() {
+    begun || return 1
+    sed -i '/^\[database\]/,$d' "$room/host1/etc/quorumd/resources.conf"
+    on 1 systemctl stop quorumd@1.service || return 1
+    until_true 20 another_owns 1 || return 1
+    [ "$(on 1 systemctl is-active database.service)" = inactive ] && not_reset 1
+}
+
+# Start mode 1 and a mailbox that it refuses: said before anything is armed.
+scene_start_mode() {
+    sed -i 's/^OPTIONS=.*/OPTIONS=--start-mode 1/' "$room/host3/etc/quorumd/node-3.env"
+    FIRMWARE=1 begun || return 1
+    until_true 20 unit_is 3 active || return 1
+    on 3 systemctl stop quorumd@3.service || return 1
+    on 1 quorumd message --image /srv/cluster/disk --id 3 --kind reset || return 1
+    on 3 systemctl start quorumd@3.service && return 1
+    said 3 'start mode 1' && not_reset 3
+}
+
+# A resource that does not start is handed over.
+scene_start_fails() {
+    local n
+    rm "$room/host1/usr/local/bin/database"
+    for n in 1 2 3; do power "$n"; done
+    until_true 60 another_owns 1 || return 1
+    until_true 60 unit_is 1 active || return 1
+    not_reset 1
+}
+
+# In maintenance nothing is started again, and after it is.
+scene_maintenance() {
+    begun || return 1
+    on 1 quorumd-resource maintenance on || return 1
+    kill_database
+    until_true 5 nobody_owns || return 1
+    sleep 8
+    nobody_owns || return 1
+    on 1 systemctl start database.service
+    until_true 5 owns 1 || return 1
+    on 1 systemctl stop database.service
+    on 1 quorumd-resource maintenance off || return 1
+    until_true 10 owns 1 || return 1
+    not_reset 1
+}
+
+# An operator moves the resources.
+scene_planned_handover() {
+    begun || return 1
+    on 1 systemctl start --no-block quorumd-handover.service || return 1
+    until_true 20 another_owns 1 || return 1
+    until_true 60 unit_is 1 active || return 1
+    sleep 5
+    until_true 3 another_owns 1 && not_reset 1
+}
+
+# A node whose turns are used up leaves and is started again.
+scene_turns_used() {
+    local n
+    sed -i '$a LEAVE=300' "$room/host1/etc/quorumd/node-1.env"
+    # a stop of less than three loops: a longer one, with nothing stopped before it, is missed and fenced by the others
+    sed -i '/^\[address\]/,/^\[database\]/{/^\[database\]/!d}' "$room/host1/etc/quorumd/resources.conf"
+    for n in 1 2 3; do power "$n"; done
+    until_true 60 owns 1 || return 1
+    until_true 60 said 1 'left after its turns' || return 1
+    until_true 20 owner || return 1
+    until_true 20 unit_is 1 active || return 1
+    not_reset 1
+}
+
+# A node is started anew in good time before its turns are used up.
+scene_renewed() {
+    local pid
+    mkdir -p "$room/host1/etc/systemd/system/quorumd-renew@1.timer.d"
+    printf '[Timer]\nOnActiveSec=\nOnActiveSec=20s\nRandomizedDelaySec=0\nAccuracySec=1s\n' > "$room/host1/etc/systemd/system/quorumd-renew@1.timer.d/soon.conf"
+    begun || return 1
+    pid=$(on 1 systemctl show -P MainPID quorumd@1.service)
+    until_true 40 said 1 'disarm: ok' -u quorumd@1.service || return 1
+    until_true 20 owner || return 1
+    until_true 20 unit_is 1 active || return 1
+    [ "$(on 1 systemctl show -P MainPID quorumd@1.service)" != "$pid" ] && not_reset 1
+}
+
+# The same on three images, of which one is lost under a holder that then leaves.
+scene_three_images() {
+    local n
+    for n in 1 2 3; do
+        cp "$shared/disk" "$shared/disk.$n"
+        printf 'COMMAND=node3\nIMAGE=/srv/cluster/disk.1,/srv/cluster/disk.2,/srv/cluster/disk.3\n' >> "$room/host$n/etc/quorumd/node-$n.env"
+    done
+    begun || return 1
+    rm "$shared/disk.1"
+    on 1 systemctl stop quorumd@1.service || return 1
+    until_true 20 another_owns 1 || return 1
+    not_reset 1 && unit_is 1 inactive || return 1
+    on 1 systemctl start quorumd@1.service && unit_is 1 active
+}
+
+# What the node may do, and when it runs.
+scene_confined() {
+    local pid
+    begun || return 1
+    pid=$(on 1 systemctl show -P MainPID quorumd@1.service)
+    on 1 grep -E '^(CapEff|CapBnd|NoNewPrivs|Seccomp):' "/proc/$pid/status"
+    on 1 chrt -p "$pid"
+    on 1 ionice -p "$pid"
+    on 1 grep -q '^CapEff:[[:space:]]*0*$' "/proc/$pid/status" && on 1 grep -q '^Seccomp:[[:space:]]*2' "/proc/$pid/status" &&
+        on 1 chrt -p "$pid" | grep -q SCHED_RR && on 1 cat "/proc/$pid/oom_score_adj" &&
+        on 1 journalctl -o cat QUORUMD_NODE=1 | grep -q 'start: ok'
+}
+
+# database_on_store AGENT: PostgreSQL with its data on the shared disk is the resource, and its clients come from outside the hosts
+database_on_store() {
+    local n root etc
+    mkdir -p "$room/mnt"
+    mount "${loops[1]}" "$room/mnt"
+    mv "$room/host1/var/lib/postgresql/15" "$room/mnt/15"
+    chown --reference="$room/host1/var/lib/postgresql" "$room/mnt"
+    umount "$room/mnt"
+    for n in 1 2 3; do
+        root=$room/host$n
+        etc=$root/etc/postgresql/15/main
+        rm -rf "$root/var/lib/postgresql/15"
+        echo manual > "$etc/start.conf"
+        echo "listen_addresses = '*'" >> "$etc/postgresql.conf"
+        echo 'host all all 10.77.0.0/24 trust' >> "$etc/pg_hba.conf"
+        sed -i 's#directory = .*#directory = /var/lib/postgresql#; /^\[database\]/,$d' "$root/etc/quorumd/resources.conf"
+        printf '[postgres]\n%s\nmonitor-interval = 2\n\n[database]\nagent = systemd:database.service\nmonitor-interval = 2\n' "$1" >> "$root/etc/quorumd/resources.conf"
+    done
+}
+
+UNIT='agent = systemd:postgresql@15-main.service'
+PGSQL='agent = ocf:heartbeat:pgsql
+pgctl = /usr/lib/postgresql/15/bin/pg_ctl
+psql = /usr/lib/postgresql/15/bin/psql
+pgdata = /var/lib/postgresql/15/main
+config = /etc/postgresql/15/main/postgresql.conf
+socketdir = /var/run/postgresql
+logfile = /var/log/postgresql/ocf.log'
+
+# sql STATEMENT: a client of the cluster's address, who waits for no more than three seconds
+sql() {
+    timeout -s KILL 3 ip netns exec "$tag" chroot "$base" /usr/lib/postgresql/15/bin/psql -h 10.77.0.100 -U postgres -qAtc "$1" 2> /dev/null
+}
+
+# write_rows: writes the numbers from 1 on, one commit each, and keeps those that were acknowledged, with the time of that
+write_rows() {
+    local number=0
+    : > "$room/acknowledged"
+    while [ ! -e "$room/enough" ]; do
+        number=$((number + 1))
+        ! sql "insert into rows values ($number)" || echo "$number $(date +%s%3N)" >> "$room/acknowledged"
+    done
+}
+
+# load: makes the table, and the writer that goes on until judge_rows
+load() {
+    rm -f "$room/enough"
+    until_true 30 sql 'create table rows (number int primary key)' || return 1
+    write_rows &
+    writer=$!
+    until_true 10 has_rows 5
+}
+
+has_rows() { [ "$(wc -l < "$room/acknowledged")" -ge "$1" ]; }
+grows() { has_rows $(($1 + 5)); }
+
+# writes_again SECONDS: the writer's rows are acknowledged again; says the longest time between two of them
+writes_again() { until_true "$1" grows "$(wc -l < "$room/acknowledged")"; }
+
+# judge_rows: no row is lost that was acknowledged
+judge_rows() {
+    touch "$room/enough"
+    wait "$writer"
+    cut -d ' ' -f 1 "$room/acknowledged" | sort > "$room/wanted"
+    sql 'select number from rows' | sort > "$room/found"
+    awk 'NR > 1 && $2 - last > longest { longest = $2 - last } { last = $2 } END { print NR, "rows acknowledged, the longest time without one", longest, "ms" }' "$room/acknowledged"
+    [ -s "$room/wanted" ] && [ -z "$(comm -23 "$room/wanted" "$room/found")" ] || { echo "rows that were acknowledged and are lost: $(comm -23 "$room/wanted" "$room/found" | wc -l)"; return 1; }
+}
+
+# postgres_scene AGENT: no row is lost over kill -9 of the server and of the node, and a reboot; the address goes with it
+postgres_scene() {
+    local who
+    database_on_store "$1"
+    FIRMWARE=20 begun || return 1
+    load || return 1
+    on 1 quorumd-resource status
+    on 1 sh -c 'kill -KILL $(head -n 1 /var/lib/postgresql/15/main/postmaster.pid)'
+    until_true 30 said 1 'postgres: FAILED' || return 1
+    writes_again 40 || return 1
+    on 1 systemctl kill --kill-whom=main -s KILL quorumd@1.service
+    until_true 40 another_owns 1 || return 1
+    who=$(owner)
+    writes_again 40 || return 1
+    on "$who" ip -4 -o addr show dev host0 | grep 10.77.0.100 || return 1
+    until_true 60 unit_is 1 active || return 1
+    on "$who" systemctl reboot
+    until_true 40 another_owns "$who" || return 1
+    writes_again 40 || return 1
+    judge_rows
+}
+
+scene_postgres() { postgres_scene "$UNIT"; }
+scene_pgsql() { postgres_scene "$PGSQL"; }
+
+# A new version of the package under nodes that run and a database that is written: nothing is restarted by it; then the standbys, and the
+# holder last.
+scene_upgrade() {
+    local n
+    database_on_store "$UNIT"
+    begun || return 1
+    load || return 1
+    for n in 2 3 1; do
+        cp "${QUORUMD_TEST_NEWER:-$package}" "$room/host$n/var/tmp/newer.deb"
+        on "$n" dpkg -i --force-confold /var/tmp/newer.deb || return 1
+        unit_is "$n" active || return 1
+    done
+    owns 1 || return 1
+    for n in 2 3 1; do
+        on "$n" systemctl restart "quorumd@$n.service" || return 1
+        writes_again 40 || return 1
+    done
+    judge_rows && not_reset 1 && not_reset 2 && not_reset 3
+}
+
+# The package is not removed under a node, and a purge leaves nothing.
+scene_purge() {
+    begun || return 1
+    if on 3 dpkg --purge quorumd; then echo 'purged under a node'; return 1; fi
+    on 3 systemctl stop quorumd@3.service
+    on 3 dpkg --purge quorumd || return 1
+    on 3 find /etc /usr /var/lib -name '*quorumd*' -not -path '/var/lib/dpkg/*' | grep . && return 1
+    owns 1 && not_reset 3
+}
+
+# One command makes a host a member.
+scene_setup() {
+    local n
+    sed 's/nodeid: \(.\)/nodeid: \1\n ring0_addr: 10.77.0.\1/' "$room/corosync.conf" > "$shared/corosync.conf"
+    rm "$shared/disk"
+    for n in 1 2 3; do
+        rm -f "$room/host$n/etc/quorumd/node-$n.env" "$room/host$n/etc/quorumd/corosync.conf"
+        power "$n"
+    done
+    until_true 30 on 3 true
+    sleep 4
+    for n in 1 2 3; do
+        on "$n" quorumd-setup /srv/cluster/corosync.conf --image /srv/cluster/disk --watchdog /srv/watchdog/watchdog $([ $n != 1 ] || echo --create) || return 1
+        on "$n" sh -c "echo WATCHDOG_IS_NO_DEVICE=yes >> /etc/quorumd/node-$n.env"
+    done
+    for n in 1 2 3; do
+        on "$n" systemctl start --no-block "quorumd@$n.service" || return 1
+    done
+    until_true 30 owner && on 1 cat /etc/systemd/system/quorumd@1.service.d/setup.conf
+}

@@ -1,0 +1,155 @@
+# What the unit of a node calls before its start and after its end, without systemd: which nodes node-check refuses, by images, made files of
+# sysfs and a systemctl that is played; and what node-ended makes of each end. That systemd does so is seen in tests/hosts.
+. "$TOP/tests/expect.sh"
+
+mkdir calls sysfs run state
+ln -s "$QUORUMD" calls/quorumd
+ln -s "$QUORUMCTL" calls/quorumctl
+cat > calls/systemctl << 'END'
+#!/bin/sh
+case $* in
+'list-units --plain --no-legend --state=active,activating,deactivating '*) printf '%s' "${UNITS-}" ;;
+'show -P RuntimeWatchdogUSec') echo "${RUNTIME-0}" ;;
+list-jobs*) printf '%s' "${JOBS-}" ;;
+*) echo "$@" ;;
+esac
+END
+chmod 755 calls/systemctl
+export PATH=$PWD/calls:$PATH STATE=$PWD/state RUN=$PWD/run SYSFS=$PWD/sysfs SETTINGS=$PWD/three.conf
+printf 'nodelist {\n node {\n nodeid: 1\n }\n node {\n nodeid: 2\n }\n node {\n nodeid: 3\n }\n}\n' > three.conf
+printf 'nodelist {\n node {\n nodeid: 2\n }\n}\n' > other.conf
+for image in d e f; do
+    "$QUORUMD" create --image $image < three.conf > said
+done
+"$QUORUMD" create --image other < other.conf > said
+: > empty
+
+# checked STATUS 'LAST LINE' [NAME=VALUE..]: what node-check of node 2 answers with these variables
+checked() {
+    local status=$1 line=$2 got=0
+    shift 2
+    echo old > run/node-2
+    env IMAGE=d WATCHDOG=/dev/null RESOURCE=unix:/run/quorumd/agent.sock WAIT=0 WATCHDOG_IS_NO_DEVICE=yes "$@" \
+        "$TOP/packaging/node-check" 2 > got 2> errors < /dev/null || got=$?
+    same "$*: $got $(tail -n 1 errors)" "$*: $status $line"
+    same "$*: $(cat run/node-2)" "$*: $([ "$status" = 0 ] || echo old)"
+}
+no='node 2 is not started:'
+checked 0 ''
+checked 1 "$no no such image: none" IMAGE=none
+checked 1 "$no 0 image(s) of this cluster, and 1 are needed" IMAGE=other
+same "$(head -n 1 errors)" 'other: warning: the image is for 1 nodes, and the settings have 3'
+checked 1 "$no 0 image(s) of this cluster, and 1 are needed" IMAGE=empty
+checked 1 "$no no such image: d,e,f" IMAGE=d,e,f
+checked 0 '' COMMAND=node3 IMAGE=d,e,f
+checked 0 '' COMMAND=node3 IMAGE=d,none,f
+checked 0 'empty: warning: sector 0 is no header: the file is no image' COMMAND=node3 IMAGE=d,empty,f
+checked 1 "$no no such image: none none2" COMMAND=node3 IMAGE=d,none,none2
+checked 1 "$no 1 image(s) of this cluster, and 2 are needed" COMMAND=node3 IMAGE=d,empty,other
+[ ! -e none ] && [ ! -e none2 ] && [ ! -e d,e,f ]
+checked 1 "$no COMMAND is node or node3, and not replay" COMMAND=replay
+checked 1 "$no node-2.env names no IMAGE" IMAGE=
+checked 1 "$no node-2.env names no WATCHDOG" WATCHDOG=
+checked 1 "$no node-2.env names no RESOURCE" RESOURCE=
+checked 1 "$no $PWD/absent is empty or not there" SETTINGS="$PWD/absent"
+checked 1 "$no quorumd@1.service is a node of this host" UNITS='quorumd@1.service loaded active running A
+quorumd@2.service loaded activating start B
+'
+checked 0 '' UNITS='quorumd@2.service loaded activating start B
+'
+# start mode 1
+"$QUORUMD" message --image d --id 2 --kind exit > said
+checked 0 '' OPTIONS='--start-mode 1'
+"$QUORUMD" message --image d --id 2 --kind reset > said
+checked 1 "$no start mode 1, and its mailbox is neither empty nor an exit: quorumd message --image d --id 2 --kind clear" OPTIONS='--start-mode 1'
+checked 0 '' OPTIONS='--start-mode 0'
+# boots that were halted
+for cause in 2 3 6 7; do
+    echo "fault BootHalted $cause" > state/halted-2
+    checked 1 "$no its last boot ended with 'fault BootHalted $cause'. Look at the image, and remove $PWD/state/halted-2"
+done
+for cause in 1 4 5; do
+    printf "fault BootHalted $cause\n%.0s" 1 2 3 4 > state/halted-2
+    checked 0 ''
+    echo "fault BootHalted $cause" >> state/halted-2
+    checked 1 "$no its last boot ended with 'fault BootHalted $cause'. Look at the image, and remove $PWD/state/halted-2"
+done
+rm state/halted-2
+
+# device TIMEOUT NOWAYOUT OPTIONS: the files of a watchdog device, which is /dev/null
+device() {
+    mkdir -p sysfs/class/watchdog/null
+    echo Made > sysfs/class/watchdog/null/identity
+    echo "$1" > sysfs/class/watchdog/null/timeout
+    echo "$2" > sysfs/class/watchdog/null/nowayout
+    rm -f sysfs/class/watchdog/null/options
+    [ -z "$3" ] || echo "$3" > sysfs/class/watchdog/null/options
+}
+real=WATCHDOG_IS_NO_DEVICE=no
+checked 1 "$no $PWD/d is no watchdog device" $real WATCHDOG="$PWD/d"
+checked 1 "$no $PWD/sysfs/class/watchdog/null/timeout cannot be read" $real
+late='set the time as an option of its module'
+device 6 0 0x8180
+checked 1 "$no /dev/null (Made) resets the host after 6000 ms, and the image says 5000: $late" $real
+device 0 0 0x8180
+checked 1 "$no /dev/null (Made) resets the host after 0 ms, and the image says 5000: $late" $real
+device 5 0 0x8180
+checked 0 '' $real
+checked 1 "$no RuntimeWatchdogSec= of systemd feeds the watchdog too" $real RUNTIME=30000000
+device 5 0 ''
+checked 0 '' $real
+device 5 0 0x8080
+checked 1 "$no /dev/null has no magic close (options 0x8080): it stops where the program is killed" $real
+device 5 1 0x8080
+checked 0 'node 2: /dev/null has nowayout=1: also after a node that left, it resets the host' $real
+
+# ended CODE/STATUS 'WHAT IS CALLED' 'LINE': what becomes of the host at this end of node 2
+ended() {
+    printf '%s' "$3" > run/node-2
+    same "$1 $3: $(EXIT_CODE=${1%%/*} EXIT_STATUS=${1#*/} "$TOP/packaging/node-ended" 2 2> errors)" "$1 $3: $2"
+}
+reset='reboot --force --force'
+export IMAGE=d
+"$QUORUMD" message --image d --id 2 --kind clear > said
+"$QUORUMD" message --image d --id 2 --kind exit > said
+ended exited/0 '' $'left clean\n'
+ended exited/0 '' $'left dirty\n'
+IMAGE=none ended exited/0 '' $'left clean\n'
+# nobody sent an exit: its turns were used up
+"$QUORUMD" message --image d --id 2 --kind clear > said
+ended exited/0 'start --no-block quorumd@2.service' $'left clean\n'
+COMMAND=node3 IMAGE=none,d,e ended exited/0 'start --no-block quorumd@2.service' $'left clean\n'
+ended exited/0 "$reset" $'turns 9 up holds=no quorate=no 0/1 why=no-view\n'
+ended exited/0 "$reset" ''
+for status in 2 3 6 8 11 16 203; do
+    ended exited/$status '' $'fault\n'
+done
+ended exited/7 "$reset" ''
+ended exited/12 "$reset" $'fault ClockBack 2 1\n'
+ended exited/13 "$reset" $'fault SelfReset reset\n'
+same "$(cat errors)" "node 2 ended with exited 13 'fault SelfReset reset': reboot at once"
+ended exited/13 'poweroff --force --force' $'fault SelfReset off\n'
+ended killed/KILL "$reset" ''
+ended dumped/SEGV "$reset" $'left clean\n'
+ended / '' ''
+# the host is being switched off anyway, or booted anew
+JOBS='12 poweroff.target start waiting' ended killed/KILL 'poweroff --force --force' ''
+JOBS='12 halt.target start waiting' ended killed/KILL 'poweroff --force --force' ''
+JOBS='12 reboot.target start waiting' ended killed/KILL "$reset" ''
+# what a boot was halted by is kept until a node ended otherwise
+ended exited/14 "$reset" $'fault BootHalted 1\n'
+ended exited/14 "$reset" $'fault BootHalted 4\n'
+same "$(xargs < state/halted-2)" 'fault BootHalted 1 fault BootHalted 4'
+ended exited/8 '' $'fault EnvFault\n'
+[ -e state/halted-2 ]
+ended killed/KILL "$reset" ''
+[ ! -e state/halted-2 ]
+
+# words that are none
+for helper in check opened leave ended; do
+    for words in '' '1 2'; do
+        # shellcheck disable=SC2086
+        status=0; "$TOP/packaging/node-$helper" $words 2> errors || status=$?
+        same "$status $(cat errors)" "2 usage: node-$helper N"
+    done
+done

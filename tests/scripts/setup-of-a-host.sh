@@ -1,0 +1,86 @@
+# quorumd-setup, without root: what it writes, and what it refuses, in a folder that plays /etc. Nothing is written over, and where something is
+# refused nothing is written.
+. "$TOP/tests/expect.sh"
+
+mkdir calls etc etc/quorumd
+ln -s "$QUORUMD" calls/quorumd
+ln -s "$QUORUMCTL" calls/quorumctl
+printf '#!/bin/sh\nexit 0\n' > calls/systemctl
+printf '#!/bin/sh\necho beta\n' > calls/hostname
+printf '#!/bin/sh\necho "2: eth0 inet 192.0.2.1/24 brd 192.0.2.255"\n' > calls/ip
+chmod 755 calls/systemctl calls/hostname calls/ip
+export PATH=$PWD/calls:$PATH QUORUMD_ETC=$PWD/etc QUORUMD_HELPERS=$TOP/packaging
+cp "$TOP/packaging/node.env" etc/quorumd/
+node() {
+    printf ' node {\n  nodeid: %s\n  name: %s\n  ring0_addr: %s\n }\n' "$@"
+}
+{ echo 'nodelist {'; node 1 alpha 192.0.2.7; node 2 beta 192.0.2.8; node 3 gamma 192.0.2.9; echo '}'; } > three.conf
+{ echo 'nodelist {'; node 1 alpha 192.0.2.1; node 2 beta 192.0.2.8; echo '}'; } > both.conf
+{ echo 'nodelist {'; node 1 alpha 192.0.2.7; echo '}'; } > none.conf
+
+# setup STATUS 'LAST LINE' WORD..: what it answers; the last line is of both outputs
+setup() {
+    local status=$1 line=$2 got=0
+    shift 2
+    "$TOP/packaging/quorumd-setup" "$@" > said 2>&1 < /dev/null || got=$?
+    line=${line//HERE/$PWD}
+    same "$*: $got $(tail -n 1 said)" "$*: $status $line"
+}
+written() {
+    (cd etc && find . -type f | sort | xargs)
+}
+usage='usage: quorumd-setup CONF --image PATH[,PATH,PATH] [--id N] [--watchdog DEVICE] [--port Q] [--create]'
+disk=$PWD/disk
+
+# words
+setup 2 "$usage"
+same "$(head -n 1 said)" 'quorumd-setup: no corosync.conf'
+for words in three.conf '--image /d' 'three.conf --image' 'three.conf --image d' 'three.conf --image /d,/e' 'three.conf --image /d,/e,/f,/g' 'three.conf --image /d,,/f' \
+    'three.conf --image /d --id 0' 'three.conf --image /d --id x' 'three.conf --image /d --id 99999999999' 'three.conf --image /d --port 80' \
+    'three.conf --image /d --watchdog dog' 'three.conf --image /d;e' 'three.conf --image /d other' 'three.conf --image /d --id'; do
+    # shellcheck disable=SC2086
+    setup 2 "$usage" $words
+done
+setup 2 "$usage" three.conf --image "/a b"
+# the settings text, and the id of this host in it
+setup 1 'quorumd-setup: absent.conf cannot be read' absent.conf --image "$disk"
+echo 'nodelist {' > wrong.conf
+setup 1 "$("$QUORUMCTL" settings < wrong.conf | sed '1s/^/quorumd-setup: wrong.conf: /' | tail -n 1)" wrong.conf --image "$disk"
+setup 1 'quorumd-setup: none.conf has not one node with a name or an address of this host: say --id N' none.conf --image "$disk"
+setup 1 'quorumd-setup: both.conf has not one node with a name or an address of this host: say --id N' both.conf --image "$disk"
+setup 1 'quorumd-setup: three.conf has no node 4' three.conf --image "$disk" --id 4
+# the image
+setup 1 'quorumd-setup: HERE/disk is not there: --create on one host makes it' three.conf --image "$disk"
+[ ! -e disk ]
+printf 'important' > disk
+setup 1 'quorumd-setup: HERE/disk is no image of three.conf: another path, or all nodes off and the file away' three.conf --image "$disk" --create
+same "$(cat disk)" important
+rm disk
+same "$(written)" './quorumd/node.env'
+
+# a host of its own name, a second time, and the host of another node
+setup 0 'node 2 of three.conf is set up: systemctl enable --now quorumd@2.service' three.conf --image "$disk" --create
+same "$(written)" './quorumd/corosync.conf ./quorumd/node-2.env ./quorumd/node.env ./systemd/system/quorumd@2.service.d/setup.conf'
+cmp three.conf etc/quorumd/corosync.conf
+same "$(grep -v -e '^#' -e '^$' etc/quorumd/node-2.env | xargs)" \
+    "EDGE= COMMAND=node IMAGE=$disk WATCHDOG=/dev/watchdog RESOURCE=unix:/run/quorumd/agent.sock PORT=7400 LEAVE=970000000 OPTIONS="
+same "$(grep -v '^#' 'etc/systemd/system/quorumd@2.service.d/setup.conf' | xargs)" "[Unit] RequiresMountsFor=$PWD"
+same "$("$QUORUMCTL" list --image disk | wc -l)" 3
+"$QUORUMD" message --image disk --id 2 --kind test > sent
+setup 0 'node 2 of three.conf is set up: systemctl enable --now quorumd@2.service' three.conf --image "$disk" --create
+"$QUORUMCTL" list --image disk | grep -q '^node 2 .* mail test'
+setup 1 'quorumd-setup: HERE/etc/quorumd/node-2.env is there and says something else: look at it, and remove it' three.conf --image "$disk" --port 7500
+setup 0 'node 1 of three.conf is set up: systemctl enable --now quorumd@1.service' three.conf --image "$disk" --id 1
+# another text: its image does not fit, and the old text stays
+"$QUORUMD" create --image two < both.conf > sent
+setup 1 'quorumd-setup: HERE/etc/quorumd/corosync.conf is there and says something else: look at it, and remove it' both.conf --image "$PWD/two" --id 2
+cmp three.conf etc/quorumd/corosync.conf
+setup 1 'quorumd-setup: HERE/two is no image of three.conf: another path, or all nodes off and the file away' three.conf --image "$PWD/two" --id 3
+[ ! -e etc/quorumd/node-3.env ]
+
+# three images, of which two are there, and a device
+rm -r etc/quorumd/node-2.env etc/systemd
+"$QUORUMD" create --image e < three.conf > sent
+setup 0 'node 2 of three.conf is set up: systemctl enable --now quorumd@2.service' three.conf --image "$disk,$PWD/e,$PWD/f" --create --watchdog /dev/watchdog1 --port 7600
+same "$(grep -e ^COMMAND -e ^IMAGE -e ^WATCHDOG -e ^PORT etc/quorumd/node-2.env | xargs)" "COMMAND=node3 IMAGE=$disk,$PWD/e,$PWD/f WATCHDOG=/dev/watchdog1 PORT=7600"
+[ -e f ]
