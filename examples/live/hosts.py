@@ -13,7 +13,7 @@ import time
 HERE = pathlib.Path(__file__).resolve().parent
 TOP = HERE.parents[1]
 IDS = (1, 2, 3)
-TIMES = "2500,3900,400,800,500"  # short ones; a take-over takes some five seconds, and a resource goes on for more than three loops
+TIMES = "2500,3900,400,800,500"  # short ones; a take-over takes some six seconds, and a resource goes on for more than three loops
 WATCHDOG = "2.5"  # seconds, as the times say
 REBOOTS = {1: ["2"], 2: ["5"], 3: ["9"]}  # seconds: a host may be back before another node took over, or later
 FRESH = 0.5  # seconds: whoever signed within them holds the resource
