@@ -1,5 +1,5 @@
 -- What a run hands its node begins once, and its ticks are what the clock told.
-use Rattle.std.proofs.Common.{◌≡◌, ◌≤◌, ℕ, suc, zero, Bool, true, false, ◌||◌, ◌+◌, ◌-◌, List, [], ◌∷◌, ◌++◌, map, Option, None, Some, IfSome, if◌then◌else◌, refl, sym, ap, subst, ◌∙◌, append_assoc, arith}
+use Rattle.std.proofs.Common.{◌≡◌, ◌≤◌, ◌<◌, ℕ, suc, zero, Bool, true, false, ◌||◌, ◌+◌, ◌-◌, List, [], ◌∷◌, ◌++◌, map, Option, None, Some, IfSome, if◌then◌else◌, refl, sym, ap, subst, ◌∙◌, append_assoc, arith}
 use Rattle.std.specs.Prelude.{nat_lt}
 use Rattle.std.specs.List.{list_any}
 use Rattle.std.specs.Option.{option_map_or}
@@ -43,7 +43,7 @@ use Rattle.qn_live.specs.Handed.{BeginsOnce, HandsHistory, RisesFrom, begins_boo
 use Rattle.qn_live.specs.Performing.{disk_answer, disk_call, done, end_after, end_in, noted, out_call, outs_plan, own_number, waits_after}
 use Rattle.qn_live.specs.Running.{RunState, Turned, Over, Next, Ran, first_state, later}
 use Rattle.qn_live.specs.Runs.{clocked, greeted, handled, live_plan, run_plan, settled, taken, timed, turn_plan, turns_end}
-use Rattle.qn_live.proofs.Histories.{one_more}
+use Rattle.qn_live.proofs.Histories.{log_from-more}
 
 -- ## What the clock told in the calls of a plan
 
@@ -257,10 +257,10 @@ module _ (s : Settings) (me : ℕ) (clean : Bool) where
 
   handed_more : (looks : List ℕ) (log : List Line) (entry : Entry) → Handed looks log → begins_boot entry ≡ false → now log ≤ entry.tick
       → Handed (looks ++ entry.tick ∷ []) (with_entry s me log entry)
-  handed_more looks log entry is none later = record {
+  handed_more looks log entry is none on = record {
     history = is.history ++ entry ∷ [];
-    is_log = (one_more s me log entry (is.history, is.is_log)).1;
-    begins = begins_more clean is.history entry is.begins none (subst (λ n. n ≤ entry.tick) (sym is.last) later);
+    is_log = ap (λ l. with_entry s me l entry) is.is_log ∙ sym (log_from-more s me [] is.history entry);
+    begins = begins_more clean is.history entry is.begins none (subst (λ n. n ≤ entry.tick) (sym is.last) on);
     last = last_more 0 is.history entry ∙ sym (now_newest log entry);
     ticks = map-append (λ e. e.tick) is.history (entry ∷ []) ∙ ap (λ l. l ++ entry.tick ∷ []) is.ticks;
   }
