@@ -1,8 +1,7 @@
 -- What the check of a clean start on three images tells is the answer that its parts give.
-use Rattle.std.proofs.Common.{◌≡◌, ◌==◌, ℕ, Bool, true, false, List, [], ◌∷◌, ◌++◌, map, Option, None, Some, if◌then◌else◌, refl, sym, ap, subst, ◌∙◌, arith}
+use Rattle.std.proofs.Common.{◌≡◌, ◌==◌, ◌+◌, ℕ, Bool, true, false, List, [], ◌∷◌, ◌++◌, map, Option, None, Some, refl, sym, ap, ◌∙◌, arith}
 use Rattle.std.specs.Prelude.{nat_lt}
 use Rattle.std.specs.List.{list_any}
-use Rattle.std.specs.Option.{option_map_or}
 use Rattle.std.proofs.lemmas.Bool.Decides.{nat_tests}
 use Rattle.std.proofs.lemmas.List.{map-append}
 use Rattle.qn_base.specs.declared.calls.Call.{Call}
@@ -25,7 +24,7 @@ use Rattle.qn_safety.specs.declared.part.Part.TheVariants.{Pending, Landed, Fail
 use Rattle.qn_safety.specs.TripleWorld.{answer_among, answer_of, counted, counting, has_failed, message_among, messages_among}
 use Rattle.qn_parts.specs.Parts.{is_good_on, part_on}
 use Rattle.qn_live.specs.Performing.{disk_answer, disk_call, done}
-use Rattle.qn_live3.specs.Disk.{Told, call_plan, differ, if_failed, part_of, part_of_entry, part_plan, parts_plan, read_entry, read_of, read_plan, reading, sector_of, some_differ}
+use Rattle.qn_live3.specs.Disk.{Told, call_plan, differ, if_failed, part_of, part_plan, parts_plan, read_entry, read_of, read_plan, reading, sector_of}
 use Rattle.qn_live3.specs.Laws.{parts_told}
 use Rattle.qn_live3.specs.Runs.{all_good}
 use Rattle.qn_live3.proofs.Answers.{ReadsMailBack, zeros_mail}

@@ -166,8 +166,8 @@ on_one s me good (Asks question left) calls value wiped follows =
       one = told.0 ∷ more.one;
       follows = (each.0, more.follows);
       outputs = subst Q (sym (ap (filter is_output) parts.joined ∙ filter-append is_output parts.first parts.rest))
-      (joined s me good told more.one parts.first parts.rest alike
-      (subst (λ (q : Call). Follows (call_plan s me good q) parts.first told) (sym each.0) parts.follows) more.outputs);
+          (joined s me good told more.one parts.first parts.rest alike
+          (subst (λ (q : Call). Follows (call_plan s me good q) parts.first told) (sym each.0) parts.follows) more.outputs);
       looks = ap looks_in parts.joined ∙ looks_joined parts.first parts.rest ∙ rw (alike.looks, more.looks) refl;
     }
   where

@@ -1,5 +1,5 @@
 -- What a write on three images tells is the answer that its parts give.
-use Rattle.std.proofs.Common.{◌≡◌, ℕ, Bool, true, false, not, ◌||◌, List, [], ◌∷◌, ◌++◌, map, if◌then◌else◌, refl, sym, ap, subst, ◌∙◌}
+use Rattle.std.proofs.Common.{◌≡◌, ℕ, Bool, true, false, not, List, [], ◌∷◌, ◌++◌, if◌then◌else◌, refl, sym, ap, ◌∙◌}
 use Rattle.qn_base.specs.declared.calls.Call.{Call}
 use Rattle.qn_base.specs.declared.calls.Call.TheVariants as call
 use Rattle.qn_base.specs.Calls.{is_failed}
@@ -9,7 +9,7 @@ use Rattle.qn_model.specs.declared.configuration.Settings.{Settings}
 use Rattle.qn_model.specs.declared.entries.What.{What}
 use Rattle.qn_model.specs.declared.outputs.DiskOp.{DiskOp}
 use Rattle.qn_model.specs.declared.outputs.DiskOp.TheVariants as disk
-use Rattle.qn_model.specs.World.{failed, is_write}
+use Rattle.qn_model.specs.World.{is_write}
 use Rattle.qn_safety.specs.declared.part.Part.TheVariants.{Failed}
 use Rattle.qn_safety.specs.TripleWorld.{answer_among, answer_of, counted, together}
 use Rattle.qn_parts.specs.Parts.{is_good_on, part_on}

@@ -23,9 +23,7 @@ ghost use Rattle.qn_live3.specs.Laws.{IsTold, parts_told, taken_from};
 ghost use Rattle.qn_live3.specs.Outputs.{PerformsOnThree};
 ghost use Rattle.qn_live3.specs.Runs.{all_good, triple_plan};
 
-use qn_live::{
-    law_end_causes, law_handed_history, law_one_history, law_outputs, law_sound_end,
-};
+use qn_live::{law_end_causes, law_handed_history, law_one_history, law_outputs, law_sound_end};
 use qn_sector::law_read_back;
 
 /// Law: what a node is handed in a run on three images is one history.
