@@ -1,7 +1,6 @@
 -- What a run hands its node begins once, and its ticks are what the clock told.
-use Rattle.std.proofs.Common.{◌≡◌, ◌≤◌, ℕ, suc, zero, Bool, true, false, ◌||◌, ◌+◌, ◌-◌, List, [], ◌∷◌, ◌++◌, map, Option, None, Some, IfSome, if◌then◌else◌, refl, sym, ap, subst, ◌∙◌, append_assoc, arith}
+use Rattle.std.proofs.Common.{◌≡◌, ◌≤◌, ◌<◌, ℕ, suc, zero, Bool, true, false, ◌+◌, ◌-◌, List, [], ◌∷◌, ◌++◌, Option, None, Some, IfSome, if◌then◌else◌, refl, sym, ap, subst, ◌∙◌, append_assoc, arith}
 use Rattle.std.specs.Prelude.{nat_lt}
-use Rattle.std.specs.List.{list_any}
 use Rattle.std.specs.Option.{option_map_or}
 use Rattle.std.proofs.lemmas.Bool.Decides.{nat_tests}
 use Rattle.std.proofs.lemmas.List.{append-nil, map-append}
@@ -17,7 +16,6 @@ use Rattle.qn_member.specs.Maker.{Maker, view_at}
 use Rattle.qn_model.specs.declared.configuration.Settings.{Settings}
 use Rattle.qn_model.specs.declared.entries.Entry.{Entry}
 use Rattle.qn_model.specs.declared.entries.What.{What}
-use Rattle.qn_model.specs.declared.entries.What.TheVariants as what
 use Rattle.qn_model.specs.declared.outputs.DiskOp.{DiskOp}
 use Rattle.qn_model.specs.declared.outputs.DiskOp.TheVariants as disk
 use Rattle.qn_model.specs.declared.outputs.HaltKind.TheVariants as halt
@@ -40,10 +38,10 @@ use Rattle.qn_live.specs.declared.place.Waits.{Waits}
 use Rattle.qn_live.specs.Choosing.{choice_of, choice_plan, heard, is_entry_for, is_to_leave, looked, packet_in, ready, receive_plan, view_or_tick}
 use Rattle.qn_live.specs.Greetings.{sends_plan}
 use Rattle.qn_live.specs.Handed.{BeginsOnce, HandsHistory, RisesFrom, begins_boot, look_in, looks_in, ticks_of, went_back}
-use Rattle.qn_live.specs.Performing.{disk_answer, disk_call, done, end_after, end_in, noted, out_call, outs_plan, own_number, waits_after}
+use Rattle.qn_live.specs.Performing.{disk_answer, disk_call, done, end_in, noted, out_call, outs_plan, own_number, waits_after}
 use Rattle.qn_live.specs.Running.{RunState, Turned, Over, Next, Ran, first_state, later}
 use Rattle.qn_live.specs.Runs.{clocked, greeted, handled, live_plan, run_plan, settled, taken, timed, turn_plan, turns_end}
-use Rattle.qn_live.proofs.Histories.{one_more}
+use Rattle.qn_live.proofs.Histories.{log_from-more}
 
 -- ## What the clock told in the calls of a plan
 
@@ -257,10 +255,10 @@ module _ (s : Settings) (me : ℕ) (clean : Bool) where
 
   handed_more : (looks : List ℕ) (log : List Line) (entry : Entry) → Handed looks log → begins_boot entry ≡ false → now log ≤ entry.tick
       → Handed (looks ++ entry.tick ∷ []) (with_entry s me log entry)
-  handed_more looks log entry is none later = record {
+  handed_more looks log entry is none on = record {
     history = is.history ++ entry ∷ [];
-    is_log = (one_more s me log entry (is.history, is.is_log)).1;
-    begins = begins_more clean is.history entry is.begins none (subst (λ n. n ≤ entry.tick) (sym is.last) later);
+    is_log = ap (λ l. with_entry s me l entry) is.is_log ∙ sym (log_from-more s me [] is.history entry);
+    begins = begins_more clean is.history entry is.begins none (subst (λ n. n ≤ entry.tick) (sym is.last) on);
     last = last_more 0 is.history entry ∙ sym (now_newest log entry);
     ticks = map-append (λ e. e.tick) is.history (entry ∷ []) ∙ ap (λ l. l ++ entry.tick ∷ []) is.ticks;
   }

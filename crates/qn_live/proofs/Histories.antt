@@ -31,12 +31,12 @@ use Rattle.qn_live.specs.Runs.{clocked, greeted, handled, live_plan, run_plan, s
 use Rattle.qn_live.proofs.Always.{Always, always_follows, always_then}
 
 -- a history with one more entry
-log_from-more : (s : Settings) (me : ℕ) (past : List Line) (history : List Entry) (entry : Entry) → log_from s me past (history ++ entry ∷ []) ≡ with_entry s me (log_from s me past history) entry
+pub log_from-more : (s : Settings) (me : ℕ) (past : List Line) (history : List Entry) (entry : Entry) → log_from s me past (history ++ entry ∷ []) ≡ with_entry s me (log_from s me past history) entry
 unfolding log_from
 log_from-more s me past [] entry = refl
 log_from-more s me past (first ∷ history) entry = log_from-more s me (with_entry s me past first) history entry
 
-pub one_more : (s : Settings) (me : ℕ) (log : List Line) (entry : Entry) → IsHistory s me log → IsHistory s me (with_entry s me log entry)
+one_more : (s : Settings) (me : ℕ) (log : List Line) (entry : Entry) → IsHistory s me log → IsHistory s me (with_entry s me log entry)
 one_more s me log entry is =
     (is.0 ++ entry ∷ [], ap (λ l. with_entry s me l entry) is.1 ∙ sym (log_from-more s me [] is.0 entry))
 

@@ -48,7 +48,7 @@ zeros_slot : slot_of (zeros 512) ≡ None
 unfolding slot_of
 zeros_slot = refl
 
-zeros_mail : mail_of (zeros 512) ≡ None
+pub zeros_mail : mail_of (zeros 512) ≡ None
 unfolding mail_of mail_bytes
 zeros_mail = refl
 
@@ -87,7 +87,7 @@ not_true true is = cc
 not_true false is = refl
 
 -- the law of what is read back, of mailboxes
-abbrev ReadsMailBack : Type 0
+abbrev pub ReadsMailBack : Type 0
 ReadsMailBack = (written : Mail) → IfSome written.by IsSender → mail_of (mail_bytes written) ≡ Some written
 
 -- each of a list is so

@@ -1,6 +1,9 @@
 pub mod Answers
 pub mod Calls
+pub mod Checks
 pub mod Halted
+pub mod Outputs
 pub mod Single
 pub mod Stretches
 pub mod Wiped
+pub mod Writes

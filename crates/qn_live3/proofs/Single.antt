@@ -35,7 +35,7 @@ use Rattle.qn_live3.proofs.Wiped.{AsksWiped}
 -- ## Lists of calls
 
 -- the last tick that calls told
-abbrev ticks : ℕ → List Call → ℕ
+abbrev pub ticks : ℕ → List Call → ℕ
 ticks last [] = last
 ticks last (call ∷ calls) = ticks (tick_after call last) calls
 
@@ -66,7 +66,7 @@ or_none false = refl
 -- ## What the calls of a plan lead to
 
 -- after calls with this last tick, of which some failed, the plan ends with a value of which P holds
-abbrev Leads : {A : Type 0} → (ℕ → Bool → A → Type 0) → ℕ → Bool → Plan A → Type 0
+abbrev pub Leads : {A : Type 0} → (ℕ → Bool → A → Type 0) → ℕ → Bool → Plan A → Type 0
 Leads P last some (Ends value) = P last some value
 Leads P last some (Asks question left) =
     (call : Call) → blank call ≡ question → Leads P (tick_after call last) (some || is_failed call) (left call)
@@ -77,7 +77,7 @@ leads_then P Q last some (Ends value) next leads goes_on = goes_on last some val
 leads_then P Q last some (Asks question left) next leads goes_on =
     λ call asked. leads_then P Q (tick_after call last) (some || is_failed call) (left call) next (leads call asked) goes_on
 
-leads_end : {A : Type 0} (P : ℕ → Bool → A → Type 0) (last : ℕ) (some : Bool) (plan : Plan A) (calls : List Call) (value : A)
+pub leads_end : {A : Type 0} (P : ℕ → Bool → A → Type 0) (last : ℕ) (some : Bool) (plan : Plan A) (calls : List Call) (value : A)
     → Leads P last some plan → Follows plan calls value → P (ticks last calls) (some || some_failed calls) value
 leads_end {A} P last some (Ends end) calls value leads follows =
     rw follows.0 (rw (or_none some) (subst (λ (v : A). P last some v) (sym follows.1) leads))
@@ -213,7 +213,7 @@ module _ (s : Settings) (sector : ℕ) where
 -- ## What one image would have told
 
 -- the call that is told is the one that was asked for, it failed only where a call did, and it tells the same last tick
-abbrev OneTold : ℕ → Call → ℕ → Bool → Told → Type 0
+abbrev pub OneTold : ℕ → Call → ℕ → Bool → Told → Type 0
 OneTold last question tick some told =
     (blank told.0 ≡ question) × (some ≡ false → is_failed told.0 ≡ false) × (tick_after told.0 last ≡ tick)
 
@@ -274,7 +274,7 @@ write_told me good sector bytes last =
 once_told : (good : List Bool) (question : Call) (last : ℕ) → Leads (OneTold last question) last false (once good question)
 once_told good question last = λ c asked. (asked, λ none. none, refl)
 
-call_told : (s : Settings) (me : ℕ) (good : List Bool) (question : Call) (last : ℕ) → blank question ≡ question → Leads (OneTold last question) last false (call_plan s me good question)
+pub call_told : (s : Settings) (me : ℕ) (good : List Bool) (question : Call) (last : ℕ) → blank question ≡ question → Leads (OneTold last question) last false (call_plan s me good question)
 call_told s me good (call.Read sector bytes ok) last wiped =
     subst (λ (q : Call). Leads (OneTold last q) last false (read_plan s good sector)) wiped (read_told s good sector last)
 call_told s me good (call.Write sector bytes ok) last wiped =
@@ -294,15 +294,15 @@ call_told s me good (call.OpenNode images image watchdog resource port rank ok) 
 -- ## The whole run
 
 -- the calls of a plan and those of the one that goes on from its value
-record Cut {A B : Type 0} (plan : Plan A) (next : A → Plan B) (calls : List Call) (result : B) : Type 0 where
-  value : A
-  first : List Call
-  rest : List Call
-  joined : calls ≡ first ++ rest
-  follows : Follows plan first value
-  goes_on : Follows (next value) rest result
+pub record Cut {A B : Type 0} (plan : Plan A) (next : A → Plan B) (calls : List Call) (result : B) : Type 0 where
+  pub value : A
+  pub first : List Call
+  pub rest : List Call
+  pub joined : calls ≡ first ++ rest
+  pub follows : Follows plan first value
+  pub goes_on : Follows (next value) rest result
 
-cut : {A B : Type 0} (plan : Plan A) (next : A → Plan B) (calls : List Call) (result : B) → Follows (plan >>= next) calls result → Cut plan next calls result
+pub cut : {A B : Type 0} (plan : Plan A) (next : A → Plan B) (calls : List Call) (result : B) → Follows (plan >>= next) calls result → Cut plan next calls result
 cut (Ends value) next calls result follows =
     record { value = value; first = []; rest = calls; joined = refl; follows = (refl, refl); goes_on = follows }
 cut (Asks question left) next [] result follows = absurd follows

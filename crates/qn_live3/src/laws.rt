@@ -1,5 +1,5 @@
 //! The laws of a run on three images: they are those of a run on one.
-ghost use Rattle.std.specs.Prelude.{◌≡◌, ◌++◌, ◌∷◌, [], ℕ, Bool, false, true, List, Option};
+ghost use Rattle.std.specs.Prelude.{◌≡◌, ◌++◌, ◌∷◌, [], ℕ, Bool, false, true, IsTrue, List, Option};
 ghost use Rattle.qn_base.specs.declared.calls.Call.{Call};
 ghost use Rattle.qn_base.specs.Calls.{some_failed};
 ghost use Rattle.qn_base.specs.Plans.{Follows};
@@ -7,18 +7,23 @@ ghost use Rattle.qn_model.specs.declared.configuration.Settings.{Settings};
 ghost use Rattle.qn_base.specs.declared.ids.Rank.{Rank};
 ghost use Rattle.qn_model.specs.declared.outputs.BootCause.{BootCause};
 ghost use Rattle.qn_model.specs.declared.outputs.DiskOp.{DiskOp};
-ghost use Rattle.qn_model.specs.World.{failed};
+ghost use Rattle.qn_model.specs.World.{failed, is_write};
 ghost use Rattle.qn_safety.specs.declared.part.Part.{Part};
+ghost use Rattle.qn_safety.specs.TripleWorld.{answer_of};
+ghost use Rattle.qn_parts.specs.Parts.{is_good_on, part_on};
 ghost use Rattle.qn_live.specs.declared.live_end.LiveEnd.{LiveEnd};
 ghost use Rattle.qn_live.specs.Halts.{IsNewest};
+ghost use Rattle.qn_live.specs.Handed.{HandsHistory};
 ghost use Rattle.qn_live.specs.Laws.{IsHistory, NeverFalls, is_by_call, is_by_clock, is_no_failure, is_sound};
+ghost use Rattle.qn_live.specs.Performing.{disk_answer, disk_call};
 ghost use Rattle.qn_live.specs.Running.{Ran};
-ghost use Rattle.qn_live3.specs.Disk.{part_of, read_entry};
+ghost use Rattle.qn_live3.specs.Disk.{Told, call_plan, part_of, read_entry};
 ghost use Rattle.qn_live3.specs.Halts.{HaltedOnThree};
-ghost use Rattle.qn_live3.specs.Laws.{IsTold, taken_from};
-ghost use Rattle.qn_live3.specs.Runs.{triple_plan};
+ghost use Rattle.qn_live3.specs.Laws.{IsTold, parts_told, taken_from};
+ghost use Rattle.qn_live3.specs.Outputs.{PerformsOnThree};
+ghost use Rattle.qn_live3.specs.Runs.{all_good, triple_plan};
 
-use qn_live::{law_end_causes, law_one_history, law_sound_end};
+use qn_live::{law_end_causes, law_handed_history, law_one_history, law_outputs, law_sound_end};
 use qn_sector::law_read_back;
 
 /// Law: what a node is handed in a run on three images is one history.
@@ -29,6 +34,28 @@ pub fn law_triple_history()
         → IsHistory s me ran.log }
 {
     law_one_history();
+}
+
+/// Law: what a node is handed in a run on three images begins with the one entry that begins its boot, cleanly or not as it was
+/// told, its ticks never fall, and they are what the clock told in the calls of the run, one after the other.
+pub fn law_triple_handed_history()
+    ensures { (s : Settings) (me : ℕ) (clean : Bool) (leave : Option ℕ) (turns : ℕ)
+        (calls : List Call) (ran : Ran)
+        → Follows (triple_plan s me clean leave turns) calls ran
+        → HandsHistory s me clean calls ran }
+{
+    law_handed_history();
+}
+
+/// Law: the calls of a run on three images, but for those that receive, look at the clock, or send a Hello or an Announce, are
+/// the outputs of what the node was handed, in order, each made on the three.
+pub fn law_triple_outputs()
+    ensures { (s : Settings) (me : ℕ) (clean : Bool) (leave : Option ℕ) (turns : ℕ)
+        (calls : List Call) (ran : Ran)
+        → Follows (triple_plan s me clean leave turns) calls ran
+        → PerformsOnThree s me ran.log calls }
+{
+    law_outputs();
 }
 
 /// Law: a run on three images ends once, and in one way.
@@ -104,6 +131,27 @@ pub fn law_triple_answers()
         → taken_from s DiskOp.ReadMail sector
         (read_entry DiskOp.ReadMail (one ∷ two ∷ three ∷ []) good)
         ≡ read_entry DiskOp.ReadMail (one ∷ two ∷ three ∷ []) good }
+{
+    law_read_back();
+}
+
+/// Law: the entry that a node takes after the calls of a write on three images is the answer that the world of three images
+/// gives for what each of them told.
+pub fn law_triple_writes()
+    ensures { (s : Settings) (me number : ℕ) (op : DiskOp) (good : List Bool) (calls : List Call)
+        (told : Told)
+        → IsTrue (is_write op)
+        → Follows (call_plan s me good (disk_call s me number op)) calls told
+        → disk_answer s op told.0
+        ≡ answer_of op (part_on (parts_told s op calls)) (is_good_on good) }
+{}
+
+/// Law: the same of the check of a clean start, which reads the mailbox on each image, since all are good before the clear.
+pub fn law_triple_check()
+    ensures { (s : Settings) (me number : ℕ) (calls : List Call) (told : Told)
+        → Follows (call_plan s me all_good (disk_call s me number DiskOp.CheckMail)) calls told
+        → disk_answer s DiskOp.CheckMail told.0
+        ≡ read_entry DiskOp.CheckMail (parts_told s DiskOp.CheckMail calls) all_good }
 {
     law_read_back();
 }

@@ -15,7 +15,8 @@ mod running;
 mod sector;
 
 pub use laws::{
-    law_triple_answers, law_triple_boot_halted, law_triple_end, law_triple_end_causes,
-    law_triple_history,
+    law_triple_answers, law_triple_boot_halted, law_triple_check, law_triple_end,
+    law_triple_end_causes, law_triple_handed_history, law_triple_history, law_triple_outputs,
+    law_triple_writes,
 };
 pub use running::run_node3;

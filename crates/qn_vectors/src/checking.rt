@@ -1,4 +1,5 @@
 //! Checks all rows, and counts those from which a form differs.
+use crate::calls::{check_fence, check_line, check_members};
 use crate::counts::Count;
 use crate::histories::History;
 use crate::history::{rank_word, read_rank, read_settings, settings_words};
@@ -7,6 +8,7 @@ use crate::packets::{Changes, PacketRow};
 use crate::rows::{check_entry, row_of};
 use crate::texts::check_text;
 use crate::ties::check_tie;
+use qn_fence::Fence;
 use qn_model::Settings;
 use qn_tie::Tie;
 use std::alloc::Global;
@@ -22,6 +24,7 @@ struct Totals {
     lines: u64,
     counts: u64,
     ties: u64,
+    calls: u64,
     packets: u64,
     /// How many of those rows spell a packet.
     good: u64,
@@ -40,6 +43,7 @@ struct Reader {
     settings: Option<Settings>,
     history: Option<History>,
     tie: Option<Tie>,
+    fence: Option<Fence>,
     makers: Makers,
 }
 
@@ -94,6 +98,7 @@ impl Reader {
                 self.totals.ties = self.totals.ties.saturating_add(1);
                 said(check_tie(alloc, &mut self.tie, row), "the tie breaker")
             }
+            "members" | "line" | "fence" => self.call_difference(alloc, kind, row),
             "packet" => self.packet_difference(alloc, row),
             "maker" => said(self.makers.check(alloc, row), "the answer of a view maker"),
             _ => self.row_difference(alloc, line),
@@ -106,6 +111,16 @@ impl Reader {
         match Count::read(alloc, row) {
             Some(count) => count.difference(alloc),
             None => NO_ROW,
+        }
+    }
+
+    /// What differs at a call beside which the program makes another.
+    fn call_difference(&mut self, alloc: Global, kind: &str, row: &str) -> Option<&'static str> {
+        self.totals.calls = self.totals.calls.saturating_add(1);
+        match kind {
+            "members" => said(check_members(alloc, row), "the votes of some members"),
+            "line" => said(check_line(alloc, row), "the line of an event"),
+            _ => said(check_fence(alloc, &mut self.fence, row), "a licence"),
         }
     }
 
@@ -155,6 +170,7 @@ impl Reader {
         println!(rt; "lines of histories {}", totals.lines)?;
         println!(rt; "counts {}", totals.counts)?;
         println!(rt; "calls of a tie breaker {}", totals.ties)?;
+        println!(rt; "calls beside others {}", totals.calls)?;
         println!(rt; "packets {} good {}", totals.packets, totals.good)?;
         println!(rt;
             "changes of a byte {} packets {} differ {}",
