@@ -5,8 +5,10 @@
 //! record before and after it and its answer. Each view that is made contains the node, and its members are configured.
 #![tactic(auto)]
 
+mod change;
 mod laws;
 mod member;
 
+pub use change::Change;
 pub use laws::{law_configured_members, law_visible_nodes};
 pub use member::Member;
