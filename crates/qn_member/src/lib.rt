@@ -10,5 +10,8 @@ mod laws;
 mod member;
 
 pub use change::Change;
-pub use laws::{law_configured_members, law_visible_nodes};
+pub use laws::{
+    law_changes, law_configured_members, law_first_view, law_greatest, law_heard, law_own_views,
+    law_visible_nodes,
+};
 pub use member::Member;
