@@ -1,5 +1,5 @@
 -- What a plan ends with, whatever it is answered.
-use Rattle.std.proofs.Common.{◌≡◌, List, [], ◌∷◌, sym, subst}
+use Rattle.std.proofs.Common.{List, [], ◌∷◌, sym, subst}
 use Rattle.qn_base.specs.declared.calls.Call.{Call}
 use Rattle.qn_base.specs.Plans.{Plan, Ends, Asks, ◌>>=◌, Follows}
 

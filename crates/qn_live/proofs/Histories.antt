@@ -15,7 +15,7 @@ use Rattle.qn_model.specs.declared.entries.What.TheVariants as what
 use Rattle.qn_model.specs.declared.outputs.Out.{Out}
 use Rattle.qn_model.specs.Log.{Line, now}
 use Rattle.qn_model.specs.Moments.{begin_of}
-use Rattle.qn_model.specs.NodeOutputs.{log_from, log_of, newest_outs, with_entry}
+use Rattle.qn_model.specs.NodeOutputs.{log_from, newest_outs, with_entry}
 use Rattle.qn_member.specs.Maker.{Maker}
 use Rattle.qn_live.specs.declared.live_end.LiveEnd.{LiveEnd}
 use Rattle.qn_live.specs.declared.live_end.LiveEnd.TheVariants as end
@@ -27,7 +27,7 @@ use Rattle.qn_live.specs.Greetings.{sends_plan}
 use Rattle.qn_live.specs.Laws.{IsHistory, takes_answer}
 use Rattle.qn_live.specs.Performing.{end_in, noted, outs_plan}
 use Rattle.qn_live.specs.Running.{RunState, Turned, Over, Next, Ran, first_state, later}
-use Rattle.qn_live.specs.Runs.{clocked, greeted, handled, live_plan, run_plan, settled, taken, timed, turn_plan}
+use Rattle.qn_live.specs.Runs.{clocked, greeted, handled, live_plan, parted, run_plan, settled, taken, timed, turn_plan}
 use Rattle.qn_live.proofs.Always.{Always, always_follows, always_then}
 
 -- a history with one more entry
@@ -64,14 +64,19 @@ unfolding greeted
 greeted_always s me st log rests is_log is_rests =
     always_then (λ sent. Unit {0}) (EndsFrom log rests) _ _ (sends_always _) (λ sent nothing. (is_log, is_rests))
 
+parted_always : (s : Settings) (me : ℕ) (end : LiveEnd) (st : RunState) (log : List Line) (rests : Bool) → st.log ≡ log → Always (EndsFrom log rests) (parted s me end st)
+unfolding parted
+parted_always s me end st log rests is_log =
+    always_then (λ sent. Unit {0}) (EndsFrom log rests) _ _ (sends_always _) (λ sent nothing. is_log)
+
 settled_always : (s : Settings) (me : ℕ) (entry : What) (outs : List Out) (st : RunState) (log : List Line) (rests : Bool) → st.log ≡ log → st.rests ≡ rests → Always (EndsFrom log rests) (settled s me entry outs st)
 unfolding settled
 settled_always s me entry outs st log rests is_log is_rests =
     by_end (end_in entry outs)
   where
-    by_end : (found : Option LiveEnd) → Always (EndsFrom log rests) (option_map_or (λ end. Ends (Over end st.log)) found (greeted s me st))
+    by_end : (found : Option LiveEnd) → Always (EndsFrom log rests) (option_map_or (λ end. parted s me end st) found (greeted s me st))
     by_end None = greeted_always s me st log rests is_log is_rests
-    by_end (Some end) = is_log
+    by_end (Some end) = parted_always s me end st log rests is_log
 
 handled_always : (s : Settings) (me : ℕ) (st : RunState) (tick : ℕ) (found : Option Maker × What) → Always (EndsFrom (with_entry s me st.log (record { tick = tick; what = found.1 })) (failed_answer found.1)) (handled s me st tick found)
 unfolding handled

@@ -1,5 +1,5 @@
 -- How a running node goes from one call to the next: what is left of its plan, moment by moment.
-use Rattle.std.proofs.Common.{◌≡◌, ◌≤◌, ◌<◌, ℕ, suc, zero, Bool, true, false, not, ◌+◌, ◌-◌, ◌==◌, List, [], ◌∷◌, ◌++◌, length, drop, filter, Option, None, Some, option_map, if◌then◌else◌, refl, sym, ap, ◌∙◌, arith}
+use Rattle.std.proofs.Common.{◌≡◌, ◌≤◌, ◌<◌, ℕ, suc, Bool, true, false, not, ◌+◌, ◌-◌, ◌==◌, List, [], ◌∷◌, length, drop, filter, Option, None, Some, option_map, if◌then◌else◌, refl, sym, ap, ◌∙◌, arith}
 use Rattle.std.specs.Prelude.{slice_get, nat_lt}
 use Rattle.std.specs.List.{range_with_len}
 use Rattle.std.specs.Option.{option_map_or}
@@ -7,12 +7,11 @@ use Rattle.std.proofs.lemmas.Bool.Decides.{nat_tests}
 use Rattle.std.proofs.lemmas.List.{drop_all, drop_more}
 use Rattle.std.proofs.lemmas.Option.{get_or_from_slice_get, slice_get_within}
 use Rattle.qn_base.specs.declared.calls.Call.{Call}
-use Rattle.qn_base.specs.Calls.{blank}
+use Rattle.qn_base.specs.declared.ids.View.{View}
 use Rattle.qn_base.specs.Plans.{Plan, Ends, Asks, ◌>>=◌, question, left}
 use Rattle.qn_model.specs.declared.configuration.Settings.{Settings}
 use Rattle.qn_model.specs.declared.entries.What.{What}
 use Rattle.qn_model.specs.declared.outputs.Out.{Out}
-use Rattle.qn_model.specs.declared.packets.Sent.{Sent}
 use Rattle.qn_model.specs.Log.{Line, now}
 use Rattle.qn_model.specs.Moments.{begin_of}
 use Rattle.qn_model.specs.NodeOutputs.{newest_outs, with_entry}
@@ -27,11 +26,11 @@ use Rattle.qn_live.specs.declared.place.Greeting.TheVariants as greeting
 use Rattle.qn_live.specs.declared.place.Waits.{Waits}
 use Rattle.qn_live.specs.declared.run.NodeRun.{NodeRun}
 use Rattle.qn_live.specs.Choosing.{choice_of, choice_plan, failed_answer, is_to_leave, looked, ready, receive_plan}
-use Rattle.qn_live.specs.Greetings.{greeting_call, greeting_packet, is_due, maker_of, others_from, sends_plan, to_send}
-use Rattle.qn_live.specs.Machine.{RunFor, acting, next_of, saying, state_of}
+use Rattle.qn_live.specs.Greetings.{farewell_after, farewells, greeting_call, greeting_packet, is_due, maker_of, others_from, sends_plan, to_each, to_send}
+use Rattle.qn_live.specs.Machine.{RunFor, acting, next_of, parting, saying, state_of}
 use Rattle.qn_live.specs.Performing.{end_in, noted, out_call, outs_plan, own_number}
 use Rattle.qn_live.specs.Running.{RunState, Turned, Over, Next, Ran, first_state, later}
-use Rattle.qn_live.specs.Runs.{clocked, greeted, handled, live_plan, loop_after, run_plan, settled, timed, turn_plan, turns_end}
+use Rattle.qn_live.specs.Runs.{clocked, greeted, handled, live_plan, loop_after, parted, run_plan, settled, timed, turn_plan, turns_end}
 
 -- the call that was made is the one that the plan asks for
 pub asked_call : {A : Type 0} {plan : Plan A} {wanted : Call} {rest : Call → Plan A} {made : Call} → plan ≡ Asks wanted rest → question plan ≡ Some made → made ≡ wanted
@@ -102,7 +101,7 @@ module _ (s : Settings) (me : ℕ) where
 
   module _ (entry : What) (outs : List Out) (st : RunState) where
     -- an output ended the run
-    pub settled_over : (end : LiveEnd) → end_in entry outs ≡ Some end → settled s me entry outs st ≡ Ends (Over end st.log)
+    pub settled_over : (end : LiveEnd) → end_in entry outs ≡ Some end → settled s me entry outs st ≡ parted s me end st
     unfolding settled
     settled_over end ended = rw ended refl
 
@@ -110,6 +109,16 @@ module _ (s : Settings) (me : ℕ) where
     pub settled_on : end_in entry outs ≡ None → settled s me entry outs st ≡ greeted s me st
     unfolding settled
     settled_on goes_on = rw goes_on refl
+
+  -- a run that is over with no farewell
+  pub parted_silent : (how : LiveEnd) (st : RunState) → farewell_after how st.maker ≡ None → parted s me how st ≡ Ends (Over how st.log)
+  unfolding parted sends_plan
+  parted_silent how st none = rw none refl
+
+  -- a run that is over with one
+  pub parted_telling : (how : LiveEnd) (st : RunState) (view : View) → farewell_after how st.maker ≡ Some view → how ≡ end.Left true → parted s me how st ≡ sends_plan (farewells s me view 0) >>= (λ sent. Ends (Over (end.Left true) st.log))
+  unfolding parted
+  parted_telling how st view some clean = rw some (ap (λ e. sends_plan (farewells s me view 0) >>= (λ sent. Ends (Over e st.log))) clean)
 
   -- the Hellos of a turn, by whether they are due
   unfoldable pub hellos : RunState → Option Maker → Bool → Plan Turned
@@ -154,6 +163,17 @@ module _ (run : NodeRun) (log : List Line) where
   unfolding sends_plan
   saying_more said to within other =
       ap (λ sents. saying run log sents) (to_send_more run.settings run.me.0 run.member said to within other)
+
+  -- no farewell is left
+  pub parted_all : parting run log [] ≡ Ends (record { end = end.Left true; log = log })
+  unfolding sends_plan
+  parted_all = refl
+
+  -- a farewell is next
+  pub parting_more : (view : View) (to : ℕ) → to < length run.settings.nodes → (to == run.me.0) ≡ false → parting run log (farewells run.settings run.me.0 view to) ≡ Asks (greeting_call run.me.0 (greeting.Announce view) to) (λ call. parting run log (farewells run.settings run.me.0 view (to + 1)))
+  unfolding sends_plan
+  parting_more view to within other =
+      ap (λ ranks. parting run log (to_each (greeting_packet run.me.0 (greeting.Announce view)) ranks)) (others_more run.settings run.me.0 to within other)
 
 -- an output is next
 pub acting_more : (run : NodeRun) (st : RunState) (at : ℕ) (o : Out) → slice_get run.outs at ≡ Some o → acting run st at ≡ Asks (out_call run.settings run.me.0 (own_number st.log) o) (λ call. acting run (noted run.settings o call st) (at + 1))

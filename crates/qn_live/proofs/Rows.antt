@@ -1,9 +1,7 @@
 -- Runs that were worked by hand, as theorems of the definition.
-use Rattle.std.proofs.Common.{◌≡◌, ℕ, Bool, true, false, List, [], ◌∷◌, ◌++◌, length, Some, None, refl}
-use Rattle.qn_base.specs.declared.calls.Call.{Call}
+use Rattle.std.proofs.Common.{ℕ, true, false, List, [], ◌∷◌, None, refl}
 use Rattle.qn_base.specs.declared.calls.Call.TheVariants as call
 use Rattle.qn_base.specs.declared.calls.Received.TheVariants as received
-use Rattle.qn_base.specs.declared.ids.View.{View}
 use Rattle.qn_base.specs.Plans.{Follows}
 use Rattle.qn_model.specs.declared.configuration.Settings.{Settings}
 use Rattle.qn_model.specs.declared.times.Timing.{Timing}
@@ -28,12 +26,12 @@ use Rattle.qn_model.specs.NodeOutputs.{moment, acts, outs_at, with_entry, log_fr
 use Rattle.qn_model.specs.Sectors.{anonymous, header_bytes, header_bytes_in, mail_bytes, slot_bytes}
 use Rattle.qn_model.specs.World.{failed}
 use Rattle.qn_sector.specs.Reading.{header_in, mail_of, slot_of}
-use Rattle.qn_member.specs.Maker.{ranks_that}
+use Rattle.qn_member.specs.Maker.{after_tick, ranks_that, view_at}
 use Rattle.qn_live.specs.declared.live_end.LiveEnd.TheVariants as end
 use Rattle.qn_live.specs.Choosing.{choice_plan}
 use Rattle.qn_live.specs.Greetings.{sends_plan}
 use Rattle.qn_live.specs.Performing.{disk_call, done, out_call, outs_plan, waits_after}
-use Rattle.qn_live.specs.Runs.{clocked, greeted, handled, live_plan, run_plan, settled, turns_end}
+use Rattle.qn_live.specs.Runs.{clocked, greeted, handled, live_plan, parted, run_plan, settled, turns_end}
 
 -- one node of one vote, with id 1
 abbrev one_node : Settings
@@ -63,14 +61,14 @@ boot_halts : Follows (live_plan one_node 0 false None 5)
       end = end.BootHalted cause.ReadFailed;
       log = log_of one_node 0 (at 5 what.Begin ∷ at 6 (what.Header header.Failed) ∷ []);
     })
-unfolding op_out ask_place begins_clean slot_number claimed phase outs_at with_entry log_from failed choice_plan disk_call done out_call outs_plan waits_after sends_plan clocked greeted handled settled live_plan run_plan
+unfolding op_out ask_place begins_clean slot_number claimed phase outs_at with_entry log_from failed choice_plan disk_call done out_call outs_plan waits_after sends_plan clocked greeted handled parted settled live_plan run_plan
 boot_halts = (refl, (refl, (refl, (refl, (refl, refl)))))
 
 -- the clock goes back in the second turn, and nothing else is called
 clock_goes_back : Follows (live_plan one_node 0 false None 5)
     (call.Now 50 ∷ call.Read 0 [] false ∷ call.Now 40 ∷ [])
     (record { end = end.ClockBack 50 40; log = log_of one_node 0 (at 50 what.Begin ∷ []) })
-unfolding op_out ask_place begins_clean slot_number claimed phase outs_at with_entry log_from failed choice_plan disk_call done out_call outs_plan waits_after sends_plan clocked greeted handled settled live_plan run_plan
+unfolding op_out ask_place begins_clean slot_number claimed phase outs_at with_entry log_from failed choice_plan disk_call done out_call outs_plan waits_after sends_plan clocked greeted handled parted settled live_plan run_plan
 clock_goes_back = (refl, (refl, (refl, (refl, refl))))
 
 -- what the node of the next row is handed
@@ -98,5 +96,5 @@ starts_in_seven_turns : Follows (live_plan one_node 0 false None 7)
       end = turns_end one_node 0 (log_of one_node 0 seven_entries);
       log = log_of one_node 0 seven_entries;
     })
-unfolding op_out ask_place ask_tick begins_clean slot_number claimed timing view install votes answer_at present_view view_tick is_released expected_votes device_yes phase holds stop_due may_stop told out_time slot_read_since reset_since least_from unmet mail_tick wanted_with_delay moment acts outs_at with_entry log_from header_bytes_in mail_bytes slot_bytes header_in mail_of slot_of failed ranks_that choice_plan sends_plan disk_call done out_call outs_plan waits_after clocked greeted handled settled live_plan run_plan
+unfolding op_out ask_place ask_tick begins_clean slot_number claimed timing view install votes answer_at present_view view_tick is_released expected_votes device_yes phase holds stop_due may_stop told out_time slot_read_since reset_since least_from unmet mail_tick wanted_with_delay moment acts outs_at with_entry log_from header_bytes_in mail_bytes slot_bytes header_in mail_of slot_of failed view_at after_tick ranks_that choice_plan sends_plan disk_call done out_call outs_plan waits_after clocked greeted handled parted settled live_plan run_plan
 starts_in_seven_turns = (refl, (refl, (refl, (refl, (refl, (refl, (refl, (refl, (refl, (refl, (refl, (refl, (refl, (refl, (refl, (refl, (refl, (refl, (refl, (refl, refl))))))))))))))))))))

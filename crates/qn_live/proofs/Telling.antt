@@ -8,7 +8,7 @@ use Rattle.qn_base.specs.declared.calls.Call.{Call}
 use Rattle.qn_base.specs.declared.calls.Call.TheVariants as call
 use Rattle.qn_base.specs.declared.ids.View.{View}
 use Rattle.qn_base.specs.Calls.{blank}
-use Rattle.qn_base.specs.Plans.{Plan, Ends, Asks, ◌>>=◌, Follows}
+use Rattle.qn_base.specs.Plans.{Plan, Ends, ◌>>=◌, Follows}
 use Rattle.qn_io.specs.Answered.{time_of}
 use Rattle.qn_model.specs.declared.configuration.Settings.{Settings}
 use Rattle.qn_model.specs.declared.packets.Packet.{Packet}
@@ -33,11 +33,11 @@ use Rattle.qn_live.specs.declared.place.Greeting.{Greeting}
 use Rattle.qn_live.specs.declared.place.Greeting.TheVariants as greeting
 use Rattle.qn_live.specs.declared.place.Waits.{Waits}
 use Rattle.qn_live.specs.Choosing.{choice_of, choice_plan, is_to_leave, looked, ready, receive_plan}
-use Rattle.qn_live.specs.Greetings.{greeting_packet, is_due, others_from, sends_plan, to_each, to_send, view_after}
+use Rattle.qn_live.specs.Greetings.{farewell_after, farewells, greeting_packet, is_due, others_from, sends_plan, to_each, to_send, view_after}
 use Rattle.qn_live.specs.Laws.{if_output, is_greeting, is_output, outputs_among, outputs_of}
 use Rattle.qn_live.specs.Performing.{disk_call, end_in, noted, out_call, outs_plan, own_number}
 use Rattle.qn_live.specs.Running.{RunState, Turned, Over, Next, Ran, first_state, later}
-use Rattle.qn_live.specs.Runs.{clocked, greeted, handled, hello_asked, live_plan, run_plan, settled, taken, timed, turn_plan, with_maker}
+use Rattle.qn_live.specs.Runs.{clocked, greeted, handled, hello_asked, live_plan, parted, run_plan, settled, taken, timed, turn_plan, with_maker}
 use Rattle.qn_live.proofs.Coming.{Acts, Comes, Dies, Halts, Leaves, entry_comes, is_act}
 use Rattle.qn_live.proofs.Through.{AllFit, Through, after_all, through_follows, through_then}
 
@@ -192,14 +192,26 @@ greeted_told s me st done is =
     (sends_told done sents (due_greets (is_due (now st.log) present.maker) _ (to_send_greets s me asked.maker greeting.Hello 0)))
     (λ told sent same. same ∙ is)
 
+farewell_greets : (s : Settings) (me : ℕ) (view : Option View) → AllGreet (option_map_or (λ view. farewells s me view 0) view [])
+farewell_greets s me None = tt
+farewell_greets s me (Some view) = each_greets _ _ (greets me (greeting.Announce view))
+
+parted_told : (s : Settings) (me : ℕ) (end : LiveEnd) (st : RunState) (done : List Call) → done ≡ outputs_of s me st.log → Telling (ToldTurn s me) done (parted s me end st)
+unfolding parted
+parted_told s me end st done is =
+    let sents = option_map_or (λ view. farewells s me view 0) (farewell_after end st.maker) [] in
+    through_then AnyCall told_more (Same {A = Unit {0}} done) (ToldTurn s me) done (sends_plan sents) (λ sent. Ends (Over end st.log))
+    (sends_told done sents (farewell_greets s me (farewell_after end st.maker)))
+    (λ told sent same. same ∙ is)
+
 settled_told : (s : Settings) (me : ℕ) (entry : What) (outs : List Out) (st : RunState) (done : List Call) → done ≡ outputs_of s me st.log → Telling (ToldTurn s me) done (settled s me entry outs st)
 unfolding settled
 settled_told s me entry outs st done is =
     by_end (end_in entry outs)
   where
-    by_end : (found : Option LiveEnd) → Telling (ToldTurn s me) done (option_map_or (λ end. Ends (Over end st.log)) found (greeted s me st))
+    by_end : (found : Option LiveEnd) → Telling (ToldTurn s me) done (option_map_or (λ end. parted s me end st) found (greeted s me st))
     by_end None = greeted_told s me st done is
-    by_end (Some end) = is
+    by_end (Some end) = parted_told s me end st done is
 
 outputs_more : (s : Settings) (me : ℕ) (log : List Line) (entry : Entry) → outputs_of s me (with_entry s me log entry) ≡ outputs_of s me log ++ map (out_call s me (own_number (with_entry s me log entry))) (newest_outs (with_entry s me log entry))
 unfolding with_entry

@@ -1,7 +1,6 @@
 -- Which entry a turn takes: this project's profile.
 use Rattle.std.specs.Prelude.{ℕ, Bool, true, false, not, ◌&&◌, ◌==◌, nat_le, Option, None, Some, option_map, if◌then◌else◌}
 use Rattle.std.specs.Option.{option_or, option_map_or}
-use Rattle.qn_base.specs.declared.calls.Call.{Call}
 use Rattle.qn_base.specs.declared.calls.Call.TheVariants as call
 use Rattle.qn_base.specs.declared.calls.Received.{Received}
 use Rattle.qn_base.specs.declared.calls.Received.TheVariants as received

@@ -50,11 +50,11 @@ use Rattle.qn_live.specs.declared.place.Choice.TheVariants as choice
 use Rattle.qn_live.specs.declared.place.Waits.{Waits}
 use Rattle.qn_live.specs.CalmOutputs.{calm_boot, calm_live, calm_outs}
 use Rattle.qn_live.specs.Choosing.{choice_of, choice_plan, heard, is_entry_for, is_to_leave, looked, packet_in, ready, receive_plan, view_or_tick}
-use Rattle.qn_live.specs.Greetings.{sends_plan}
+use Rattle.qn_live.specs.Greetings.{farewell_after, farewells, sends_plan}
 use Rattle.qn_live.specs.Halts.{HaltedBy, IsNewest, is_on_disk, one_call}
 use Rattle.qn_live.specs.Performing.{disk_answer, disk_call, done, end_in, halt_code, noted, out_call, outs_plan, own_number, waits_after}
 use Rattle.qn_live.specs.Running.{RunState, Turned, Over, Next, Ran, first_state, later}
-use Rattle.qn_live.specs.Runs.{clocked, greeted, handled, live_plan, run_plan, settled, taken, timed, turn_plan}
+use Rattle.qn_live.specs.Runs.{clocked, greeted, handled, live_plan, parted, run_plan, settled, taken, timed, turn_plan}
 use Rattle.qn_live.specs.Laws.{NeverFalls, is_by_call, is_by_clock, is_no_failure, is_sound, tick_after}
 
 -- ## What the calls so far tell
@@ -425,18 +425,36 @@ module _ (s : Settings) (me : ℕ) where
       leads_then (Silent past) Turns past (sends_plan _) _ (leads_sends past _ past refl refl)
       (λ after sent silent. (is ∙ sym silent.0, subst (λ (l : Option Call). Waiting s me l st.waits.disk) (sym silent.1) waiting))
 
+  -- nothing is asked of an end that a node left
+  leads_farewell : (st : RunState) (past : Past) → Leads Turns past (parted s me (end.Left true) st)
+  unfolding parted
+  leads_farewell st past =
+      let sents = option_map_or (λ view. farewells s me view 0) (farewell_after (end.Left true) st.maker) [] in
+      leads_then (Silent past) Turns past (sends_plan sents) (λ sent. Ends (Over (end.Left true) st.log)) (leads_sends past sents past refl refl)
+      (λ after sent silent. tt)
+
+  -- a farewell changes nothing of what the end rests on
+  leads_parted : (end : LiveEnd) (st : RunState) (past : Past) → EndsSo s me past st.log end → Leads Turns past (parted s me end st)
+  unfolding parted sends_plan
+  leads_parted (end.Left true) st past known = leads_farewell st past
+  leads_parted (end.Left false) st past known = tt
+  leads_parted (end.Turns phase holds answer why) st past known = tt
+  leads_parted (end.ClockBack before now) st past known = known
+  leads_parted (end.SelfReset message) st past known = tt
+  leads_parted (end.BootHalted why) st past known = known
+
   leads_settled : (entry : What) (outs : List Out) (st : RunState) (past : Past) → calm_outs outs ≡ true → now st.log ≡ past.tick
       → Waiting s me past.disk st.waits.disk → Leads Turns past (settled s me entry outs st)
   unfolding settled
   leads_settled entry outs st past calm is waiting = of_end (end_in entry outs) (calm_ends s me past st.log entry outs calm)
     where
-      of_end : (end : Option LiveEnd) → EndedSo s me past st.log end → Leads Turns past (option_map_or (λ e. Ends (Over e st.log)) end (greeted s me st))
+      of_end : (end : Option LiveEnd) → EndedSo s me past st.log end → Leads Turns past (option_map_or (λ e. parted s me e st) end (greeted s me st))
       of_end None known = leads_greeted st past is waiting
-      of_end (Some e) known = known
+      of_end (Some e) known = leads_parted e st past known
 
   leads_halted : (entry read : What) (st : RunState) (past : Past) (why : BootCause) → Caused s me past.disk read why → IsNewest read st.log
       → Leads Turns past (outs_plan s me st (out.Halt (halt.Boot why) ∷ []) >>= settled s me entry (out.Halt (halt.Boot why) ∷ []))
-  unfolding outs_plan out_call settled
+  unfolding outs_plan out_call settled parted sends_plan
   leads_halted entry read st past why caused newest =
       λ c asked failure.
       let same = disk_after_asked past.disk c (call.Halt (halt_code (halt.Boot why))) false asked refl in
@@ -600,10 +618,10 @@ record Parted (made : Call) (calls : List Call) : Type 0 where
   parts : calls ≡ before ++ made ∷ after
   last : list_any is_on_disk after ≡ false
 
-parted : (past : Past) (calls : List Call) (made : Call) → (after_calls calls past).disk ≡ Some made
+parted_at_last : (past : Past) (calls : List Call) (made : Call) → (after_calls calls past).disk ≡ Some made
     → ((past.disk ≡ Some made) × (list_any is_on_disk calls ≡ false)) ⊎ Parted made calls
-parted past [] made is = inl (is, refl)
-parted past (first ∷ calls) made is = of_rest (parted (after_call first past) calls made is)
+parted_at_last past [] made is = inl (is, refl)
+parted_at_last past (first ∷ calls) made is = of_rest (parted_at_last (after_call first past) calls made is)
   where
     of_place : (on : Bool) → is_on_disk first ≡ on → (if on then Some first else past.disk) ≡ Some made → list_any is_on_disk calls ≡ false
         → ((past.disk ≡ Some made) × (list_any is_on_disk (first ∷ calls) ≡ false)) ⊎ Parted made (first ∷ calls)
@@ -671,7 +689,7 @@ module _ (s : Settings) (me : ℕ) (clean : Bool) (leave : Option ℕ) (turns : 
 
       of_last : (last : FailedLast s me (after_calls calls at_first).disk why) → IsNewest (failed last.op) ran.log
           → (halted : HaltedBy one_call s me why calls) × IsNewest (failed halted.op) ran.log
-      of_last last newest = of_parts last newest (parted at_first calls last.made last.is_last)
+      of_last last newest = of_parts last newest (parted_at_last at_first calls last.made last.is_last)
 
   -- no call failed, so none halted the boot
   pub no_end_by_call : some_failed calls ≡ false → is_by_call ran.end ≡ false

@@ -1,5 +1,6 @@
--- What a node that takes part sends to the others each loop: a Hello, and the view that it announces. This project's profile.
-use Rattle.std.specs.Prelude.{ℕ, Bool, true, false, not, ◌-◌, ◌==◌, List, [], ◌∷◌, ◌++◌, map, filter, length, Option, None, Some, unwrap_or, option_map, option_and_then, if◌then◌else◌}
+-- What a node that takes part sends to the others: a Hello each half loop and the view that it announces, and a farewell at the end
+-- of a clean leave. This project's profile.
+use Rattle.std.specs.Prelude.{ℕ, Bool, true, false, not, ◌-◌, ◌==◌, List, [], ◌∷◌, ◌++◌, map, filter, length, Option, None, Some, unwrap_or, option_and_then, if◌then◌else◌}
 use Rattle.std.specs.Option.{option_map_or}
 use Rattle.std.specs.List.{range_with_len}
 use Rattle.qn_base.specs.declared.calls.Call.{Call}
@@ -13,7 +14,9 @@ use Rattle.qn_model.specs.declared.packets.Sent.{Sent}
 use Rattle.qn_model.specs.Phases.{phase, is_live}
 use Rattle.qn_model.specs.Wanted.{rank_of}
 use Rattle.qn_wire.specs.Packets.{packet_bytes}
-use Rattle.qn_member.specs.Maker.{Maker, first_maker, is_hello_due, view_to_announce}
+use Rattle.qn_member.specs.Maker.{Maker, first_maker, is_hello_due, view_to_announce, view_to_leave}
+use Rattle.qn_live.specs.declared.live_end.LiveEnd.{LiveEnd}
+use Rattle.qn_live.specs.declared.live_end.LiveEnd.TheVariants as end
 use Rattle.qn_live.specs.declared.place.Greeting.{Greeting}
 use Rattle.qn_live.specs.declared.place.Greeting.TheVariants as greeting
 use Rattle.qn_live.specs.Running.{RunState}
@@ -55,6 +58,18 @@ to_send s me maker said from =
     (λ view. to_each (greeting_packet me (greeting.Announce view)) (others_from s me 0))
     (view_after said maker)
     []
+
+-- the view of the farewell after an end: only a node that left clean says one
+abbrev pub farewell_after : LiveEnd → Option Maker → Option View
+farewell_after (end.Left clean) maker = if clean then option_and_then view_to_leave maker else None
+farewell_after (end.Turns phase holds answer why) maker = None
+farewell_after (end.ClockBack before now) maker = None
+farewell_after (end.SelfReset message) maker = None
+farewell_after (end.BootHalted stopped) maker = None
+
+-- what is left to send of a farewell: its view, announced to the other nodes from a rank on
+abbrev pub farewells : Settings → ℕ → View → ℕ → List Sent
+farewells s me view from = to_each (greeting_packet me (greeting.Announce view)) (others_from s me from)
 
 -- a Hello is due
 abbrev pub is_due : ℕ → Option Maker → Bool

@@ -1,5 +1,5 @@
 -- What a running node that waits for a call stands for: what is left of its run. This project's profile.
-use Rattle.std.specs.Prelude.{◌≡◌, ◌<◌, ℕ, false, ◌+◌, ◌==◌, List, All, length, drop}
+use Rattle.std.specs.Prelude.{◌≡◌, ◌<◌, ℕ, false, true, ◌+◌, ◌==◌, List, All, length, drop}
 use Rattle.qn_base.specs.Plans.{Plan, Ends, ◌>>=◌}
 use Rattle.qn_model.specs.declared.configuration.Settings.{Settings}
 use Rattle.qn_model.specs.declared.outputs.Out.{Out}
@@ -10,15 +10,16 @@ use Rattle.qn_node.specs.declared.node.Node.{Node}
 use Rattle.qn_node.specs.Node.{NodeFor}
 use Rattle.qn_node.specs.Outputs.{IsNodeOutput}
 use Rattle.qn_live.specs.declared.live_end.LiveEnd.{LiveEnd}
+use Rattle.qn_live.specs.declared.live_end.LiveEnd.TheVariants as end
 use Rattle.qn_live.specs.declared.place.Choice.{Choice}
 use Rattle.qn_live.specs.declared.place.Place.{Place}
 use Rattle.qn_live.specs.declared.place.Place.TheVariants as place
 use Rattle.qn_live.specs.declared.run.NodeRun.{NodeRun}
-use Rattle.qn_live.specs.Running.{RunState, Next, Ran, later}
+use Rattle.qn_live.specs.Running.{RunState, Next, Over, Ran, later}
 use Rattle.qn_live.specs.Choosing.{choice_of, receive_plan}
 use Rattle.qn_live.specs.Performing.{outs_plan}
-use Rattle.qn_live.specs.Greetings.{sends_plan, to_send}
-use Rattle.qn_live.specs.Runs.{clocked, run_plan, settled, timed, turn_plan}
+use Rattle.qn_live.specs.Greetings.{farewells, sends_plan, to_send}
+use Rattle.qn_live.specs.Runs.{clocked, parted, run_plan, settled, timed, turn_plan}
 use Rattle.qn_live.specs.Places.{calls_left}
 
 -- what a machine knows of the run, beside the log
@@ -61,6 +62,14 @@ abbrev pub settling : NodeRun → List Line → Plan Ran
 settling run log =
     settled run.settings run.me.0 run.entry run.outs (state_of run log) >>= later (next_of run)
 
+-- .. where one of them ended it, ..
+abbrev pub ending : NodeRun → List Line → LiveEnd → Plan Ran
+ending run log end = parted run.settings run.me.0 end (state_of run log) >>= later (next_of run)
+
+-- .. where a farewell is to be sent, ..
+abbrev pub parting : NodeRun → List Line → List Sent → Plan Ran
+parting run log sents = (sends_plan sents >>= (λ sent. Ends (Over (end.Left true) log))) >>= later (next_of run)
+
 -- .. and where packets are to be sent
 abbrev pub saying : NodeRun → List Line → List Sent → Plan Ran
 saying run log sents = (sends_plan sents >>= (λ sent. Ends (Next (state_of run log)))) >>= later (next_of run)
@@ -71,6 +80,7 @@ left_at run log place.Receive = receiving run log
 left_at run log (place.Now choice) = timing run log choice
 left_at run log (place.Act at) = acting run (state_of run log) at
 left_at run log (place.Greet said to) = saying run log (to_send run.settings run.me.0 run.member said to)
+left_at run log (place.Part view to) = parting run log (farewells run.settings run.me.0 view to)
 left_at run log (place.Over end) = Ends (record { end = end; log = log })
 
 abbrev pub left_of : NodeRun → List Line → Plan Ran
@@ -89,6 +99,7 @@ Stands run log = StandsFor run.settings run.me.0 run.node run.tick log
 abbrev pub HasMore : Settings → ℕ → List Out → Place → Type 0
 HasMore s me outs (place.Act at) = (at < length outs) × (at < 40) × All (IsNodeOutput s) outs
 HasMore s me outs (place.Greet said to) = (to < length s.nodes) × ((to == me) ≡ false)
+HasMore s me outs (place.Part view to) = (to < length s.nodes) × ((to == me) ≡ false)
 HasMore s me outs place.Receive = Unit {0}
 HasMore s me outs (place.Now choice) = Unit {0}
 HasMore s me outs (place.Over end) = Unit {0}

@@ -3,7 +3,6 @@ use Rattle.std.specs.Prelude.{ℕ, Bool, true, false, not, ◌+◌, ◌==◌, Li
 use Rattle.std.specs.Option.{option_or, option_map_or}
 use Rattle.qn_base.specs.declared.calls.Call.{Call}
 use Rattle.qn_base.specs.declared.calls.Call.TheVariants as call
-use Rattle.qn_base.specs.declared.ids.Rank.{Rank}
 use Rattle.qn_base.specs.Calls.{is_failed}
 use Rattle.qn_base.specs.Plans.{Plan, Ends, Asks}
 use Rattle.qn_io.specs.Answered.{bytes_read}

@@ -11,6 +11,7 @@ pending place.Receive = 1
 pending (place.Now choice) = 1
 pending (place.Act at) = 0
 pending (place.Greet said to) = 0
+pending (place.Part view to) = 0
 pending (place.Over end) = 0
 
 -- at most so many calls a turn makes from here on
@@ -24,4 +25,5 @@ calls_left place.Receive after = 128 * after + 127
 calls_left (place.Now choice) after = 128 * after + 126
 calls_left (place.Act at) after = 128 * after + 80 + (41 - at)
 calls_left (place.Greet said to) after = 128 * after + calls_of_greeting said to
+calls_left (place.Part view to) after = 33 - to
 calls_left (place.Over end) after = 0

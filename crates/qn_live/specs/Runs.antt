@@ -1,5 +1,5 @@
 -- The run of a node as a plan: which calls it makes, turn by turn, and how it ends. This project's profile.
-use Rattle.std.specs.Prelude.{ℕ, zero, suc, Bool, ◌+◌, ◌-◌, nat_lt, List, [], Option, None, Some, option_map, unwrap_or, if◌then◌else◌}
+use Rattle.std.specs.Prelude.{ℕ, zero, suc, Bool, ◌+◌, ◌-◌, nat_lt, List, [], Option, option_map, if◌then◌else◌}
 use Rattle.std.specs.Option.{option_map_or}
 use Rattle.qn_base.specs.declared.calls.Call.TheVariants as call
 use Rattle.qn_base.specs.Plans.{Plan, Ends, Asks, ◌>>=◌}
@@ -23,7 +23,7 @@ use Rattle.qn_live.specs.declared.place.Greeting.TheVariants as greeting
 use Rattle.qn_live.specs.Running.{RunState, first_state, Turned, Over, Next, Ran, later}
 use Rattle.qn_live.specs.Choosing.{choice_plan, failed_answer, is_to_leave, looked}
 use Rattle.qn_live.specs.Performing.{end_in, outs_plan}
-use Rattle.qn_live.specs.Greetings.{is_due, maker_of, sends_plan, to_send}
+use Rattle.qn_live.specs.Greetings.{farewell_after, farewells, is_due, maker_of, sends_plan, to_send}
 
 -- the loop's time after an entry: that of the header that it gives
 abbrev pub loop_after : What → ℕ → ℕ
@@ -57,9 +57,15 @@ greeted s me st =
     sends_plan (if is_due (now st.log) present.maker then to_send s me asked.maker greeting.Hello 0 else [])
     >>= (λ sent. Ends (Next asked))
 
+-- an output ended the run: a node that left clean says farewell to each other node, and then the run is over
+unfoldable pub parted : Settings → ℕ → LiveEnd → RunState → Plan Turned
+parted s me end st =
+    sends_plan (option_map_or (λ view. farewells s me view 0) (farewell_after end st.maker) [])
+    >>= (λ sent. Ends (Over end st.log))
+
 -- the outputs of the entry were performed
 unfoldable pub settled : Settings → ℕ → What → List Out → RunState → Plan Turned
-settled s me entry outs st = option_map_or (λ end. Ends (Over end st.log)) (end_in entry outs) (greeted s me st)
+settled s me entry outs st = option_map_or (λ end. parted s me end st) (end_in entry outs) (greeted s me st)
 
 -- an entry is taken in at a tick, and its outputs are performed
 unfoldable pub handled : Settings → ℕ → RunState → ℕ → Option Maker × What → Plan Turned

@@ -1,8 +1,9 @@
-//! What a node that takes part sends to the others each loop, and its view maker.
-ghost use Rattle.std.specs.Prelude.{◌≡◌, ◌<◌, ◌≤◌, ◌+◌, length, option_map, option_and_then};
-ghost use Rattle.qn_live.specs.Greetings.{greeting_packet, is_due, maker_where};
+//! What a node that takes part sends to the others, and its view maker.
+ghost use Rattle.std.specs.Prelude.{◌≡◌, ◌<◌, ◌≤◌, ◌+◌, IfSome, length, option_map, option_and_then, true};
+ghost use Rattle.qn_live.specs.Greetings.{farewell_after, greeting_packet, is_due, maker_where};
 ghost use Rattle.qn_member.specs.Maker.{after_hello_due, view_to_announce};
 
+use crate::live_end::LiveEnd;
 use crate::place::Greeting;
 use qn_base::{Rank, View};
 use qn_member::Member;
@@ -43,6 +44,24 @@ pub fn announced(member: &Option<Member>) -> Option<View>
     match member {
         Some(member) => member.announces(),
         None => None,
+    }
+}
+
+/// The view of the farewell after this end: that of the view maker of a node that left clean.
+pub fn farewell(end: LiveEnd, member: &Option<Member>) -> Option<View>
+    ensures view { result ≡ farewell_after end member.now }
+    ensures clean { IfSome result (λ view. end ≡ LiveEnd.Left true) }
+{
+    match end {
+        LiveEnd::Left { clean: true } => match member {
+            Some(member) => member.farewell(),
+            None => None,
+        },
+        LiveEnd::Left { clean: false }
+        | LiveEnd::Turns { .. }
+        | LiveEnd::ClockBack { .. }
+        | LiveEnd::SelfReset(_)
+        | LiveEnd::BootHalted(_) => None,
     }
 }
 

@@ -38,6 +38,8 @@ pub enum Place {
     Act { at: usize },
     /// The greeting is sent to that rank.
     Greet { greeting: Greeting, to: u8 },
+    /// The farewell of a node that left clean is sent to that rank: this view, announced.
+    Part { view: View, to: u8 },
     /// None: the run is over.
     Over(LiveEnd),
 }

@@ -5,11 +5,11 @@ ghost use Rattle.qn_live.specs.Places.{pending};
 
 use crate::asked::{Asked, Given, Room};
 use crate::choosing::{choose, failed_answer, look, loop_after, ready};
-use crate::greeting::{announced, greeting_packet, hello_due, keep_member};
+use crate::greeting::{announced, farewell, greeting_packet, hello_due, keep_member};
 use crate::live_end::LiveEnd;
 use crate::outputs::{self, end_in, waits_after};
 use crate::place::{Choice, Greeting, Place, Waits};
-use qn_base::Rank;
+use qn_base::{Rank, View};
 use qn_member::Member;
 use qn_model::{Entry, Outs, Phase, Settings, What};
 use qn_node::Node;
@@ -55,8 +55,8 @@ impl NodeRun {
     ghost use Rattle.qn_node.specs.Outputs.{IsNodeOutput};
     ghost use Rattle.qn_live.specs.Asking.{IsWithin, question_of, Tells};
     ghost use Rattle.qn_live.specs.Choosing.{is_to_leave};
-    ghost use Rattle.qn_live.specs.Greetings.{greeting_call, others_from, to_send};
-    ghost use Rattle.qn_live.specs.Machine.{EndsWith, HasMore, IsStanding, IsUnderWay, RunFor, Stands, acting, begun, clocking, next_of, saying, settling, state_of, work};
+    ghost use Rattle.qn_live.specs.Greetings.{farewells, greeting_call, others_from, to_send};
+    ghost use Rattle.qn_live.specs.Machine.{EndsWith, HasMore, IsStanding, IsUnderWay, RunFor, Stands, acting, begun, clocking, ending, next_of, parting, saying, settling, state_of, work};
     ghost use Rattle.qn_live.specs.Performing.{noted, out_call, own_number};
     ghost use Rattle.qn_live.specs.Places.{calls_of_greeting};
     ghost use Rattle.qn_live.specs.Running.{Ran};
@@ -114,6 +114,7 @@ impl NodeRun {
             Place::Now(_) => Ok(Asked::Now),
             Place::Act { at } => Ok(self.ask_output(at, room)),
             Place::Greet { greeting, to } => Ok(self.ask_greeting(greeting, to, room)),
+            Place::Part { view, to } => Ok(self.ask_greeting(Greeting::Announce(view), to, room)),
             Place::Over(end) => Err(end),
         }
     }
@@ -165,6 +166,7 @@ impl NodeRun {
             Place::Now(choice) => self.at_tick(choice, given.tick),
             Place::Act { at } => self.performed(at, given, room),
             Place::Greet { greeting, to } => self.greet(greeting, to + 1),
+            Place::Part { view, to } => self.part(view, to + 1),
             Place::Over(_) => {}
         }
     }
@@ -237,7 +239,7 @@ impl NodeRun {
         ensures work { work self.new < 128 * self.old.after + 80 }
     {
         if let Some(end) = end_in(self.entry, &self.outs) {
-            self.place = Place::Over(end);
+            self.leave(end);
             return;
         }
         let live = self.is_live();
@@ -252,6 +254,33 @@ impl NodeRun {
             self.greet(Greeting::Hello, 0);
         } else {
             self.finish();
+        }
+    }
+
+    /// An output ended the run so: it is over, after the farewell of a node that left clean.
+    fn leave(&mut self, end: LiveEnd)
+        ensures runs { (log : List Line)
+            → Stands self.old log
+            → RunFor self.new (ending self.old log end) }
+        ensures work { work self.new < 128 * self.old.after + 80 }
+    {
+        match farewell(end, &self.member) {
+            Some(view) => self.part(view, 0),
+            None => self.place = Place::Over(end),
+        }
+    }
+
+    /// Goes on with this farewell to the ranks from that one on.
+    fn part(&mut self, view: View, from: u8)
+        ensures runs { (log : List Line)
+            → Stands self.old log
+            → RunFor self.new (parting self.old log
+            (farewells self.old.settings self.old.me.0 view from)) }
+        ensures work { work self.new ≤ 33 - from }
+    {
+        match self.other_from(from) {
+            Some(to) => self.place = Place::Part { view, to },
+            None => self.place = Place::Over(LiveEnd::Left { clean: true }),
         }
     }
 

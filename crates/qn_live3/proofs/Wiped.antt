@@ -26,7 +26,7 @@ use Rattle.qn_live.specs.Choosing.{choice_of, choice_plan, is_to_leave, looked, 
 use Rattle.qn_live.specs.Greetings.{sends_plan}
 use Rattle.qn_live.specs.Performing.{disk_call, end_in, noted, out_call, outs_plan, own_number}
 use Rattle.qn_live.specs.Running.{RunState, Turned, Over, Next, Ran, first_state, later}
-use Rattle.qn_live.specs.Runs.{clocked, greeted, handled, live_plan, run_plan, settled, taken, timed, turn_plan}
+use Rattle.qn_live.specs.Runs.{clocked, greeted, handled, live_plan, parted, run_plan, settled, taken, timed, turn_plan}
 
 -- each question is wiped
 abbrev pub AsksWiped : {A : Type 0} → Plan A → Type 0
@@ -72,14 +72,18 @@ greeted_wiped : (s : Settings) (me : ℕ) (st : RunState) → AsksWiped (greeted
 unfolding greeted
 greeted_wiped s me st = wiped_then (sends_plan _) _ (sends_wiped _) (λ sent. tt)
 
+parted_wiped : (s : Settings) (me : ℕ) (end : LiveEnd) (st : RunState) → AsksWiped (parted s me end st)
+unfolding parted
+parted_wiped s me end st = wiped_then (sends_plan _) _ (sends_wiped _) (λ sent. tt)
+
 settled_wiped : (s : Settings) (me : ℕ) (entry : What) (outs : List Out) (st : RunState) → AsksWiped (settled s me entry outs st)
 unfolding settled
 settled_wiped s me entry outs st =
     by_end (end_in entry outs)
   where
-    by_end : (found : Option LiveEnd) → AsksWiped (option_map_or (λ end. Ends (Over end st.log)) found (greeted s me st))
+    by_end : (found : Option LiveEnd) → AsksWiped (option_map_or (λ end. parted s me end st) found (greeted s me st))
     by_end None = greeted_wiped s me st
-    by_end (Some end) = tt
+    by_end (Some end) = parted_wiped s me end st
 
 handled_wiped : (s : Settings) (me : ℕ) (st : RunState) (tick : ℕ) (found : Option Maker × What) → AsksWiped (handled s me st tick found)
 unfolding handled

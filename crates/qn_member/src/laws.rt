@@ -1,9 +1,12 @@
-//! The laws of the visible nodes, and of the test of an announced view.
-ghost use Rattle.std.specs.Prelude.{◌≡◌, ◌<◌, ◌&&◌, ℕ, List, true, length};
+//! The laws of the visible nodes, of the test of an announced view, and of the view maker after any list of its calls.
+ghost use Rattle.std.specs.Prelude.{◌≡◌, ◌<◌, ◌≤◌, ◌&&◌, ℕ, List, None, Some, true, length};
 ghost use Rattle.qn_base.specs.declared.ids.Mask.{Mask};
 ghost use Rattle.qn_base.specs.Members.{is_member};
 ghost use Rattle.qn_model.specs.declared.nodelist.NodeEntry.{NodeEntry};
-ghost use Rattle.qn_member.specs.Maker.{Maker, has_configured, is_configured, is_visible, visible_nodes};
+ghost use Rattle.qn_base.specs.declared.ids.View.{View};
+ghost use Rattle.qn_member.specs.declared.change.Change.{Change};
+ghost use Rattle.qn_member.specs.Maker.{Maker, has_configured, is_configured, is_visible, view_at, visible_nodes};
+ghost use Rattle.qn_member.specs.MakerCalls.{ChangeOf, IsOwnView, MakerRun, MayBegin, first_of, greatest_of, ids_had, is_seen, maker_of};
 
 /// The members of the set of visible nodes are the configured nodes that are visible, and no other rank.
 pub fn law_visible_nodes()
@@ -21,4 +24,40 @@ pub fn law_configured_members()
     ensures passes { (nodes : List NodeEntry) (members : Mask)
         → ((rank : ℕ) → is_member members rank ≡ true → rank < length nodes)
         → has_configured nodes members ≡ true }
+{}
+
+/// Law: after any calls the visible nodes are the node itself and each configured node with a Hello at most three loops ago that
+/// came since its last farewell.
+pub fn law_heard()
+    ensures { (run : MakerRun) (tick rank : ℕ)
+        → length run.settings.nodes ≤ 32
+        → is_member (visible_nodes tick (maker_of run)) rank ≡ is_seen run tick rank }
+{}
+
+/// Law: after any calls the greatest id is that of the views that were announced and installed.
+pub fn law_greatest()
+    ensures { (run : MakerRun) → (maker_of run).greatest ≡ greatest_of (ids_had (first_of run) run.calls) }
+{}
+
+/// Law: after any calls an own view is of the visible nodes, which are other than the present members; its change is settled; its
+/// id is above all that were announced and installed, while there is one; and who is left out was not heard for more than three
+/// loops, or said farewell.
+pub fn law_own_views()
+    ensures { (run : MakerRun) (tick : ℕ) (view : View) → IsOwnView tick (maker_of run) view }
+{}
+
+/// Law: a first view, own or announced, comes only once all nodes are visible, or three loops passed since the first look.
+pub fn law_first_view()
+    ensures { (run : MakerRun) (tick : ℕ) (view : View)
+        → (maker_of run).view ≡ None
+        → view_at tick (maker_of run) ≡ Some view
+        → MayBegin run tick }
+{}
+
+/// Law: a change goes back to a look from which on each found other visible nodes than the present members and gave no view; and
+/// its nodes were found by each look back to a later one of these. "Later" is for ticks that do not fall.
+pub fn law_changes()
+    ensures { (run : MakerRun) (change : Change)
+        → (maker_of run).change ≡ Some change
+        → ChangeOf run change }
 {}

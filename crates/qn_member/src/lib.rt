@@ -5,8 +5,13 @@
 //! record before and after it and its answer. Each view that is made contains the node, and its members are configured.
 #![tactic(auto)]
 
+mod change;
 mod laws;
 mod member;
 
-pub use laws::{law_configured_members, law_visible_nodes};
+pub use change::Change;
+pub use laws::{
+    law_changes, law_configured_members, law_first_view, law_greatest, law_heard, law_own_views,
+    law_visible_nodes,
+};
 pub use member::Member;

@@ -1,6 +1,5 @@
 use Rattle.std.proofs.Common.{◌≡◌, Some, ap, ◌∙◌}
 use Rattle.qn_base.specs.Calls.{blank}
-use Rattle.qn_live.specs.declared.place.Waits.{Waits}
 use Rattle.qn_live.specs.Performing.{disk_call, out_call, waits_after}
 use Rattle.qn_live.proofs.Answering.{disk_answer-told}
 use Rattle.qn_live.proofs.outputs.waits_after.Goals as goal

@@ -1,15 +1,15 @@
-use Rattle.std.proofs.Common.{◌≡◌, ◌<◌, length, sym, ap, subst, ◌∙◌, get_or}
+use Rattle.std.proofs.Common.{◌≡◌, sym, ap, subst, ◌∙◌, get_or}
 use Rattle.std.proofs.lemmas.Option.{slice_get-get_or}
-use Rattle.qn_base.specs.Plans.{Plan, ◌>>=◌, left}
+use Rattle.qn_base.specs.Plans.{◌>>=◌, left}
 use Rattle.qn_model.specs.declared.outputs.Out.TheVariants as out
 use Rattle.qn_live.specs.declared.place.Place.{Place}
 use Rattle.qn_live.specs.declared.place.Place.TheVariants as place
 use Rattle.qn_live.specs.Choosing.{choice_of, packet_in}
-use Rattle.qn_live.specs.Machine.{HasMore, acting, left_at, next_of, receiving, saying, state_of}
-use Rattle.qn_live.specs.Greetings.{to_send}
+use Rattle.qn_live.specs.Machine.{HasMore, acting, left_at, next_of, parting, receiving, saying, state_of}
+use Rattle.qn_live.specs.Greetings.{farewells, to_send}
 use Rattle.qn_live.specs.Running.{later}
 use Rattle.qn_live.specs.Runs.{timed}
-use Rattle.qn_live.proofs.Joining.{acting_more, asked_call, left_call, saying_more, stands_too}
+use Rattle.qn_live.proofs.Joining.{acting_more, asked_call, left_call, parting_more, saying_more, stands_too}
 use Rattle.qn_live.proofs.run.NodeRun.answer.Goals as goal
 
 pub returns-in-Receive-clause-runs : goal.returns-in-Receive-clause-runs
@@ -49,3 +49,14 @@ returns-in-Greet-clause-runs c = λ plan call h tells asked.
     let is : plan ≡ saying run h.log (to_send run.settings run.me.0 run.member said to) =
     h.is_left ∙ ap (λ p. left_at run h.log p) c.in-Greet.is in
     stands_too (left_call call (is ∙ saying_more run h.log said to more.0 more.1)) (c.greet.ensures.runs h.log h.stands)
+
+pub returns-in-Part-clause-runs : goal.returns-in-Part-clause-runs
+returns-in-Part-clause-runs c = λ plan call h tells asked.
+    let run = c.args.self.now in
+    let view = c.in-Part.view in
+    let to = c.in-Part.to in
+    let P : Place → Type 0 = λ p. HasMore run.settings run.me.0 run.outs p in
+    let more : HasMore run.settings run.me.0 run.outs (place.Part view to) = subst P c.in-Part.is h.more in
+    let is : plan ≡ parting run h.log (farewells run.settings run.me.0 view to) =
+    h.is_left ∙ ap (λ p. left_at run h.log p) c.in-Part.is in
+    stands_too (left_call call (is ∙ parting_more run h.log view to more.0 more.1)) (c.part.ensures.runs h.log h.stands)

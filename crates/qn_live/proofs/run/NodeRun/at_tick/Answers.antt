@@ -1,4 +1,4 @@
-use Rattle.std.proofs.Common.{◌≡◌, ◌≤◌, refl, sym, ap, ◌∙◌, arith}
+use Rattle.std.proofs.Common.{◌≤◌, refl, ap, arith}
 use Rattle.qn_base.specs.Plans.{◌>>=◌}
 use Rattle.qn_model.specs.Log.{now}
 use Rattle.qn_model.specs.NodeOutputs.{with_entry}

@@ -1,5 +1,4 @@
-use Rattle.std.proofs.Common.{◌≡◌, None, Some, sym, ◌∙◌}
-use Rattle.qn_live.specs.Choosing.{ready}
+use Rattle.std.proofs.Common.{sym, ◌∙◌}
 use Rattle.qn_live.specs.Machine.{next_of, state_of}
 use Rattle.qn_live.proofs.Joining.{turn_ready, turn_open}
 use Rattle.qn_live.proofs.run.NodeRun.begin.Goals as goal

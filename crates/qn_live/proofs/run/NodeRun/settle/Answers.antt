@@ -1,4 +1,4 @@
-use Rattle.std.proofs.Common.{◌≡◌, Bool, None, Some, sym, ap, ◌∙◌}
+use Rattle.std.proofs.Common.{◌≡◌, None, sym, ap, ◌∙◌}
 use Rattle.qn_base.specs.Plans.{◌>>=◌}
 use Rattle.qn_live.specs.Greetings.{maker_of, maker_where, sends_plan}
 use Rattle.qn_live.specs.Machine.{next_of, state_of}
@@ -10,14 +10,10 @@ use Rattle.qn_live.proofs.run.NodeRun.settle.Goals as goal
 pub returns-in-Some-clause-runs : goal.returns-in-Some-clause-runs
 returns-in-Some-clause-runs c = λ log stands.
     let run = c.args.self.now in
-    record {
-      log = log;
-      stands = stands;
-      more = tt;
-      is_left =
-          ap (λ p. p >>= later (next_of run))
-          (settled_over run.settings run.me.0 run.entry run.outs (state_of run log) c.in-Some.end (sym c.end_in.ensures ∙ c.in-Some.is));
-    }
+    stands_too
+    (ap (λ p. p >>= later (next_of run))
+    (settled_over run.settings run.me.0 run.entry run.outs (state_of run log) c.in-Some.end (sym c.end_in.ensures ∙ c.in-Some.is)))
+    (c.leave.ensures.runs log stands)
 
 pub returns-then-hello_due-clause-runs : goal.returns-then-hello_due-clause-runs
 unfolding hellos
