@@ -1,10 +1,13 @@
+pub mod Admission
 pub mod Answered
+pub mod Halts
 pub mod Lines
 pub mod Memory
 pub mod NextLines
 pub mod Openings
 pub mod Orders
 pub mod Outside
+pub mod Peers
 pub mod Reads
 pub mod Receives
 pub mod Scripted

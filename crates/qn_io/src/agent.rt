@@ -1,8 +1,10 @@
 //! The agent of a resource: a program behind a Unix stream socket, which starts and stops it.
 ghost use Rattle.std.specs.Prelude.{OnOk, codes};
-ghost use Rattle.std.specs.Io.KnownBytes.{Consumes};
+ghost use Rattle.std.specs.Io.KnownBytes.{Appends, Consumes};
+ghost use Rattle.qn_io.specs.Orders.{agent_line};
 
 use crate::deadline::{Deadline, is_late};
+use crate::resource::Order;
 use arrayvec::ArrayString;
 use std::io::{self, ErrorKind, Read, Write};
 use std::net::Net;
@@ -36,17 +38,17 @@ impl Agent {
         self.path.as_str()
     }
 
-    /// Sends it the line on a connection of its own and waits for the answer. It is done only where the answer
+    /// Sends it the line of the order on a connection of its own and waits for the answer. It is done only where the answer
     /// is the line `ok` and comes within 20 seconds.
-    pub(crate) fn ask<R: Net + Clock>(&self, rt: &R, line: &[u8]) -> io::Result<()> {
+    pub(crate) fn ask<R: Net + Clock>(&self, rt: &R, order: Order) -> io::Result<()> {
         let end = Deadline::after(rt, LIMIT)?;
-        let mut stream = UnixStream::connect(rt, self.path.as_str())?;
-        stream.write_all(line)?;
-        read_answer(&mut Answers {
-            stream,
+        let stream = UnixStream::connect(rt, self.path.as_str())?;
+        let mut answers = Answers {
+            stream: &stream,
             clock: rt,
             end,
-        })?;
+        };
+        ask_over(order, &mut &stream, &mut answers)?;
         match end.left(rt)? {
             Some(_) => Ok(()),
             None => Err(late()),
@@ -57,7 +59,7 @@ impl Agent {
 /// A connection that is read up to a moment of the clock.
 #[derive(Drop)]
 struct Answers<'a, C: Clock> {
-    stream: UnixStream,
+    stream: &'a UnixStream,
     clock: &'a C,
     end: Deadline,
 }
@@ -68,7 +70,8 @@ impl<'a, C: Clock> Read for Answers<'a, C> {
             return Err(late());
         };
         self.stream.set_read_timeout(Some(left))?;
-        match self.stream.read(buf) {
+        let mut stream = self.stream;
+        match stream.read(buf) {
             Ok(0) if !buf.is_empty() => Err(closed()),
             Err(error) if is_late(&error) => Err(late()),
             done => done,
@@ -84,6 +87,18 @@ fn late() -> io::Error {
 /// The agent closed the connection before it had answered.
 fn closed() -> io::Error {
     io::Error::new(ErrorKind::UnexpectedEof, "closed before an answer")
+}
+
+/// Sends an order over a connection and reads the answer: it is done only where the whole line of the order was sent and the answer
+/// begins with the line `ok`.
+pub fn ask_over<W: Write, R: Read>(order: Order, writer: &mut W, reader: &mut R) -> io::Result<()>
+    ensures sent { OnOk result
+        (Appends (W.contents writer.old) (W.contents writer.new) (agent_line order)) }
+    ensures answered { OnOk result
+        (Consumes (R.remaining reader.old) (R.remaining reader.new) (codes "ok\n")) }
+{
+    writer.write_all(order.agent_line())?;
+    read_answer(reader)
 }
 
 /// Reads the answer, which is success only where it is the line `ok`.

@@ -16,7 +16,7 @@ pub(crate) const FIRST_OF_A_FILE: RawFd = 3;
 /// The most bytes of a path that the system opens.
 const PATH: usize = 4096;
 
-/// A file that is open for reading and writing, never under the descriptor of a standard stream.
+/// A file that is open, never under the descriptor of a standard stream.
 #[derive(Drop)]
 pub(crate) struct NamedFile {
     pub(crate) file: File,
@@ -27,7 +27,27 @@ pub(crate) struct NamedFile {
 impl NamedFile {
     /// Opens the file of that path for reading and writing, and makes it where it is absent.
     pub(crate) fn open<R: Files<File = File>>(rt: &R, path: &str) -> io::Result<NamedFile> {
-        let file = open_apart(rt, path)?;
+        let mut options = OpenOptions::new();
+        options.read(true).write(true).create(true);
+        NamedFile::open_with(rt, path, &options)
+    }
+
+    /// Opens the file of that path for writing alone, which fails where it is absent.
+    pub(crate) fn open_to_write<R: Files<File = File>>(
+        rt: &R,
+        path: &str,
+    ) -> io::Result<NamedFile> {
+        let mut options = OpenOptions::new();
+        options.write(true);
+        NamedFile::open_with(rt, path, &options)
+    }
+
+    fn open_with<R: Files<File = File>>(
+        rt: &R,
+        path: &str,
+        options: &OpenOptions,
+    ) -> io::Result<NamedFile> {
+        let file = open_apart(rt, path, options)?;
         let mut kept = ArrayString::new();
         let _ = kept.try_push_str(path);
         Ok(NamedFile { file, path: kept })
@@ -50,15 +70,15 @@ impl NamedFile {
     }
 }
 
-/// Opens a file for reading and writing, and makes it where it is absent. Its descriptor is never that of a
+/// Opens a file with these options. Its descriptor is never that of a
 /// standard stream: where one of those is closed, the path is opened again until a higher one comes, so
 /// that nothing which is written to a stream reaches the file.
-fn open_apart<R: Files<File = File>>(rt: &R, path: &str) -> io::Result<File>
+fn open_apart<R: Files<File = File>>(rt: &R, path: &str, options: &OpenOptions) -> io::Result<File>
     ensures { IfOk result (λ file. pos 3 ≤ℤ file_raw_fd file) }
 {
     let mut lower = [None, None, None, None];
     for place in &mut lower {
-        let file = open_once(rt, path)?;
+        let file = open_once(rt, path, options)?;
         if file.as_raw_fd() >= FIRST_OF_A_FILE {
             return Ok(file);
         }
@@ -68,9 +88,7 @@ fn open_apart<R: Files<File = File>>(rt: &R, path: &str) -> io::Result<File>
 }
 
 /// Opens a file by the descriptor that the system gives, again after each interruption.
-fn open_once<R: Files<File = File>>(rt: &R, path: &str) -> io::Result<File> {
-    let mut options = OpenOptions::new();
-    options.read(true).write(true).create(true);
+fn open_once<R: Files<File = File>>(rt: &R, path: &str, options: &OpenOptions) -> io::Result<File> {
     'tries: for _ in 0..TRIES {
         match options.open(rt, path) {
             Err(error) if error.kind() == ErrorKind::Interrupted => {}

@@ -1,31 +1,26 @@
-//! The real outside: image files, the monotonic clock, a port on 127.0.0.1, a watchdog and a resource.
-ghost use Rattle.std.specs.Prelude.{◌≡◌, ◌↔◌, ◌+◌, ◌<◌, ◌≤◌, IsTrue, IsSomeAnd};
+//! The real outside: image files, the monotonic clock, a port, a watchdog, a resource and a file for halts.
 
 use crate::action::{Action, noted};
 use crate::calls::{Env, Got, Opening, PACKET, SECTOR};
 use crate::devices::Devices;
 use crate::disk::Disk;
+use crate::edge::{Edge, Guard};
 use crate::reported::reported;
 use crate::resource::Order;
-use crate::watchdog::Watchdog;
 use qn_base::{Failed, Rank};
 use std::fs::File;
-use std::io;
 use std::marker::Model;
 use std::net::Net;
 use std::rt::Files;
 use std::time::Clock;
 
-/// A feed is given only within this time after the last answer of `now`, in milliseconds: it is to take effect
-/// within the feed delay of its decision, and a stop or a start before it may have taken long.
-const FEED_LIMIT: u64 = 500;
-
-/// The outside of a node over the runtime: one image file or three, the monotonic clock in milliseconds, UDP on 127.0.0.1, a
-/// watchdog and a resource. It does not tell its calls, and is seen as its count of faults. Of each call that failed
+/// The outside of a node over the runtime: one image file or three, the monotonic clock in milliseconds, UDP, a
+/// watchdog, a resource and a file for halts. It does not tell its calls, and is seen as its count of faults. Of each call that failed
 /// a line on standard error says why, and of what a node opens, starts, stops, disarms and ends one says when.
 #[derive(Drop)]
 pub struct RealEnv<R: Files<File = File> + Net + Clock + Eprint + Drop> {
     rt: R,
+    edge: Edge,
     disk: Disk,
     devices: Option<Devices>,
     last_tick: Option<u64>,
@@ -44,12 +39,13 @@ impl<R: Files<File = File> + Net + Clock + Eprint + Drop> RealEnv<R> {
     ghost use Rattle.std.specs.Prelude.{◌≡◌, ◌≤◌, IfOk, IfSome, OnErr};
     ghost use Rattle.qn_io.specs.Outside.{HasRisen};
 
-    /// An outside over this runtime, with nothing opened and no fault so far.
-    pub fn new(rt: R) -> RealEnv<R>
+    /// An outside over this runtime with what was said of it before the command, with nothing opened and no fault so far.
+    pub fn new(rt: R, edge: Edge) -> RealEnv<R>
         ensures { result ≡ 0 }
     {
         RealEnv {
             rt,
+            edge,
             disk: Disk::closed(),
             devices: None,
             last_tick: None,
@@ -110,18 +106,42 @@ impl<R: Files<File = File> + Net + Clock + Eprint + Drop> RealEnv<R> {
     }
 
     /// Takes a packet from the network, where that is open.
-    fn take_packet(&self, packet: &mut [u8; PACKET]) -> Result<Option<usize>, Failed>
-        ensures { IfOk result (λ came. IfSome came (λ count. count ≤ 129)) }
+    fn take_packet(&mut self, packet: &mut [u8; PACKET]) -> Result<Option<usize>, Failed>
+        ensures within { IfOk result (λ came. IfSome came (λ count. count ≤ 129)) }
+        ensures same { self.new ≡ self.old }
     {
-        let network = &self.devices.as_ref().ok_or(Failed)?.network;
-        reported(&self.rt, "network", network.receive(&self.rt, packet))
+        let tick = self.last_tick.unwrap_or(0);
+        let network = &mut self.devices.as_mut().ok_or(Failed)?.network;
+        let came = network.receive(&self.rt, packet);
+        network.say_refusals(&self.rt, tick);
+        reported(&self.rt, "network", came)
+    }
+
+    /// Says on standard error, where a node was opened whose packets nothing guards, that others can forge them.
+    fn warn_of_forgery(&self, done: Result<(), Failed>) -> Result<(), Failed>
+        ensures { result ≡ done }
+    {
+        if done.is_ok() && matches!(self.edge.guard, Guard::Unsaid) {
+            let _ = eprintln!(&self.rt;
+                "quorumd: packets carry no seal: any user of this host can forge them"
+            );
+        }
+        done
+    }
+
+    /// Tells the file for halts of a halt, where there is one.
+    fn tell_halt(&self, code: u8) -> Result<(), Failed> {
+        match &self.devices.as_ref().ok_or(Failed)?.halt {
+            Some(halt) => reported(&self.rt, halt.path(), halt.tell(code)),
+            None => Ok(()),
+        }
     }
 
     /// Feeds the watchdog where that is in time.
     fn feed_in_time(&self) -> Result<(), Failed> {
         let tick = self.tick().ok_or(Failed)?;
         let watchdog = &self.devices.as_ref().ok_or(Failed)?.watchdog;
-        let done = self.feed_at(tick, watchdog);
+        let done = watchdog.feed(self.last_tick, tick);
         reported(&self.rt, watchdog.path(), done)
     }
 
@@ -129,25 +149,6 @@ impl<R: Files<File = File> + Net + Clock + Eprint + Drop> RealEnv<R> {
     fn disarm_watchdog(&self) -> Result<(), Failed> {
         let watchdog = &self.devices.as_ref().ok_or(Failed)?.watchdog;
         reported(&self.rt, watchdog.path(), watchdog.disarm())
-    }
-
-    /// Feeds the watchdog where that is in time at that tick.
-    fn feed_at(&self, tick: u64, watchdog: &Watchdog) -> io::Result<()> {
-        if is_feed_in_time(self.last_tick, tick) {
-            watchdog.feed()
-        } else {
-            Err(io::Error::other("too late for a feed"))
-        }
-    }
-}
-
-/// Whether a feed at that tick is in time after the last answer of `now`.
-fn is_feed_in_time(last_tick: Option<u64>, tick: u64) -> bool
-    ensures { IsTrue result ↔ IsSomeAnd last_tick (λ last. (last ≤ tick) × (tick < last + 500)) }
-{
-    match last_tick {
-        Some(last) => last <= tick && tick - last < FEED_LIMIT,
-        None => false,
     }
 }
 
@@ -172,16 +173,17 @@ impl<R: Files<File = File> + Net + Clock + Eprint + Drop> Env for RealEnv<R> {
         self.counted(done)
     }
 
-    /// Opens the port, the images, the resource, which is stopped, and the watchdog, in this order. Where one of
+    /// Opens the port, the images, the resource, which is stopped, the file for halts and the watchdog, in this order. Where one of
     /// them fails the others are closed, and those after it are not touched. Of three images one may fail, which is
     /// counted, and each later call on it fails.
     fn open_node(&mut self, opening: &Opening<'_>) -> Result<(), Failed> {
         self.disk = Disk::closed();
         self.devices = None;
-        let opened = Devices::open(&self.rt, opening);
+        let opened = Devices::open(&self.rt, &self.edge, opening);
         let done = self.keep(opened);
         let tick = self.tick().unwrap_or(0);
         let done = noted(&self.rt, tick, Action::Open(opening), done);
+        let done = self.warn_of_forgery(done);
         self.counted(done)
     }
 
@@ -242,7 +244,7 @@ impl<R: Files<File = File> + Net + Clock + Eprint + Drop> Env for RealEnv<R> {
 
     /// Sends the packet, whether a node is there or not.
     fn send(&mut self, to: Rank, bytes: &[u8]) -> Result<(), Failed> {
-        let done = match &self.devices {
+        let done = match &mut self.devices {
             Some(devices) => reported(&self.rt, "network", devices.network.send(to, bytes)),
             None => Err(Failed),
         };
@@ -255,8 +257,9 @@ impl<R: Files<File = File> + Net + Clock + Eprint + Drop> Env for RealEnv<R> {
         self.counted(done)
     }
 
-    /// Says so on standard error, and nothing else.
+    /// Tells the file for halts, where there is one, and says so on standard error.
     fn halt(&mut self, code: u8) {
-        let _ = self.note(Action::Halt(code), Ok(()));
+        let done = self.tell_halt(code);
+        let _ = self.note(Action::Halt(code), done);
     }
 }

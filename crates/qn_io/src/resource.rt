@@ -12,7 +12,7 @@ const SOCKET: &str = "unix:";
 
 /// What a resource is told to do.
 #[derive(Clone, Copy, PartialEq, Eq)]
-pub(crate) enum Order {
+pub enum Order {
     Start,
     Stop,
 }
@@ -32,7 +32,7 @@ impl Order {
     }
 
     /// The line that an agent is sent.
-    fn agent_line(self) -> &'static [u8]
+    pub(crate) fn agent_line(self) -> &'static [u8]
         ensures { result.now ≡ agent_line self }
     {
         match self {
@@ -79,7 +79,7 @@ impl Resource {
     pub(crate) fn order<R: Net + Clock>(&self, rt: &R, order: Order) -> io::Result<()> {
         match self {
             Resource::File(file) => file.write_at(order.file_word(), 0),
-            Resource::Agent(agent) => agent.ask(rt, order.agent_line()),
+            Resource::Agent(agent) => agent.ask(rt, order),
         }
     }
 }

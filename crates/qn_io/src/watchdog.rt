@@ -1,12 +1,10 @@
 //! The watchdog: a device, a pipe or a file that takes a byte at each feed, and one more where it is disarmed.
 use crate::again::write_again;
+use crate::feeding::feed_once;
 use crate::named_file::NamedFile;
 use std::fs::File;
 use std::io;
 use std::rt::Files;
-
-/// The byte of a feed.
-const FEED: u8 = b'1';
 
 /// The byte that has a watchdog device stop once it is closed.
 const DISARM: u8 = b'V';
@@ -29,19 +27,15 @@ impl Watchdog {
         self.opened.path()
     }
 
-    /// Feeds it.
-    pub(crate) fn feed(&self) -> io::Result<()> {
-        self.write(FEED)
+    /// Feeds it, where that is in time at that tick after the last answer of `now`. The byte stands after those before it: a device and
+    /// a pipe take no write at a place of a file.
+    pub(crate) fn feed(&self, last_tick: Option<u64>, tick: u64) -> io::Result<()> {
+        feed_once(last_tick, tick, &mut &self.opened.file)
     }
 
     /// Disarms it.
     pub(crate) fn disarm(&self) -> io::Result<()> {
-        self.write(DISARM)
-    }
-
-    /// Writes a byte after those before it. A device and a pipe take no write at a place of a file.
-    fn write(&self, byte: u8) -> io::Result<()> {
-        write_again(&mut &self.opened.file, &[byte])?;
+        write_again(&mut &self.opened.file, &[DISARM])?;
         Ok(())
     }
 }

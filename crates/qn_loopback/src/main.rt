@@ -14,7 +14,8 @@
 //!     N silence                              no packet comes
 //!     N write SECTOR BYTE                    it writes a sector of such bytes
 //!     N read SECTOR BYTE                     it reads a sector of such bytes
-//!     stranger RANK LENGTH                   somebody else sends so many bytes to the port of the node of that rank
+//!     stranger RANK LENGTH                   somebody at the port of rank 7 sends so many bytes to the port of the node of that rank
+//!     outsider RANK LENGTH                   somebody at a port that no rank has does
 //!     pass TIME                              the clock goes on by so many milliseconds, and nobody waits
 //!     agent TIME                             the next connection to an agent is made, and the clock goes on by so much meanwhile
 //!     line TEXT                              that agent answers with this line
@@ -39,7 +40,7 @@ mod stage;
 mod words;
 
 use machine::Machine;
-use qn_io::RealEnv;
+use qn_io::{Edge, RealEnv};
 use stage::{Nodes, Stage};
 use std::fs::File;
 use std::io;
@@ -59,9 +60,9 @@ fn play_on<R: Files<File = File> + Net + Clock + Eprint>(
     stage: &Stage<'_>,
 ) -> io::Result<()> {
     let mut nodes = Nodes {
-        first: RealEnv::new(machine),
-        second: RealEnv::new(machine),
-        third: RealEnv::new(machine),
+        first: RealEnv::new(machine, Edge::local()),
+        second: RealEnv::new(machine, Edge::local()),
+        third: RealEnv::new(machine, Edge::local()),
     };
     stage.play(&mut nodes)
 }

@@ -19,6 +19,8 @@ pub struct Ports {
     pub first: u16,
     /// Who holds the last port of the range, so that no other run of this program takes the same one.
     stranger: UdpSocket,
+    /// Who holds a port of none of the ranks.
+    outsider: UdpSocket,
 }
 
 impl Ports {
@@ -38,16 +40,28 @@ impl Ports {
         for rank in 0..3 {
             let _free = bind(net, first.wrapping_add(rank))?;
         }
-        Ok(Ports { first, stranger })
+        let outsider = bind(net, 0)?;
+        Ok(Ports {
+            first,
+            stranger,
+            outsider,
+        })
     }
 
     /// Whether the stranger sends so many bytes to the node of that rank.
     pub fn send(&self, rank: u8, length: usize) -> bool {
+        self.send_from(&self.stranger, rank, length)
+    }
+
+    /// Whether the outsider does.
+    pub fn send_from_outside(&self, rank: u8, length: usize) -> bool {
+        self.send_from(&self.outsider, rank, length)
+    }
+
+    fn send_from(&self, socket: &UdpSocket, rank: u8, length: usize) -> bool {
         let bytes = numbered();
         let to = address(self.first.wrapping_add(u16::from(rank)));
-        self.stranger
-            .send_to(&bytes[..length.min(LONG)], to)
-            .is_ok()
+        socket.send_to(&bytes[..length.min(LONG)], to).is_ok()
     }
 }
 

@@ -81,6 +81,7 @@ impl<'a> Stage<'a> {
     fn own_step(&self, verb: &str, words: &str) -> Option<bool> {
         match verb {
             "stranger" => self.stranger(words),
+            "outsider" => self.outsider(words),
             "pass" => self.pass(words),
             "agent" => self.agent(words),
             "line" => Some(self.machine.answers(words) && self.machine.answers("\n")),
@@ -97,6 +98,11 @@ impl<'a> Stage<'a> {
     fn stranger(&self, words: &str) -> Option<bool> {
         let (rank, length) = front_and_rest(words);
         Some(self.ports.send(byte(rank)?, size(length)?))
+    }
+
+    fn outsider(&self, words: &str) -> Option<bool> {
+        let (rank, length) = front_and_rest(words);
+        Some(self.ports.send_from_outside(byte(rank)?, size(length)?))
     }
 
     fn pass(&self, time: &str) -> Option<bool> {

@@ -6,6 +6,7 @@ use crate::history::{rank_word, read_rank, read_settings, settings_words};
 use crate::makers::Makers;
 use crate::packets::{Changes, PacketRow};
 use crate::rows::{check_entry, row_of};
+use crate::seals::Seals;
 use crate::texts::check_text;
 use crate::ties::check_tie;
 use qn_fence::Fence;
@@ -36,7 +37,7 @@ struct Totals {
 }
 
 /// What was read so far.
-#[derive(Default, Drop)]
+#[derive(Drop)]
 struct Reader {
     totals: Totals,
     /// The settings of the history that begins.
@@ -45,6 +46,7 @@ struct Reader {
     tie: Option<Tie>,
     fence: Option<Fence>,
     makers: Makers,
+    seals: Seals,
 }
 
 /// Writes each row from which a form differs, and then how many rows there were.
@@ -52,7 +54,7 @@ pub fn check_all<R: BufRead + Drop>(
     rt: &(impl Print + AllocGlobal),
     lines: Lines<R, Global>,
 ) -> io::Result<()> {
-    let mut reader = Reader::default();
+    let mut reader = Reader::new(rt.alloc());
     for line in lines {
         let line = line?;
         let text = line.as_str();
@@ -74,6 +76,17 @@ fn said(right: Option<bool>, what: &'static str) -> Option<&'static str> {
 }
 
 impl Reader {
+    fn new(alloc: Global) -> Reader {
+        Reader {
+            totals: Totals::default(),
+            settings: None,
+            history: None,
+            tie: None,
+            makers: Makers::default(),
+            seals: Seals::new(alloc),
+        }
+    }
+
     /// What differs at a line: a row of a kind, or a line that begins a history.
     fn difference(&mut self, alloc: Global, line: &str) -> Option<&'static str> {
         let Some((kind, row)) = line.split_once('\t') else {
@@ -101,6 +114,7 @@ impl Reader {
             "members" | "line" | "fence" => self.call_difference(alloc, kind, row),
             "packet" => self.packet_difference(alloc, row),
             "maker" => said(self.makers.check(alloc, row), "the answer of a view maker"),
+            "seal" => said(self.seals.check(alloc, row), "the seal"),
             _ => self.row_difference(alloc, line),
         }
     }
@@ -180,6 +194,7 @@ impl Reader {
             "view makers {} calls {}",
             self.makers.made, self.makers.calls
         )?;
+        println!(rt; "rows of the seal {}", self.seals.rows)?;
         println!(rt;
             "histories {} entries {} looks {}",
             totals.histories, totals.entries, totals.looks

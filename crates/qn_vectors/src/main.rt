@@ -1,7 +1,7 @@
 //! Rows that were worked out elsewhere, run through each form of a count of votes and of a node that the
 //! repository has: those from the whole list, and those in fixed memory; through the tie breaker and the view maker in
-//! fixed memory; settings texts, through their reader; packets, through their reader and their writer; and public calls
-//! beside which the program makes others.
+//! fixed memory; settings texts, through their reader; packets, through their reader and their writer; sealed packets,
+//! through the writer of seals and what a receiver takes; and public calls beside which the program makes others.
 //!
 //!     qn_vectors             reads rows, and writes each from which a form differs, and how many there were
 //!     qn_vectors show        reads one history, and writes what comes out of each entry
@@ -24,6 +24,7 @@ mod makers;
 mod packets;
 mod rows;
 mod running;
+mod seals;
 mod texts;
 mod ties;
 mod written;

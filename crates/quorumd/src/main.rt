@@ -1,18 +1,25 @@
 //! The program `quorumd`: it makes the words, standard input, standard output and the outside of a node, calls
 //! `top` on them and ends with its status. Everything that it promises stands on `top`.
 //!
-//! Before `top` it ends with status 2 for a word that is no UTF-8, and with status 11 where there
-//! is no memory for the words; it then writes nothing. The words `--help`, `-h` and `--version` are answered here. After a status 2 of
+//! The words before the command, and the files that they name, are read here, and `top` is handed the rest: where one is wrong, a line on
+//! standard error says so and the status is 2. It is 2 also for a word that is no UTF-8, and 11 where there is no memory for the words or
+//! the files; nothing is written then. The words `--help`, `-h` and `--version` are answered here. After a status 2 of
 //! `top` a line on standard error says which word was not taken.
 #![tactic(auto)]
 
-use qn_io::{RealEnv, StdSink, StdSource, put_all};
+mod before;
+mod edge;
+
+use before::Before;
+use edge::edge_of;
+use qn_io::{Edge, RealEnv, StdSink, StdSource, put_all};
 use qn_top::top;
 use qn_usage::{QUORUMD, help_text, refusal_of, version_text};
 use std::env;
+use std::fs::File;
 use std::io::{self, ErrorKind};
 use std::process::ExitCode;
-use std::rt::Env;
+use std::rt::{Env, Files};
 
 /// The name of the program, and what it is.
 const PROGRAM: &str = "quorumd";
@@ -36,17 +43,39 @@ fn main(rt: HostRuntime) -> ExitCode {
     if let Some(status) = answer_about(&rt, words.as_slice()) {
         return ExitCode::from(status);
     }
+    let (edge, words) = match before_command(&rt, words.as_slice()) {
+        Ok(read) => read,
+        Err(status) => return ExitCode::from(status),
+    };
     let Ok(outside) = rt.clone() else {
         return ExitCode::from(NO_MEMORY);
     };
     let mut input = StdSource::new(rt.reader(), &rt);
     let mut out = StdSink::new(io::writer(&rt), &rt);
-    let mut env = RealEnv::new(outside);
-    let status = top(rt.alloc(), words.as_slice(), &mut input, &mut out, &mut env);
+    let mut env = RealEnv::new(outside, edge);
+    let status = top(rt.alloc(), words, &mut input, &mut out, &mut env);
     if status == USAGE {
-        say_what_is_wrong(&rt, words.as_slice());
+        say_what_is_wrong(&rt, words);
     }
     ExitCode::from(status)
+}
+
+/// What the words before the command say, and the words after them; or the status to end with.
+fn before_command<'words, R: Files<File = File> + AllocGlobal + Eprint>(
+    rt: &R,
+    words: &'words [String],
+) -> Result<(Edge, &'words [String]), u8> {
+    match Before::read(words) {
+        Ok(before) => {
+            let edge = edge_of(rt, &before)?;
+            let count = before.count.min(words.len());
+            Ok((edge, words.split_at(count).1))
+        }
+        Err(fault) => {
+            let _ = eprintln!(rt; "{PROGRAM}: {fault}");
+            Err(USAGE)
+        }
+    }
 }
 
 /// Answers what is asked about the program itself, with the status to end with; None where the words ask for something else.

@@ -1,0 +1,41 @@
+//! What of the outside is said before the command: where the nodes are, what guards their packets, and what is told of a halt.
+use qn_seal::{Keys, text_of};
+use std::net::IpAddr;
+
+/// The most nodes of a cluster.
+pub const MOST_NODES: usize = 32;
+
+/// What guards the packets between nodes.
+#[derive(Clone, Copy)]
+pub enum Guard {
+    /// Nothing was said of it: packets carry no seal, which the opening of a node says in a line.
+    Unsaid,
+    /// Packets carry no seal, since the network is closed to others.
+    ClosedNetwork,
+    /// Each packet is sealed under the first of the keys, and opened by each.
+    Sealed(Keys),
+}
+
+/// What of the outside is said before the command.
+#[derive(Drop)]
+pub struct Edge {
+    /// The address of each rank; None: all of them on 127.0.0.1.
+    pub addresses: Option<[Option<IpAddr>; MOST_NODES]>,
+    pub guard: Guard,
+    /// What stands for the settings text in a tag.
+    pub text: [u8; 32],
+    /// The path of a file that is told of a halt.
+    pub halt: Option<String>,
+}
+
+impl Edge {
+    /// Nothing said: all nodes on 127.0.0.1, no seal, no text, no file for a halt.
+    pub fn local() -> Edge {
+        Edge {
+            addresses: None,
+            guard: Guard::Unsaid,
+            text: text_of(&[]),
+            halt: None,
+        }
+    }
+}

@@ -1,0 +1,49 @@
+//! A file that is told of a halt, as /proc/sysrq-trigger, which then ends the machine at once.
+ghost use Rattle.std.specs.Prelude.{OnOk};
+ghost use Rattle.std.specs.Io.KnownBytes.{Appends};
+ghost use Rattle.qn_io.specs.Halts.{halt_word};
+
+use crate::again::write_again;
+use crate::named_file::NamedFile;
+use std::fs::File;
+use std::io::{self, Write};
+use std::rt::Files;
+
+/// The file, open from the opening of the node on, since nothing is opened while a node ends.
+#[derive(Drop)]
+pub(crate) struct HaltFile {
+    opened: NamedFile,
+}
+
+impl HaltFile {
+    /// Opens the file of that path for writing alone. It is not made where it is absent.
+    pub(crate) fn open<R: Files<File = File>>(rt: &R, path: &str) -> io::Result<HaltFile> {
+        let opened = NamedFile::open_to_write(rt, path)?;
+        Ok(HaltFile { opened })
+    }
+
+    /// The path that it was opened by.
+    pub(crate) fn path(&self) -> &str {
+        self.opened.path()
+    }
+
+    /// Tells it of a halt of that code.
+    pub(crate) fn tell(&self, code: u8) -> io::Result<()> {
+        put_halt(code, &mut &self.opened.file)
+    }
+}
+
+/// Writes what a halt of that code has the machine do: nothing where the watchdog is to end it.
+pub fn put_halt<W: Write>(code: u8, writer: &mut W) -> io::Result<()>
+    ensures { OnOk result
+        (Appends (W.contents writer.old) (W.contents writer.new) (halt_word code)) }
+{
+    let word: &[u8] = match code {
+        2 => b"b",
+        3 => b"o",
+        5 => b"c",
+        _ => return Ok(()),
+    };
+    write_again(writer, word)?;
+    Ok(())
+}

@@ -1,0 +1,148 @@
+//! The words before the command: `--links CONF`, `--key FILE` up to three times, `--open` and `--halt FILE`, in any order.
+use std::fmt;
+use std::fmt::Display;
+
+/// The most words of `--key`.
+pub const MOST_KEYS: usize = 3;
+
+/// The most words that may stand before the command: two for each but `--open`.
+const MOST_WORDS: u32 = 11;
+
+/// What the words before the command say.
+#[derive(Clone, Copy, Default)]
+pub struct Before<'words> {
+    pub links: Option<&'words str>,
+    pub keys: [Option<&'words str>; MOST_KEYS],
+    pub is_open: bool,
+    pub halt: Option<&'words str>,
+    /// How many words these are.
+    pub count: usize,
+}
+
+/// What is wrong with them.
+#[derive(Clone, Copy)]
+pub enum WordFault<'words> {
+    Twice(&'words str),
+    NoValue(&'words str),
+    FourthKey,
+    OpenBesideKey,
+    NeitherKeyNorOpen,
+}
+
+impl<'words> Display for WordFault<'words> {
+    fn fmt<W: fmt::Write>(&self, f: &mut fmt::Formatter<W>) -> fmt::Result {
+        match self {
+            WordFault::Twice(word) => write!(f, "{word}: given twice"),
+            WordFault::NoValue(word) => write!(f, "{word}: its value is missing"),
+            WordFault::FourthKey => f.write_str("--key: more than three"),
+            WordFault::OpenBesideKey => f.write_str("--open beside --key"),
+            WordFault::NeitherKeyNorOpen => f.write_str("--links wants --key or --open"),
+        }
+    }
+}
+
+/// One of the words before the command.
+#[derive(Clone, Copy, PartialEq, Eq)]
+enum Word {
+    Links,
+    Key,
+    Open,
+    Halt,
+}
+
+impl Word {
+    /// The word that a text is.
+    fn of(text: &str) -> Option<Word> {
+        match text {
+            "--links" => Some(Word::Links),
+            "--key" => Some(Word::Key),
+            "--open" => Some(Word::Open),
+            "--halt" => Some(Word::Halt),
+            _ => None,
+        }
+    }
+}
+
+impl<'words> Before<'words> {
+    /// Reads the words at the front, up to the first that is none of them.
+    pub fn read(words: &'words [String]) -> Result<Before<'words>, WordFault<'words>> {
+        let mut before = Before::default();
+        'words: for _ in 0..MOST_WORDS {
+            let Some(text) = words.get(before.count) else {
+                break 'words;
+            };
+            let Some(word) = Word::of(text.as_str()) else {
+                break 'words;
+            };
+            before.take(word, text.as_str(), words)?;
+        }
+        before.judged()
+    }
+
+    /// Takes the word, which stands at the place that is counted, and its value after it.
+    fn take(
+        &mut self,
+        word: Word,
+        text: &'words str,
+        words: &'words [String],
+    ) -> Result<(), WordFault<'words>> {
+        self.count = self.count.saturating_add(1);
+        if word == Word::Open {
+            return self.open(text);
+        }
+        let value = words.get(self.count).map(String::as_str);
+        let Some(value) = value.filter(|value| Word::of(value).is_none()) else {
+            return Err(WordFault::NoValue(text));
+        };
+        self.count = self.count.saturating_add(1);
+        match word {
+            Word::Links => put_once(&mut self.links, text, value),
+            Word::Halt => put_once(&mut self.halt, text, value),
+            Word::Key => self.key(value),
+            Word::Open => Ok(()),
+        }
+    }
+
+    fn open(&mut self, text: &'words str) -> Result<(), WordFault<'words>> {
+        if self.is_open {
+            return Err(WordFault::Twice(text));
+        }
+        self.is_open = true;
+        Ok(())
+    }
+
+    fn key(&mut self, file: &'words str) -> Result<(), WordFault<'words>> {
+        match self.keys.iter_mut().find(|key| key.is_none()) {
+            Some(place) => {
+                *place = Some(file);
+                Ok(())
+            }
+            None => Err(WordFault::FourthKey),
+        }
+    }
+
+    /// The same, where they go together.
+    fn judged(self) -> Result<Before<'words>, WordFault<'words>> {
+        let has_key = self.keys[0].is_some();
+        if self.is_open && has_key {
+            return Err(WordFault::OpenBesideKey);
+        }
+        if self.links.is_some() && !self.is_open && !has_key {
+            return Err(WordFault::NeitherKeyNorOpen);
+        }
+        Ok(self)
+    }
+}
+
+/// Puts the value of a word that may stand once.
+fn put_once<'words>(
+    place: &mut Option<&'words str>,
+    text: &'words str,
+    value: &'words str,
+) -> Result<(), WordFault<'words>> {
+    if place.is_some() {
+        return Err(WordFault::Twice(text));
+    }
+    *place = Some(value);
+    Ok(())
+}

@@ -1,0 +1,170 @@
+//! Reads the files that the words before the command name: the addresses and the digest of a settings text, and keys. Of the first that
+//! is wrong a line on standard error says what is; nothing was opened then but these files.
+use crate::before::{Before, MOST_KEYS};
+use crate::{NO_MEMORY, PROGRAM, USAGE};
+use qn_commands::Fault;
+use qn_conf::{MOST_TEXT_BYTES, read_tree};
+use qn_io::{Edge, Guard};
+use qn_links::{Links, links_of, sections_of};
+use qn_seal::{Key, Keys, text_of};
+use qn_settings::settings;
+use std::fmt::Display;
+use std::fs::{self, File};
+use std::io::{self, Read};
+use std::os::unix::fs::PermissionsExt;
+use std::rt::Files;
+
+/// How many bytes a key file has.
+const LEAST_KEY: u64 = 32;
+
+const MOST_KEY: u64 = 4096;
+
+/// What of the outside these words say, or the status to end with.
+pub fn edge_of<R: Files<File = File> + AllocGlobal + Eprint>(
+    rt: &R,
+    before: &Before<'_>,
+) -> Result<Edge, u8> {
+    let mut edge = Edge::local();
+    if let Some(path) = before.halt {
+        edge.halt = Some(String::from_str(rt.alloc(), path).map_err(|_| NO_MEMORY)?);
+    }
+    edge.guard = match keys_of(rt, &before.keys)? {
+        Some(keys) => Guard::Sealed(keys),
+        None if before.is_open => Guard::ClosedNetwork,
+        None => Guard::Unsaid,
+    };
+    if let Some(path) = before.links {
+        let text = read_file(rt, path, MOST_TEXT_BYTES as u64 + 1)?;
+        edge.text = text_of(text.as_slice());
+        edge.addresses = Some(read_links(rt, path, text.as_slice())?);
+    }
+    Ok(edge)
+}
+
+/// Says what is wrong with a file, and gives the status to end with. That it cannot be said is no fault.
+fn refuse<E: Eprint, W: Display + Drop>(errors: &E, path: &str, why: W) -> u8 {
+    let _ = eprintln!(errors; "{PROGRAM}: {path}: {why}");
+    USAGE
+}
+
+/// The bytes of a file, of a longer one so many.
+fn read_file<R: Files<File = File> + AllocGlobal + Eprint>(
+    rt: &R,
+    path: &str,
+    most: u64,
+) -> Result<Vec<u8>, u8> {
+    let mut bytes = Vec::new(rt.alloc());
+    match read_into(rt, path, most, &mut bytes) {
+        Ok(()) => Ok(bytes),
+        Err(error) if error.kind() == io::ErrorKind::OutOfMemory => Err(NO_MEMORY),
+        Err(error) => Err(refuse(rt, path, error)),
+    }
+}
+
+fn read_into<R: Files<File = File>>(
+    rt: &R,
+    path: &str,
+    most: u64,
+    bytes: &mut Vec<u8>,
+) -> io::Result<()> {
+    let file = File::open(rt, path)?;
+    file.take(most).read_to_end(bytes)?;
+    Ok(())
+}
+
+/// The keys of these files, where there is one.
+fn keys_of<R: Files<File = File> + AllocGlobal + Eprint>(
+    rt: &R,
+    paths: &[Option<&str>; MOST_KEYS],
+) -> Result<Option<Keys>, u8> {
+    let [Some(path), second, third] = *paths else {
+        return Ok(None);
+    };
+    let first = read_key(rt, path)?;
+    let second = match second {
+        Some(path) => Some(other_key(rt, path, &[Some(first)])?),
+        None => None,
+    };
+    let third = match third {
+        Some(path) => Some(other_key(rt, path, &[Some(first), second])?),
+        None => None,
+    };
+    Ok(Some(Keys {
+        first,
+        second,
+        third,
+    }))
+}
+
+/// The key of a file, which is none of the others.
+fn other_key<R: Files<File = File> + AllocGlobal + Eprint>(
+    rt: &R,
+    path: &str,
+    others: &[Option<Key>],
+) -> Result<Key, u8> {
+    let key = read_key(rt, path)?;
+    if others.iter().any(|other| *other == Some(key)) {
+        return Err(refuse(rt, path, "the same key twice"));
+    }
+    Ok(key)
+}
+
+/// The key of a file that its owner alone may read.
+fn read_key<R: Files<File = File> + AllocGlobal + Eprint>(rt: &R, path: &str) -> Result<Key, u8> {
+    let about = match fs::metadata(rt, path) {
+        Ok(about) => about,
+        Err(error) => return Err(refuse(rt, path, error)),
+    };
+    if !about.is_file() || about.permissions().mode() % 64 != 0 {
+        return Err(refuse(rt, path, "others may read it"));
+    }
+    let size = about.len();
+    if size < LEAST_KEY || size > MOST_KEY {
+        return Err(refuse_size(rt, path, size));
+    }
+    let bytes = read_file(rt, path, MOST_KEY + 1)?;
+    let size = bytes.len() as u64;
+    if size < LEAST_KEY || size > MOST_KEY {
+        return Err(refuse_size(rt, path, size));
+    }
+    Ok(Key::new(bytes.as_slice()))
+}
+
+fn refuse_size<E: Eprint>(errors: &E, path: &str, size: u64) -> u8 {
+    let _ = eprintln!(errors;
+        "{PROGRAM}: {path}: {size} bytes, a key has {LEAST_KEY} to {MOST_KEY}"
+    );
+    USAGE
+}
+
+/// The addresses that a settings text gives.
+fn read_links<R: AllocGlobal + Eprint>(rt: &R, path: &str, text: &[u8]) -> Result<Links, u8> {
+    let tree = read_tree(rt.alloc(), text).map_err(|fault| refuse_text(
+        rt,
+        path,
+        Fault::BadConf(fault),
+    ))?;
+    let settings = settings(&tree).map_err(|fault| refuse_text(
+        rt,
+        path,
+        Fault::BadSettings(fault),
+    ))?;
+    let sections = sections_of(rt.alloc(), &tree).map_err(|_| NO_MEMORY)?;
+    if sections.iter().any(|section| section.has_second) {
+        let _ = eprintln!(rt; "{PROGRAM}: ring1_addr is not used");
+    }
+    links_of(sections.as_slice(), settings.nodes.as_slice()).map_err(|fault| refuse(
+        rt, path, fault,
+    ))
+}
+
+/// Says what `create` would answer for the text.
+fn refuse_text<E: Eprint>(errors: &E, path: &str, fault: Fault) -> u8 {
+    if let Fault::BadConf(qn_conf::ConfFault::NoMemory) = fault {
+        return NO_MEMORY;
+    }
+    let line = fault.line();
+    let said = str::from_utf8(line.as_slice()).unwrap_or("");
+    let said = said.trim().trim_start_matches("fault ");
+    refuse(errors, path, said)
+}
