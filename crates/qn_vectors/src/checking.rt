@@ -82,6 +82,7 @@ impl Reader {
             settings: None,
             history: None,
             tie: None,
+            fence: None,
             makers: Makers::default(),
             seals: Seals::new(alloc),
         }
