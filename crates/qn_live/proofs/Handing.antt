@@ -36,11 +36,11 @@ use Rattle.qn_live.specs.declared.place.Choice.{Choice}
 use Rattle.qn_live.specs.declared.place.Choice.TheVariants as choice
 use Rattle.qn_live.specs.declared.place.Waits.{Waits}
 use Rattle.qn_live.specs.Choosing.{choice_of, choice_plan, heard, is_entry_for, is_to_leave, looked, packet_in, ready, receive_plan, view_or_tick}
-use Rattle.qn_live.specs.Greetings.{sends_plan}
+use Rattle.qn_live.specs.Greetings.{farewell_after, farewells, sends_plan}
 use Rattle.qn_live.specs.Handed.{BeginsOnce, HandsHistory, RisesFrom, begins_boot, look_in, looks_in, ticks_of, went_back}
 use Rattle.qn_live.specs.Performing.{disk_answer, disk_call, done, end_in, noted, out_call, outs_plan, own_number, waits_after}
 use Rattle.qn_live.specs.Running.{RunState, Turned, Over, Next, Ran, first_state, later}
-use Rattle.qn_live.specs.Runs.{clocked, greeted, handled, live_plan, run_plan, settled, taken, timed, turn_plan, turns_end}
+use Rattle.qn_live.specs.Runs.{clocked, greeted, handled, live_plan, parted, run_plan, settled, taken, timed, turn_plan, turns_end}
 use Rattle.qn_live.proofs.Histories.{log_from-more}
 
 -- ## What the clock told in the calls of a plan
@@ -335,15 +335,22 @@ module _ (s : Settings) (me : ℕ) (clean : Bool) where
   told_greeted looks st is none =
       told_then (Nothing looks) Turns looks (sends_plan _) _ (told_sends looks _) (λ after sent same. (subst (λ l. Handed l st.log) (sym same) is, none))
 
+  told_parted : (looks : List ℕ) (end : LiveEnd) (st : RunState) → Handed looks st.log → went_back end ≡ [] → Told Turns looks (parted s me end st)
+  unfolding parted
+  told_parted looks end st is forward =
+      let sents = option_map_or (λ view. farewells s me view 0) (farewell_after end st.maker) [] in
+      told_then (Nothing looks) Turns looks (sends_plan sents) (λ sent. Ends (Over end st.log)) (told_sends looks sents)
+      (λ after sent same. subst (λ (l : List ℕ). Turns l (Over end st.log)) (sym same) (ended_forward looks end st.log is forward))
+
   told_settled : (looks : List ℕ) (entry : What) (outs : List Out) (st : RunState) → Handed looks st.log → NoBegin st.waits.disk
       → Told Turns looks (settled s me entry outs st)
   unfolding settled
   told_settled looks entry outs st is none = of_end (end_in entry outs) (ends_forward entry outs)
     where
       of_end : (found : Option LiveEnd) → IfSome found (λ end. went_back end ≡ [])
-          → Told Turns looks (option_map_or (λ end. Ends (Over end st.log)) found (greeted s me st))
+          → Told Turns looks (option_map_or (λ end. parted s me end st) found (greeted s me st))
       of_end None forward = told_greeted looks st is none
-      of_end (Some end) forward = ended_forward looks end st.log is forward
+      of_end (Some end) forward = told_parted looks end st is forward
 
   told_handled : (looks : List ℕ) (st : RunState) (tick : ℕ) (found : Option Maker × What)
       → Handed looks (with_entry s me st.log (record { tick = tick; what = found.1 })) → NoBegin st.waits.disk
