@@ -16,6 +16,17 @@ make_base() {
 
 in_root() { chroot "$1" env PATH=/usr/sbin:/usr/bin:/sbin:/bin DEBIAN_FRONTEND=noninteractive "${@:2}"; }
 
+# install: the base with the package installed, which every host of the run stands on
+install() {
+    mkdir -p "$room/installed" "$room/work" "$room/root"
+    mount -t overlay "$tag" -o "lowerdir=$base,upperdir=$room/installed,workdir=$room/work" "$room/root" || exit 1
+    cp "$package" "$room/root/var/tmp/quorumd.deb"
+    in_root "$room/root" dpkg -i /var/tmp/quorumd.deb > "$room/dpkg" 2>&1
+    local status=$?
+    umount "$room/root"
+    [ "$status" = 0 ] || { cat "$room/dpkg"; exit 1; }
+}
+
 # set_up: three hosts that are off, of one settings text, with the package installed
 set_up() {
     local n conf=$room/corosync.conf
@@ -39,7 +50,7 @@ set_up() {
         loops[n]=$(losetup --find --show "$room/store") || exit 1
         mkdir -p "$room/host$n" "$room/host$n.upper" "$room/host$n.work" "$room/wd$n"
         mkfifo "$room/wd$n/watchdog"
-        mount -t overlay "$tag-$n" -o "lowerdir=$base,upperdir=$room/host$n.upper,workdir=$room/host$n.work" "$room/host$n"
+        mount -t overlay "$tag-$n" -o "lowerdir=$room/installed:$base,upperdir=$room/host$n.upper,workdir=$room/host$n.work" "$room/host$n"
         fill_host "$n" "$room/host$n" || exit 1
     done
     chroot "$room/host1" /usr/sbin/quorumd create --image /var/tmp/disk < "$conf" > /dev/null && mv "$room/host1/var/tmp/disk" "$shared/disk"
@@ -48,8 +59,6 @@ set_up() {
 # fill_host N ROOT: what an operator does on host N
 fill_host() {
     local n=$1 root=$2
-    cp "$package" "$root/var/tmp/quorumd.deb"
-    in_root "$root" dpkg -i /var/tmp/quorumd.deb > "$room/dpkg" 2>&1 || { cat "$room/dpkg"; return 1; }
     echo "host$n" > "$root/etc/hostname"
     : > "$root/etc/machine-id"
     mkdir -p "$root/var/log/journal" "$root/srv/cluster" "$root/srv/watchdog" "$root/srv/db"
@@ -201,6 +210,7 @@ take_down() {
 # between scenes the hosts are made anew; at the end nothing stays but the base
 tear_down() {
     take_down
+    umount "$room/root" "$room/mnt" 2> /dev/null
     rm -rf "$room"
 }
 powered=()

@@ -1,6 +1,6 @@
 # The scenes. Each is a function that fails where something else came than should. Sourced by `containers`.
 all_scenes='clean_stop exit_message off_message reboot_of_holder poweroff_of_holder kill_node hang_node no_image other_image slow_stop stuck_stop
-by_hand supervisor_dies stop_while_starting edited start_mode resource_dies start_fails maintenance planned_handover turns_used renewed three_images confined
+by_hand supervisor_dies stop_while_starting edited start_mode resource_dies start_fails maintenance planned_handover third_handover turns_used renewed three_images confined
 postgres pgsql upgrade purge setup'
 
 # begun [HOST]: the cluster is up and this host holds
@@ -245,6 +245,16 @@ scene_planned_handover() {
     until_true 3 another_owns 1 && not_reset 1
 }
 
+# After the third hand-over within an hour the node stays off, and says so.
+scene_third_handover() {
+    begun || return 1
+    on 1 sh -c 'now=$(cut -d . -f 1 /proc/uptime); printf "%s\n" "$now" "$now" > /run/quorumd/handovers'
+    on 1 systemctl start quorumd-handover.service && return 1
+    until_true 20 another_owns 1 || return 1
+    said 1 'stays off' -u quorumd-handover.service || return 1
+    unit_is 1 inactive && not_reset 1
+}
+
 # A node whose turns are used up leaves and is started again.
 scene_turns_used() {
     local n
@@ -331,7 +341,7 @@ logfile = /var/log/postgresql/ocf.log'
 
 # sql STATEMENT: a client of the cluster's address, who waits for no more than three seconds
 sql() {
-    timeout -s KILL 3 ip netns exec "$tag" chroot "$base" /usr/lib/postgresql/15/bin/psql -h 10.77.0.100 -U postgres -qAtc "$1" 2> /dev/null
+    timeout 3 ip netns exec "$tag" chroot "$base" /usr/lib/postgresql/15/bin/psql -h 10.77.0.100 -U postgres -qAtc "$1" 2> /dev/null
 }
 
 # write_rows: writes the numbers from 1 on, one commit each, and keeps those that were acknowledged, with the time of that
