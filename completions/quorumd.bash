@@ -4,6 +4,9 @@
 # the commands, in the order of `quorumd help`
 _quorumd_commands=(count replay status soak create dump list message node migrate replay3 node3 replay-arbiter node-logged audit help)
 
+# the words before the command
+_quorumd_before=(--links --key --open --halt)
+
 # _quorumd_options COMMAND: leaves the options that a command takes in `options`
 _quorumd_options() {
     options=()
@@ -45,11 +48,11 @@ _quorumd_value() {
     esac
 }
 
-# _quorumd_left COMMAND: offers the options that do not stand before the present word, or the values of the one that does
+# _quorumd_left COMMAND PLACE: offers the options that do not stand before the present word, or the values of the one that does
 _quorumd_left() {
     local at option word left options
     _quorumd_options "$1"
-    for ((at = 2; at < COMP_CWORD; at++)); do
+    for ((at = $2 + 1; at < COMP_CWORD; at++)); do
         word=${COMP_WORDS[at]}
         left=()
         for option in "${options[@]}"; do
@@ -76,10 +79,22 @@ _quorumd() {
         return
         ;;
     esac
-    if ((COMP_CWORD == 1)); then
-        _quorumd_offer "${_quorumd_commands[@]}"
+    local at=1
+    while ((at < COMP_CWORD)); do
+        case ${COMP_WORDS[at]} in
+        --links | --key | --halt) ((at += 2)) ;;
+        --open) ((at += 1)) ;;
+        *) break ;;
+        esac
+    done
+    if ((at > COMP_CWORD)); then
+        _quorumd_files
+    elif ((at < COMP_CWORD)); then
+        _quorumd_left "${COMP_WORDS[at]}" "$at"
+    elif [[ ${COMP_WORDS[at]} == -* ]]; then
+        _quorumd_offer "${_quorumd_before[@]}"
     else
-        _quorumd_left "${COMP_WORDS[1]}"
+        _quorumd_offer "${_quorumd_commands[@]}"
     fi
 }
 

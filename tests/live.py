@@ -75,6 +75,7 @@ class Cluster:
 
     COMMAND = "node"
     IMAGES = ("disk",)
+    BEFORE = ("--open",)  # what stands before the command of its nodes: without a word a line says that packets carry no seal
 
     def __init__(self, name, ids=(1, 2, 3), timing=LONG_LOOP):
         self.folder = pathlib.Path(name).absolute()
@@ -154,7 +155,7 @@ class Node:
         self.log, self.answer = cluster.folder / ("log.%d" % number), cluster.folder / ("answer.%d" % number)
         options = [word for name, value in self.words.items() for word in ("--" + name, value)]
         with open(cluster.folder / "conf") as settings, open(self.log, "w") as log, open(self.answer, "w") as answer:
-            self.process = subprocess.Popen([*run_as, QUORUMD, cluster.COMMAND, *options, *more], stdin=settings, stdout=answer, stderr=log)
+            self.process = subprocess.Popen([*run_as, QUORUMD, *cluster.BEFORE, cluster.COMMAND, *options, *more], stdin=settings, stdout=answer, stderr=log)
         STARTED.append(self.process)
 
     def said(self):

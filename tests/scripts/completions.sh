@@ -34,6 +34,15 @@ offers status sta
 offers '' x
 expect 0 "commands $commands\\n" help
 
+# the words before the command, and what follows them
+offers '--links --key --open --halt' -
+offers --links --l
+offers "$commands" --open ''
+offers --key --open --k
+offers 'status soak' --links conf --key key s
+offers --form --links conf --key key status ''
+offers '--image --timing' --key one --key two create ''
+
 # options: those of the command, and none twice
 for command in count replay replay3 replay-arbiter soak help other; do
     offers '' "$command" ''

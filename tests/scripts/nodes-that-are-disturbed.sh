@@ -1,15 +1,17 @@
-# Nodes that run and are disturbed: a watchdog that is full and one that is a pipe, bytes of a stranger at a port, and a node that stands
+# Nodes that run and are disturbed: a watchdog that is full and one that is a pipe, bytes from the port of a node that does not run and from a port of
+# no node, and a node that stands
 # still for less than three loops, and for so long that another one follows it.
 PYTHONPATH=$TOP/tests python3 -B - <<'END'
 import os
 import random
+import re
 import select
 import signal
 import socket
 import struct
 import time
 
-from live import Cluster, same, try_all, wait_for
+from live import Cluster, Wrong, same, try_all, wait_for
 
 LOOP = 1.0  # seconds, of live.LONG_LOOP
 
@@ -49,29 +51,49 @@ def strange_bytes(seed, count):
             draw.randbytes(draw.randrange(0, 300)),
             b"QN" + draw.randbytes(draw.randrange(0, 40)),
             b"QN" + bytes([draw.randrange(1, 6)]) + draw.randbytes(draw.randrange(0, 40)),
-            b"QN\3" + bytes([draw.randrange(3, 256)]),  # a Hello of a rank that is not there
-            b"QN\4" + bytes([2]) + struct.pack(">QI", draw.randrange(2**32), 1 << draw.randrange(3, 32)),  # a view of nodes that are not
+            b"QN\3" + bytes([draw.randrange(5, 256)]),  # a Hello of a rank that is not there
+            b"QN\4" + bytes([2]) + struct.pack(">QI", draw.randrange(2**32), 1 << draw.randrange(5, 32)),  # a view of nodes that are not
             b"QN\2" + bytes([1, 0]) + struct.pack(">QQQIB", 9, 9, 9, 7, draw.randrange(0, 256)),  # a Tell to nothing that was asked
         ])
         yield packet
 
 
 def stranger():
-    """Nobody starts, stops or is reset, and nothing is said."""
-    cluster = Cluster("stranger")
-    nodes = [cluster.node(ident) for ident in (1, 2, 3)]
+    """Bytes from the port of a node that does not run: nobody starts, stops or is reset, and nothing is said."""
+    cluster = Cluster("stranger", ids=(1, 2, 3, 4, 5))
+    nodes = [cluster.node(ident) for ident in (1, 2, 3, 4)]
     nodes[0].waits_for("start: ok")
     with socket.socket(socket.AF_INET, socket.SOCK_DGRAM) as sender:
+        sender.bind(("127.0.0.1", cluster.port + 4))
         for number, packet in enumerate(strange_bytes(24, 600)):
-            sender.sendto(packet, ("127.0.0.1", cluster.port + number % 3))
+            sender.sendto(packet, ("127.0.0.1", cluster.port + number % 4))
             time.sleep(0.005)
     fed = len(cluster.watchdog(1))
     wait_for("node 1 is fed", lambda: len(cluster.watchdog(1)) > fed + 1)
-    same("said", [node.said()[1:] for node in nodes], [["start: ok"], [], []])
-    same("listed", [cluster.listed(ident) for ident in (1, 2, 3)], ["incarnation 1 dirty mail empty"] * 3)
+    same("said", [node.said()[1:] for node in nodes], [["start: ok"], [], [], []])
+    same("listed", [cluster.listed(ident) for ident in (1, 2, 3, 4)], ["incarnation 1 dirty mail empty"] * 4)
     cluster.message(1, "exit")
     same("answer", nodes[0].end(), (0, "left clean\n"))
     nodes[1].waits_for("start: ok")
+
+
+def outsider():
+    """Bytes from a port of no node are passed over, which one line says: they cost no turn, and forge nothing."""
+    cluster = Cluster("outsider", ids=(1, 2))
+    node = cluster.node(1, turns=200)
+    with socket.socket(socket.AF_INET, socket.SOCK_DGRAM) as sender:
+        hello = b"QN\3\1"
+        began = time.monotonic()
+        while node.runs():
+            for packet in (hello, *strange_bytes(25, 20)):
+                sender.sendto(packet, ("127.0.0.1", cluster.port))
+            time.sleep(0.002)
+    status, answer = node.end()
+    same("answer", (status, answer.split(" quorate")[0]), (0, "turns 200 up holds=no"))
+    if time.monotonic() - began < 200 * 0.035:
+        raise Wrong("200 turns took %.1f s" % (time.monotonic() - began))
+    said = [line for line in node.said()[1:] if not re.fullmatch(r"network: \d+ packets not taken: 0 unsealed, 0 astray, 0 old, \d+ of another address", line)]
+    same("said", (said, len(node.said())), ([], 2))
 
 
 def stands_still():
@@ -96,5 +118,5 @@ def stands_still():
     same("the resource of a node without a machine", cluster.resource(1), "free" if stops else "held")
 
 
-try_all(full_watchdog, pipe_as_watchdog, stranger, stands_still)
+try_all(full_watchdog, pipe_as_watchdog, stranger, outsider, stands_still)
 END

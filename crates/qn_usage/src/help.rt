@@ -4,15 +4,16 @@ use crate::synopsis::Synopsis;
 use std::alloc::{AllocError, Global};
 use std::fmt::Write;
 
-/// What `--help` writes: what the program is, and two lines a command.
+/// What `--help` writes: what the program is, two lines a command, and the words that may stand before each command, where it has some.
 pub fn help_text(
     alloc: Global,
     program: &str,
     is: &str,
+    before: &str,
     commands: &[Synopsis],
 ) -> Result<String, AllocError> {
     let mut text = String::new(alloc);
-    add_help(&mut text, program, is, commands)?;
+    add_help(&mut text, program, is, before, commands)?;
     Ok(text)
 }
 
@@ -20,11 +21,15 @@ fn add_help(
     text: &mut String,
     program: &str,
     is: &str,
+    before: &str,
     commands: &[Synopsis],
 ) -> Result<(), AllocError> {
     write!(text, "{program} {VERSION}: {is}\n")?;
     for command in commands {
         add_command(text, program, command)?;
+    }
+    if !before.is_empty() {
+        write!(text, "\n{program} {before} COMMAND ..\n")?;
     }
     write!(text, "\n{program} --help | -h | --version\n")
 }

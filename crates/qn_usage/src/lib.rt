@@ -12,7 +12,7 @@ mod values;
 mod words;
 
 pub use help::{help_text, version_text};
-pub use quorumd::{QUORUMD, VERSION};
+pub use quorumd::{BEFORE, QUORUMD, VERSION};
 pub use refusal::{Refusal, refusal_of};
 pub use synopsis::{Synopsis, Takes};
 pub use values::is_value;

@@ -80,7 +80,7 @@ fn run<R: Files<File = File> + Net + Clock + Print + Eprint + Input + AllocGloba
 }
 
 fn about(rt: &(impl Print + AllocGlobal)) -> Result<u8, Trouble> {
-    let text = help_text(rt.alloc(), PROGRAM, IS, QUORUMCTL)?;
+    let text = help_text(rt.alloc(), PROGRAM, IS, "", QUORUMCTL)?;
     trouble::say(rt, text.as_str())?;
     Ok(0)
 }

@@ -14,7 +14,7 @@ use before::Before;
 use edge::edge_of;
 use qn_io::{Edge, RealEnv, StdSink, StdSource, put_all};
 use qn_top::top;
-use qn_usage::{QUORUMD, help_text, refusal_of, version_text};
+use qn_usage::{BEFORE, QUORUMD, help_text, refusal_of, version_text};
 use std::env;
 use std::fs::File;
 use std::io::{self, ErrorKind};
@@ -84,7 +84,7 @@ fn answer_about(rt: &(impl Print + Eprint + AllocGlobal), words: &[String]) -> O
         return None;
     };
     let text = match word.as_str() {
-        "--help" | "-h" => help_text(rt.alloc(), PROGRAM, IS, QUORUMD),
+        "--help" | "-h" => help_text(rt.alloc(), PROGRAM, IS, BEFORE, QUORUMD),
         "--version" => version_text(rt.alloc(), PROGRAM),
         _ => return None,
     };
