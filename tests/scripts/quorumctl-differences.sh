@@ -53,7 +53,7 @@ Corosync refuses last_man_standing beside a device" '1 1 1' 'last_man_standing: 
 says "$window" '1 1 1' 'last_man_standing: 1\n'
 says "Corosync's tie breaker is of no use to half of the nodes that boot alone" '1 1 1 1' 'auto_tie_breaker: 1\n'
 says "Corosync tries a list of tie nodes over the members before the last change" '1 1 1 1' 'auto_tie_breaker: 1\nauto_tie_breaker_node: 3 1\n'
-says '' '1 1 1 1' 'auto_tie_breaker_node: 3 1\n'
+says '' '1 1 1' 'auto_tie_breaker_node: 3 1\n'
 says "$again
 Corosync's tie breaker halves odd expected votes downwards" '1 1 1' 'auto_tie_breaker: 1\nwait_for_all: 1\n'
 says "$off" '1 1 1' 'auto_tie_breaker: 1\n'
@@ -89,6 +89,6 @@ warning: the section \"nets\" is not known: all in it is passed over"
 mark='the text begins with a byte order mark, which is a part of its first word'
 { printf '\357\273\277quorum {\nprovider: corosync_votequorum\ntwo_node: 1\n}\n'; nodes 1; } | warned "1 warning: without a provider Corosync counts no votes
 warning: $mark
-warning: the section \"$(printf '\357\273\277')quorum\" is not known: all in it is passed over"
+warning: the section \"\u{feff}quorum\" is not known: all in it is passed over"
 { printf '\357\273\277'; nodes 1; } | warned "3 fault: nodelist: there is no node section
 warning: $mark"
