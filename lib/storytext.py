@@ -100,9 +100,9 @@ def timed_head(settings, lines):
     """The head, with what its lines say of times, images and an arbiter, in this order."""
     times, lines = times_of("timing", "timing WATCHDOG MSGWAIT LOOP READ_LIMIT FEED_DELAY", lines)
     images, lines = images_of(lines)
+    if images == 3 and lines and lines[0][1][0] == "lease":
+        raise StoryFault(lines[0][0], "lease", "a story has three images or an arbiter, and not both")
     lease, lines = times_of("lease", "lease LIMIT LEASE", lines)
-    if lease and images == 3:
-        raise StoryFault(lines[0][0] if lines else 1, "lease", "a story has three images or an arbiter, and not both")
     return Head(settings, Timing(*times) if times else USUAL_TIMING, images, lease, lines)
 
 

@@ -54,15 +54,30 @@ class Relay:
         threading.Thread(target=self.serve, daemon=True).start()
 
     def ports(self, count):
-        first = free_ports(count * count)
-        ports = [first + rank * count for rank in range(count)]
-        for sender in range(count):
-            for receiver in range(count):
-                if sender != receiver:
-                    listener = socket.socket(socket.AF_INET, socket.SOCK_DGRAM)
-                    listener.bind(("127.0.0.1", ports[sender] + receiver))
-                    self.selector.register(listener, selectors.EVENT_READ, (ports[sender] + receiver, ports[receiver] + receiver))
-        return ports
+        """The first port that each node is given; other ones where somebody took one of them meanwhile."""
+        for _ in range(20):
+            first = free_ports(count * count)
+            ports = [first + rank * count for rank in range(count)]
+            listeners = self.listeners({(ports[sender] + receiver, ports[receiver] + receiver)
+                                        for sender in range(count) for receiver in range(count) if sender != receiver})
+            if listeners is not None:
+                for pair, listener in listeners.items():
+                    self.selector.register(listener, selectors.EVENT_READ, pair)
+                return ports
+        raise Wrong("no ports for a relay")
+
+    @staticmethod
+    def listeners(pairs):
+        """A socket at the first port of each pair; None where one is taken."""
+        found = {pair: socket.socket(socket.AF_INET, socket.SOCK_DGRAM) for pair in pairs}
+        try:
+            for pair, listener in found.items():
+                listener.bind(("127.0.0.1", pair[0]))
+        except OSError:
+            for listener in found.values():
+                listener.close()
+            return None
+        return found
 
     def serve(self):
         while True:

@@ -128,6 +128,28 @@ three 'slow-stop 1 10' 'leave 1' 'run 9' 'broken-disk 1' 'run 2000'
 says 'node 1 has left, and its slot is dirty$'
 never 'node 2 STARTS'
 
+# three images, of which one may be lost; and beside an arbiter, which says yes to one side of a cut
+printf '%s\n' 'nodes 1 2 3' 'images 3' 'lose-image 2' 'up 1 2 3' 'run 4000' 'message 1 exit' 'run 4000' 'good-image 2' 'up 1' 'run 3000' > story.txt
+story --keep kept story.txt > account
+"$QUORUMD" replay3 < kept > trace
+same "$(holders trace)" 'holders=- holders=1 holders=- holders=2'
+says 'node 1 has left, and its slot is clean$'
+grep -q '^fail 1 2$' kept
+printf '%s\n' 'nodes 1 2 3' 'images 3' 'lose-image 1' 'lose-image 2' 'up 1 2 3' 'run 4000' > story.txt
+story story.txt > account
+says 'node 1 gives up its boot: a read failed'
+{ sed '/^----$/q' "$TOP/examples/arbiter/the-vote-moves/schedule"; printf '%s\n' 'lease 2000 12244' 'arbiter-up' 'up 1 2' 'run 15000' "$@" 'cut 1' 'run 40000'; } > story.txt
+story --keep kept story.txt > account
+"$QUORUMD" replay-arbiter < kept > trace
+same "$(holders trace)" 'holders=- holders=1 holders=- holders=2'
+sed 's/^cut 1$/cut-arbiter 2\nsplit 1 | 2/' story.txt > other.txt
+story --keep kept other.txt > account
+"$QUORUMD" replay-arbiter < kept > trace
+same "$(holders trace)" 'holders=- holders=1 holders=- holders=1'
+sed 's/^cut 1$/arbiter-down\nsplit 1 | 2/' story.txt | story > account
+says '^  node 1 is up: too few votes'
+says '^  node 2 is up: too few votes'
+
 # a slow stop, an operator who lets the holder leave, and clocks that run as fast and as slow as they may
 tell 'slow-stop 1 3000' 'up 1 2' 'run 3000' 'leave 1' 'run 2500'
 grep -q '^node 1 leaving holds=yes' status
@@ -187,6 +209,13 @@ faulty 'line 4: message 1 clear: a deadly message is in the mailbox of node 1, w
 faulty 'line 2: timing: there are five times' 'timing 5000'
 faulty 'line 2: 0: no time, which is 1 to 3600000 milliseconds' 'timing 5000 10000 1000 2000 0'
 faulty 'line 3: timing: no such command' 'up 1' 'timing 5000 10000 1000 2000 1000'
+faulty 'line 2: images: the disk is one image, or three' 'images 2'
+faulty 'line 3: 4: not a number from 1 to 3' 'images 3' 'lose-image 4'
+faulty 'line 2: lose-image 1: this story has one image: `images 3` in its head is for three' 'lose-image 1'
+faulty 'line 2: arbiter-up: this story has no arbiter: `lease LIMIT LEASE` in its head is for one' 'arbiter-up'
+faulty 'line 2: lease: there are two times' 'lease 2000'
+faulty 'line 2: 0: no time, which is 1 to 3600000 milliseconds' 'lease 0 12244'
+faulty 'line 3: lease: a story has three images or an arbiter, and not both' 'images 3' 'lease 2000 12244'
 faulty 'line 5: jump: no such command' '# a comment' '' 'up 1 # and another one' 'jump'
 printf 'nodelist {\nnode {\nnodeid: 1\n}\n}\n----\n\nkill 1\n' > story.txt
 status=0
