@@ -30,7 +30,7 @@ use Rattle.qn_arbiter_sched.specs.declared.event_name.ArbiterName.TheVariants.{P
 use Rattle.qn_arbiter_sched.specs.EventLines.{arbiter_line}
 use Rattle.qn_arbiter_sched.specs.EventNames.{arbiter_name, arbiter_names, arbiter_word}
 use Rattle.qn_arbiter_sched.specs.EventReading.{arbiter_boot_of, arbiter_event_named, arbiter_event_of, arbiter_event_of_words, event_alone_of, hear_of, pass_with_of, poll_of, reply_of}
-use Rattle.qn_arbiter_sched.proofs.Numbers.{decimal_blankless, number_between-decimal, number_between-ok}
+use Rattle.qn_sched.specs.WrittenNumbers.{decimal_blankless, number_between-decimal, number_between-ok}
 use Rattle.qn_arbiter_sched.proofs.PassLength.{length_pass}
 use Rattle.qn_arbiter_sched.proofs.Steps.{bind_ok, same_ok}
 use Rattle.qn_arbiter_sched.proofs.WordsOfLines.{AreBlankless, one_word_ok, some_word, words_blankless, words_joined}

@@ -15,7 +15,7 @@ use Rattle.qn_model.specs.declared.line_fault.LineFault.TheVariants.{TooLong, Un
 use Rattle.qn_model.specs.Lines.{number_between, two_words, words_of}
 use Rattle.qn_model.specs.Rules.{is_between}
 use Rattle.qn_arbiter_sched.specs.LeaseLine.{lease_line, lease_of, lease_of_words, times_of_words}
-use Rattle.qn_arbiter_sched.proofs.Numbers.{decimal_blankless, number_between-decimal, number_between-ok}
+use Rattle.qn_sched.specs.WrittenNumbers.{decimal_blankless, number_between-decimal, number_between-ok}
 use Rattle.qn_arbiter_sched.proofs.Steps.{bind_ok, same_ok}
 use Rattle.qn_arbiter_sched.proofs.WordsOfLines.{two_words_ok, words_joined}
 

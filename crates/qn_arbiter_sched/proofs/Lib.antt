@@ -1,6 +1,5 @@
 pub mod EventSpelling
 mod LeaseSpelling
-mod Numbers
 mod PassLength
 pub mod PassWords
 mod Steps

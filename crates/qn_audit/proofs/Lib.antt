@@ -1,6 +1,11 @@
-mod Auditing
 mod Digits
+mod HeadSteps
+mod LogSteps
 mod LogTexts
 mod OneWords
 mod Questions
+mod ReadBack
+mod Recordings
+mod Steps
 mod Verdicts
+mod WholeLogs

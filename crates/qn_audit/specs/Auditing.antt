@@ -1,23 +1,22 @@
--- What an audit of a log comes to: this project's profile.
-use Rattle.std.specs.Prelude.{◌≡◌, ℕ, ◌+◌, ◌<◌, Bool, true, false, List, [], ◌∷◌, ◌++◌, Ok, Err, map, filter, length, Option, None}
-use Rattle.std.specs.Io.KnownBytes.{prepend_known, IsAtEnd}
+-- What an audit of a log comes to, line by line: this project's profile.
+use Rattle.std.specs.Prelude.{◌≡◌, ◌==◌, ℕ, ◌+◌, nat_lt, if◌then◌else◌, Bool, true, false, List, [], ◌∷◌, filter, length, Option, None, Some, Result, Ok, Err}
 use Rattle.qn_base.specs.declared.calls.Call.{Call}
 use Rattle.qn_base.specs.declared.calls.Call.TheVariants as call
-use Rattle.qn_base.specs.Plans.{Plan, question}
-use Rattle.qn_io.specs.declared.lines.LineRead.{LineRead}
-use Rattle.qn_io.specs.declared.lines.LineRead.TheVariants as read
-use Rattle.qn_io.specs.Outside.{HasRisen}
-use Rattle.qn_model.specs.declared.line_fault.LineFault.{LineFault}
-use Rattle.qn_model.specs.declared.line_fault.LineFault.TheVariants as fault
+use Rattle.qn_base.specs.declared.limits.TheConstants.{MOST_LINE_BYTES}
+use Rattle.qn_base.specs.Plans.{Plan, left, question}
 use Rattle.qn_live.specs.Machine.{EndsWith, RunFor}
 use Rattle.qn_live.specs.Running.{Ran}
+use Rattle.qn_model.specs.declared.line_fault.LineFault.{LineFault}
+use Rattle.qn_model.specs.declared.line_fault.LineFault.TheVariants.{TooLong, TooMany, Unended}
+use Rattle.qn_model.specs.Lines.{Ending, Ended, ReadFailed, lines_of}
 use Rattle.qn_audit.specs.declared.audit_end.AuditEnd.{AuditEnd}
-use Rattle.qn_audit.specs.declared.audit_end.AuditEnd.TheVariants as end
+use Rattle.qn_audit.specs.declared.audit_end.AuditEnd.TheVariants.{BadSchedule, NotARun, Prefix, ReadFault, Whole}
 use Rattle.qn_audit.specs.declared.auditor.Auditor.{Auditor}
 use Rattle.qn_audit.specs.declared.auditor.Verdict.{Verdict}
 use Rattle.qn_audit.specs.declared.auditor.Verdict.TheVariants as verdict
 use Rattle.qn_audit.specs.declared.log_place.TheConstants.{MOST_LOG_LINES}
-use Rattle.qn_audit.specs.Judging.{GoesOn, IsNext, Keeps, left_after}
+use Rattle.qn_audit.specs.Deciding.{Input}
+use Rattle.qn_audit.specs.Judging.{GoesOn, IsNext}
 use Rattle.qn_audit.specs.Reading.{call_of}
 
 -- what is left of the run is that plan
@@ -51,69 +50,73 @@ is_now (call.Halt code) = false
 abbrev pub turns_in : List Call → ℕ
 turns_in calls = length (filter is_now calls)
 
--- the lines, each with its end
-abbrev pub lines_text : List (List ℕ) → List ℕ
-lines_text [] = []
-lines_text (line ∷ lines) = (line ++ 10 ∷ []) ++ lines_text lines
+-- ---- the lines of a log
 
--- how an input goes on: the bytes that are to come, where they are told, and the count of its faults before and after
-pub record Further : Type 0 where
-  pub left : Option (List ℕ)
-  pub faults_old : ℕ
-  pub faults_new : ℕ
+-- Where an audit stands after good lines: what is left of the run, how many lines the head of the input had, and how many lines
+-- and how many turns of the log were good.
+pub record Standing : Type 0 where
+  pub plan : Plan Ran
+  pub head : ℕ
+  pub lines : ℕ
+  pub turns : ℕ
 
-abbrev pub further : Option (List ℕ) → ℕ → ℕ → Further
-further left faults_old faults_new = record { left = left; faults_old = faults_old; faults_new = faults_new }
+-- before the first line of a log
+abbrev pub at_first : Plan Ran → ℕ → Standing
+at_first plan head = record { plan = plan; head = head; lines = 0; turns = 0 }
 
--- the input has ended, and a read of it failed
-abbrev pub HasEnded : Further → Type 0
-HasEnded more = IsAtEnd more.left
+-- after one more good line, which says this call
+abbrev pub after_call : Standing → Call → Standing
+after_call at call =
+    record { plan = left at.plan call; head = at.head; lines = at.lines + 1; turns = at.turns + turns_in (call ∷ []) }
 
-abbrev pub HasFailed : Further → Type 0
-HasFailed more = HasRisen more.faults_old more.faults_new
+-- the number of the line after the good ones in the whole input, from 1
+abbrev pub next_line : Standing → ℕ
+next_line at = at.head + at.lines + 1
 
--- the bytes behind the good lines: what was read of a line, with its end or with the byte that is one too many
-abbrev pub WasRead : LineRead → List ℕ → List ℕ → Further → Type 0
-WasRead read.Line line last more = last ≡ line ++ 10 ∷ []
-WasRead read.Rest line last more = (last ≡ line) × HasEnded more
-WasRead read.TooLong line last more = (length line ≡ 4096) × ((byte : ℕ) × (last ≡ line ++ byte ∷ []))
-WasRead read.Failed line last more = (last ≡ line) × HasFailed more
+abbrev pub bad_line : Standing → LineFault → AuditEnd
+bad_line at fault = BadSchedule (next_line at) fault
 
--- what is wrong with the line behind so many good ones, of which these bytes were read
-pub data IsFault (lines : ℕ) (last : List ℕ) (more : Further) (found : LineFault) : Type 0 where
-  Long : found ≡ fault.TooLong → (line : List ℕ) (byte : ℕ) → length line ≡ 4096 → last ≡ line ++ byte ∷ [] → IsFault lines last more found
-  Cut : found ≡ fault.Unended → 0 < length last → HasEnded more → IsFault lines last more found
-  Many : found ≡ fault.TooMany → lines ≡ MOST_LOG_LINES → IsFault lines last more found
-  Bad : (line : List ℕ) → last ≡ line ++ 10 ∷ [] → lines < MOST_LOG_LINES → call_of line ≡ Err found → IsFault lines last more found
+-- what the line after so many good ones says, without its end: the bounds of a log come before its words
+unfoldable pub call_at : ℕ → List ℕ → Result Call LineFault
+call_at lines line =
+    if nat_lt MOST_LINE_BYTES (length line) then Err TooLong
+    else if lines == MOST_LOG_LINES then Err TooMany
+    else call_of line
 
--- the line behind the good ones says a call that the run does not ask for
-pub record IsOther (plan : Plan Ran) (last : List ℕ) : Type 0 where
-  pub line : List ℕ
-  pub ended : last ≡ line ++ 10 ∷ []
-  pub call : Call
-  pub says : call_of line ≡ Ok call
-  pub other : IsNext plan call → ⊥
+-- A line at fault ends the audit so, and so does a call that the run does not ask for; after the call that it asks for, the
+-- lines that follow decide.
+pub data JudgesLine (end : AuditEnd) (at : Standing) (said : Result Call LineFault) (Follow : Call → Type 0) : Type 0 where
+  AtFault : (fault : LineFault) → said ≡ Err fault → end ≡ bad_line at fault → JudgesLine end at said Follow
+  NotNext : (call : Call) → said ≡ Ok call → (IsNext at.plan call → ⊥) → end ≡ NotARun (next_line at) → JudgesLine end at said Follow
+  Next : (call : Call) → said ≡ Ok call → IsNext at.plan call → Follow call → JudgesLine end at said Follow
 
--- How an audit ends behind good lines, of an input whose head had so many lines: `plan` is what is left of the run, `lines` and
--- `turns` say how many lines and turns were good, and `last` is what was taken behind them.
-abbrev pub EndsAt : Plan Ran → ℕ → ℕ → ℕ → List ℕ → Further → AuditEnd → Type 0
-EndsAt plan head lines turns last more (end.Whole all) = (last ≡ []) × HasEnded more × (question plan ≡ None) × (all ≡ turns)
-EndsAt plan head lines turns last more (end.Prefix all) = (last ≡ []) × HasEnded more × GoesOn plan × (all ≡ turns)
-EndsAt plan head lines turns last more (end.NotARun line) = (line ≡ head + lines + 1) × IsOther plan last
-EndsAt plan head lines turns last more (end.BadSchedule line found) = (line ≡ head + lines + 1) × IsFault lines last more found
-EndsAt plan head lines turns last more end.ReadFault = HasFailed more
-EndsAt plan head lines turns last more end.UnknownNode = ⊥
-EndsAt plan head lines turns last more (end.BadConf fault) = ⊥
-EndsAt plan head lines turns last more (end.BadSettings fault) = ⊥
-EndsAt plan head lines turns last more end.NoMemory = ⊥
+-- the end of a log of so many turns, by the call that the run would make next
+abbrev pub over_or_not : Option Call → ℕ → AuditEnd
+over_or_not None turns = Whole turns
+over_or_not (Some wanted) turns = Prefix turns
 
--- The audit of a log against a plan: its first lines say calls, each the one that the plan asks for after those before it, and
--- what was taken behind them decides how it ends. The bytes that are to come are told before and after.
-pub record Audited (plan : Plan Ran) (head : ℕ) (old : Option (List ℕ)) (more : Further) (end : AuditEnd) : Type 0 where
-  pub lines : List (List ℕ)
-  pub calls : List Call
-  pub say : map call_of lines ≡ map Ok calls
-  pub kept : Keeps plan calls
-  pub last : List ℕ
-  pub takes : old ≡ prepend_known (lines_text lines) (prepend_known last more.left)
-  pub ends : EndsAt (left_after plan calls) head (length lines) (turns_in calls) last more end
+-- the end of a log whose last end of a line these bytes follow
+abbrev pub end_at : Standing → List ℕ → AuditEnd
+end_at at [] = over_or_not (question at.plan) at.turns
+end_at at (byte ∷ rest) = bad_line at Unended
+
+-- the same, where the input may not have been read to its end
+abbrev pub end_of_log : Standing → Ending → List ℕ → AuditEnd
+end_of_log at Ended rest = end_at at rest
+end_of_log at ReadFailed rest = ReadFault
+
+-- the same, where too many bytes of a line come before everything else
+unfoldable pub last_line : Standing → Ending → List ℕ → AuditEnd
+last_line at ending rest =
+    if nat_lt MOST_LINE_BYTES (length rest) then bad_line at TooLong else end_of_log at ending rest
+
+-- the lines after the good ones end the audit so; the last of them is what follows the last end of a line
+abbrev pub LinesEnd : AuditEnd → Standing → Ending → List (List ℕ) → Type 0
+LinesEnd end at ending [] = end ≡ last_line at ending []
+LinesEnd end at ending (rest ∷ []) = end ≡ last_line at ending rest
+LinesEnd end at ending (line ∷ next ∷ lines) =
+    JudgesLine end at (call_at at.lines line) (λ call. LinesEnd end (after_call at call) ending (next ∷ lines))
+
+-- the bytes after the good lines end the audit so
+abbrev pub LogEnds : Standing → AuditEnd → Input → Type 0
+LogEnds at end input = LinesEnd end at input.ending (lines_of input.bytes)

@@ -5,6 +5,9 @@ pub mod Logs
 pub mod LoggedCalls
 pub mod Reading
 pub mod Recording
+pub mod Deciding
 pub mod Auditing
 pub mod Taking
 pub mod Inputs
+pub mod AuditLaws
+pub mod InputLaws

@@ -1,6 +1,6 @@
 -- The lines of a log, one spelling a call with its answer, and the calls that have one. This project's profile.
-use Rattle.std.specs.Prelude.{◌≡◌, ◌≤◌, ◌<◌, ℕ, Bool, true, false, List, [], ◌∷◌, ◌++◌, length, codes, decimal}
-use Rattle.hex.specs.Hex.{encode_lower}
+use Rattle.std.specs.Prelude.{◌≡◌, ◌≤◌, ◌<◌, ◌^◌, ℕ, Bool, true, false, List, [], ◌∷◌, ◌++◌, length, codes, decimal}
+use Rattle.hex.specs.Hex.{IsBytes, encode_lower}
 use Rattle.qn_base.specs.declared.calls.Call.{Call}
 use Rattle.qn_base.specs.declared.calls.Call.TheVariants as call
 use Rattle.qn_base.specs.declared.calls.Received.{Received}
@@ -68,6 +68,34 @@ IsLogged (call.Stop ok) = Unit {0}
 IsLogged (call.Send to bytes ok) = (to.0 < 32) × (length bytes ≤ 128)
 IsLogged (call.Disarm ok) = Unit {0}
 IsLogged (call.Halt code) = Unit {0}
+
+-- the bytes and the numbers of a call fit their types
+abbrev pub HasReceivedBytes : Received → Type 0
+HasReceivedBytes (received.Packet bytes) = IsBytes bytes
+HasReceivedBytes received.Nothing = Unit {0}
+HasReceivedBytes received.Failed = Unit {0}
+
+abbrev pub FitsTypes : Call → Type 0
+FitsTypes (call.OpenImage path ok) = Unit {0}
+FitsTypes (call.OpenNode images image watchdog resource port rank ok) = Unit {0}
+FitsTypes (call.Now tick) = tick < 2 ^ 64
+FitsTypes (call.Receive got) = HasReceivedBytes got
+FitsTypes (call.Read sector bytes ok) = (sector < 2 ^ 32) × IsBytes bytes
+FitsTypes (call.Write sector bytes ok) = (sector < 2 ^ 32) × IsBytes bytes
+FitsTypes (call.Feed ok) = Unit {0}
+FitsTypes (call.Start ok) = Unit {0}
+FitsTypes (call.Stop ok) = Unit {0}
+FitsTypes (call.Send to bytes ok) = IsBytes bytes
+FitsTypes (call.Disarm ok) = Unit {0}
+FitsTypes (call.Halt code) = code < 2 ^ 8
+
+-- a call that an outside can have made, of values that there are
+abbrev pub IsRecorded : Call → Type 0
+IsRecorded call = IsLogged call × FitsTypes call
+
+abbrev pub AreRecorded : List Call → Type 0
+AreRecorded [] = Unit {0}
+AreRecorded (first ∷ calls) = IsRecorded first × AreRecorded calls
 
 -- the lines of calls, each with its end
 abbrev pub log_text : List Call → List ℕ

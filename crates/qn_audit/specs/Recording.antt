@@ -6,7 +6,7 @@ use Rattle.qn_base.specs.Plans.{Follows, Made, Plan}
 use Rattle.qn_io.specs.Outside.{HasRisen}
 use Rattle.qn_io.specs.Writes.{AppendsFront}
 use Rattle.qn_audit.specs.declared.recorder.Recorder.{Recorder}
-use Rattle.qn_audit.specs.Logs.{call_line, log_text}
+use Rattle.qn_audit.specs.Logs.{AreRecorded, call_line, log_text}
 
 -- a log: the bytes of its sink, where it tells them, the count of the sink's faults, and whether each write of the log
 -- succeeded
@@ -46,9 +46,10 @@ abbrev pub recorded : ℕ → Option (List Call) → LogSink → Recorded
 recorded faults calls log = record { faults = faults; calls = calls; log = log }
 
 -- the calls of the plan were made, with these answers and no others, it ended with the value, and they were given to the log
--- in that order
+-- in that order, each a call that has a line
 pub record DidLogged {A : Type 0} (plan : Plan A) (value : A) (before after : Recorded) : Type 0 where
   pub calls : List Call
   pub made : Made before.faults after.faults before.calls after.calls calls
+  pub recorded : AreRecorded calls
   pub logs : Logs before.log after.log (log_text calls)
   pub follows : Follows plan calls value

@@ -23,11 +23,11 @@ pub(crate) struct LogPlace {
 }
 
 impl LogPlace {
-    ghost use Rattle.std.specs.Prelude.{◌≡◌, ◌+◌, ◌++◌, ◌∷◌, [], List, ℕ, OnOk, IfErr};
+    ghost use Rattle.std.specs.Prelude.{◌+◌, length, OnOk, IfErr};
     ghost use Rattle.qn_base.specs.Plans.{Plan};
     ghost use Rattle.qn_live.specs.Running.{Ran};
-    ghost use Rattle.qn_audit.specs.Auditing.{EndsAt, Further, HasEnded, IsJudging, StandsFor, WasRead};
-    ghost use Rattle.qn_audit.specs.Taking.{Takes};
+    ghost use Rattle.qn_audit.specs.Auditing.{IsJudging, StandsFor, end_at};
+    ghost use Rattle.qn_audit.specs.Taking.{EndsHere, Takes, standing};
 
     /// Before the first line of the log.
     pub(crate) fn new(head: u64) -> LogPlace
@@ -53,12 +53,12 @@ impl LogPlace {
         room: &mut Room,
     ) -> Result<(), AuditEnd>
         requires judging { IsJudging auditor.old }
+        requires short { length line.now ≤ 4096 }
         ensures takes { OnOk result
             ((read ≡ LineRead.Line) × Takes self.old self.new auditor.old auditor.new line.now) }
-        ensures end { IfErr result (λ end. (plan : Plan Ran) (last : List ℕ) (further : Further)
+        ensures end { IfErr result (λ end. (plan : Plan Ran)
             → StandsFor auditor.old plan
-            → WasRead read line.now last further
-            → EndsAt plan self.old.head self.old.lines self.old.turns last further end) }
+            → EndsHere read end (standing self.old plan) line.now) }
     {
         match read {
             LineRead::Line => self.take(auditor, line, room),
@@ -71,11 +71,11 @@ impl LogPlace {
     /// Takes a whole line as the next call.
     fn take(&mut self, auditor: &mut Auditor, line: &[u8], room: &mut Room) -> Result<(), AuditEnd>
         requires judging { IsJudging auditor.old }
+        requires short { length line.now ≤ 4096 }
         ensures takes { OnOk result (Takes self.old self.new auditor.old auditor.new line.now) }
-        ensures end { IfErr result (λ end. (plan : Plan Ran) (further : Further)
+        ensures end { IfErr result (λ end. (plan : Plan Ran)
             → StandsFor auditor.old plan
-            → EndsAt plan self.old.head self.old.lines self.old.turns
-            (line.now ++ 10 ∷ []) further end) }
+            → EndsHere LineRead.Line end (standing self.old plan) line.now) }
     {
         if self.lines == MOST_LOG_LINES {
             return Err(self.bad_line(LineFault::TooMany));
@@ -84,11 +84,11 @@ impl LogPlace {
             Ok(call) => call,
             Err(fault) => return Err(self.bad_line(fault)),
         };
-        if auditor.take(call, room).is_err() {
+        let Ok(()) = auditor.take(call, room) else {
             return Err(AuditEnd::NotARun {
                 line: self.next_line(),
             });
-        }
+        };
         self.lines += 1;
         if looks_at_clock(call) {
             self.turns += 1;
@@ -99,9 +99,9 @@ impl LogPlace {
     /// The end of a log whose last end of a line these bytes follow.
     fn end_at(&self, auditor: &mut Auditor, rest: &[u8]) -> AuditEnd
         requires judging { IsJudging auditor.old }
-        ensures { (plan : Plan Ran) (further : Further) → StandsFor auditor.old plan
-            → HasEnded further
-            → EndsAt plan self.now.head self.now.lines self.now.turns rest.now further result }
+        ensures { (plan : Plan Ran)
+            → StandsFor auditor.old plan
+            → result ≡ end_at (standing self.now plan) rest.now }
     {
         if !rest.is_empty() {
             return self.bad_line(LineFault::Unended);

@@ -1,16 +1,18 @@
 //! Runs a node over an outside and records its calls.
 ghost use Rattle.std.specs.Prelude.{◌≡◌, ◌≤◌, ◌<◌, ◌∷◌, [], List, length};
+ghost use Rattle.hex.specs.Hex.{IsBytes};
 ghost use Rattle.qn_base.specs.Plans.{Made};
 ghost use Rattle.qn_io.specs.Receives.{FitsPacket};
 ghost use Rattle.qn_live.specs.Asking.{IsWithin, told, Tells};
 ghost use Rattle.qn_live.specs.Runs.{live_plan};
 ghost use Rattle.qn_model.specs.Log.{Line};
 ghost use Rattle.qn_model.specs.Settings.{IsValid};
+ghost use Rattle.qn_audit.specs.Logs.{IsRecorded};
 ghost use Rattle.qn_audit.specs.Recording.{DidLogged, LogsCall, log_of, recorded};
 
 use crate::recorder::Recorder;
 use qn_base::Rank;
-use qn_io::{Env, Got, Sink};
+use qn_io::{Env, Got, SECTOR, Sink};
 use qn_live::{Asked, Given, LiveEnd, NodeRun, Room};
 use qn_model::Settings;
 
@@ -57,6 +59,7 @@ fn call<E: Env, O: Sink>(recorder: &mut Recorder<'_, E, O>, asked: Asked, room: 
     ensures made { Made (E.faults recorder.old.env.now) (E.faults recorder.new.env.now)
         (E.calls recorder.old.env.now) (E.calls recorder.new.env.now)
         (told asked room.old result room.new ∷ []) }
+    ensures recorded { IsRecorded (told asked room.old result room.new) }
     ensures logs { LogsCall (log_of O.written O.faults recorder.old)
         (log_of O.written O.faults recorder.new)
         (told asked room.old result room.new) }
@@ -69,6 +72,7 @@ fn call<E: Env, O: Sink>(recorder: &mut Recorder<'_, E, O>, asked: Asked, room: 
     match asked {
         Asked::Receive => {
             let got = recorder.receive(&mut room.packet);
+            are_bytes(&room.packet);
             Given {
                 tick: 0,
                 got,
@@ -80,16 +84,40 @@ fn call<E: Env, O: Sink>(recorder: &mut Recorder<'_, E, O>, asked: Asked, room: 
             got: Got::Nothing,
             ok: true,
         },
-        Asked::Read { sector } => Given::done(recorder.read(sector, &mut room.sector).is_ok()),
-        Asked::Write { sector } => Given::done(recorder.write(sector, &room.sector).is_ok()),
+        Asked::Read { sector } => {
+            let done = recorder.read(sector, &mut room.sector);
+            is_sector(&room.sector);
+            Given::done(done.is_ok())
+        }
+        Asked::Write { sector } => {
+            is_sector(&room.sector);
+            Given::done(recorder.write(sector, &room.sector).is_ok())
+        }
         Asked::Feed => Given::done(recorder.feed().is_ok()),
         Asked::Start => Given::done(recorder.start().is_ok()),
         Asked::Stop => Given::done(recorder.stop().is_ok()),
-        Asked::Send { to } => Given::done(recorder.send(to, room.sent.as_slice()).is_ok()),
+        Asked::Send { to } => {
+            let sent = room.sent.as_slice();
+            are_bytes(sent);
+            Given::done(recorder.send(to, sent).is_ok())
+        }
         Asked::Disarm => Given::done(recorder.disarm().is_ok()),
         Asked::Halt { code } => {
             recorder.halt(code);
             Given::done(true)
         }
     }
+}
+
+/// Each of them is a byte, as the line of a call says.
+fn are_bytes(bytes: &[u8])
+    ensures { IsBytes bytes.now }
+{}
+
+/// The bytes of a whole sector.
+fn is_sector(bytes: &[u8; SECTOR])
+    ensures whole { length bytes.now ≡ 512 }
+    ensures bytes { IsBytes bytes.now }
+{
+    are_bytes(bytes);
 }

@@ -1,21 +1,21 @@
 -- The record of a run of `audit`.
-use Rattle.std.proofs.Common.{◌≡◌, ◌≢◌, ◌⊎◌, inl, inr, ℕ, List, [], ◌∷◌, refl, sym, ap, ◌∙◌, subst, arith}
+use Rattle.std.proofs.Common.{◌≡◌, ◌≢◌, ◌⊎◌, inl, inr, ℕ, List, [], ◌∷◌, Option, None, Some, IfSome, refl, sym, ap, ◌∙◌, subst, arith}
+use Rattle.std.specs.Io.KnownBytes.{append_known}
 use Rattle.qn_audit.specs.declared.audit_end.AuditEnd.{AuditEnd}
 use Rattle.qn_audit.specs.declared.audit_end.AuditEnd.TheVariants as ended
-use Rattle.qn_audit.specs.Inputs.{AuditedInput, AuditedRun, InHead, InLog, InputAt, JudgesInput, Unknown, end_in_head}
+use Rattle.qn_audit.specs.Deciding.{input_of}
+use Rattle.qn_audit.specs.InputLaws.{IsGood, good_read, of_all_bytes, unread}
+use Rattle.qn_audit.specs.Inputs.{AuditEnds}
 use Rattle.qn_base.specs.declared.ids.NodeId.{NodeId}
-use Rattle.qn_base.specs.Faults.{HasRisen}
-use Rattle.qn_base.specs.Rising.{HasRisen-within}
 use Rattle.qn_conf.specs.declared.faults.ConfFault.{ConfFault}
 use Rattle.qn_conf.specs.declared.faults.ConfFault.TheVariants as conf
-use Rattle.qn_head.specs.declared.head_fault.HeadFault.{HeadFault}
-use Rattle.qn_head.specs.declared.head_fault.HeadFault.TheVariants as head
+use Rattle.qn_model.specs.Lines.{Ended}
 use Rattle.qn_commands.specs.declared.commands.audit.AuditWords.{AuditWords}
 use Rattle.qn_commands.specs.declared.status.Status.TheVariants.{Done, BadConf, BadSchedule, ReadFault, WriteFault, NoMemory, UnknownNode, NotARun}
-use Rattle.qn_commands.specs.Commands.Audit.{Audits, AuditsLog, JudgesLog, audit_outcome, audited_run, shown}
+use Rattle.qn_commands.specs.Commands.Audit.{AnswersAll, Audits, AuditsLog, ReadsLog, audit_outcome, audited_run}
 use Rattle.qn_commands.specs.Endings.{Cut, Says, Whole}
 use Rattle.qn_commands.specs.Faults.{conf_status}
-use Rattle.qn_commands.specs.Seen.{NeverFall, ReadFails, Seen, WriteFails}
+use Rattle.qn_commands.specs.Seen.{Input, NeverFall, Output, ReadFails, Seen, WriteFails}
 use Rattle.qn_commands.specs.Statuses.{IsOneOf}
 
 -- ## The status of an end
@@ -65,57 +65,30 @@ six_reads id (ended.BadSchedule line why) six = absurd (omega arith)
 six_reads id ended.ReadFault six = refl
 six_reads id ended.NoMemory six = absurd (omega arith)
 
-conf_judged : (why : ConfFault) → (conf_status why ≡ 0) ⊎ (conf_status why ≡ 18) → ⊥
-conf_judged (conf.BadLine line) judged = grind arith
-conf_judged conf.Unclosed judged = grind arith
-conf_judged (conf.ExtraClose line) judged = grind arith
-conf_judged (conf.TooDeep line) judged = grind arith
-conf_judged conf.NotText judged = grind arith
-conf_judged conf.TooLong judged = grind arith
-conf_judged conf.NoMemory judged = grind arith
+not_zero : (why : ConfFault) → conf_status why ≡ 0 → ⊥
+not_zero (conf.BadLine line) zero = omega arith
+not_zero conf.Unclosed zero = omega arith
+not_zero (conf.ExtraClose line) zero = omega arith
+not_zero (conf.TooDeep line) zero = omega arith
+not_zero conf.NotText zero = omega arith
+not_zero conf.TooLong zero = omega arith
+not_zero conf.NoMemory zero = omega arith
 
--- a fault of the head has another status than a log that was judged
-head_not_judged : (id : NodeId) (fault : HeadFault) → ((audit_outcome id (end_in_head fault)).status ≡ 0) ⊎ ((audit_outcome id (end_in_head fault)).status ≡ 18) → ⊥
-head_not_judged id (head.BadConf why) judged = conf_judged why judged
-head_not_judged id (head.BadSettings why) judged = grind arith
-head_not_judged id (head.BadSchedule line why) judged = grind arith
-head_not_judged id head.ReadFault judged = grind arith
-head_not_judged id head.NoMemory judged = grind arith
-
-reads_in_head : (fault : HeadFault) → end_in_head fault ≡ ended.ReadFault → fault ≡ head.ReadFault
-reads_in_head (head.BadConf why) is = absurd cc
-reads_in_head (head.BadSettings why) is = absurd cc
-reads_in_head (head.BadSchedule line why) is = absurd cc
-reads_in_head head.ReadFault is = refl
-reads_in_head head.NoMemory is = absurd cc
-
--- ## What the judged input says
-
--- at a failed read the count of faults rose
-log_fails : {run : AuditedRun} {old new : InputAt} → AuditedInput run old new ended.ReadFault → HasRisen old.faults new.faults
-log_fails {run} {old} {new} log =
-    HasRisen-within old.faults log.middle.faults new.faults new.faults log.before_log log.in_log (omega arith) log.audited.ends
-
-read_fails : {run : AuditedRun} {old new : InputAt} {end : AuditEnd} → JudgesInput run old new end → end ≡ ended.ReadFault → HasRisen old.faults new.faults
-read_fails (InHead found) is = found.cause (reads_in_head found.fault (sym found.is ∙ is))
-read_fails (Unknown other node) is = absurd cc
-read_fails {run} {old} {new} {end} (InLog log) is = log_fails (subst (λ (e : AuditEnd). AuditedInput run old new e) is log)
+-- status 0 is that of a whole run and of the beginning of one
+zero_good : (id : NodeId) (end : AuditEnd) → (audit_outcome id end).status ≡ 0 → IsGood end
+zero_good id (ended.Whole turns) zero = tt
+zero_good id (ended.Prefix turns) zero = tt
+zero_good id (ended.NotARun line) zero = absurd (omega arith)
+zero_good id ended.UnknownNode zero = absurd (omega arith)
+zero_good id (ended.BadConf why) zero = absurd (not_zero why zero)
+zero_good id (ended.BadSettings why) zero = absurd (omega arith)
+zero_good id (ended.BadSchedule line why) zero = absurd (omega arith)
+zero_good id ended.ReadFault zero = absurd (omega arith)
+zero_good id ended.NoMemory zero = absurd (omega arith)
 
 -- ## The record
 
 module _ (words : AuditWords) (before after : Seen) (code : ℕ) where
-  judged_log : (end : AuditEnd) → JudgesInput (audited_run words) (shown before.input) (shown after.input) end → code ≡ (audit_outcome words.id end).status
-      → (code ≡ 0) ⊎ (code ≡ 18) → JudgesLog words before after code
-  judged_log end (InHead found) is judged =
-      absurd (head_not_judged words.id found.fault (of_own (is ∙ ap (λ (e : AuditEnd). (audit_outcome words.id e).status) found.is) judged))
-    where
-      of_own : {own : ℕ} → code ≡ own → (code ≡ 0) ⊎ (code ≡ 18) → (own ≡ 0) ⊎ (own ≡ 18)
-      of_own same (inl zero) = inl (sym same ∙ zero)
-      of_own same (inr eighteen) = inr (sym same ∙ eighteen)
-  judged_log end (Unknown other node) is judged =
-      let own : code ≡ 16 = is ∙ ap (λ (e : AuditEnd). (audit_outcome words.id e).status) other in absurd (grind arith)
-  judged_log end (InLog log) is judged = record { end = end; audited = log; is = is }
-
   module _ (run : AuditsLog words before after code) (never_fall : NeverFall before after) where
     own_fails : OwnStatus code ⊎ ((code ≡ 7) × WriteFails before.output after.output)
     own_fails = of_says run.says
@@ -133,13 +106,36 @@ module _ (words : AuditWords) (before after : Seen) (code : ℕ) where
         of_says (Whole is whole) = is
         of_says (Cut is fails front) = absurd (other is)
 
-    unread : code ≡ 6 → ReadFails before.input after.input
-    unread six = read_fails run.judges (six_reads words.id run.end (sym (is_own (λ seven. omega arith)) ∙ six))
+    read_fails : code ≡ 6 → ReadFails before.input after.input
+    read_fails six = unread (audited_run words) run.judges (six_reads words.id run.end (sym (is_own (λ seven. omega arith)) ∙ six))
+
+    reads_log : code ≡ 0 → ReadsLog words before.input after.input code
+    reads_log zero =
+        let own = is_own (λ seven. omega arith) in
+        let all = good_read (audited_run words) run.judges (zero_good words.id run.end (sym own ∙ zero)) in
+        record { read = all.read; takes = all.takes; at_end = all.at_end; end = run.end; ends = all.ends; is = own }
+
+    answers_all : code ≢ 11 → ¬ ReadFails before.input after.input → ¬ WriteFails before.output after.output
+        → IfSome before.input.left (λ bytes. AnswersAll words bytes before.output after.output code)
+    answers_all memory no_read no_write = of_says run.says
+      where
+        of_bytes : (left : Option (List ℕ)) → IfSome left (λ bytes. AuditEnds (audited_run words) run.end (input_of Ended bytes)) → code ≡ (audit_outcome words.id run.end).status
+            → after.output.written ≡ append_known before.output.written (audit_outcome words.id run.end).text
+            → IfSome left (λ bytes. AnswersAll words bytes before.output after.output code)
+        of_bytes None ends is whole = tt
+        of_bytes (Some bytes) ends is whole = record { end = run.end; ends = ends; is = is; writes = whole }
+
+        of_says : Says (audit_outcome words.id run.end).text (audit_outcome words.id run.end).status before.output after.output code
+            → IfSome before.input.left (λ bytes. AnswersAll words bytes before.output after.output code)
+        of_says (Whole is whole) =
+            of_bytes before.input.left
+            (of_all_bytes (audited_run words) run.judges no_read (λ wanted. memory (is ∙ ap (λ (e : AuditEnd). (audit_outcome words.id e).status) wanted))) is whole
+        of_says (Cut is fails front) = absurd (no_write fails)
 
     done_of : OwnStatus code ⊎ ((code ≡ 7) × WriteFails before.output after.output) → code ≢ 11 → ¬ ReadFails before.input after.input
         → ¬ WriteFails before.output after.output → IsOneOf (Done ∷ BadConf ∷ BadSchedule ∷ UnknownNode ∷ NotARun ∷ []) code
     done_of (inl (inl own)) memory no_read no_write = own
-    done_of (inl (inr (inl six))) memory no_read no_write = absurd (no_read (unread six))
+    done_of (inl (inr (inl six))) memory no_read no_write = absurd (no_read (read_fails six))
     done_of (inl (inr (inr eleven))) memory no_read no_write = absurd (memory eleven)
     done_of (inr failed) memory no_read no_write = absurd (no_write failed.1)
 
@@ -166,12 +162,13 @@ module _ (words : AuditWords) (before after : Seen) (code : ℕ) where
     pub audits : Audits words before after code
     audits = record {
       ran = run;
-      judged = λ judged. judged_log run.end run.judges (is_own (λ seven. grind arith)) judged;
+      read = reads_log;
+      answers = answers_all;
       complete = done_of own_fails;
       statuses = one_of own_fails;
       causes = record {
         never_fall = never_fall;
-        read_fault = unread;
+        read_fault = read_fails;
         write_fault = fails_of own_fails;
         env_fault = λ eight. absurd (no_call own_fails eight);
       };

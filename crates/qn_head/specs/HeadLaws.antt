@@ -1,5 +1,5 @@
 -- What is true of every head: its settings are valid and its times safe, and its end fits the way in which the input ended.
-use Rattle.std.proofs.Common.{◌≡◌, ◌+◌, ℕ, Bool, true, false, cond, List, [], ◌∷◌, ◌++◌, Result, Ok, Err, IfOk, IfErr, length, refl}
+use Rattle.std.proofs.Common.{◌≡◌, ◌+◌, ℕ, Bool, true, false, cond, List, [], ◌∷◌, ◌++◌, Result, Ok, Err, IfOk, IfErr, length, refl, subst}
 use Rattle.std.specs.Prelude.{nat_lt}
 use Rattle.std.specs.Str.{bytes_eq}
 use Rattle.qn_conf.specs.declared.faults.ConfFault.{ConfFault}
@@ -13,7 +13,7 @@ use Rattle.qn_model.specs.Settings.{IsValid}
 use Rattle.qn_model.specs.Timing.{is_safe}
 use Rattle.qn_play.specs.Endings.{EndFits}
 use Rattle.qn_sched.specs.declared.replay_end.ReplayEnd.{ReplayEnd}
-use Rattle.qn_sched.specs.declared.replay_end.ReplayEnd.TheVariants.{ReadFault, UnsafeTiming}
+use Rattle.qn_sched.specs.declared.replay_end.ReplayEnd.TheVariants.{NoMemory, ReadFault, UnsafeTiming}
 use Rattle.qn_sched.specs.Head.{dashes, or_bad_text, safe_or_not, safe_timing_in, settings_in}
 use Rattle.qn_sched.specs.TimingLine.{timing_of}
 use Rattle.qn_settings.specs.declared.faults.SettingsFault.{SettingsFault}
@@ -65,13 +65,13 @@ text_fits ending (Ok settings) = tt
 text_fits ending (Err (text.Conf fault)) = tt
 text_fits ending (Err (text.Settings fault)) = tt
 
-settings_fit : (ending : Ending) (lines : ℕ) (rest : List (List ℕ)) (judged : Result Settings ReplayEnd) → EndsFit ending judged → EndsFit ending (with_settings lines rest judged)
-settings_fit ending lines rest (Ok settings) fits = tt
-settings_fit ending lines rest (Err end) fits = fits
+given_fits : (ending : Ending) (lines : ℕ) (rest : List (List ℕ)) (judged : Result Settings ReplayEnd) → EndsFit ending judged → EndsFit ending (with_settings lines rest judged)
+given_fits ending lines rest (Ok settings) fits = tt
+given_fits ending lines rest (Err end) fits = fits
 
 text_given_fits : (ending : Ending) (bytes : List ℕ) (lines : ℕ) (rest : List (List ℕ)) → EndsFit ending (text_given bytes lines rest)
 unfolding settings_in
-text_given_fits ending bytes lines rest = settings_fit ending lines rest (settings_in bytes) (text_fits ending (settings_of_text bytes))
+text_given_fits ending bytes lines rest = given_fits ending lines rest (settings_in bytes) (text_fits ending (settings_of_text bytes))
 
 last_of_text_fits : (bytes : List ℕ) (before : ℕ) (ending : Ending) (rest : List ℕ) → EndFits (last_of_text bytes before ending rest) ending
 unfolding last_of_text
@@ -84,6 +84,17 @@ text_lines_fit bytes before ending (line ∷ next ∷ lines) =
     either_given ending (bytes_eq line dashes) _ _ (text_given_fits ending bytes (before + 1) (next ∷ lines))
     (either_given ending (nat_lt 1048576 (length (bytes ++ line ++ 10 ∷ []))) _ _ tt
     (text_lines_fit (bytes ++ line ++ 10 ∷ []) (before + 1) ending (next ∷ lines)))
+
+settings_fit : (ending : Ending) (bytes : List ℕ) → EndsFit ending (settings_part ending bytes)
+settings_fit ending bytes = text_lines_fit [] 0 ending (lines_of bytes)
+
+-- the end of a settings text that was read to the end of its input is no ReadFault
+pub settings_read : (bytes : List ℕ) → settings_part Ended bytes ≡ Err ReadFault → ⊥
+settings_read bytes is = subst (λ (given : Given SettingsHead). EndsFit Ended given) is (settings_fit Ended bytes)
+
+-- no bytes of a settings text tell of memory
+pub settings_no_memory : (ending : Ending) (bytes : List ℕ) → settings_part ending bytes ≡ Err NoMemory → ⊥
+settings_no_memory ending bytes is = subst (λ (given : Given SettingsHead). EndsFit ending given) is (settings_fit ending bytes)
 
 safe_fits : (ending : Ending) (timing : Timing) (safe : Bool) → EndsFit ending (cond safe (Ok timing) (Err (UnsafeTiming timing)))
 safe_fits ending timing true = tt

@@ -1,7 +1,7 @@
 //! Reads the next line of an input, and leaves it where it stands.
 ghost use Rattle.std.specs.Prelude.{◌≡◌, ◌≤◌, ◌<◌, drop, length};
 ghost use Rattle.std.specs.Io.KnownBytes.{prepend_known};
-ghost use Rattle.qn_io.specs.Lines.{HasNoLineFeed, OnFailedLine, ReadsLine};
+ghost use Rattle.qn_io.specs.Lines.{HasNoLineFeed, IsDrainedLine, OnFailedLine, ReadsLine};
 ghost use Rattle.qn_io.specs.NextLines.{own_count, read_of, text_of};
 ghost use Rattle.qn_io.specs.Outside.{HasRisen};
 
@@ -30,7 +30,9 @@ pub fn read_next<I: Source>(
         (prepend_known pieces.old (I.left input.old))
         (prepend_known (drop (own_count result) pieces.new) (I.left input.new)) }
     ensures unended { HasNoLineFeed (text_of result pieces.new line.new.items) }
+    ensures short { length (text_of result pieces.new line.new.items) ≤ LINE }
     ensures waits { own_count result ≤ length pieces.new }
+    ensures drained { IsDrainedLine (read_of result) pieces.new }
     ensures within { length pieces.new ≤ PIECE }
     ensures never_falls { I.faults input.old ≤ I.faults input.new }
     ensures cause { OnFailedLine (read_of result)
@@ -38,7 +40,11 @@ pub fn read_next<I: Source>(
 {
     match pieces.first_line() {
         Some(count) => NextLine::Waits(count),
-        None => NextLine::Copied(read_line(pieces, input, line)),
+        None => {
+            let read = read_line(pieces, input, line);
+            prove!(line.len() <= LINE);
+            NextLine::Copied(read)
+        }
     }
 }
 

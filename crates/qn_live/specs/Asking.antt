@@ -11,7 +11,7 @@ use Rattle.qn_live.specs.declared.asked.Asked.TheVariants as asked
 use Rattle.qn_live.specs.declared.asked.Given.{Given}
 use Rattle.qn_live.specs.declared.asked.Room.{Room}
 
--- a sector is one of an image
+-- a sector is one of an image, and a rank is below 32
 abbrev pub IsWithin : Asked → Type 0
 IsWithin (asked.Read sector) = sector < 1024
 IsWithin (asked.Write sector) = sector < 1024
@@ -20,7 +20,7 @@ IsWithin asked.Now = Unit {0}
 IsWithin asked.Feed = Unit {0}
 IsWithin asked.Start = Unit {0}
 IsWithin asked.Stop = Unit {0}
-IsWithin (asked.Send to) = Unit {0}
+IsWithin (asked.Send to) = to.0 < 32
 IsWithin asked.Disarm = Unit {0}
 IsWithin (asked.Halt code) = Unit {0}
 

@@ -141,6 +141,7 @@ impl NodeRun {
     }
 
     fn ask_greeting(&self, greeting: Greeting, to: u8, room: &mut Room) -> Asked
+        requires rank { to < 32 }
         ensures asked { question_of result room.new ≡ greeting_call self.now.me.0 greeting to }
         ensures within { IsWithin result }
     {

@@ -13,7 +13,7 @@ use Rattle.qn_sched.specs.EventReading.{clock_at, clock_of, clock_of_parts, cloc
 use Rattle.qn_sched.proofs.Binds.{bind_ok, good, same_ok}
 use Rattle.qn_sched.proofs.ClocksListed.{clock_of-cut}
 use Rattle.qn_sched.proofs.RankSpelling.{AreIds, rank_of-id, rank_of-ok}
-use Rattle.qn_sched.proofs.WrittenNumbers.{decimal_without, number_between-decimal, number_between-ok}
+use Rattle.qn_sched.specs.WrittenNumbers.{decimal_without, number_between-decimal, number_between-ok}
 
 abbrev pub ranks_of : List (Rank × ℕ) → List ℕ
 ranks_of clocks = map (λ (clock : Rank × ℕ). clock.0.0) clocks

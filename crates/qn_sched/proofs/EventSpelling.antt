@@ -33,7 +33,7 @@ use Rattle.qn_sched.proofs.ClockSpelling.{clocks_of-ok, clocks_of-words, is_cloc
 use Rattle.qn_sched.proofs.LineWords.{line_plain}
 use Rattle.qn_sched.proofs.MemberSpelling.{members_of-ok, members_of-word}
 use Rattle.qn_sched.proofs.RankSpelling.{AreIds, rank_of-id, rank_of-ok}
-use Rattle.qn_sched.proofs.WrittenNumbers.{number_between-decimal, number_between-ok}
+use Rattle.qn_sched.specs.WrittenNumbers.{number_between-decimal, number_between-ok}
 
 -- ---- the first word
 

@@ -10,4 +10,3 @@ mod PartsLemmas
 mod Places
 pub mod RankSpelling
 mod TimingSpelling
-mod WrittenNumbers

@@ -26,7 +26,7 @@ use Rattle.qn_sched.proofs.Joining.{behind, join-behind}
 use Rattle.qn_sched.proofs.MemberSpelling.{all_ranks, ranks_from, words_at, words_without}
 use Rattle.qn_sched.proofs.PartsLemmas.{AreWithout, parts-joined}
 use Rattle.qn_sched.proofs.RankSpelling.{AreIds}
-use Rattle.qn_sched.proofs.WrittenNumbers.{decimal_without}
+use Rattle.qn_sched.specs.WrittenNumbers.{decimal_without}
 
 -- no blank in a word
 abbrev pub IsBlankless : List ℕ → Type 0

@@ -17,7 +17,7 @@ use Rattle.qn_model.specs.Lines.{is_ascending, is_filled, known_rank, known_rank
 use Rattle.qn_sched.specs.EventLines.{ids_from, joined, member_word}
 use Rattle.qn_sched.proofs.Binds.{bind_ok, good, same_ok}
 use Rattle.qn_sched.proofs.PartsLemmas.{AreWithout, parts-joined, parts-some}
-use Rattle.qn_sched.proofs.WrittenNumbers.{decimal_without}
+use Rattle.qn_sched.specs.WrittenNumbers.{decimal_without}
 use Rattle.qn_sched.proofs.RankSpelling.{AreIds, id_lt, known_rank-id, known_rank-ok}
 use Rattle.qn_sched.proofs.ClocksListed.{ascends_from, ascends_whole}
 

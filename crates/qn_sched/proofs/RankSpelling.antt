@@ -19,7 +19,7 @@ use Rattle.qn_model.specs.Lines.{known_rank, number_between}
 use Rattle.qn_sched.specs.EventLines.{id_word}
 use Rattle.qn_sched.specs.EventReading.{rank_of}
 use Rattle.qn_sched.proofs.Binds.{bind_ok, same_ok}
-use Rattle.qn_sched.proofs.WrittenNumbers.{number_between-decimal, number_between-ok}
+use Rattle.qn_sched.specs.WrittenNumbers.{number_between-decimal, number_between-ok}
 
 -- the ids of nodes: they ascend, and fit 64 bits
 pub record AreIds (ids : List ℕ) : Type 0 where

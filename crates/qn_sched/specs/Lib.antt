@@ -9,3 +9,4 @@ pub mod PhaseNames
 pub mod TimingLine
 pub mod TraceLines
 pub mod Words
+pub mod WrittenNumbers

@@ -1,15 +1,17 @@
 -- `audit`: whether a log is a run of a node; this project's profile.
-use Rattle.std.specs.Prelude.{◌≡◌, ◌≢◌, ◌⊎◌, ℕ, [], ◌∷◌, ◌++◌, codes, decimal}
+use Rattle.std.specs.Prelude.{◌≡◌, ◌≢◌, ℕ, List, [], ◌∷◌, ◌++◌, IfSome, codes, decimal}
+use Rattle.std.specs.Io.KnownBytes.{IsAtEnd, append_known, prepend_known}
 use Rattle.qn_audit.specs.declared.audit_end.AuditEnd.{AuditEnd}
 use Rattle.qn_audit.specs.declared.audit_end.AuditEnd.TheVariants as end
-use Rattle.qn_audit.specs.Inputs.{AuditedInput, AuditedRun, InputAt, JudgesInput}
+use Rattle.qn_audit.specs.Deciding.{input_of}
+use Rattle.qn_audit.specs.Inputs.{AuditEnds, AuditedRun, InputAt, JudgesInput}
 use Rattle.qn_base.specs.declared.ids.NodeId.{NodeId}
-use Rattle.qn_model.specs.Lines.{Outcome}
+use Rattle.qn_model.specs.Lines.{Ended, Outcome}
 use Rattle.qn_commands.specs.declared.commands.audit.AuditWords.{AuditWords}
 use Rattle.qn_commands.specs.declared.fault.Fault.TheVariants as fault
 use Rattle.qn_commands.specs.declared.status.Status.TheVariants.{Done, BadConf, BadSchedule, ReadFault, WriteFault, NoMemory, UnknownNode, NotARun}
 use Rattle.qn_commands.specs.Endings.{Says, refused}
-use Rattle.qn_commands.specs.Seen.{Input, ReadFails, Seen, WriteFails}
+use Rattle.qn_commands.specs.Seen.{Input, Output, ReadFails, Seen, WriteFails}
 use Rattle.qn_commands.specs.Statuses.{HasCauses, IsOneOf}
 
 -- the run that the log is audited as
@@ -42,18 +44,31 @@ pub record AuditsLog (words : AuditWords) (before after : Seen) (code : ℕ) : T
   pub says : Says (audit_outcome words.id end).text (audit_outcome words.id end).status
       before.output after.output code
 
--- the log was judged against the plan of the run, and was a whole run, the beginning of one, or neither
-pub record JudgesLog (words : AuditWords) (before after : Seen) (code : ℕ) : Type 0 where
+-- the input was read to its end, and all its bytes end the audit so
+pub record ReadsLog (words : AuditWords) (before after : Input) (code : ℕ) : Type 0 where
+  pub read : List ℕ
+  pub takes : before.left ≡ prepend_known read after.left
+  pub at_end : IsAtEnd after.left
   pub end : AuditEnd
-  pub audited : AuditedInput (audited_run words) (shown before.input) (shown after.input) end
+  pub ends : AuditEnds (audited_run words) end (input_of Ended read)
   pub is : code ≡ (audit_outcome words.id end).status
 
--- The settings are read and judged, then the id, and then each line of the log is judged before the next one. Nothing is
--- written before the last line. At status 0 and 18 the log was judged against the plan of the run; where nothing failed and
--- memory sufficed, the input was judged to its end or to its first fault.
+-- all bytes that were there end the audit so, and its whole line was written
+pub record AnswersAll (words : AuditWords) (bytes : List ℕ) (before after : Output) (code : ℕ) : Type 0 where
+  pub end : AuditEnd
+  pub ends : AuditEnds (audited_run words) end (input_of Ended bytes)
+  pub is : code ≡ (audit_outcome words.id end).status
+  pub writes : after.written ≡ append_known before.written (audit_outcome words.id end).text
+
+-- The settings are read and judged, then the id, and then each line of the log before the next one. Nothing is written before
+-- the last line. At status 0 the input was read to its end; where nothing failed and memory sufficed, the answer is that of all
+-- bytes that were there.
 pub record Audits (words : AuditWords) (before after : Seen) (code : ℕ) : Type 0 where
   pub ran : AuditsLog words before after code
-  pub judged : (code ≡ 0) ⊎ (code ≡ 18) → JudgesLog words before after code
+  pub read : code ≡ 0 → ReadsLog words before.input after.input code
+  pub answers : code ≢ 11 → ¬ ReadFails before.input after.input
+      → ¬ WriteFails before.output after.output
+      → IfSome before.input.left (λ bytes. AnswersAll words bytes before.output after.output code)
   pub complete : code ≢ 11 → ¬ ReadFails before.input after.input
       → ¬ WriteFails before.output after.output
       → IsOneOf (Done ∷ BadConf ∷ BadSchedule ∷ UnknownNode ∷ NotARun ∷ []) code

@@ -1,54 +1,46 @@
-use Rattle.std.proofs.Common.{◌≡◌, List, ℕ, [], Option, ap, refl, subst, ◌∙◌}
+use Rattle.std.proofs.Common.{◌≡◌, [], List, ℕ, Option, ap, refl, sym, subst, ◌∙◌, arith}
 use Rattle.std.specs.Io.KnownBytes.{IsAtEnd, prepend_known}
+use Rattle.qn_base.specs.Rising.{HasRisen-within}
 use Rattle.qn_head.specs.Faults.{end_of}
 use Rattle.qn_head.specs.Heads.{settings_part}
-use Rattle.qn_head.specs.Parts.{Refuses}
-use Rattle.qn_head.specs.Texts.{HasText}
-use Rattle.qn_io.specs.Outside.{HasRisen, prepend_known-nil}
-use Rattle.qn_model.specs.declared.configuration.Settings.{Settings}
-use Rattle.qn_audit.specs.Inputs.{InHead, InLog, Unknown, plan_of}
+use Rattle.qn_head.specs.Parts.{Gives, Refuses}
+use Rattle.qn_io.specs.Outside.{HasRisen}
+use Rattle.qn_audit.specs.declared.audit_end.AuditEnd.{AuditEnd}
+use Rattle.qn_audit.specs.Inputs.{AuditedRun, JudgesInput, input_at, plan_of}
+use Rattle.qn_audit.proofs.HeadSteps.{judges_head, judges_log, judges_unknown, leads_to_log, nothing_waits}
+use Rattle.qn_audit.proofs.Steps.{stops_then, stops_wider}
 use Rattle.qn_audit.proofs.audit_input.audit.Goals as goal
-
--- before the first read nothing waits
-nothing_waits : (pieces : List ℕ) (left : Option (List ℕ)) → pieces ≡ [] → prepend_known pieces left ≡ left
-nothing_waits pieces left none = ap (λ p. prepend_known p left) none ∙ prepend_known-nil left
-
-waited : (settings : Settings) (pieces : List ℕ) (left middle : Option (List ℕ)) → pieces ≡ []
-    → HasText settings (prepend_known pieces left) middle → HasText settings left middle
-waited settings pieces left middle none head =
-    subst (λ (old : Option (List ℕ)). HasText settings old middle) (nothing_waits pieces left none) head
 
 pub returns-in-Err-clause-judges : goal.returns-in-Err-clause-judges
 returns-in-Err-clause-judges g c =
-    let at_end = (c.read_settings.new.pieces ≡ []) × IsAtEnd (g.I.Source.left c.read_settings.new.input) in
-    let failed = (c.read_settings.new.pieces ≡ []) × HasRisen (g.I.Source.faults c.args.input.now) (g.I.Source.faults c.read_settings.new.input) in
-    InHead (record {
-      fault = c.in-Err.fault;
-      is = c.from.ensures;
-      waiting = c.read_settings.new.pieces;
-      refuses = subst (λ (old : Option (List ℕ)). Refuses settings_part old (prepend_known c.read_settings.new.pieces (g.I.Source.left c.read_settings.new.input)) at_end failed (end_of c.in-Err.fault))
-          (nothing_waits c.new-pieces.result _ c.new-pieces.ensures) c.in-Err.ensures.fault;
-      cause = c.in-Err.ensures.cause;
-    })
+    let run : AuditedRun = record { id = c.args.id; clean = c.args.clean; leave = c.args.leave_at; turns = c.args.turns } in
+    let before = input_at g.I.Source.left g.I.Source.faults c.args.input.now in
+    let after = input_at g.I.Source.left g.I.Source.faults c.read_settings.new.input in
+    let waiting = c.read_settings.new.pieces in
+    let at_end = (waiting ≡ []) × IsAtEnd after.left in
+    let failed = (waiting ≡ []) × HasRisen before.faults after.faults in
+    subst (λ (end : AuditEnd). JudgesInput run before after end) (sym c.from.ensures)
+    (judges_head run before after waiting c.in-Err.fault c.read_settings.ensures.within
+    (subst (λ (old : Option (List ℕ)). Refuses settings_part old (prepend_known waiting after.left) at_end failed (end_of c.in-Err.fault))
+    (nothing_waits c.new-pieces.result _ c.new-pieces.ensures) c.in-Err.ensures.fault))
 
 pub returns-in_default-clause-judges : goal.returns-in_default-clause-judges
-returns-in_default-clause-judges g c = Unknown refl (record {
-  settings = c.in-Ok.head.settings;
-  waiting = c.read_settings.new.pieces;
-  head = waited c.in-Ok.head.settings c.new-pieces.result _ _ c.new-pieces.ensures c.in-Ok.ensures.text;
-  unnamed = c.in_default.ensures.unnamed;
-})
+returns-in_default-clause-judges g c =
+    let run : AuditedRun = record { id = c.args.id; clean = c.args.clean; leave = c.args.leave_at; turns = c.args.turns } in
+    let before = input_at g.I.Source.left g.I.Source.faults c.args.input.now in
+    let after = input_at g.I.Source.left g.I.Source.faults c.read_settings.new.input in
+    judges_unknown run c.in-Ok.head c.in-Ok.ensures.settings before after c.read_settings.new.pieces
+    (nothing_waits c.new-pieces.result _ c.new-pieces.ensures) refl c.read_settings.ensures.within c.in_default.ensures.unnamed
 
 pub returns-clause-judges : goal.returns-clause-judges
-returns-clause-judges g c = InLog (record {
-  settings = c.in-Ok.head.settings;
-  middle = record { left = prepend_known c.read_settings.new.pieces (g.I.Source.left c.read_settings.new.input); faults = g.I.Source.faults c.read_settings.new.input };
-  head = waited c.in-Ok.head.settings c.new-pieces.result _ _ c.new-pieces.ensures c.in-Ok.ensures.text;
-  before_log = c.in-Ok.ensures.never_falls;
-  in_log = c.audit_log.ensures.never_falls;
-  lines = c.in-Ok.head.lines;
-  rank = c.in-Some.me.0;
-  named = c.in-Some.ensures.named;
-  waiting = c.audit_log.new.pieces;
-  audited = c.audit_log.ensures.audited (plan_of (record { id = c.args.id; clean = c.args.clean; leave = c.args.leave_at; turns = c.args.turns }) c.in-Ok.head.settings c.in-Some.me.0) c.new-auditor.ensures;
-})
+returns-clause-judges g c =
+    let run : AuditedRun = record { id = c.args.id; clean = c.args.clean; leave = c.args.leave_at; turns = c.args.turns } in
+    let before = input_at g.I.Source.left g.I.Source.faults c.args.input.now in
+    let after = input_at g.I.Source.left g.I.Source.faults c.audit_log.new.input in
+    let middle = prepend_known c.read_settings.new.pieces (g.I.Source.left c.read_settings.new.input) in
+    let given : Gives settings_part c.in-Ok.head before.left middle =
+    subst (λ (old : Option (List ℕ)). Gives settings_part c.in-Ok.head old middle) (nothing_waits c.new-pieces.result _ c.new-pieces.ensures) c.in-Ok.ensures.settings in
+    judges_log run before after c.audit_log.new.pieces c.audit_log.ensures.within
+    (stops_then (leads_to_log run c.in-Ok.head given c.in-Some.me.0 c.in-Some.ensures.named)
+    (stops_wider (λ fails. (fails.0, HasRisen-within _ _ _ _ c.in-Ok.ensures.never_falls c.audit_log.ensures.never_falls (omega arith) fails.1))
+    (c.audit_log.ensures.ends (plan_of run c.in-Ok.head.settings c.in-Some.me.0) c.new-auditor.ensures)))

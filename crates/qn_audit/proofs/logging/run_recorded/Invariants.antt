@@ -4,7 +4,7 @@ use Rattle.qn_base.specs.Plans.{Made}
 use Rattle.qn_live.specs.Machine.{RunFor, work}
 use Rattle.qn_live.specs.Runs.{live_plan}
 use Rattle.qn_audit.specs.Judging.{Keeps, left_after}
-use Rattle.qn_audit.specs.Logs.{log_text}
+use Rattle.qn_audit.specs.Logs.{AreRecorded, log_text}
 use Rattle.qn_audit.specs.Recording.{Logs, log_of}
 use Rattle.qn_audit.proofs.logging.run_recorded.Given as goal
 
@@ -13,6 +13,7 @@ invariant-calls g l = record {
   did : (calls : List Call)
       × Made (g.E.Env.faults l.fn.recorder.env.now) (g.E.Env.faults l.recorder.env.now) (g.E.Env.calls l.fn.recorder.env.now) (g.E.Env.calls l.recorder.env.now) calls
       × Keeps (live_plan l.settings l.fn.me.0 l.clean l.fn.leave_at l.turns) calls
+      × AreRecorded calls
       × RunFor l.run (left_after (live_plan l.settings l.fn.me.0 l.clean l.fn.leave_at l.turns) calls)
       × Logs (log_of g.O.Sink.written g.O.Sink.faults l.fn.recorder) (log_of g.O.Sink.written g.O.Sink.faults l.recorder) (log_text calls);
   same_env : l.recorder.env.ghost_name ≡ l.fn.recorder.env.ghost_name;
