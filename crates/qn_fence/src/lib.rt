@@ -2,8 +2,8 @@
 //! reset next, in fixed memory.
 //!
 //! Promises: a `Fence` stands for a node's log (`specs/Fence`). `next` is the defined operation of the
-//! fencing, and `unfenced` names the least node outside the view that has no licence; beside it `licensed` is the
-//! defined licence of one node. An answer counts only where it was asked for since the rank was last in a view. No call
+//! fencing, `licensed` is the defined licence, and `unfenced` names the least node outside the view that
+//! has none. An answer counts only where it was asked for since the rank was last in a view. No call
 //! takes memory.
 #![tactic(auto)]
 
