@@ -9,4 +9,3 @@ mod poller;
 
 pub use arbiter::Arbiter;
 pub use poller::{Poller, Standing};
-pub use qn_lease::{ArbiterEvent, ArbiterReport, Lease, Poll, Reply, Said, lease_safe};

@@ -19,7 +19,6 @@ mod seat;
 mod waiting;
 
 pub use cluster::Cluster;
-pub use entries::entry_of;
-pub use looking::{blank_report, touched};
+pub use looking::blank_report;
 pub use rules::unless;
 pub use waiting::Waiting;

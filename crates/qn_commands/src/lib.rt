@@ -31,5 +31,4 @@ pub use ending::{refuse, say};
 pub use fault::Fault;
 pub use node_images::NodeImages;
 pub use path::Path;
-pub use settings_text::read_settings;
 pub use status::Status;

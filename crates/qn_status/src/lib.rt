@@ -10,5 +10,4 @@ mod node_state;
 mod status;
 mod text;
 
-pub use node_state::NodeState;
 pub use status::{StatusFault, status_json, status_text};

@@ -15,6 +15,4 @@ mod options;
 mod program;
 mod replay_end;
 
-pub use command::{Command, Form, command_of};
 pub use program::top;
-pub use qn_commands::{AuditWords, NodeWords, Path};

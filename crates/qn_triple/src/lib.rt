@@ -3,7 +3,8 @@
 //! stands in `qn_disk`: a world is one of its `Steps`.
 //!
 //! Promises: a `TripleWorld` stands for a world of the definitions (`specs/Standing`). `allowed` is exactly the rules;
-//! `apply` answers the rule that refuses an event, or makes exactly the step of the definitions and reports the new world.
+//! `apply_into`, and `apply` on it, answers the rule that refuses an event, or makes exactly the step of the definitions and
+//! reports the new world.
 //! After a refusal the world is as it was. It runs out of memory only where a step appends a packet or a leftover. Every
 //! world was reached by well formed events, each allowed in its turn, and so at most one node holds, though any one image
 //! may fail, lag behind or come back. A line is read as the event that it says, or as its first fault, exactly as
@@ -21,5 +22,4 @@ mod world;
 pub use event_line::read_triple_line;
 pub use laws::law_triple_lines;
 pub use qn_cluster::blank_report;
-pub use qn_safety::TripleEvent;
 pub use world::TripleWorld;

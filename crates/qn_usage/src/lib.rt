@@ -12,8 +12,7 @@ mod values;
 mod words;
 
 pub use help::{help_text, version_text};
-pub use quorumd::{BEFORE, QUORUMD, VERSION};
+pub use quorumd::{BEFORE, QUORUMD};
 pub use refusal::{Refusal, refusal_of};
 pub use synopsis::{Synopsis, Takes};
-pub use values::is_value;
 pub use words::{has_word, value_of};

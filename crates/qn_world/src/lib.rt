@@ -3,8 +3,8 @@
 //! leftovers those of `qn_disk`, which also says how an event is taken: a world is one of its `Steps`.
 //!
 //! Promises: a `World` stands for a world of the definitions (`specs/Standing`). `allowed` is exactly the
-//! rules; `apply` answers the rule that refuses an event, or makes exactly the step of the definitions and
-//! reports the new world. After a refusal the world is as it was. It runs out of memory only where a step appends
+//! rules; `apply_into`, and `apply` on it, answers the rule that refuses an event, or makes exactly the step of the definitions
+//! and reports the new world. After a refusal the world is as it was. It runs out of memory only where a step appends
 //! a packet or a leftover: nodes are kept in fixed memory. Every world was reached by well formed events,
 //! each allowed in its turn, and so at most one node holds.
 #![tactic(auto)]
