@@ -5,7 +5,7 @@
 _quorumctl_options() {
     options=()
     case $1 in
-    timing) options=(--watchdog --loop --read-limit --feed-delay) ;;
+    timing) options=(--watchdog --loop --read-limit --feed-delay --disk) ;;
     check | list) options=(--image --json) ;;
     wait) options=(--image --id) ;;
     esac
@@ -24,7 +24,7 @@ _quorumctl() {
         compopt -o filenames -o default 2> /dev/null || true
         return
         ;;
-    --id | --watchdog | --loop | --read-limit | --feed-delay) return ;;
+    --id | --watchdog | --loop | --read-limit | --feed-delay | --disk) return ;;
     esac
     _quorumctl_options "${COMP_WORDS[1]}"
     for option in "${options[@]}"; do

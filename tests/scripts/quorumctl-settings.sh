@@ -83,9 +83,28 @@ done < "$TOP/tests/rows/settings-at-fault.tsv"
 
 # times: the least msgwait is safe, and one less is not
 timing() {
-    "$QUORUMCTL" timing --watchdog "$1" --loop "$2" --read-limit "$3" --feed-delay "$4"
+    "$QUORUMCTL" timing --watchdog "$1" --loop "$2" --read-limit "$3" --feed-delay "$4" "${@:5}"
 }
-same "$(timing 5000 1000 2000 1000 | xargs)" 'least msgwait 8164 longest take-over 17164'
+
+# the slowest disk and the longest take-over, or why there is none: rows that were worked out by hand from the conditions
+while IFS=$'\t' read -r watchdog loop read_limit feed_delay least slowest longest; do
+    [[ $watchdog != '#'* ]] || continue
+    wanted="least msgwait $least"
+    [ "$slowest" = 0 ] || wanted+=$'\n'"slowest disk $slowest"
+    wanted+=$'\n'"longest take-over $longest"
+    same "$(timing "$watchdog" "$loop" "$read_limit" "$feed_delay")" "$wanted"
+done < "$TOP/tests/rows/take-over-times.tsv"
+
+# a disk that was measured: the bound on it, or which time it is too slow for
+measured() {
+    same "$(timing "$1" "$2" "$3" "$4" --disk "$5" | tail -n 1)" "longest take-over $6"
+}
+measured 5000 1000 2000 1000 989 20362
+measured 5000 1000 2000 1000 500 16370
+measured 5000 1000 2000 1000 990 'none: the disk is too slow for this loop'
+measured 5000 1000 900 1000 892 'none: the disk is too slow for the read limit'
+measured 5000 1000 2000 3500 248 "none: the loop, two calls of the disk and the feed delay do not fit in the watchdog's time"
+measured 5000 6000 2000 1000 1 "none: the loop, two calls of the disk and the feed delay do not fit in the watchdog's time"
 for times in '5000 1000 2000 1000' '1 1 1 1' '3000000 2 3 4' '60000 3600000 1 1'; do
     # shellcheck disable=SC2086
     set -- $times

@@ -30,7 +30,7 @@ refused '"x" is not taken; usage: settings' settings x
 refused '--image is missing; usage: list --image PATH [--json]' list --json
 refused '"--json" is not taken; usage: list --image PATH [--json]' list --json --image d --json
 refused '"0" is not taken; usage: wait --image PATH --id 1..4294967295' wait --id 0 --image d
-refused '--feed-delay is missing; usage: timing --watchdog 1..3600000 --loop 1..3600000 --read-limit 1..3600000 --feed-delay 1..3600000' \
+refused '--feed-delay is missing; usage: timing --watchdog 1..3600000 --loop 1..3600000 --read-limit 1..3600000 --feed-delay 1..3600000 [--disk 1..3600000]' \
     timing --watchdog 1 --loop 1 --read-limit 1
 
 # the streams
@@ -60,6 +60,6 @@ offers 'settings' s
 offers '--image --json' check ''
 offers '--json' list --image disk ''
 offers '--id' wait --image disk --
-offers '--watchdog --read-limit --feed-delay' timing --loop 5 ''
+offers '--watchdog --read-limit --feed-delay --disk' timing --loop 5 ''
 touch disk.image
 offers disk.image check --image disk

@@ -1,4 +1,5 @@
 //! What is wrong with an image.
+use crate::unbounded::Unbounded;
 use qn_base::NodeId;
 use std::fmt;
 
@@ -15,6 +16,10 @@ pub enum Finding {
     OldVersion,
     /// The times of the header are not safe.
     UnsafeTimes,
+    /// With the times of the header a take-over has no bound on any disk.
+    NoBound {
+        reason: Unbounded,
+    },
     /// The sector is no slot.
     NotSlot {
         sector: u32,
@@ -52,6 +57,10 @@ impl fmt::Display for Finding {
             Finding::NotImage => f.write_str("sector 0 is no header: the file is no image"),
             Finding::OldVersion => f.write_str("the image is of version 1: quorumd migrate"),
             Finding::UnsafeTimes => f.write_str("the times are not safe"),
+            Finding::NoBound { reason } => {
+                let reason = reason.of_times();
+                write!(f, "a take-over has no bound: {reason}")
+            }
             Finding::NotSlot { sector } => of_sector(f, *sector, " is no slot"),
             Finding::NotMailbox { sector } => of_sector(f, *sector, " is no mailbox"),
             Finding::NotAscending { sector, id } => {

@@ -2,6 +2,7 @@
 ghost use Rattle.std.specs.Prelude.{◌<◌};
 
 use crate::findings::Finding;
+use crate::times::{slowest_disk, unbounded_on};
 use qn_base::{NodeId, Rank};
 use qn_model::{Mail, Settings, Slot, Timing, timing_safe};
 use qn_sector::{
@@ -70,8 +71,18 @@ fn look_at_header<S: Sectors>(sectors: &S, seen: &mut ImageSeen) -> Result<(), A
         seen.findings.push(Finding::NotImage)?;
     }
     if let Some((_, _, timing)) = seen.header {
-        if !timing_safe(&timing) {
-            seen.findings.push(Finding::UnsafeTimes)?;
+        look_at_times(&timing, seen)?;
+    }
+    Ok(())
+}
+
+/// The times are safe, and on some disk a take-over has a bound with them.
+fn look_at_times(timing: &Timing, seen: &mut ImageSeen) -> Result<(), AllocError> {
+    if !timing_safe(timing) {
+        seen.findings.push(Finding::UnsafeTimes)?;
+    } else if slowest_disk(timing).is_none() {
+        if let Some(reason) = unbounded_on(timing, 1) {
+            seen.findings.push(Finding::NoBound { reason })?;
         }
     }
     Ok(())

@@ -1,7 +1,8 @@
 //! What an operator wants to know of times, of a corosync.conf and of an image, beside what the program takes.
 //!
-//! Promises: `least_msgwait` is the least safe one, and None where none is safe; `longest_take_over` is the defined sum. What is told of a text
-//! and of an image is tested.
+//! Promises: `least_msgwait` is the least safe one, and None where none is safe; `slowest_disk` is the slowest on which a take-over
+//! has a bound, `unbounded_on` the first condition of it that is not met, and `longest_take_over` the defined bound, which has
+//! the number of a law of `qn_progress` in it. What is told of a text and of an image is tested.
 #![tactic(auto)]
 
 mod at_fault;
@@ -18,6 +19,7 @@ mod text;
 mod text_concerns;
 mod times;
 mod told;
+mod unbounded;
 
 pub use at_fault::wrong_lines;
 pub use concerns::{Concern, concerns_of};
@@ -28,5 +30,6 @@ pub use image_json::{check_json, list_json};
 pub use image_lines::{finding_lines, node_lines};
 pub use pairs::{Pair, Place, pairs_of};
 pub use text_concerns::{TextConcern, has_byte_order_mark, text_concerns_of};
-pub use times::{least_msgwait, longest_take_over};
+pub use times::{least_msgwait, longest_take_over, slowest_disk, unbounded_on};
 pub use told::settings_text;
+pub use unbounded::Unbounded;

@@ -5,7 +5,7 @@ use crate::texts::say_fault;
 use crate::trouble::{Trouble, say};
 use qn_base::{NodeId, read_decimal};
 use qn_control::{
-    ImageSeen, NodeSeen, check_json, finding_lines, list_json, look_at_image, node_lines,
+    Finding, ImageSeen, NodeSeen, check_json, finding_lines, list_json, look_at_image, node_lines,
 };
 use qn_model::{Mail, Message, Settings, Slot, Timing};
 use qn_settings::settings_of_text;
@@ -51,7 +51,13 @@ fn check_by<R: Files<File = File> + Print + AllocGlobal>(
     let file = ImageFile::open(rt, path).map_err(Trouble::System)?;
     let seen = look_at_image(rt.alloc(), &file, settings)?;
     say(rt, check_text(rt.alloc(), &seen, is_json)?.as_str())?;
-    Ok(if seen.findings.is_empty() { 0 } else { WRONG })
+    let is_wrong = seen.findings.as_slice().iter().any(is_wrong);
+    Ok(if is_wrong { WRONG } else { 0 })
+}
+
+/// Whether a finding is a fault of the image: that a take-over has no bound is a warning, and keeps no node from its start.
+fn is_wrong(finding: &Finding) -> bool {
+    !matches!(finding, Finding::NoBound { .. })
 }
 
 /// The nodes of an image, and what is wrong with it.

@@ -9,9 +9,9 @@ pub const QUORUMCTL: &[Synopsis] = &[
         does: "what is read of a corosync.conf, and what of it is risky or wrong",
     },
     Synopsis {
-        line: "timing --watchdog 1..3600000 --loop 1..3600000 --read-limit 1..3600000 --feed-delay 1..3600000",
+        line: "timing --watchdog 1..3600000 --loop 1..3600000 --read-limit 1..3600000 --feed-delay 1..3600000 [--disk 1..3600000]",
         reads: "",
-        does: "the least safe msgwait for these times, and the longest time to a take-over",
+        does: "the least safe msgwait for these times, and how long a take-over takes on which disk",
     },
     Synopsis {
         line: "check --image PATH [--json]",

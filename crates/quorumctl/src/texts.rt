@@ -1,11 +1,15 @@
 //! The commands on times and on a corosync.conf.
+ghost use Rattle.std.specs.Prelude.{IsTrue};
+ghost use Rattle.qn_model.specs.Timing.{has_periods};
+
 use crate::input::{is_memory, read_input};
 use crate::trouble::{Trouble, say};
-use qn_base::read_decimal;
+use qn_base::{LONGEST_PERIOD, read_decimal};
 use qn_conf::read_tree;
 use qn_control::{
     TextConcern, concerns_of, differences_of, has_byte_order_mark, least_msgwait,
-    longest_take_over, pairs_of, settings_text, text_concerns_of, wrong_lines,
+    longest_take_over, pairs_of, settings_text, slowest_disk, text_concerns_of, unbounded_on,
+    wrong_lines,
 };
 use qn_model::{Settings, Timing};
 use qn_settings::{TextFault, settings_of_text};
@@ -87,7 +91,7 @@ pub fn say_fault(
     Ok(BAD_CONF)
 }
 
-/// `timing`: the least msgwait, and the longest take-over with it.
+/// `timing`: the least msgwait, and how long a take-over takes with it.
 pub fn timing(rt: &(impl Print + AllocGlobal), options: &[String]) -> Result<u8, Trouble> {
     let mut timing = Timing {
         watchdog: number_of(options, "--watchdog"),
@@ -107,10 +111,47 @@ pub fn timing(rt: &(impl Print + AllocGlobal), options: &[String]) -> Result<u8,
     if !timing.has_periods() {
         return Ok(UNSAFE_TIMING);
     }
-    let longest = longest_take_over(&timing);
-    let text = format!(in rt.alloc(); "least msgwait {msgwait}\nlongest take-over {longest}\n")?;
-    say(rt, text.as_str())?;
+    let least = format!(in rt.alloc(); "least msgwait {msgwait}\n")?;
+    say(rt, least.as_str())?;
+    let measured = match value_of(options, "--disk") {
+        Some(word) => Some(read_decimal(word.as_bytes()).unwrap_or(0)),
+        None => None,
+    };
+    say_take_over(rt, &timing, measured)?;
     Ok(0)
+}
+
+/// Says on which disk a take-over has a bound, and which: on the slowest such disk, or on the one that was measured.
+fn say_take_over(
+    rt: &(impl Print + AllocGlobal),
+    timing: &Timing,
+    measured: Option<u64>,
+) -> Result<(), Trouble>
+    requires { IsTrue (has_periods timing.now) }
+{
+    let Some(slowest) = slowest_disk(timing) else {
+        return match unbounded_on(timing, 1) {
+            Some(reason) => say_no_bound(rt, reason.of_times()),
+            None => Ok(()),
+        };
+    };
+    let line = format!(in rt.alloc(); "slowest disk {slowest}\n")?;
+    say(rt, line.as_str())?;
+    let disk = measured.unwrap_or(slowest).min(LONGEST_PERIOD);
+    match unbounded_on(timing, disk) {
+        Some(reason) => say_no_bound(rt, reason.of_disk()),
+        None => {
+            let longest = longest_take_over(timing, disk, 1);
+            let line = format!(in rt.alloc(); "longest take-over {longest}\n")?;
+            say(rt, line.as_str())
+        }
+    }
+}
+
+/// Says that a take-over has no bound, and why.
+fn say_no_bound(rt: &(impl Print + AllocGlobal), reason: &str) -> Result<(), Trouble> {
+    let line = format!(in rt.alloc(); "longest take-over none: {reason}\n")?;
+    say(rt, line.as_str())
 }
 
 /// The number of an option that stands there, and is one.
