@@ -437,16 +437,16 @@ scene_purge() {
 # One command makes a host a member.
 scene_setup() {
     local n
-    sed 's/nodeid: \(.\)/nodeid: \1\n ring0_addr: 10.77.0.\1/' "$room/corosync.conf" > "$shared/corosync.conf"
+    cp "$room/corosync.conf" "$room/key" "$shared/"
     rm "$shared/disk"
     for n in 1 2 3; do
-        rm -f "$room/host$n/etc/quorumd/node-$n.env" "$room/host$n/etc/quorumd/corosync.conf"
+        rm -f "$room/host$n/etc/quorumd/node-$n.env" "$room/host$n/etc/quorumd/corosync.conf" "$room/host$n/etc/quorumd/key"
         power "$n"
     done
     until_true 30 on 3 true
     sleep 4
     for n in 1 2 3; do
-        on "$n" quorumd-setup /srv/cluster/corosync.conf --image /srv/cluster/disk --watchdog /srv/watchdog/watchdog $([ $n != 1 ] || echo --create) || return 1
+        on "$n" quorumd-setup /srv/cluster/corosync.conf --image /srv/cluster/disk --key /srv/cluster/key --watchdog /srv/watchdog/watchdog $([ $n != 1 ] || echo --create) || return 1
         on "$n" sh -c "echo WATCHDOG_IS_NO_DEVICE=yes >> /etc/quorumd/node-$n.env"
     done
     for n in 1 2 3; do
