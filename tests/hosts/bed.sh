@@ -34,7 +34,12 @@ set_up() {
     mkdir -p "$shared"
     : > "$shared/journal"
     : > "$room/events"
-    printf 'nodelist {\n node {\n nodeid: 1\n }\n node {\n nodeid: 2\n }\n node {\n nodeid: 3\n }\n}\nquorum {\n provider: corosync_votequorum\n}\n' > "$conf"
+    {
+        echo 'nodelist {'
+        for n in 1 2 3; do printf ' node {\n  nodeid: %s\n  ring0_addr: 10.77.0.%s\n }\n' "$n" "$n"; done
+        printf '}\nquorum {\n provider: corosync_votequorum\n}\n'
+    } > "$conf"
+    (umask 077 && head -c 32 /dev/urandom > "$room/key")
     rm -f "$shared/disk"
     # a disk for the resource's file system, which all hosts see
     rm -f "$room/store"
@@ -63,11 +68,11 @@ fill_host() {
     : > "$root/etc/machine-id"
     mkdir -p "$root/var/log/journal" "$root/srv/cluster" "$root/srv/watchdog" "$root/srv/db"
     mknod "$root/srv/store" b $((0x$(stat -c %t "${loops[n]}"))) $((0x$(stat -c %T "${loops[n]}")))
-    cp "$room/corosync.conf" "$root/etc/quorumd/corosync.conf"
-    sed -e 's#^WATCHDOG=.*#WATCHDOG=/srv/watchdog/watchdog#' "$root/etc/quorumd/node.env" > "$root/etc/quorumd/node-$n.env"
+    cp "$room/corosync.conf" "$room/key" "$root/etc/quorumd/"
+    sed -e 's#^WATCHDOG=.*#WATCHDOG=/srv/watchdog/watchdog#' -e 's#^EDGE=.*#EDGE=--links /etc/quorumd/corosync.conf --key /etc/quorumd/key#' "$root/etc/quorumd/node.env" > "$root/etc/quorumd/node-$n.env"
     # no kernel watchdog in a container: the check of the package is told so
     echo 'WATCHDOG_IS_NO_DEVICE=yes' >> "$root/etc/quorumd/node-$n.env"
-    cp "$here/relay" "$here/database" "$root/usr/local/bin/"
+    cp "$here/database" "$root/usr/local/bin/"
     cp "$here/test-network.service" "$here/database.service" "$root/etc/systemd/system/"
     sed -i "s/@N@/$n/" "$root/etc/systemd/system/test-network.service" "$root/usr/local/bin/database"
     in_root "$root" systemctl -q enable test-network.service "quorumd@$n.service" || return 1

@@ -29,7 +29,7 @@ setup() {
 written() {
     (cd etc && find . -type f | sort | xargs)
 }
-usage='usage: quorumd-setup CONF --image PATH[,PATH,PATH] [--id N] [--watchdog DEVICE] [--port Q] [--create]'
+usage='usage: quorumd-setup CONF --image PATH[,PATH,PATH] [--key FILE] [--id N] [--watchdog DEVICE] [--port Q] [--create]'
 disk=$PWD/disk
 
 # words
@@ -77,6 +77,21 @@ setup 1 'quorumd-setup: HERE/etc/quorumd/corosync.conf is there and says somethi
 cmp three.conf etc/quorumd/corosync.conf
 setup 1 'quorumd-setup: HERE/two is no image of three.conf: another path, or all nodes off and the file away' three.conf --image "$PWD/two" --id 3
 [ ! -e etc/quorumd/node-3.env ]
+
+# a key, which only its owner may read, and addresses
+setup 1 'quorumd-setup: absent is no file: a key is made by: (umask 077; head -c 32 /dev/urandom > key)' three.conf --image "$disk" --id 3 --key absent
+(umask 077; head -c 31 /dev/zero > key)
+setup 1 'quorumd-setup: key: 31 bytes, a key has 32 to 4096' three.conf --image "$disk" --id 3 --key key
+head -c 32 /dev/zero > key
+chmod 644 key
+setup 1 'quorumd-setup: key: others may read it' three.conf --image "$disk" --id 3 --key key
+chmod 600 key
+sed '/ring0_addr: 192.0.2.8/d' three.conf > part.conf
+setup 1 'quorumd-setup: part.conf: node 2 has no ring0_addr' part.conf --image "$disk" --id 3 --key key
+[ ! -e etc/quorumd/key ]
+setup 0 'node 3 of three.conf is set up: systemctl enable --now quorumd@3.service' three.conf --image "$disk" --id 3 --key key
+cmp key etc/quorumd/key
+same "$(stat -c %a etc/quorumd/key) $(grep ^EDGE etc/quorumd/node-3.env)" '600 EDGE=--links /etc/quorumd/corosync.conf --key /etc/quorumd/key'
 
 # three images, of which two are there, and a device
 rm -r etc/quorumd/node-2.env etc/systemd
