@@ -1,5 +1,5 @@
 -- An input whose head was read: its audit ends there, or goes on with the lines after it.
-use Rattle.std.proofs.Common.{◌≡◌, ◌≤◌, ℕ, List, [], ◌++◌, Option, None, Some, Ok, Err, length, refl, sym, ap, ◌∙◌, subst}
+use Rattle.std.proofs.Common.{◌≡◌, ◌≤◌, ℕ, List, [], ◌++◌, Option, None, Some, Err, length, refl, sym, ap, ◌∙◌, subst}
 use Rattle.std.specs.Io.KnownBytes.{IsAtEnd, prepend_known}
 use Rattle.qn_head.specs.declared.head_fault.HeadFault.{HeadFault}
 use Rattle.qn_head.specs.declared.head_fault.HeadFault.TheVariants as head
@@ -10,7 +10,7 @@ use Rattle.qn_head.specs.Parts.{Given, Gives, Refuses}
 use Rattle.qn_head.specs.Parts as part
 use Rattle.qn_io.specs.declared.buffered.TheConstants.{PIECE}
 use Rattle.qn_io.specs.Outside.{HasRisen, prepend_known-append, prepend_known-nil}
-use Rattle.qn_model.specs.Inputs.{Tells, Anyway, AtEnd, AtFailure}
+use Rattle.qn_model.specs.Inputs.{Anyway, AtEnd, AtFailure}
 use Rattle.qn_model.specs.Lines.{Ending, Ended, ReadFailed, lines_of}
 use Rattle.qn_sched.specs.declared.replay_end.ReplayEnd.TheVariants as replay
 use Rattle.qn_audit.specs.declared.audit_end.AuditEnd.{AuditEnd}

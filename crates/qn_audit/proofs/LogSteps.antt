@@ -1,5 +1,5 @@
 -- The next line of a log: the run goes on by it, or the audit ends.
-use Rattle.std.proofs.Common.{◌≡◌, ◌≢◌, ◌<◌, ◌≤◌, ◌==◌, true, false, ℕ, List, [], ◌∷◌, ◌++◌, Option, Result, Ok, Err, drop, length, refl, sym, ap, ◌∙◌, subst, arith, nat_lt, append_assoc, append-nil, lt-ltb, le-ltb, eq-eqb, ne_eqb, zero, suc}
+use Rattle.std.proofs.Common.{◌≡◌, ◌≢◌, ◌<◌, ◌≤◌, ◌==◌, true, false, ℕ, List, [], ◌∷◌, ◌++◌, Option, Result, Ok, Err, drop, length, refl, sym, ap, ◌∙◌, subst, arith, nat_lt, append_assoc, lt-ltb, le-ltb, eq-eqb, ne_eqb, zero, suc}
 use Rattle.std.specs.Io.KnownBytes.{IsAtEnd, prepend_known}
 use Rattle.std.proofs.lemmas.Bool.{cond-false, cond-true}
 use Rattle.std.proofs.lemmas.List.{length-append}

@@ -1,6 +1,6 @@
 -- The line of a call is read back as that call.
-use Rattle.std.proofs.Common.{◌≡◌, ◌≢◌, ◌<◌, ◌≤◌, ◌+◌, ◌*◌, ◌-◌, ◌^◌, ◌==◌, ◌&&◌, ◌||◌, ◌/◌, ◌%◌, ℕ, Bool, true, false, List, [], ◌∷◌, ◌++◌, length, slice_index, Some, Result, Ok, Err, nat_lt, suc, refl, sym, ap, ◌∙◌, subst, arith, append_assoc, append-nil}
-use Rattle.std.specs.Prelude.{All, codes, decimal}
+use Rattle.std.proofs.Common.{◌≡◌, ◌<◌, ◌≤◌, ◌+◌, ◌-◌, ◌^◌, ◌==◌, ◌/◌, ◌%◌, ℕ, Bool, true, false, List, [], ◌∷◌, ◌++◌, length, slice_index, Some, Ok, Err, nat_lt, suc, refl, sym, ap, ◌∙◌, arith, append_assoc}
+use Rattle.std.specs.Prelude.{codes, decimal}
 use Rattle.std.specs.List.{list_any}
 use Rattle.std.specs.Char.{is_ascii_uppercase}
 use Rattle.std.specs.Str.{bytes_eq}
@@ -13,7 +13,6 @@ use Rattle.qn_base.specs.declared.calls.Call.{Call}
 use Rattle.qn_base.specs.declared.calls.Call.TheVariants as call
 use Rattle.qn_base.specs.declared.calls.Received.{Received}
 use Rattle.qn_base.specs.declared.calls.Received.TheVariants as received
-use Rattle.qn_model.specs.declared.line_fault.LineFault.{LineFault}
 use Rattle.qn_model.specs.declared.line_fault.LineFault.TheVariants.{BadNumber}
 use Rattle.qn_model.specs.Lines.{words_of}
 use Rattle.qn_sched.specs.WrittenNumbers.{decimal_blankless, number_between-decimal}
@@ -22,7 +21,7 @@ use Rattle.qn_audit.specs.declared.log_name.LogName.TheVariants as name
 use Rattle.qn_audit.specs.declared.log_name.DeviceCall.{DeviceCall}
 use Rattle.qn_audit.specs.declared.log_name.DeviceCall.TheVariants.{Feed, Start, Stop, Disarm}
 use Rattle.qn_audit.specs.LogNames.{device_call, device_word, log_name, log_word}
-use Rattle.qn_audit.specs.Logs.{FitsTypes, HasReceivedBytes, IsLogged, IsRecorded, IsSoundRead, IsSoundReceived, bytes_text, call_line, ok_text, read_text, received_text}
+use Rattle.qn_audit.specs.Logs.{HasReceivedBytes, IsRecorded, IsSoundRead, IsSoundReceived, bytes_text, call_line, ok_text, read_text, received_text}
 use Rattle.qn_audit.specs.Reading.{HasNoSpace, bytes_between, bytes_of, call_named, call_of, call_of_words, device_of, digits_of, halt_of, is_empty, now_of, ok_of, read_of, receive_of, received_of, sector_of, sector_read_of, send_of, write_of}
 use Rattle.qn_audit.proofs.Digits.{bytes_between-ok, digits_no_space}
 use Rattle.qn_audit.proofs.OneWords.{none_passes}

@@ -1,9 +1,9 @@
 -- How an audit takes its input step by step, up to its end.
-use Rattle.std.proofs.Common.{◌≡◌, ℕ, List, [], ◌∷◌, ◌++◌, Option, sym, refl, ap, ◌∙◌, subst, append_assoc}
+use Rattle.std.proofs.Common.{◌≡◌, ℕ, List, [], ◌∷◌, ◌++◌, Option, sym, ap, ◌∙◌, subst, append_assoc}
 use Rattle.std.specs.Io.KnownBytes.{prepend_known}
 use Rattle.qn_io.specs.Outside.{prepend_known-append, prepend_known-nil}
 use Rattle.qn_model.specs.Inputs.{Tells, Anyway, AtEnd, AtFailure}
-use Rattle.qn_model.specs.Lines.{Ending, Ended, ReadFailed}
+use Rattle.qn_model.specs.Lines.{Ended, ReadFailed}
 use Rattle.qn_audit.specs.declared.audit_end.AuditEnd.{AuditEnd}
 use Rattle.qn_audit.specs.declared.audit_end.AuditEnd.TheVariants.{ReadFault}
 use Rattle.qn_audit.specs.Deciding.{Input, IsNeeded, IsOpen, LastDecides, Leads, StillOpen, Stops, input_of}

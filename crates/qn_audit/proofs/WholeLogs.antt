@@ -1,5 +1,5 @@
 -- The log of a run audits as whole, and each prefix of it that ends at the end of a line as prefix.
-use Rattle.std.proofs.Common.{◌≡◌, ◌≢◌, ◌<◌, ◌≤◌, ◌+◌, ◌*◌, ◌^◌, ◌==◌, inl, inr, ℕ, Bool, true, false, List, [], ◌∷◌, ◌++◌, Option, None, Some, Ok, length, lit<, refl, sym, ap, ◌∙◌, subst, arith, append_assoc, append-nil, ne_eqb}
+use Rattle.std.proofs.Common.{◌≡◌, ◌≢◌, ◌<◌, ◌≤◌, ◌+◌, ◌^◌, ◌==◌, inl, inr, ℕ, Bool, true, false, List, [], ◌∷◌, ◌++◌, Option, Ok, length, lit<, refl, ◌∙◌, subst, arith, ne_eqb}
 use Rattle.std.specs.Prelude.{codes, decimal}
 use Rattle.std.specs.List.{list_any}
 use Rattle.std.proofs.lemmas.Bool.{cases_eq}
@@ -17,11 +17,10 @@ use Rattle.qn_live.specs.Running.{Ran}
 use Rattle.qn_model.specs.LineLaws.{IsPartOfLine}
 use Rattle.qn_model.specs.Lines.{Ended}
 use Rattle.qn_sched.specs.WrittenNumbers.{decimal_without}
-use Rattle.qn_audit.specs.declared.audit_end.AuditEnd.{AuditEnd}
 use Rattle.qn_audit.specs.declared.audit_end.AuditEnd.TheVariants.{Prefix, Whole}
 use Rattle.qn_audit.specs.Auditing.{LogEnds, Next, Standing, after_call, at_first, call_at, is_now, over_or_not, turns_in}
 use Rattle.qn_audit.specs.Deciding.{input_of}
-use Rattle.qn_audit.specs.Judging.{GoesOn, Keeps, left_after}
+use Rattle.qn_audit.specs.Judging.{Keeps, left_after}
 use Rattle.qn_audit.specs.JudgeLaws.{follows_whole, front_is_prefix}
 use Rattle.qn_audit.specs.Logs.{AreRecorded, HasReceivedBytes, IsRecorded, IsSoundRead, IsSoundReceived, bytes_text, call_line, log_text, ok_text, read_text, received_text}
 use Rattle.qn_audit.proofs.Digits.{digits_of-ok}

@@ -1,5 +1,5 @@
 -- Laws of the ends of audits: an input has one end, which fits the way in which the input ended. This project's profile.
-use Rattle.std.proofs.Common.{◌≡◌, ℕ, Bool, true, false, cond, List, [], ◌∷◌, ◌++◌, Option, None, Some, Result, Ok, Err, IfErr, length, nat_lt, refl, sym, ap, ◌∙◌, subst}
+use Rattle.std.proofs.Common.{◌≡◌, ℕ, Bool, true, false, cond, List, [], ◌∷◌, Option, None, Some, Result, Ok, Err, length, nat_lt, refl, sym, ap, ◌∙◌, subst}
 use Rattle.qn_base.specs.declared.calls.Call.{Call}
 use Rattle.qn_base.specs.Plans.{question}
 use Rattle.qn_head.specs.declared.head_fault.HeadFault.{HeadFault}
@@ -11,12 +11,12 @@ use Rattle.qn_head.specs.Heads.{settings_part}
 use Rattle.qn_head.specs.Parts.{Given}
 use Rattle.qn_model.specs.declared.line_fault.LineFault.{LineFault}
 use Rattle.qn_model.specs.declared.line_fault.LineFault.TheVariants.{TooLong}
-use Rattle.qn_model.specs.Lines.{Ending, Ended, ReadFailed, lines_of}
+use Rattle.qn_model.specs.Lines.{Ending, Ended, ReadFailed}
 use Rattle.qn_sched.specs.declared.replay_end.ReplayEnd.{ReplayEnd}
 use Rattle.qn_sched.specs.declared.replay_end.ReplayEnd.TheVariants as replay
 use Rattle.qn_audit.specs.declared.audit_end.AuditEnd.{AuditEnd}
 use Rattle.qn_audit.specs.declared.audit_end.AuditEnd.TheVariants as ended
-use Rattle.qn_audit.specs.Auditing.{AtFault, JudgesLine, LinesEnd, Next, NotNext, Standing, after_call, at_first, bad_line, call_at, end_at, end_of_log, last_line, next_line, over_or_not}
+use Rattle.qn_audit.specs.Auditing.{AtFault, JudgesLine, LinesEnd, Next, NotNext, Standing, after_call, at_first, bad_line, call_at, end_of_log, last_line, next_line, over_or_not}
 use Rattle.qn_audit.specs.Deciding.{Input}
 use Rattle.qn_audit.specs.Inputs.{AuditEnds, AuditedRun, HeadEnds, NodeEnds, end_in_head, plan_of, rank_in}
 use Rattle.qn_audit.specs.Judging.{IsNext}

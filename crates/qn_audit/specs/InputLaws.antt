@@ -2,12 +2,12 @@
 use Rattle.std.proofs.Common.{◌≡◌, ◌≢◌, ℕ, List, [], ◌++◌, Option, None, Some, IfSome, refl, sym, ap, ◌∙◌, subst, append_assoc, append-nil}
 use Rattle.std.specs.Io.KnownBytes.{IsAtEnd, prepend_known}
 use Rattle.qn_io.specs.Outside.{HasRisen}
-use Rattle.qn_model.specs.Inputs.{Tells, Anyway, AtEnd, AtFailure}
+use Rattle.qn_model.specs.Inputs.{Anyway, AtEnd, AtFailure}
 use Rattle.qn_model.specs.Lines.{Ended, ReadFailed}
 use Rattle.qn_audit.specs.declared.audit_end.AuditEnd.{AuditEnd}
 use Rattle.qn_audit.specs.declared.audit_end.AuditEnd.TheVariants as ended
 use Rattle.qn_audit.specs.AuditLaws.{audit_fits}
-use Rattle.qn_audit.specs.Deciding.{Input, input_of}
+use Rattle.qn_audit.specs.Deciding.{input_of}
 use Rattle.qn_audit.specs.Inputs.{AuditEnds, AuditedRun, EndsBy, InputAt, JudgesInput, Told, Wanted}
 
 -- the log is a whole run or the beginning of one

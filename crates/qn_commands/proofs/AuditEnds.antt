@@ -15,7 +15,7 @@ use Rattle.qn_commands.specs.declared.status.Status.TheVariants.{Done, BadConf, 
 use Rattle.qn_commands.specs.Commands.Audit.{AnswersAll, Audits, AuditsLog, ReadsLog, audit_outcome, audited_run}
 use Rattle.qn_commands.specs.Endings.{Cut, Says, Whole}
 use Rattle.qn_commands.specs.Faults.{conf_status}
-use Rattle.qn_commands.specs.Seen.{Input, NeverFall, Output, ReadFails, Seen, WriteFails}
+use Rattle.qn_commands.specs.Seen.{NeverFall, ReadFails, Seen, WriteFails}
 use Rattle.qn_commands.specs.Statuses.{IsOneOf}
 
 -- ## The status of an end

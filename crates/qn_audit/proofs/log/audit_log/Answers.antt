@@ -1,4 +1,4 @@
-use Rattle.std.proofs.Common.{◌≡◌, ◌≤◌, [], length, arith, subst, sym}
+use Rattle.std.proofs.Common.{◌≡◌, ◌≤◌, [], length, arith, subst}
 use Rattle.std.proofs.lemmas.List.Elements.{All-nil}
 use Rattle.std.specs.Prelude.{◌==◌, false}
 use Rattle.std.specs.Io.KnownBytes.{prepend_known}

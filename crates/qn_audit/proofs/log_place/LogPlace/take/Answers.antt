@@ -1,10 +1,9 @@
 use Rattle.std.proofs.Common.{◌≡◌, ◌≢◌, Result, Ok, Err, refl, sym, ap, ◌∙◌, arith}
-use Rattle.qn_base.specs.declared.calls.Call.{Call}
 use Rattle.qn_model.specs.declared.line_fault.LineFault.{LineFault}
 use Rattle.qn_model.specs.declared.line_fault.LineFault.TheVariants.{TooMany}
 use Rattle.qn_audit.specs.declared.audit_end.AuditEnd.TheVariants.{NotARun}
 use Rattle.qn_audit.specs.declared.logged_call.LoggedCall.{LoggedCall}
-use Rattle.qn_audit.specs.Auditing.{AtFault, NotNext, call_at}
+use Rattle.qn_audit.specs.Auditing.{AtFault, NotNext}
 use Rattle.qn_audit.specs.LoggedCalls.{call_in, read_in}
 use Rattle.qn_audit.specs.Reading.{call_of}
 use Rattle.qn_audit.proofs.LogSteps.{call_at-many, call_at-within, turns_in-now, turns_in-other}
