@@ -1,6 +1,10 @@
 //! Public calls beside which the program makes others: the votes and the least of some members, the line of an event, and the
 //! licences of a fencer.
-use crate::history::{read_members, read_number, read_rank, read_settings, read_truth, settings_words};
+ghost use Rattle.std.specs.Prelude.{◌<◌, IfSome};
+
+use crate::history::{
+    read_members, read_number, read_rank, read_settings, read_truth, settings_words,
+};
 use arrayvec::ArrayVec;
 use qn_base::{Rank, View, chosen, votes};
 use qn_fence::{Fence, Licence, Want};
@@ -37,8 +41,12 @@ fn read_votes(text: &str) -> Option<[u32; 32]> {
 pub fn check_line(alloc: Global, row: &str) -> Option<bool> {
     let (text, line) = row.split_once('\t')?;
     let text = text.replace(alloc, '|', "\n").ok()?;
-    let settings = settings_of_text(alloc, text.as_bytes()).ok()?;
-    let event = read_line(line.as_bytes(), &settings).ok()?;
+    let Ok(settings) = settings_of_text(alloc, text.as_bytes()) else {
+        return Some(false);
+    };
+    let Ok(event) = read_line(line.as_bytes(), &settings) else {
+        return Some(false);
+    };
     let mut written = ArrayVec::new();
     write_line(&event, &settings, &mut written);
     Some(written.as_slice() == line.as_bytes())
@@ -94,8 +102,13 @@ fn read_slot(fence: &mut Fence, rank: Rank, clean: bool) {
 }
 
 /// A rank below 32.
-fn configured(word: &str) -> Option<Rank> {
-    read_rank(word).filter(|rank| rank.0 < 32)
+fn configured(word: &str) -> Option<Rank>
+    ensures { IfSome result (λ rank. rank.0 < 32) }
+{
+    match read_rank(word) {
+        Some(rank) if rank.0 < 32 => Some(rank),
+        _ => None,
+    }
 }
 
 /// `clean`, `fenced`, `unknown`, or `waiting LEFT`.
