@@ -34,8 +34,8 @@ class Firewall:
             subprocess.run(["nft", "-f", "-"], input=text.encode(), check=True)
 
     def ports(self, count):
-        """The first port that each node is given: its own is as many after that as its rank says."""
-        first = free_ports(count)
+        """The first port that each node is given: its own is as many after that as its rank says. The one after those is of nobody."""
+        first = free_ports(count + 1)
         return [first] * count
 
     def set(self, ports, ways, is_cut):
@@ -46,7 +46,8 @@ class Firewall:
 
 
 class Relay:
-    """Each node has first ports of its own: behind that of another node the relay listens, and hands on what comes there."""
+    """Each node has first ports of its own: behind that of another node the relay listens, and hands on what comes there, from the port
+    at which the receiver looks for the sender. The one after those of a node is of nobody."""
 
     def __init__(self):
         self.cut = set()  # pairs of the port that it listens at and the port that it hands on to
@@ -56,23 +57,24 @@ class Relay:
     def ports(self, count):
         """The first port that each node is given; other ones where somebody took one of them meanwhile."""
         for _ in range(20):
-            first = free_ports(count * count)
-            ports = [first + rank * count for rank in range(count)]
-            listeners = self.listeners({(ports[sender] + receiver, ports[receiver] + receiver)
-                                        for sender in range(count) for receiver in range(count) if sender != receiver})
+            first = free_ports(count * (count + 1))
+            ports = [first + rank * (count + 1) for rank in range(count)]
+            ways = [(sender, receiver) for sender in range(count) for receiver in range(count) if sender != receiver]
+            listeners = self.listeners({way: ports[way[0]] + way[1] for way in ways})
             if listeners is not None:
-                for pair, listener in listeners.items():
-                    self.selector.register(listener, selectors.EVENT_READ, pair)
+                for sender, receiver in ways:
+                    pair = ports[sender] + receiver, ports[receiver] + receiver
+                    self.selector.register(listeners[sender, receiver], selectors.EVENT_READ, (pair, listeners[receiver, sender]))
                 return ports
         raise Wrong("no ports for a relay")
 
     @staticmethod
-    def listeners(pairs):
-        """A socket at the first port of each pair; None where one is taken."""
-        found = {pair: socket.socket(socket.AF_INET, socket.SOCK_DGRAM) for pair in pairs}
+    def listeners(ports):
+        """A socket at the port of each way; None where one is taken."""
+        found = {way: socket.socket(socket.AF_INET, socket.SOCK_DGRAM) for way in ports}
         try:
-            for pair, listener in found.items():
-                listener.bind(("127.0.0.1", pair[0]))
+            for way, listener in found.items():
+                listener.bind(("127.0.0.1", ports[way]))
         except OSError:
             for listener in found.values():
                 listener.close()
@@ -83,8 +85,9 @@ class Relay:
         while True:
             for key, _ in self.selector.select(0.05):
                 packet = key.fileobj.recv(4096)
-                if key.data not in self.cut:
-                    key.fileobj.sendto(packet, ("127.0.0.1", key.data[1]))
+                way, back = key.data
+                if way not in self.cut:
+                    back.sendto(packet, ("127.0.0.1", way[1]))
 
     def set(self, ports, ways, is_cut):
         pairs = {(ports[sender] + receiver, ports[receiver] + receiver) for sender, receiver in ways}

@@ -82,7 +82,7 @@ class Cluster:
         self.folder.mkdir()
         self.images = [self.folder / image for image in self.IMAGES]
         self.image = self.images[0]
-        nodes = "".join("node {\nnodeid: %d\n}\n" % ident for ident in ids)
+        nodes = "".join("node {\nnodeid: %d\n%s}\n" % (ident, self.place(ident)) for ident in ids)
         (self.folder / "conf").write_text("nodelist {\n%s}\nquorum {\nprovider: corosync_votequorum\n}\n" % nodes)
         self.port, self.started = self.first_port(len(ids)), 0
         for image in self.images:
@@ -92,6 +92,10 @@ class Cluster:
 
     def first_port(self, count):
         return free_ports(count)
+
+    def place(self, ident):
+        """What the section of a node says of where it is."""
+        return ""
 
     def quorumd(self, command, *words, stdin=subprocess.DEVNULL, image=None):
         """The status and the output of a command on an image, the first one where none is given."""
@@ -139,7 +143,7 @@ class TripleCluster(Cluster):
 class Node:
     """A node that was started. What it says is kept in files."""
 
-    def __init__(self, cluster, ident, watchdog=None, resource=None, image=None, port=None, more=(), turns=TURNS, run_as=()):
+    def __init__(self, cluster, ident, watchdog=None, resource=None, image=None, port=None, more=(), before=None, turns=TURNS, run_as=()):
         self.cluster, self.ident = cluster, ident
         words = {
             "id": ident,
@@ -155,7 +159,7 @@ class Node:
         self.log, self.answer = cluster.folder / ("log.%d" % number), cluster.folder / ("answer.%d" % number)
         options = [word for name, value in self.words.items() for word in ("--" + name, value)]
         with open(cluster.folder / "conf") as settings, open(self.log, "w") as log, open(self.answer, "w") as answer:
-            self.process = subprocess.Popen([*run_as, QUORUMD, *cluster.BEFORE, cluster.COMMAND, *options, *more], stdin=settings, stdout=answer, stderr=log)
+            self.process = subprocess.Popen([*run_as, QUORUMD, *(cluster.BEFORE if before is None else before), cluster.COMMAND, *options, *more], stdin=settings, stdout=answer, stderr=log)
         STARTED.append(self.process)
 
     def said(self):
