@@ -86,7 +86,7 @@ class Survivor:
         self.out_since, self.seen = [5] * count, [False] * count
         self.licence, self.written = [False] * count, [None] * count
         self.members = None
-        self.holds = False
+        self.holds, self.starts_at = False, None
         self.ask(("mail", 0))
 
     def clear_licences(self, ranks):
@@ -125,6 +125,8 @@ class Survivor:
         """Behind each entry: it may start, and asks for what it wants."""
         self.last_entry = self.time
         if self.members is not None and all(self.is_licensed(rank) for rank in self.outside()) and self.is_alone():
+            if not self.holds:
+                self.starts_at = len(self.lines)
             self.holds = True
         if self.op is None:
             wanted = self.wanted()
