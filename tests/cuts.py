@@ -34,8 +34,8 @@ class Firewall:
             subprocess.run(["nft", "-f", "-"], input=text.encode(), check=True)
 
     def ports(self, count):
-        """The first port that each node is given: its own is as many after that as its rank says."""
-        first = free_ports(count)
+        """The first port that each node is given: its own is as many after that as its rank says. The one after those is of nobody."""
+        first = free_ports(count + 1)
         return [first] * count
 
     def set(self, ports, ways, is_cut):
@@ -46,7 +46,8 @@ class Firewall:
 
 
 class Relay:
-    """Each node has first ports of its own: behind that of another node the relay listens, and hands on what comes there."""
+    """Each node has first ports of its own: behind that of another node the relay listens, and hands on what comes there, from the port
+    at which the receiver looks for the sender. The one after those of a node is of nobody."""
 
     def __init__(self):
         self.cut = set()  # pairs of the port that it listens at and the port that it hands on to
@@ -54,22 +55,23 @@ class Relay:
         threading.Thread(target=self.serve, daemon=True).start()
 
     def ports(self, count):
-        first = free_ports(count * count)
-        ports = [first + rank * count for rank in range(count)]
-        for sender in range(count):
-            for receiver in range(count):
-                if sender != receiver:
-                    listener = socket.socket(socket.AF_INET, socket.SOCK_DGRAM)
-                    listener.bind(("127.0.0.1", ports[sender] + receiver))
-                    self.selector.register(listener, selectors.EVENT_READ, (ports[sender] + receiver, ports[receiver] + receiver))
+        first = free_ports(count * (count + 1))
+        ports = [first + rank * (count + 1) for rank in range(count)]
+        ways = [(sender, receiver) for sender in range(count) for receiver in range(count) if sender != receiver]
+        sockets = {way: socket.socket(socket.AF_INET, socket.SOCK_DGRAM) for way in ways}
+        for sender, receiver in ways:
+            sockets[sender, receiver].bind(("127.0.0.1", ports[sender] + receiver))
+            way = ports[sender] + receiver, ports[receiver] + receiver
+            self.selector.register(sockets[sender, receiver], selectors.EVENT_READ, (way, sockets[receiver, sender]))
         return ports
 
     def serve(self):
         while True:
             for key, _ in self.selector.select(0.05):
                 packet = key.fileobj.recv(4096)
-                if key.data not in self.cut:
-                    key.fileobj.sendto(packet, ("127.0.0.1", key.data[1]))
+                way, back = key.data
+                if way not in self.cut:
+                    back.sendto(packet, ("127.0.0.1", way[1]))
 
     def set(self, ports, ways, is_cut):
         pairs = {(ports[sender] + receiver, ports[receiver] + receiver) for sender, receiver in ways}

@@ -117,8 +117,9 @@ def exit_of_the_holder(cluster):
 def greatest_number(cluster):
     """Node 3 is said to announce a view of the greatest number to each node. Then the holder is killed."""
     packet = b"QN\4" + bytes([2]) + struct.pack(">QI", LAST, 2**cluster.count - 1)
-    with socket.socket(socket.AF_INET, socket.SOCK_DGRAM) as stranger:
-        for rank in range(cluster.count):
+    for rank in range(cluster.count):
+        with socket.socket(socket.AF_INET, socket.SOCK_DGRAM) as stranger:
+            stranger.bind(("127.0.0.1", cluster.ports[rank] + cluster.count))
             stranger.sendto(packet, ("127.0.0.1", cluster.ports[rank] + rank))
     cluster.stay_quiet(loops=2)
     same("holder", cluster.holder_within(cluster.kill(1)), 2)
