@@ -35,8 +35,14 @@ class Firewall:
 
     def ports(self, count):
         """The first port that each node is given: its own is as many after that as its rank says."""
-        first = free_ports(count)
-        return [first] * count
+        return [free_ports(count)] * count
+
+    @staticmethod
+    def say(ports, sender, receiver, packet):
+        """A packet to a node as from another one, which does not run."""
+        with socket.socket(socket.AF_INET, socket.SOCK_DGRAM) as stranger:
+            stranger.bind(("127.0.0.1", ports[sender] + sender))
+            stranger.sendto(packet, ("127.0.0.1", ports[receiver] + receiver))
 
     def set(self, ports, ways, is_cut):
         """Cuts or joins the ways, which are pairs of ranks."""
@@ -46,45 +52,53 @@ class Firewall:
 
 
 class Relay:
-    """Each node has first ports of its own: behind that of another node the relay listens, and hands on what comes there."""
+    """Each node has first ports of its own: behind that of another node the relay listens, and hands on what comes there, from the port
+    at which the receiver looks for the sender."""
 
     def __init__(self):
         self.cut = set()  # pairs of the port that it listens at and the port that it hands on to
+        self.at = {}  # the socket of each port
         self.selector = selectors.DefaultSelector()
         threading.Thread(target=self.serve, daemon=True).start()
 
     def ports(self, count):
         """The first port that each node is given; other ones where somebody took one of them meanwhile."""
+        ways = [(sender, receiver) for sender in range(count) for receiver in range(count) if sender != receiver]
         for _ in range(20):
             first = free_ports(count * count)
             ports = [first + rank * count for rank in range(count)]
-            listeners = self.listeners({(ports[sender] + receiver, ports[receiver] + receiver)
-                                        for sender in range(count) for receiver in range(count) if sender != receiver})
-            if listeners is not None:
-                for pair, listener in listeners.items():
-                    self.selector.register(listener, selectors.EVENT_READ, pair)
+            sockets = self.sockets(ports, ways)
+            if sockets is not None:
+                for sender, receiver in ways:
+                    way = ports[sender] + receiver, ports[receiver] + receiver
+                    self.selector.register(sockets[sender, receiver], selectors.EVENT_READ, (way, sockets[receiver, sender]))
                 return ports
         raise Wrong("no ports for a relay")
 
-    @staticmethod
-    def listeners(pairs):
-        """A socket at the first port of each pair; None where one is taken."""
-        found = {pair: socket.socket(socket.AF_INET, socket.SOCK_DGRAM) for pair in pairs}
+    def sockets(self, ports, ways):
+        """Of each way the socket that stands for the receiver at the sender's ports; None where a port is taken."""
+        found = {way: socket.socket(socket.AF_INET, socket.SOCK_DGRAM) for way in ways}
         try:
-            for pair, listener in found.items():
-                listener.bind(("127.0.0.1", pair[0]))
+            for (sender, receiver), each in found.items():
+                each.bind(("127.0.0.1", ports[sender] + receiver))
         except OSError:
-            for listener in found.values():
-                listener.close()
+            for each in found.values():
+                each.close()
             return None
+        self.at.update({each.getsockname()[1]: each for each in found.values()})
         return found
+
+    def say(self, ports, sender, receiver, packet):
+        """A packet to a node as from another one."""
+        self.at[ports[receiver] + sender].sendto(packet, ("127.0.0.1", ports[receiver] + receiver))
 
     def serve(self):
         while True:
             for key, _ in self.selector.select(0.05):
                 packet = key.fileobj.recv(4096)
-                if key.data not in self.cut:
-                    key.fileobj.sendto(packet, ("127.0.0.1", key.data[1]))
+                way, back = key.data
+                if way not in self.cut:
+                    back.sendto(packet, ("127.0.0.1", way[1]))
 
     def set(self, ports, ways, is_cut):
         pairs = {(ports[sender] + receiver, ports[receiver] + receiver) for sender, receiver in ways}

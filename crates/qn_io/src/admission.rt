@@ -6,9 +6,6 @@ use crate::peers::Peers;
 use qn_seal::{Receiver, Refused};
 use std::net::{IpAddr, Ipv4Addr, SocketAddr};
 
-/// How every packet begins.
-const MAGIC: &[u8] = b"QN";
-
 /// The kind of a packet of the quorum device of the node's own host.
 const VOTE: u8 = 5;
 
@@ -66,9 +63,7 @@ pub(crate) fn is_vote_of_host(from: SocketAddr, bytes: &[u8]) -> bool {
     from.ip() == IpAddr::V4(Ipv4Addr::LOCALHOST) && is_vote(bytes)
 }
 
-/// Whether a datagram begins as a vote.
+/// Whether a datagram is as a vote is: of its kind and of its length.
 fn is_vote(bytes: &[u8]) -> bool {
-    bytes
-        .strip_prefix(MAGIC)
-        .is_some_and(|rest| rest.first() == Some(&VOTE))
+    matches!(bytes, [b'Q', b'N', VOTE, _])
 }

@@ -123,7 +123,8 @@ impl<'words> Before<'words> {
 
     /// The same, where they go together.
     fn judged(self) -> Result<Before<'words>, WordFault<'words>> {
-        let has_key = self.keys[0].is_some();
+        let first = self.keys[0];
+        let has_key = first.is_some();
         if self.is_open && has_key {
             return Err(WordFault::OpenBesideKey);
         }
