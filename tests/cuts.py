@@ -34,9 +34,15 @@ class Firewall:
             subprocess.run(["nft", "-f", "-"], input=text.encode(), check=True)
 
     def ports(self, count):
-        """The first port that each node is given: its own is as many after that as its rank says. The one after those is of nobody."""
-        first = free_ports(count + 1)
-        return [first] * count
+        """The first port that each node is given: its own is as many after that as its rank says."""
+        return [free_ports(count)] * count
+
+    @staticmethod
+    def say(ports, sender, receiver, packet):
+        """A packet to a node as from another one, which does not run."""
+        with socket.socket(socket.AF_INET, socket.SOCK_DGRAM) as stranger:
+            stranger.bind(("127.0.0.1", ports[sender] + sender))
+            stranger.sendto(packet, ("127.0.0.1", ports[receiver] + receiver))
 
     def set(self, ports, ways, is_cut):
         """Cuts or joins the ways, which are pairs of ranks."""
@@ -47,39 +53,44 @@ class Firewall:
 
 class Relay:
     """Each node has first ports of its own: behind that of another node the relay listens, and hands on what comes there, from the port
-    at which the receiver looks for the sender. The one after those of a node is of nobody."""
+    at which the receiver looks for the sender."""
 
     def __init__(self):
         self.cut = set()  # pairs of the port that it listens at and the port that it hands on to
+        self.at = {}  # the socket of each port
         self.selector = selectors.DefaultSelector()
         threading.Thread(target=self.serve, daemon=True).start()
 
     def ports(self, count):
         """The first port that each node is given; other ones where somebody took one of them meanwhile."""
+        ways = [(sender, receiver) for sender in range(count) for receiver in range(count) if sender != receiver]
         for _ in range(20):
-            first = free_ports(count * (count + 1))
-            ports = [first + rank * (count + 1) for rank in range(count)]
-            ways = [(sender, receiver) for sender in range(count) for receiver in range(count) if sender != receiver]
-            listeners = self.listeners({way: ports[way[0]] + way[1] for way in ways})
-            if listeners is not None:
+            first = free_ports(count * count)
+            ports = [first + rank * count for rank in range(count)]
+            sockets = self.sockets(ports, ways)
+            if sockets is not None:
                 for sender, receiver in ways:
-                    pair = ports[sender] + receiver, ports[receiver] + receiver
-                    self.selector.register(listeners[sender, receiver], selectors.EVENT_READ, (pair, listeners[receiver, sender]))
+                    way = ports[sender] + receiver, ports[receiver] + receiver
+                    self.selector.register(sockets[sender, receiver], selectors.EVENT_READ, (way, sockets[receiver, sender]))
                 return ports
         raise Wrong("no ports for a relay")
 
-    @staticmethod
-    def listeners(ports):
-        """A socket at the port of each way; None where one is taken."""
-        found = {way: socket.socket(socket.AF_INET, socket.SOCK_DGRAM) for way in ports}
+    def sockets(self, ports, ways):
+        """Of each way the socket that stands for the receiver at the sender's ports; None where a port is taken."""
+        found = {way: socket.socket(socket.AF_INET, socket.SOCK_DGRAM) for way in ways}
         try:
-            for way, listener in found.items():
-                listener.bind(("127.0.0.1", ports[way]))
+            for (sender, receiver), each in found.items():
+                each.bind(("127.0.0.1", ports[sender] + receiver))
         except OSError:
-            for listener in found.values():
-                listener.close()
+            for each in found.values():
+                each.close()
             return None
+        self.at.update({each.getsockname()[1]: each for each in found.values()})
         return found
+
+    def say(self, ports, sender, receiver, packet):
+        """A packet to a node as from another one."""
+        self.at[ports[receiver] + sender].sendto(packet, ("127.0.0.1", ports[receiver] + receiver))
 
     def serve(self):
         while True:

@@ -4,7 +4,6 @@
 # The packets are dropped by the firewall of a network namespace, where both are to be had, else by a relay between the nodes.
 run() {
     NETWORK=$1 PYTHONPATH=$TOP/tests "${@:2}" python3 -B - <<'END'
-import socket
 import struct
 
 from live import milliseconds, same, try_all, wait_for
@@ -115,13 +114,16 @@ def exit_of_the_holder(cluster):
 
 
 def greatest_number(cluster):
-    """Node 3 is said to announce a view of the greatest number to each node. Then the holder is killed."""
-    packet = b"QN\4" + bytes([2]) + struct.pack(">QI", LAST, 2**cluster.count - 1)
-    for rank in range(cluster.count):
-        with socket.socket(socket.AF_INET, socket.SOCK_DGRAM) as stranger:
-            stranger.bind(("127.0.0.1", cluster.ports[rank] + cluster.count))
-            stranger.sendto(packet, ("127.0.0.1", cluster.ports[rank] + rank))
-    cluster.stay_quiet(loops=2)
+    """The last node is killed, and before it is back it is said to announce a view of the greatest number to each other node. Nothing comes of
+    that: it is back within three loops. Then the holder is killed."""
+    last = cluster.count - 1
+    packet = b"QN\4" + bytes([last]) + struct.pack(">QI", LAST, 2**cluster.count - 1)
+    cluster.kill(last + 1)
+    cluster.nodes[last].end()
+    for rank in range(last):
+        cluster.joined.say(cluster.ports, last, rank, packet)
+    cluster.nodes[last] = cluster.node(last + 1, port=cluster.ports[last])
+    cluster.stay_quiet(loops=5)
     same("holder", cluster.holder_within(cluster.kill(1)), 2)
     cluster.only_ended(1)
 
