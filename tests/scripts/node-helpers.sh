@@ -18,9 +18,10 @@ chmod 755 calls/systemctl
 export PATH=$PWD/calls:$PATH STATE=$PWD/state RUN=$PWD/run SYSFS=$PWD/sysfs SETTINGS=$PWD/three.conf
 printf 'nodelist {\n node {\n nodeid: 1\n }\n node {\n nodeid: 2\n }\n node {\n nodeid: 3\n }\n}\n' > three.conf
 printf 'nodelist {\n node {\n nodeid: 2\n }\n}\n' > other.conf
-for image in d e f; do
+for image in d e f large; do
     "$QUORUMD" create --image $image < three.conf > said
 done
+truncate -s 1M large
 "$QUORUMD" create --image other < other.conf > said
 : > empty
 
@@ -36,6 +37,7 @@ checked() {
 }
 no='node 2 is not started:'
 checked 0 ''
+checked 0 '' IMAGE=large
 checked 1 "$no no such image: none" IMAGE=none
 checked 1 "$no 0 image(s) of this cluster, and 1 are needed" IMAGE=other
 same "$(head -n 1 errors)" 'other: warning: the image is for 1 nodes, and the settings have 3'

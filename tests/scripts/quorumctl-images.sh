@@ -53,7 +53,9 @@ ctl 1 "${lines}warning: the times are not safe\n" check --image disk < /dev/null
 # a tail, and a file that ends early: zeros are no mailbox
 cp whole disk
 printf tail >> disk
-ctl 1 "${lines}warning: 4 bytes stand behind the image\n" check --image disk < /dev/null
+ctl 4 "${lines}warning: 4 bytes stand behind the image\n" check --image disk < /dev/null
+ctl 4 "${lines}warning: 4 bytes stand behind the image\n" check --image disk < "$TOP/examples/two-node.conf"
+ctl 1 "${lines}warning: 4 bytes stand behind the image\nwarning: the image is for 2 nodes, and the settings have 3\n" check --image disk < three.conf
 head -c $((513 * 512)) whole > disk
 ctl 1 'node 1 incarnation 0 clean mail empty\nnode 2 incarnation 0 clean mail ?\nwarning: sector 513 is no mailbox\n' check --image disk < /dev/null
 version_1 disk 2

@@ -19,6 +19,9 @@ use std::time::{Clock, Duration};
 /// The status where something is wrong with an image.
 const WRONG: u8 = 1;
 
+/// The status where an image is whole, safe and of the settings, and further bytes stand behind it.
+const LARGER: u8 = 4;
+
 /// The status where no slot has an id.
 const UNKNOWN_NODE: u8 = 16;
 
@@ -51,13 +54,28 @@ fn check_by<R: Files<File = File> + Print + AllocGlobal>(
     let file = ImageFile::open(rt, path).map_err(Trouble::System)?;
     let seen = look_at_image(rt.alloc(), &file, settings)?;
     say(rt, check_text(rt.alloc(), &seen, is_json)?.as_str())?;
-    let is_wrong = seen.findings.as_slice().iter().any(is_wrong);
-    Ok(if is_wrong { WRONG } else { 0 })
+    Ok(status_of(seen.findings.as_slice()))
+}
+
+/// The exit status of a check by what it found.
+fn status_of(findings: &[Finding]) -> u8 {
+    if findings.iter().any(is_wrong) {
+        WRONG
+    } else if findings.iter().any(is_behind) {
+        LARGER
+    } else {
+        0
+    }
 }
 
 /// Whether a finding is a fault of the image: that a take-over has no bound is a warning, and keeps no node from its start.
 fn is_wrong(finding: &Finding) -> bool {
-    !matches!(finding, Finding::NoBound { .. })
+    !matches!(finding, Finding::NoBound { .. }) && !is_behind(finding)
+}
+
+/// Whether a finding is of bytes behind the image, as those of a device that is larger.
+fn is_behind(finding: &Finding) -> bool {
+    matches!(finding, Finding::Tail { .. })
 }
 
 /// The nodes of an image, and what is wrong with it.
