@@ -50,6 +50,9 @@ same "$("$QUORUMCTL" list --image disk --json 2>&1 || true)" "$(printf '[]\nquor
 cp whole disk
 printf '\37\343' | dd of=disk bs=1 seek=30 conv=notrunc status=none
 ctl 1 "${lines}warning: the times are not safe\n" check --image disk < /dev/null
+# times with which a take-over has no bound: a warning, and no fault
+"$QUORUMD" create --image slow --timing 5000,10000,6000,2000,1000 < "$TOP/examples/two-node.conf" > said
+ctl 0 "${lines}warning: a take-over has no bound: the loop, two calls of the disk and the feed delay do not fit in the watchdog's time\n" check --image slow < /dev/null
 # a tail, and a file that ends early: zeros are no mailbox
 cp whole disk
 printf tail >> disk
