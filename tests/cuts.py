@@ -15,7 +15,7 @@ BOUND = MSGWAIT + 8 * LOOP  # from a cut until a majority that is well has a hol
 STAGGER = 618  # thousandths of a loop between two starts, counted round within a loop
 
 RULES = """table inet cuts {
-    set cut { type inet_service . inet_service; }
+    set cut { type inet_service . inet_service; flags timeout; }
     chain arrivals { type filter hook input priority 0; policy accept; udp sport . udp dport @cut drop; }
 }
 """
@@ -46,9 +46,16 @@ class Firewall:
 
     def set(self, ports, ways, is_cut):
         """Cuts or joins the ways, which are pairs of ranks."""
-        pairs = ", ".join("%d . %d" % (ports[sender] + sender, ports[receiver] + receiver) for sender, receiver in sorted(ways))
-        if pairs:
-            self.nft("%s element inet cuts cut { %s }\n" % ("add" if is_cut else "delete", pairs))
+        if ways:
+            self.nft("%s element inet cuts cut { %s }\n" % ("add" if is_cut else "delete", ", ".join(self.pairs(ports, ways))))
+
+    def cut_for(self, ports, ways, length):
+        """Cuts the ways for so many milliseconds, which the kernel counts: a machine that has other work makes them no longer."""
+        self.nft("add element inet cuts cut { %s }\n" % ", ".join("%s timeout %dms" % (pair, length) for pair in self.pairs(ports, ways)))
+
+    @staticmethod
+    def pairs(ports, ways):
+        return ["%d . %d" % (ports[sender] + sender, ports[receiver] + receiver) for sender, receiver in sorted(ways)]
 
 
 class Relay:
@@ -57,6 +64,7 @@ class Relay:
 
     def __init__(self):
         self.cut = set()  # pairs of the port that it listens at and the port that it hands on to
+        self.cut_until = {}  # the same, and the millisecond at which the way is whole again
         self.at = {}  # the socket of each port
         self.selector = selectors.DefaultSelector()
         threading.Thread(target=self.serve, daemon=True).start()
@@ -97,12 +105,19 @@ class Relay:
             for key, _ in self.selector.select(0.05):
                 packet = key.fileobj.recv(4096)
                 way, back = key.data
-                if way not in self.cut:
+                if way not in self.cut and milliseconds() >= self.cut_until.get(way, 0):
                     back.sendto(packet, ("127.0.0.1", way[1]))
 
     def set(self, ports, ways, is_cut):
-        pairs = {(ports[sender] + receiver, ports[receiver] + receiver) for sender, receiver in ways}
+        pairs = self.pairs(ports, ways)
         self.cut = self.cut | pairs if is_cut else self.cut - pairs
+
+    def cut_for(self, ports, ways, length):
+        self.cut_until.update(dict.fromkeys(self.pairs(ports, ways), milliseconds() + length))
+
+    @staticmethod
+    def pairs(ports, ways):
+        return {(ports[sender] + receiver, ports[receiver] + receiver) for sender, receiver in ways}
 
 
 def network():
@@ -155,6 +170,13 @@ class CutCluster(Cluster):
         self.joined.set(self.ports, self.is_cut, False)
         self.is_cut = set()
         return milliseconds()
+
+    def dark_for(self, length):
+        """No packet comes for so many milliseconds. The moment at which that was over at the latest."""
+        self.joined.cut_for(self.ports, self.ways, length)
+        end = milliseconds() + length
+        threading.Event().wait(length / 1000)
+        return end
 
     def of(self, ident, out=True, into=True):
         """The ways from a node, and those to it."""

@@ -50,17 +50,13 @@ def other_cut(cluster):
 def dark_for_two_seconds(cluster):
     """Two loops without any packet, twice: nothing happens."""
     for _ in range(2):
-        cluster.cut(cluster.ways)
-        milliseconds_pass(2000)
-        cluster.heal()
+        cluster.dark_for(2000)
         cluster.stay_quiet(loops=5)
 
 
 def dark_for_five_seconds(cluster):
     """Five loops: nobody has a quorum, so the holder stops. Nobody is reset, and there is a holder again."""
-    cluster.cut(cluster.ways)
-    milliseconds_pass(5000)
-    healed = cluster.heal()
+    healed = cluster.dark_for(5000)
     wait_for("the holder stops", lambda: cluster.nodes[0].ticks("stop: ok"))
     same("holder", cluster.holder_within(healed), 1)
     milliseconds_pass(4 * LOOP)
