@@ -377,8 +377,7 @@ writes_again() { until_true "$1" grows "$(wc -l < "$room/acknowledged")"; }
 
 # judge_rows: no row is lost that was acknowledged
 judge_rows() {
-    touch "$room/enough"
-    wait "$writer"
+    stop_writer
     cut -d ' ' -f 1 "$room/acknowledged" | sort > "$room/wanted"
     sql 'select number from rows' | sort > "$room/found"
     awk 'NR > 1 && $2 - last > longest { longest = $2 - last } { last = $2 } END { print NR, "rows acknowledged, the longest time without one", longest, "ms" }' "$room/acknowledged"
