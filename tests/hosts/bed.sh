@@ -223,7 +223,7 @@ take_down() {
 # between scenes the hosts are made anew; at the end nothing stays but the base
 tear_down() {
     take_down
-    umount "$room/root" "$room/mnt" 2> /dev/null
+    umount "$room/root" 2> /dev/null
     rm -rf "$room"
 }
 powered=()
