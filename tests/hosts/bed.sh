@@ -187,9 +187,17 @@ owners() {
 resets() { grep -c "host$1 reset" "$room/events"; }
 is_off() { [ ! -e "$room/host$1.pid" ] && tail -n 1 <(grep "host$1 " "$room/events") | grep -q ' off$'; }
 
+# stop_writer: the client that writes rows ends, also where its scene failed; a statement of it takes three seconds at most
+stop_writer() {
+    touch "$room/enough"
+    [ -z "$writer" ] || wait "$writer" 2> /dev/null
+    writer=
+}
+
 take_down() {
     local n pid
     touch "$room/ending"
+    stop_writer
     for n in 1 2 3; do
         timeout 2 nsenter -t "$(lead "$n")" -m -p --root journalctl --sync 2> /dev/null
         pid=$(lead "$n") && [ -n "$pid" ] && kill -KILL "$pid" 2> /dev/null
@@ -215,8 +223,9 @@ take_down() {
 # between scenes the hosts are made anew; at the end nothing stays but the base
 tear_down() {
     take_down
-    umount "$room/root" "$room/mnt" 2> /dev/null
+    umount "$room/root" 2> /dev/null
     rm -rf "$room"
 }
 powered=()
 loops=()
+writer=

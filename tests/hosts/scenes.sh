@@ -319,11 +319,9 @@ scene_confined() {
 # database_on_store AGENT: PostgreSQL with its data on the shared disk is the resource, and its clients come from outside the hosts
 database_on_store() {
     local n root etc
+    # in a name space of its own: a container of another run that starts meanwhile would keep the mount, and the device busy, while it lives
     mkdir -p "$room/mnt"
-    mount "${loops[1]}" "$room/mnt"
-    mv "$room/host1/var/lib/postgresql/15" "$room/mnt/15"
-    chown --reference="$room/host1/var/lib/postgresql" "$room/mnt"
-    umount "$room/mnt"
+    unshare --mount sh -ec 'mount "$1" "$2"; mv "$3/15" "$2/15"; chown --reference="$3" "$2"; umount "$2"' sh "${loops[1]}" "$room/mnt" "$room/host1/var/lib/postgresql" || return 1
     for n in 1 2 3; do
         root=$room/host$n
         etc=$root/etc/postgresql/15/main
@@ -377,8 +375,7 @@ writes_again() { until_true "$1" grows "$(wc -l < "$room/acknowledged")"; }
 
 # judge_rows: no row is lost that was acknowledged
 judge_rows() {
-    touch "$room/enough"
-    wait "$writer"
+    stop_writer
     cut -d ' ' -f 1 "$room/acknowledged" | sort > "$room/wanted"
     sql 'select number from rows' | sort > "$room/found"
     awk 'NR > 1 && $2 - last > longest { longest = $2 - last } { last = $2 } END { print NR, "rows acknowledged, the longest time without one", longest, "ms" }' "$room/acknowledged"
@@ -388,7 +385,7 @@ judge_rows() {
 # postgres_scene AGENT: no row is lost over kill -9 of the server and of the node, and a reboot; the address goes with it
 postgres_scene() {
     local who
-    database_on_store "$1"
+    database_on_store "$1" || return 1
     FIRMWARE=20 begun || return 1
     load || return 1
     on 1 quorumd-resource status
@@ -414,7 +411,7 @@ scene_pgsql() { postgres_scene "$PGSQL"; }
 # holder last.
 scene_upgrade() {
     local n
-    database_on_store "$UNIT"
+    database_on_store "$UNIT" || return 1
     begun || return 1
     load || return 1
     for n in 2 3 1; do
