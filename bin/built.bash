@@ -1,12 +1,38 @@
-# For bin/quorumd, bin/quorumctl and the programs that bench times: builds the program $name of the repository $top where a source has changed
-# since it was built, and starts it with the words of the script.
+# For bin/quorumd, bin/quorumctl and the programs that bench times: starts the program $name of the repository $top with the words of the script.
+# It takes the program that was proved and built here, unless a source has changed since; else the one of release/, if it was proved from these very
+# sources; else it proves and builds it. The word --build-only proves and builds it here and ends; the word --program prints where the program is.
 folder=$top/crates/$name
-program=$folder/out/$name
+built=$folder/out/$name
+released=$folder/out/released-$name
 
+# whether the program $1 is there, and no source has changed since
 is_current() {
-    [ -x "$program" ] || return 1
+    [ -x "$1" ] || return 1
     [ -z "$(find "$top/crates.txt" "$top/crates" \( -name '*.rt' -o -name '*.antt' -o -name crates.txt \) \
-        -not -path '*/out/*' -newer "$program" -print -quit)" ]
+        -not -path '*/out/*' -newer "$1" -print -quit)" ]
+}
+
+# unpacks the released program into the new folder $1, if it was proved from these sources, and puts it in its place. It is then older than a
+# source that was changed meanwhile.
+unpack_release() {
+    touch -- "$1/begun" && [ "$(sources_sum)" = "$(recorded sources)" ] || return 1
+    unpacked "$name" "$1/$name" || { echo "$name: release/$name.gz is not the program that release/SUMS names" >&2; return 1; }
+    chmod 755 "$1/$name" && "$1/$name" --version >/dev/null 2>&1 || { echo "$name: the program of release/ does not run here" >&2; return 1; }
+    [ -n "$(find "$top/crates" -maxdepth 3 -name 'released-*' -type f -print -quit)" ] ||
+        echo "$name: this program was proved elsewhere, from these sources with $(recorded kit); bin/$name --build-only proves it here" >&2
+    touch -r "$1/begun" -- "$1/$name" && mv -f -- "$1/$name" "$released"
+}
+
+# whether the released program could be taken
+take_release() {
+    local room status
+    [ -f "$top/release/SUMS" ] && [ -f "$top/release/$name.gz" ] && [ "$(uname -m)" = x86_64 ] || return 1
+    . "$top/release/sums.bash"
+    mkdir -p "$folder/out" && room=$(mktemp -d "$folder/out/unpacking.XXXXXX") || return 1
+    unpack_release "$room"
+    status=$?
+    rm -rf -- "$room"
+    return "$status"
 }
 
 # the lines of crates.txt of the program and of each crate that it stands on
@@ -40,25 +66,42 @@ copy_needed() {
 
 # proves and builds the program in the new folder $1, with as many crates side by side as there are processors. The program is then older
 # than a source that was changed meanwhile.
-build() {
-    copy_needed "$1" && (cd -- "$1" && rt ci) && touch -r "$1/crates.txt" "$1/crates/$name/out/$name" &&
-        mkdir -p "$folder/out" && mv -f -- "$1/crates/$name/out/$name" "$program"
+prove() {
+    copy_needed "$1" && (cd -- "$1" && rt ci) && touch -c -r "$1/crates.txt" "$1/crates/$name/out/$name" &&
+        mkdir -p "$folder/out" && mv -f -- "$1/crates/$name/out/$name" "$built"
 }
 
-if ! is_current; then
-    if [ -x "$program" ]; then
+# proves and builds the program; what was said of it is shown where that fails
+build() {
+    local room
+    if ! command -v rt >/dev/null; then
+        echo "$name: it has to be proved and built here, which takes the Rattle kit: its command rt is not on the path" >&2
+        exit 1
+    elif [ -x "$built" ]; then
         echo "$name: a source has changed: proving what depends on it and building, two to twenty minutes" >&2
     else
         echo "$name: the first build: proving every crate and building, about twenty minutes on four processors" >&2
     fi
     room=$(mktemp -d) || exit 1
     trap 'rm -rf -- "$room"' EXIT
-    if ! build "$room/repository" </dev/null >"$room/log" 2>&1; then
+    if ! prove "$room/repository" </dev/null >"$room/log" 2>&1; then
         cat "$room/log" >&2
         exit 1
     fi
     rm -rf -- "$room"
     trap - EXIT
+}
+
+program=$built
+if ! is_current "$built"; then
+    if [ "${1-}" != --build-only ] && { is_current "$released" || take_release; }; then
+        program=$released
+    else
+        build
+    fi
 fi
-[ "${1-}" = --build-only ] && exit 0
+case ${1-} in
+    --build-only) exit 0 ;;
+    --program) printf '%s\n' "$program" && exit 0 ;;
+esac
 exec "$program" "$@"
