@@ -449,7 +449,9 @@ scene_setup() {
     until_true 30 on 3 true
     sleep 4
     for n in 1 2 3; do
-        on "$n" quorumd-setup /srv/cluster/corosync.conf --image /srv/cluster/disk --key /srv/cluster/key --watchdog /srv/watchdog/watchdog $([ $n != 1 ] || echo --create) || return 1
+        create=()
+        [ "$n" != 1 ] || create=(--create)
+        on "$n" quorumd-setup /srv/cluster/corosync.conf --image /srv/cluster/disk --key /srv/cluster/key --watchdog /srv/watchdog/watchdog "${create[@]}" || return 1
         on "$n" sh -c "echo WATCHDOG_IS_NO_DEVICE=yes >> /etc/quorumd/node-$n.env"
     done
     for n in 1 2 3; do
