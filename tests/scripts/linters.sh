@@ -30,7 +30,7 @@ fi
 # (2164), names of files that a test made itself (2010, 2011), a variable before the call of a function (2097, 2098), a file with the name of a
 # command (2238)
 if command -v shellcheck > /dev/null; then
-    shellcheck -s bash -S warning -e 2034,2154,2120,2164,2010,2011,2097,2098,2238 "${shell[@]}"
+    printf '%s\0' "${shell[@]}" | xargs -0 -n 8 -P 4 shellcheck -s bash -S warning -e 2034,2154,2120,2164,2010,2011,2097,2098,2238
 else
     echo 'skipped: not installed (Debian: shellcheck), to read the scripts'
 fi
