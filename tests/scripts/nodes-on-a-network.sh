@@ -1,10 +1,12 @@
 # Nodes with a key whose addresses are of a network of their own, each in a network namespace, by IPv4 and by IPv6: one takes over from another;
-# and a fourth one with another key or another settings text hears nobody and is heard by nobody.
+# a fourth one with another key or another settings text hears nobody and is heard by nobody; and a key is changed by restarts, each of which
+# costs a view without the node that is away, and no other.
 cat > test.py <<'END'
 import os
 import subprocess
 
-from live import Cluster, Node, same, try_all
+from live import LONG_LOOP, Cluster, Node, same, try_all
+from rotation import TIMING, rotate
 
 NAMESPACES = {}  # of each node a process that keeps its namespace
 
@@ -30,18 +32,18 @@ def join(idents):
 
 
 class LinkedCluster(Cluster):
-    def __init__(self, name, network, ids=(1, 2, 3)):
+    def __init__(self, name, network, ids=(1, 2, 3), timing=LONG_LOOP):
         self.network = network
-        super().__init__(name, ids=ids)
-        for key in ("key", "other"):
+        super().__init__(name, ids=ids, timing=timing)
+        for key in ("old", "new"):
             (self.folder / key).write_bytes(os.urandom(128))
             (self.folder / key).chmod(0o600)
 
     def place(self, ident):
         return "ring0_addr: %s%d\n" % (self.network, ident)
 
-    def linked(self, ident, key="key", conf="conf"):
-        before = ["--links", str(self.folder / conf), "--key", str(self.folder / key)]
+    def linked(self, ident, *keys, conf="conf"):
+        before = ["--links", str(self.folder / conf), *(word for key in keys or ("old",) for word in ("--key", str(self.folder / key)))]
         return Node(self, ident, before=before, run_as=("nsenter", "-t", str(NAMESPACES[ident].pid), "-n"))
 
 
@@ -59,12 +61,22 @@ def take_over(network, name):
     same("said", [node.said()[1:] for node in nodes], [["start: ok"], ["start: ok"], []])
 
 
-def fourth(network, name, **given):
+class RotatedCluster(LinkedCluster):
+    COMMAND = "node-logged"
+
+
+def rotation(network, name):
+    """One node after the other is sent away and comes back with the next keys."""
+    cluster = RotatedCluster(name, network, timing=TIMING)
+    rotate(cluster, cluster.linked)
+
+
+def fourth(network, name, *keys, **given):
     """Three of four nodes do without the fourth one, which sees no quorum, and reset it."""
     cluster = LinkedCluster(name, network, ids=(1, 2, 3, 4))
     conf = (cluster.folder / "conf").read_text()
     (cluster.folder / "text").write_text(conf + "# another text\n")
-    nodes = [cluster.linked(ident) for ident in (1, 2, 3)] + [cluster.linked(4, **given)]
+    nodes = [cluster.linked(ident) for ident in (1, 2, 3)] + [cluster.linked(4, *keys, **given)]
     same("node 4", nodes[3].end(), (13, "fault SelfReset reset\n"))
     nodes[0].waits_for("start: ok")
     same("said", [without_losses(node) for node in nodes], [["start: ok"], [], [], ["halt 2: ok"]])
@@ -72,10 +84,10 @@ def fourth(network, name, **given):
 
 
 def scenes(family, network):
-    for scene, given in (take_over, {}), (fourth, {"key": "other"}), (fourth, {"conf": "text"}):
-        def tried(scene=scene, given=given, name="-".join([family, scene.__name__, *given])):
-            scene(network, name, **given)
-        tried.__name__ = "%s %s %s" % (family, scene.__name__, given)
+    for scene, keys, given in (take_over, (), {}), (rotation, (), {}), (fourth, ("new",), {}), (fourth, (), {"conf": "text"}):
+        def tried(scene=scene, keys=keys, given=given, name="-".join([family, scene.__name__, *keys, *given])):
+            scene(network, name, *keys, **given)
+        tried.__name__ = "%s %s %s %s" % (family, scene.__name__, keys, given)
         yield tried
 
 

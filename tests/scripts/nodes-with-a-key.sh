@@ -7,10 +7,10 @@ import random
 import re
 import socket
 import struct
-import threading
 import time
 
-from live import Cluster, Wrong, same, try_all, wait_for
+from live import Cluster, Wrong, same, try_all
+from rotation import TIMING, rotate
 
 NOT_TAKEN = r"network: \d+ packets not taken: (\d+) unsealed, (\d+) astray, (\d+) old, (\d+) of another address"
 
@@ -113,33 +113,14 @@ def stranger_at_a_free_port():
         raise Wrong("400 turns were over %.1f s after the flood began" % (time.monotonic() - began))
 
 
+class RotatedCluster(KeyCluster):
+    COMMAND = "node-logged"
+
+
 def new_key():
-    """One node after the other is sent away and comes back: nobody is fenced, and no two hold."""
-    cluster = KeyCluster("rotates", timing="2000,5100,1000,1000,500")
-    nodes = {ident: cluster.sealed(ident) for ident in (1, 2, 3)}
-    nodes[1].waits_for("start: ok")
-    end, twice = threading.Event(), []
-
-    def watches():
-        while not end.wait(0.02):
-            held = [ident for ident in (1, 2, 3) if cluster.resource(ident) == "held"]
-            if len(held) > 1:
-                twice.append(held)
-
-    watcher = threading.Thread(target=watches)
-    watcher.start()
-    for number, keys in enumerate((("old", "new"), ("new", "old"), ("new",)), 2):
-        for ident in (3, 2, 1):
-            cluster.message(ident, "exit")
-            same("answer", nodes[ident].end(), (0, "left clean\n"))
-            nodes[ident] = cluster.sealed(ident, *keys)
-            wait_for("node %d is back" % ident, lambda: cluster.listed(ident).startswith("incarnation %d dirty" % number))
-            wait_for("somebody holds", lambda: "held" in [cluster.resource(each) for each in (1, 2, 3)])
-            time.sleep(2.5)
-    end.set()
-    watcher.join()
-    same("two held", twice, [])
-    same("nobody was reset", [cluster.listed(ident) for ident in (1, 2, 3)], ["incarnation 4 dirty mail empty"] * 3)
+    """One node after the other is sent away and comes back with the next keys."""
+    cluster = RotatedCluster("rotates", timing=TIMING)
+    rotate(cluster, cluster.sealed)
 
 
 try_all(take_over, another_key, another_text, no_key, stranger_at_a_free_port, new_key)
