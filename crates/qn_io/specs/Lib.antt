@@ -10,6 +10,7 @@ pub mod Outside
 pub mod Peers
 pub mod Reads
 pub mod Receives
+pub mod Refusals
 pub mod Scripted
 pub mod Streams
 pub mod Telling

@@ -1,5 +1,6 @@
 -- How a resource is told to start or to stop (this project's profile).
-use Rattle.std.specs.Prelude.{ℕ, List, codes}
+use Rattle.std.specs.Prelude.{◌≡◌, ℕ, ◌≤◌, List, Option, codes, length}
+use Rattle.std.specs.Io.KnownBytes.{Consumes}
 use Rattle.qn_io.specs.declared.resource.Order.{Order}
 use Rattle.qn_io.specs.declared.resource.Order.TheVariants.{Start, Stop}
 
@@ -12,3 +13,10 @@ file_word Stop = codes "free"
 abbrev pub agent_line : Order → List ℕ
 agent_line Start = codes "start\n"
 agent_line Stop = codes "stop\n"
+
+-- what was read of an agent's answer is at most its first line's length, and not `ok` and its end
+pub record Declines (old new : Option (List ℕ)) : Type 0 where
+  pub answer : List ℕ
+  pub short : length answer ≤ 3
+  pub other : answer ≡ codes "ok\n" → ⊥
+  pub takes : Consumes old new answer

@@ -1,6 +1,7 @@
 //! Real calls that are made again after each interruption, a bounded number of times.
-ghost use Rattle.std.specs.Prelude.{◌<◌, ◌≤◌, IfOk, length};
-ghost use Rattle.std.specs.Io.KnownBytes.{ReadConsumes, WriteAppends};
+ghost use Rattle.std.specs.Prelude.{◌<◌, ◌≤◌, IfOk, OnOk, OnErr, length};
+ghost use Rattle.std.specs.Io.KnownBytes.{Appends, ReadConsumes, WriteAppends};
+ghost use Rattle.qn_io.specs.Writes.{SendsFront};
 
 use std::io::{self, ErrorKind, Read, Write};
 
@@ -38,4 +39,18 @@ pub(crate) fn write_again<W: Write>(writer: &mut W, from: &[u8]) -> io::Result<u
         }
     }
     Err(io::Error::from(ErrorKind::Interrupted))
+}
+
+/// Writes all of some bytes, in as many writes as the writer needs. At a failure a prefix of them was written.
+pub(crate) fn write_whole<W: Write>(writer: &mut W, from: &[u8]) -> io::Result<()>
+    ensures whole { OnOk result (Appends (W.contents writer.old) (W.contents writer.new) from.now) }
+    ensures front { OnErr result
+        (SendsFront (W.contents writer.old) (W.contents writer.new) from.now) }
+{
+    let mut rest = from;
+    'writes: while !rest.is_empty() {
+        let count = write_again(writer, rest)?;
+        rest = rest.split_at(count).1;
+    }
+    Ok(())
 }

@@ -1,8 +1,10 @@
 //! The agent of a resource: a program behind a Unix stream socket, which starts and stops it.
-ghost use Rattle.std.specs.Prelude.{OnOk, codes};
-ghost use Rattle.std.specs.Io.KnownBytes.{Appends, Consumes};
-ghost use Rattle.qn_io.specs.Orders.{agent_line};
+ghost use Rattle.std.specs.Prelude.{[], ◌∷◌, OnOk, OnErr, IfOk, codes};
+ghost use Rattle.std.specs.Io.KnownBytes.{Appends, Consumes, Keeps};
+ghost use Rattle.qn_io.specs.Orders.{agent_line, Declines};
+ghost use Rattle.qn_io.specs.Writes.{SendsFront};
 
+use crate::again::{read_again, write_whole};
 use crate::deadline::{Deadline, is_late};
 use crate::resource::Order;
 use arrayvec::ArrayString;
@@ -90,27 +92,46 @@ fn closed() -> io::Error {
 }
 
 /// Sends an order over a connection and reads the answer: it is done only where the whole line of the order was sent and the answer
-/// begins with the line `ok`.
+/// begins with the line `ok`. Else a part of the line was sent, or all of it and bytes were read that are not `ok` and its end.
 pub fn ask_over<W: Write, R: Read>(order: Order, writer: &mut W, reader: &mut R) -> io::Result<()>
     ensures sent { OnOk result
         (Appends (W.contents writer.old) (W.contents writer.new) (agent_line order)) }
     ensures answered { OnOk result
         (Consumes (R.remaining reader.old) (R.remaining reader.new) (codes "ok\n")) }
+    ensures unsent { OnErr result
+        (SendsFront (W.contents writer.old) (W.contents writer.new) (agent_line order)) }
+    ensures declined { OnErr result
+        (Declines (R.remaining reader.old) (R.remaining reader.new)) }
 {
-    writer.write_all(order.agent_line())?;
+    write_whole(writer, order.agent_line())?;
     read_answer(reader)
 }
 
-/// Reads the answer, which is success only where it is the line `ok`.
+/// Reads the answer, up to the first byte in which it is not the line `ok`.
 fn read_answer<R: Read>(reader: &mut R) -> io::Result<()>
-    ensures { OnOk result
+    ensures answered { OnOk result
         (Consumes (R.remaining reader.old) (R.remaining reader.new) (codes "ok\n")) }
+    ensures declined { OnErr result
+        (Declines (R.remaining reader.old) (R.remaining reader.new)) }
 {
-    let mut answer = [0; 3];
-    reader.read_exact(&mut answer)?;
-    if answer == *b"ok\n" {
-        Ok(())
-    } else {
-        Err(io::Error::other("the answer is not ok"))
+    for wanted in b"ok\n" {
+        let byte = read_byte(reader)?;
+        if byte != *wanted {
+            return Err(io::Error::other("the answer is not ok"));
+        }
+    }
+    Ok(())
+}
+
+/// Reads the next byte of an answer.
+fn read_byte<R: Read>(reader: &mut R) -> io::Result<u8>
+    ensures took { IfOk result (λ byte.
+        Consumes (R.remaining reader.old) (R.remaining reader.new) (byte ∷ [])) }
+    ensures kept { OnErr result (Keeps (R.remaining reader.old) (R.remaining reader.new)) }
+{
+    let mut byte = [0];
+    match read_again(reader, &mut byte)? {
+        0 => Err(closed()),
+        _ => Ok(byte[0]),
     }
 }

@@ -1,4 +1,7 @@
 //! The datagrams that were not handed to the node, which a line on standard error says at most once a minute.
+ghost use Rattle.std.specs.Prelude.{◌≡◌, ◌+◌, nat_lt};
+ghost use Rattle.qn_io.specs.Refusals.{counted, is_due, is_minute_ago, refusals_after};
+
 use crate::admission::Reason;
 use qn_seal::Refused;
 
@@ -10,52 +13,73 @@ const BETWEEN_LINES: u64 = 60_000;
 pub(crate) struct Refusals {
     unsealed: u64,
     astray: u64,
-    old: u64,
+    stale: u64,
     elsewhere: u64,
     said: Option<u64>,
 }
 
 impl Refusals {
     /// Counts one more.
-    pub(crate) fn count(&mut self, reason: Reason) {
-        let kind = match reason {
-            Reason::Elsewhere => &mut self.elsewhere,
-            Reason::Sealed(Refused::Unsealed) => &mut self.unsealed,
-            Reason::Sealed(Refused::Astray) => &mut self.astray,
-            Reason::Sealed(Refused::Old) => &mut self.old,
-        };
-        *kind = kind.saturating_add(1);
+    pub(crate) fn count(&mut self, reason: Reason)
+        ensures { self.new ≡ counted self.old reason }
+    {
+        match reason {
+            Reason::Elsewhere => self.elsewhere = self.elsewhere.saturating_add(1),
+            Reason::Sealed(Refused::Unsealed) => self.unsealed = self.unsealed.saturating_add(1),
+            Reason::Sealed(Refused::Astray) => self.astray = self.astray.saturating_add(1),
+            Reason::Sealed(Refused::Old) => self.stale = self.stale.saturating_add(1),
+        }
     }
 
-    /// How many there were since the last line.
-    fn all(&self) -> u64 {
-        self.unsealed
-            .saturating_add(self.astray)
-            .saturating_add(self.old)
-            .saturating_add(self.elsewhere)
+    /// Whether there is something to say, and the last line is a minute ago.
+    fn is_due(&self, tick: u64) -> bool
+        ensures { result ≡ is_due self.now tick }
+    {
+        self.has_any() && self.is_minute_ago(tick)
     }
 
-    /// Says how many there were, where the last line is a minute ago, and counts anew from then on. That the line cannot be written is
-    /// no fault.
-    pub(crate) fn say<E: Eprint>(&mut self, errors: &E, tick: u64) {
-        let all = self.all();
-        let is_soon = self
-            .said
-            .is_some_and(|said| tick < said.saturating_add(BETWEEN_LINES));
-        if all == 0 || is_soon {
+    /// Whether any were counted since the last line.
+    fn has_any(&self) -> bool
+        ensures { result ≡ nat_lt 0
+            (self.now.unsealed + self.now.astray + self.now.stale + self.now.elsewhere) }
+    {
+        self.unsealed > 0 || self.astray > 0 || self.stale > 0 || self.elsewhere > 0
+    }
+
+    /// Whether the last line is a minute ago, or there was none.
+    fn is_minute_ago(&self, tick: u64) -> bool
+        ensures { result ≡ is_minute_ago self.now.said tick }
+    {
+        match self.said {
+            None => true,
+            Some(said) => tick >= said && tick - said >= BETWEEN_LINES,
+        }
+    }
+
+    /// Says how many there were, where a line is due, and counts anew from then on. That the line cannot be written is no fault.
+    pub(crate) fn say<E: Eprint>(&mut self, errors: &E, tick: u64)
+        ensures { self.new ≡ refusals_after self.old tick }
+    {
+        if !self.is_due(tick) {
             return;
         }
         let Refusals {
             unsealed,
             astray,
-            old,
+            stale,
             elsewhere,
             ..
         } = *self;
+        let all = unsealed
+            .saturating_add(astray)
+            .saturating_add(stale)
+            .saturating_add(elsewhere);
         let _ = eprintln!(errors;
-            "quorumd: network: {all} packets not taken: {unsealed} unsealed, {astray} astray, {old} old, {elsewhere} of another address"
+            "quorumd: network: {all} packets not taken: {unsealed} unsealed, {astray} astray, {stale} old, {elsewhere} of another address"
         );
-        *self = Refusals::default();
-        self.said = Some(tick);
+        *self = Refusals {
+            said: Some(tick),
+            ..Refusals::default()
+        };
     }
 }

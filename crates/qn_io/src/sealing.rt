@@ -1,5 +1,6 @@
 //! The seal of the packets that a node sends.
-ghost use Rattle.std.specs.Prelude.{◌≡◌, ◌+◌, ◌≤◌, ◌-◌, ◌^◌, IfOk, length, min};
+ghost use Rattle.std.specs.Prelude.{◌≡◌, ◌+◌, ◌<◌, ◌≤◌, ◌-◌, ◌^◌, IfOk, OnOk, OnErr, length, min};
+ghost use Rattle.qn_io.specs.Memory.{one_more};
 ghost use Rattle.qn_seal.specs.Seals.{sealed};
 
 use arrayvec::ArrayVec;
@@ -25,7 +26,10 @@ impl Sealing {
         key: Key,
         text: [u8; 32],
         from: Rank,
-    ) -> io::Result<Sealing> {
+    ) -> io::Result<Sealing>
+        ensures secrets { IfOk result (λ sealing. (sealing.key ≡ key) × (sealing.text ≡ text)) }
+        ensures unused { IfOk result (λ sealing. (sealing.from ≡ from) × (sealing.sent ≡ 0)) }
+    {
         let time = SystemTime::now(clock)?.duration_since(UNIX_EPOCH);
         let boot = match time {
             Ok(time) => u64::try_from(time.as_millis()).unwrap_or(u64::MAX),
@@ -40,12 +44,16 @@ impl Sealing {
         })
     }
 
-    /// The packet under the next seal to that rank.
+    /// The packet under the next seal to that rank. It fails for more than 74 bytes, and then seals nothing.
     pub(crate) fn seal(&mut self, to: Rank, packet: &[u8]) -> io::Result<ArrayVec<u8, 128>>
-        ensures { IfOk result (λ bytes. bytes.items
+        ensures sealed { IfOk result (λ bytes. bytes.items
             ≡ sealed self.old.key self.old.text
             (record { from = self.old.from.0; to = to.0; boot = self.old.boot; number = self.new.sent })
             packet.now) }
+        ensures next { OnOk result (self.new ≡ record self.old { sent = one_more self.old.sent }) }
+        ensures fits { OnOk result (length packet.now ≤ 74) }
+        ensures long { OnErr result (74 < length packet.now) }
+        ensures same { OnErr result (self.new ≡ self.old) }
     {
         if packet.len() > INNER {
             return Err(io::Error::new(ErrorKind::InvalidInput, "too long for a seal"));

@@ -1,13 +1,8 @@
-use Rattle.std.proofs.Common.{◌≡◌, ℕ, List, ◌++◌, take, drop, sym, ap, ◌∙◌, append_assoc, take-append-drop, arith}
+use Rattle.std.proofs.Common.{◌++◌, take, sym, ap, ◌∙◌, arith}
 use Rattle.std.specs.Io.KnownBytes.{append_known}
 use Rattle.qn_io.specs.Outside.{append_known-append}
+use Rattle.qn_io.proofs.Splitting.{split_rest}
 use Rattle.qn_io.proofs.whole.put_all.Goals as goal
-
--- a text whose rest is split goes on after the longer prefix
-split_rest : (text front rest back : List ℕ) (count : ℕ) → text ≡ front ++ rest → back ≡ drop count rest → text ≡ (front ++ take count rest) ++ back
-split_rest text front rest back count parts is =
-    parts ∙ ap (λ xs. front ++ xs) (sym (take-append-drop count rest)) ∙ sym (append_assoc front (take count rest) (drop count rest))
-    ∙ ap (λ xs. (front ++ take count rest) ++ xs) (sym is)
 
 pub writes-preserved : goal.writes-preserved
 writes-preserved g c =
