@@ -7,7 +7,7 @@ use std::str::from_utf8;
 /// The first reason, in the order of the ids.
 #[derive(Clone, Copy)]
 pub enum LinksFault<'text> {
-    /// The section of the node has no `ring0_addr`.
+    /// No section is that of the node, or the first one that is has no `ring0_addr`.
     NoAddress { id: NodeId },
     /// The `ring0_addr` of the node is no address of one machine.
     NotAddress { id: NodeId, text: &'text [u8] },

@@ -1,6 +1,8 @@
 //! The address of each rank.
-ghost use Rattle.std.specs.Prelude.{ℕ, ◌<◌, ◌≤◌, IfOk, length};
-ghost use Rattle.qn_links.specs.Links.{HasAddress, IsPlaced, Writes};
+ghost use Rattle.std.specs.Prelude.{◌≡◌, ◌↔◌, ◌<◌, ◌≤◌, IsTrue, None, IfOk, IfErr, IfSome, IfNone, OnOk, length, option_map};
+ghost use Rattle.std.specs.declared.net.ip_addr.IpAddr.{IpAddr};
+ghost use Rattle.qn_links.specs.Links.{AreLinks, HasAddress, IsApartFrom, IsOfMachine, Writes, text_of};
+ghost use Rattle.qn_links.specs.Faults.{Clashes, IsFirstFault, IsUnwritten};
 
 use crate::fault::LinksFault;
 use crate::sections::NodeSection;
@@ -20,8 +22,9 @@ pub fn links_of<'text>(
     nodes: &[NodeEntry],
 ) -> Result<Links, LinksFault<'text>>
     requires { length nodes.now ≤ 32 }
-    ensures placed { IfOk result (λ links. (rank : ℕ) → rank < length nodes.now
-        → IsPlaced sections.now nodes.now links rank) }
+    ensures links { IfOk result (λ links.
+        AreLinks sections.now nodes.now links (length nodes.now)) }
+    ensures fault { IfErr result (λ fault. IsFirstFault sections.now nodes.now fault) }
 {
     let mut links = [None; MOST_NODES];
     for rank in 0..nodes.len() {
@@ -37,28 +40,48 @@ fn address_of<'text>(
     sections: &[NodeSection<'text>],
     id: NodeId,
 ) -> Result<IpAddr, LinksFault<'text>>
-    ensures { IfOk result (λ address. HasAddress sections.now id address) }
+    ensures has { IfOk result (λ address. HasAddress sections.now id address) }
+    ensures fault { IfErr result (λ fault. IsUnwritten sections.now id fault) }
 {
-    for section in sections {
-        if section.id == id {
-            return written_address(section);
-        }
-    }
-    Err(LinksFault::NoAddress { id })
-}
-
-/// The address that a section writes.
-fn written_address<'text>(section: &NodeSection<'text>) -> Result<IpAddr, LinksFault<'text>>
-    ensures { IfOk result (λ address. Writes section.now address) }
-{
-    let id = section.id;
-    let Some(text) = section.address else {
+    let Some(text) = text_of(sections, id) else {
         return Err(LinksFault::NoAddress { id });
     };
-    match IpAddr::parse_ascii(text) {
-        Ok(address) if !address.is_unspecified() && !address.is_multicast() => Ok(address),
-        _ => Err(LinksFault::NotAddress { id, text }),
+    match address_of_machine(text) {
+        Some(address) => Ok(address),
+        None => Err(LinksFault::NotAddress { id, text }),
     }
+}
+
+/// What the first section of that node writes as its address.
+fn text_of<'text>(sections: &[NodeSection<'text>], id: NodeId) -> Option<&'text [u8]>
+    ensures { option_map (λ written. written.now) result ≡ text_of sections.now id }
+{
+    for section in sections {
+        if section.id.0 == id.0 {
+            return section.address;
+        }
+    }
+    None
+}
+
+/// The address of one machine that is written so.
+fn address_of_machine(text: &[u8]) -> Option<IpAddr>
+    ensures some { IfSome result (λ address. Writes text.now address) }
+    ensures none { IfNone result ((address : IpAddr) → Writes text.now address → ⊥) }
+{
+    let address = IpAddr::parse_ascii(text).ok()?;
+    if is_of_machine(&address) {
+        Some(address)
+    } else {
+        None
+    }
+}
+
+/// Whether an address is one of one machine: neither the unspecified one nor one of many.
+fn is_of_machine(address: &IpAddr) -> bool
+    ensures { IsTrue result ↔ IsOfMachine address.now }
+{
+    !address.is_unspecified() && !address.is_multicast()
 }
 
 /// Fails where the address of this rank is that of a rank below it, or of the other family.
@@ -70,6 +93,8 @@ fn apart<'text>(
 ) -> Result<(), LinksFault<'text>>
     requires within { rank < length nodes.now }
     requires fits { rank < 32 }
+    ensures apart { OnOk result (IsApartFrom links.now rank address) }
+    ensures fault { IfErr result (λ fault. Clashes nodes.now links.now rank address fault) }
 {
     let second = nodes[rank].id;
     for below in 0..rank {
