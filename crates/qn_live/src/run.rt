@@ -98,6 +98,48 @@ impl NodeRun {
         }
     }
 
+    /// The last entry that the node took: what its last turn began with. Before the first tick `Tick`.
+    pub fn entry(&self) -> What
+        ensures { result ≡ self.now.entry }
+    {
+        self.entry
+    }
+
+    /// The outputs of the last entry, in their order: the calls that the run makes next are theirs.
+    pub fn outs(&self) -> &Outs
+        ensures { result.now ≡ self.now.outs }
+    {
+        &self.outs
+    }
+
+    /// The tick of the last entry, in milliseconds.
+    pub fn tick(&self) -> u64
+        ensures { result ≡ self.now.tick }
+    {
+        self.tick
+    }
+
+    /// The settings that the node runs under.
+    pub fn settings(&self) -> &Settings
+        ensures { result.now ≡ self.now.settings }
+    {
+        &self.settings
+    }
+
+    /// The rank of the node in its settings.
+    pub fn rank(&self) -> Rank
+        ensures { result ≡ self.now.me }
+    {
+        self.me
+    }
+
+    /// The loop's time of the header that was read, in milliseconds; 0 before.
+    pub fn loop_ms(&self) -> u64
+        ensures { result ≡ self.now.loop_ms }
+    {
+        self.loop_ms
+    }
+
     /// The call that comes next, whose bytes are put into the room, or how the run ended.
     pub fn asks(&self, room: &mut Room) -> Result<Asked, LiveEnd>
         requires under_way { IsUnderWay self.now }
