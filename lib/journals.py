@@ -1,5 +1,6 @@
 """A journal that several owners of one resource sign, as lanes: lines `TIME ID`, where the time is in seconds, such as `17.58 2`. An owner
-holds the resource from one signature to its next, where that comes within a second."""
+holds the resource from one signature to its next, where that comes within a second. A line `TIME ID reset` says that the machine of that
+owner was reset then."""
 import re
 from collections import namedtuple
 
@@ -7,6 +8,9 @@ from lanes import LaneMaker, Timeline
 
 PAUSE = 1000  # milliseconds; an owner that signs again within them went on
 
+
+# A line of a journal, with its time in milliseconds.
+Entry = namedtuple("Entry", "time ident is_reset")
 
 # What an owner signed without a pause: from its first signature to its last one, in milliseconds.
 Holding = namedtuple("Holding", "ident first last")
@@ -16,16 +20,21 @@ class JournalFault(Exception):
     """A line that is none of a journal."""
 
 
-def signatures_of(text):
-    """The signatures in the order of their times, each as milliseconds and an id."""
+def entries_of(text):
+    """The lines in the order of their times."""
     found = []
     for number, line in enumerate(text.splitlines(), 1):
-        words = re.fullmatch(r"(\d{1,12})(?:\.(\d{1,9}))? (\d{1,10})", line, re.ASCII)
+        words = re.fullmatch(r"(\d{1,12})(?:\.(\d{1,9}))? (\d{1,10})( reset)?", line, re.ASCII)
         if not words:
             raise JournalFault("line %d: %s: not a time in seconds and an id" % (number, line))
-        seconds, fraction, ident = words.groups()
-        found.append((1000 * int(seconds) + int((fraction or "").ljust(3, "0")[:3]), int(ident)))
-    return sorted(found, key=lambda signature: signature[0])
+        seconds, fraction, ident, reset = words.groups()
+        found.append(Entry(1000 * int(seconds) + int((fraction or "").ljust(3, "0")[:3]), int(ident), reset is not None))
+    return sorted(found, key=lambda entry: entry.time)
+
+
+def signatures_of(text):
+    """The signatures in the order of their times, each as milliseconds and an id."""
+    return [(entry.time, entry.ident) for entry in entries_of(text) if not entry.is_reset]
 
 
 def holdings_of(signatures):
@@ -50,15 +59,19 @@ def overlaps_of(holdings):
 
 
 def journal_lanes(title, text):
-    """The timeline of a journal: a point a signature, a lane an owner."""
-    signatures = signatures_of(text)
-    makers = {ident: LaneMaker("node %d" % ident) for ident in sorted({ident for _, ident in signatures})}
+    """The timeline of a journal: a point a line, a lane an owner. A reset ends what its owner held."""
+    entries = entries_of(text)
+    makers = {ident: LaneMaker("node %d" % ident) for ident in sorted({entry.ident for entry in entries})}
     last = {}  # of each owner that goes on: the time and the point of its last signature
-    for point, (time, ident) in enumerate(signatures, 1):
+    for point, (time, ident, is_reset) in enumerate(entries, 1):
         end_pauses(makers, last, time)
-        makers[ident].state("holds", "holds", point)
-        last[ident] = (time, point)
-    times = [time for time, _ in signatures[:1] + signatures] or [0]
+        makers[ident].state("holds", None if is_reset else "holds", point)
+        if is_reset:
+            makers[ident].mark("reset", point, "")
+            last.pop(ident, None)
+        else:
+            last[ident] = (time, point)
+    times = [entry.time for entry in entries[:1] + entries] or [0]
     return Timeline(title, "line", times, [maker.ended(len(times)) for maker in makers.values()])
 
 

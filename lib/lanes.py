@@ -16,7 +16,7 @@ Lane = namedtuple("Lane", "name spans marks")
 Span = namedtuple("Span", "kind first last text")
 
 # Something that happens at a point. Kinds: view, asked, landed, message, halts, crashes, left, poll, with texts as in nodes.Deed; reply,
-# which a node is told of, whose text is yes or no; and of an arbiter yes and no, whose text is the node that it answers.
+# which a node is told of, whose text is yes or no; of an arbiter yes and no, whose text is the node that it answers; and of a journal reset.
 Mark = namedtuple("Mark", "kind point text")
 
 PHASES = ("booting", "up", "leaving", "dying")

@@ -34,6 +34,10 @@ STYLE = """text{font:10px monospace;fill:#000;stroke:#fff;stroke-width:2.5;paint
 ARBITER_STYLE = """
 .poll,.reply,.no{fill:#fff;stroke:#000}.no{stroke-width:2}.yes{fill:#000}
 .bound{stroke:#000;stroke-width:3}.waits{stroke:#000;stroke-width:1.5;stroke-dasharray:4 3}"""
+# of what only the picture of a journal has
+JOURNAL_STYLE = """
+.reset{fill:#fff;stroke:#000;stroke-width:2}"""
+
 ARBITER_KINDS = {"poll", "reply", "yes", "no", "bound", "waits"}
 
 PATTERNS = """<pattern id="hatch" width="4" height="4" patternUnits="userSpaceOnUse" patternTransform="rotate(45)">\
@@ -49,6 +53,7 @@ SHAPES = {
     "message": "l4 4l-4 4l-4 -4z",
     "halts": "m-4 0l8 8m0 -8l-8 8",
     "crashes": "m-2 0h4v8h-4z",
+    "reset": "m-4 0l8 8m0 -8l-8 8",
     "left": "a4 4 0 0 1 0 8a4 4 0 0 1 0 -8",
     "poll": "l4 8h-8z",
     "reply": "m-4 0h8v8h-8z",
@@ -59,6 +64,7 @@ SHAPES = {
 # What a mark says beside its shape.
 SAYS = {
     "view": "view %s", "asked": "by %s", "landed": "by %s", "message": "%s", "halts": "halt:%s", "crashes": "crash%s", "left": "left%s",
+    "reset": "reset%s",
     "poll": "poll %s", "reply": "told %s", "yes": "yes to %s", "no": "no to %s",
 }
 
@@ -77,6 +83,7 @@ LEGEND = {
     "message": "operator's message",
     "halts": "halts",
     "crashes": "goes down",
+    "reset": "its machine is reset",
     "left": "left cleanly",
     "poll": "polls the arbiter",
     "reply": "is told its answer",
@@ -316,7 +323,7 @@ def svg_of(timeline):
     return "\n".join([
         '<svg xmlns="http://www.w3.org/2000/svg" width="%d" height="%d" viewBox="0 0 %d %d" role="img">' % ((drawing.width, height) * 2),
         "<title>%s</title>" % escape(timeline.title),
-        "<style>%s%s</style>" % (STYLE, ARBITER_STYLE if kinds & ARBITER_KINDS else ""),
+        "<style>%s%s%s</style>" % (STYLE, ARBITER_STYLE if kinds & ARBITER_KINDS else "", JOURNAL_STYLE if "reset" in kinds else ""),
         "<defs>%s</defs>" % PATTERNS,
         '<rect width="%d" height="%d" fill="#fff"/>' % (drawing.width, height),
         *drawing.elements,

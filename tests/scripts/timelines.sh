@@ -253,7 +253,13 @@ same "$(grep -o 'data-lane="[^"]*"\|data-kind="holds" data-first="[0-9]*" data-l
     'data-lane=node 1 data-kind=holds data-first=1 data-last=3 data-kind=holds data-first=7 data-last=9 data-lane=node 2 data-kind=holds data-first=4 data-last=6 data-kind=holds data-first=8 data-last=9'
 same "$(grep -o 'data-time="[0-9]*"' drawn.svg | head -n 1)" 'data-time="2400"'
 timeline --journal < /dev/null | grep -q '<title>journal</title>'
-for line in '1 1.5' '1,5 1' '1.5' '1.5 1 2' '' '-1 1'; do
+# a reset ends what its owner signed, and is a mark in its lane
+printf '%s\n' '2.4 1' '3.02 1' '3.6 1 reset' '4.1 1' '17.56 2' '18.1 3 reset' > journal
+timeline --journal journal > drawn.svg
+same "$(grep -o 'data-lane="[^"]*"\|data-kind="[a-z]*" data-\(first="[0-9]*" data-last\|point\)="[0-9]*"' drawn.svg | tr -d '"' | xargs)" \
+    'data-lane=node 1 data-kind=reset data-point=3 data-kind=holds data-first=1 data-last=3 data-kind=holds data-first=4 data-last=4 data-lane=node 2 data-kind=holds data-first=5 data-last=7 data-lane=node 3 data-kind=reset data-point=6'
+grep -q 'its machine is reset' drawn.svg
+for line in '1 1.5' '1,5 1' '1.5' '1.5 1 2' '' '-1 1' '1.5 1 off'; do
     refused 2 "^timeline: line 2: $line: not a time in seconds and an id$" --journal < <(printf '0.5 1\n%s\n' "$line")
 done
 

@@ -1,0 +1,255 @@
+# shellcheck shell=bash
+# What `machines` and scenes.sh set is used here, and the other way round.
+# shellcheck disable=SC2154,SC2034
+# The bed of machines: a kernel and a root for them, their network, their disks, and the servers of those. Sourced by `machines`.
+
+# of the image: watchdog, msgwait, loop, read limit, feed delay. README.md says why they are longer than the usual ones
+TIMES=${QUORUMD_TEST_TIMES:-8000,16000,1500,3000,1000}
+WATCHDOG=$((${TIMES%%,*} / 1000))
+# KVM where the processor has it. Some clouds have a /dev/kvm that boots only kernels made for it: there QEMU translates
+ACCEL=${QUORUMD_TEST_ACCEL:-$(if [ -w /dev/kvm ] && grep -qwE 'vmx|svm' /proc/cpuinfo; then echo kvm; else echo tcg; fi)}
+MODULES='watchdog virtio_ring virtio virtio_pci_legacy_dev virtio_pci_modern_dev virtio_pci failover net_failover virtio_net virtio_blk i6300esb'
+
+# make_kernel: Debian's kernel and the drivers that the machines need; kept for the next run
+make_kernel() {
+    [ -e "$cache/complete" ] && return
+    local name
+    rm -rf "$cache"
+    mkdir -p "$cache/tree"
+    name=$(apt-cache depends linux-image-amd64 | sed -n 's/^ *Depends: //p' | head -n 1)
+    (cd "$cache" && apt-get download -o APT::Sandbox::User=root "$name" > log 2>&1) &&
+        dpkg-deb --fsys-tarfile "$cache"/*.deb | tar x -C "$cache/tree" --wildcards './boot/vmlinuz-*' './lib/modules/*/kernel/drivers/virtio/*' \
+            './lib/modules/*/kernel/drivers/block/virtio_blk.ko' './lib/modules/*/kernel/drivers/net/virtio_net.ko' \
+            './lib/modules/*/kernel/drivers/net/net_failover.ko' './lib/modules/*/kernel/net/core/failover.ko' './lib/modules/*/kernel/drivers/watchdog/*' &&
+        unpack_kernel "$cache"/tree/boot/vmlinuz-* "$cache/vmlinux" && rm "$cache"/*.deb && touch "$cache/complete" && return
+    echo "machines: no kernel: $cache/log" >&2
+    exit 1
+}
+
+# unpack_kernel PACKED KERNEL: the kernel itself, out of the file that unpacks itself: QEMU starts it at once, and a translated one need not unpack
+unpack_kernel() {
+    local at
+    while IFS=: read -r at _; do
+        tail -c +$((at + 1)) "$1" | xz -dc > "$2" 2> /dev/null
+        [ "$(head -c 4 "$2" | tail -c 3)" = ELF ] && return
+    done < <(LC_ALL=C grep -abo $'\xfd7zXZ' "$1")
+    return 1
+}
+
+# make_root: what a machine boots on: busybox, the drivers, the program, a block server and a relay
+make_root() {
+    local root=$room/root name
+    mkdir -p "$root/bin" "$root/lib" "$root/lib64" "$root/mod" "$root/dev"
+    cp "$(command -v busybox)" "$root/bin/busybox" && cp "$here/init" "$root/init" || exit 1
+    cp "$program" "$root/bin/quorumd" && cp "$(command -v qemu-nbd)" "$(command -v socat)" "$root/bin/" || exit 1
+    echo "$MODULES" > "$root/modules"
+    for name in $MODULES; do
+        cp "$(find "$cache/tree" -name "$name.ko" | head -n 1)" "$root/mod/" || exit 1
+    done
+    for name in $(ldd "$root/bin/quorumd" "$root/bin/qemu-nbd" "$root/bin/socat" | grep -o '/[^ ]*' | grep -v ':$' | sort -u); do
+        case $name in */ld-linux*) cp -L "$name" "$root/lib64/" ;; *) cp -L "$name" "$root/lib/" ;; esac
+    done
+}
+
+# inside COMMAND..: in the network of the machines
+inside() { ip netns exec "$tag" "$@"; }
+
+# quickly COMMAND..: the same, in the place of this shell, before whatever else this host has to do
+quickly() { exec nice -n -15 ip netns exec "$tag" setsid sh -c 'echo -15 2> /dev/null > /proc/self/autogroup; exec "$@"' sh "$@"; }
+note() { printf '%s scene note %s\n' "$(date +%s.%3N)" "$*" >> "$room/events"; }
+
+# set_up WAY: three machines that are off, their network, and a disk made in that way: nbd, three, etcd
+set_up() {
+    way=$1
+    : > "$room/events"
+    make_settings
+    make_network
+    "disk_$way" || { echo "no disk: $way"; return 1; }
+    pack_root
+    local number
+    for number in 1 2 3; do
+        qemu_words "$number" 1 > "$room/qemu.$number"
+    done
+    mkfifo "$room/commands"
+    quickly "$here/hypervisor" "$room" < "$room/commands" > "$room/hypervisor.log" 2>&1 &
+    hypervisor=$!
+    exec 7> "$room/commands"
+}
+
+make_settings() {
+    local number
+    {
+        echo 'nodelist {'
+        for number in 1 2 3; do printf ' node {\n  nodeid: %s\n  ring0_addr: 10.7.0.%s\n }\n' "$number" "$number"; done
+        printf '}\nquorum {\n provider: corosync_votequorum\n}\n'
+    } > "$room/conf"
+    (umask 077 && head -c 32 /dev/urandom > "$room/key")
+}
+
+# the network: a bridge with a port for each machine, and this host at 10.7.0.254
+make_network() {
+    local number
+    ip netns add "$tag" && ip -n "$tag" link set lo up && ip -n "$tag" link add br0 type bridge && ip -n "$tag" address add 10.7.0.254/24 dev br0 &&
+        ip -n "$tag" link set br0 up || exit 1
+    for number in 1 2 3; do
+        ip -n "$tag" tuntap add "t$number" mode tap && ip -n "$tag" link set "t$number" master br0 && ip -n "$tag" link set "t$number" up || exit 1
+    done
+}
+
+create() { inside "$program" create --image "$1" --timing "$TIMES" < "$room/conf"; }
+
+# one disk that all machines share, and in each of them a block server over it
+disk_nbd() {
+    image=nbd:unix:/run/disk.sock${STRIDE-}
+    truncate -s 4M "$room/disk"
+    looked_at=("$room/disk${STRIDE-}")
+    create "$room/disk${STRIDE-}"
+}
+
+# three block servers, each with a disk of its own, which no machine has
+disk_three() {
+    local number
+    image=
+    looked_at=()
+    for number in 0 1 2; do
+        truncate -s 4M "$room/disk.$number"
+        create "$room/disk.$number" || return 1
+        serve "$number"
+        image=$image${image:+,}nbd:10.7.0.254:1080$number
+        looked_at+=("$room/disk.$number")
+    done
+}
+
+# serve NUMBER: the block server of that number begins
+serve() {
+    quickly qemu-nbd -f raw --cache=none --persistent --shared=0 -b 10.7.0.254 -p "1080$1" "$room/disk.$1" > "$room/server.$1.log" 2>&1 &
+    servers[$1]=$!
+    disown
+}
+
+# an etcd of three members beside the machines, of which each machine reaches one through its own loopback address
+disk_etcd() {
+    local number
+    image=etcd:127.0.0.1:2379/cluster
+    looked_at=("etcd:127.0.0.1:2371/cluster")
+    for number in 1 2 3; do
+        member "$number"
+    done
+    until_true 30 inside env ETCDCTL_API=3 etcdctl --endpoints 127.0.0.1:2371 endpoint health || return 1
+    create "etcd:127.0.0.1:2371/cluster"
+}
+
+# member NUMBER: that member of etcd begins, or goes on with what it had
+member() {
+    local all="m1=http://127.0.0.1:2381,m2=http://127.0.0.1:2382,m3=http://127.0.0.1:2383"
+    quickly etcd --name "m$1" --data-dir "$room/member.$1" --listen-peer-urls "http://127.0.0.1:238$1" \
+        --initial-advertise-peer-urls "http://127.0.0.1:238$1" --initial-cluster "$all" --initial-cluster-state new \
+        --listen-client-urls "http://127.0.0.1:237$1,http://10.7.0.254:237$1" --advertise-client-urls "http://127.0.0.1:237$1" > "$room/member.$1.log" 2>&1 &
+    servers[$1]=$!
+    disown
+}
+
+# leader: the number of the member that leads
+leader() {
+    local number
+    for number in 1 2 3; do
+        if inside env ETCDCTL_API=3 etcdctl --endpoints "127.0.0.1:237$number" endpoint status 2> /dev/null | grep -q ', true, '; then echo "$number"; return; fi
+    done
+    return 1
+}
+
+pack_root() {
+    cp "$room/conf" "$room/key" "$room/root/"
+    chmod 400 "$room/root/key"
+    echo "${EDGE---halt /proc/sysrq-trigger}" > "$room/root/edge"
+    (cd "$room/root" && find . | busybox cpio -o -H newc 2> /dev/null) > "$room/initrd"
+}
+
+# qemu_words NUMBER START: the words of QEMU for that machine, one a line. Its node starts at once where START is 1, else when it is told
+qemu_words() {
+    local number=$1 port sectors=512 seconds=$WATCHDOG
+    [ -z "${STRIDE-}${LONG-}" ] || sectors=4096
+    [ "$number" != "${WRONG-0}" ] || seconds=30
+    printf '%s\n' qemu-system-x86_64 -machine "pc,accel=$ACCEL" -cpu max -m 256 -smp 1 -nodefaults -no-user-config -display none -no-reboot \
+        -kernel "$cache/vmlinux" -initrd "$room/initrd" -append \
+        "console=ttyS0 quiet panic=0 clocksource=hpet tsc=unstable no_timer_check lab.id=$number lab.way=$way lab.watchdog=$seconds lab.image=$image lab.start=$2" \
+        -device i6300esb -action watchdog=reset \
+        -netdev "tap,id=net,ifname=t$number,script=no,downscript=no" -device "virtio-net-pci,netdev=net,mac=52:54:00:07:00:0$number,romfile="
+    for port in console orders signs; do
+        printf '%s\n' -serial "unix:$room/$port.$number"
+    done
+    printf '%s\n' -qmp "unix:$room/qmp.$number"
+    [ "$way" != nbd ] || printf '%s\n' -drive "if=none,id=shared,file=$room/disk,format=raw,cache=none,file.locking=off" \
+        -device "virtio-blk-pci,id=disk,drive=shared,share-rw=on,logical_block_size=$sectors,physical_block_size=$sectors"
+}
+
+# tell COMMAND..: a command for the hypervisor
+tell() { echo "$*" >&7; }
+order() { tell order "$@"; }
+
+# until_true SECONDS COMMAND..: waits for it; says how long it took
+until_true() {
+    local began now limit=$1
+    began=$(date +%s%3N)
+    shift
+    until "$@" > /dev/null 2>&1; do
+        now=$(date +%s%3N)
+        [ $((now - began)) -lt $((limit * 1000)) ] || { echo "not within $limit s: $*"; return 1; }
+        sleep 0.2
+    done
+    echo "after $(($(date +%s%3N) - began)) ms: $*"
+}
+
+# owner: the machine that signed within the last second
+owner() {
+    local when who now=${EPOCHREALTIME/[.,]/}
+    read -r when who _ < <(grep ' sign ' "$room/events" | tail -n 1) || return 1
+    when=${when/./}
+    [ -n "$who" ] && [ $((now / 1000 - when)) -lt 1000 ] && echo "$who"
+}
+owns() { [ "$(owner)" = "$1" ]; }
+nobody_owns() { ! owner; }
+another_owns() { local who; who=$(owner) && [ "$who" != "$1" ]; }
+
+# saw N TEXT: machine N said it; did N WHAT: that became of it
+saw() { grep -q -- "^[0-9.]* $1 console .*$2" "$room/events"; }
+did() { grep -q "^[0-9.]* $1 $2\$" "$room/events"; }
+resets() { grep -c "^[0-9.]* $1 reset\$" "$room/events"; }
+boots() { [ "$(grep -c "^[0-9.]* $1 console machine: up" "$room/events")" -ge "$2" ]; }
+
+# resets_are A B C: how often each machine was reset
+resets_are() {
+    [ "$(resets 1) $(resets 2) $(resets 3)" = "$*" ] || { echo "resets: $(resets 1) $(resets 2) $(resets 3), not $*"; return 1; }
+}
+
+# looked: what `list` says of each image now
+looked() {
+    local word
+    for word in "${looked_at[@]}"; do inside "$program" list --image "$word"; done
+}
+
+keep() {
+    rm -rf "$1"
+    mkdir -p "$1" && cp "$room"/events "$room"/said "$room"/judged "$room"/journal "$1/"
+}
+
+take_down() {
+    local pid
+    [ -z "${hypervisor-}" ] || { tell end; exec 7>&-; wait "$hypervisor" 2> /dev/null; }
+    hypervisor=
+    for pid in "${servers[@]-}"; do
+        [ -z "$pid" ] || kill -KILL "$pid" 2> /dev/null
+    done
+    servers=()
+    ip netns delete "$tag" 2> /dev/null
+    rm -rf "$room"/qemu.? "$room"/console.? "$room"/orders.? "$room"/signs.? "$room"/qmp.? "$room/commands" "$room"/disk* "$room"/member.?
+    return 0
+}
+
+tear_down() {
+    take_down
+    rm -rf "$room"
+}
+hypervisor=
+servers=()
+looked_at=()
