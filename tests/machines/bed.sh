@@ -161,7 +161,6 @@ leader() {
 pack_root() {
     cp "$room/conf" "$room/key" "$room/root/"
     chmod 400 "$room/root/key"
-    echo "${EDGE---halt /proc/sysrq-trigger}" > "$room/root/edge"
     (cd "$room/root" && find . | busybox cpio -o -H newc 2> /dev/null) > "$room/initrd"
 }
 
