@@ -7,7 +7,7 @@
 TIMES=${QUORUMD_TEST_TIMES:-8000,16000,1500,3000,1000}
 WATCHDOG=$((${TIMES%%,*} / 1000))
 # KVM where the processor has it. Some clouds have a /dev/kvm that boots only kernels made for it: there QEMU translates
-ACCEL=${QUORUMD_TEST_ACCEL:-$(if [ -w /dev/kvm ] && grep -qwE 'vmx|svm' /proc/cpuinfo; then echo kvm; else echo tcg; fi)}
+ACCEL=${QUORUMD_TEST_ACCEL:-$(if [ -w /dev/kvm ] && grep -qwE 'vmx|svm' /proc/cpuinfo; then echo kvm; else echo tcg,tb-size=64; fi)}
 MODULES='watchdog virtio_ring virtio virtio_pci_legacy_dev virtio_pci_modern_dev virtio_pci failover net_failover virtio_net virtio_blk i6300esb'
 
 # make_kernel: Debian's kernel and the drivers that the machines need; kept for the next run
@@ -169,7 +169,7 @@ qemu_words() {
     local number=$1 port sectors=512 seconds=$WATCHDOG
     [ -z "${STRIDE-}${LONG-}" ] || sectors=4096
     [ "$number" != "${WRONG-0}" ] || seconds=30
-    printf '%s\n' qemu-system-x86_64 -machine "pc,accel=$ACCEL" -cpu max -m 256 -smp 1 -nodefaults -no-user-config -display none -no-reboot \
+    printf '%s\n' qemu-system-x86_64 -machine pc -accel "$ACCEL" -cpu max -m 256 -smp 1 -nodefaults -no-user-config -display none -no-reboot \
         -kernel "$cache/vmlinux" -initrd "$room/initrd" -append \
         "console=ttyS0 quiet panic=0 clocksource=hpet tsc=unstable no_timer_check lab.id=$number lab.way=$way lab.watchdog=$seconds lab.image=$image lab.start=$2" \
         -device i6300esb -action watchdog=reset \
