@@ -62,6 +62,7 @@ note() { printf '%s scene note %s\n' "$(date +%s.%3N)" "$*" >> "$room/events"; }
 set_up() {
     way=$1
     : > "$room/events"
+    rm -f "$room"/*.log
     make_settings
     make_network
     "disk_$way" || { echo "no disk: $way"; return 1; }
