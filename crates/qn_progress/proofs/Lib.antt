@@ -9,3 +9,7 @@ mod Steps
 mod Starts
 mod Over
 mod Rows
+mod Asking
+mod Asked
+mod Telling
+mod Hearing

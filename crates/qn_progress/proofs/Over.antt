@@ -21,7 +21,7 @@ use Rattle.qn_model.specs.Fitting.{fits, read_as, is_cleared}
 use Rattle.qn_model.specs.Licences.{out_time, reset_since, writes_reset}
 use Rattle.qn_model.specs.Unmet.{is_chosen}
 use Rattle.qn_model.specs.Wanted.{fence_delay}
-use Rattle.qn_model.specs.NodeOutputs.{taken_in, with_read, with_entry}
+use Rattle.qn_model.specs.NodeOutputs.{moment, taken_in, with_read, with_entry}
 use Rattle.qn_model.specs.Moments.{Moment, Passes, Boots, Adds, Feeds, Ends, Running, tick_of, advance_of, logged, handed, booted, time, node, is_holder, Before, Itself, Later}
 use Rattle.qn_safety.specs.Clocks.{RunsOn, clock}
 use Rattle.qn_safety.specs.Timed.{IsTimedRun}
@@ -59,6 +59,16 @@ ask_by tick (line ∷ past) by' = by_test (is_some (disk_of line.outs)) by'.0 (a
     by_test : (b : Bool) → line.tick ≤ tick → ask_tick past ≤ tick → (if b then line.tick else ask_tick past) ≤ tick
     by_test true here rest = here
     by_test false here rest = rest
+
+-- the last asking moment was no later than the clock
+pub asked_by : (s : Settings) (tick : ℕ) (log : List Line) → ReadBy tick log → (last : ℕ) → moment s log ≡ Some last → last ≤ tick
+unfolding ReadBy moment
+asked_by s tick [] by' last is = absurd (none-some last is)
+asked_by s tick (line ∷ past) by' last is = by_test _ is (λ rest. asked_by s tick past by'.1 last rest)
+  where
+    by_test : (b : Bool) → (if b then Some line.tick else moment s past) ≡ Some last → (moment s past ≡ Some last → last ≤ tick) → last ≤ tick
+    by_test true here rest = let same : line.tick ≡ last = same_Some _ _ here in let read = by'.0 in omega arith
+    by_test false here rest = rest here
 
 reset_by : (tick place rank : ℕ) (log : List Line) → ReadBy tick log → (w : ℕ) → reset_since place rank log ≡ Some w → w ≤ tick
 unfolding ReadBy reset_since
@@ -162,7 +172,7 @@ votes_alike : (s : Settings) (me : ℕ) (past : List Line) (tick : ℕ) (entry :
 unfolding votes
 votes_alike s me past tick entry = refl
 
-view_alike : (s : Settings) (me : ℕ) (past : List Line) (tick : ℕ) (entry : What) → view (taken_in past tick entry) ≡ view (with_read s me past tick entry)
+pub view_alike : (s : Settings) (me : ℕ) (past : List Line) (tick : ℕ) (entry : What) → view (taken_in past tick entry) ≡ view (with_read s me past tick entry)
 unfolding view
 view_alike s me past tick entry = refl
 

@@ -231,7 +231,7 @@ idle_of : (past : List Line) (tick : ℕ) (entry : What) → holds past ≡ fals
 unfolding holds
 idle_of past tick entry e = ap (λ b. b && not (is_stopped entry)) e
 
-starts_of : (s : Settings) (me : ℕ) (past : List Line) (tick : ℕ) (entry : What) → has_start (outs_now s me past tick entry) ≡ true → holds (with_read s me past tick entry) ≡ true
+pub starts_of : (s : Settings) (me : ℕ) (past : List Line) (tick : ℕ) (entry : What) → has_start (outs_now s me past tick entry) ≡ true → holds (with_read s me past tick entry) ≡ true
 unfolding holds
 starts_of s me past tick entry e = or_left_true (has_start (outs_now s me past tick entry)) (holds past && not (is_stopped entry)) e
 

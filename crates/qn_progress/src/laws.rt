@@ -1,8 +1,10 @@
 //! The bounded take-over.
-ghost use Rattle.std.specs.Prelude.{◌≤◌, ◌<◌, ◌+◌, ℕ, List, IsTrue};
+ghost use Rattle.std.specs.Prelude.{◌≡◌, ◌≤◌, ◌<◌, ◌+◌, ◌⊎◌, ℕ, true, List, IsTrue};
+ghost use Rattle.qn_base.specs.declared.ids.View.{View};
 ghost use Rattle.qn_model.specs.declared.configuration.Settings.{Settings};
 ghost use Rattle.qn_model.specs.declared.events.Event.{Event};
 ghost use Rattle.qn_model.specs.declared.times.Timing.{Timing};
+ghost use Rattle.qn_model.specs.Hearing.{is_free};
 ghost use Rattle.qn_model.specs.Moments.{Moment, is_holder, node, tick_of};
 ghost use Rattle.qn_model.specs.NodeVotes.{install};
 ghost use Rattle.qn_model.specs.Steps.{AllAllowed, run};
@@ -12,6 +14,7 @@ ghost use Rattle.qn_safety.specs.TripleSteps.{AllAllowedTriple, run_triple};
 ghost use Rattle.qn_lease.specs.declared.events.ArbiterEvent.{ArbiterEvent};
 ghost use Rattle.qn_lease.specs.declared.lease.Lease.{Lease};
 ghost use Rattle.qn_lease.specs.ArbiterSteps.{AllAllowedBeside, run_beside};
+ghost use Rattle.qn_progress.specs.Hearing.{HasHeld, HearsQuietly, StaysHeard};
 ghost use Rattle.qn_progress.specs.Pace.{Pace, outside, take_over_ticks};
 ghost use Rattle.qn_progress.specs.Premises.{TakesOver};
 ghost use Rattle.qn_progress.specs.Quiet.{
@@ -24,7 +27,9 @@ ghost use Rattle.qn_progress.specs.Quiet.{
 };
 
 use qn_lease::law_runs_beside_are_timed;
-use qn_safety::{law_clocks, law_runs_are_timed, law_triple_runs_are_timed, law_up_nodes};
+use qn_safety::{
+    law_boots, law_clocks, law_runs_are_timed, law_triple_runs_are_timed, law_up_nodes,
+};
 
 /// In a quiet world the least member of a view holds the resource after a bounded time, and from then on: once the nodes
 /// outside the view are fenced, and each other member was heard. In ticks of its clock, in every timed run.
@@ -88,3 +93,24 @@ pub fn law_take_over()
 pub fn law_take_over_is_met()
     ensures { TakesOver }
 {}
+
+/// In a quiet world in which packets arrive in time, each other member that is up under the view of a node says within a loop, a
+/// turn and the ways of two packets that it does not hold, or holds meanwhile. So the least member of the view, where all are up
+/// under it, holds after a bounded time, or another one held. In ticks of its clock, in every timed run.
+pub fn law_members_are_heard()
+    ensures each { (s : Settings) (t : Timing) (pace : Pace) (rank post : ℕ) (present : View) (other : ℕ)
+        (old new : List Moment)
+        → IsTimedRun s t new
+        → HearsQuietly s t rank pace post present other old new
+        → (is_free (node s rank new).log other ≡ true) ⊎ HasHeld s other old new }
+    ensures some { (s : Settings) (t : Timing) (pace : Pace) (rank post : ℕ) (present : View)
+        (old mid new : List Moment)
+        → IsTimedRun s t new
+        → StaysHeard s t rank pace post present old mid new
+        → HasTakenTicks s t rank pace old mid new
+        → IsTrue (is_holder s new rank) ⊎ ((other : ℕ) × HasHeld s other old mid) }
+{
+    law_boots();
+    law_clocks();
+    law_up_nodes();
+}
