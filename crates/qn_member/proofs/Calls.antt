@@ -389,7 +389,7 @@ from_look tick m change is = by_view (view_at tick m) refl is
     by_view None none is = by_present (is_present m (visible_nodes tick m)) refl none is
     by_view (Some view) some is = absurd cc
 
-change_if : (b : Bool) (m other : Maker) → other.change ≡ m.change → (if b then other else m).change ≡ m.change
+pub change_if : (b : Bool) (m other : Maker) → other.change ≡ m.change → (if b then other else m).change ≡ m.change
 change_if true m other same = same
 change_if false m other same = refl
 
@@ -398,7 +398,7 @@ record Looks (first : Maker) (calls : List MakerCall) (change : Change) : Type 0
   saw : SawBackTo change.since change.visible first calls
   missed : MissedBackTo change.begun first calls
 
-same_set : (one other : Mask) → (one.0 == other.0) ≡ true → one ≡ other
+pub same_set : (one other : Mask) → (one.0 == other.0) ≡ true → one ≡ other
 same_set one other is = let same : one.0 ≡ other.0 = (Decides-eqb one.0 other.0).0 is in ap (λ (n : ℕ). record { 0 = n }) same
 
 module _ (first : Maker) where

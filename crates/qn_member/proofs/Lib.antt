@@ -3,3 +3,4 @@ pub mod Kept
 pub mod Least
 pub mod Ranks
 mod Rows
+mod Settles

@@ -1,2 +1,3 @@
 pub mod Maker
 pub mod MakerCalls
+pub mod Settling

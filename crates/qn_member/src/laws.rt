@@ -1,11 +1,12 @@
 //! The laws of the visible nodes, of the test of an announced view, and of the view maker after any list of its calls.
-ghost use Rattle.std.specs.Prelude.{◌≡◌, ◌<◌, ◌≤◌, ◌&&◌, ℕ, List, None, Some, true, length};
+ghost use Rattle.std.specs.Prelude.{◌≡◌, ◌<◌, ◌≤◌, ◌&&◌, ℕ, List, None, Some, true, length, option_map};
 ghost use Rattle.qn_base.specs.declared.ids.Mask.{Mask};
 ghost use Rattle.qn_base.specs.Members.{is_member};
 ghost use Rattle.qn_model.specs.declared.nodelist.NodeEntry.{NodeEntry};
 ghost use Rattle.qn_base.specs.declared.ids.View.{View};
 ghost use Rattle.qn_member.specs.declared.change.Change.{Change};
-ghost use Rattle.qn_member.specs.Maker.{Maker, has_configured, is_configured, is_visible, view_at, visible_nodes};
+ghost use Rattle.qn_member.specs.Settling.{IsSteady};
+ghost use Rattle.qn_member.specs.Maker.{Maker, after_tick, has_configured, is_configured, is_visible, view_at, visible_nodes};
 ghost use Rattle.qn_member.specs.MakerCalls.{ChangeOf, IsOwnView, MakerRun, MayBegin, first_of, greatest_of, ids_had, is_seen, maker_of};
 
 /// The members of the set of visible nodes are the configured nodes that are visible, and no other rank.
@@ -60,4 +61,12 @@ pub fn law_changes()
     ensures { (run : MakerRun) (change : Change)
         → (maker_of run).change ≡ Some change
         → ChangeOf run change }
+{}
+
+/// Law: where each look back to one found the same nodes visible, the node is the least of them, and a view may be installed, the
+/// members of its view are these nodes from the first look on that is a loop later. Ticks that fall are excepted.
+pub fn law_views_settle()
+    ensures { (run : MakerRun) (since tick : ℕ) (visible : Mask)
+        → IsSteady run since tick visible
+        → option_map (λ view. view.members) (after_tick tick (maker_of run)).view ≡ Some visible }
 {}

@@ -12,6 +12,6 @@ mod member;
 pub use change::Change;
 pub use laws::{
     law_changes, law_configured_members, law_first_view, law_greatest, law_heard, law_own_views,
-    law_visible_nodes,
+    law_views_settle, law_visible_nodes,
 };
 pub use member::Member;
