@@ -52,9 +52,14 @@ impl Devices {
         let resource = Resource::open(rt, opening.resource, absent);
         let resource = reported(errors, opening.resource, resource)?;
         let halt = open_halt(rt, errors, edge)?;
-        look_at_watchdog(rt, errors, opening.watchdog, time)?;
+        if let Some(time) = time {
+            look_before(rt, errors, opening.watchdog, time)?;
+        }
         let watchdog = Watchdog::open(rt, opening.watchdog, absent);
         let watchdog = reported(errors, opening.watchdog, watchdog)?;
+        if time.is_none() {
+            look_after(rt, errors, opening.watchdog);
+        }
         let devices = Devices {
             network,
             resource,
@@ -65,25 +70,35 @@ impl Devices {
     }
 }
 
-/// Looks at the watchdog of that path and says what was found. Beside a time of the images, a finding may be a refusal.
-fn look_at_watchdog<R: Files<File = File>, E: Eprint>(
+/// Looks at the watchdog of that path before it is armed, beside the time of the images in milliseconds, and says what was found. A finding
+/// may be a refusal.
+fn look_before<R: Files<File = File>, E: Eprint>(
     rt: &R,
     errors: &E,
     path: &str,
-    time: Option<u64>,
+    time: u64,
 ) -> Result<(), Failed> {
-    let found = match time {
-        Some(time) => reported(errors, path, look(rt, path, time))?,
-        None => look(rt, path, u64::MAX).unwrap_or(Some(Finding::File)),
-    };
-    let Some(finding) = found else {
+    let Some(finding) = reported(errors, path, look(rt, path, time))? else {
         return Ok(());
     };
-    let is_refused = time.is_some() && finding.is_refused();
-    if is_refused || finding != Finding::Strange {
-        let _ = eprintln!(errors; "quorumd: {path}: {finding}");
+    say_finding(errors, path, finding);
+    if finding.is_refused() {
+        Err(Failed)
+    } else {
+        Ok(())
     }
-    if is_refused { Err(Failed) } else { Ok(()) }
+}
+
+/// Says what is found at a watchdog that is open, where no time is known beside which it is judged.
+fn look_after<R: Files<File = File>, E: Eprint>(rt: &R, errors: &E, path: &str) {
+    if let Ok(Some(finding)) = look(rt, path, u64::MAX) {
+        say_finding(errors, path, finding);
+    }
+}
+
+/// Says what was found. That it cannot be said is no fault.
+fn say_finding<E: Eprint>(errors: &E, path: &str, finding: Finding) {
+    let _ = eprintln!(errors; "quorumd: {path}: {finding}");
 }
 
 /// Opens the file that is told of a halt, where one is named.
