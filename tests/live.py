@@ -19,6 +19,8 @@ PATIENCE = 90  # seconds
 ALL = 110  # seconds, after which a script gives up: less than tests/run lets it have
 TURNS = 20000  # of a node that nobody ends: about a quarter of an hour
 LONG_LOOP = "500,2100,1000,1000,500"  # a node that the machine lets wait for less than three loops is not taken for a dead one
+WARNINGS = (": a file or a pipe: it resets nothing", ": nothing was there, and an empty file was made",
+            "packets carry no seal: any user of this host can forge them")
 RESERVED = []  # a TCP socket for each UDP port that a script uses, so that two scripts never use the same one
 STARTED = []
 
@@ -80,7 +82,7 @@ class Cluster:
     def __init__(self, name, ids=(1, 2, 3), timing=LONG_LOOP):
         self.folder = pathlib.Path(name).absolute()
         self.folder.mkdir()
-        self.images = [self.folder / image for image in self.IMAGES]
+        self.use_images()
         self.image = self.images[0]
         nodes = "".join("node {\nnodeid: %d\n%s}\n" % (ident, self.place(ident)) for ident in ids)
         (self.folder / "conf").write_text("nodelist {\n%s}\nquorum {\nprovider: corosync_votequorum\n}\n" % nodes)
@@ -89,6 +91,12 @@ class Cluster:
             with open(self.folder / "conf") as settings:
                 created = self.quorumd("create", "--timing", timing, stdin=settings, image=image)
             same("create", created, (0, "created nodes %d\n" % len(ids)))
+
+    def use_images(self):
+        """The images of the cluster: empty files."""
+        self.images = [self.folder / image for image in self.IMAGES]
+        for image in self.images:
+            image.touch()
 
     def first_port(self, count):
         return free_ports(count)
@@ -143,8 +151,9 @@ class TripleCluster(Cluster):
 class Node:
     """A node that was started. What it says is kept in files."""
 
-    def __init__(self, cluster, ident, watchdog=None, resource=None, image=None, port=None, more=(), before=None, turns=TURNS, run_as=()):
+    def __init__(self, cluster, ident, watchdog=None, resource=None, image=None, port=None, more=(), before=None, turns=TURNS, run_as=(), errors=None):
         self.cluster, self.ident = cluster, ident
+        given_paths = {"watchdog": watchdog, "resource": resource}
         words = {
             "id": ident,
             "image": image or ",".join(map(str, cluster.images)),
@@ -154,17 +163,23 @@ class Node:
             "turns": turns,
         }
         self.words = {name: str(value) for name, value in words.items()}
+        before = cluster.BEFORE if before is None else before
+        if before:  # with such a word nothing is made
+            for name in "watchdog", "resource":
+                if not given_paths[name]:
+                    pathlib.Path(self.words[name]).touch()
         cluster.started += 1
         number = cluster.started
         self.log, self.answer = cluster.folder / ("log.%d" % number), cluster.folder / ("answer.%d" % number)
         options = [word for name, value in self.words.items() for word in ("--" + name, value)]
         with open(cluster.folder / "conf") as settings, open(self.log, "w") as log, open(self.answer, "w") as answer:
-            self.process = subprocess.Popen([*run_as, QUORUMD, *(cluster.BEFORE if before is None else before), cluster.COMMAND, *options, *more], stdin=settings, stdout=answer, stderr=log)
+            self.process = subprocess.Popen([*run_as, QUORUMD, *before, cluster.COMMAND, *options, *more], stdin=settings, stdout=answer, stderr=errors or log)
         STARTED.append(self.process)
 
     def said(self):
-        """The lines on standard error so far, each after `quorumd: `, and without its tick."""
-        return [re.sub(r"^quorumd: (tick \d+: )?", "", line) for line in self.log.read_text().splitlines()]
+        """The lines on standard error so far, each after `quorumd: `, and without its tick; but no warning of an opening."""
+        lines = [re.sub(r"^quorumd: (tick \d+: )?", "", line) for line in self.log.read_text().splitlines()]
+        return [line for line in lines if not line.endswith(WARNINGS)]
 
     def opened(self):
         """The line of its opening, without its end."""

@@ -1,5 +1,5 @@
 # A directory, a path through a file, and a file without the right to write: the env's fault with the system's word for it, and
-# nothing is written.
+# nothing is written. What only reads, reads a file without the right to write.
 . "$TOP/tests/expect.sh"
 
 # refused PATH WORD..: this command on the image of that path is refused, and the system says so
@@ -37,5 +37,14 @@ if [ "$(id -u)" = 0 ]; then
     chmod 755 . program
     RUN_AS=(setpriv --reuid=65534 --regid=65534 --clear-groups)
 fi
-refused_all "$PWD/disk" 'Permission denied (os error 13)'
+denied='Permission denied (os error 13)'
+refused "$PWD/disk" "$denied" create
+refused "$PWD/disk" "$denied" message --id 1 --kind off
+expect 0 'migrated nodes 1\n' migrate --image "$PWD/disk"
+expect 0 'node 1 incarnation 0 clean mail empty\n' list --image "$PWD/disk"
+expect 0 "$(printf '%s\\n' 'version 2' 'nodes 1' 'watchdog 5000' 'msgwait 10000' 'loop 1000' 'read_limit 2000' 'feed_delay 1000' 'safe yes')" dump --image "$PWD/disk"
 cmp disk before
+
+# one that nobody of this user may read
+chmod 000 disk
+refused_all "$PWD/disk" "$denied"

@@ -11,6 +11,7 @@ import time
 import live
 from live import Cluster, TripleCluster, Wrong, milliseconds, same, try_all, wait_for
 
+Cluster.BEFORE = ()  # the opening of nodes that no word of a machine was said of
 LOOP = 1.0  # seconds, of live.LONG_LOOP
 MSGWAIT = 2100
 
@@ -49,7 +50,8 @@ def leaves(cluster, node, lost, before=()):
     left = others(cluster, [lost])
     cluster.message(1, "exit", images=left)
     same("answer", node.end(), (0, "left clean\n"))
-    same("it said", node.said(), [*before, node.opened() + "ok", "start: ok", "stop: ok", "disarm: ok"])
+    said = [line for line in node.said() if before or not line.startswith("%s: " % lost)]
+    same("it said", said, [*before, node.opened() + "ok", "start: ok", "stop: ok", "disarm: ok"])
     same("its slots", [cluster.listed(1, image=image) for image in left], ["incarnation 1 clean mail exit"] * 2)
 
 

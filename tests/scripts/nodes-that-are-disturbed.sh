@@ -16,15 +16,18 @@ from live import Cluster, Wrong, same, try_all, wait_for
 LOOP = 1.0  # seconds, of live.LONG_LOOP
 
 
+NO_WATCHDOG = "its time cannot be read: perhaps it is no watchdog, and resets nothing"
+
+
 def full_watchdog():
     """No feed is taken, which each time is said; the node goes on until its machine ends it."""
     cluster = Cluster("full", ids=(1,))
-    node = cluster.node(1, watchdog="/dev/full")
+    node = cluster.node(1, watchdog="/dev/full", before=())  # it is no watchdog, which a word of a machine refuses
     node.waits_for("start: ok")
     cluster.message(1, "exit")
     same("answer", node.end(), (0, "left clean\n"))
     full = "/dev/full: No space left on device (os error 28)"
-    same("standard error", [line for line in node.said() if line != full], [node.opened() + "ok", "start: ok", "stop: ok", "disarm: failed"])
+    same("standard error", [line for line in node.said() if line != full], ["/dev/full: " + NO_WATCHDOG, node.opened() + "ok", "start: ok", "stop: ok", "disarm: failed"])
     same("that of the disarm", node.said()[-2:], [full, "disarm: failed"])
 
 

@@ -9,6 +9,7 @@ import socket
 
 from live import Cluster, same, try_all, wait_for
 
+Cluster.BEFORE = ()  # the opening of nodes that no word of a machine was said of
 DIRECTORY = "Is a directory (os error 21)"
 
 

@@ -19,7 +19,7 @@ def opening_fails(name, answers, why):
     same(name, node.end(), (8, "fault EnvFault\n"))
     same(name, node.said(), ["%s: %s" % (agent.word(), why), node.opened() + "failed"])
     same(name, agent.lines, ["stop\n"])
-    same(name, cluster.watchdog(1), None)
+    same(name, cluster.watchdog(1), "")
 
 
 def wrong_answers():

@@ -39,6 +39,7 @@ for pair in $(seq 60); do
         exit 1
         ;;
     esac
+    sed -i '/: nothing was there, and an empty file was made$/d' 1.errors 2.errors
     for errors in 1.errors 2.errors; do
         [ -s "$errors" ] || continue
         same "$(cat "$errors")" 'quorumd: disk: another program has it open'

@@ -8,10 +8,12 @@ pub mod Openings
 pub mod Orders
 pub mod Outside
 pub mod Peers
+pub mod Places
 pub mod Reads
 pub mod Receives
 pub mod Refusals
 pub mod Scripted
 pub mod Streams
 pub mod Telling
+pub mod WatchdogTimes
 pub mod Writes

@@ -1,4 +1,5 @@
 //! What of the outside is said before the command: where the nodes are, what guards their packets, and what is told of a halt.
+use crate::named_file::Absent;
 use qn_seal::{Keys, text_of};
 use std::net::IpAddr;
 
@@ -36,6 +37,18 @@ impl Edge {
             guard: Guard::Unsaid,
             text: text_of(&[]),
             halt: None,
+        }
+    }
+
+    /// What becomes of an opening of a node where something is absent: with any word of a machine nothing is made, since a path that
+    /// is wrong is no other node's.
+    pub(crate) fn absent(&self) -> Absent {
+        if self.addresses.is_some() || self.halt.is_some() {
+            return Absent::Refused;
+        }
+        match self.guard {
+            Guard::Unsaid => Absent::Made,
+            Guard::ClosedNetwork | Guard::Sealed(_) => Absent::Refused,
         }
     }
 }

@@ -5,8 +5,9 @@ ghost use Rattle.qn_io.specs.Halts.{halt_word};
 
 use crate::again::write_again;
 use crate::named_file::NamedFile;
-use std::fs::File;
+use std::fs::{self, File};
 use std::io::{self, Write};
+use std::os::unix::fs::MetadataExt;
 use std::rt::Files;
 
 /// The file, open from the opening of the node on, since nothing is opened while a node ends.
@@ -25,6 +26,13 @@ impl HaltFile {
     /// The path that it was opened by.
     pub(crate) fn path(&self) -> &str {
         self.opened.path()
+    }
+
+    /// Whether it is a file as others, which ends nothing: none of the kernel's, which stand in /proc.
+    pub(crate) fn is_plain<R: Files<File = File>>(&self, rt: &R) -> io::Result<bool> {
+        let about = self.opened.file.metadata()?;
+        let is_kernels = fs::metadata(rt, "/proc").is_ok_and(|proc| proc.dev() == about.dev());
+        Ok(about.is_file() && !is_kernels)
     }
 
     /// Tells it of a halt of that code.

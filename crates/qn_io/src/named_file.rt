@@ -16,19 +16,49 @@ pub(crate) const FIRST_OF_A_FILE: RawFd = 3;
 /// The most bytes of a path that the system opens.
 const PATH: usize = 4096;
 
+/// What becomes of an opening where nothing has that path.
+#[derive(Clone, Copy, PartialEq, Eq)]
+pub(crate) enum Absent {
+    /// An empty file is made.
+    Made,
+    /// It fails.
+    Refused,
+}
+
 /// A file that is open, never under the descriptor of a standard stream.
 #[derive(Drop)]
 pub(crate) struct NamedFile {
     pub(crate) file: File,
     path: ArrayString<PATH>,
+    /// Whether it was made as it was opened.
+    pub(crate) is_made: bool,
     ghost apart: { pos 3 ≤ℤ file_raw_fd file },
 }
 
 impl NamedFile {
-    /// Opens the file of that path for reading and writing, and makes it where it is absent.
-    pub(crate) fn open<R: Files<File = File>>(rt: &R, path: &str) -> io::Result<NamedFile> {
+    /// Opens the file of that path for reading and writing.
+    pub(crate) fn open<R: Files<File = File>>(
+        rt: &R,
+        path: &str,
+        absent: Absent,
+    ) -> io::Result<NamedFile> {
         let mut options = OpenOptions::new();
-        options.read(true).write(true).create(true);
+        options.read(true).write(true);
+        match NamedFile::open_with(rt, path, &options) {
+            Err(error) if error.kind() == ErrorKind::NotFound && absent == Absent::Made => {
+                options.create(true);
+                let mut made = NamedFile::open_with(rt, path, &options)?;
+                made.is_made = true;
+                Ok(made)
+            }
+            done => done,
+        }
+    }
+
+    /// Opens the file of that path for reading alone, which fails where it is absent.
+    pub(crate) fn open_to_read<R: Files<File = File>>(rt: &R, path: &str) -> io::Result<NamedFile> {
+        let mut options = OpenOptions::new();
+        options.read(true);
         NamedFile::open_with(rt, path, &options)
     }
 
@@ -50,7 +80,11 @@ impl NamedFile {
         let file = open_apart(rt, path, options)?;
         let mut kept = ArrayString::new();
         let _ = kept.try_push_str(path);
-        Ok(NamedFile { file, path: kept })
+        Ok(NamedFile {
+            file,
+            path: kept,
+            is_made: false,
+        })
     }
 
     /// The path that it was opened by.

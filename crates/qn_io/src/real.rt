@@ -1,25 +1,37 @@
-//! The real outside: image files, the monotonic clock, a port, a watchdog, a resource and a file for halts.
+//! The real outside: images, the monotonic clock, a port, a watchdog, a resource and a file for halts.
 
 use crate::action::{Action, noted};
 use crate::calls::{Env, Got, Opening, PACKET, SECTOR};
 use crate::devices::Devices;
 use crate::disk::Disk;
 use crate::edge::{Edge, Guard};
+use crate::error_lines::Lines;
+use crate::image::Opener;
+use crate::named_file::Absent;
 use crate::reported::reported;
 use crate::resource::Order;
+use crate::waiting::Waiting;
 use qn_base::{Failed, Rank};
 use std::fs::File;
 use std::marker::Model;
-use std::net::Net;
+use std::net::{Net, TcpStream};
 use std::rt::Files;
-use std::time::Clock;
+use std::time::{Clock, Duration};
+
+/// How long a node waits after a packet could not be received, in milliseconds.
+const REST: u64 = 40;
 
 /// The outside of a node over the runtime: one image file or three, the monotonic clock in milliseconds, UDP, a
 /// watchdog, a resource and a file for halts. It does not tell its calls, and is seen as its count of faults. Of each call that failed
 /// a line on standard error says why, and of what a node opens, starts, stops, disarms and ends one says when.
 #[derive(Drop)]
-pub struct RealEnv<R: Files<File = File> + Net + Clock + Eprint + Drop> {
+pub struct RealEnv<
+    R: Files<File = File> + Net<Stream = TcpStream> + Clock + Eprint + AllocGlobal + Drop,
+> {
     rt: R,
+    lines: Lines,
+    /// With what it waits where the network fails at once, once a node was opened.
+    waiting: Option<Waiting>,
     edge: Edge,
     disk: Disk,
     devices: Option<Devices>,
@@ -27,7 +39,8 @@ pub struct RealEnv<R: Files<File = File> + Net + Clock + Eprint + Drop> {
     faults: u64,
 }
 
-impl<R: Files<File = File> + Net + Clock + Eprint + Drop> Model for RealEnv<R> {
+impl<R: Files<File = File> + Net<Stream = TcpStream> + Clock + Eprint + AllocGlobal + Drop> Model
+    for RealEnv<R> {
     ghost use Rattle.std.specs.Prelude.{ℕ};
 
     ghost Value = { ℕ };
@@ -35,7 +48,9 @@ impl<R: Files<File = File> + Net + Clock + Eprint + Drop> Model for RealEnv<R> {
     ghost view = { λ e. e.faults };
 }
 
-impl<R: Files<File = File> + Net + Clock + Eprint + Drop> RealEnv<R> {
+impl<R: Files<File = File> + Net<Stream = TcpStream> + Clock + Eprint + AllocGlobal + Drop> RealEnv<
+    R,
+> {
     ghost use Rattle.std.specs.Prelude.{◌≡◌, ◌≤◌, IfOk, IfSome, OnErr};
     ghost use Rattle.qn_io.specs.Outside.{HasRisen};
 
@@ -45,11 +60,28 @@ impl<R: Files<File = File> + Net + Clock + Eprint + Drop> RealEnv<R> {
     {
         RealEnv {
             rt,
+            lines: Lines::at_once(),
+            waiting: None,
             edge,
             disk: Disk::closed(),
             devices: None,
             last_tick: None,
             faults: 0,
+        }
+    }
+
+    /// Opens all that a node uses.
+    fn open_all(&self, opening: &Opening<'_>) -> Result<(Disk, Devices), Failed> {
+        let errors = self.lines.over(&self.rt);
+        Devices::open(&self.rt, &errors, &self.edge, opening)
+    }
+
+    /// Waits a little where a call failed at once, so that a node whose network is gone does not run through its turns.
+    fn rest(&mut self)
+        ensures { self.new ≡ self.old }
+    {
+        if let Some(waiting) = &mut self.waiting {
+            waiting.wait(Duration::from_millis(REST));
         }
     }
 
@@ -87,7 +119,8 @@ impl<R: Files<File = File> + Net + Clock + Eprint + Drop> RealEnv<R> {
 
     /// The time of the monotonic clock in milliseconds, where it can be read.
     fn tick(&self) -> Option<u64> {
-        let time = reported(&self.rt, "monotonic clock", self.rt.monotonic()).ok()?;
+        let errors = self.lines.over(&self.rt);
+        let time = reported(&errors, "monotonic clock", self.rt.monotonic()).ok()?;
         u64::try_from(time.as_millis()).ok()
     }
 
@@ -95,14 +128,16 @@ impl<R: Files<File = File> + Net + Clock + Eprint + Drop> RealEnv<R> {
     fn note(&self, action: Action<'_>, done: Result<(), Failed>) -> Result<(), Failed>
         ensures { result ≡ done }
     {
-        noted(&self.rt, self.last_tick.unwrap_or(0), action, done)
+        let errors = self.lines.over(&self.rt);
+        noted(&errors, self.last_tick.unwrap_or(0), action, done)
     }
 
     /// Has the resource started or stopped.
     fn order(&self, order: Order) -> Result<(), Failed> {
         let devices = self.devices.as_ref().ok_or(Failed)?;
         let done = devices.resource.order(&self.rt, order);
-        reported(&self.rt, devices.resource.path(), done)
+        let errors = self.lines.over(&self.rt);
+        reported(&errors, devices.resource.path(), done)
     }
 
     /// Takes a packet from the network, where that is open.
@@ -111,10 +146,11 @@ impl<R: Files<File = File> + Net + Clock + Eprint + Drop> RealEnv<R> {
         ensures same { self.new ≡ self.old }
     {
         let tick = self.last_tick.unwrap_or(0);
+        let errors = self.lines.over(&self.rt);
         let network = &mut self.devices.as_mut().ok_or(Failed)?.network;
         let came = network.receive(&self.rt, packet);
-        network.say_refusals(&self.rt, tick);
-        reported(&self.rt, "network", came)
+        network.say_refusals(&errors, tick);
+        reported(&errors, "network", came)
     }
 
     /// Says on standard error, where a node was opened whose packets nothing guards, that others can forge them.
@@ -122,7 +158,8 @@ impl<R: Files<File = File> + Net + Clock + Eprint + Drop> RealEnv<R> {
         ensures { result ≡ done }
     {
         if done.is_ok() && matches!(self.edge.guard, Guard::Unsaid) {
-            let _ = eprintln!(&self.rt;
+            let errors = self.lines.over(&self.rt);
+            let _ = eprintln!(&errors;
                 "quorumd: packets carry no seal: any user of this host can forge them"
             );
         }
@@ -132,7 +169,10 @@ impl<R: Files<File = File> + Net + Clock + Eprint + Drop> RealEnv<R> {
     /// Tells the file for halts of a halt, where there is one.
     fn tell_halt(&self, code: u8) -> Result<(), Failed> {
         match &self.devices.as_ref().ok_or(Failed)?.halt {
-            Some(halt) => reported(&self.rt, halt.path(), halt.tell(code)),
+            Some(halt) => {
+                let errors = self.lines.over(&self.rt);
+                reported(&errors, halt.path(), halt.tell(code))
+            }
             None => Ok(()),
         }
     }
@@ -142,17 +182,20 @@ impl<R: Files<File = File> + Net + Clock + Eprint + Drop> RealEnv<R> {
         let tick = self.tick().ok_or(Failed)?;
         let watchdog = &self.devices.as_ref().ok_or(Failed)?.watchdog;
         let done = watchdog.feed(self.last_tick, tick);
-        reported(&self.rt, watchdog.path(), done)
+        let errors = self.lines.over(&self.rt);
+        reported(&errors, watchdog.path(), done)
     }
 
     /// Disarms the watchdog, where that is open.
     fn disarm_watchdog(&self) -> Result<(), Failed> {
         let watchdog = &self.devices.as_ref().ok_or(Failed)?.watchdog;
-        reported(&self.rt, watchdog.path(), watchdog.disarm())
+        let errors = self.lines.over(&self.rt);
+        reported(&errors, watchdog.path(), watchdog.disarm())
     }
 }
 
-impl<R: Files<File = File> + Net + Clock + Eprint + Drop> Env for RealEnv<R> {
+impl<R: Files<File = File> + Net<Stream = TcpStream> + Clock + Eprint + AllocGlobal + Drop> Env
+    for RealEnv<R> {
     ghost use Rattle.std.specs.Prelude.{None};
 
     ghost faults = { λ e. e };
@@ -163,7 +206,9 @@ impl<R: Files<File = File> + Net + Clock + Eprint + Drop> Env for RealEnv<R> {
     /// open, and makes it where it is absent.
     fn open_image(&mut self, path: &str) -> Result<(), Failed> {
         self.disk = Disk::closed();
-        let done = match Disk::open(&self.rt, 1, path) {
+        let errors = self.lines.over(&self.rt);
+        let opened = Disk::open(&self.rt, &errors, 1, path, Opener::Command, Absent::Made);
+        let done = match opened {
             Ok(disk) => {
                 self.disk = disk;
                 Ok(())
@@ -179,10 +224,13 @@ impl<R: Files<File = File> + Net + Clock + Eprint + Drop> Env for RealEnv<R> {
     fn open_node(&mut self, opening: &Opening<'_>) -> Result<(), Failed> {
         self.disk = Disk::closed();
         self.devices = None;
-        let opened = Devices::open(&self.rt, &self.edge, opening);
+        self.lines = Lines::new(&self.rt);
+        self.waiting = Waiting::new(&self.rt).ok();
+        let opened = self.open_all(opening);
         let done = self.keep(opened);
         let tick = self.tick().unwrap_or(0);
-        let done = noted(&self.rt, tick, Action::Open(opening), done);
+        let errors = self.lines.over(&self.rt);
+        let done = noted(&errors, tick, Action::Open(opening), done);
         let done = self.warn_of_forgery(done);
         self.counted(done)
     }
@@ -202,6 +250,7 @@ impl<R: Files<File = File> + Net + Clock + Eprint + Drop> Env for RealEnv<R> {
             Ok(Some(count)) => Got::Packet(count),
             Ok(None) => Got::Nothing,
             Err(failed) => {
+                self.rest();
                 let _ = self.counted(Err(failed));
                 Got::Failed
             }
@@ -210,14 +259,16 @@ impl<R: Files<File = File> + Net + Clock + Eprint + Drop> Env for RealEnv<R> {
 
     /// Reads the sector; what lies past the end of the file reads as zeros.
     fn read(&mut self, sector: u32, into: &mut [u8; SECTOR]) -> Result<(), Failed> {
-        let done = self.disk.read(&self.rt, sector, into);
+        let errors = self.lines.over(&self.rt);
+        let done = self.disk.read(&self.rt, &errors, sector, into);
         self.counted(done)
     }
 
     /// Writes the sector and has it pushed to the disk. Sector 0 is written only under the exclusive lock,
     /// which is then held while the image is open; where that lock is not to be had, the image is closed.
     fn write(&mut self, sector: u32, from: &[u8; SECTOR]) -> Result<(), Failed> {
-        let done = self.disk.write(&self.rt, sector, from);
+        let errors = self.lines.over(&self.rt);
+        let done = self.disk.write(&self.rt, &errors, sector, from);
         self.counted(done)
     }
 
@@ -245,7 +296,10 @@ impl<R: Files<File = File> + Net + Clock + Eprint + Drop> Env for RealEnv<R> {
     /// Sends the packet, whether a node is there or not.
     fn send(&mut self, to: Rank, bytes: &[u8]) -> Result<(), Failed> {
         let done = match &mut self.devices {
-            Some(devices) => reported(&self.rt, "network", devices.network.send(to, bytes)),
+            Some(devices) => {
+                let errors = self.lines.over(&self.rt);
+                reported(&errors, "network", devices.network.send(to, bytes))
+            }
             None => Err(Failed),
         };
         self.counted(done)

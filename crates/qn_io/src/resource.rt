@@ -1,6 +1,6 @@
 //! The resource of a node: a file that says whether it is held, or an agent that starts and stops it.
 use crate::agent::Agent;
-use crate::named_file::NamedFile;
+use crate::named_file::{Absent, NamedFile};
 use std::fs::File;
 use std::io;
 use std::net::Net;
@@ -53,14 +53,16 @@ pub(crate) enum Resource {
 
 impl Resource {
     /// Opens the resource that the word names, and has it stopped: `unix:PATH` is an agent, any other word the
-    /// path of a file, which is made where it is absent.
+    /// path of a file, which is made where it is absent and that is
+    /// wanted.
     pub(crate) fn open<R: Files<File = File> + Net + Clock>(
         rt: &R,
         word: &str,
+        absent: Absent,
     ) -> io::Result<Resource> {
         let resource = match word.strip_prefix(SOCKET) {
             Some(path) => Resource::Agent(Agent::new(path)?),
-            None => Resource::File(NamedFile::open(rt, word)?),
+            None => Resource::File(NamedFile::open(rt, word, absent)?),
         };
         resource.order(rt, Order::Stop)?;
         Ok(resource)

@@ -1,7 +1,7 @@
 //! The watchdog: a device, a pipe or a file that takes a byte at each feed, and one more where it is disarmed.
 use crate::again::write_again;
 use crate::feeding::feed_once;
-use crate::named_file::NamedFile;
+use crate::named_file::{Absent, NamedFile};
 use std::fs::File;
 use std::io;
 use std::rt::Files;
@@ -16,9 +16,13 @@ pub(crate) struct Watchdog {
 }
 
 impl Watchdog {
-    /// Opens the watchdog of that path, and makes a file where there is none.
-    pub(crate) fn open<R: Files<File = File>>(rt: &R, path: &str) -> io::Result<Watchdog> {
-        let opened = NamedFile::open(rt, path)?;
+    /// Opens the watchdog of that path, and makes a file where there is none and that is wanted.
+    pub(crate) fn open<R: Files<File = File>>(
+        rt: &R,
+        path: &str,
+        absent: Absent,
+    ) -> io::Result<Watchdog> {
+        let opened = NamedFile::open(rt, path, absent)?;
         Ok(Watchdog { opened })
     }
 

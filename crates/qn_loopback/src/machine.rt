@@ -1,5 +1,5 @@
 //! The machine that the nodes run on: the host, but its clock can be set on, and it can have an agent behind each Unix socket.
-use std::alloc::Allocator;
+use std::alloc::{Allocator, Global};
 use std::cell::Cell;
 use std::fmt::Display;
 use std::fs::{File, Metadata, OpenOptions};
@@ -126,6 +126,14 @@ impl<'a> Net for Machine<'a> {
     }
 }
 
+impl<'a> Alloc for Machine<'a> {
+    type A = Global;
+
+    fn alloc(&self) -> Global {
+        self.host.alloc()
+    }
+}
+
 impl<'a> Clock for Machine<'a> {
     fn monotonic(&self) -> io::Result<Duration> {
         let ahead = Duration::from_millis(u64::from(self.ahead.get()));
@@ -160,8 +168,8 @@ impl<'a> Files for Machine<'a> {
         unsupported()
     }
 
-    fn metadata(&self, _path: &str) -> io::Result<Metadata> {
-        unsupported()
+    fn metadata(&self, path: &str) -> io::Result<Metadata> {
+        self.host.metadata(path)
     }
 
     fn symlink_metadata(&self, _path: &str) -> io::Result<Metadata> {

@@ -44,7 +44,7 @@ use qn_io::{Edge, RealEnv};
 use stage::{Nodes, Stage};
 use std::fs::File;
 use std::io;
-use std::net::Net;
+use std::net::{Net, TcpStream};
 use std::rt::Files;
 use std::time::Clock;
 
@@ -55,7 +55,7 @@ fn main(rt: HostRuntime) -> io::Result<()> {
 }
 
 /// Plays the script with three nodes that run on that machine.
-fn play_on<R: Files<File = File> + Net + Clock + Eprint>(
+fn play_on<R: Files<File = File> + Net<Stream = TcpStream> + Clock + Eprint + AllocGlobal>(
     machine: &R,
     stage: &Stage<'_>,
 ) -> io::Result<()> {

@@ -1,5 +1,5 @@
 use Rattle.std.proofs.Common.{◌≤◌, ◌-◌}
-use Rattle.qn_io.proofs.image_file.ImageFile.read.Given as goal
+use Rattle.qn_io.proofs.image_file.ImageFile.read_sector.Given as goal
 
 abbrev pub invariant-parts : goal.invariant-parts
 invariant-parts l = l.at ≤ 512
