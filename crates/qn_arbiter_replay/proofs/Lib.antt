@@ -1,7 +1,5 @@
-mod AfterHead
 mod ArbiterTimes
 mod HeadSteps
 mod Playbacks
 mod RunTraces
 mod Standings
-mod Whole

@@ -9,8 +9,9 @@ use Rattle.qn_lease.specs.declared.lease.Lease.{Lease}
 use Rattle.qn_lease.specs.ArbiterRules.{is_well_formed_beside}
 use Rattle.qn_lease.specs.ArbiterSteps.{step_beside}
 use Rattle.qn_head.specs.Parts.{Gives}
+use Rattle.qn_head.specs.ReplayLaws as replays
+use Rattle.qn_head.specs.Replays.{place_after, start_after}
 use Rattle.qn_lease.specs.ArbiterWorld.{ArbiterWorld, first_arbiter_world}
-use Rattle.qn_lease.specs.Lease.{is_safe_lease}
 use Rattle.qn_model.specs.declared.configuration.Settings.{Settings}
 use Rattle.qn_model.specs.declared.reports.Refused.{Refused}
 use Rattle.qn_model.specs.declared.reports.Refused.TheVariants as refused
@@ -25,11 +26,9 @@ use Rattle.qn_sched.specs.declared.replay_end.ReplayEnd.{ReplayEnd}
 use Rattle.qn_arbiter_replay.specs.declared.head.ArbiterHead.{ArbiterHead}
 use Rattle.qn_arbiter_replay.specs.declared.playback.Playback.{Playback}
 use Rattle.qn_arbiter_replay.specs.Playing.{HasPlayed, Refuses, Takes, last_line, place_at, play_from, report_text, start_at, wants_from}
-use Rattle.qn_arbiter_replay.specs.declared.arbiter_end.ArbiterEnd.TheVariants.{Replay}
 use Rattle.qn_arbiter_replay.specs.Heads.{arbiter_head_part}
-use Rattle.qn_arbiter_replay.specs.Replay.{beside_rules, start_after, stood_after}
+use Rattle.qn_arbiter_replay.specs.Replay.{beside_replay, beside_rules}
 use Rattle.qn_arbiter_replay.specs.Runs.{Replays}
-use Rattle.qn_arbiter_replay.proofs.AfterHead.{replays_on}
 use Rattle.qn_arbiter_replay.proofs.ArbiterTimes.{arbiter_time-step}
 use Rattle.qn_arbiter_replay.proofs.Standings.{times_are}
 
@@ -80,7 +79,7 @@ stays start old new earlier same_world same_head same_events played =
 
 -- a playback starts after its head
 pub start_is : (playback : Playback) (head : ArbiterHead) → playback.world.settings ≡ head.settings → playback.world.timing ≡ head.timing → playback.world.lease ≡ head.lease
-    → playback.head ≡ head.lines → start_at playback ≡ start_after head
+    → playback.head ≡ head.lines → start_at playback ≡ start_after beside_replay head
 start_is playback head settings timing lease lines =
     ap (λ (times : Lease). at_start (beside_rules times) playback.world.settings playback.world.timing playback.head) lease
     ∙ ap (λ (s : Settings). at_start (beside_rules head.lease) s playback.world.timing playback.head) settings
@@ -132,19 +131,19 @@ begins playback times lease stands none few steps =
 
 -- a run that a playback began goes on after its head
 pub runs_on : {left between left_new old new : Option (List ℕ)} {failed wider write_failed : Type 0} {end : ReplayEnd} (start now : Playback) (head : ArbiterHead) (pieces : List ℕ) → pieces ≡ []
-    → is_safe_lease head.settings head.lease ≡ true → start.world.lease ≡ head.lease → start_at start ≡ start_after head
+    → start.world.lease ≡ head.lease → start_at start ≡ start_after beside_replay head
     → Gives arbiter_head_part head (prepend_known pieces left) between → (failed → wider)
     → Runs (rest_of (play_from start) head.lines []) (HasPlayed start now) (WantsAtLine (play_from start) (wants_from start) (HasPlayed start now) head.lines)
     between left_new failed old new write_failed end
-    → Replays left left_new wider old new write_failed (Replay end)
-runs_on {left} {between} {left_new} {old} {new} {failed} {write_failed} {end} start now head pieces none safe lease same given widen run =
+    → Replays left left_new wider old new write_failed end
+runs_on {between = between} {left_new = left_new} {old = old} {new = new} {failed = failed} {write_failed = write_failed} {end = end} start now head pieces none lease same given widen run =
     let Run : Lease → Progress ArbiterWorld → Type 0 = λ times begun.
     Runs (rest_of (event_play (beside_rules times) begun) head.lines []) (HasPlayed start now)
     (WantsAtLine (event_play (beside_rules times) begun) (event_wants (beside_rules times) begun) (HasPlayed start now) head.lines) between left_new failed old new write_failed end in
-    let counts : (earlier : Taken) → HasPlayed start now earlier → (stood_after head earlier).events ≡ length earlier =
+    let counts : (earlier : Taken) → HasPlayed start now earlier → (place_after beside_replay head earlier).events ≡ length earlier =
     λ earlier played.
     ap (λ (p : Progress ArbiterWorld). (after_lines (beside_rules head.lease) p earlier).events) (sym same)
     ∙ ap (λ (times : Lease). (after_lines (beside_rules times) (start_at start) earlier).events) (sym lease)
     ∙ ap (λ (p : Progress ArbiterWorld). p.events) played.after.place_is ∙ sym played.after.counted in
-    replays_on head pieces none safe given (HasPlayed start now) counts widen
+    replays.runs_on beside_replay head pieces none given (HasPlayed start now) counts (λ earlier played. tt) widen
     (subst (λ (begun : Progress ArbiterWorld). Run head.lease begun) same (subst (λ (times : Lease). Run times (start_at start)) lease run))

@@ -1,5 +1,5 @@
 -- The trace of a replay beside an arbiter is that of a run of the world.
-use Rattle.std.proofs.Common.{◌≡◌, ◌+◌, ℕ, Bool, true, false, cond, List, [], ◌∷◌, ◌++◌, Option, None, Some, Result, Ok, Err, IfOk, length, refl, sym, ap, ◌∙◌, subst}
+use Rattle.std.proofs.Common.{◌≡◌, ◌+◌, ℕ, true, List, [], ◌∷◌, ◌++◌, Option, None, Some, Result, Ok, Err, IfOk, length, refl, sym, ap, ◌∙◌, subst}
 use Rattle.std.specs.Prelude.{IsTrue}
 use Rattle.std.specs.Option.{option_map_or}
 use Rattle.qn_arbiter_sched.specs.EventLines.{arbiter_line}
@@ -12,6 +12,7 @@ use Rattle.qn_head.specs.Heads.{head_part, line_lines}
 use Rattle.qn_head.specs.HeadLaws as heads
 use Rattle.qn_head.specs.HeadLaws.{TreesAreValid, head_good}
 use Rattle.qn_head.specs.Parts.{Given, then_given}
+use Rattle.qn_head.specs.Replays.{after_head}
 use Rattle.qn_lease.specs.declared.events.ArbiterEvent.{ArbiterEvent}
 use Rattle.qn_lease.specs.declared.lease.Lease.{Lease}
 use Rattle.qn_lease.specs.ArbiterRules.{is_well_formed_beside, refusal_beside}
@@ -28,12 +29,14 @@ use Rattle.qn_model.specs.Settings.{IsValid, ids}
 use Rattle.qn_model.specs.Steps.{holders, report}
 use Rattle.qn_model.specs.Timing.{is_safe}
 use Rattle.qn_model.specs.World.{World}
+use Rattle.qn_play.specs.Played.{go_on}
 use Rattle.qn_play.specs.WorldTraces.{AllAllowedIn, lines_after, trace_is_run, world_after}
 use Rattle.qn_sched.specs.declared.replay_end.ReplayEnd.{ReplayEnd}
 use Rattle.qn_arbiter_replay.specs.declared.head.ArbiterHead.{ArbiterHead}
 use Rattle.qn_arbiter_replay.specs.Heads.{arbiter_head_part, lease_given, lease_in, lease_lines, with_lease}
-use Rattle.qn_arbiter_replay.specs.Replay.{Answered, after_given, after_head, beside_rules, replay_arbiter_of}
+use Rattle.qn_arbiter_replay.specs.Replay.{beside_replay, beside_rules, replay_arbiter_of}
 use Rattle.qn_arbiter_replay.specs.RunTrace.{Empty, IsRunTrace, Lines, reported, trace_of}
+use Rattle.qn_arbiter_replay.proofs.HeadSteps.{lease_is_safe}
 
 -- what the crates below say of a tree, of the line of an event, and of the holders after events
 pub record Laws : Type 0 where
@@ -99,52 +102,44 @@ reports_one laws s t times events safe all later event earlier i j is first seco
 -- ---- the head
 
 -- settings that are valid, and times that are safe
-abbrev IsGood : ArbiterHead → Type 0
-IsGood head = IsValid head.settings × (is_safe head.timing ≡ true)
+record IsGood (head : ArbiterHead) : Type 0 where
+  valid : IsValid head.settings
+  safe : is_safe head.timing ≡ true
+  safe_lease : is_safe_lease head.settings head.lease ≡ true
 
-lease_good : (head : Head) (rest : List (List ℕ)) (judged : Result Lease ReplayEnd) → heads.IsGood head → IfOk (with_lease head rest judged) (λ given. IsGood given.0)
-lease_good head rest (Ok lease) good = good
-lease_good head rest (Err end) good = tt
+lease_good : (head : Head) (rest : List (List ℕ)) (judged : Result Lease ReplayEnd) → heads.IsGood head → ((times : Lease) → judged ≡ Ok times → is_safe_lease head.settings times ≡ true)
+    → IfOk (with_lease head rest judged) (λ given. IsGood given.0)
+lease_good head rest (Ok times) good safe = record { valid = good.0; safe = good.1; safe_lease = safe times refl }
+lease_good head rest (Err end) good safe = tt
 
 line_good : (head : Head) (given : Given (List ℕ)) → heads.IsGood head → IfOk (then_given given (lease_given head)) (λ g. IsGood g.0)
-line_good head (Ok given) good = lease_good head given.1 (lease_in (head.lines + 1) given.0) good
+line_good head (Ok given) good =
+    lease_good head given.1 (lease_in (head.lines + 1) head.settings given.0) good (λ times is. lease_is_safe (head.lines + 1) head.settings given.0 times is)
 line_good head (Err end) good = tt
 
 given_good : (ending : Ending) (given : Given Head) → IfOk given (λ g. heads.IsGood g.0) → IfOk (then_given given (λ head rest. lease_lines head ending rest)) (λ g. IsGood g.0)
 given_good ending (Ok given) good = line_good given.0 (line_lines given.0.lines ending given.1) good
 given_good ending (Err end) good = tt
 
--- ---- the whole
+-- ---- the trace of each replay
 
-chosen : (first second : Answered) (test : Bool) → test ≡ true → (let answer : Answered = cond test first second in answer.trace) ≡ first.trace
-chosen first second test same = ap (λ b. let answer : Answered = cond b first second in answer.trace) same
-
-other_chosen : (first second : Answered) (test : Bool) → test ≡ false → (let answer : Answered = cond test first second in answer.trace) ≡ second.trace
-other_chosen first second test same = ap (λ b. let answer : Answered = cond b first second in answer.trace) same
-
-safe_traces : Laws → (ending : Ending) (head : ArbiterHead) (lines : List (List ℕ)) (safe : Bool) → is_safe_lease head.settings head.lease ≡ safe → IsGood head
-    → IsRunTrace (after_head head ending lines).trace
-safe_traces laws ending head lines true is good =
+given_traces : Laws → (ending : Ending) (given : Given ArbiterHead) → IfOk given (λ g. IsGood g.0) → IsRunTrace (go_on None given (λ g. after_head beside_replay g.0 ending g.1)).trace
+given_traces laws ending (Ok given) good =
+    let head = given.0 in
     let s = head.settings in
     let t = head.timing in
-    let run = trace_is_run (beside_rules head.lease) is_well_formed_beside s t head.lines (λ line event said. ((laws.spelled s line event good.0).0 said).0) ending lines in
+    let run = trace_is_run (beside_rules head.lease) is_well_formed_beside s t head.lines (λ line event said. ((laws.spelled s line event good.valid).0 said).0) ending given.1 in
     let allowed = all_allowed s t head.lease run.events run.allowed in
     Lines s t head.lease run.events
     (record {
-      valid = good.0;
-      safe = good.1;
-      safe_lease = is;
+      valid = good.valid;
+      safe = good.safe;
+      safe_lease = good.safe_lease;
       allowed = allowed;
-      lines = chosen _ _ (is_safe_lease s head.lease) is ∙ run.lines ∙ same_lines s t head.lease run.events;
-      one_holder = reports_one laws s t head.lease run.events good.1 allowed;
+      lines = run.lines ∙ same_lines s t head.lease run.events;
+      one_holder = reports_one laws s t head.lease run.events good.safe allowed;
     })
-safe_traces laws ending head lines false is good =
-    Empty (other_chosen _ _ (is_safe_lease head.settings head.lease) is)
-
-given_traces : Laws → (ending : Ending) (given : Given ArbiterHead) → IfOk given (λ g. IsGood g.0) → IsRunTrace (after_given ending given).trace
-given_traces laws ending (Ok given) good = safe_traces laws ending given.0 given.1 (is_safe_lease given.0.settings given.0.lease) refl good
 given_traces laws ending (Err end) good = Empty refl
 
--- the trace of each replay
 pub traces_are_runs : Laws → (ending : Ending) (bytes : List ℕ) → IsRunTrace (replay_arbiter_of ending bytes).trace
 traces_are_runs laws ending bytes = given_traces laws ending (arbiter_head_part ending bytes) (given_good ending (head_part ending bytes) (head_good laws.valid ending bytes))

@@ -1,24 +1,31 @@
 -- The head of a schedule beside an arbiter: that of a schedule, and then the line of the two times of a lease. This project's
 -- profile.
-use Rattle.std.specs.Prelude.{ℕ, ◌+◌, List, Result, Ok, Err}
+use Rattle.std.specs.Prelude.{ℕ, ◌+◌, List, Result, Ok, Err, if◌then◌else◌}
+use Rattle.std.specs.Option.{option_map_or}
 use Rattle.qn_head.specs.declared.head.Head.{Head}
 use Rattle.qn_head.specs.Heads.{head_part, line_lines}
 use Rattle.qn_head.specs.Parts.{Given, Part, then_given}
 use Rattle.qn_lease.specs.declared.lease.Lease.{Lease}
+use Rattle.qn_lease.specs.Lease.{is_safe_lease}
+use Rattle.qn_model.specs.declared.configuration.Settings.{Settings}
 use Rattle.qn_model.specs.declared.line_fault.LineFault.{LineFault}
 use Rattle.qn_model.specs.Lines.{Ending}
 use Rattle.qn_sched.specs.declared.replay_end.ReplayEnd.{ReplayEnd}
-use Rattle.qn_sched.specs.declared.replay_end.ReplayEnd.TheVariants.{BadSchedule}
+use Rattle.qn_sched.specs.declared.replay_end.ReplayEnd.TheVariants.{BadSchedule, UnsafeLease}
 use Rattle.qn_arbiter_sched.specs.LeaseLine.{lease_of}
 use Rattle.qn_arbiter_replay.specs.declared.head.ArbiterHead.{ArbiterHead}
 
-abbrev pub or_bad_line : ℕ → Result Lease LineFault → Result Lease ReplayEnd
-or_bad_line number (Ok lease) = Ok lease
-or_bad_line number (Err fault) = Err (BadSchedule number fault)
+-- the end at two times that are not safe: with the timeout of the device, or 0 without one
+abbrev pub unsafe_end : Settings → Lease → ReplayEnd
+unsafe_end s times = UnsafeLease (option_map_or (λ device. device.timeout) s.device 0) times.limit times.lease
 
--- the two times that the line of this number gives, or its first fault
-abbrev pub lease_in : ℕ → List ℕ → Result Lease ReplayEnd
-lease_in number line = or_bad_line number (lease_of line)
+abbrev pub safe_or_not : ℕ → Settings → Result Lease LineFault → Result Lease ReplayEnd
+safe_or_not number s (Ok times) = if is_safe_lease s times then Ok times else Err (unsafe_end s times)
+safe_or_not number s (Err fault) = Err (BadSchedule number fault)
+
+-- the two safe times that the line of this number gives, or its first fault
+abbrev pub lease_in : ℕ → Settings → List ℕ → Result Lease ReplayEnd
+lease_in number s line = safe_or_not number s (lease_of line)
 
 -- a head with these times, which is one line longer
 abbrev pub head_with : Head → Lease → ArbiterHead
@@ -29,7 +36,7 @@ with_lease head rest (Ok lease) = Ok (head_with head lease, rest)
 with_lease head rest (Err end) = Err end
 
 abbrev pub lease_given : Head → List ℕ → List (List ℕ) → Given ArbiterHead
-lease_given head line rest = with_lease head rest (lease_in (head.lines + 1) line)
+lease_given head line rest = with_lease head rest (lease_in (head.lines + 1) head.settings line)
 
 -- the lease line after the head of a schedule
 abbrev pub lease_lines : Head → Ending → List (List ℕ) → Given ArbiterHead

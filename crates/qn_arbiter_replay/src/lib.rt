@@ -8,12 +8,10 @@
 //! run of allowed events, and each of its lines names one holder at most (`law_arbiter_traces`).
 #![tactic(auto)]
 
-mod arbiter_end;
 mod head;
 mod laws;
 mod playback;
 mod run;
 
-pub use arbiter_end::ArbiterEnd;
 pub use laws::{law_arbiter_ending, law_arbiter_traces};
 pub use run::replay_arbiter;

@@ -24,12 +24,13 @@ pub(crate) struct Playback {
 impl Playback {
     ghost use Rattle.std.specs.Prelude.{◌≡◌, ◌<◌, ◌≤◌, ◌+◌, ◌^◌, [], true, OnOk, OnErr, IfOk, IfErr};
     ghost use Rattle.qn_base.specs.declared.limits.TheConstants.{MOST_EVENTS};
+    ghost use Rattle.qn_head.specs.Replays.{start_after};
     ghost use Rattle.qn_lease.specs.Lease.{is_safe_lease};
     ghost use Rattle.qn_model.specs.Settings.{IsValid};
     ghost use Rattle.qn_model.specs.Timing.{is_safe};
     ghost use Rattle.qn_play.specs.Worlds.{IsGoing, refused_end};
     ghost use Rattle.qn_arbiter_replay.specs.Playing.{HasPlayed, Refuses, Takes, place_at, report_text, start_at};
-    ghost use Rattle.qn_arbiter_replay.specs.Replay.{start_after};
+    ghost use Rattle.qn_arbiter_replay.specs.Replay.{beside_replay};
 
     /// A replay whose head was read: nothing has happened.
     pub(crate) fn new(alloc: Global, head: ArbiterHead) -> Result<Playback, NoMemory>
@@ -39,7 +40,8 @@ impl Playback {
         requires few_lines { head.lines ≤ 4294967296 }
         ensures begins { IfOk result (λ playback. HasPlayed playback playback []) }
         ensures lease { IfOk result (λ playback. playback.world.lease ≡ head.lease) }
-        ensures start { IfOk result (λ playback. start_at playback ≡ start_after head) }
+        ensures start { IfOk result
+            (λ playback. start_at playback ≡ start_after beside_replay head) }
     {
         let world = ArbiterWorld::new(alloc, head.settings, head.timing, head.lease)?;
         Ok(Playback {

@@ -2,15 +2,12 @@
 ghost use Rattle.std.specs.Prelude.{◌≡◌, ◌≢◌, ◌≤◌, IfSome};
 ghost use Rattle.qn_io.specs.Outside.{HasRisen};
 ghost use Rattle.qn_model.specs.Lines.{Ended};
-ghost use Rattle.qn_arbiter_replay.specs.Replay.{replay_arbiter_of, unsafe_end};
+ghost use Rattle.qn_arbiter_replay.specs.Replay.{replay_arbiter_of};
 ghost use Rattle.qn_arbiter_replay.specs.Runs.{AnswersWhole, Completes, IfDone, Replays, Wants};
 
-use crate::arbiter_end::ArbiterEnd;
 use crate::head::read_arbiter_head;
 use crate::playback::Playback;
 use qn_io::{Pieces, Sink, Source};
-use qn_lease::{Lease, lease_safe};
-use qn_model::Settings;
 use qn_play::{Output, play};
 use qn_sched::ReplayEnd;
 use std::alloc::Global;
@@ -20,7 +17,7 @@ use std::alloc::Global;
 /// alone, and nothing of the end. The trace lines of one piece are written together, always before more of the
 /// input is read and before the replay ends. `UnsafeLease` comes where the lease line is good and its times are not
 /// safe. After the first trace line, `NoMemory` comes only where the world wants memory for the next event.
-pub fn replay_arbiter<I: Source, O: Sink>(alloc: Global, input: &mut I, out: &mut O) -> ArbiterEnd
+pub fn replay_arbiter<I: Source, O: Sink>(alloc: Global, input: &mut I, out: &mut O) -> ReplayEnd
     // The end is the defined one of the bytes that were taken, and what was written is their trace, or a prefix
     // of it at WriteFault and NoMemory.
     ensures replays { Replays (I.left input.old) (I.left input.new)
@@ -30,7 +27,7 @@ pub fn replay_arbiter<I: Source, O: Sink>(alloc: Global, input: &mut I, out: &mu
 
     ensures complete { ¬ HasRisen (I.faults input.old) (I.faults input.new)
         → ¬ HasRisen (O.faults out.old) (O.faults out.new)
-        → result ≢ ArbiterEnd.Replay ReplayEnd.NoMemory
+        → result ≢ ReplayEnd.NoMemory
         → IfSome (I.left input.old) (λ bytes.
         AnswersWhole (replay_arbiter_of Ended bytes) (O.written out.old)
         (O.written out.new) result) }
@@ -39,13 +36,13 @@ pub fn replay_arbiter<I: Source, O: Sink>(alloc: Global, input: &mut I, out: &mu
         (O.written out.new) result) }
 
     // Out of memory.
-    ensures memory { result ≡ ArbiterEnd.Replay ReplayEnd.NoMemory
+    ensures memory { result ≡ ReplayEnd.NoMemory
         → Wants (I.left input.old) (I.left input.new) (O.written out.old) (O.written out.new) }
 
     // The faults of the outside.
-    ensures read_fault { result ≡ ArbiterEnd.Replay ReplayEnd.ReadFault
+    ensures read_fault { result ≡ ReplayEnd.ReadFault
         → HasRisen (I.faults input.old) (I.faults input.new) }
-    ensures write_fault { result ≡ ArbiterEnd.Replay ReplayEnd.WriteFault
+    ensures write_fault { result ≡ ReplayEnd.WriteFault
         → HasRisen (O.faults out.old) (O.faults out.new) }
     ensures source_faults { I.faults input.old ≤ I.faults input.new }
     ensures sink_faults { O.faults out.old ≤ O.faults out.new }
@@ -54,7 +51,7 @@ pub fn replay_arbiter<I: Source, O: Sink>(alloc: Global, input: &mut I, out: &mu
 }
 
 /// A replay up to its end.
-fn run<I: Source, O: Sink>(alloc: Global, input: &mut I, out: &mut O) -> ArbiterEnd
+fn run<I: Source, O: Sink>(alloc: Global, input: &mut I, out: &mut O) -> ReplayEnd
     ensures replays { Replays (I.left input.old) (I.left input.new)
         (HasRisen (I.faults input.old) (I.faults input.new))
         (O.written out.old) (O.written out.new)
@@ -63,34 +60,16 @@ fn run<I: Source, O: Sink>(alloc: Global, input: &mut I, out: &mut O) -> Arbiter
     ensures sink_faults { O.faults out.old ≤ O.faults out.new }
 {
     let Ok(output) = Output::new(alloc) else {
-        return ArbiterEnd::Replay(ReplayEnd::NoMemory);
+        return ReplayEnd::NoMemory;
     };
     let mut pieces = Pieces::new();
     let head = match read_arbiter_head(alloc, &mut pieces, input) {
         Ok(head) => head,
-        Err(end) => return ArbiterEnd::Replay(end),
+        Err(end) => return end,
     };
-    if !lease_safe(&head.settings, &head.lease) {
-        return unsafe_lease(&head.settings, head.lease);
-    }
     let lines = head.lines;
     let Ok(mut playback) = Playback::new(alloc, head) else {
-        return ArbiterEnd::Replay(ReplayEnd::NoMemory);
+        return ReplayEnd::NoMemory;
     };
-    ArbiterEnd::Replay(play(&mut playback, lines, pieces, output, input, out))
-}
-
-/// The end at a lease that is not safe.
-fn unsafe_lease(settings: &Settings, lease: Lease) -> ArbiterEnd
-    ensures { result ≡ unsafe_end settings.now lease }
-{
-    let timeout = match settings.device {
-        Some(device) => device.timeout,
-        None => 0,
-    };
-    ArbiterEnd::UnsafeLease {
-        timeout,
-        limit: lease.limit,
-        lease: lease.lease,
-    }
+    play(&mut playback, lines, pieces, output, input, out)
 }

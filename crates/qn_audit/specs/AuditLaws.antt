@@ -134,6 +134,7 @@ named_so (replay.Done events) = ended.NoMemory
 named_so (replay.NotAllowed line rule) = ended.NoMemory
 named_so replay.WriteFault = ended.NoMemory
 named_so (replay.UnsafeTiming timing) = ended.NoMemory
+named_so (replay.UnsafeLease timeout limit lease) = ended.NoMemory
 
 is_named_so : (fault : HeadFault) → end_in_head fault ≡ named_so (end_of fault)
 is_named_so (head.BadConf why) = refl

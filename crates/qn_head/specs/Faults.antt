@@ -31,4 +31,5 @@ IsHeadEnd (end.NotAllowed line rule) = ⊥
 IsHeadEnd end.ReadFault = Unit {0}
 IsHeadEnd end.WriteFault = ⊥
 IsHeadEnd (end.UnsafeTiming timing) = Unit {0}
+IsHeadEnd (end.UnsafeLease timeout limit lease) = ⊥
 IsHeadEnd end.NoMemory = Unit {0}

@@ -4,3 +4,5 @@ pub mod Heads
 pub mod PartLaws
 pub mod Parts
 pub mod Texts
+pub mod ReplayLaws
+pub mod Replays

@@ -160,7 +160,8 @@ module _ {A Last : Type 0} (none : Last) (part : Part A) (next : A → Ending �
   run_open : (front : List ℕ) → IsOpen part front → reading.IsOpen (after_part none part next) front
   run_open front still = ap (λ g. let played : Played Last = go_on none g (λ given. next given.0 ReadFailed given.1) in played.end) still
 
-  run_needed : {taken : List ℕ} → IsNeeded part taken → reading.IsNeeded (after_part none part next) taken
+  -- the bytes that the part needs are those that the run needs
+  pub run_needed : {taken : List ℕ} → IsNeeded part taken → reading.IsNeeded (after_part none part next) taken
   run_needed {taken} (StillOpen still) = reading.StillOpen (run_open taken still)
   run_needed (LastDecides front byte parts still) = reading.LastDecides front byte parts (run_open front still)
 

@@ -4,6 +4,7 @@
 //! Promises: `read_settings`, `read_head_line` and `read_head` give exactly what the definitions of `specs/Heads` give for
 //! the bytes that were taken, however they were cut into pieces, and take no byte that the value or the end does not
 //! need. What follows a head is each caller's own: the laws of `specs/PartLaws` join a head and whatever follows it.
+//! `specs/Replays` says what a replay answers, whatever its head and its world are, and `specs/ReplayLaws` joins the two.
 #![tactic(auto)]
 
 mod head;

@@ -4,8 +4,8 @@ use Rattle.std.specs.Io.KnownBytes.{prepend_known, append_known}
 use Rattle.qn_model.specs.Inputs.{Tells, Anyway, AtEnd, AtFailure}
 use Rattle.qn_model.specs.Lines.{Ending, Ended, ReadFailed}
 use Rattle.qn_sched.specs.declared.replay_end.ReplayEnd.{ReplayEnd}
-use Rattle.qn_sched.specs.declared.replay_end.ReplayEnd.TheVariants.{Done, NoMemory, ReadFault, WriteFault}
-use Rattle.qn_play.specs.Endings.{EndFits}
+use Rattle.qn_sched.specs.declared.replay_end.ReplayEnd.TheVariants.{Done, NoMemory, ReadFault, UnsafeLease, WriteFault}
+use Rattle.qn_play.specs.Endings.{FitsWith}
 use Rattle.qn_play.specs.Played.{Played}
 use Rattle.qn_play.specs.Reading.{Rest}
 use Rattle.qn_play.specs.Runs.{EndsAs, IfDone, OutOfMemory, ReadsWhole, Runs, Unwritten, Wanted, WroteAll}
@@ -20,10 +20,10 @@ if_done : (P : Type 0) (end : ReplayEnd) → ((events : ℕ) → end ≡ Done ev
 if_done P (Done events) holds = holds events refl
 if_done P _ holds = tt
 
-module _ {Last : Type 0} (played_of : Rest Last) (all_fit : (ending : Ending) (bytes : List ℕ) → EndFits (played_of ending bytes).end ending) where
+module _ {Last : Type 0} (leased : Type 0) (played_of : Rest Last) (all_fit : (ending : Ending) (bytes : List ℕ) → FitsWith leased (played_of ending bytes).end ending) where
   -- the end of an answer that is that of some input
-  pub fits : (ending : Ending) (bytes : List ℕ) (answer : Played Last) (end : ReplayEnd) → played_of ending bytes ≡ answer → answer.end ≡ end → EndFits end ending
-  fits ending bytes answer end same is = subst (λ e. EndFits e ending) (ap (λ (a : Played Last). a.end) same ∙ is) (all_fit ending bytes)
+  pub fits : (ending : Ending) (bytes : List ℕ) (answer : Played Last) (end : ReplayEnd) → played_of ending bytes ≡ answer → answer.end ≡ end → FitsWith leased end ending
+  fits ending bytes answer end same is = subst (λ e. FitsWith leased e ending) (ap (λ (a : Played Last). a.end) same ∙ is) (all_fit ending bytes)
 
   tells_unread : {taken : List ℕ} {at_end failed : Type 0} (answer : Played Last) → Tells played_of taken at_end failed (λ a. a ≡ answer) → answer.end ≡ ReadFault → failed
   tells_unread {taken} answer (Anyway always) is = absurd (fits Ended (taken ++ []) answer ReadFault (always Ended []) is)
@@ -41,6 +41,12 @@ module _ {Last : Type 0} (played_of : Rest Last) (all_fit : (ending : Ending) (b
   tells_unwritten {taken} answer (AtEnd ended same) is = fits Ended taken answer WriteFault same is
   tells_unwritten {taken} answer (AtFailure fails same) is = fits ReadFailed taken answer WriteFault same is
 
+  pub tells_leased : {taken : List ℕ} {at_end failed : Type 0} (answer : Played Last) (timeout limit lease : ℕ) → Tells played_of taken at_end failed (λ a. a ≡ answer)
+      → answer.end ≡ UnsafeLease timeout limit lease → leased
+  tells_leased {taken} answer timeout limit lease (Anyway always) is = fits Ended (taken ++ []) answer (UnsafeLease timeout limit lease) (always Ended []) is
+  tells_leased {taken} answer timeout limit lease (AtEnd ended same) is = fits Ended taken answer (UnsafeLease timeout limit lease) same is
+  tells_leased {taken} answer timeout limit lease (AtFailure fails same) is = fits ReadFailed taken answer (UnsafeLease timeout limit lease) same is
+
   tells_memory : {taken : List ℕ} {at_end failed : Type 0} (answer : Played Last) → Tells played_of taken at_end failed (λ a. a ≡ answer) → answer.end ≡ NoMemory → ⊥
   tells_memory {taken} answer (Anyway always) is = fits Ended (taken ++ []) answer NoMemory (always Ended []) is
   tells_memory {taken} answer (AtEnd ended same) is = fits Ended taken answer NoMemory same is
@@ -56,6 +62,12 @@ module _ {Last : Type 0} (played_of : Rest Last) (all_fit : (ending : Ending) (b
     ends_unwritten (WroteAll answer tells is whole stands) fault = absurd (tells_unwritten answer tells (sym is ∙ fault))
     ends_unwritten (Unwritten trace tells is fails front) fault = fails
     ends_unwritten (Wanted trace tells is whole why) fault = let never : NoMemory ≡ WriteFault = sym is ∙ fault in cc
+
+    ends_leased : {taken : List ℕ} {at_end failed : Type 0} (timeout limit lease : ℕ) → EndsAs played_of standing wanted taken at_end failed old new write_failed end
+        → end ≡ UnsafeLease timeout limit lease → leased
+    ends_leased timeout limit lease (WroteAll answer tells is whole stands) unsafe = tells_leased answer timeout limit lease tells (sym is ∙ unsafe)
+    ends_leased timeout limit lease (Unwritten trace tells is fails front) unsafe = let never : WriteFault ≡ UnsafeLease timeout limit lease = sym is ∙ unsafe in cc
+    ends_leased timeout limit lease (Wanted trace tells is whole why) unsafe = let never : NoMemory ≡ UnsafeLease timeout limit lease = sym is ∙ unsafe in cc
 
     ends_done : {taken : List ℕ} {at_end failed : Type 0} (events : ℕ) → EndsAs played_of standing wanted taken at_end failed old new write_failed end → end ≡ Done events
         → IsWhole played_of taken at_end old new end
@@ -83,6 +95,10 @@ module _ {Last : Type 0} (played_of : Rest Last) (all_fit : (ending : Ending) (b
       -- WriteFault comes only where a write failed
       pub run_unwritten : end ≡ WriteFault → write_failed
       run_unwritten fault = ends_unwritten run.ends fault
+
+      -- a lease is unsafe only where there is one
+      pub run_leased : (timeout limit lease : ℕ) → end ≡ UnsafeLease timeout limit lease → leased
+      run_leased timeout limit lease unsafe = ends_leased timeout limit lease run.ends unsafe
 
       -- why it ran out of memory
       pub run_wanted : end ≡ NoMemory → OutOfMemory played_of wanted left_old left_new old new

@@ -4,24 +4,44 @@ use Rattle.qn_base.specs.declared.limits.TheConstants.{MOST_EVENTS, MOST_LINE_BY
 use Rattle.qn_model.specs.declared.line_fault.LineFault.TheVariants.{TooLong, TooMany}
 use Rattle.qn_model.specs.Lines.{Ending, Ended, ReadFailed}
 use Rattle.qn_sched.specs.declared.replay_end.ReplayEnd.{ReplayEnd}
-use Rattle.qn_sched.specs.declared.replay_end.ReplayEnd.TheVariants.{Done, BadConf, BadSettings, BadSchedule, NotAllowed, ReadFault, WriteFault, UnsafeTiming, NoMemory}
-use Rattle.qn_play.specs.Lines.{Play, Taken, bad_line, end_at, end_of_input, last_line, line_of, played}
+use Rattle.qn_sched.specs.declared.replay_end.ReplayEnd.TheVariants.{Done, BadConf, BadSettings, BadSchedule, NotAllowed, ReadFault, WriteFault, UnsafeTiming, UnsafeLease, NoMemory}
+use Rattle.qn_play.specs.Lines.{Play, Taken, bad_line, end_of_input, last_line, line_of, played}
 use Rattle.qn_play.specs.Played.{Played, go_on, traced}
 
 -- an input that was read to its end gives no ReadFault, one of which a read failed is never Done, and no input tells of a
--- write or of memory
+-- write or of memory; a lease is unsafe only where `leased` holds
+abbrev pub FitsWith : Type 0 → ReplayEnd → Ending → Type 0
+FitsWith leased (Done events) Ended = Unit {0}
+FitsWith leased (Done events) ReadFailed = ⊥
+FitsWith leased ReadFault Ended = ⊥
+FitsWith leased ReadFault ReadFailed = Unit {0}
+FitsWith leased WriteFault ending = ⊥
+FitsWith leased NoMemory ending = ⊥
+FitsWith leased (BadConf fault) ending = Unit {0}
+FitsWith leased (BadSettings fault) ending = Unit {0}
+FitsWith leased (BadSchedule line fault) ending = Unit {0}
+FitsWith leased (NotAllowed line rule) ending = Unit {0}
+FitsWith leased (UnsafeTiming timing) ending = Unit {0}
+FitsWith leased (UnsafeLease timeout limit lease) ending = leased
+
+-- the same where there is no lease
 abbrev pub EndFits : ReplayEnd → Ending → Type 0
-EndFits (Done events) Ended = Unit {0}
-EndFits (Done events) ReadFailed = ⊥
-EndFits ReadFault Ended = ⊥
-EndFits ReadFault ReadFailed = Unit {0}
-EndFits WriteFault ending = ⊥
-EndFits NoMemory ending = ⊥
-EndFits (BadConf fault) ending = Unit {0}
-EndFits (BadSettings fault) ending = Unit {0}
-EndFits (BadSchedule line fault) ending = Unit {0}
-EndFits (NotAllowed line rule) ending = Unit {0}
-EndFits (UnsafeTiming timing) ending = Unit {0}
+EndFits end ending = FitsWith ⊥ end ending
+
+-- what fits without a lease fits beside one
+pub fits_beside : (leased : Type 0) (end : ReplayEnd) (ending : Ending) → EndFits end ending → FitsWith leased end ending
+fits_beside leased (Done events) Ended fits = tt
+fits_beside leased (Done events) ReadFailed never = absurd never
+fits_beside leased ReadFault Ended never = absurd never
+fits_beside leased ReadFault ReadFailed fits = tt
+fits_beside leased WriteFault ending never = absurd never
+fits_beside leased NoMemory ending never = absurd never
+fits_beside leased (BadConf fault) ending fits = tt
+fits_beside leased (BadSettings fault) ending fits = tt
+fits_beside leased (BadSchedule line fault) ending fits = tt
+fits_beside leased (NotAllowed line rule) ending fits = tt
+fits_beside leased (UnsafeTiming timing) ending fits = tt
+fits_beside leased (UnsafeLease timeout limit lease) ending never = absurd never
 
 -- the end of each line that a world refuses fits
 abbrev pub PlayFits : Play → Type 0

@@ -1,5 +1,5 @@
 -- Laws of worlds that take the lines of a schedule as events.
-use Rattle.std.proofs.Common.{◌≡◌, ◌+◌, ◌≤◌, ◌<◌, ◌*◌, ◌++◌, ℕ, true, List, [], ◌∷◌, Option, None, Some, Result, Ok, Err, IfErr, refl, sym, ap, ◌∙◌, subst, arith}
+use Rattle.std.proofs.Common.{◌≡◌, ◌+◌, ◌++◌, ℕ, true, List, [], ◌∷◌, Option, None, Some, Result, Ok, Err, IfErr, refl, sym, ap, ◌∙◌, arith}
 use Rattle.qn_model.specs.declared.configuration.Settings.{Settings}
 use Rattle.qn_model.specs.declared.line_fault.LineFault.{LineFault}
 use Rattle.qn_model.specs.declared.reports.Refused.{Refused}
@@ -13,7 +13,7 @@ use Rattle.qn_play.specs.Judging.{RefusesAt}
 use Rattle.qn_play.specs.Lines.{Taken}
 use Rattle.qn_sched.specs.declared.replay_end.ReplayEnd.{ReplayEnd}
 use Rattle.qn_sched.specs.declared.replay_end.ReplayEnd.TheVariants.{BadSchedule}
-use Rattle.qn_play.specs.Worlds.{AtFault, IsAfter, IsGoing, NotAllowedHere, OutOfMemory, Place, Progress, RefusesLine, TakesLine, WorldRules, adds, after_line, after_lines, allowed_in, at_start, event_play, event_text, event_wants, moved_on, or_bad_line, progress_at, refused_end, said_event, start_of, stepped, text_if, text_of, unless_refused, with_event}
+use Rattle.qn_play.specs.Worlds.{AtFault, IsAfter, IsGoing, NotAllowedHere, OutOfMemory, Place, Progress, RefusesLine, TakesLine, WorldRules, adds, after_line, after_lines, allowed_in, event_play, event_text, event_wants, moved_on, or_bad_line, progress_at, refused_end, said_event, start_of, stepped, text_if, text_of, unless_refused, with_event}
 
 abbrev refused_with : {Event : Type 0} → ReplayEnd → Result Event ReplayEnd
 refused_with end = Err end

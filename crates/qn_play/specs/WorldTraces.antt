@@ -1,11 +1,11 @@
 -- The trace of the lines that a world takes is that of a run of the world, whose events are each allowed in its turn.
-use Rattle.std.proofs.Common.{◌≡◌, ◌+◌, ℕ, Bool, true, List, [], ◌∷◌, ◌++◌, Option, None, Result, Ok, Err, length, refl, sym, ap, ◌∙◌, append_assoc, append-nil, arith}
+use Rattle.std.proofs.Common.{◌≡◌, ◌+◌, ℕ, Bool, true, List, [], ◌∷◌, ◌++◌, None, Result, Ok, Err, length, refl, sym, ap, ◌∙◌, append_assoc, append-nil, arith}
 use Rattle.qn_model.specs.declared.configuration.Settings.{Settings}
 use Rattle.qn_model.specs.declared.times.Timing.{Timing}
 use Rattle.qn_model.specs.Lines.{Ending}
 use Rattle.qn_model.specs.Settings.{ids}
 use Rattle.qn_sched.specs.declared.replay_end.ReplayEnd.{ReplayEnd}
-use Rattle.qn_play.specs.GoodLines.{GoodLine, good_line, line_of-ok, said_event-is}
+use Rattle.qn_play.specs.GoodLines.{good_line, line_of-ok, said_event-is}
 use Rattle.qn_play.specs.Lines.{Taken, line_of, played}
 use Rattle.qn_play.specs.Played.{Played, go_on, traced}
 use Rattle.qn_play.specs.Worlds.{Progress, WorldRules, after_line, after_lines, at_start, event_play, event_text, moved_on, said_event, text_of, with_event}

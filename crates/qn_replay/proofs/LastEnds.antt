@@ -5,23 +5,26 @@ use Rattle.qn_io.specs.declared.buffered.TheConstants.{PIECE}
 use Rattle.qn_io.specs.Outside.{prepend_known-append, prepend_known-nil}
 use Rattle.qn_model.specs.Inputs.{Tells, Anyway, AtEnd, AtFailure, tells_more}
 use Rattle.qn_model.specs.Lines.{Ended}
+use Rattle.qn_head.specs.HeadLaws.{head_open}
+use Rattle.qn_head.specs.ReplayLaws.{nothing_decides}
+use Rattle.qn_model.specs.World.{World}
 use Rattle.qn_play.specs.Lines.{Taken}
 use Rattle.qn_play.specs.Reading.{Anywhere, EndsWith, StillOpen, Stops, Told}
 use Rattle.qn_play.specs.Reading as reading
 use Rattle.qn_play.specs.RunLaws.{tells_all}
 use Rattle.qn_play.specs.Runs as runs
 use Rattle.qn_sched.specs.declared.replay_end.ReplayEnd.{ReplayEnd}
-use Rattle.qn_sched.specs.declared.replay_end.ReplayEnd.TheVariants.{Done, NoMemory, ReadFault, WriteFault}
+use Rattle.qn_sched.specs.declared.replay_end.ReplayEnd.TheVariants.{Done, BadConf, BadSettings, BadSchedule, NotAllowed, ReadFault, WriteFault, UnsafeTiming, UnsafeLease, NoMemory}
 use Rattle.qn_world.specs.Standing.{WorldFor}
 use Rattle.qn_world.specs.Whole.{Whole}
 use Rattle.qn_replay.specs.declared.playback.Playback.{Playback}
-use Rattle.qn_replay.specs.Playing.{IsAfter, progress_at, start_of}
-use Rattle.qn_replay.specs.Replay.{Progress, Replayed, ends, replay_of}
-use Rattle.qn_replay.specs.Runs.{GivesWorld, IsFault, Reaches, Unwritten, Wanted, WantsMemory, WroteAll, last_of}
-use Rattle.qn_play.specs.EndLaws.{fits, run_unwritten, tells_unwritten}
+use Rattle.qn_play.specs.EndLaws.{fits, run_leased, run_unwritten, tells_leased, tells_unwritten}
+use Rattle.qn_play.specs.Runs.{Unwritten, Wanted, WroteAll}
+use Rattle.qn_play.specs.Worlds.{Progress, progress_at}
 use Rattle.qn_replay.specs.Endings.{replay_fits}
-use Rattle.qn_replay.proofs.SameReplay.{place_of}
-use Rattle.qn_replay.proofs.Starts.{nothing_decides}
+use Rattle.qn_replay.specs.Playing.{HasPlayed, place_at}
+use Rattle.qn_replay.specs.Replay.{Replayed, ends, image_replay, replay_of}
+use Rattle.qn_replay.specs.Runs.{GivesWorld, IsFault, Reaches, WantsMemory, last_of}
 
 abbrev no_world : ReplayEnd → Result Whole ReplayEnd
 no_world end = Err end
@@ -37,7 +40,7 @@ reaches_nothing left failed = record {
   taken = [];
   waiting = [];
   takes = sym (prepend_known-nil left);
-  needed = StillOpen nothing_decides;
+  needed = StillOpen (nothing_decides image_replay head_open);
   within = omega arith;
   ends = inl refl;
 }
@@ -56,21 +59,21 @@ reaches_in_head {left} {left_new} pieces waiting end none fault within stop = re
 }
 
 -- where the world of a playback stands
-pub record IsPlaceOf (playback : Playback) (last : Option Progress) : Type 0 where
-  pub so_far : Progress
+pub record IsPlaceOf (playback : Playback) (last : Option (Progress World)) : Type 0 where
+  pub so_far : Progress World
   pub is : last ≡ Some so_far
   pub settings : playback.world.settings ≡ so_far.settings
   pub timing : playback.world.timing ≡ so_far.timing
   pub stands : WorldFor playback.world so_far.world
 
 -- it stands where its lines lead
-pub place_after : (start playback : Playback) (earlier : Taken) → IsAfter start playback earlier → IsPlaceOf playback (place_of (start_of start) earlier)
-place_after start playback earlier after = record {
-  so_far = progress_at playback after.world;
-  is = ap (λ (p : Progress). Some p) after.place;
+pub place_after : (start playback : Playback) (earlier : Taken) (played : HasPlayed start playback earlier) → IsPlaceOf playback (Some (progress_at (place_at playback) played.world))
+place_after start playback earlier played = record {
+  so_far = progress_at (place_at playback) played.world;
+  is = refl;
   settings = refl;
   timing = refl;
-  stands = after.stands;
+  stands = played.stands;
 }
 
 module _ (playback : Playback) where
@@ -85,8 +88,15 @@ module _ (playback : Playback) where
     timing = place.timing;
     stands = place.stands;
   }
-  gives played a WriteFault tells is place same = absurd (tells_unwritten replay_of replay_fits played tells (sym is))
-  gives played a _ tells is place same = (ap (λ (x : Replayed). x.end) same ∙ sym is, tt)
+  gives played a WriteFault tells is place same = absurd (tells_unwritten ⊥ replay_of replay_fits played tells (sym is))
+  gives played a (UnsafeLease timeout limit lease) tells is place same = absurd (tells_leased ⊥ replay_of replay_fits played timeout limit lease tells (sym is))
+  gives played a (BadConf fault) tells is place same = (ap (λ (x : Replayed). x.end) same ∙ sym is, tt)
+  gives played a (BadSettings fault) tells is place same = (ap (λ (x : Replayed). x.end) same ∙ sym is, tt)
+  gives played a (BadSchedule line fault) tells is place same = (ap (λ (x : Replayed). x.end) same ∙ sym is, tt)
+  gives played a (NotAllowed line rule) tells is place same = (ap (λ (x : Replayed). x.end) same ∙ sym is, tt)
+  gives played a ReadFault tells is place same = (ap (λ (x : Replayed). x.end) same ∙ sym is, tt)
+  gives played a (UnsafeTiming timing) tells is place same = (ap (λ (x : Replayed). x.end) same ∙ sym is, tt)
+  gives played a NoMemory tells is place same = (ap (λ (x : Replayed). x.end) same ∙ sym is, tt)
 
   run_gives : {taken : List ℕ} {at_end failed write_failed : Type 0} {old new : Option (List ℕ)} (end : ReplayEnd) → (write_failed → ⊥)
       → runs.EndsAs replay_of (IsPlaceOf playback) WantsMemory taken at_end failed old new write_failed end
@@ -111,13 +121,25 @@ module _ (playback : Playback) where
 -- a run of which nothing is written does not fail to write
 pub is_written : {left left_new old new : Option (List ℕ)} {failed write_failed : Type 0} {end : ReplayEnd} (playback : Playback) → (write_failed → ⊥)
     → runs.Runs replay_of (IsPlaceOf playback) WantsMemory left left_new failed old new write_failed end → end ≢ WriteFault
-is_written {end} playback wrote run is = wrote (run_unwritten replay_of replay_fits end _ _ run is)
+is_written {end} playback wrote run is = wrote (run_unwritten ⊥ replay_of replay_fits end _ _ run is)
+
+-- and judges no lease
+pub is_unleased : {left left_new old new : Option (List ℕ)} {failed write_failed : Type 0} {end : ReplayEnd} (playback : Playback)
+    → runs.Runs replay_of (IsPlaceOf playback) WantsMemory left left_new failed old new write_failed end → (timeout limit lease : ℕ) → end ≢ UnsafeLease timeout limit lease
+is_unleased {end = end} playback run timeout limit lease is = run_leased ⊥ replay_of replay_fits end _ _ run timeout limit lease is
 
 -- the end of a run is a fault where it gives no world
-pub out_fault : (world : Whole) (end : ReplayEnd) → end ≢ WriteFault → IfErr (last_of world end) IsFault
-out_fault world (Done events) written = tt
-out_fault world WriteFault written = absurd (written refl)
-out_fault world _ written = tt
+pub out_fault : (world : Whole) (end : ReplayEnd) → end ≢ WriteFault → ((timeout limit lease : ℕ) → end ≢ UnsafeLease timeout limit lease) → IfErr (last_of world end) IsFault
+out_fault world (Done events) written unleased = tt
+out_fault world (BadConf fault) written unleased = tt
+out_fault world (BadSettings fault) written unleased = tt
+out_fault world (BadSchedule line fault) written unleased = tt
+out_fault world (NotAllowed line rule) written unleased = tt
+out_fault world ReadFault written unleased = tt
+out_fault world WriteFault written unleased = absurd (written refl)
+out_fault world (UnsafeTiming timing) written unleased = tt
+out_fault world (UnsafeLease timeout limit lease) written unleased = absurd (unleased timeout limit lease refl)
+out_fault world NoMemory written unleased = tt
 
 -- where no read failed and it did not run out of memory, the world or the end is that of all that was there
 pub last_complete : (left_old left_new : Option (List ℕ)) (failed : Type 0) (result : Result Whole ReplayEnd) → Reaches left_old left_new failed result → (failed → ⊥) → (result ≡ Err NoMemory → ⊥)
@@ -130,8 +152,8 @@ last_complete (Some bytes) (Some rest) failed result run no_failure memory =
     elim run.ends [ inl wanted ↦ absurd (memory wanted) | inr tells ↦ tells_all (GivesWorld result) parts no_failure tells ]
 
 unread : {taken : List ℕ} {at_end failed : Type 0} → Tells replay_of taken at_end failed (GivesWorld (no_world ReadFault)) → failed
-unread {taken} (Anyway always) = absurd (fits replay_of replay_fits Ended (taken ++ []) (replay_of Ended (taken ++ [])) ReadFault refl (always Ended []).0)
-unread {taken} (AtEnd at_end holds) = absurd (fits replay_of replay_fits Ended taken (replay_of Ended taken) ReadFault refl holds.0)
+unread {taken} (Anyway always) = absurd (fits ⊥ replay_of replay_fits Ended (taken ++ []) (replay_of Ended (taken ++ [])) ReadFault refl (always Ended []).0)
+unread {taken} (AtEnd at_end holds) = absurd (fits ⊥ replay_of replay_fits Ended taken (replay_of Ended taken) ReadFault refl holds.0)
 unread (AtFailure fails holds) = fails
 
 -- ReadFault comes only where a read failed

@@ -1,4 +1,3 @@
-mod AfterHead
 mod Choices
 mod Clocks
 mod Forced
@@ -6,6 +5,5 @@ mod Judging
 mod LastEnds
 mod Playbacks
 mod RunTraces
-mod SameReplay
 mod SoakSteps
 mod Starts

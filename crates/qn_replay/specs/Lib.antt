@@ -2,7 +2,6 @@ pub mod Draws
 pub mod Endings
 pub mod Generator
 pub mod Playing
-pub mod Reading
 pub mod Replay
 pub mod RunTrace
 pub mod Runs

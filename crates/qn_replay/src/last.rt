@@ -13,8 +13,8 @@ use qn_world::World;
 use std::alloc::Global;
 
 /// The world after the last event of a schedule that is good to its end. Otherwise how its replay ends, which
-/// is never `Done` or `WriteFault`; `NoMemory` comes only where it ran out of memory. It reads as `replay` does,
-/// and writes nothing.
+/// is never `Done`, `WriteFault` or `UnsafeLease`; `NoMemory` comes only where it ran out of memory. It reads as
+/// `replay` does, and writes nothing.
 pub fn last_world<I: Source>(alloc: Global, input: &mut I) -> Result<World, ReplayEnd>
     ensures reaches { Reaches (I.left input.old) (I.left input.new)
         (HasRisen (I.faults input.old) (I.faults input.new)) result }

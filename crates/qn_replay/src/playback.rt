@@ -1,6 +1,6 @@
 //! A replay after its head, as a world that qn_play plays.
 use arrayvec::ArrayVec;
-use qn_base::{MOST_LINE_BYTES, Rank};
+use qn_base::{MOST_LINE_BYTES, NoMemory, Rank};
 use qn_head::Head;
 use qn_model::{Event, LineFault, Refused, Report};
 use qn_play::Plays;
@@ -20,27 +20,27 @@ pub(crate) struct Playback {
 }
 
 impl Playback {
-    ghost use Rattle.std.specs.Prelude.{◌≡◌, ◌<◌, ◌≤◌, ◌+◌, ◌^◌, true, OnOk, OnErr, IfOk, IfErr};
+    ghost use Rattle.std.specs.Prelude.{◌≡◌, ◌<◌, ◌≤◌, ◌+◌, ◌^◌, [], true, OnOk, OnErr, IfOk, IfErr};
     ghost use Rattle.qn_base.specs.declared.limits.TheConstants.{MOST_EVENTS};
+    ghost use Rattle.qn_head.specs.Replays.{start_after};
     ghost use Rattle.qn_model.specs.Settings.{IsValid};
     ghost use Rattle.qn_model.specs.Timing.{is_safe};
-    ghost use Rattle.qn_replay.specs.Playing.{Begins, IsGoing, RefusesLine, Stands, TakesLine, refused_end, report_text};
+    ghost use Rattle.qn_play.specs.Worlds.{IsGoing, refused_end};
+    ghost use Rattle.qn_replay.specs.Playing.{HasPlayed, Refuses, Takes, place_at, report_text, start_at};
+    ghost use Rattle.qn_replay.specs.Replay.{image_replay};
     ghost use Rattle.qn_replay.specs.Runs.{last_of};
 
     /// A replay whose head was read: nothing has happened.
-    pub(crate) fn new(alloc: Global, head: Head) -> Result<Playback, ReplayEnd>
+    pub(crate) fn new(alloc: Global, head: Head) -> Result<Playback, NoMemory>
         requires valid { IsValid head.settings }
         requires safe { is_safe head.timing ≡ true }
         requires few_lines { head.lines ≤ 4294967296 }
-        ensures begins { IfOk result Begins }
-        ensures settings { IfOk result (λ playback. playback.world.settings ≡ head.settings) }
-        ensures timing { IfOk result (λ playback. playback.world.timing ≡ head.timing) }
+        ensures begins { IfOk result (λ playback. HasPlayed playback playback []) }
+        ensures start { IfOk result
+            (λ playback. start_at playback ≡ start_after image_replay head) }
         ensures lines { IfOk result (λ playback. playback.head ≡ head.lines) }
-        ensures memory { IfErr result (λ end. end ≡ ReplayEnd.NoMemory) }
     {
-        let Ok(world) = World::new(alloc, head.settings, head.timing) else {
-            return Err(ReplayEnd::NoMemory);
-        };
+        let world = World::new(alloc, head.settings, head.timing)?;
         Ok(Playback {
             world,
             event: Event::Tick(Rank(0)),
@@ -59,13 +59,13 @@ impl Playback {
 
     /// Takes a line, without its end: its event happens, and is reported. Otherwise nothing does.
     fn happen(&mut self, line: &[u8]) -> Result<(), ReplayEnd>
-        requires going { IsGoing self.old }
+        requires going { IsGoing (place_at self.old) }
         requires few { self.old.events < MOST_EVENTS }
-        ensures event { OnOk result (Stands self.old (TakesLine self.old self.new line.now)) }
-        ensures end { IfErr result (λ end. Stands self.old (RefusesLine self.old line.now end)) }
+        ensures event { OnOk result (Takes self.old self.new line.now) }
+        ensures end { IfErr result (Refuses self.old line.now) }
         ensures kept { OnErr result (self.new.world ≡ self.old.world) }
-        ensures kept_head { self.new.head ≡ self.old.head }
         ensures kept_events { OnErr result (self.new.events ≡ self.old.events) }
+        ensures head { self.new.head ≡ self.old.head }
         ensures settings { self.new.world.settings ≡ self.old.world.settings }
         ensures timing { self.new.world.timing ≡ self.old.world.timing }
     {
@@ -81,7 +81,7 @@ impl Playback {
 
     /// The end at a fault of the next line.
     fn bad_line(&self, fault: LineFault) -> ReplayEnd
-        requires { IsGoing self.now }
+        requires { self.now.head + self.now.events < 2 ^ 33 }
         ensures { result ≡ ReplayEnd.BadSchedule (self.now.head + self.now.events + 1) fault }
     {
         ReplayEnd::BadSchedule {
@@ -124,13 +124,15 @@ impl Playback {
 }
 
 impl Plays for Playback {
-    ghost use Rattle.qn_replay.specs.Playing.{IsAfter, event_play, event_wants, start_of};
+    ghost use Rattle.qn_play.specs.Worlds.{event_play, event_wants};
+    ghost use Rattle.qn_replay.specs.Playing.{HasPlayed, start_at};
+    ghost use Rattle.qn_replay.specs.Replay.{image_rules};
 
-    ghost play = { λ playback. event_play (start_of playback) };
+    ghost play = { λ playback. event_play image_rules (start_at playback) };
 
-    ghost wants = { λ playback. event_wants (start_of playback) };
+    ghost wants = { λ playback. event_wants image_rules (start_at playback) };
 
-    ghost stands = { IsAfter };
+    ghost stands = { HasPlayed };
 
     fn take(
         &mut self,

@@ -49,7 +49,7 @@ pub fn law_texts()
 {}
 
 /// An input that was read to its end gives no ReadFault, and one of which a read failed is never Done. No
-/// input gives WriteFault or NoMemory.
+/// input gives WriteFault, NoMemory or UnsafeLease.
 pub fn law_ending()
     ensures { ReplayFits }
 {}

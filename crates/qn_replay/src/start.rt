@@ -2,8 +2,8 @@
 ghost use Rattle.std.specs.Prelude.{◌≡◌, ◌≤◌, [], length, None, IfOk, IfErr};
 ghost use Rattle.std.specs.Io.KnownBytes.{IsAtEnd, prepend_known};
 ghost use Rattle.qn_io.specs.Outside.{HasRisen};
-ghost use Rattle.qn_replay.specs.Playing.{Begins, start_of};
-ghost use Rattle.qn_replay.specs.Reading.{Anywhere, GoesOn, Stops, event_rest};
+ghost use Rattle.qn_play.specs.Reading.{Anywhere, Stops};
+ghost use Rattle.qn_replay.specs.Playing.{Begins};
 ghost use Rattle.qn_replay.specs.Replay.{replay_of};
 ghost use Rattle.qn_replay.specs.Runs.{IsFault};
 
@@ -19,11 +19,10 @@ pub(crate) fn start<I: Source>(
     pieces: &mut Pieces,
     input: &mut I,
 ) -> Result<Playback, ReplayEnd>
-    ensures begins { IfOk result Begins }
-    ensures fault { IfErr result IsFault }
-    ensures head { IfOk result (λ playback. GoesOn replay_of (event_rest (start_of playback))
+    ensures begins { IfOk result (Begins
         (prepend_known pieces.old (I.left input.old))
         (prepend_known pieces.new (I.left input.new))) }
+    ensures fault { IfErr result IsFault }
     ensures end { IfErr result (Stops replay_of None Anywhere
         (prepend_known pieces.old (I.left input.old)) (prepend_known pieces.new (I.left input.new))
         ((pieces.new ≡ []) × IsAtEnd (I.left input.new))
@@ -32,5 +31,8 @@ pub(crate) fn start<I: Source>(
     ensures never_falls { I.faults input.old ≤ I.faults input.new }
 {
     let head = read_head(alloc, pieces, input)?;
-    Playback::new(alloc, head)
+    let Ok(playback) = Playback::new(alloc, head) else {
+        return Err(ReplayEnd::NoMemory);
+    };
+    Ok(playback)
 }

@@ -1,39 +1,20 @@
 -- What the record of a command says of the exit status, whatever the command is.
-use Rattle.std.proofs.Common.{◌≡◌, ◌≢◌, ◌==◌, ◌⊎◌, inl, inr, ℕ, Bool, false, true, cond, List, [], ◌∷◌, Option, None, Some, refl, sym, ◌∙◌, subst, arith}
-use Rattle.std.proofs.lemmas.Bool.{eqb-false, false≢true}
+use Rattle.std.proofs.Common.{◌≡◌, ◌≢◌, ◌⊎◌, ℕ, false, true, List, [], ◌∷◌, Option, None, Some, refl, sym, subst, arith}
+use Rattle.std.proofs.lemmas.Bool.{false≢true}
 use Rattle.qn_commands.specs.Endings.{Cut, Says, Whole}
 use Rattle.qn_commands.specs.Seen.{Output, Seen}
 use Rattle.qn_commands.specs.declared.status.Status.{Status}
 use Rattle.qn_commands.specs.declared.status.Status.TheVariants.{Done, Usage, BadConf, BadSchedule, NotAllowed, ReadFault, WriteFault, EnvFault, BadImage, UnsafeTiming, UnsafeLease, NoMemory, ClockBack, SelfReset, BootHalted, DeadlyThere, UnknownNode, NotARun}
-use Rattle.qn_commands.specs.Statuses.{HasCauses, IsOneOf, code_of}
+use Rattle.qn_commands.specs.Statuses.{HasCauses}
 use Rattle.qn_top.specs.declared.command.Command.{Command}
 use Rattle.qn_top.specs.declared.command.Command.TheVariants as command
 use Rattle.qn_top.specs.Does.{Does, takes_memory}
 use Rattle.qn_top.specs.Runs.{Runs, ShowsOneHolder}
+use Rattle.qn_top.proofs.StatusLists.{lacks}
 
 says_other : {text : List ℕ} {first last : Output} {status : ℕ} → Says text 10 first last status → status ≢ 11
 says_other (Whole is whole) eleven = omega arith
 says_other (Cut is fails prefix) eleven = omega arith
-
--- whether a code is that of one of these statuses
-abbrev has : ℕ → List Status → Bool
-has code [] = false
-has code (status ∷ others) = cond (code_of status == code) true (has code others)
-
-other_code : (code : ℕ) (own : ℕ) (rest : Bool) → cond (own == code) true rest ≡ false → (own ≢ code) × (rest ≡ false)
-other_code code own rest lacks = of_test (own == code) refl lacks
-  where
-    of_test : (test : Bool) → (own == code) ≡ test → cond test true rest ≡ false → (own ≢ code) × (rest ≡ false)
-    of_test true is never = absurd (false≢true (sym never))
-    of_test false is lacking = (eqb-false own code is, lacking)
-
--- a status that is one of these has none of the other codes
-lacks : (code : ℕ) (statuses : List Status) (status : ℕ) → has code statuses ≡ false → IsOneOf statuses status → status ≢ code
-lacks code [] status other never same = never
-lacks code (own ∷ []) status other is same = (other_code code (code_of own) false other).0 (sym is ∙ same)
-lacks code (own ∷ next ∷ others) status other (inl is) same = (other_code code (code_of own) (has code (next ∷ others)) other).0 (sym is ∙ same)
-lacks code (own ∷ next ∷ others) status other (inr is) same =
-    lacks code (next ∷ others) status (other_code code (code_of own) (has code (next ∷ others)) other).1 is same
 
 -- the statuses of the commands, and of words that are none
 abbrev statuses_of : Option Command → List Status

@@ -5,7 +5,8 @@ use Rattle.qn_model.specs.Lines.{Ended, ReadFailed, Outcome}
 use Rattle.qn_model.specs.World.{World}
 use Rattle.qn_play.specs.Reading as reading
 use Rattle.qn_replay.specs.Endings.{EndFits, ReplayFits}
-use Rattle.qn_replay.specs.Replay.{Progress, Replayed, replay_of}
+use Rattle.qn_play.specs.Worlds.{Progress}
+use Rattle.qn_replay.specs.Replay.{Replayed, replay_of}
 use Rattle.qn_replay.specs.Runs.{GivesWorld, IsFault, IsLast, Reaches}
 use Rattle.qn_sched.specs.declared.replay_end.ReplayEnd.{ReplayEnd}
 use Rattle.qn_sched.specs.declared.replay_end.ReplayEnd.TheVariants as end
@@ -47,11 +48,11 @@ world_answer : (form : Form) (taken : List ℕ) (world : WorldKept) (last : IsLa
     → status_answer form Ended taken ≡ record { text = status_in form world.settings last.so_far.world; status = 0 }
 world_answer form taken world last =
     ap (λ (e : ReplayEnd). status_behind form e (replay_of Ended taken).last) last.ends
-    ∙ ap (λ (l : Option Progress). status_behind form (end.Done last.events) l) last.last
+    ∙ ap (λ (l : Option (Progress World)). status_behind form (end.Done last.events) l) last.last
     ∙ ap (λ s. record { text = status_in form s last.so_far.world; status = 0 }) (sym last.settings)
 
 -- a fault is answered by its line alone
-fault_alone : (form : Form) (ended : ReplayEnd) (last : Option Progress) → IsFault ended → status_behind form ended last ≡ end_outcome ended
+fault_alone : (form : Form) (ended : ReplayEnd) (last : Option (Progress World)) → IsFault ended → status_behind form ended last ≡ end_outcome ended
 fault_alone form (end.Done events) last never = absurd never
 fault_alone form (end.BadConf fault) last is = refl
 fault_alone form (end.BadSettings fault) last is = refl
@@ -60,6 +61,7 @@ fault_alone form (end.NotAllowed line rule) last is = refl
 fault_alone form end.ReadFault last is = refl
 fault_alone form end.WriteFault last never = absurd never
 fault_alone form (end.UnsafeTiming timing) last is = refl
+fault_alone form (end.UnsafeLease timeout limit lease) last never = absurd never
 fault_alone form end.NoMemory last is = refl
 
 same_fault : (form : Form) (ended : ReplayEnd) (answer : Replayed) → GivesWorld (Err ended) answer

@@ -8,7 +8,8 @@ use Rattle.qn_model.specs.Lines.{Ended, Ending, Outcome, after}
 use Rattle.qn_play.specs.Reading.{Rest}
 use Rattle.qn_sched.specs.declared.replay_end.ReplayEnd.{ReplayEnd}
 use Rattle.qn_commands.specs.declared.fault.Fault.TheVariants as fault
-use Rattle.qn_commands.specs.declared.status.Status.TheVariants.{Done, BadConf, BadSchedule, NotAllowed, ReadFault, WriteFault, UnsafeTiming, NoMemory}
+use Rattle.qn_commands.specs.declared.status.Status.{Status}
+use Rattle.qn_commands.specs.declared.status.Status.TheVariants.{Done, BadConf, BadSchedule, NotAllowed, ReadFault, WriteFault, UnsafeTiming, UnsafeLease, NoMemory}
 use Rattle.qn_commands.specs.Endings.{AnswersWhole, Refuses}
 use Rattle.qn_commands.specs.Reads.{Completes, EndsAs, IsCutOff, IsNeeded, IsOver}
 use Rattle.qn_commands.specs.Seen.{Output, ReadFails, Seen, WriteFails}
@@ -45,17 +46,26 @@ pub record RunsTrace {Last : Type 0} (played_of : Rest Last) (wanted : List ℕ 
   pub ends : TraceEnds played_of wanted taken (IsOver waiting later.input) (IsCutOff waiting before.input later.input)
       before.output later.output status
 
--- The trace and its last line were written: of the whole input where nothing failed and memory sufficed, and at status 0.
-pub record WritesTrace {Last : Type 0} (played_of : Rest Last) (wanted : List ℕ → List ℕ → Type 0) (before later : Seen)
-    (status : ℕ) : Type 0 where
+-- The trace and its last line were written: of the whole input where nothing failed and memory sufficed, and at status 0. The status is
+-- one of these.
+pub record WritesTrace {Last : Type 0} (played_of : Rest Last) (wanted : List ℕ → List ℕ → Type 0) (allowed : List Status)
+    (before later : Seen) (status : ℕ) : Type 0 where
   pub ran : RunsTrace played_of wanted before later status
   pub complete : status ≢ 11 → ¬ ReadFails before.input later.input
       → ¬ WriteFails before.output later.output → IfSome before.input.left
       (λ bytes. AnswersWhole (trace_text played_of Ended bytes) before.output later.output status)
   pub done : status ≡ 0 → Completes (trace_text played_of) before later
-  pub statuses : IsOneOf (Done ∷ BadConf ∷ BadSchedule ∷ NotAllowed ∷ ReadFault ∷ WriteFault
-      ∷ UnsafeTiming ∷ NoMemory ∷ []) status
+  pub statuses : IsOneOf allowed status
   pub causes : HasCauses before later status
+
+-- the statuses of a replay
+abbrev pub replay_statuses : List Status
+replay_statuses = Done ∷ BadConf ∷ BadSchedule ∷ NotAllowed ∷ ReadFault ∷ WriteFault ∷ UnsafeTiming ∷ NoMemory ∷ []
+
+-- those of a replay that judges a lease
+abbrev pub lease_statuses : List Status
+lease_statuses =
+    Done ∷ BadConf ∷ BadSchedule ∷ NotAllowed ∷ ReadFault ∷ WriteFault ∷ UnsafeTiming ∷ NoMemory ∷ UnsafeLease ∷ []
 
 -- What was written is a prefix of the trace of a run, and of a last line after it.
 pub record ShowsTrace (is_run : List ℕ → Type 0) (old new : Option (List ℕ)) : Type 0 where

@@ -26,6 +26,18 @@ pub(crate) fn finish_replay<O: Sink>(out: &mut O, end: ReplayEnd) -> Status
         ReplayEnd::ReadFault => refuse(out, Fault::ReadFault),
         ReplayEnd::WriteFault => unreachable!(),
         ReplayEnd::UnsafeTiming(timing) => refuse(out, Fault::UnsafeTiming(timing)),
+        ReplayEnd::UnsafeLease {
+            timeout,
+            limit,
+            lease,
+        } => refuse(
+            out,
+            Fault::UnsafeLease {
+                timeout,
+                limit,
+                lease,
+            },
+        ),
         ReplayEnd::NoMemory => refuse(out, Fault::NoMemory),
     }
 }

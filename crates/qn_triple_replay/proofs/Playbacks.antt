@@ -1,6 +1,7 @@
 -- The numbers of a playback of three images, its world, and the lines that it takes.
 use Rattle.std.proofs.Common.{◌≡◌, ◌+◌, ◌<◌, ◌≤◌, ℕ, true, Option, sym, ap, ◌∙◌, subst, arith}
 use Rattle.qn_head.specs.declared.head.Head.{Head}
+use Rattle.qn_head.specs.Replays.{start_after}
 use Rattle.qn_model.specs.declared.configuration.Settings.{Settings}
 use Rattle.qn_model.specs.declared.reports.Refused.{Refused}
 use Rattle.qn_model.specs.declared.reports.Refused.TheVariants as refused
@@ -18,7 +19,7 @@ use Rattle.qn_triple.specs.Stepping.{RefusedBy}
 use Rattle.qn_triple.specs.Whole.{Whole}
 use Rattle.qn_triple_replay.specs.declared.playback.Playback.{Playback}
 use Rattle.qn_triple_replay.specs.Playing.{HasPlayed, place_at}
-use Rattle.qn_triple_replay.specs.Replay.{start_after, triple_rules}
+use Rattle.qn_triple_replay.specs.Replay.{triple_replay, triple_rules}
 use Rattle.qn_triple_replay.proofs.TripleTimes.{triple_time-step}
 
 -- a playback begins early
@@ -64,7 +65,7 @@ stays start old new earlier same_world same_head same_events after =
 
 -- a playback starts after its head
 pub start_is : (playback : Playback) (head : Head) → playback.world.settings ≡ head.settings → playback.world.timing ≡ head.timing → playback.head ≡ head.lines
-    → start_of triple_rules (place_at playback) ≡ start_after head
+    → start_of triple_rules (place_at playback) ≡ start_after triple_replay head
 start_is playback head settings timing lines =
     ap (λ (s : Settings). at_start triple_rules s playback.world.timing playback.head) settings
     ∙ ap (λ (t : Timing). at_start triple_rules head.settings t playback.head) timing

@@ -6,6 +6,7 @@ use Rattle.qn_head.specs.declared.head.Head.{Head}
 use Rattle.qn_head.specs.Heads.{head_part}
 use Rattle.qn_head.specs.HeadLaws.{IsGood, TreesAreValid, head_good}
 use Rattle.qn_head.specs.Parts.{Given}
+use Rattle.qn_head.specs.Replays.{after_head}
 use Rattle.qn_model.specs.declared.configuration.Settings.{Settings}
 use Rattle.qn_model.specs.declared.times.Timing.{Timing}
 use Rattle.qn_model.specs.Lines.{Ending}
@@ -21,7 +22,7 @@ use Rattle.qn_safety.specs.TripleSteps.{AllAllowedTriple, report_triple, run_tri
 use Rattle.qn_safety.specs.TripleWorld.{TripleWorld}
 use Rattle.qn_sched.specs.TraceLines.{trace_line}
 use Rattle.qn_triple.specs.TripleReading.{triple_event_of}
-use Rattle.qn_triple_replay.specs.Replay.{after_head, replay3_of, triple_rules}
+use Rattle.qn_triple_replay.specs.Replay.{replay3_of, triple_replay, triple_rules}
 use Rattle.qn_triple_replay.specs.RunTrace.{Empty, IsRunTrace, Lines, trace_of}
 
 -- what the crates below say of a tree, of the event of a line, and of the holders after events
@@ -71,7 +72,7 @@ reports_one laws s t events safe all later event earlier i j is first second =
 
 -- ---- the trace of each replay
 
-given_traces : Laws → (ending : Ending) (given : Given Head) → IfOk given (λ g. IsGood g.0) → IsRunTrace (go_on None given (λ g. after_head g.0 ending g.1)).trace
+given_traces : Laws → (ending : Ending) (given : Given Head) → IfOk given (λ g. IsGood g.0) → IsRunTrace (go_on None given (λ g. after_head triple_replay g.0 ending g.1)).trace
 given_traces laws ending (Ok given) good =
     let s = given.0.settings in
     let t = given.0.timing in

@@ -1,13 +1,12 @@
 -- What a replay of three images answers for its whole input: this project's profile.
-use Rattle.std.specs.Prelude.{ℕ, List, [], Option, None, Some}
+use Rattle.std.specs.Prelude.{ℕ, List, Option}
 use Rattle.qn_head.specs.declared.head.Head.{Head}
 use Rattle.qn_head.specs.Heads.{head_part}
-use Rattle.qn_head.specs.PartLaws.{after_part}
+use Rattle.qn_head.specs.Replays.{ReplayKind, answer_of}
 use Rattle.qn_model.specs.Lines.{Ending}
 use Rattle.qn_model.specs.Settings.{ids}
-use Rattle.qn_play.specs.Lines.{Taken, played}
-use Rattle.qn_play.specs.Played.{Played, standing_at}
-use Rattle.qn_play.specs.Worlds.{Progress, WorldRules, after_lines, at_start, event_play}
+use Rattle.qn_play.specs.Played.{Played}
+use Rattle.qn_play.specs.Worlds.{Progress, WorldRules}
 use Rattle.qn_safety.specs.declared.triple_event.TripleEvent.{TripleEvent}
 use Rattle.qn_safety.specs.TripleRules.{refusal_triple}
 use Rattle.qn_safety.specs.TripleSteps.{report_triple, step_triple}
@@ -28,23 +27,17 @@ triple_rules =
       needs_memory = needs_memory;
     }
 
--- the trace that a replay writes, how it ends, and where it stood after its last good line, or none within the head
-abbrev pub Replayed : Type 0
-Replayed = Played (Option (Progress TripleWorld))
-
--- after a head nothing has happened
-abbrev pub start_after : Head → Progress TripleWorld
-start_after head = at_start triple_rules head.settings head.timing head.lines
-
--- where a replay stands after these lines, newest first
-abbrev pub stood_after : Progress TripleWorld → Taken → Option (Progress TripleWorld)
-stood_after start earlier = Some (after_lines triple_rules start earlier)
-
--- a run of the lines after a head
-abbrev pub after_head : Head → Ending → List (List ℕ) → Replayed
-after_head head ending lines =
-    standing_at (stood_after (start_after head)) (played (event_play triple_rules (start_after head)) head.lines [] ending lines)
+-- the replay of a schedule of three images
+abbrev pub triple_replay : ReplayKind Head TripleWorld TripleEvent
+triple_replay =
+    record {
+      head_part = head_part;
+      settings = λ head. head.settings;
+      timing = λ head. head.timing;
+      lines = λ head. head.lines;
+      rules = λ head. triple_rules;
+    }
 
 -- what a replay answers for the bytes that were read and the way in which the input ended
-abbrev pub replay3_of : Ending → List ℕ → Replayed
-replay3_of ending bytes = after_part None head_part after_head ending bytes
+abbrev pub replay3_of : Ending → List ℕ → Played (Option (Progress TripleWorld))
+replay3_of ending bytes = answer_of triple_replay ending bytes

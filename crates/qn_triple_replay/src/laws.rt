@@ -7,7 +7,7 @@ use qn_settings::law_valid_settings;
 use qn_triple::law_triple_lines;
 
 /// An input that was read to its end gives no ReadFault, and one of which a read failed is never Done. No
-/// input gives WriteFault or NoMemory.
+/// input gives WriteFault, NoMemory or UnsafeLease.
 pub fn law_triple_ending()
     ensures { Replay3Fits }
 {}

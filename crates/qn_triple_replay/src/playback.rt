@@ -21,11 +21,12 @@ pub(crate) struct Playback {
 impl Playback {
     ghost use Rattle.std.specs.Prelude.{◌≡◌, ◌<◌, ◌≤◌, ◌+◌, ◌^◌, [], true, OnOk, OnErr, IfOk, IfErr};
     ghost use Rattle.qn_base.specs.declared.limits.TheConstants.{MOST_EVENTS};
+    ghost use Rattle.qn_head.specs.Replays.{start_after};
     ghost use Rattle.qn_model.specs.Settings.{IsValid};
     ghost use Rattle.qn_model.specs.Timing.{is_safe};
     ghost use Rattle.qn_play.specs.Worlds.{IsGoing, refused_end, start_of};
     ghost use Rattle.qn_triple_replay.specs.Playing.{HasPlayed, Refuses, Takes, place_at, report_text};
-    ghost use Rattle.qn_triple_replay.specs.Replay.{start_after, triple_rules};
+    ghost use Rattle.qn_triple_replay.specs.Replay.{triple_replay, triple_rules};
 
     /// A replay whose head was read: nothing has happened.
     pub(crate) fn new(alloc: Global, head: Head) -> Result<Playback, NoMemory>
@@ -34,7 +35,8 @@ impl Playback {
         requires few_lines { head.lines ≤ 4294967296 }
         ensures begins { IfOk result (λ playback. HasPlayed playback playback []) }
         ensures start { IfOk result
-            (λ playback. start_of triple_rules (place_at playback) ≡ start_after head) }
+            (λ playback. start_of triple_rules (place_at playback)
+            ≡ start_after triple_replay head) }
     {
         let world = TripleWorld::new(alloc, head.settings, head.timing)?;
         Ok(Playback {

@@ -1,5 +1,5 @@
 //! The public call of a replay of three images: the head, the events and the end.
-ghost use Rattle.std.specs.Prelude.{◌≡◌, ◌≢◌, ◌≤◌, IfSome};
+ghost use Rattle.std.specs.Prelude.{◌≡◌, ◌≢◌, ◌≤◌, ℕ, IfSome};
 ghost use Rattle.qn_io.specs.Outside.{HasRisen};
 ghost use Rattle.qn_model.specs.Lines.{Ended};
 ghost use Rattle.qn_triple_replay.specs.Replay.{replay3_of};
@@ -37,6 +37,10 @@ pub fn replay3<I: Source, O: Sink>(alloc: Global, input: &mut I, out: &mut O) ->
     // Out of memory.
     ensures memory { result ≡ ReplayEnd.NoMemory
         → Wants (I.left input.old) (I.left input.new) (O.written out.old) (O.written out.new) }
+
+    // No lease is judged.
+    ensures no_lease { (timeout limit lease : ℕ)
+        → result ≢ ReplayEnd.UnsafeLease timeout limit lease }
 
     // The faults of the outside.
     ensures read_fault { result ≡ ReplayEnd.ReadFault

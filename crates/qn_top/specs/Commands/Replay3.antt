@@ -4,12 +4,12 @@ use Rattle.qn_commands.specs.Seen.{Seen}
 use Rattle.qn_triple_replay.specs.Replay.{replay3_of}
 use Rattle.qn_triple_replay.specs.RunTrace.{IsRunTrace}
 use Rattle.qn_triple_replay.specs.Runs.{WantsMemory}
-use Rattle.qn_top.specs.Traces.{ShowsTrace, WritesTrace}
+use Rattle.qn_top.specs.Traces.{ShowsTrace, WritesTrace, replay_statuses}
 
 -- The trace and its last line were written. It runs out of memory before any of it, or at an event that adds a packet or a
 -- leftover to the world.
 abbrev pub Replays3 : Seen → Seen → ℕ → Type 0
-Replays3 = WritesTrace replay3_of WantsMemory
+Replays3 = WritesTrace replay3_of WantsMemory replay_statuses
 
 -- What was written is a prefix of lines of a run of the world of three images, in which each event was allowed and each line
 -- names one holder at most, and of a last line after them.

@@ -5,7 +5,8 @@ use Rattle.qn_io.specs.declared.buffered.TheConstants.{PIECE}
 use Rattle.qn_model.specs.declared.configuration.Settings.{Settings}
 use Rattle.qn_model.specs.Lines.{Ended, Ending, Outcome}
 use Rattle.qn_model.specs.World.{World}
-use Rattle.qn_replay.specs.Replay.{Progress, replay_of}
+use Rattle.qn_play.specs.Worlds.{Progress}
+use Rattle.qn_replay.specs.Replay.{replay_of}
 use Rattle.qn_sched.specs.declared.replay_end.ReplayEnd.{ReplayEnd}
 use Rattle.qn_sched.specs.declared.replay_end.ReplayEnd.TheVariants as end
 use Rattle.qn_status.specs.StatusJson.{status_json}
@@ -26,7 +27,7 @@ status_in Text s w = status_text s w
 status_in Json s w = status_json s w
 
 -- the status after a schedule that is good to its end, or else the fault line alone
-abbrev pub status_behind : Form → ReplayEnd → Option Progress → Outcome
+abbrev pub status_behind : Form → ReplayEnd → Option (Progress World) → Outcome
 status_behind form (end.Done events) (Some last) = record { text = status_in form last.settings last.world; status = 0 }
 status_behind form end last = end_outcome end
 

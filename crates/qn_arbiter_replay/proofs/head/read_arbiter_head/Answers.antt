@@ -2,7 +2,7 @@ use Rattle.std.proofs.Common.{arith, refl, sym}
 use Rattle.std.proofs.lemmas.Result.{err_from_is_err_and}
 use Rattle.qn_head.specs.PartLaws.{refuses_wider}
 use Rattle.qn_play.specs.Steps.{risen_within}
-use Rattle.qn_arbiter_replay.proofs.HeadSteps.{gives_lease, refuses_head, refuses_lease, refuses_line}
+use Rattle.qn_arbiter_replay.proofs.HeadSteps.{gives_lease, lease_is_safe, refuses_head, refuses_lease, refuses_line}
 use Rattle.qn_arbiter_replay.proofs.head.read_arbiter_head.Goals as goal
 
 pub returns-in_err-head-clause-end : goal.returns-in_err-head-clause-end
@@ -28,3 +28,6 @@ returns-in_err-lease-clause-end g c =
 pub returns-clause-head : goal.returns-clause-head
 returns-clause-head g c =
     gives_lease c.in_ok-head.head c.in_ok-head.ensures.head c.read_head_line.new.line.items c.in_ok-read_head_line.ensures.line c.as_slice.result.now _ c.in_ok-lease.lease c.as_slice.ensures.value (sym c.in_ok-lease.ensures) refl
+
+pub returns-clause-safe_lease : goal.returns-clause-safe_lease
+returns-clause-safe_lease g c = lease_is_safe _ c.in_ok-head.head.settings c.as_slice.result.now c.in_ok-lease.lease (sym c.in_ok-lease.ensures)

@@ -7,9 +7,8 @@ use Rattle.qn_sched.specs.declared.replay_end.ReplayEnd.{ReplayEnd}
 use Rattle.qn_world.specs.Whole.{Whole}
 use Rattle.qn_replay.specs.Replay.{replay_of}
 use Rattle.qn_replay.specs.Runs.{IsFault, Reaches, WantsMemory}
-use Rattle.qn_replay.proofs.AfterHead.{replay_run}
-use Rattle.qn_replay.proofs.LastEnds.{IsPlaceOf, is_written, out_fault, place_after, reaches_in_head, reaches_nothing, reaches_out}
-use Rattle.qn_replay.proofs.Playbacks.{begins_after}
+use Rattle.qn_replay.proofs.LastEnds.{IsPlaceOf, is_unleased, is_written, out_fault, place_after, reaches_in_head, reaches_nothing, reaches_out}
+use Rattle.qn_replay.proofs.Starts.{replay_run}
 use Rattle.qn_replay.proofs.last.run_silent.Given.{Over}
 use Rattle.qn_replay.proofs.last.run_silent.Goals as goal
 
@@ -27,13 +26,13 @@ returns-in_err-playback-clause-reaches g c =
     (reaches_in_head c.new-pieces.result c.start.new.pieces c.in_err-playback.field-0.0 c.new-pieces.ensures c.in_err-playback.ensures.fault c.start.ensures.within c.in_err-playback.ensures.end)
 
 pub play-end-requires-clause-stands : goal.play-end-requires-clause-stands
-play-end-requires-clause-stands g c = begins_after c.in_ok-playback.playback c.in_ok-playback.ensures.begins
+play-end-requires-clause-stands g c = c.in_ok-playback.ensures.begins.begins
 
 run_of : (g : Over) (c : goal.After-last g)
     → Runs replay_of (IsPlaceOf c.play-end.new.world) WantsMemory (g.I.Source.left c.args.input.now) (g.I.Source.left c.play-end.new.input)
     (HasRisen (g.I.Source.faults c.args.input.now) (g.I.Source.faults c.play-end.new.input)) None None (HasRisen 0 0) c.play-end.result
 run_of g c =
-    replay_run c.in_ok-playback.playback c.play-end.new.world c.new-pieces.result c.head-head.result c.new-pieces.ensures c.head-head.ensures c.in_ok-playback.ensures.head
+    replay_run c.in_ok-playback.playback c.play-end.new.world c.new-pieces.result c.head-head.result c.new-pieces.ensures c.head-head.ensures c.in_ok-playback.ensures.begins
     (place_after c.in_ok-playback.playback c.play-end.new.world)
     (λ rose. risen_within _ _ _ _ c.start.ensures.never_falls c.play-end.ensures.source_faults (omega arith) rose) c.play-end.ensures.runs
 
@@ -45,4 +44,4 @@ returns-clause-reaches g c =
 pub returns-clause-fault : goal.returns-clause-fault
 returns-clause-fault g c =
     subst (λ (r : Result Whole ReplayEnd). IfErr r IsFault) (sym c.last.ensures)
-    (out_fault c.play-end.new.world.world c.play-end.result (is_written c.play-end.new.world never_risen (run_of g c)))
+    (out_fault c.play-end.new.world.world c.play-end.result (is_written c.play-end.new.world never_risen (run_of g c)) (is_unleased c.play-end.new.world (run_of g c)))

@@ -14,7 +14,8 @@ use Rattle.qn_sched.specs.TimingLine.{time_of, times_of, times_of_words, timing_
 use Rattle.qn_sched.specs.EventNames.{event_name}
 use Rattle.qn_sched.specs.EventReading.{event_of, event_of_words}
 use Rattle.qn_head.specs.Heads.{last_line, last_of_text, within_bound}
-use Rattle.qn_replay.specs.Replay.{event_in, last_event}
+use Rattle.qn_play.specs.Lines.{last_line as last_event, line_of}
+use Rattle.qn_play.specs.Worlds.{after_lines}
 use Rattle.qn_replay.proofs.rows.law_heads.Goals as goal
 
 pub returns-clause-good : goal.returns-clause-good
@@ -22,7 +23,7 @@ unfolding lib.Utf8.encode chars is_utf8 settings_in settings_of_text conf_of mea
 returns-clause-good c = refl
 
 pub returns-clause-event : goal.returns-clause-event
-unfolding event_in event_of event_of_words event_name lib.Utf8.encode chars is_utf8 settings_in settings_of_text conf_of meaning_of trim is_name section_of pair_of fault_of settings_of entries_of key_in number_in last_of_text last_line within_bound last_event safe_timing_in timing_of timing_of_words times_of_words times_of time_of number_between
+unfolding line_of after_lines event_of event_of_words event_name lib.Utf8.encode chars is_utf8 settings_in settings_of_text conf_of meaning_of trim is_name section_of pair_of fault_of settings_of entries_of key_in number_in last_of_text last_line within_bound last_event safe_timing_in timing_of timing_of_words times_of_words times_of time_of number_between
 returns-clause-event c = refl
 
 pub returns-clause-no_timing : goal.returns-clause-no_timing

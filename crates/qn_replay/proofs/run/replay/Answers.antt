@@ -1,5 +1,5 @@
 use Rattle.qn_play.specs.RunLaws.{runs_complete}
-use Rattle.qn_play.specs.EndLaws.{run_done, run_wanted, run_unread, run_unwritten}
+use Rattle.qn_play.specs.EndLaws.{run_done, run_leased, run_wanted, run_unread, run_unwritten}
 use Rattle.qn_replay.specs.Endings.{replay_fits}
 use Rattle.qn_replay.specs.Replay.{replay_of}
 use Rattle.qn_replay.proofs.run.replay.Goals as goal
@@ -8,13 +8,16 @@ pub returns-clause-complete : goal.returns-clause-complete
 returns-clause-complete g c = λ read wrote memory. runs_complete _ _ c.run.ensures.replays read wrote memory
 
 pub returns-clause-done : goal.returns-clause-done
-returns-clause-done g c = run_done replay_of replay_fits _ _ _ c.run.ensures.replays
+returns-clause-done g c = run_done ⊥ replay_of replay_fits _ _ _ c.run.ensures.replays
+
+pub returns-clause-no_lease : goal.returns-clause-no_lease
+returns-clause-no_lease g c = λ timeout limit lease is. run_leased ⊥ replay_of replay_fits _ _ _ c.run.ensures.replays timeout limit lease is
 
 pub returns-clause-read_fault : goal.returns-clause-read_fault
-returns-clause-read_fault g c = run_unread replay_of replay_fits _ _ _ c.run.ensures.replays
+returns-clause-read_fault g c = run_unread ⊥ replay_of replay_fits _ _ _ c.run.ensures.replays
 
 pub returns-clause-write_fault : goal.returns-clause-write_fault
-returns-clause-write_fault g c = run_unwritten replay_of replay_fits _ _ _ c.run.ensures.replays
+returns-clause-write_fault g c = run_unwritten ⊥ replay_of replay_fits _ _ _ c.run.ensures.replays
 
 pub returns-clause-memory : goal.returns-clause-memory
-returns-clause-memory g c = run_wanted replay_of replay_fits _ _ _ c.run.ensures.replays
+returns-clause-memory g c = run_wanted ⊥ replay_of replay_fits _ _ _ c.run.ensures.replays

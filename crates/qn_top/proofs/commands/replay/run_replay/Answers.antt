@@ -26,8 +26,9 @@ unwritten g c env =
 pub returns-in-WriteFault : goal.returns-in-WriteFault
 returns-in-WriteFault g c = record {
   replays = λ env.
-      writes_trace replay_of c.law_ending.ensures
+      writes_trace replay_of
       (record { source = c.in-WriteFault.ensures.source_faults; sink = c.in-WriteFault.ensures.sink_faults; env = omega arith })
+      c.law_ending.ensures
       (unwritten g c env);
   one_holder = shows_trace replay_of IsRunTrace c.law_one_holder.ensures (unwritten g c none);
 }
@@ -45,8 +46,9 @@ finished g c env =
 pub returns-in_default : goal.returns-in_default
 returns-in_default g c = record {
   replays = λ env.
-      writes_trace replay_of c.law_ending.ensures
+      writes_trace replay_of
       (record { source = c.replay.ensures.source_faults; sink = omega arith; env = omega arith })
+      c.law_ending.ensures
       (finished g c env);
   one_holder = shows_trace replay_of IsRunTrace c.law_one_holder.ensures (finished g c none);
 }
