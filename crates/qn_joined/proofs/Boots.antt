@@ -1,49 +1,39 @@
 -- The boot of a running node, its feeds and its end, as events of its world.
-use Rattle.std.proofs.Common.{◌≡◌, ◌<◌, ◌≤◌, ℕ, suc, Bool, true, false, not, ◌&&◌, ◌+◌, List, [], ◌∷◌, ◌++◌, Option, None, Some, if◌then◌else◌, refl, sym, ap, subst, ◌∙◌, arith}
+use Rattle.std.proofs.Common.{◌≡◌, ◌<◌, ◌≤◌, ℕ, suc, Bool, true, false, not, ◌&&◌, ◌+◌, List, [], ◌∷◌, Option, None, if◌then◌else◌, refl, sym, ap, subst, ◌∙◌, arith}
 use Rattle.std.specs.Prelude.{◌==◌, length, nat_le}
 use Rattle.std.specs.Option.{option_or, option_map_or}
 use Rattle.std.proofs.lemmas.Bool.{lt-ltb}
-use Rattle.std.proofs.lemmas.List.{append-nil}
 use Rattle.std.proofs.lemmas.List.Elements.{Contains-append_right}
-use Rattle.qn_base.specs.declared.calls.Call.{Call}
 use Rattle.qn_base.specs.declared.calls.Call.TheVariants as call
 use Rattle.qn_model.specs.declared.configuration.Settings.{Settings}
 use Rattle.qn_model.specs.declared.times.Timing.{Timing}
 use Rattle.qn_model.specs.declared.entries.What.{What}
-use Rattle.qn_model.specs.declared.entries.What.TheVariants as what
 use Rattle.qn_model.specs.declared.events.Event.{Event}
 use Rattle.qn_model.specs.declared.events.Event.TheVariants as event
 use Rattle.qn_model.specs.declared.outputs.DiskOp.{DiskOp}
-use Rattle.qn_model.specs.declared.outputs.DiskOp.TheVariants as disk
-use Rattle.qn_model.specs.declared.outputs.Out.{Out}
-use Rattle.qn_model.specs.declared.outputs.Out.TheVariants as out
 use Rattle.qn_model.specs.declared.packets.Sent.{Sent}
 use Rattle.qn_model.specs.Holding.{holds}
-use Rattle.qn_model.specs.Log.{disk_of, is_answer, now, op_out}
-use Rattle.qn_model.specs.Moments.{Adds, Boots, Ends, Feeds, Moment, Running, begin_of, booted, given_out, handed, is_gone, node, packets, packets_of, tick_of, time}
+use Rattle.qn_model.specs.Log.{is_answer, now, op_out}
+use Rattle.qn_model.specs.Moments.{Boots, Feeds, Moment, Running, begin_of, booted, given_out, handed, is_gone, node, packets, tick_of, time}
 use Rattle.qn_model.specs.NodeOutputs.{newest_outs}
 use Rattle.qn_model.specs.Phases.{phase}
-use Rattle.qn_model.specs.Rules.{is_configured, is_on, may_feed, refusal, unless, unless_running}
-use Rattle.qn_model.specs.Steps.{boots, gives_up, happens, run, step}
+use Rattle.qn_model.specs.Rules.{may_feed, refusal, unless}
+use Rattle.qn_model.specs.Steps.{boots, happens, run, step}
 use Rattle.qn_model.specs.Wanted.{rank_of}
-use Rattle.qn_model.specs.World.{World, given_up, leftover_at, node_at, put}
+use Rattle.qn_model.specs.World.{World, node_at}
 use Rattle.qn_live.specs.declared.place.Choice.{Choice}
 use Rattle.qn_live.specs.declared.place.Choice.TheVariants as choice
-use Rattle.qn_live.specs.Greetings.{sends_plan}
-use Rattle.qn_live.specs.Performing.{disk_call, out_call, outs_plan, own_number}
 use Rattle.qn_live.specs.Running.{RunState, first_state}
-use Rattle.qn_joined.specs.Joints.{Host, began, ended, given_up_by, is_timed, left_over, looked_first, returned, waits_for}
-use Rattle.qn_joined.specs.Moves.{BeginsAsNode, BootsInWorld, Changes, EndsInWorld, FeedsInWorld, IsNodeIn, LogsHold, Moved}
+use Rattle.qn_joined.specs.Joints.{Host, looked_first, returned}
+use Rattle.qn_joined.specs.Moves.{BeginsAsNode, BootsInWorld, Changes, FeedsInWorld, IsNodeIn, LogsHold, Moved}
 use Rattle.qn_joined.specs.NodeLogs.{IsNodeLog}
-use Rattle.qn_joined.specs.Nodes.{AllSaid, IsReady, Spends, at}
+use Rattle.qn_joined.specs.Nodes.{AllSaid, IsReady, Spends}
 use Rattle.qn_joined.specs.Numbers.{AllMay, is_ranked}
-use Rattle.qn_joined.specs.Stands.{Spot, Receiving, Looking, Acting, Saying, Parting, Ended, Stand, first_stand, left_plan, log_at}
-use Rattle.qn_joined.specs.WorldOf.{AreAmong, NoCall, IsFresh, IsNode, TookAlike, disk_ahead, is_disk_last, still_out}
-use Rattle.qn_joined.proofs.Calls.{timed_on}
+use Rattle.qn_joined.specs.Stands.{Stand, first_stand, log_at}
+use Rattle.qn_joined.specs.WorldOf.{AreAmong, NoCall, IsFresh, IsNode, disk_ahead}
 use Rattle.qn_joined.proofs.Frames.{grows_more, node_grows, own, put_other, put_same}
 use Rattle.qn_joined.proofs.Handing.{handed_at}
 use Rattle.qn_joined.proofs.Looks.{all_said}
-use Rattle.qn_joined.proofs.Moving.{among_more, given_up_call}
 
 -- a process that begins is a node that is off
 pub begins_as_node : (s : Settings) (rank : ℕ) → BeginsAsNode s rank

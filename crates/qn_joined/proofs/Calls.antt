@@ -1,13 +1,12 @@
 -- A call that returns and is no look at the clock leaves the host the node that it was.
-use Rattle.std.proofs.Common.{◌≡◌, ◌≤◌, ℕ, suc, zero, Bool, true, false, not, ◌&&◌, List, [], ◌∷◌, ◌++◌, Option, None, Some, if◌then◌else◌, refl, sym, ap, subst, ◌∙◌, is_some, ◌⊎◌, inl, inr}
+use Rattle.std.proofs.Common.{◌≡◌, ℕ, Bool, true, false, not, ◌&&◌, List, [], ◌∷◌, ◌++◌, Option, None, Some, if◌then◌else◌, refl, sym, ap, subst, ◌∙◌, is_some, ◌⊎◌}
 use Rattle.std.specs.Prelude.{Contains, is_none}
 use Rattle.std.proofs.lemmas.List.{append-nil}
 use Rattle.qn_base.specs.declared.calls.Call.{Call}
 use Rattle.qn_base.specs.declared.calls.Call.TheVariants as call
 use Rattle.qn_base.specs.declared.calls.Received.{Received}
 use Rattle.qn_base.specs.declared.calls.Received.TheVariants as received
-use Rattle.qn_base.specs.Calls.{blank, is_failed}
-use Rattle.qn_base.specs.Plans.{question}
+use Rattle.qn_base.specs.Calls.{blank}
 use Rattle.qn_io.specs.Answered.{received_in}
 use Rattle.qn_model.specs.declared.configuration.Settings.{Settings}
 use Rattle.qn_model.specs.declared.entries.What.{What}
@@ -17,24 +16,21 @@ use Rattle.qn_model.specs.declared.outputs.Out.{Out}
 use Rattle.qn_model.specs.declared.outputs.Out.TheVariants as out
 use Rattle.qn_model.specs.declared.packets.Packet.{Packet}
 use Rattle.qn_model.specs.declared.packets.Sent.{Sent}
-use Rattle.qn_model.specs.Log.{Line, disk_of, is_answer, now, op_out}
-use Rattle.qn_model.specs.Holding.{stop_due}
+use Rattle.qn_model.specs.Log.{disk_of, is_answer, op_out}
 use Rattle.qn_model.specs.Moments.{Running, is_gone}
 use Rattle.qn_model.specs.NodeOutputs.{newest_outs}
 use Rattle.qn_model.specs.Phases.{phase}
 use Rattle.qn_model.specs.World.{failed, given_up}
 use Rattle.qn_wire.specs.Reading.{packet_of}
-use Rattle.qn_live.specs.declared.live_end.LiveEnd.{LiveEnd}
-use Rattle.qn_live.specs.Choosing.{choice_of, packet_in}
 use Rattle.qn_live.specs.Greetings.{sends_plan}
 use Rattle.qn_live.specs.Performing.{disk_answer, disk_call, end_after, noted, out_call, outs_plan, own_number, waits_after}
 use Rattle.qn_live.specs.Running.{RunState}
-use Rattle.qn_joined.specs.Joints.{Host, MayAnswer, MayReceive, after_effect, counts, is_disk, is_timed, left_over, returned, waits_for}
+use Rattle.qn_joined.specs.Joints.{Host, MayAnswer, MayReceive, after_effect, counts, is_disk, left_over, returned, waits_for}
 use Rattle.qn_joined.specs.Stands.{Spot, Receiving, Looking, Acting, Saying, Parting, Ended, Stand, acts_at, after_spot, left_plan, log_at, parts_at, said_at}
 use Rattle.qn_joined.specs.NodeLogs.{IsNodeLog}
 use Rattle.qn_joined.specs.Nodes.{at, is_looking}
-use Rattle.qn_joined.specs.WorldOf.{AllComeOut, AreAmong, IsAnswer, IsBacked, IsEnding, IsNode, Performs, TookAlike, Waiting, WasSentTo, disk_ahead, is_disk_last, still_out}
-use Rattle.qn_joined.proofs.Moving.{EndsDisk, Keeps, KeepsDisk, answer_backed, disk_effect, disk_of_call, left_alike, node_moves, quiet_effect, quiet_of, is_quiet}
+use Rattle.qn_joined.specs.WorldOf.{AreAmong, IsAnswer, IsEnding, IsNode, Performs, TookAlike, Waiting, WasSentTo, disk_ahead, still_out}
+use Rattle.qn_joined.proofs.Moving.{EndsDisk, answer_backed, disk_effect, disk_of_call, left_alike, node_moves, quiet_effect, quiet_of, is_quiet}
 use Rattle.qn_joined.proofs.Owning.{acts_log, parts_log, said_log}
 use Rattle.qn_joined.proofs.Standing.{acts_ahead, acts_backed, acts_greets, last_ends, parts_ahead, parts_backed, parts_ends, parts_greets, received_comes, rest_greet, said_ahead, said_backed, said_greets}
 

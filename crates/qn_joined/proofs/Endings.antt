@@ -1,35 +1,32 @@
 -- The end of a machine as an event of its world.
-use Rattle.std.proofs.Common.{◌≡◌, ◌<◌, ◌≤◌, ℕ, Bool, true, false, not, ◌&&◌, List, [], ◌∷◌, ◌++◌, Option, None, Some, ◌==◌, if◌then◌else◌, refl, sym, ap, subst, ◌∙◌}
+use Rattle.std.proofs.Common.{◌≡◌, ◌<◌, ℕ, Bool, true, false, ◌&&◌, List, [], ◌∷◌, ◌++◌, Option, None, Some, ◌==◌, if◌then◌else◌, refl, sym, ap, subst, ◌∙◌}
 use Rattle.std.specs.Prelude.{is_none, length}
 use Rattle.std.specs.Option.{option_or}
 use Rattle.std.proofs.lemmas.List.{append-nil}
-use Rattle.qn_base.specs.declared.calls.Call.{Call}
 use Rattle.qn_model.specs.declared.configuration.Settings.{Settings}
 use Rattle.qn_model.specs.declared.times.Timing.{Timing}
 use Rattle.qn_model.specs.declared.entries.What.{What}
 use Rattle.qn_model.specs.declared.events.Event.{Event}
 use Rattle.qn_model.specs.declared.events.Event.TheVariants as event
 use Rattle.qn_model.specs.declared.outputs.DiskOp.{DiskOp}
-use Rattle.qn_model.specs.declared.outputs.Out.{Out}
 use Rattle.qn_model.specs.declared.outputs.Out.TheVariants as out
 use Rattle.qn_model.specs.declared.packets.Sent.{Sent}
 use Rattle.qn_model.specs.Log.{disk_of, op_out}
 use Rattle.qn_model.specs.Moments.{Ends, Moment, Running, is_gone, node, packets, time}
 use Rattle.qn_model.specs.Phases.{phase}
-use Rattle.qn_model.specs.Rules.{refusal, unless, unless_running}
+use Rattle.qn_model.specs.Rules.{refusal, unless}
 use Rattle.qn_model.specs.Steps.{gives_up, happens, run, step}
 use Rattle.qn_model.specs.Wanted.{rank_of}
-use Rattle.qn_model.specs.World.{World, given_up, leftover_at, node_at, put}
+use Rattle.qn_model.specs.World.{World, given_up, leftover_at, node_at}
 use Rattle.qn_live.specs.Greetings.{sends_plan}
 use Rattle.qn_live.specs.Performing.{disk_call, out_call, outs_plan, own_number}
-use Rattle.qn_live.specs.Running.{RunState}
-use Rattle.qn_joined.specs.Joints.{Host, ended, given_up_by, is_timed, left_over, waits_for}
+use Rattle.qn_joined.specs.Joints.{Host, ended, given_up_by, left_over, waits_for}
 use Rattle.qn_joined.specs.Moves.{Changes, EndsInWorld, IsNodeIn, LogsHold, Moved}
 use Rattle.qn_joined.specs.NodeLogs.{IsNodeLog}
 use Rattle.qn_joined.specs.Nodes.{at}
 use Rattle.qn_joined.specs.Numbers.{AllMay}
 use Rattle.qn_joined.specs.Stands.{Spot, Receiving, Looking, Acting, Saying, Parting, Ended, first_stand, left_plan, log_at}
-use Rattle.qn_joined.specs.WorldOf.{AreAmong, NoCall, IsEnding, IsFresh, IsNode, Performs, TookAlike, disk_ahead, greets_at, still_out}
+use Rattle.qn_joined.specs.WorldOf.{AreAmong, NoCall, IsEnding, IsFresh, IsNode, greets_at, still_out}
 use Rattle.qn_joined.proofs.Boots.{no_event}
 use Rattle.qn_joined.proofs.Calls.{timed_on}
 use Rattle.qn_joined.proofs.Frames.{grows_more, own, put_other, put_same}

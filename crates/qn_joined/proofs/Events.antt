@@ -1,5 +1,5 @@
 -- The event of the world for each entry that a running node is handed.
-use Rattle.std.proofs.Common.{◌≡◌, ◌<◌, ◌≤◌, ℕ, Bool, true, false, not, ◌&&◌, List, [], ◌∷◌, ◌++◌, Option, None, Some, ◌==◌, if◌then◌else◌, refl, sym, ap, subst, ◌∙◌, is_some, ◌⊎◌, inl, inr}
+use Rattle.std.proofs.Common.{◌≡◌, ℕ, Bool, true, false, ◌&&◌, [], ◌∷◌, ◌++◌, Option, None, Some, ◌==◌, if◌then◌else◌, refl, sym, ap, subst, ◌∙◌, is_some, ◌⊎◌, inl, inr}
 use Rattle.std.specs.Prelude.{nat_lt, slice_get, length, ◌^◌}
 use Rattle.std.specs.Option.{option_or, option_map_or}
 use Rattle.std.proofs.lemmas.Bool.{eq-eqb}
@@ -17,16 +17,15 @@ use Rattle.qn_model.specs.declared.outputs.DiskOp.{DiskOp}
 use Rattle.qn_model.specs.declared.packets.Packet.{Packet}
 use Rattle.qn_model.specs.declared.packets.Packet.TheVariants as packet
 use Rattle.qn_model.specs.declared.packets.Sent.{Sent}
-use Rattle.qn_model.specs.Fitting.{fits}
 use Rattle.qn_model.specs.Holding.{stop_due}
-use Rattle.qn_model.specs.Log.{Line, is_answer, op_out}
-use Rattle.qn_model.specs.Moments.{Moment, Adds, Running, handed, logged, packets, tick_of, time}
+use Rattle.qn_model.specs.Log.{is_answer}
+use Rattle.qn_model.specs.Moments.{Adds, handed, logged, packets, tick_of, time}
 use Rattle.qn_model.specs.NodeOutputs.{with_entry, with_read}
 use Rattle.qn_model.specs.Phases.{is_live, phase}
-use Rattle.qn_model.specs.Rules.{is_on, may_be_done, may_be_stopped, may_deliver, may_fail, refusal, unless, unless_running}
+use Rattle.qn_model.specs.Rules.{may_be_done, may_be_stopped, may_deliver, may_fail, refusal, unless, unless_running}
 use Rattle.qn_model.specs.Steps.{answered, entry_of, fails, happens, step}
 use Rattle.qn_model.specs.Wanted.{rank_of}
-use Rattle.qn_model.specs.World.{World, failed, given_up, leftover_at, node_at, op_at, put}
+use Rattle.qn_model.specs.World.{World, failed, given_up, leftover_at, node_at, op_at}
 use Rattle.qn_joined.specs.Joints.{Host}
 use Rattle.qn_joined.specs.Nodes.{Spends}
 use Rattle.qn_joined.specs.Numbers.{is_ranked}

@@ -1,5 +1,5 @@
 -- What changes one node of a world leaves the others as they were.
-use Rattle.std.proofs.Common.{◌≡◌, ◌<◌, ◌≤◌, ℕ, Bool, true, false, List, [], ◌∷◌, ◌++◌, Option, None, Some, ◌==◌, if◌then◌else◌, refl, sym, ap, subst, ◌∙◌, ◌⊎◌, inl, inr, arith}
+use Rattle.std.proofs.Common.{◌≡◌, ◌<◌, ◌≤◌, ℕ, Bool, true, false, List, [], ◌∷◌, ◌++◌, Option, Some, ◌==◌, if◌then◌else◌, refl, sym, ap, subst, ◌∙◌, arith}
 use Rattle.std.specs.Prelude.{Contains, length}
 use Rattle.std.proofs.lemmas.Bool.{eq-eqb, eqb-true}
 use Rattle.std.proofs.lemmas.List.Elements.{Contains-append_left}
@@ -13,7 +13,7 @@ use Rattle.qn_model.specs.declared.outputs.Out.TheVariants as out
 use Rattle.qn_model.specs.declared.packets.Packet.{Packet}
 use Rattle.qn_model.specs.declared.packets.Sent.{Sent}
 use Rattle.qn_model.specs.Log.{Line}
-use Rattle.qn_model.specs.Moments.{Moment, Adds, Boots, Ends, Feeds, Running, booted, handed, node, packets, time}
+use Rattle.qn_model.specs.Moments.{Moment, Adds, Running, handed, node, packets, time}
 use Rattle.qn_model.specs.World.{World, node_at, put}
 use Rattle.qn_wire.specs.Reading.{packet_of}
 use Rattle.qn_live.specs.declared.place.Choice.{Choice}
@@ -21,7 +21,7 @@ use Rattle.qn_live.specs.declared.place.Choice.TheVariants as choice
 use Rattle.qn_joined.specs.Joints.{Host, Joint, counts}
 use Rattle.qn_joined.specs.Moves.{Changes, Grows}
 use Rattle.qn_joined.specs.Stands.{Spot, Receiving, Looking, Acting, Saying, Parting, Ended}
-use Rattle.qn_joined.specs.WorldOf.{AllComeOut, ComesAs, ComesIn, ComesOut, IsBacked, IsImage, IsNode, IsWorld, Performs, WasSentTo}
+use Rattle.qn_joined.specs.WorldOf.{AllComeOut, ComesAs, ComesIn, ComesOut, IsBacked, IsImage, IsNode, IsWorld, WasSentTo}
 
 pub own : (rank : ℕ) → (rank == rank) ≡ true
 own rank = eq-eqb rank rank refl

@@ -1,9 +1,8 @@
 -- A look at the clock hands the node of the world what it hands the running node.
-use Rattle.std.proofs.Common.{◌≡◌, ◌≤◌, ℕ, suc, zero, Bool, true, false, not, ◌&&◌, ◌||◌, List, [], ◌∷◌, ◌++◌, Option, None, Some, if◌then◌else◌, refl, sym, ap, subst, ◌∙◌, is_some, ◌⊎◌, inl, inr, arith}
+use Rattle.std.proofs.Common.{◌≡◌, ◌≤◌, ℕ, Bool, true, false, not, ◌&&◌, ◌||◌, List, [], ◌∷◌, ◌++◌, Option, None, Some, if◌then◌else◌, refl, sym, ap, subst, ◌∙◌, is_some, arith}
 use Rattle.std.specs.Prelude.{is_none, nat_lt}
 use Rattle.std.specs.Option.{option_or}
 use Rattle.std.proofs.lemmas.List.{append-nil}
-use Rattle.qn_base.specs.declared.calls.Call.{Call}
 use Rattle.qn_base.specs.declared.calls.Call.TheVariants as call
 use Rattle.qn_base.specs.declared.ids.View.{View}
 use Rattle.qn_model.specs.declared.configuration.Settings.{Settings}
@@ -28,12 +27,12 @@ use Rattle.qn_live.specs.Choosing.{heard, looked, view_or_tick}
 use Rattle.qn_live.specs.Performing.{end_after}
 use Rattle.qn_live.specs.Running.{RunState}
 use Rattle.qn_live.specs.Runs.{taken}
-use Rattle.qn_joined.specs.Joints.{Host, after_effect, is_timed, returned}
+use Rattle.qn_joined.specs.Joints.{Host, after_effect, returned}
 use Rattle.qn_joined.specs.NodeLogs.{IsNodeLog, is_end}
 use Rattle.qn_joined.specs.Owning.{is_no_stop}
-use Rattle.qn_joined.specs.Stands.{Spot, Looking, Stand, acts_at, after_spot, clocked_by, log_at}
+use Rattle.qn_joined.specs.Stands.{Looking, Stand, acts_at, after_spot, clocked_by, log_at}
 use Rattle.qn_joined.specs.Nodes.{AllSaid, IsReady, Spends, at}
-use Rattle.qn_joined.specs.WorldOf.{AllComeOut, AreAmong, IsAnswer, IsBacked, IsEnding, IsNode, Performs, TookAlike, Waiting, WasSentTo, disk_ahead, is_answer_in, is_disk_last, still_out}
+use Rattle.qn_joined.specs.WorldOf.{AllComeOut, AreAmong, IsAnswer, IsEnding, IsNode, Performs, Waiting, disk_ahead, is_answer_in, is_disk_last, still_out}
 use Rattle.qn_joined.proofs.Moving.{among_more}
 use Rattle.qn_joined.proofs.Owning.{acts_log}
 use Rattle.qn_joined.proofs.Standing.{acts_ahead, acts_backed, acts_greets}

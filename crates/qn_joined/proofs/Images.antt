@@ -1,8 +1,7 @@
 -- What a write that lands does to the image, and to the world that it spells.
-use Rattle.std.proofs.Common.{◌≡◌, ◌<◌, ◌≤◌, ◌+◌, ◌*◌, ℕ, Bool, true, false, List, Option, None, Some, ◌==◌, if◌then◌else◌, refl, sym, ap, subst, ◌∙◌, arith}
+use Rattle.std.proofs.Common.{◌≡◌, ◌<◌, ◌+◌, ◌*◌, ℕ, Bool, true, false, List, Option, ◌==◌, if◌then◌else◌, refl, sym, ap, subst, ◌∙◌, arith}
 use Rattle.std.specs.Prelude.{◌^◌, IfSome, length}
 use Rattle.std.proofs.lemmas.Bool.{eqb-false, eqb-true, ne_eqb}
-use Rattle.qn_base.specs.declared.calls.Call.TheVariants as call
 use Rattle.qn_model.specs.declared.configuration.Settings.{Settings}
 use Rattle.qn_model.specs.declared.disk.Message.TheVariants as message
 use Rattle.qn_model.specs.declared.disk.Slot.{Slot}
@@ -11,14 +10,14 @@ use Rattle.qn_model.specs.declared.mailbox.Sender.{Sender}
 use Rattle.qn_model.specs.declared.times.Timing.{Timing}
 use Rattle.qn_model.specs.declared.outputs.DiskOp.{DiskOp}
 use Rattle.qn_model.specs.declared.outputs.DiskOp.TheVariants as disk
-use Rattle.qn_model.specs.Sectors.{IsSender, anonymous, header_bytes, mail_bytes, mail_place, slot_bytes, slot_place}
+use Rattle.qn_model.specs.Sectors.{IsSender, anonymous, mail_bytes, mail_place, slot_bytes, slot_place}
 use Rattle.qn_model.specs.Unmet.{id_of}
 use Rattle.qn_model.specs.World.{World, mailboxes_with, put, slots_with}
 use Rattle.qn_live.specs.Performing.{disk_call, done, reset_by}
 use Rattle.qn_joined.specs.Joints.{FitsImage, landed_image, takes}
 use Rattle.qn_joined.specs.Theorem.{place_of}
 use Rattle.qn_joined.specs.WorldOf.{IsImage, IsOperation}
-use Rattle.qn_joined.proofs.Frames.{own, put_other, put_same}
+use Rattle.qn_joined.proofs.Frames.{put_other, put_same}
 
 mail_slot : (rank r : ℕ) → r < 32 → (512 + rank == 1 + 2 * r) ≡ false
 mail_slot rank r small = ne_eqb (512 + rank) (1 + 2 * r) (λ e. omega arith)

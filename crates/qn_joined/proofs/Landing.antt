@@ -1,41 +1,37 @@
 -- A disk call that lands, and a write of an operator, as events of the world of a joint.
-use Rattle.std.proofs.Common.{◌≡◌, ◌<◌, ◌≤◌, ℕ, Bool, true, false, not, ◌&&◌, ◌||◌, List, [], ◌∷◌, ◌++◌, Option, None, Some, ◌==◌, if◌then◌else◌, refl, sym, ap, subst, ◌∙◌, is_some}
-use Rattle.std.specs.Prelude.{◌^◌, IfSome, is_none, length}
+use Rattle.std.proofs.Common.{◌≡◌, ◌<◌, ℕ, Bool, true, false, not, ◌&&◌, ◌||◌, List, [], ◌∷◌, ◌++◌, Option, None, Some, if◌then◌else◌, refl, sym, ap, subst, ◌∙◌, is_some}
+use Rattle.std.specs.Prelude.{◌^◌, IfSome, length}
 use Rattle.std.specs.Option.{option_or, option_map_or}
-use Rattle.qn_base.specs.declared.calls.Call.{Call}
 use Rattle.qn_model.specs.declared.configuration.Settings.{Settings}
 use Rattle.qn_model.specs.declared.disk.Message.{Message}
 use Rattle.qn_model.specs.declared.mailbox.Mail.{Mail}
-use Rattle.qn_model.specs.declared.mailbox.Sender.{Sender}
 use Rattle.qn_model.specs.declared.times.Timing.{Timing}
 use Rattle.qn_model.specs.declared.entries.What.{What}
 use Rattle.qn_model.specs.declared.events.Event.{Event}
 use Rattle.qn_model.specs.declared.events.Event.TheVariants as event
 use Rattle.qn_model.specs.declared.outputs.DiskOp.{DiskOp}
-use Rattle.qn_model.specs.declared.outputs.Out.{Out}
 use Rattle.qn_model.specs.declared.outputs.Out.TheVariants as out
 use Rattle.qn_model.specs.declared.packets.Sent.{Sent}
-use Rattle.qn_model.specs.Log.{disk_of, op_out}
-use Rattle.qn_model.specs.Moments.{Running, is_gone, packets, time}
+use Rattle.qn_model.specs.Log.{op_out}
+use Rattle.qn_model.specs.Moments.{Running, is_gone, packets}
 use Rattle.qn_model.specs.Phases.{phase}
-use Rattle.qn_model.specs.Rules.{is_on, may_land, may_operate, refusal, unless, unless_running}
+use Rattle.qn_model.specs.Rules.{is_on, may_land, may_operate, refusal, unless}
 use Rattle.qn_model.specs.Sectors.{IsSender, anonymous, is_deadly, mail_bytes, mail_place}
-use Rattle.qn_model.specs.Steps.{landed, run, step, with_mail}
+use Rattle.qn_model.specs.Steps.{landed, run, step}
 use Rattle.qn_model.specs.Wanted.{rank_of}
-use Rattle.qn_model.specs.World.{World, given_up, node_at, op_at, put, taken}
+use Rattle.qn_model.specs.World.{World, given_up, node_at, op_at, taken}
 use Rattle.qn_sector.specs.Reading.{mail_of}
 use Rattle.qn_live.specs.Greetings.{sends_plan}
 use Rattle.qn_live.specs.Performing.{disk_call, done, out_call, outs_plan, own_number}
-use Rattle.qn_live.specs.Running.{RunState}
 use Rattle.qn_joined.specs.Joints as joints
 use Rattle.qn_joined.specs.Joints.{FitsImage, Host, Joint, MayHappen, happens, is_deadly_mail, is_disk, is_timed, landed_image, takes, waits_for, with_host}
-use Rattle.qn_joined.specs.Moves.{Changes, LogsHold}
+use Rattle.qn_joined.specs.Moves.{LogsHold}
 use Rattle.qn_joined.specs.NodeLogs.{IsNodeLog}
 use Rattle.qn_joined.specs.Nodes.{at}
 use Rattle.qn_joined.specs.Numbers.{AllMay}
 use Rattle.qn_joined.specs.Stands.{Spot, Receiving, Looking, Acting, Saying, Parting, Ended, left_plan, log_at}
-use Rattle.qn_joined.specs.Theorem.{TakesAlike, place_of}
-use Rattle.qn_joined.specs.WorldOf.{AreAmong, HasWorld, IsImage, IsNode, IsWorld, Performs, TookAlike, disk_ahead, still_out}
+use Rattle.qn_joined.specs.Theorem.{TakesAlike}
+use Rattle.qn_joined.specs.WorldOf.{AreAmong, HasWorld, IsNode, IsWorld, Performs, TookAlike, disk_ahead}
 use Rattle.qn_joined.proofs.Calls.{timed_on}
 use Rattle.qn_joined.proofs.Frames.{one_moves, put_other, put_same}
 use Rattle.qn_joined.proofs.Images.{image_lands, mail_put, takes_done}

@@ -1,5 +1,5 @@
 -- A write that was given up and lands after all, as an event of the world of a joint.
-use Rattle.std.proofs.Common.{◌≡◌, ◌<◌, ◌≤◌, ℕ, zero, suc, Bool, true, false, not, ◌&&◌, List, [], ◌∷◌, ◌++◌, Option, None, Some, ◌==◌, if◌then◌else◌, refl, sym, ap, subst, ◌∙◌, is_some, ◌⊎◌, inl, inr}
+use Rattle.std.proofs.Common.{◌≡◌, ◌<◌, ◌≤◌, ℕ, zero, suc, Bool, true, false, not, ◌&&◌, List, [], ◌∷◌, ◌++◌, Option, None, Some, if◌then◌else◌, refl, sym, ap, subst, ◌∙◌, is_some, ◌⊎◌, inl, inr}
 use Rattle.std.specs.Prelude.{◌^◌, is_none, length, slice_get}
 use Rattle.std.specs.Option.{option_or, option_map_or}
 use Rattle.std.proofs.lemmas.Bool.{cases_lt}
@@ -12,14 +12,13 @@ use Rattle.qn_model.specs.declared.entries.What.TheVariants as what
 use Rattle.qn_model.specs.declared.events.Event.{Event}
 use Rattle.qn_model.specs.declared.events.Event.TheVariants as event
 use Rattle.qn_model.specs.declared.outputs.DiskOp.{DiskOp}
-use Rattle.qn_model.specs.declared.outputs.Out.{Out}
 use Rattle.qn_model.specs.declared.packets.Sent.{Sent}
-use Rattle.qn_model.specs.Log.{Line, disk_of, op_out}
-use Rattle.qn_model.specs.Moments.{Running, packets, time}
-use Rattle.qn_model.specs.Rules.{is_on, may_be_late, may_land, refusal, unless, unless_running}
-use Rattle.qn_model.specs.Steps.{landed, lands_late, run, step, written}
+use Rattle.qn_model.specs.Log.{Line, op_out}
+use Rattle.qn_model.specs.Moments.{Running, packets}
+use Rattle.qn_model.specs.Rules.{may_land, refusal, unless}
+use Rattle.qn_model.specs.Steps.{landed, lands_late, run, step}
 use Rattle.qn_model.specs.Wanted.{rank_of}
-use Rattle.qn_model.specs.World.{World, failed, given_up, is_write, node_at, numbered, mailboxes_with, op_at, put, slots_with, taken, without}
+use Rattle.qn_model.specs.World.{World, failed, given_up, is_write, node_at, numbered, mailboxes_with, slots_with, taken, without}
 use Rattle.qn_live.specs.declared.place.Choice.{Choice}
 use Rattle.qn_live.specs.declared.place.Choice.TheVariants as choice
 use Rattle.qn_live.specs.Performing.{disk_call}
@@ -28,7 +27,7 @@ use Rattle.qn_joined.specs.Joints as joints
 use Rattle.qn_joined.specs.Joints.{FitsImage, Host, Joint, MayHappen, happens, landed_image, with_host}
 use Rattle.qn_joined.specs.Numbers.{AllMay}
 use Rattle.qn_joined.specs.Stands.{Spot, Receiving, Looking, Acting, Saying, Parting, Ended}
-use Rattle.qn_joined.specs.WorldOf.{AreAmong, NoCall, Skips, Made, ComesAs, ComesIn, HasWorld, IsAnswer, IsBacked, IsImage, IsNode, IsOperation, IsWorld, Performs, Waiting, disk_ahead, still_out}
+use Rattle.qn_joined.specs.WorldOf.{AreAmong, NoCall, Skips, Made, ComesAs, ComesIn, HasWorld, IsAnswer, IsBacked, IsImage, IsNode, IsOperation, IsWorld, Waiting, disk_ahead, still_out}
 use Rattle.qn_joined.proofs.Frames.{one_moves, put_other, put_same}
 use Rattle.qn_joined.proofs.Images.{image_lands}
 use Rattle.qn_joined.proofs.Moving.{among_more}

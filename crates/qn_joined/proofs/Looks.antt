@@ -1,35 +1,34 @@
 -- A look at the clock of a running node is one event of its world.
-use Rattle.std.proofs.Common.{◌≡◌, ◌<◌, ◌≤◌, ℕ, Bool, true, false, not, ◌&&◌, List, [], ◌∷◌, ◌++◌, Option, None, Some, if◌then◌else◌, refl, sym, ap, subst, ◌∙◌, arith}
-use Rattle.std.specs.Prelude.{Contains, length}
+use Rattle.std.proofs.Common.{◌≡◌, ℕ, Bool, true, false, ◌&&◌, List, [], ◌∷◌, ◌++◌, Option, None, Some, if◌then◌else◌, refl, sym, ap, subst, ◌∙◌, arith}
+use Rattle.std.specs.Prelude.{Contains}
 use Rattle.std.proofs.lemmas.List.Elements.{Contains-append_left, Contains-append_right}
 use Rattle.qn_base.specs.declared.calls.Call.TheVariants as call
 use Rattle.qn_base.specs.declared.ids.View.{View}
 use Rattle.qn_model.specs.declared.configuration.Settings.{Settings}
 use Rattle.qn_model.specs.declared.times.Timing.{Timing}
-use Rattle.qn_model.specs.declared.events.Event.{Event}
 use Rattle.qn_model.specs.declared.entries.What.{What}
 use Rattle.qn_model.specs.declared.outputs.DiskOp.{DiskOp}
 use Rattle.qn_model.specs.declared.outputs.Out.{Out}
 use Rattle.qn_model.specs.declared.outputs.Out.TheVariants as out
 use Rattle.qn_model.specs.declared.packets.Sent.{Sent}
 use Rattle.qn_model.specs.Log.{Line, op_out}
-use Rattle.qn_model.specs.Moments.{Adds, Moment, Running, given_out, handed, is_gone, node, packets, packets_of, tick_of, time}
+use Rattle.qn_model.specs.Moments.{Adds, Moment, Running, given_out, handed, is_gone, node, packets, packets_of, time}
 use Rattle.qn_model.specs.NodeOutputs.{newest_outs}
 use Rattle.qn_model.specs.Phases.{phase}
 use Rattle.qn_model.specs.Steps.{run, step}
-use Rattle.qn_model.specs.World.{World, given_up, leftover_at, node_at}
+use Rattle.qn_model.specs.World.{World, given_up, node_at}
 use Rattle.qn_member.specs.Maker.{Maker, view_at}
 use Rattle.qn_live.specs.declared.place.Choice.{Choice}
 use Rattle.qn_live.specs.declared.place.Choice.TheVariants as choice
 use Rattle.qn_live.specs.Choosing.{heard, looked, view_or_tick}
 use Rattle.qn_live.specs.Running.{RunState}
-use Rattle.qn_joined.specs.Joints.{Host, is_timed, returned}
-use Rattle.qn_joined.specs.Moves.{Changes, IsNodeIn, LogsHold, LooksInWorld, Moved}
+use Rattle.qn_joined.specs.Joints.{Host, returned}
+use Rattle.qn_joined.specs.Moves.{LooksInWorld}
 use Rattle.qn_joined.specs.NodeLogs.{IsNodeLog}
-use Rattle.qn_joined.specs.Nodes.{AllSaid, IsReady, Spends, at}
+use Rattle.qn_joined.specs.Nodes.{AllSaid, IsReady, at}
 use Rattle.qn_joined.specs.Numbers.{AllMay}
 use Rattle.qn_joined.specs.Stands.{Looking}
-use Rattle.qn_joined.specs.WorldOf.{AreAmong, ComesAs, ComesIn, IsNode, WasSentTo}
+use Rattle.qn_joined.specs.WorldOf.{AreAmong, ComesAs, ComesIn, IsNode}
 use Rattle.qn_joined.proofs.Calls.{timed_on}
 use Rattle.qn_joined.proofs.Events.{Hands, hands}
 use Rattle.qn_joined.proofs.Frames.{adds_changes, node_own_adds}

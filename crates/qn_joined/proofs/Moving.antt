@@ -1,30 +1,26 @@
 -- A call that returns and hands the node no entry leaves the host the node that it was.
-use Rattle.std.proofs.Common.{◌≡◌, ◌≤◌, ℕ, suc, zero, Bool, true, false, not, ◌&&◌, ◌||◌, List, [], ◌∷◌, ◌++◌, Option, None, Some, if◌then◌else◌, refl, sym, ap, subst, ◌∙◌, is_some, ◌⊎◌, inl, inr}
-use Rattle.std.specs.Prelude.{◌<◌, ◌^◌, is_none}
+use Rattle.std.proofs.Common.{◌≡◌, ◌≤◌, ℕ, Bool, true, false, not, ◌&&◌, List, [], ◌∷◌, ◌++◌, Option, None, Some, if◌then◌else◌, refl, sym, ap, subst, ◌∙◌, is_some, ◌⊎◌, inl, inr}
+use Rattle.std.specs.Prelude.{◌<◌, ◌^◌}
 use Rattle.std.proofs.lemmas.List.{append-nil}
 use Rattle.qn_base.specs.declared.calls.Call.{Call}
 use Rattle.qn_base.specs.declared.calls.Call.TheVariants as call
 use Rattle.qn_base.specs.Calls.{blank, is_failed}
-use Rattle.qn_io.specs.Answered.{bytes_read, received_in}
+use Rattle.qn_io.specs.Answered.{bytes_read}
 use Rattle.qn_model.specs.declared.configuration.Settings.{Settings}
 use Rattle.qn_model.specs.declared.entries.What.{What}
-use Rattle.qn_model.specs.declared.entries.What.TheVariants as what
 use Rattle.qn_model.specs.declared.outputs.DiskOp.{DiskOp}
 use Rattle.qn_model.specs.declared.outputs.DiskOp.TheVariants as disk
 use Rattle.qn_model.specs.declared.outputs.Out.{Out}
-use Rattle.qn_model.specs.declared.outputs.Out.TheVariants as out
 use Rattle.qn_model.specs.declared.packets.Sent.{Sent}
 use Rattle.qn_model.specs.Holding.{holds}
-use Rattle.qn_model.specs.Log.{Line, disk_of, is_answer, now, op_out}
-use Rattle.qn_model.specs.Moments.{Running, is_gone, tick_of}
-use Rattle.qn_model.specs.NodeOutputs.{newest_outs}
+use Rattle.qn_model.specs.Log.{is_answer}
+use Rattle.qn_model.specs.Moments.{Running, is_gone}
 use Rattle.qn_model.specs.Phases.{phase}
 use Rattle.qn_model.specs.World.{failed, given_up, is_write}
-use Rattle.qn_live.specs.Performing.{disk_answer, disk_call, done, noted, own_number, waits_after}
-use Rattle.qn_live.specs.Running.{RunState}
+use Rattle.qn_live.specs.Performing.{disk_answer, disk_call, done}
 use Rattle.qn_joined.specs.Joints.{Host, MayAnswer, after_effect, is_disk, is_timed, left_over}
-use Rattle.qn_joined.specs.Stands.{Spot, log_at}
-use Rattle.qn_joined.specs.WorldOf.{AllComeOut, AreAmong, NoCall, Skips, Made, ComesOut, IsAnswer, IsBacked, IsEnding, IsNode, IsOperation, Performs, TookAlike, Waiting, disk_ahead, greets_at, is_disk_last, still_out}
+use Rattle.qn_joined.specs.Stands.{log_at}
+use Rattle.qn_joined.specs.WorldOf.{AreAmong, NoCall, Skips, Made, IsBacked, IsEnding, IsNode, IsOperation, TookAlike, disk_ahead, greets_at, still_out}
 
 -- the call changes nothing of its host but what it runs
 abbrev pub is_quiet : Call → Bool

@@ -1,16 +1,13 @@
 -- In every joint a resource that runs is held by the log of its node.
-use Rattle.std.proofs.Common.{◌≡◌, ℕ, Bool, true, false, List, [], ◌∷◌, Option, None, Some, ◌==◌, if◌then◌else◌, refl, sym, ap, subst, ◌∙◌}
+use Rattle.std.proofs.Common.{ℕ, Bool, true, false, [], ◌∷◌, Option, None, Some, ◌==◌, if◌then◌else◌, refl}
 use Rattle.std.specs.Option.{option_map_or}
-use Rattle.std.proofs.lemmas.Bool.{eqb-true}
 use Rattle.qn_base.specs.declared.calls.Call.{Call}
 use Rattle.qn_base.specs.declared.calls.Call.TheVariants as call
-use Rattle.qn_base.specs.Calls.{blank}
 use Rattle.qn_model.specs.Moments.{tick_of}
 use Rattle.qn_model.specs.declared.configuration.Settings.{Settings}
 use Rattle.qn_model.specs.declared.times.Timing.{Timing}
 use Rattle.qn_model.specs.World.{numbered, put, without}
-use Rattle.qn_joined.specs.Joints.{AllMayHappen, Happening, Passes, Begins, Looks, Lands, Returns, Feeds, LandsLate, Ends, Operates, Host, Joint, MayReturn, began, ended, happens, joint_after, landed_image, looked_first, returned, takes, waits_for, with_host}
-use Rattle.qn_joined.specs.Owning.{Owns}
+use Rattle.qn_joined.specs.Joints.{AllMayHappen, Passes, Begins, Looks, Lands, Returns, Feeds, LandsLate, Ends, Operates, Host, Joint, began, ended, happens, joint_after, landed_image, looked_first, returned, takes, waits_for, with_host}
 use Rattle.qn_joined.specs.Theorem.{AlwaysOwns, HostOwns}
 use Rattle.qn_joined.proofs.Returning.{returns_own}
 

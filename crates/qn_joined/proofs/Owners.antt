@@ -1,5 +1,5 @@
 -- At most one resource runs where every joint has a world.
-use Rattle.std.proofs.Common.{◌≡◌, ◌<◌, ◌≤◌, ℕ, Bool, true, false, not, List, Option, refl, sym, ap, ◌∙◌, inl, inr, arith}
+use Rattle.std.proofs.Common.{◌≡◌, ◌<◌, ◌≤◌, ℕ, Bool, true, false, not, List, Option, refl, ap, ◌∙◌, inl, inr}
 use Rattle.std.specs.Prelude.{◌&&◌, ◌⊎◌, length}
 use Rattle.std.proofs.lemmas.Bool.{cases_lt}
 use Rattle.qn_model.specs.declared.configuration.Settings.{Settings}
@@ -12,12 +12,12 @@ use Rattle.qn_model.specs.Moments.{Running, is_gone, is_holder}
 use Rattle.qn_model.specs.Phases.{phase}
 use Rattle.qn_model.specs.Steps.{run}
 use Rattle.qn_model.specs.World.{node_at}
-use Rattle.qn_joined.specs.Joints.{Happening, Host, Joint, IsJoined, joint_after, runs_at}
-use Rattle.qn_joined.specs.Numbers.{AllMay, OneMayHold}
+use Rattle.qn_joined.specs.Joints.{Host, Joint}
+use Rattle.qn_joined.specs.Numbers.{OneMayHold}
 use Rattle.qn_joined.specs.Owning.{Owns}
 use Rattle.qn_joined.specs.Stands.{log_at}
 use Rattle.qn_joined.specs.Theorem.{AtMostOneRuns, HostOwns}
-use Rattle.qn_joined.specs.WorldOf.{EveryJointHasAWorld, HasWorld, IsNode, IsWorld}
+use Rattle.qn_joined.specs.WorldOf.{EveryJointHasAWorld, HasWorld, IsNode}
 use Rattle.qn_joined.proofs.Owned.{always_owns}
 
 both : (on runs : Bool) → (on && runs) ≡ true → (on ≡ true) × (runs ≡ true)

@@ -1,19 +1,16 @@
 -- A resource that runs is held, from call to call.
-use Rattle.std.proofs.Common.{◌≡◌, ℕ, suc, zero, Bool, true, false, not, ◌&&◌, ◌||◌, ◌+◌, List, [], ◌∷◌, Option, None, Some, if◌then◌else◌, refl, sym, ap, subst, ◌∙◌}
-use Rattle.std.specs.Prelude.{nat_lt}
+use Rattle.std.proofs.Common.{◌≡◌, ℕ, suc, zero, Bool, true, false, not, ◌&&◌, ◌||◌, List, [], ◌∷◌, Option, None, Some, if◌then◌else◌, refl, sym, ap, subst, ◌∙◌}
 use Rattle.qn_base.specs.declared.ids.View.{View}
 use Rattle.qn_model.specs.declared.configuration.Settings.{Settings}
 use Rattle.qn_model.specs.declared.entries.What.{What}
 use Rattle.qn_model.specs.declared.entries.What.TheVariants as what
 use Rattle.qn_model.specs.declared.outputs.Out.{Out}
-use Rattle.qn_model.specs.declared.packets.Packet.{Packet}
-use Rattle.qn_model.specs.declared.packets.Packet.TheVariants as packet
 use Rattle.qn_model.specs.declared.packets.Sent.{Sent}
 use Rattle.qn_model.specs.Log.{Line, has_start, now}
 use Rattle.qn_model.specs.Holding.{holds, is_stopped}
 use Rattle.qn_model.specs.Fitting.{fits, read_as}
 use Rattle.qn_model.specs.NodeOutputs.{newest_outs, with_entry}
-use Rattle.qn_member.specs.Maker.{Maker, after_tick, view_at}
+use Rattle.qn_member.specs.Maker.{Maker, view_at}
 use Rattle.qn_live.specs.declared.live_end.LiveEnd.{LiveEnd}
 use Rattle.qn_live.specs.declared.place.Choice.{Choice}
 use Rattle.qn_live.specs.declared.place.Choice.TheVariants as choice
@@ -22,8 +19,8 @@ use Rattle.qn_live.specs.Running.{RunState}
 use Rattle.qn_live.specs.Choosing.{heard, is_to_leave, looked, ready, view_or_tick}
 use Rattle.qn_live.specs.Performing.{end_in}
 use Rattle.qn_live.specs.Runs.{hello_asked, taken, with_maker}
-use Rattle.qn_joined.specs.Stands.{Spot, Receiving, Looking, Acting, Saying, Parting, Ended, Stand, acts_at, begun_at, clocked_by, farewells_due, greeted_at, handled_at, log_at, parts_at, said_at, sends_due, settled_by, taking, waits_at}
-use Rattle.qn_joined.specs.Owning.{Owns, is_calm, is_done_stop, is_free, is_no_stop, stop_waits, stops_in}
+use Rattle.qn_joined.specs.Stands.{Looking, acts_at, begun_at, clocked_by, farewells_due, handled_at, log_at, parts_at, said_at, sends_due, settled_by, taking}
+use Rattle.qn_joined.specs.Owning.{Owns, is_calm, is_done_stop, is_no_stop, stops_in}
 
 -- what is known of a state between two calls
 pub record Fine (st : RunState) (runs : Bool) : Type 0 where

@@ -1,8 +1,8 @@
 -- Time that passes, as an event of the world of a joint.
-use Rattle.std.proofs.Common.{◌≡◌, ◌<◌, ◌≤◌, ◌+◌, ◌-◌, ◌*◌, ◌/◌, ℕ, zero, suc, Bool, true, false, not, ◌&&◌, List, [], ◌∷◌, Option, None, Some, if◌then◌else◌, refl, sym, ap, subst, ◌∙◌, arith, ◌⊎◌, inl, inr}
-use Rattle.std.specs.Prelude.{length, nat_le, nat_lt}
+use Rattle.std.proofs.Common.{◌≡◌, ◌<◌, ◌≤◌, ◌+◌, ◌-◌, ◌*◌, ℕ, zero, suc, Bool, true, false, not, ◌&&◌, List, [], ◌∷◌, Option, if◌then◌else◌, refl, sym, ap, subst, ◌∙◌, arith, ◌⊎◌, inl, inr}
+use Rattle.std.specs.Prelude.{length}
 use Rattle.std.specs.List.{list_all, range_with_len}
-use Rattle.std.proofs.lemmas.Bool.{cases_lt, cases_order, le-leb, leb-true}
+use Rattle.std.proofs.lemmas.Bool.{cases_lt, le-leb, leb-true}
 use Rattle.qn_base.specs.declared.ids.Rank.{Rank}
 use Rattle.qn_model.specs.declared.configuration.Settings.{Settings}
 use Rattle.qn_model.specs.declared.times.Timing.{Timing}
@@ -12,7 +12,7 @@ use Rattle.qn_model.specs.declared.events.Event.TheVariants as event
 use Rattle.qn_model.specs.declared.outputs.DiskOp.{DiskOp}
 use Rattle.qn_model.specs.declared.packets.Sent.{Sent}
 use Rattle.qn_model.specs.Log.{now}
-use Rattle.qn_model.specs.Moments.{Passes, Running, advance_of, advanced, is_gone, node, packets, tick_of, time}
+use Rattle.qn_model.specs.Moments.{Running, advance_of, advanced, is_gone, node, packets, tick_of, time}
 use Rattle.qn_model.specs.Phases.{phase}
 use Rattle.qn_model.specs.Rules.{is_on, is_within_bounds, may_pass, outlives, passes, refusal, unless}
 use Rattle.qn_model.specs.Steps.{run, step}
@@ -22,7 +22,7 @@ use Rattle.qn_joined.specs.Joints.{Host, Joint, MayHappen, happens, host_passes,
 use Rattle.qn_joined.specs.Moves.{Grows}
 use Rattle.qn_joined.specs.Numbers.{AllMay}
 use Rattle.qn_joined.specs.Stands.{log_at}
-use Rattle.qn_joined.specs.WorldOf.{HasWorld, IsFresh, IsNode, IsWorld}
+use Rattle.qn_joined.specs.WorldOf.{HasWorld, IsNode, IsWorld}
 use Rattle.qn_joined.proofs.Frames.{backed_grows, grows_more, knows_grows}
 use Rattle.qn_joined.proofs.Images.{same_image}
 

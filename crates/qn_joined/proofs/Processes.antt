@@ -1,9 +1,8 @@
 -- The calls of each process of a joint are the beginning of a run of its node.
-use Rattle.std.proofs.Common.{◌≡◌, ◌<◌, ◌≤◌, ℕ, Bool, true, false, List, [], ◌∷◌, ◌++◌, Option, None, Some, ◌==◌, if◌then◌else◌, refl, sym, ap, subst, ◌∙◌, append_assoc, arith}
+use Rattle.std.proofs.Common.{◌≡◌, ℕ, Bool, true, false, List, [], ◌∷◌, ◌++◌, Option, None, Some, ◌==◌, if◌then◌else◌, refl, sym, ap, subst, ◌∙◌, append_assoc}
 use Rattle.std.specs.Option.{option_map_or}
 use Rattle.qn_base.specs.declared.calls.Call.{Call}
 use Rattle.qn_base.specs.declared.calls.Call.TheVariants as call
-use Rattle.qn_base.specs.declared.ids.Rank.{Rank}
 use Rattle.std.proofs.lemmas.Bool.{eqb-true}
 use Rattle.qn_model.specs.declared.outputs.Out.{Out}
 use Rattle.qn_model.specs.Moments.{tick_of}
@@ -16,8 +15,8 @@ use Rattle.qn_model.specs.declared.times.Timing.{Timing}
 use Rattle.qn_model.specs.World.{numbered, put, without}
 use Rattle.qn_live.specs.Running.{Ran}
 use Rattle.qn_live.specs.Runs.{live_plan}
-use Rattle.qn_joined.specs.Stands.{Stand, after_call, first_stand, log_at, plan_at}
-use Rattle.qn_joined.specs.Joints.{AllMayHappen, Happening, Passes, Begins, Looks, Lands, Returns, Feeds, LandsLate, Ends, Operates, Host, Joint, after_effect, began, calls_of, ended, happens, joint_after, landed_image, looked_first, MayReturn, returned, takes, waits_for, with_host}
+use Rattle.qn_joined.specs.Stands.{Stand, after_call, log_at, plan_at}
+use Rattle.qn_joined.specs.Joints.{AllMayHappen, Passes, Begins, Looks, Lands, Returns, Feeds, LandsLate, Ends, Operates, Host, Joint, after_effect, began, calls_of, ended, happens, joint_after, landed_image, looked_first, MayReturn, returned, takes, waits_for, with_host}
 use Rattle.qn_joined.specs.Theorem.{IsRunSoFar, RunsAreRuns}
 use Rattle.qn_joined.proofs.Stands.{stand_first, stand_left}
 

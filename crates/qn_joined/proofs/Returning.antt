@@ -1,22 +1,19 @@
 -- Where a call returns, a resource that runs is still held.
-use Rattle.std.proofs.Common.{◌≡◌, ℕ, suc, zero, Bool, true, false, not, ◌&&◌, ◌||◌, ◌==◌, List, [], ◌∷◌, Option, None, Some, if◌then◌else◌, refl, sym, ap, subst, ◌∙◌}
+use Rattle.std.proofs.Common.{◌≡◌, ℕ, suc, zero, Bool, true, false, not, ◌&&◌, ◌||◌, List, Option, None, Some, if◌then◌else◌, refl, sym, ap, subst, ◌∙◌}
 use Rattle.std.specs.Prelude.{nat_lt}
-use Rattle.std.specs.Option.{option_map_or}
 use Rattle.qn_base.specs.declared.calls.Call.{Call}
 use Rattle.qn_base.specs.declared.calls.Call.TheVariants as call
 use Rattle.qn_base.specs.Calls.{blank, is_failed}
 use Rattle.qn_base.specs.Plans.{question}
 use Rattle.qn_io.specs.Answered.{bytes_read, received_in, time_of}
 use Rattle.qn_model.specs.declared.configuration.Settings.{Settings}
-use Rattle.qn_model.specs.declared.entries.What.{What}
-use Rattle.qn_model.specs.declared.entries.What.TheVariants as what
 use Rattle.qn_model.specs.declared.outputs.DiskOp.{DiskOp}
 use Rattle.qn_model.specs.declared.outputs.DiskOp.TheVariants as disk
 use Rattle.qn_model.specs.declared.outputs.Out.{Out}
 use Rattle.qn_model.specs.declared.outputs.Out.TheVariants as out
 use Rattle.qn_model.specs.declared.packets.Packet.{Packet}
 use Rattle.qn_model.specs.declared.packets.Packet.TheVariants as packet
-use Rattle.qn_model.specs.Log.{Line, has_start, now}
+use Rattle.qn_model.specs.Log.{has_start, now}
 use Rattle.qn_model.specs.Holding.{holds, is_stopped}
 use Rattle.qn_model.specs.NodeOutputs.{newest_outs}
 use Rattle.qn_model.specs.Steps.{entry_of}
@@ -26,9 +23,9 @@ use Rattle.qn_live.specs.Running.{RunState}
 use Rattle.qn_live.specs.Choosing.{choice_of, is_entry_for, packet_in}
 use Rattle.qn_live.specs.Greetings.{sends_plan}
 use Rattle.qn_live.specs.Performing.{disk_answer, disk_call, done, noted, out_call, outs_plan, own_number, waits_after}
-use Rattle.qn_joined.specs.Stands.{Spot, Receiving, Looking, Acting, Saying, Parting, Ended, Stand, acts_at, after_call, after_spot, left_plan, log_at, parts_at, plan_at, said_at}
+use Rattle.qn_joined.specs.Stands.{Spot, Receiving, Looking, Acting, Saying, Parting, Ended, after_call, after_spot, left_plan, log_at, parts_at, said_at}
 use Rattle.qn_joined.specs.Joints.{Host, after_effect, returned, waits_for}
-use Rattle.qn_joined.specs.Owning.{Owns, is_calm, is_done_stop, stops_in}
+use Rattle.qn_joined.specs.Owning.{Owns, is_done_stop, stops_in}
 use Rattle.qn_joined.proofs.Owning.{Fine, acts_owns, looks_own, parts_owns, said_owns}
 
 -- what a call does to the resource: 1 looks at the clock, 2 stops it, 0 nothing

@@ -1,6 +1,6 @@
 -- A call that returns, in the world of a joint.
-use Rattle.std.proofs.Common.{◌≡◌, ◌<◌, ◌≤◌, ℕ, Bool, true, false, not, ◌&&◌, List, [], ◌∷◌, ◌++◌, Option, None, Some, ◌==◌, if◌then◌else◌, refl, sym, ap, subst, ◌∙◌, is_some, ◌⊎◌, inl, inr, arith}
-use Rattle.std.specs.Prelude.{Contains, IsTrue, length, slice_index}
+use Rattle.std.proofs.Common.{◌≡◌, ◌<◌, ◌≤◌, ℕ, Bool, true, false, ◌&&◌, List, [], ◌∷◌, ◌++◌, Option, None, Some, ◌==◌, if◌then◌else◌, refl, sym, ap, subst, ◌∙◌, ◌⊎◌, inl, inr, arith}
+use Rattle.std.specs.Prelude.{Contains, length}
 use Rattle.std.specs.Str.{bytes_eq}
 use Rattle.std.specs.Option.{option_map_or}
 use Rattle.std.specs.Prelude.{option_and_then}
@@ -19,28 +19,25 @@ use Rattle.qn_model.specs.declared.outputs.Out.TheVariants as out
 use Rattle.qn_model.specs.declared.packets.Packet.{Packet}
 use Rattle.qn_model.specs.declared.packets.Packet.TheVariants as packet
 use Rattle.qn_model.specs.declared.packets.Sent.{Sent}
-use Rattle.qn_model.specs.Moments.{Running, is_gone, packets, tick_of, time}
+use Rattle.qn_model.specs.Moments.{Running, is_gone, packets, time}
 use Rattle.qn_model.specs.Phases.{phase}
 use Rattle.qn_model.specs.Steps.{run}
 use Rattle.qn_model.specs.World.{World, node_at}
 use Rattle.qn_wire.specs.Packets.{is_well_formed, packet_bytes}
 use Rattle.qn_wire.specs.Reading.{fields_of, packet_of, rank_at, view_at}
-use Rattle.qn_live.specs.declared.place.Choice.{Choice}
 use Rattle.qn_live.specs.Greetings.{sends_plan}
-use Rattle.qn_live.specs.Performing.{disk_call, end_after, out_call, outs_plan, own_number}
-use Rattle.qn_live.specs.Running.{RunState}
+use Rattle.qn_live.specs.Performing.{disk_call, out_call, outs_plan, own_number}
 use Rattle.qn_joined.specs.Joints as joints
 use Rattle.qn_joined.specs.Joints.{FitsImage, Host, Joint, MayAnswer, MayHappen, MayReturn, after_effect, counts, happens, is_timed, packet_said, returned, sent_by, waits_for, with_host}
 use Rattle.qn_joined.specs.Moves.{IsNodeIn, LogsHold, Moved}
-use Rattle.qn_joined.specs.NodeLogs.{IsNodeLog}
 use Rattle.qn_joined.specs.Nodes.{at, is_looking}
 use Rattle.qn_joined.specs.Numbers.{AllMay}
 use Rattle.qn_joined.specs.Theorem.{PacketsReadBack}
-use Rattle.qn_joined.specs.Stands.{Spot, Receiving, Looking, Acting, Saying, Parting, Ended, left_plan, log_at}
+use Rattle.qn_joined.specs.Stands.{Spot, Receiving, Looking, Acting, Saying, Parting, Ended, left_plan}
 use Rattle.qn_joined.specs.WorldOf.{HasWorld, IsNode, IsWorld, WasSentTo, is_greeting}
 use Rattle.qn_joined.proofs.Boots.{no_event}
 use Rattle.qn_joined.proofs.Calls.{returns_at, timed_on}
-use Rattle.qn_joined.proofs.Frames.{Knows, knows_grows, one_moves}
+use Rattle.qn_joined.proofs.Frames.{Knows, one_moves}
 use Rattle.qn_joined.proofs.Images.{same_image}
 use Rattle.qn_joined.proofs.Looks.{looks_in_world}
 use Rattle.qn_joined.proofs.Standing.{first_greets}

@@ -1,9 +1,7 @@
 -- A joint that is met: one node over a new image boots and starts its resource.
-use Rattle.std.proofs.Common.{◌≡◌, ◌<◌, ℕ, suc, zero, Bool, true, false, List, [], ◌∷◌, ◌++◌, ◌==◌, length, Some, None, if◌then◌else◌, refl, arith}
-use Rattle.qn_base.specs.declared.calls.Call.{Call}
+use Rattle.std.proofs.Common.{◌≡◌, ◌<◌, ℕ, suc, zero, true, false, List, [], ◌∷◌, ◌==◌, None, if◌then◌else◌, refl, arith}
 use Rattle.qn_base.specs.declared.calls.Call.TheVariants as call
 use Rattle.qn_base.specs.declared.calls.Received.TheVariants as received
-use Rattle.qn_base.specs.declared.ids.View.{View}
 use Rattle.qn_model.specs.declared.configuration.Settings.{Settings}
 use Rattle.qn_model.specs.declared.times.Timing.{Timing}
 use Rattle.qn_model.specs.declared.disk.Message.TheVariants as message
@@ -16,7 +14,7 @@ use Rattle.qn_model.specs.Hearing.{told}
 use Rattle.qn_model.specs.Licences.{out_time, slot_read_since, reset_since}
 use Rattle.qn_model.specs.Unmet.{least_from, unmet}
 use Rattle.qn_model.specs.Wanted.{mail_tick, wanted_with_delay}
-use Rattle.qn_model.specs.NodeOutputs.{moment, acts, outs_at, with_entry, log_from, log_of}
+use Rattle.qn_model.specs.NodeOutputs.{moment, acts, outs_at, with_entry, log_from}
 use Rattle.qn_model.specs.Sectors.{anonymous, header_bytes, header_bytes_in, mail_bytes, slot_bytes}
 use Rattle.qn_model.specs.World.{failed}
 use Rattle.qn_sector.specs.Reading.{header_in, mail_of, slot_of}
@@ -24,9 +22,9 @@ use Rattle.qn_member.specs.Maker.{after_tick, ranks_that, view_at}
 use Rattle.qn_live.specs.Choosing.{choice_plan}
 use Rattle.qn_live.specs.Greetings.{sends_plan}
 use Rattle.qn_live.specs.Performing.{disk_call, done, out_call, outs_plan, waits_after}
-use Rattle.qn_live.specs.Runs.{clocked, greeted, handled, live_plan, parted, run_plan, settled, turns_end}
+use Rattle.qn_live.specs.Runs.{clocked, greeted, handled, live_plan, parted, run_plan, settled}
 use Rattle.qn_joined.specs.Stands.{after_spot, left_plan}
-use Rattle.qn_joined.specs.Joints.{AllMayHappen, FitsImage, Happening, Begins, Feeds, Lands, Looks, Passes, Returns, IsJoined, IsNewImage, happens, joint_after, looked_first, returned, runs_at}
+use Rattle.qn_joined.specs.Joints.{AllMayHappen, FitsImage, Happening, Begins, Feeds, Lands, Looks, Passes, Returns, IsNewImage, happens, joint_after, looked_first, returned, runs_at}
 use Rattle.qn_joined.specs.Theorem.{OneRuns}
 
 abbrev one_node : Settings

@@ -1,9 +1,8 @@
 -- What waits in a state, and what is still to be performed, is backed by the world at each stand that follows.
-use Rattle.std.proofs.Common.{◌≡◌, ℕ, suc, zero, Bool, true, false, not, ◌&&◌, ◌+◌, List, [], ◌∷◌, ◌++◌, Option, None, Some, if◌then◌else◌, refl, sym, ap, subst, ◌∙◌, is_some}
+use Rattle.std.proofs.Common.{◌≡◌, ℕ, suc, zero, Bool, true, false, ◌&&◌, List, [], ◌∷◌, ◌++◌, Option, None, Some, if◌then◌else◌, refl, ap, ◌∙◌, is_some}
 use Rattle.qn_model.specs.declared.configuration.Settings.{Settings}
 use Rattle.qn_model.specs.declared.entries.What.{What}
 use Rattle.qn_model.specs.declared.entries.What.TheVariants as what
-use Rattle.qn_model.specs.declared.outputs.DiskOp.{DiskOp}
 use Rattle.qn_model.specs.declared.outputs.Out.{Out}
 use Rattle.qn_model.specs.declared.packets.Packet.{Packet}
 use Rattle.qn_model.specs.declared.packets.Packet.TheVariants as packet
@@ -28,7 +27,7 @@ use Rattle.qn_live.specs.Greetings.{farewell_after, greeting_packet, is_due, oth
 use Rattle.qn_live.specs.Performing.{end_after, end_in}
 use Rattle.qn_live.specs.Runs.{hello_asked, with_maker}
 use Rattle.qn_joined.specs.Joints.{counts}
-use Rattle.qn_joined.specs.Stands.{Spot, acts_at, begun_at, farewells_due, greeted_at, parts_at, said_at, sends_due, settled_by, taking}
+use Rattle.qn_joined.specs.Stands.{acts_at, begun_at, farewells_due, parts_at, said_at, sends_due, settled_by, taking}
 use Rattle.qn_joined.specs.WorldOf.{ComesAs, ComesIn, IsAnswer, IsBacked, IsEnding, Performs, Waiting, WasSentTo, all_greet, disk_ahead, greets_at, is_answer_in, is_greeting}
 
 -- an answer comes in

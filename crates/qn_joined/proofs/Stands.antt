@@ -1,15 +1,15 @@
 -- What is left of a run after a call is what is left where it stands then.
-use Rattle.std.proofs.Common.{◌≡◌, ℕ, suc, zero, Bool, true, false, ◌+◌, ◌-◌, List, [], ◌∷◌, Option, None, Some, if◌then◌else◌, refl, sym, ap, subst, ◌∙◌}
+use Rattle.std.proofs.Common.{◌≡◌, ℕ, suc, zero, Bool, true, false, ◌+◌, List, [], ◌∷◌, Option, None, Some, if◌then◌else◌, refl}
 use Rattle.std.specs.Prelude.{nat_lt}
 use Rattle.std.specs.Option.{option_map_or}
 use Rattle.qn_base.specs.declared.calls.Call.{Call}
-use Rattle.qn_base.specs.Plans.{Plan, Ends, Asks, ◌>>=◌, left}
-use Rattle.qn_io.specs.Answered.{received_in, time_of}
+use Rattle.qn_base.specs.Plans.{Plan, Ends, ◌>>=◌, left}
+use Rattle.qn_io.specs.Answered.{time_of}
 use Rattle.qn_model.specs.declared.configuration.Settings.{Settings}
 use Rattle.qn_model.specs.declared.entries.What.{What}
 use Rattle.qn_model.specs.declared.outputs.Out.{Out}
 use Rattle.qn_model.specs.declared.packets.Sent.{Sent}
-use Rattle.qn_model.specs.Log.{Line, now}
+use Rattle.qn_model.specs.Log.{now}
 use Rattle.qn_model.specs.NodeOutputs.{newest_outs}
 use Rattle.qn_member.specs.Maker.{Maker}
 use Rattle.qn_live.specs.declared.live_end.LiveEnd.{LiveEnd}
@@ -17,11 +17,11 @@ use Rattle.qn_live.specs.declared.live_end.LiveEnd.TheVariants as end
 use Rattle.qn_live.specs.declared.place.Choice.{Choice}
 use Rattle.qn_live.specs.declared.place.Choice.TheVariants as choice
 use Rattle.qn_live.specs.declared.place.Waits.{Waits}
-use Rattle.qn_live.specs.Running.{RunState, Turned, Over, Next, Ran, first_state, later}
-use Rattle.qn_live.specs.Choosing.{choice_of, choice_plan, is_to_leave, looked, packet_in, ready, receive_plan}
-use Rattle.qn_live.specs.Greetings.{farewell_after, farewells, sends_plan}
+use Rattle.qn_live.specs.Running.{RunState, Turned, Over, Next, Ran, later}
+use Rattle.qn_live.specs.Choosing.{choice_of, choice_plan, is_to_leave, looked, ready, receive_plan}
+use Rattle.qn_live.specs.Greetings.{sends_plan}
 use Rattle.qn_live.specs.Performing.{end_in, noted, outs_plan}
-use Rattle.qn_live.specs.Runs.{clocked, greeted, handled, hello_asked, live_plan, parted, run_plan, settled, taken, timed, turn_plan, turns_end, with_maker}
+use Rattle.qn_live.specs.Runs.{clocked, greeted, handled, hello_asked, live_plan, parted, run_plan, settled, taken, timed, with_maker}
 use Rattle.qn_joined.specs.Stands.{Spot, Receiving, Looking, Acting, Saying, Parting, Ended, Stand, acts_at, after_call, after_spot, begun_at, clocked_by, first_stand, greeted_at, handled_at, farewells_due, left_plan, parts_at, plan_at, said_at, sends_due, settled_by, taking}
 
 -- the turns that follow

@@ -1,14 +1,12 @@
 -- What the bytes of an image give a node is what its operation takes in the world.
-use Rattle.std.proofs.Common.{◌≡◌, ◌<◌, ◌≤◌, ℕ, Bool, true, false, List, Option, None, Some, if◌then◌else◌, refl, sym, ap, ◌∙◌, arith}
+use Rattle.std.proofs.Common.{◌≡◌, ◌<◌, ◌≤◌, ℕ, true, List, Some, if◌then◌else◌, refl, ap, ◌∙◌, arith}
 use Rattle.std.specs.Prelude.{◌==◌, ◌^◌, IsTrue, IfSome, length}
 use Rattle.std.specs.Option.{option_map_or}
 use Rattle.qn_base.specs.declared.ids.NodeId.{NodeId}
-use Rattle.qn_base.specs.declared.ids.Rank.{Rank}
 use Rattle.qn_model.specs.declared.configuration.Settings.{Settings}
 use Rattle.qn_model.specs.declared.disk.Slot.{Slot}
 use Rattle.qn_model.specs.declared.mailbox.Mail.{Mail}
 use Rattle.qn_model.specs.declared.times.Timing.{Timing}
-use Rattle.qn_model.specs.declared.outputs.DiskOp.{DiskOp}
 use Rattle.qn_model.specs.declared.outputs.DiskOp.TheVariants as disk
 use Rattle.qn_model.specs.declared.seen.HeaderSeen.TheVariants as header
 use Rattle.qn_model.specs.declared.seen.SlotSeen.TheVariants as slot
@@ -19,10 +17,10 @@ use Rattle.qn_model.specs.Timing.{has_periods}
 use Rattle.qn_model.specs.Unmet.{id_of}
 use Rattle.qn_model.specs.World.{World, taken}
 use Rattle.qn_sector.specs.Reading.{header_of, mail_of, slot_of}
-use Rattle.qn_live.specs.Performing.{done, header_seen, mail_seen, slot_seen}
+use Rattle.qn_live.specs.Performing.{done, mail_seen, slot_seen}
 use Rattle.qn_joined.specs.Joints.{FitsImage}
-use Rattle.qn_joined.specs.WorldOf.{IsImage, IsOperation}
-use Rattle.qn_joined.specs.Theorem.{TakesAlike, place_of}
+use Rattle.qn_joined.specs.WorldOf.{IsImage}
+use Rattle.qn_joined.specs.Theorem.{TakesAlike}
 
 -- what was put is read back
 pub record ReadsBack : Type 0 where

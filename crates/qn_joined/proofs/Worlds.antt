@@ -1,6 +1,6 @@
 -- Every joint has a world.
-use Rattle.std.proofs.Common.{◌≡◌, ◌<◌, ◌≤◌, ◌+◌, ℕ, Bool, true, false, List, [], ◌∷◌, ◌++◌, Option, None, Some, refl, sym, ap, subst, ◌∙◌, arith}
-use Rattle.std.specs.Prelude.{◌^◌, length, nat_le}
+use Rattle.std.proofs.Common.{◌≡◌, ◌<◌, ◌≤◌, ◌+◌, ℕ, true, false, List, [], ◌∷◌, None, refl, sym, subst, arith}
+use Rattle.std.specs.Prelude.{length, nat_le}
 use Rattle.std.specs.Option.{option_map_or}
 use Rattle.qn_base.specs.declared.calls.Call.TheVariants as call
 use Rattle.qn_model.specs.declared.configuration.Settings.{Settings}
@@ -8,13 +8,12 @@ use Rattle.qn_model.specs.declared.times.Timing.{Timing}
 use Rattle.qn_model.specs.declared.events.Event.{Event}
 use Rattle.qn_model.specs.Moments.{node, packets, tick_of, time}
 use Rattle.qn_model.specs.Steps.{run}
-use Rattle.qn_model.specs.World.{node_at}
 use Rattle.qn_joined.specs.Joints as joints
 use Rattle.qn_joined.specs.Joints.{AllMayHappen, FitsImage, Happening, Host, IsJoined, IsNewImage, Joint, MayHappen, began, ended, first_joint, happens, joint_after, looked_first, with_host}
 use Rattle.qn_joined.specs.Moves.{LogsHold, Moved}
 use Rattle.qn_joined.specs.Numbers.{AllMay}
 use Rattle.qn_joined.specs.Theorem.{MailsReadBack, PacketsReadBack, TakesAlike}
-use Rattle.qn_joined.specs.WorldOf.{NoCall, EveryJointHasAWorld, HasWorld, IsNode, IsWorld}
+use Rattle.qn_joined.specs.WorldOf.{NoCall, EveryJointHasAWorld, HasWorld, IsWorld}
 use Rattle.qn_joined.proofs.Boots.{begins_as_node, boots_in_world, feeds_in_world, no_event}
 use Rattle.qn_joined.proofs.Endings.{ends_in_world}
 use Rattle.qn_joined.proofs.Frames.{knows_grows, one_moves}

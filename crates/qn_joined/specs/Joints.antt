@@ -1,6 +1,6 @@
 -- Running nodes that share one outside: one image, one network, true time, and a watchdog each. What the outside may do, and
 -- what every call answers. This project's profile.
-use Rattle.std.specs.Prelude.{◌≡◌, ◌<◌, ◌≤◌, ℕ, suc, zero, Bool, true, false, not, ◌&&◌, ◌||◌, ◌==◌, ◌+◌, ◌*◌, nat_le, List, [], ◌∷◌, ◌++◌, Option, None, Some, is_some, length, Contains, IsTrue, ◌^◌, if◌then◌else◌, slice_get, replicate}
+use Rattle.std.specs.Prelude.{◌≡◌, ◌<◌, ◌≤◌, ℕ, Bool, true, false, not, ◌&&◌, ◌||◌, ◌==◌, ◌+◌, nat_le, List, [], ◌∷◌, ◌++◌, Option, None, Some, is_some, length, Contains, IsTrue, ◌^◌, if◌then◌else◌}
 use Rattle.std.specs.Option.{option_map_or}
 use Rattle.std.specs.List.{list_all}
 use Rattle.qn_base.specs.declared.calls.Call.{Call}
@@ -18,7 +18,7 @@ use Rattle.qn_model.specs.declared.packets.Packet.{Packet}
 use Rattle.qn_model.specs.declared.packets.Packet.TheVariants as packet
 use Rattle.qn_model.specs.declared.outputs.Out.{Out}
 use Rattle.qn_model.specs.declared.outputs.Out.TheVariants as out
-use Rattle.qn_model.specs.Log.{Line, has_start}
+use Rattle.qn_model.specs.Log.{has_start}
 use Rattle.qn_model.specs.Moments.{advance_of, has_feed, is_gone, tick_of}
 use Rattle.qn_model.specs.NodeOutputs.{newest_outs}
 use Rattle.qn_model.specs.Phases.{phase}
@@ -30,8 +30,6 @@ use Rattle.qn_model.specs.World.{numbered, put, without}
 use Rattle.qn_sector.specs.Reading.{mail_of}
 use Rattle.qn_wire.specs.Packets.{is_well_formed}
 use Rattle.qn_wire.specs.Reading.{packet_of}
-use Rattle.qn_live.specs.Performing.{mail_seen}
-use Rattle.qn_live.specs.Running.{Ran}
 use Rattle.qn_joined.specs.Stands.{Spot, Receiving, Looking, Acting, Saying, Parting, Ended, Stand, after_call, first_stand, log_at, plan_at}
 
 -- One host. `on` says that its machine runs, from the arming of its watchdog on; `asked` that its process has looked at the

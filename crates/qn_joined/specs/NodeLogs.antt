@@ -1,21 +1,15 @@
 -- What holds of the log of each node of a world: this project's profile.
-use Rattle.std.specs.Prelude.{◌≡◌, ◌<◌, ℕ, Bool, true, false, List, [], ◌∷◌, Some, None, length, ◌^◌}
+use Rattle.std.specs.Prelude.{◌≡◌, ◌<◌, Bool, true, false, List, [], ◌∷◌, Some, None, ◌^◌}
 use Rattle.qn_model.specs.declared.configuration.Settings.{Settings}
-use Rattle.qn_model.specs.declared.times.Timing.{Timing}
-use Rattle.qn_model.specs.declared.events.Event.{Event}
 use Rattle.qn_model.specs.declared.outputs.DiskOp.{DiskOp}
 use Rattle.qn_model.specs.declared.outputs.Out.{Out}
 use Rattle.qn_model.specs.declared.outputs.Out.TheVariants as out
-use Rattle.qn_model.specs.declared.outputs.HaltKind.TheVariants as halt
 use Rattle.qn_model.specs.Holding.{holds}
 use Rattle.qn_model.specs.Log.{Line, disk_of, is_answer, op_out}
 use Rattle.qn_model.specs.Moments.{is_gone}
 use Rattle.qn_model.specs.NodeOutputs.{newest_outs}
 use Rattle.qn_model.specs.Phases.{phase}
-use Rattle.qn_model.specs.Steps.{run}
-use Rattle.qn_model.specs.World.{node_at}
 use Rattle.qn_live.specs.Performing.{own_number}
-use Rattle.qn_joined.specs.Numbers.{AllMay}
 use Rattle.qn_joined.specs.WorldOf.{IsOperation, is_disk_last}
 
 -- the output ends a run: a disarm, or a halt

@@ -10,7 +10,7 @@ use Rattle.qn_model.specs.declared.outputs.Out.{Out}
 use Rattle.qn_model.specs.declared.outputs.Out.TheVariants as out
 use Rattle.qn_model.specs.declared.packets.Packet.{Packet}
 use Rattle.qn_model.specs.declared.packets.Sent.{Sent}
-use Rattle.qn_model.specs.Log.{Line, is_answer, now, op_out}
+use Rattle.qn_model.specs.Log.{is_answer, now, op_out}
 use Rattle.qn_model.specs.Moments.{Running, handed, tick_of}
 use Rattle.qn_model.specs.NodeOutputs.{newest_outs}
 use Rattle.qn_model.specs.World.{given_up}

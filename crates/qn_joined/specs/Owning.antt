@@ -1,10 +1,9 @@
 -- A resource that runs is held: what is known of a running node alone. This project's profile.
-use Rattle.std.specs.Prelude.{◌≡◌, ℕ, Bool, true, false, not, List, Option, None, Some}
+use Rattle.std.specs.Prelude.{◌≡◌, Bool, true, false, not, Option, None, Some}
 use Rattle.qn_model.specs.declared.entries.What.{What}
 use Rattle.qn_model.specs.Holding.{holds, is_stopped}
 use Rattle.qn_live.specs.declared.place.Choice.{Choice}
 use Rattle.qn_live.specs.declared.place.Choice.TheVariants as choice
-use Rattle.qn_live.specs.Running.{RunState}
 use Rattle.qn_joined.specs.Stands.{Spot, Receiving, Looking, Acting, Saying, Parting, Ended, log_at, waits_at}
 
 -- a stop that succeeded waits for its turn

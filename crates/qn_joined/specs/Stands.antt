@@ -1,8 +1,8 @@
 -- Where a running node stands between two calls, as a value, and what is left of its run there: this project's profile.
-use Rattle.std.specs.Prelude.{◌≡◌, ℕ, zero, suc, Bool, ◌+◌, ◌-◌, nat_lt, List, [], ◌∷◌, Option, None, Some, if◌then◌else◌}
+use Rattle.std.specs.Prelude.{ℕ, zero, suc, Bool, ◌+◌, ◌-◌, nat_lt, List, [], ◌∷◌, Option, None, Some, if◌then◌else◌}
 use Rattle.std.specs.Option.{option_map_or}
 use Rattle.qn_base.specs.declared.calls.Call.{Call}
-use Rattle.qn_base.specs.Plans.{Plan, Ends, Asks, ◌>>=◌}
+use Rattle.qn_base.specs.Plans.{Plan, Ends, ◌>>=◌}
 use Rattle.qn_io.specs.Answered.{received_in, time_of}
 use Rattle.qn_model.specs.declared.configuration.Settings.{Settings}
 use Rattle.qn_model.specs.declared.entries.What.{What}
@@ -18,7 +18,7 @@ use Rattle.qn_live.specs.declared.place.Choice.{Choice}
 use Rattle.qn_live.specs.declared.place.Choice.TheVariants as choice
 use Rattle.qn_live.specs.declared.place.Greeting.TheVariants as greeting
 use Rattle.qn_live.specs.declared.place.Waits.{Waits}
-use Rattle.qn_live.specs.Running.{RunState, first_state, Turned, Over, Next, Ran, later}
+use Rattle.qn_live.specs.Running.{RunState, first_state, Over, Next, Ran, later}
 use Rattle.qn_live.specs.Choosing.{choice_of, is_to_leave, looked, packet_in, ready, receive_plan}
 use Rattle.qn_live.specs.Performing.{end_in, noted, outs_plan}
 use Rattle.qn_live.specs.Greetings.{farewell_after, farewells, is_due, sends_plan, to_send}

@@ -1,5 +1,5 @@
 -- The world that a joint is an image of: the events that happened in it. This project's profile.
-use Rattle.std.specs.Prelude.{◌≡◌, ◌<◌, ◌≤◌, ℕ, Bool, true, false, not, ◌&&◌, List, [], ◌∷◌, ◌++◌, Option, None, Some, is_some, is_none, length, Contains, IfSome, ◌^◌, ◌⊎◌, if◌then◌else◌}
+use Rattle.std.specs.Prelude.{◌≡◌, ◌<◌, ◌≤◌, ℕ, Bool, true, false, ◌&&◌, List, [], ◌∷◌, ◌++◌, Option, None, Some, is_some, is_none, length, Contains, IfSome, ◌^◌, ◌⊎◌, if◌then◌else◌}
 use Rattle.qn_base.specs.declared.calls.Call.{Call}
 use Rattle.qn_model.specs.declared.configuration.Settings.{Settings}
 use Rattle.qn_model.specs.declared.times.Timing.{Timing}
@@ -17,14 +17,11 @@ use Rattle.qn_model.specs.declared.entries.What.TheVariants as what
 use Rattle.qn_model.specs.Holding.{holds, stop_due}
 use Rattle.qn_model.specs.Log.{Line, disk_of, is_answer, now, op_out}
 use Rattle.qn_model.specs.Moments.{Running, is_gone, packets, tick_of, time}
-use Rattle.qn_model.specs.NodeOutputs.{newest_outs}
 use Rattle.qn_model.specs.Phases.{phase}
-use Rattle.qn_model.specs.Rules.{refusal}
 use Rattle.qn_model.specs.Sectors.{IsSender, header_bytes, mail_bytes, mail_place, slot_bytes, slot_place}
 use Rattle.qn_model.specs.Steps.{run}
 use Rattle.qn_model.specs.Unmet.{id_of}
 use Rattle.qn_model.specs.World.{World, failed, given_up, node_at}
-use Rattle.qn_wire.specs.Packets.{packet_bytes}
 use Rattle.qn_wire.specs.Reading.{packet_of}
 use Rattle.qn_live.specs.declared.place.Choice.{Choice}
 use Rattle.qn_live.specs.declared.place.Choice.TheVariants as choice

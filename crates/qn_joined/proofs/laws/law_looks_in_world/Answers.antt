@@ -1,4 +1,3 @@
-use Rattle.qn_joined.proofs.Frames.{one_moves}
 use Rattle.qn_joined.proofs.Looks.{looks_in_world}
 use Rattle.qn_joined.proofs.laws.law_looks_in_world.Goals as goal
 
