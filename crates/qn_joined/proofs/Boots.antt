@@ -1,0 +1,304 @@
+-- The boot of a running node, its feeds and its end, as events of its world.
+use Rattle.std.proofs.Common.{◌≡◌, ◌<◌, ◌≤◌, ℕ, suc, Bool, true, false, not, ◌&&◌, ◌+◌, List, [], ◌∷◌, Option, None, if◌then◌else◌, refl, sym, ap, subst, ◌∙◌, arith}
+use Rattle.std.specs.Prelude.{◌==◌, length, nat_le}
+use Rattle.std.specs.Option.{option_or, option_map_or}
+use Rattle.std.proofs.lemmas.Bool.{lt-ltb}
+use Rattle.std.proofs.lemmas.List.Elements.{Contains-append_right}
+use Rattle.qn_base.specs.declared.calls.Call.TheVariants as call
+use Rattle.qn_model.specs.declared.configuration.Settings.{Settings}
+use Rattle.qn_model.specs.declared.times.Timing.{Timing}
+use Rattle.qn_model.specs.declared.entries.What.{What}
+use Rattle.qn_model.specs.declared.events.Event.{Event}
+use Rattle.qn_model.specs.declared.events.Event.TheVariants as event
+use Rattle.qn_model.specs.declared.outputs.DiskOp.{DiskOp}
+use Rattle.qn_model.specs.declared.packets.Sent.{Sent}
+use Rattle.qn_model.specs.Holding.{holds}
+use Rattle.qn_model.specs.Log.{is_answer, now, op_out}
+use Rattle.qn_model.specs.Moments.{Boots, Feeds, Moment, Running, begin_of, booted, given_out, handed, is_gone, node, packets, tick_of, time}
+use Rattle.qn_model.specs.NodeOutputs.{newest_outs}
+use Rattle.qn_model.specs.Phases.{phase}
+use Rattle.qn_model.specs.Rules.{may_feed, refusal, unless}
+use Rattle.qn_model.specs.Steps.{boots, happens, run, step}
+use Rattle.qn_model.specs.Wanted.{rank_of}
+use Rattle.qn_model.specs.World.{World, node_at}
+use Rattle.qn_live.specs.declared.place.Choice.{Choice}
+use Rattle.qn_live.specs.declared.place.Choice.TheVariants as choice
+use Rattle.qn_live.specs.Running.{RunState, first_state}
+use Rattle.qn_joined.specs.Joints.{Host, looked_first, returned}
+use Rattle.qn_joined.specs.Moves.{BeginsAsNode, BootsInWorld, Changes, FeedsInWorld, IsNodeIn, LogsHold, Moved}
+use Rattle.qn_joined.specs.NodeLogs.{IsNodeLog}
+use Rattle.qn_joined.specs.Nodes.{AllSaid, IsReady, Spends}
+use Rattle.qn_joined.specs.Numbers.{AllMay, is_ranked}
+use Rattle.qn_joined.specs.Stands.{Stand, first_stand, log_at}
+use Rattle.qn_joined.specs.WorldOf.{AreAmong, NoCall, IsFresh, IsNode, disk_ahead}
+use Rattle.qn_joined.proofs.Frames.{grows_more, node_grows, own, put_other, put_same}
+use Rattle.qn_joined.proofs.Handing.{handed_at}
+use Rattle.qn_joined.proofs.Looks.{all_said}
+
+-- a process that begins is a node that is off
+pub begins_as_node : (s : Settings) (rank : ℕ) → BeginsAsNode s rank
+unfolding phase holds
+begins_as_node s rank host n took left all clean leave turns begun is off =
+    record {
+      on = off_now;
+      log = λ on. absurd (lives on);
+      clock = λ on. absurd (lives on);
+      tick = λ on. absurd (lives on);
+      fed = λ on. absurd (lives on);
+      decided = λ on. absurd (lives on);
+      silent = is.silent;
+      backed = λ on. absurd (lives on);
+      idle = λ on none. refl;
+      among = NoCall;
+      fresh = λ on unasked. record { clean = clean; turns = turns; stand = refl; decided = refl; runs = refl; left = refl };
+      greets = refl;
+      ending = λ on gone. absurd cc;
+      rests = λ on gone. refl;
+    }
+  where
+    off_now : n.on ≡ false
+    off_now = is.on ∙ ap (λ b. b && host.asked && not (is_gone (phase s (log_at host.stand.spot)))) off
+
+    lives : n.on ≡ true → ⊥
+    lives on = let both = sym off_now ∙ on in cc
+
+node_own_boots : (s : Settings) (rank base : ℕ) (clean : Bool) (ms : List Moment) → node s rank (Boots rank base clean ∷ ms) ≡ booted s rank (time ms) base clean (node s rank ms)
+unfolding node
+node_own_boots s rank base clean ms = ap (λ b. if b then booted s rank (time ms) base clean (node s rank ms) else node s rank ms) (own rank)
+
+node_apart_boots : (s : Settings) (rank r base : ℕ) (clean : Bool) (ms : List Moment) → (rank == r) ≡ false → node s r (Boots rank base clean ∷ ms) ≡ node s r ms
+unfolding node
+node_apart_boots s rank r base clean ms e = ap (λ b. if b then booted s r (time ms) base clean (node s r ms) else node s r ms) e
+
+said_at_boot : (s : Settings) (rank base : ℕ) (clean : Bool) (ms : List Moment)
+    → AllSaid (packets s (Boots rank base clean ∷ ms)) (newest_outs (node s rank (Boots rank base clean ∷ ms)).log)
+unfolding packets given_out
+said_at_boot s rank base clean ms =
+    all_said _ (newest_outs (node s rank (Boots rank base clean ∷ ms)).log) (λ sent is. Contains-append_right (packets s ms) _ sent is)
+
+-- the event of a boot
+abbrev boot_event : ℕ → ℕ → Bool → Event
+boot_event rank base false = event.Boot (rank_of rank) base
+boot_event rank base true = event.BootClean (rank_of rank) base
+
+boot_ranked : (s : Settings) (rank base : ℕ) (clean : Bool) → rank < length s.nodes → is_ranked s (boot_event rank base clean) ≡ true
+boot_ranked s rank base false below = lt-ltb rank (length s.nodes) below
+boot_ranked s rank base true below = lt-ltb rank (length s.nodes) below
+
+boot_allowed : (s : Settings) (t : Timing) (rank base : ℕ) (clean : Bool) (w : World) → (node_at s rank w).on ≡ false → refusal s t (boot_event rank base clean) w ≡ None
+unfolding refusal
+boot_allowed s t rank base false w off = ap (λ b. unless (not b) 2) off
+boot_allowed s t rank base true w off = ap (λ b. unless (not b) 2) off
+
+boot_steps : (s : Settings) (t : Timing) (rank base : ℕ) (clean : Bool) (w : World) → step s t (boot_event rank base clean) w ≡ boots rank base clean w
+unfolding step
+boot_steps s t rank base false w = refl
+boot_steps s t rank base true w = refl
+
+begin_plain : (clean : Bool) → is_answer (begin_of clean) ≡ false
+begin_plain false = refl
+begin_plain true = refl
+
+boots_changes : (s : Settings) (rank base : ℕ) (clean : Bool) (w : World) → Changes s rank w (boots rank base clean w)
+unfolding time packets
+boots_changes s rank base clean w =
+    record {
+      time = refl;
+      grows = grows_more (packets s w.moments) _;
+      node = λ r apart. node_apart_boots s rank r base clean w.moments apart;
+      took = λ r apart. put_other w.took rank r None apart;
+      left = λ r apart. put_other w.left rank r [] apart;
+    }
+
+first_is : (s : Settings) (rank base now : ℕ) (host : Host) (stand : Stand)
+    → looked_first s rank base now (record host { stand = stand }) ≡ returned s rank (call.Now (tick_of base)) now (record host { asked = true; clock = base; stand = stand })
+unfolding looked_first returned
+first_is s rank base now host stand = refl
+
+module _ (s : Settings) (t : Timing) (rank : ℕ) (events : List Event) (host : Host) (base : ℕ) (logs : LogsHold s t) (below : rank < length s.nodes) (may : AllMay s t events)
+    (is : IsNodeIn s rank host (run s t events)) (on : host.on ≡ true) (unasked : host.asked ≡ false) (fed : host.fed ≤ time (run s t events).moments) where
+  abbrev w : World
+  w = run s t events
+
+  fresh : IsFresh host
+  fresh = is.fresh on unasked
+
+  off_now : (node_at s rank w).on ≡ false
+  off_now = is.on ∙ ap (λ b. host.on && b && not (is_gone (phase s (log_at host.stand.spot)))) unasked ∙ ap (λ b. b && false && not (is_gone (phase s (log_at host.stand.spot)))) on
+
+  abbrev before : Running
+  before = record { on = true; boots = suc (node_at s rank w).boots; log = []; clock = base; fed = time w.moments; decided = None }
+
+  abbrev first : Host
+  first = record host { asked = true; clock = base; stand = first_stand fresh.clean fresh.turns }
+
+  abbrev chosen : Choice × RunState
+  chosen = (choice.Whole (begin_of fresh.clean), first_state)
+
+  abbrev after : World
+  after = boots rank base fresh.clean w
+
+  host_idle : host.took ≡ None
+  host_idle = is.idle on (ap (λ x. disk_ahead x.spot) fresh.stand)
+
+  ready : IsReady s rank first chosen before None []
+  unfolding op_out
+  ready = record {
+    log = refl;
+    clock = refl;
+    tick = omega arith;
+    fed = fed;
+    decided = sym fresh.decided;
+    silent = λ none. refl;
+    waiting = record { stopped = λ ok e. absurd cc; disk = λ answer e. absurd cc };
+    calm = refl;
+    free = λ answers. refl;
+    idle = host_idle;
+    among = subst (λ l. AreAmong s rank l []) (sym fresh.left) NoCall;
+  }
+
+  spends : Spends s rank (begin_of fresh.clean) first None (after.took rank) [] (after.left rank)
+  spends = record {
+    plain = λ e. (put_same w.took rank None, put_same w.left rank []);
+    answer = λ e. absurd (let both = sym (begin_plain fresh.clean) ∙ e in cc);
+  }
+
+  node_is : node_at s rank after ≡ handed s rank (time w.moments) (begin_of fresh.clean) before
+  unfolding booted
+  node_is = node_own_boots s rank base fresh.clean w.moments
+
+  may_boot : AllMay s t (boot_event rank base fresh.clean ∷ events)
+  unfolding AllMay
+  may_boot = (boot_ranked s rank base fresh.clean below, boot_allowed s t rank base fresh.clean w off_now, may)
+
+  run_is : run s t (boot_event rank base fresh.clean ∷ events) ≡ after
+  unfolding run
+  run_is = boot_steps s t rank base fresh.clean w
+
+  looked_is : looked_first s rank base (time w.moments) host ≡ returned s rank (call.Now (tick_of base)) (time w.moments) first
+  looked_is = ap (λ x. looked_first s rank base (time w.moments) (record host { stand = x })) fresh.stand ∙ first_is s rank base (time w.moments) host (first_stand fresh.clean fresh.turns)
+
+  booted_node : IsNodeIn s rank (looked_first s rank base (time w.moments) host) after
+  booted_node =
+      subst (λ h. IsNodeIn s rank h after) (sym looked_is)
+      (subst (λ x. IsNode s rank (returned s rank (call.Now (tick_of base)) (time w.moments) first) x (after.took rank) (after.left rank) (packets s after.moments)) (sym node_is)
+      (handed_at s rank before None (after.took rank) [] (after.left rank) (packets s after.moments) first chosen (time w.moments) (tick_of base) ready on refl refl
+      (subst (λ x. IsNodeLog s x.log) (ap (node_at s rank) run_is ∙ node_is) (logs (boot_event rank base fresh.clean ∷ events) rank may_boot below))
+      spends (λ e. e) (λ e. e)
+      (subst (λ x. AllSaid (packets s after.moments) (newest_outs x.log)) node_is (said_at_boot s rank base fresh.clean w.moments))))
+
+  boots_here : Moved s t rank events (looked_first s rank base (time w.moments) host)
+  boots_here = record {
+    events' = boot_event rank base fresh.clean ∷ events;
+    may = may_boot;
+    changes = subst (λ x. Changes s rank w x) (sym run_is) (boots_changes s rank base fresh.clean w);
+    slots = ap (λ x. x.slots) run_is;
+    mailboxes = ap (λ x. x.mailboxes) run_is;
+    node = subst (λ x. IsNodeIn s rank (looked_first s rank base (time w.moments) host) x) (sym run_is) booted_node;
+  }
+
+pub boots_in_world : (s : Settings) (t : Timing) → BootsInWorld s t
+boots_in_world s t rank events host base logs below may is on unasked fed = boots_here s t rank events host base logs below may is on unasked fed
+
+-- a node that is off: nothing happens in its world
+pub no_event : {s : Settings} {t : Timing} {rank : ℕ} {events : List Event} {host : Host} → AllMay s t events → IsNodeIn s rank host (run s t events) → Moved s t rank events host
+no_event {s} {t} {rank} {events} {host} may is =
+    record {
+      events' = events;
+      may = may;
+      changes = record { time = refl; grows = λ r p h. h; node = λ r apart. refl; took = λ r apart. refl; left = λ r apart. refl };
+      slots = refl;
+      mailboxes = refl;
+      node = is;
+    }
+
+node_own_feeds : (s : Settings) (rank : ℕ) (ms : List Moment) → node s rank (Feeds rank ∷ ms) ≡ record (node s rank ms) { fed = time ms }
+unfolding node
+node_own_feeds s rank ms = ap (λ b. if b then record (node s rank ms) { fed = time ms } else node s rank ms) (own rank)
+
+node_apart_feeds : (s : Settings) (rank r : ℕ) (ms : List Moment) → (rank == r) ≡ false → node s r (Feeds rank ∷ ms) ≡ node s r ms
+unfolding node
+node_apart_feeds s rank r ms e = ap (λ b. if b then record (node s r ms) { fed = time ms } else node s r ms) e
+
+feeds_changes : (s : Settings) (rank : ℕ) (w : World) → Changes s rank w (happens (Feeds rank) w)
+unfolding time packets
+feeds_changes s rank w =
+    record {
+      time = refl;
+      grows = grows_more (packets s w.moments) _;
+      node = λ r apart. node_apart_feeds s rank r w.moments apart;
+      took = λ r apart. refl;
+      left = λ r apart. refl;
+    }
+
+fed_node : {s : Settings} {rank : ℕ} {host : Host} {n : Running} {took : Option What} {left : List DiskOp} {all : List Sent} (now : ℕ)
+    → IsNode s rank host n took left all → IsNode s rank (record host { fed = now }) (record n { fed = now }) took left all
+fed_node now is =
+    record {
+      on = is.on;
+      log = is.log;
+      clock = is.clock;
+      tick = is.tick;
+      fed = λ on. omega arith;
+      decided = is.decided;
+      silent = is.silent;
+      backed = is.backed;
+      idle = is.idle;
+      among = is.among;
+      fresh = λ on unasked. let f = is.fresh on unasked in record { clean = f.clean; turns = f.turns; stand = f.stand; decided = f.decided; runs = f.runs; left = f.left };
+      ending = is.ending;
+      greets = is.greets;
+      rests = is.rests;
+    }
+
+unfed_node : {s : Settings} {rank : ℕ} {host : Host} {n : Running} {took : Option What} {left : List DiskOp} {all : List Sent} (now : ℕ)
+    → n.on ≡ false → IsNode s rank host n took left all → IsNode s rank (record host { fed = now }) n took left all
+unfed_node now off is =
+    record {
+      on = is.on;
+      log = is.log;
+      clock = is.clock;
+      tick = is.tick;
+      fed = λ on. absurd (let both = sym off ∙ on in cc);
+      decided = is.decided;
+      silent = is.silent;
+      backed = is.backed;
+      idle = is.idle;
+      among = is.among;
+      fresh = λ on unasked. let f = is.fresh on unasked in record { clean = f.clean; turns = f.turns; stand = f.stand; decided = f.decided; runs = f.runs; left = f.left };
+      ending = is.ending;
+      greets = is.greets;
+      rests = is.rests;
+    }
+
+module _ (s : Settings) (t : Timing) (rank : ℕ) (events : List Event) (host : Host) (may : AllMay s t events) (is : IsNodeIn s rank host (run s t events))
+    (decided : option_map_or (λ decided. nat_le (time (run s t events).moments) (decided + t.feed_delay)) host.decided false ≡ true) where
+  abbrev fed_world : World
+  fed_world = run s t events
+
+  may_feed_now : (node_at s rank fed_world).on ≡ true → AllMay s t (event.Feed (rank_of rank) ∷ events)
+  unfolding AllMay refusal
+  may_feed_now on = (
+    refl,
+    ap (λ b. option_or (unless b 3) (unless (may_feed s t rank fed_world) 9)) on
+        ∙ ap (λ b. unless b 9) (ap (λ d. option_map_or (λ x. nat_le (time fed_world.moments) (x + t.feed_delay)) d false) (is.decided on) ∙ decided),
+    may,
+  )
+
+  feeds_here : (b : Bool) → (node_at s rank fed_world).on ≡ b → Moved s t rank events (record host { fed = time fed_world.moments })
+  unfolding run step packets
+  feeds_here false off = no_event may (unfed_node (time fed_world.moments) off is)
+  feeds_here true on =
+      record {
+        events' = event.Feed (rank_of rank) ∷ events;
+        may = may_feed_now on;
+        changes = feeds_changes s rank fed_world;
+        slots = refl;
+        mailboxes = refl;
+        node =
+            subst (λ x. IsNode s rank (record host { fed = time fed_world.moments }) x (fed_world.took rank) (fed_world.left rank) (packets s (Feeds rank ∷ fed_world.moments))) (sym (node_own_feeds s rank fed_world.moments))
+            (node_grows (packets s (Feeds rank ∷ fed_world.moments)) (grows_more (packets s fed_world.moments) _) (fed_node (time fed_world.moments) is));
+      }
+
+pub feeds_in_world : (s : Settings) (t : Timing) → FeedsInWorld s t
+feeds_in_world s t rank events host may is decided = feeds_here s t rank events host may is decided (node_at s rank (run s t events)).on refl

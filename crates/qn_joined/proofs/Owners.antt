@@ -1,0 +1,81 @@
+-- At most one resource runs where every joint has a world.
+use Rattle.std.proofs.Common.{◌≡◌, ◌<◌, ◌≤◌, ℕ, Bool, true, false, not, List, Option, refl, ap, ◌∙◌, inl, inr}
+use Rattle.std.specs.Prelude.{◌&&◌, ◌⊎◌, length}
+use Rattle.std.proofs.lemmas.Bool.{cases_lt}
+use Rattle.qn_model.specs.declared.configuration.Settings.{Settings}
+use Rattle.qn_model.specs.declared.times.Timing.{Timing}
+use Rattle.qn_model.specs.declared.entries.What.{What}
+use Rattle.qn_model.specs.declared.outputs.DiskOp.{DiskOp}
+use Rattle.qn_model.specs.declared.packets.Sent.{Sent}
+use Rattle.qn_model.specs.Holding.{holds}
+use Rattle.qn_model.specs.Moments.{Running, is_gone, is_holder}
+use Rattle.qn_model.specs.Phases.{phase}
+use Rattle.qn_model.specs.Steps.{run}
+use Rattle.qn_model.specs.World.{node_at}
+use Rattle.qn_joined.specs.Joints.{Host, Joint}
+use Rattle.qn_joined.specs.Numbers.{OneMayHold}
+use Rattle.qn_joined.specs.Owning.{Owns}
+use Rattle.qn_joined.specs.Stands.{log_at}
+use Rattle.qn_joined.specs.Theorem.{AtMostOneRuns, HostOwns}
+use Rattle.qn_joined.specs.WorldOf.{EveryJointHasAWorld, HasWorld, IsNode}
+use Rattle.qn_joined.proofs.Owned.{always_owns}
+
+both : (on runs : Bool) → (on && runs) ≡ true → (on ≡ true) × (runs ≡ true)
+both true true is = (refl, refl)
+both true false is = absurd cc
+both false runs is = absurd cc
+
+-- a host that is on is configured
+pub configured : {s : Settings} {t : Timing} {j : Joint} (has : HasWorld s t j) (rank : ℕ) → (j.hosts rank).on ≡ true → rank < length s.nodes
+configured {s} {t} {j} has rank on = by_order (cases_lt rank (length s.nodes))
+  where
+    by_order : (rank < length s.nodes) ⊎ (length s.nodes ≤ rank) → rank < length s.nodes
+    by_order (inl within) = within
+    by_order (inr out) = absurd (let off = has.world.off rank out in cc)
+
+-- a process that has not looked at the clock runs no resource
+asked_runs : {s : Settings} {rank : ℕ} {host : Host} {n : Running} {took : Option What} {left : List DiskOp} {all : List Sent}
+    → IsNode s rank host n took left all → host.on ≡ true → host.runs ≡ true → host.asked ≡ true
+asked_runs {host = host} is on runs = by_asked host.asked refl
+  where
+    by_asked : (b : Bool) → host.asked ≡ b → host.asked ≡ true
+    by_asked true e = e
+    by_asked false e = absurd (let fresh = is.fresh on e in let quiet = fresh.runs in cc)
+
+-- nor does a node that is gone
+living_runs : {s : Settings} {rank : ℕ} {host : Host} {n : Running} {took : Option What} {left : List DiskOp} {all : List Sent}
+    → IsNode s rank host n took left all → host.on ≡ true → Owns host.stand.spot host.runs → host.runs ≡ true
+    → is_gone (phase s (log_at host.stand.spot)) ≡ false
+living_runs {s = s} {host = host} is on owns runs = by_gone (is_gone (phase s (log_at host.stand.spot))) refl
+  where
+    by_gone : (b : Bool) → is_gone (phase s (log_at host.stand.spot)) ≡ b → is_gone (phase s (log_at host.stand.spot)) ≡ false
+    by_gone false e = e
+    by_gone true e = absurd (let none = is.rests on e in let held = (owns.held runs).0 in cc)
+
+timed : (on asked gone : Bool) → on ≡ true → asked ≡ true → gone ≡ false → (on && asked && not gone) ≡ true
+timed true true false one two three = refl
+timed false asked gone one two three = cc
+timed true false gone one two three = cc
+timed true true true one two three = cc
+
+holder : (on held : Bool) → on ≡ true → held ≡ true → (on && held) ≡ true
+holder true true one two = refl
+holder false held one two = cc
+holder true false one two = cc
+
+-- a resource that runs is held in the world
+runner_holds : {s : Settings} {t : Timing} {j : Joint} (has : HasWorld s t j) (rank : ℕ) → HostOwns (j.hosts rank)
+    → ((j.hosts rank).on && (j.hosts rank).runs) ≡ true → is_holder s (run s t has.events).moments rank ≡ true
+runner_holds {s} {t} {j} has rank owned runs =
+    let two = both (j.hosts rank).on (j.hosts rank).runs runs in
+    let owns = owned two.0 in
+    let is = has.world.nodes rank (configured has rank two.0) in
+    let on = is.on ∙ timed (j.hosts rank).on (j.hosts rank).asked (is_gone (phase s (log_at (j.hosts rank).stand.spot))) two.0 (asked_runs is two.0 two.1) (living_runs is two.0 owns two.1) in
+    holder (node_at s rank (run s t has.events)).on (holds (node_at s rank (run s t has.events)).log) on (ap holds (is.log on) ∙ (owns.held two.1).0)
+
+pub one_owner : (s : Settings) (t : Timing) → OneMayHold s t → EveryJointHasAWorld s t → AtMostOneRuns s t
+one_owner s t one every image happenings i j joined first second =
+    let has = every image happenings joined in
+    one has.events i j has.may
+    (runner_holds has i (always_owns s t image happenings i joined.may) first)
+    (runner_holds has j (always_owns s t image happenings j joined.may) second)

@@ -1,0 +1,159 @@
+-- A resource that runs is held, from call to call.
+use Rattle.std.proofs.Common.{◌≡◌, ℕ, suc, zero, Bool, true, false, not, ◌&&◌, ◌||◌, List, [], ◌∷◌, Option, None, Some, if◌then◌else◌, refl, sym, ap, subst, ◌∙◌}
+use Rattle.qn_base.specs.declared.ids.View.{View}
+use Rattle.qn_model.specs.declared.configuration.Settings.{Settings}
+use Rattle.qn_model.specs.declared.entries.What.{What}
+use Rattle.qn_model.specs.declared.entries.What.TheVariants as what
+use Rattle.qn_model.specs.declared.outputs.Out.{Out}
+use Rattle.qn_model.specs.declared.packets.Sent.{Sent}
+use Rattle.qn_model.specs.Log.{Line, has_start, now}
+use Rattle.qn_model.specs.Holding.{holds, is_stopped}
+use Rattle.qn_model.specs.Fitting.{fits, read_as}
+use Rattle.qn_model.specs.NodeOutputs.{newest_outs, with_entry}
+use Rattle.qn_member.specs.Maker.{Maker, view_at}
+use Rattle.qn_live.specs.declared.live_end.LiveEnd.{LiveEnd}
+use Rattle.qn_live.specs.declared.place.Choice.{Choice}
+use Rattle.qn_live.specs.declared.place.Choice.TheVariants as choice
+use Rattle.qn_live.specs.declared.place.Waits.{Waits}
+use Rattle.qn_live.specs.Running.{RunState}
+use Rattle.qn_live.specs.Choosing.{heard, is_to_leave, looked, ready, view_or_tick}
+use Rattle.qn_live.specs.Performing.{end_in}
+use Rattle.qn_live.specs.Runs.{hello_asked, taken, with_maker}
+use Rattle.qn_joined.specs.Stands.{Looking, acts_at, begun_at, clocked_by, farewells_due, handled_at, log_at, parts_at, said_at, sends_due, settled_by, taking}
+use Rattle.qn_joined.specs.Owning.{Owns, is_calm, is_done_stop, is_no_stop, stops_in}
+
+-- what is known of a state between two calls
+pub record Fine (st : RunState) (runs : Bool) : Type 0 where
+  pub held : runs ≡ true → (holds st.log ≡ true) × (is_done_stop st.waits.stopped ≡ false)
+  pub calm : is_calm st.waits.disk ≡ true
+
+not_true_is_false : (b : Bool) → not b ≡ true → b ≡ false
+not_true_is_false true is = absurd cc
+not_true_is_false false is = refl
+
+taking_owns : (st : RunState) (runs leaves rests : Bool) (stopped : Option Bool) (disk : Option What)
+    → (runs ≡ true → (holds st.log ≡ true) × (is_done_stop stopped ≡ false))
+    → is_calm disk ≡ true
+    → Owns (taking (record st { waits = record { stopped = stopped; disk = disk } }) (ready leaves rests (record { stopped = stopped; disk = disk }))) runs
+taking_owns st runs leaves rests (Some ok) disk held calm = record { held = held; free = refl; calm = calm }
+taking_owns st runs leaves false None (Some answer) held calm =
+    record { held = λ r. ((held r).0, not_true_is_false (is_stopped answer) calm); free = refl; calm = refl }
+taking_owns st runs true false None None held calm = record { held = held; free = refl; calm = refl }
+taking_owns st runs false false None None held calm = record { held = held; free = refl; calm = refl }
+taking_owns st runs true true None disk held calm = record { held = held; free = refl; calm = calm }
+taking_owns st runs false true None disk held calm = record { held = held; free = refl; calm = calm }
+
+begun_owns : (s : Settings) (me : ℕ) (leave : Option ℕ) (turn more : ℕ) (st : RunState) (runs : Bool) → Fine st runs → Owns (begun_at s me leave turn more st).spot runs
+begun_owns s me leave turn zero st runs fine = record { held = λ r. ((fine.held r).0, refl); free = refl; calm = refl }
+begun_owns s me leave turn (suc more) st runs fine =
+    taking_owns st runs (is_to_leave s leave turn st) st.rests st.waits.stopped st.waits.disk fine.held fine.calm
+
+pub said_owns : (s : Settings) (me : ℕ) (leave : Option ℕ) (turn more : ℕ) (st : RunState) (sents : List Sent) (runs : Bool) → Fine st runs → Owns (said_at s me leave turn more st sents).spot runs
+said_owns s me leave turn more st [] runs fine = begun_owns s me leave turn more st runs fine
+said_owns s me leave turn more st (sent ∷ rest) runs fine = record { held = fine.held; free = refl; calm = fine.calm }
+
+pub parts_owns : (turn more : ℕ) (end : LiveEnd) (st : RunState) (sents : List Sent) (runs : Bool) → Fine st runs → Owns (parts_at turn more end st sents).spot runs
+parts_owns turn more end st [] runs fine = record { held = λ r. ((fine.held r).0, refl); free = refl; calm = refl }
+parts_owns turn more end st (sent ∷ rest) runs fine = record { held = fine.held; free = refl; calm = fine.calm }
+
+settled_owns : (s : Settings) (me : ℕ) (leave : Option ℕ) (turn more : ℕ) (st : RunState) (found : Option LiveEnd) (runs : Bool) → Fine st runs → Owns (settled_by s me leave turn more st found).spot runs
+settled_owns s me leave turn more st None runs fine =
+    said_owns s me leave turn more (hello_asked (now st.log) (with_maker s me st)) (sends_due s me st) runs (record { held = fine.held; calm = fine.calm })
+settled_owns s me leave turn more st (Some end) runs fine = parts_owns turn more end st (farewells_due s me end st) runs fine
+
+pub acts_owns : (s : Settings) (me : ℕ) (leave : Option ℕ) (turn more : ℕ) (entry : What) (outs rest : List Out) (st : RunState) (runs : Bool) → Fine st runs → Owns (acts_at s me leave turn more entry outs rest st).spot runs
+acts_owns s me leave turn more entry outs [] st runs fine = settled_owns s me leave turn more st (end_in entry outs) runs fine
+acts_owns s me leave turn more entry outs (o ∷ rest) st runs fine = record { held = fine.held; free = refl; calm = fine.calm }
+
+-- an entry that is no stop is read as none
+read_no_stop : (fit : Bool) (entry : What) → is_stopped entry ≡ false → is_stopped (if fit then entry else what.Tick) ≡ false
+read_no_stop true entry is = is
+read_no_stop false entry is = refl
+
+view_no_stop : (found : Option View) → is_stopped (view_or_tick found) ≡ false
+view_no_stop None = refl
+view_no_stop (Some view) = refl
+
+looked_no_stop : (tick : ℕ) (chosen : Choice) (maker : Option Maker) → stops_in chosen ≡ false → is_stopped (looked tick chosen maker).1 ≡ false
+looked_no_stop tick (choice.Whole entry) maker is = is
+looked_no_stop tick (choice.Open p) None is = refl
+looked_no_stop tick (choice.Open p) (Some m) is = view_no_stop (view_at tick (heard tick p m))
+
+held_on : (started runs past_holds stopped : Bool) → (runs ≡ true → (past_holds ≡ true) × (stopped ≡ false)) → (started || runs) ≡ true → (started || (past_holds && not stopped)) ≡ true
+held_on true runs past_holds stopped h r = refl
+held_on false true past_holds stopped h r =
+    let two = h refl in
+    ap (λ p. p && not stopped) two.0 ∙ ap not two.1
+held_on false false past_holds stopped h r = absurd cc
+
+no_stop_done : (stopped : Option Bool) → is_no_stop stopped ≡ true → is_done_stop stopped ≡ false
+no_stop_done None free = refl
+no_stop_done (Some ok) free = absurd cc
+
+handled_owns : (s : Settings) (me : ℕ) (leave : Option ℕ) (turn more : ℕ) (st : RunState) (tick : ℕ) (chosen : Choice) (runs : Bool)
+    → (runs ≡ true → (holds st.log ≡ true) × (stops_in chosen ≡ false))
+    → is_no_stop st.waits.stopped ≡ true
+    → is_calm st.waits.disk ≡ true
+    → Owns (handled_at s me leave turn more st tick (looked tick chosen st.maker)).spot (has_start (newest_outs (taken s me st tick (looked tick chosen st.maker)).log) || runs)
+unfolding with_entry holds
+handled_owns s me leave turn more st tick chosen runs held free calm =
+    let found = looked tick chosen st.maker in
+    let after = taken s me st tick found in
+    acts_owns s me leave turn more found.1 (newest_outs after.log) (newest_outs after.log) after (has_start (newest_outs after.log) || runs)
+    (record {
+      held = λ r. (
+        held_on (has_start (newest_outs after.log)) runs (holds st.log) (is_stopped (read_as s me st.log found.1))
+            (λ q. ((held q).0, read_no_stop (fits s me st.log found.1) found.1 (looked_no_stop tick chosen st.maker (held q).1))) r,
+        no_stop_done st.waits.stopped free,
+      );
+      calm = calm;
+    })
+
+newest_holds : (log : List Line) → has_start (newest_outs log) ≡ true → holds log ≡ true
+unfolding holds
+newest_holds [] is = absurd cc
+newest_holds (line ∷ past) is = ap (λ b. b || (holds past && not (is_stopped line.what))) is
+
+either_holds : (log : List Line) (started runs : Bool) → (started ≡ true → holds log ≡ true) → (runs ≡ true → holds log ≡ true) → (started || runs) ≡ true → holds log ≡ true
+either_holds log true runs h k r = h refl
+either_holds log false runs h k r = k r
+
+-- the log where a run stands is that of its state
+taking_log : (st : RunState) (found : Option (What × Waits)) → log_at (taking st found) ≡ st.log
+taking_log st None = refl
+taking_log st (Some found) = refl
+
+pub begun_log : (s : Settings) (me : ℕ) (leave : Option ℕ) (turn more : ℕ) (st : RunState) → log_at (begun_at s me leave turn more st).spot ≡ st.log
+begun_log s me leave turn zero st = refl
+begun_log s me leave turn (suc more) st = taking_log st (ready (is_to_leave s leave turn st) st.rests st.waits)
+
+pub said_log : (s : Settings) (me : ℕ) (leave : Option ℕ) (turn more : ℕ) (st : RunState) (sents : List Sent) → log_at (said_at s me leave turn more st sents).spot ≡ st.log
+said_log s me leave turn more st [] = begun_log s me leave turn more st
+said_log s me leave turn more st (sent ∷ rest) = refl
+
+pub parts_log : (turn more : ℕ) (end : LiveEnd) (st : RunState) (sents : List Sent) → log_at (parts_at turn more end st sents).spot ≡ st.log
+parts_log turn more end st [] = refl
+parts_log turn more end st (sent ∷ rest) = refl
+
+pub settled_log : (s : Settings) (me : ℕ) (leave : Option ℕ) (turn more : ℕ) (st : RunState) (found : Option LiveEnd) → log_at (settled_by s me leave turn more st found).spot ≡ st.log
+settled_log s me leave turn more st None = said_log s me leave turn more (hello_asked (now st.log) (with_maker s me st)) (sends_due s me st)
+settled_log s me leave turn more st (Some end) = parts_log turn more end st (farewells_due s me end st)
+
+pub acts_log : (s : Settings) (me : ℕ) (leave : Option ℕ) (turn more : ℕ) (entry : What) (outs rest : List Out) (st : RunState) → log_at (acts_at s me leave turn more entry outs rest st).spot ≡ st.log
+acts_log s me leave turn more entry outs [] st = settled_log s me leave turn more st (end_in entry outs)
+acts_log s me leave turn more entry outs (o ∷ rest) st = refl
+
+-- a look at the clock
+pub looks_own : (s : Settings) (me : ℕ) (leave : Option ℕ) (turn more : ℕ) (chosen : Choice × RunState) (tick : ℕ) (runs back : Bool)
+    → Owns (Looking chosen) runs
+    → Owns (clocked_by s me leave turn more chosen tick back).spot (has_start (newest_outs (log_at (clocked_by s me leave turn more chosen tick back).spot)) || runs)
+looks_own s me leave turn more chosen tick runs true owns =
+    record {
+      held = λ r. (either_holds chosen.1.log (has_start (newest_outs chosen.1.log)) runs (newest_holds chosen.1.log) (λ q. (owns.held q).0) r, refl);
+      free = refl;
+      calm = refl;
+    }
+looks_own s me leave turn more chosen tick runs false owns =
+    subst (λ (l : List Line). Owns (handled_at s me leave turn more chosen.1 tick (looked tick chosen.0 chosen.1.maker)).spot (has_start (newest_outs l) || runs))
+    (sym (acts_log s me leave turn more (looked tick chosen.0 chosen.1.maker).1 (newest_outs (taken s me chosen.1 tick (looked tick chosen.0 chosen.1.maker)).log) (newest_outs (taken s me chosen.1 tick (looked tick chosen.0 chosen.1.maker)).log) (taken s me chosen.1 tick (looked tick chosen.0 chosen.1.maker))))
+    (handled_owns s me leave turn more chosen.1 tick chosen.0 runs owns.held owns.free owns.calm)

@@ -1,0 +1,117 @@
+-- Every joint has a world.
+use Rattle.std.proofs.Common.{◌≡◌, ◌<◌, ◌≤◌, ◌+◌, ℕ, true, false, List, [], ◌∷◌, None, refl, sym, subst, arith}
+use Rattle.std.specs.Prelude.{length, nat_le}
+use Rattle.std.specs.Option.{option_map_or}
+use Rattle.qn_base.specs.declared.calls.Call.TheVariants as call
+use Rattle.qn_model.specs.declared.configuration.Settings.{Settings}
+use Rattle.qn_model.specs.declared.times.Timing.{Timing}
+use Rattle.qn_model.specs.declared.events.Event.{Event}
+use Rattle.qn_model.specs.Moments.{node, packets, tick_of, time}
+use Rattle.qn_model.specs.Steps.{run}
+use Rattle.qn_joined.specs.Joints as joints
+use Rattle.qn_joined.specs.Joints.{AllMayHappen, FitsImage, Happening, Host, IsJoined, IsNewImage, Joint, MayHappen, began, ended, first_joint, happens, joint_after, looked_first, with_host}
+use Rattle.qn_joined.specs.Moves.{LogsHold, Moved}
+use Rattle.qn_joined.specs.Numbers.{AllMay}
+use Rattle.qn_joined.specs.Theorem.{MailsReadBack, PacketsReadBack, TakesAlike}
+use Rattle.qn_joined.specs.WorldOf.{NoCall, EveryJointHasAWorld, HasWorld, IsWorld}
+use Rattle.qn_joined.proofs.Boots.{begins_as_node, boots_in_world, feeds_in_world, no_event}
+use Rattle.qn_joined.proofs.Endings.{ends_in_world}
+use Rattle.qn_joined.proofs.Frames.{knows_grows, one_moves}
+use Rattle.qn_joined.proofs.Images.{same_image}
+use Rattle.qn_joined.proofs.Landing.{lands_in_world, operates_in_world}
+use Rattle.qn_joined.proofs.Late.{late_in_world}
+use Rattle.qn_joined.proofs.Owners.{configured}
+use Rattle.qn_joined.proofs.Passing.{passes_in_world}
+use Rattle.qn_joined.proofs.Returns.{returned_fed, returns_in_world}
+
+-- before anything happened
+first_is_world : (s : Settings) (t : Timing) (image : ℕ → List ℕ) → IsNewImage s t image → IsWorld s t (first_joint image) (run s t [])
+unfolding run node time packets
+first_is_world s t image created =
+    record {
+      time = refl;
+      nodes = λ r below. record {
+        on = refl;
+        log = λ on. absurd cc;
+        clock = λ on. absurd cc;
+        tick = λ on. absurd cc;
+        fed = λ on. absurd cc;
+        decided = λ on. absurd cc;
+        silent = λ on. absurd cc;
+        backed = λ on. absurd cc;
+        idle = λ on. absurd cc;
+        among = NoCall;
+        fresh = λ on. absurd cc;
+        ending = λ on. absurd cc;
+        greets = refl;
+        rests = λ on. absurd cc;
+      };
+      off = λ r out. refl;
+      fed = λ r. omega arith;
+      bare = λ r out. refl;
+      image = record {
+        header = created.header;
+        slots = created.slots;
+        fit = λ r below. omega arith;
+        mails = λ r below. (None, tt, created.mails r below);
+      };
+      sent = λ to bytes p there spelled c. absurd (omega (arith, there.1));
+    }
+
+-- one host moved on
+moved_world : {s : Settings} {t : Timing} {j : Joint} {events : List Event} (rank : ℕ) (host : Host) → IsWorld s t j (run s t events) → FitsImage s t → rank < length s.nodes
+    → Moved s t rank events host → host.fed ≤ j.time → HasWorld s t (with_host rank host j)
+moved_world {s} {t} {j} {events} rank host is fits below m fed =
+    record {
+      events = m.events';
+      may = m.may;
+      world =
+          one_moves rank (run s t m.events') host j.image j.sent is below m.changes m.node fed (same_image is.image fits (run s t m.events') m.slots m.mailboxes)
+          (knows_grows j.sent (packets s (run s t events).moments) (packets s (run s t m.events').moments) m.changes.grows is.sent);
+    }
+
+first_fed : (s : Settings) (rank base now : ℕ) (host : Host) → (looked_first s rank base now host).fed ≡ host.fed
+unfolding looked_first
+first_fed s rank base now host = returned_fed s rank (call.Now (tick_of base)) now host
+
+module _ (s : Settings) (t : Timing) (alike : TakesAlike s t) (logs : LogsHold s t) (packets_back : PacketsReadBack) (mails_back : MailsReadBack) (fits : FitsImage s t) where
+  one_happens : (j : Joint) (happening : Happening) → HasWorld s t j → MayHappen s t happening j → HasWorld s t (happens s happening j)
+  unfolding happens
+  one_happens j (joints.Passes dt clocks) has may = passes_in_world s t has.events j dt clocks has.may has.world fits may
+  one_happens j (joints.Begins rank clean leave turns) has may =
+      moved_world rank (began clean leave turns j.time) has.world fits may.0
+      (no_event has.may (begins_as_node s rank (j.hosts rank) _ _ _ _ clean leave turns j.time (has.world.nodes rank may.0) may.2)) (omega arith)
+  one_happens j (joints.Looks rank base) has may =
+      let w = run s t has.events in
+      let below = configured has rank may.0 in
+      subst (λ k. HasWorld s t (with_host rank (looked_first s rank base k (j.hosts rank)) j)) has.world.time
+      (moved_world rank (looked_first s rank base (time w.moments) (j.hosts rank)) has.world fits below
+      (boots_in_world s t rank has.events (j.hosts rank) base logs below has.may (has.world.nodes rank below) may.0 may.1 (subst (λ k. (j.hosts rank).fed ≤ k) (sym has.world.time) (has.world.fed rank)))
+      (subst (λ f. f ≤ j.time) (sym (first_fed s rank base (time w.moments) (j.hosts rank))) (has.world.fed rank)))
+  one_happens j (joints.Lands rank) has may =
+      lands_in_world s t has.events j rank alike logs (configured has rank may.0) has.may has.world fits may
+  one_happens j (joints.Returns rank made) has may =
+      returns_in_world s t has.events j rank made packets_back logs (configured has rank may.on) has.may has.world fits may
+  one_happens j (joints.Feeds rank) has may =
+      let w = run s t has.events in
+      let below = configured has rank may.0 in
+      subst (λ k. HasWorld s t (with_host rank (record (j.hosts rank) { fed = k }) j)) has.world.time
+      (moved_world rank (record (j.hosts rank) { fed = time w.moments }) has.world fits below
+      (feeds_in_world s t rank has.events (j.hosts rank) has.may (has.world.nodes rank below)
+      (subst (λ k. option_map_or (λ decided. nat_le k (decided + t.feed_delay)) (j.hosts rank).decided false ≡ true) (sym has.world.time) may.1))
+      (subst (λ k. time w.moments ≤ k) has.world.time (omega arith)))
+  one_happens j (joints.LandsLate rank number) has may = late_in_world s t has.events j rank number has.may has.world fits may
+  one_happens j (joints.Ends rank) has may =
+      let below = configured has rank may in
+      moved_world rank (ended s rank (j.hosts rank)) has.world fits below
+      (ends_in_world s t rank has.events (j.hosts rank) logs below has.may (has.world.nodes rank below) may) (has.world.fed rank)
+  one_happens j (joints.Operates rank sent) has may = operates_in_world s t has.events j rank sent mails_back has.may has.world fits may
+
+  each_has : (image : ℕ → List ℕ) (happenings : List Happening) → IsNewImage s t image → AllMayHappen s t image happenings → HasWorld s t (joint_after s image happenings)
+  unfolding joint_after AllMayHappen AllMay
+  each_has image [] created may = record { events = []; may = tt; world = first_is_world s t image created }
+  each_has image (newest ∷ earlier) created may = one_happens (joint_after s image earlier) newest (each_has image earlier created may.1) may.0
+
+pub every_joint_has_a_world : (s : Settings) (t : Timing) → TakesAlike s t → LogsHold s t → PacketsReadBack → MailsReadBack → EveryJointHasAWorld s t
+every_joint_has_a_world s t alike logs packets_back mails_back image happenings joined =
+    each_has s t alike logs packets_back mails_back joined.fits image happenings joined.created joined.may
