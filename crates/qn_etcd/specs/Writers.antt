@@ -34,3 +34,8 @@ command_condition prefix (Some revision) sector = ChangedAt (sector_key prefix 0
 abbrev pub write_condition : List ℕ → Writer → ℕ → Condition
 write_condition prefix (writer.Boot boot) sector = Holds (writer_key prefix boot.rank) boot.token.items
 write_condition prefix (writer.Command written) sector = command_condition prefix written sector
+
+-- what a writer knows after a write of a sector that was done at a revision
+abbrev pub writer_after : Writer → ℕ → ℕ → Writer
+writer_after (writer.Boot boot) sector revision = writer.Boot boot
+writer_after (writer.Command written) sector revision = writer.Command (if sector == 0 then Some revision else written)

@@ -30,6 +30,22 @@ pub enum Writer {
     Command(Option<u64>),
 }
 
+impl Writer {
+    ghost use Rattle.std.specs.Prelude.{◌≡◌};
+    ghost use Rattle.qn_etcd.specs.Writers.{writer_after};
+
+    /// Notes that a write of a sector was done at that revision.
+    pub fn note_write(&mut self, sector: u32, revision: u64)
+        ensures { self.new ≡ writer_after self.old sector revision }
+    {
+        if let Writer::Command(written) = self
+            && sector == 0
+        {
+            *written = Some(revision);
+        }
+    }
+}
+
 /// The token of a start of a node: of which machine, in which boot of that machine, and which start. None where that is too long.
 #[tactic(auto, unfolding(crate::specs::Writers::token_text))]
 pub fn token_of(machine: &[u8], boot: &[u8], start: &[u8]) -> Option<Token>
