@@ -5,6 +5,7 @@ pub mod Handing
 pub mod Histories
 pub mod Ids
 pub mod Joining
+pub mod Operations
 mod Rows
 pub mod Telling
 pub mod Through

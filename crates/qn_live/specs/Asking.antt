@@ -24,6 +24,19 @@ IsWithin (asked.Send to) = to.0 < 32
 IsWithin asked.Disarm = Unit {0}
 IsWithin (asked.Halt code) = Unit {0}
 
+-- the same where the outside serves the sectors of three images
+abbrev pub IsServed : Asked → Type 0
+IsServed (asked.Read sector) = sector < 3072
+IsServed (asked.Write sector) = sector < 3072
+IsServed asked.Receive = Unit {0}
+IsServed asked.Now = Unit {0}
+IsServed asked.Feed = Unit {0}
+IsServed asked.Start = Unit {0}
+IsServed asked.Stop = Unit {0}
+IsServed (asked.Send to) = to.0 < 32
+IsServed asked.Disarm = Unit {0}
+IsServed (asked.Halt code) = Unit {0}
+
 -- the call that is asked for, with no answer
 abbrev pub question_of : Asked → Room → Call
 question_of asked.Receive room = call.Receive received.Nothing

@@ -1,8 +1,10 @@
 -- What a running node that waits for a call stands for: what is left of its run. This project's profile.
-use Rattle.std.specs.Prelude.{◌≡◌, ◌<◌, ℕ, false, true, ◌+◌, ◌==◌, List, All, length, drop}
+use Rattle.std.specs.Prelude.{◌≡◌, ◌<◌, ℕ, false, true, ◌+◌, ◌==◌, List, All, Option, None, Some, length, drop, option_and_then, slice_get}
 use Rattle.qn_base.specs.Plans.{Plan, Ends, ◌>>=◌}
 use Rattle.qn_model.specs.declared.configuration.Settings.{Settings}
+use Rattle.qn_model.specs.declared.outputs.DiskOp.{DiskOp}
 use Rattle.qn_model.specs.declared.outputs.Out.{Out}
+use Rattle.qn_model.specs.declared.outputs.Out.TheVariants as out
 use Rattle.qn_model.specs.declared.packets.Sent.{Sent}
 use Rattle.qn_model.specs.Log.{Line, now}
 use Rattle.qn_model.specs.Settings.{IsValid}
@@ -85,6 +87,28 @@ left_at run log (place.Over end) = Ends (record { end = end; log = log })
 
 abbrev pub left_of : NodeRun → List Line → Plan Ran
 left_of run log = left_at run log run.place
+
+-- the disk operation of an output
+abbrev pub operation_in : Out → Option DiskOp
+operation_in (out.Disk op) = Some op
+operation_in out.Stop = None
+operation_in out.Start = None
+operation_in out.Feed = None
+operation_in (out.Send to packet) = None
+operation_in out.Disarm = None
+operation_in (out.Halt kind) = None
+
+-- the disk operation whose call comes next, at a place
+abbrev pub operation_at : List Out → Place → Option DiskOp
+operation_at outs (place.Act at) = option_and_then operation_in (slice_get outs at)
+operation_at outs place.Receive = None
+operation_at outs (place.Now choice) = None
+operation_at outs (place.Greet said to) = None
+operation_at outs (place.Part view to) = None
+operation_at outs (place.Over end) = None
+
+abbrev pub operation_of : NodeRun → Option DiskOp
+operation_of run = operation_at run.outs run.place
 
 -- the node stands for the log, whose last tick is this one
 pub record StandsFor (s : Settings) (me : ℕ) (node : Node) (tick : ℕ) (log : List Line) : Type 0 where

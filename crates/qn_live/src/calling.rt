@@ -2,14 +2,14 @@
 ghost use Rattle.std.specs.Prelude.{◌≡◌, [], ◌∷◌};
 ghost use Rattle.qn_base.specs.Plans.{Made};
 ghost use Rattle.qn_io.specs.Receives.{FitsPacket};
-ghost use Rattle.qn_live.specs.Asking.{IsWithin, told, Tells};
+ghost use Rattle.qn_live.specs.Asking.{IsServed, told, Tells};
 
 use crate::asked::{Asked, Given, Room};
 use qn_io::{Env, Got};
 
 /// Makes the call on the outside.
 pub fn call<E: Env>(env: &mut E, asked: Asked, room: &mut Room) -> Given
-    requires { IsWithin asked }
+    requires { IsServed asked }
     ensures made { Made (E.faults env.old) (E.faults env.new) (E.calls env.old) (E.calls env.new)
         (told asked room.old result room.new ∷ []) }
     ensures within { FitsPacket result.got }

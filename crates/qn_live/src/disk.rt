@@ -5,7 +5,7 @@ ghost use Rattle.qn_model.specs.Settings.{IsValid};
 ghost use Rattle.qn_model.specs.Unmet.{id_of};
 ghost use Rattle.qn_model.specs.World.{failed};
 ghost use Rattle.qn_node.specs.Outputs.{IsNodeOutput};
-ghost use Rattle.qn_live.specs.Asking.{IsWithin, question_of};
+ghost use Rattle.qn_live.specs.Asking.{IsServed, IsWithin, question_of};
 ghost use Rattle.qn_live.specs.Performing.{disk_call, done, header_seen, mail_seen, reset_by, slot_seen, write_mail, write_slot};
 
 use crate::asked::{Asked, Room};
@@ -24,6 +24,7 @@ pub fn ask(settings: &Settings, me: Rank, incarnation: u64, op: DiskOp, room: &m
     requires rank { IsNodeOutput settings.now (Out.Disk op) }
     ensures asked { question_of result room.new ≡ disk_call settings.now me.0 incarnation op }
     ensures within { IsWithin result }
+    ensures served { IsServed result }
 {
     match op {
         DiskOp::ReadHeader => Asked::Read { sector: 0 },
@@ -52,6 +53,7 @@ fn ask_slot(settings: &Settings, me: Rank, incarnation: u64, clean: bool, room: 
     ensures asked { question_of result room.new
         ≡ write_slot settings.now me.0 (record { incarnation = incarnation; clean = clean }) }
     ensures within { IsWithin result }
+    ensures served { IsServed result }
 {
     let slot = Slot { incarnation, clean };
     put_slot(id_of(settings, me), &slot, &mut room.sector);
@@ -68,6 +70,7 @@ fn ask_reset(settings: &Settings, me: Rank, incarnation: u64, rank: Rank, room: 
     ensures asked { question_of result room.new
         ≡ write_mail rank.0 (reset_by settings.now me.0 incarnation) }
     ensures within { IsWithin result }
+    ensures served { IsServed result }
 {
     let by = Some(Sender {
         id: id_of(settings, me),

@@ -1,19 +1,26 @@
 //! The laws of a run.
-ghost use Rattle.std.specs.Prelude.{◌≡◌, ◌++◌, ◌∷◌, ℕ, Bool, true, false, List, Option};
+ghost use Rattle.std.specs.Prelude.{◌≡◌, ◌<◌, ◌++◌, ◌∷◌, ℕ, Bool, true, false, List, Option, None, Some, length};
 ghost use Rattle.qn_base.specs.declared.calls.Call.{Call};
 ghost use Rattle.qn_base.specs.Calls.{some_failed};
-ghost use Rattle.qn_base.specs.Plans.{Follows};
+ghost use Rattle.qn_base.specs.Plans.{Follows, Plan, question};
 ghost use Rattle.qn_member.specs.Maker.{Maker};
 ghost use Rattle.qn_model.specs.declared.configuration.Settings.{Settings};
 ghost use Rattle.qn_model.specs.declared.entries.What.{What};
 ghost use Rattle.qn_model.specs.declared.outputs.BootCause.{BootCause};
+ghost use Rattle.qn_model.specs.declared.outputs.DiskOp.{DiskOp};
+ghost use Rattle.qn_model.specs.declared.outputs.Out.{Out};
+ghost use Rattle.qn_model.specs.Settings.{IsValid};
 ghost use Rattle.qn_model.specs.World.{failed};
+ghost use Rattle.qn_node.specs.Outputs.{IsNodeOutput};
+ghost use Rattle.qn_live.specs.declared.run.NodeRun.{NodeRun};
 ghost use Rattle.qn_live.specs.declared.place.Choice.{Choice};
 ghost use Rattle.qn_live.specs.declared.live_end.LiveEnd.{LiveEnd};
 ghost use Rattle.qn_live.specs.Choosing.{choice_plan, failed_answer};
-ghost use Rattle.qn_live.specs.Halts.{HaltedBy, IsNewest, one_call};
+ghost use Rattle.qn_live.specs.Halts.{HaltedBy, IsNewest, is_on_disk, one_call};
 ghost use Rattle.qn_live.specs.Handed.{HandsHistory};
 ghost use Rattle.qn_live.specs.Laws.{IsHistory, NeverFalls, is_by_call, is_by_clock, is_no_failure, is_sound, outputs_among, outputs_of, takes_answer};
+ghost use Rattle.qn_live.specs.Machine.{RunFor, operation_of};
+ghost use Rattle.qn_live.specs.Performing.{disk_call, own_number};
 ghost use Rattle.qn_live.specs.Running.{Next, Ran, RunState};
 ghost use Rattle.qn_live.specs.Runs.{handled, live_plan};
 
@@ -114,4 +121,27 @@ pub fn law_sound_end()
         → some_failed calls ≡ false
         → NeverFalls 0 calls
         → is_sound ran.end ≡ true }
+{}
+
+/// Law: where a disk operation comes next, its call on one image is the next one of the run, and its ranks are configured; where
+/// none does, the next call reads and writes no sector. The settings of a run are valid, and its rank is configured.
+pub fn law_operation()
+    ensures asked { (run : NodeRun) (plan : Plan Ran) (runs : RunFor run plan) (op : DiskOp)
+        → operation_of run ≡ Some op
+        → question plan ≡ Some (disk_call run.settings run.me.0 (own_number runs.log) op) }
+    ensures fits { (run : NodeRun) (plan : Plan Ran) (op : DiskOp)
+        → RunFor run plan
+        → operation_of run ≡ Some op
+        → IsNodeOutput run.settings (Out.Disk op) }
+    ensures none { (run : NodeRun) (plan : Plan Ran) (call : Call)
+        → RunFor run plan
+        → operation_of run ≡ None
+        → question plan ≡ Some call
+        → is_on_disk call ≡ false }
+    ensures valid { (run : NodeRun) (plan : Plan Ran)
+        → RunFor run plan
+        → IsValid run.settings }
+    ensures configured { (run : NodeRun) (plan : Plan Ran)
+        → RunFor run plan
+        → run.me.0 < length run.settings.nodes }
 {}

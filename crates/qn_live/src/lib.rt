@@ -24,10 +24,10 @@ mod running;
 
 pub use asked::{Asked, Given, Room};
 pub use calling::call;
-pub use disk::{done, id_of};
+pub use disk::{answer, done, id_of};
 pub use laws::{
-    law_boot_halted, law_end_causes, law_handed_history, law_one_end, law_one_history, law_outputs,
-    law_rest, law_sound_end,
+    law_boot_halted, law_end_causes, law_handed_history, law_one_end, law_one_history,
+    law_operation, law_outputs, law_rest, law_sound_end,
 };
 pub use live_end::LiveEnd;
 pub use run::NodeRun;

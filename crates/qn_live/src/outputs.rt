@@ -4,7 +4,8 @@ ghost use Rattle.qn_base.specs.declared.calls.Call.{Call};
 ghost use Rattle.qn_base.specs.Calls.{blank};
 ghost use Rattle.qn_model.specs.Settings.{IsValid};
 ghost use Rattle.qn_node.specs.Outputs.{IsNodeOutput};
-ghost use Rattle.qn_live.specs.Asking.{IsWithin, question_of, Tells};
+ghost use Rattle.qn_live.specs.Asking.{IsServed, IsWithin, question_of, Tells};
+ghost use Rattle.qn_live.specs.Machine.{operation_in};
 ghost use Rattle.qn_live.specs.Performing.{end_after, end_in, halt_code, is_clean_close, out_call, waits_after};
 
 use crate::asked::{Asked, Given, Room};
@@ -12,7 +13,7 @@ use crate::disk;
 use crate::live_end::LiveEnd;
 use crate::place::Waits;
 use qn_base::Rank;
-use qn_model::{HaltKind, Out, Outs, Settings, What};
+use qn_model::{DiskOp, HaltKind, Out, Outs, Settings, What};
 use qn_wire::put_packet;
 
 /// The call of an output, of the node of that rank in that incarnation.
@@ -23,6 +24,7 @@ pub fn ask(settings: &Settings, me: Rank, incarnation: u64, out: Out, room: &mut
     requires rank { IsNodeOutput settings.now out }
     ensures asked { question_of result room.new ≡ out_call settings.now me.0 incarnation out }
     ensures within { IsWithin result }
+    ensures served { IsServed result }
 {
     match out {
         Out::Stop => Asked::Stop,
@@ -47,6 +49,16 @@ fn halt_code(kind: HaltKind) -> u8
     match kind {
         HaltKind::Deadly(message) => message as u8,
         HaltKind::Boot(cause) => 10 + cause as u8,
+    }
+}
+
+/// The disk operation of an output, if it is one.
+pub fn operation_in(out: Out) -> Option<DiskOp>
+    ensures { result ≡ operation_in out }
+{
+    match out {
+        Out::Disk(op) => Some(op),
+        Out::Stop | Out::Start | Out::Feed | Out::Send(..) | Out::Disarm | Out::Halt(_) => None,
     }
 }
 

@@ -7,11 +7,11 @@ use crate::asked::{Asked, Given, Room};
 use crate::choosing::{choose, failed_answer, look, loop_after, ready};
 use crate::greeting::{announced, farewell, greeting_packet, hello_due, keep_member};
 use crate::live_end::LiveEnd;
-use crate::outputs::{self, end_in, waits_after};
+use crate::outputs::{self, end_in, operation_in, waits_after};
 use crate::place::{Choice, Greeting, Place, Waits};
 use qn_base::{Rank, View};
 use qn_member::Member;
-use qn_model::{Entry, Outs, Phase, Settings, What};
+use qn_model::{DiskOp, Entry, Outs, Phase, Settings, What};
 use qn_node::Node;
 use qn_wire::put_packet;
 
@@ -48,16 +48,18 @@ impl NodeRun {
     ghost use Rattle.qn_base.specs.Calls.{blank};
     ghost use Rattle.qn_base.specs.Plans.{Plan, question, left};
     ghost use Rattle.qn_io.specs.Receives.{FitsPacket};
+    ghost use Rattle.qn_model.specs.declared.outputs.DiskOp.{DiskOp};
     ghost use Rattle.qn_model.specs.declared.outputs.Out.{Out};
     ghost use Rattle.qn_model.specs.Log.{Line};
     ghost use Rattle.qn_model.specs.Phases.{is_live, phase};
     ghost use Rattle.qn_model.specs.Settings.{IsValid};
     ghost use Rattle.qn_node.specs.Outputs.{IsNodeOutput};
-    ghost use Rattle.qn_live.specs.Asking.{IsWithin, question_of, Tells};
+    ghost use Rattle.qn_live.specs.Asking.{IsServed, IsWithin, question_of, Tells};
     ghost use Rattle.qn_live.specs.Choosing.{is_to_leave};
     ghost use Rattle.qn_live.specs.Greetings.{farewells, greeting_call, others_from, to_send};
-    ghost use Rattle.qn_live.specs.Machine.{EndsWith, HasMore, IsStanding, IsUnderWay, RunFor, Stands, acting, begun, clocking, ending, next_of, parting, saying, settling, state_of, work};
-    ghost use Rattle.qn_live.specs.Performing.{noted, out_call, own_number};
+    ghost use Rattle.qn_live.specs.Machine.{EndsWith, HasMore, IsStanding, IsUnderWay, RunFor, Stands, acting, begun, clocking, ending, next_of, operation_of, parting, saying, settling, state_of, work};
+    ghost use Rattle.qn_live.specs.Halts.{is_on_disk};
+    ghost use Rattle.qn_live.specs.Performing.{disk_answer, disk_call, noted, out_call, own_number};
     ghost use Rattle.qn_live.specs.Places.{calls_of_greeting};
     ghost use Rattle.qn_live.specs.Running.{Ran};
     ghost use Rattle.qn_live.specs.Runs.{live_plan, turns_end};
@@ -74,7 +76,9 @@ impl NodeRun {
         requires valid { IsValid settings }
         requires configured { me.0 < length settings.nodes }
         requires some_turn { 1 ≤ turns }
-        ensures { RunFor result (live_plan settings me.0 clean leave_at turns) }
+        ensures runs { RunFor result (live_plan settings me.0 clean leave_at turns) }
+        ensures settings { result.settings ≡ settings }
+        ensures rank { result.me ≡ me }
     {
         let node = Node::new(&settings, me);
         NodeRun {
@@ -147,6 +151,7 @@ impl NodeRun {
             → RunFor self.now plan
             → question plan ≡ Some (question_of asked room.new)) }
         ensures within { IfOk result IsWithin }
+        ensures served { IfOk result IsServed }
         ensures work { OnOk result (0 < work self.now) }
         ensures over { IfErr result
             (λ end. (plan : Plan Ran) → RunFor self.now plan → EndsWith plan end) }
@@ -171,6 +176,7 @@ impl NodeRun {
             → question_of result room.new
             ≡ out_call self.now.settings self.now.me.0 (own_number log) out }
         ensures within { IsWithin result }
+        ensures served { IsServed result }
     {
         let incarnation = self.node.incarnation().unwrap_or(0);
         outputs::ask(
@@ -186,6 +192,7 @@ impl NodeRun {
         requires rank { to < 32 }
         ensures asked { question_of result room.new ≡ greeting_call self.now.me.0 greeting to }
         ensures within { IsWithin result }
+        ensures served { IsServed result }
     {
         put_packet(&greeting_packet(self.me, greeting), &mut room.sent);
         Asked::Send { to: Rank(to) }
@@ -201,6 +208,8 @@ impl NodeRun {
             → question plan ≡ Some (blank call)
             → RunFor self.new (left plan call) }
         ensures work { 0 < work self.old → work self.new < work self.old }
+        ensures settings { self.new.settings ≡ self.old.settings }
+        ensures rank { self.new.me ≡ self.old.me }
     {
         match self.place {
             Place::Receive => {
@@ -214,6 +223,52 @@ impl NodeRun {
         }
     }
 
+    /// The disk operation whose call comes next, where it is that of one. A handler of more images than one makes calls of
+    /// its own for it, and gives its answer by `perform`.
+    pub fn operation(&self) -> Option<DiskOp>
+        requires under_way { IsUnderWay self.now }
+        ensures { result ≡ operation_of self.now }
+    {
+        match self.place {
+            Place::Act { at } => operation_in(self.outs.get(at)),
+            Place::Receive
+            | Place::Now(_)
+            | Place::Greet { .. }
+            | Place::Part { .. }
+            | Place::Over(_) => None,
+        }
+    }
+
+    /// Takes the answer of the disk operation that comes next, in place of its call, and goes on to the next call.
+    pub fn perform(&mut self, answer: What)
+        requires under_way { IsUnderWay self.old }
+        ensures runs { (plan : Plan Ran) (op : DiskOp) (call : Call)
+            → RunFor self.old plan
+            → operation_of self.old ≡ Some op
+            → disk_answer self.old.settings op call ≡ answer
+            → RunFor self.new (left plan call) }
+        ensures work { (op : DiskOp)
+            → operation_of self.old ≡ Some op
+            → work self.new < work self.old }
+        ensures settings { self.new.settings ≡ self.old.settings }
+        ensures rank { self.new.me ≡ self.old.me }
+    {
+        match self.place {
+            Place::Act { at } => {
+                self.waits = Waits {
+                    stopped: self.waits.stopped,
+                    disk: Some(answer),
+                };
+                self.act(at + 1);
+            }
+            Place::Receive
+            | Place::Now(_)
+            | Place::Greet { .. }
+            | Place::Part { .. }
+            | Place::Over(_) => {}
+        }
+    }
+
     /// The clock was looked at: what was chosen becomes an entry at that tick.
     fn at_tick(&mut self, choice: Choice, tick: u64)
         requires standing { IsStanding self.old }
@@ -222,6 +277,8 @@ impl NodeRun {
             → Stands self.old log
             → RunFor self.new (clocking self.old log choice tick) }
         ensures work { work self.new < 128 * self.old.after + 126 }
+        ensures settings { self.new.settings ≡ self.old.settings }
+        ensures rank { self.new.me ≡ self.old.me }
     {
         if tick < self.tick {
             self.place = Place::Over(LiveEnd::ClockBack {
@@ -253,6 +310,8 @@ impl NodeRun {
             → RunFor self.new
             (acting self.old (noted self.old.settings out call (state_of self.old log)) (at + 1)) }
         ensures work { work self.new < 128 * self.old.after + 80 + (41 - at) }
+        ensures settings { self.new.settings ≡ self.old.settings }
+        ensures rank { self.new.me ≡ self.old.me }
     {
         let out = self.outs.get(at);
         self.waits = waits_after(&self.settings, self.waits, out, given, room);
@@ -266,6 +325,8 @@ impl NodeRun {
             → All (IsNodeOutput self.old.settings) self.old.outs
             → RunFor self.new (acting self.old (state_of self.old log) at) }
         ensures work { work self.new < 128 * self.old.after + 80 + (42 - at) }
+        ensures settings { self.new.settings ≡ self.old.settings }
+        ensures rank { self.new.me ≡ self.old.me }
     {
         if at < self.outs.len() {
             self.place = Place::Act { at };
@@ -280,6 +341,8 @@ impl NodeRun {
             → Stands self.old log
             → RunFor self.new (settling self.old log) }
         ensures work { work self.new < 128 * self.old.after + 80 }
+        ensures settings { self.new.settings ≡ self.old.settings }
+        ensures rank { self.new.me ≡ self.old.me }
     {
         if let Some(end) = end_in(self.entry, &self.outs) {
             self.leave(end);
@@ -306,6 +369,8 @@ impl NodeRun {
             → Stands self.old log
             → RunFor self.new (ending self.old log end) }
         ensures work { work self.new < 128 * self.old.after + 80 }
+        ensures settings { self.new.settings ≡ self.old.settings }
+        ensures rank { self.new.me ≡ self.old.me }
     {
         match farewell(end, &self.member) {
             Some(view) => self.part(view, 0),
@@ -320,6 +385,8 @@ impl NodeRun {
             → RunFor self.new (parting self.old log
             (farewells self.old.settings self.old.me.0 view from)) }
         ensures work { work self.new ≤ 33 - from }
+        ensures settings { self.new.settings ≡ self.old.settings }
+        ensures rank { self.new.me ≡ self.old.me }
     {
         match self.other_from(from) {
             Some(to) => self.place = Place::Part { view, to },
@@ -346,6 +413,8 @@ impl NodeRun {
             → RunFor self.new (saying self.old log
             (to_send self.old.settings self.old.me.0 self.old.member greeting from)) }
         ensures work { work self.new < 128 * self.old.after + 1 + calls_of_greeting greeting from }
+        ensures settings { self.new.settings ≡ self.old.settings }
+        ensures rank { self.new.me ≡ self.old.me }
     {
         match self.next_greeting(greeting, from) {
             Some((greeting, to)) => self.place = Place::Greet { greeting, to },
@@ -405,6 +474,8 @@ impl NodeRun {
             → Stands self.old log
             → RunFor self.new (next_of self.old (state_of self.old log)) }
         ensures work { work self.new ≤ 128 * self.old.after }
+        ensures settings { self.new.settings ≡ self.old.settings }
+        ensures rank { self.new.me ≡ self.old.me }
     {
         if self.after == 0 {
             self.place = Place::Over(self.turns_end());
@@ -436,6 +507,8 @@ impl NodeRun {
             → Stands self.old log
             → RunFor self.new (begun self.old log) }
         ensures work { work self.new ≤ 128 * self.old.after + 127 }
+        ensures settings { self.new.settings ≡ self.old.settings }
+        ensures rank { self.new.me ≡ self.old.me }
     {
         match ready(self.is_to_leave(), self.rests, self.waits) {
             Some((entry, waits)) => {

@@ -1,6 +1,5 @@
 -- The sector that stands for three images says what they told together.
-use Rattle.std.proofs.Common.{◌≡◌, ℕ, suc, Bool, true, false, not, ◌&&◌, ◌||◌, ◌==◌, List, [], ◌∷◌, ◌++◌, Option, None, Some, IfSome, if◌then◌else◌, refl, sym, ap, subst, ◌∙◌, arith}
-use Rattle.std.specs.Prelude.{nat_lt}
+use Rattle.std.proofs.Common.{◌≡◌, ℕ, Bool, true, false, not, ◌&&◌, ◌||◌, ◌==◌, List, [], ◌∷◌, ◌++◌, Option, None, Some, IfSome, if◌then◌else◌, refl, sym, ap, subst, ◌∙◌, arith}
 use Rattle.std.specs.List.{list_any}
 use Rattle.std.specs.Option.{option_map_or}
 use Rattle.std.specs.Str.{bytes_eq}
@@ -18,9 +17,7 @@ use Rattle.qn_model.specs.declared.mailbox.Mail.{Mail}
 use Rattle.qn_model.specs.declared.times.Timing.{Timing}
 use Rattle.qn_model.specs.declared.seen.HeaderSeen.{HeaderSeen}
 use Rattle.qn_model.specs.declared.seen.HeaderSeen.TheVariants as header
-use Rattle.qn_model.specs.declared.seen.MailSeen.{MailSeen}
 use Rattle.qn_model.specs.declared.seen.MailSeen.TheVariants as mail
-use Rattle.qn_model.specs.declared.seen.SlotSeen.{SlotSeen}
 use Rattle.qn_model.specs.declared.seen.SlotSeen.TheVariants as slot
 use Rattle.qn_model.specs.declared.entries.What.{What}
 use Rattle.qn_model.specs.declared.entries.What.TheVariants as what
@@ -34,8 +31,8 @@ use Rattle.qn_safety.specs.declared.part.Part.{Part}
 use Rattle.qn_safety.specs.declared.part.Part.TheVariants.{Pending, Landed, Failed}
 use Rattle.qn_safety.specs.TripleWorld.{answer_among, answer_of, counted, counting, has_failed, header_of as header_in_value, highest, is_above, message_among, messages_among, needs_good, slot_among, slots_among}
 use Rattle.qn_parts.specs.Parts.{is_good_on, part_on}
-use Rattle.qn_live.specs.Performing.{done, slot_seen}
-use Rattle.qn_live3.specs.Disk.{differ, if_failed, is_failed_read, is_majority, is_strange, part_of, part_of_entry, read_entry, some_differ, strange}
+use Rattle.qn_live.specs.Performing.{done}
+use Rattle.qn_live3.specs.Disk.{differ, if_failed, is_strange, part_of, part_of_entry, read_entry, some_differ}
 use Rattle.qn_live3.specs.Laws.{IsTold, taken_from}
 
 -- ## Zeros are no spelling

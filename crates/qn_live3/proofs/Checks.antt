@@ -1,8 +1,6 @@
 -- What the check of a clean start on three images tells is the answer that its parts give.
-use Rattle.std.proofs.Common.{◌≡◌, ◌==◌, ◌+◌, ℕ, Bool, true, false, List, [], ◌∷◌, ◌++◌, map, Option, None, Some, refl, sym, ap, ◌∙◌, arith}
-use Rattle.std.specs.Prelude.{nat_lt}
+use Rattle.std.proofs.Common.{◌≡◌, ℕ, Bool, true, false, List, [], ◌∷◌, ◌++◌, map, Option, None, Some, refl, sym, ap, ◌∙◌}
 use Rattle.std.specs.List.{list_any}
-use Rattle.std.proofs.lemmas.Bool.Decides.{nat_tests}
 use Rattle.std.proofs.lemmas.List.{map-append}
 use Rattle.qn_base.specs.declared.calls.Call.{Call}
 use Rattle.qn_base.specs.Calls.{is_failed}
@@ -24,10 +22,11 @@ use Rattle.qn_safety.specs.declared.part.Part.TheVariants.{Pending, Landed, Fail
 use Rattle.qn_safety.specs.TripleWorld.{answer_among, answer_of, counted, counting, has_failed, message_among, messages_among}
 use Rattle.qn_parts.specs.Parts.{is_good_on, part_on}
 use Rattle.qn_live.specs.Performing.{disk_answer, disk_call, done}
-use Rattle.qn_live3.specs.Disk.{Told, call_plan, differ, if_failed, part_of, part_plan, parts_plan, read_entry, read_of, read_plan, reading, sector_of}
+use Rattle.qn_live3.specs.Disk.{Told, call_plan, differ, if_failed, part_of, part_plan, parts_plan, read_entry, read_of, read_plan, sector_of}
 use Rattle.qn_live3.specs.Laws.{parts_told}
 use Rattle.qn_live3.specs.Runs.{all_good}
 use Rattle.qn_live3.proofs.Answers.{ReadsMailBack, zeros_mail}
+use Rattle.qn_live3.proofs.Operated.{mail_is_read}
 
 -- what an image told of a mailbox
 data Heard : Type 0 where
@@ -176,12 +175,6 @@ module _ (s : Settings) (back : ReadsMailBack) where
         ∙ among sector (list_any has_failed read_parts) found
         ∙ ap (λ some. if_failed disk.CheckMail some (answer_among disk.CheckMail (checks found))) some_fail
         ∙ sym check_says
-
-  mail_is_read : (me : ℕ) → reading (mail_place me) ≡ disk.ReadMail
-  mail_is_read me =
-      let first : (512 + me == 0) ≡ false = grind (arith, nat_tests) in
-      let slots : nat_lt (512 + me) 512 ≡ false = grind (arith, nat_tests) in
-      rw (first, slots) refl
 
   pub check_told : (me number : ℕ) (calls : List Call) (told : Told) → Follows (call_plan s me all_good (disk_call s me number disk.CheckMail)) calls told
       → disk_answer s disk.CheckMail told.0 ≡ read_entry disk.CheckMail (parts_told s disk.CheckMail calls) all_good

@@ -2,8 +2,11 @@ pub mod Answers
 pub mod Calls
 pub mod Checks
 pub mod Halted
+pub mod Operated
 pub mod Outputs
 pub mod Single
+pub mod Steps
 pub mod Stretches
+pub mod Turning
 pub mod Wiped
 pub mod Writes

@@ -3,16 +3,18 @@
 //! Promises: the calls that `run_node3` makes are those of `triple_plan` of `specs/Runs`, and its end is the one of that
 //! plan, for every outside. The plan is that of a node on one image, in which a call on the image is made on each of the
 //! three, and what they tell together is the entry that the world of three images gives (`qn_safety`'s `TripleWorld`).
-//! A failed call halts a boot only by the disk operation that it was made for (`law_triple_boot_halted`). No call takes
-//! memory from an allocator.
+//! A failed call halts a boot only by the disk operation that it was made for (`law_triple_boot_halted`). `TripleRun` is the
+//! same run as a machine, which names its next call and takes its answer: it makes each disk operation of a node by calls on
+//! the images, one after the other, and answers it by what they told. No call takes memory from an allocator.
 #![tactic(auto)]
 
 mod entry;
-mod images;
 mod laws;
+mod operations;
 mod part;
 mod running;
-mod sector;
+mod told;
+mod triple_run;
 
 pub use laws::{
     law_triple_answers, law_triple_boot_halted, law_triple_check, law_triple_end,
@@ -20,3 +22,4 @@ pub use laws::{
     law_triple_writes,
 };
 pub use running::run_node3;
+pub use triple_run::TripleRun;

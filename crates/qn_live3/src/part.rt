@@ -1,9 +1,10 @@
 //! The part of a read on one image.
-ghost use Rattle.std.specs.Prelude.{◌≡◌, ◌≤◌, ◌<◌};
-ghost use Rattle.qn_base.specs.Plans.{Did};
-ghost use Rattle.qn_live3.specs.Disk.{is_strange, part_of_entry, part_plan, sector_on};
+ghost use Rattle.std.specs.Prelude.{◌≡◌, ◌≤◌, ◌<◌, if◌then◌else◌};
+ghost use Rattle.qn_safety.specs.declared.part.Part.TheVariants.{Failed};
+ghost use Rattle.qn_live.specs.Performing.{done};
+ghost use Rattle.qn_live3.specs.Disk.{is_strange, part_of_entry, sector_on};
 
-use qn_io::{Env, SECTOR};
+use qn_io::SECTOR;
 use qn_live::done;
 use qn_model::{DiskOp, HeaderSeen, MailSeen, Settings, SlotSeen, What};
 use qn_parts::Part;
@@ -19,29 +20,14 @@ pub fn sector_on(image: u32, sector: u32) -> u32
     1024 * (image - 1) + sector
 }
 
-/// Reads a sector on an image, where that is asked.
-#[tactic(auto, unfolding(crate::specs::Disk::part_plan))]
-pub fn read_part<E: Env>(
-    env: &mut E,
-    settings: &Settings,
-    op: DiskOp,
-    asked: bool,
-    image: u32,
-    sector: u32,
-    into: &mut [u8; SECTOR],
-) -> Part
-    requires from_one { 1 ≤ image }
-    requires to_three { image ≤ 3 }
-    requires within { sector < 1024 }
-    ensures { Did (E.faults env.old) (E.faults env.new) (E.calls env.old) (E.calls env.new)
-        (part_plan settings.now op asked image sector) result }
+/// The part of a read on an image: `ok` says whether it was done, and `sector` is what it read.
+pub fn part_of(settings: &Settings, op: DiskOp, ok: bool, sector: &[u8; SECTOR]) -> Part
+    ensures { result ≡ (if ok then part_of_entry (done settings.now op sector.now) else Failed) }
 {
-    if !asked {
-        return Part::Pending;
-    }
-    match env.read(sector_on(image, sector), into) {
-        Ok(()) => part_of_entry(done(settings, op, into)),
-        Err(_) => Part::Failed,
+    if ok {
+        part_of_entry(done(settings, op, sector))
+    } else {
+        Part::Failed
     }
 }
 

@@ -10,10 +10,10 @@ ghost use Rattle.qn_model.specs.Log.{Line};
 ghost use Rattle.qn_model.specs.Settings.{IsValid};
 ghost use Rattle.qn_live3.specs.Runs.{triple_plan};
 
-use crate::images::Images;
+use crate::triple_run::TripleRun;
 use qn_base::Rank;
 use qn_io::Env;
-use qn_live::{LiveEnd, NodeRun, Room};
+use qn_live::{LiveEnd, Room, call};
 use qn_model::Settings;
 
 /// Runs the node of that rank for that many turns at most, on three images. `clean` says that its boot is a clean start,
@@ -38,15 +38,14 @@ pub fn run_node3<E: Env>(
         × HaltedOnThree settings.now me.0 cause calls
         × HasRisen (E.faults env.old) (E.faults env.new) }
 {
-    let mut run = NodeRun::new(settings.copy(), me, clean, leave_at, turns);
-    let mut images = Images::new();
+    let mut run = TripleRun::new(settings.copy(), me, clean, leave_at, turns);
     let mut room = Room::new();
     'calls: loop {
         let asked = match run.asks(&mut room) {
             Ok(asked) => asked,
             Err(end) => return end,
         };
-        let given = images.call(env, settings, me, asked, &mut room);
+        let given = call(env, asked, &mut room);
         run.answer(given, &room);
     }
 }

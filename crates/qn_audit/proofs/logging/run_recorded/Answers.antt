@@ -11,7 +11,7 @@ use Rattle.qn_audit.proofs.logging.run_recorded.Goals as goal
 
 pub calls-init : goal.calls-init
 calls-init g c = record {
-  did = ([], made_none _ _, tt, tt, rw (← c.copy.ensures) c.new-run.ensures, logs_none _);
+  did = ([], made_none _ _, tt, tt, rw (← c.copy.ensures) c.new-run.ensures.runs, logs_none _);
   same_env = refl;
   same_out = refl;
   sink = omega arith;

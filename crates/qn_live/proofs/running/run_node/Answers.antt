@@ -10,7 +10,7 @@ use Rattle.qn_live.proofs.running.run_node.Goals as goal
 pub calls-init : goal.calls-init
 calls-init g c = (
   live_plan c.copy.result c.args.me.0 c.args.clean c.args.leave_at c.args.turns,
-  c.new-run.ensures,
+  c.new-run.ensures.runs,
   rw c.copy.ensures (at_start _ _ _),
 )
 

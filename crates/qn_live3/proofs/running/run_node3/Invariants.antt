@@ -1,15 +1,14 @@
 use Rattle.qn_base.specs.Plans.{Plan, At}
-use Rattle.qn_live.specs.Machine.{RunFor, work}
 use Rattle.qn_live.specs.Running.{Ran}
-use Rattle.qn_live3.specs.Runs.{on_three, triple_plan}
+use Rattle.qn_live3.specs.Machine.{TripleRunFor, triple_work}
+use Rattle.qn_live3.specs.Runs.{triple_plan}
 use Rattle.qn_live3.proofs.running.run_node3.Given as goal
 
 abbrev pub invariant-calls : goal.invariant-calls
 invariant-calls g l =
     (plan : Plan Ran)
-    × RunFor l.run plan
-    × At (g.E.Env.faults l.fn.env) (g.E.Env.faults l.env) (g.E.Env.calls l.fn.env) (g.E.Env.calls l.env)
-    (triple_plan l.settings l.fn.me.0 l.clean l.fn.leave_at l.turns) (on_three l.settings l.fn.me.0 l.images.good plan)
+    × TripleRunFor l.run plan
+    × At (g.E.Env.faults l.fn.env) (g.E.Env.faults l.env) (g.E.Env.calls l.fn.env) (g.E.Env.calls l.env) (triple_plan l.settings l.fn.me.0 l.clean l.fn.leave_at l.turns) plan
 
 abbrev pub decreases-calls : goal.decreases-calls
-decreases-calls g l = work l.run
+decreases-calls g l = triple_work l.run

@@ -5,7 +5,7 @@ use Rattle.qn_model.specs.declared.outputs.Out.TheVariants as out
 use Rattle.qn_live.specs.declared.place.Place.{Place}
 use Rattle.qn_live.specs.declared.place.Place.TheVariants as place
 use Rattle.qn_live.specs.Choosing.{choice_of, packet_in}
-use Rattle.qn_live.specs.Machine.{HasMore, acting, left_at, next_of, parting, receiving, saying, state_of}
+use Rattle.qn_live.specs.Machine.{HasMore, acting, clocking, left_at, next_of, parting, receiving, saying, state_of, timing}
 use Rattle.qn_live.specs.Greetings.{farewells, to_send}
 use Rattle.qn_live.specs.Running.{later}
 use Rattle.qn_live.specs.Runs.{timed}
@@ -26,6 +26,13 @@ returns-in-Receive-clause-runs c = λ plan call h tells asked.
           (λ chosen. timed run.settings run.me.0 (chosen, state_of run h.log) >>= later (next_of run))
           (ap (λ got. choice_of run.me.0 (packet_in got)) tells.got ∙ sym c.choose.ensures);
     }
+
+pub returns-in-Now-clause-runs : goal.returns-in-Now-clause-runs
+returns-in-Now-clause-runs c = λ plan call h tells asked.
+    let run = c.args.self.now in
+    let choice = c.in-Now.choice in
+    let is : plan ≡ timing run h.log choice = h.is_left ∙ ap (λ p. left_at run h.log p) c.in-Now.is in
+    stands_too (ap (λ p. left p call) is ∙ ap (λ tick. clocking run h.log choice tick) tells.tick) (c.at_tick.ensures.runs h.log h.stands)
 
 pub returns-in-Act-clause-runs : goal.returns-in-Act-clause-runs
 returns-in-Act-clause-runs c = λ plan call h tells asked.

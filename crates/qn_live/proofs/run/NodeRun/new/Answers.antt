@@ -2,8 +2,8 @@ use Rattle.std.proofs.Common.{[], refl}
 use Rattle.qn_live.proofs.Joining.{live_left}
 use Rattle.qn_live.proofs.run.NodeRun.new.Goals as goal
 
-pub returns : goal.returns
-returns c = record {
+pub returns-clause-runs : goal.returns-clause-runs
+returns-clause-runs c = record {
   log = [];
   stands = record { valid = c.requires.valid; stands = c.new-node.ensures.stands; at = refl };
   more = tt;
