@@ -2,7 +2,7 @@
 # /usr/share/bash-completion/completions.
 
 # the commands, in the order of `quorumd help`
-_quorumd_commands=(count replay status soak create dump list message node migrate replay3 node3 replay-arbiter node-logged audit help)
+_quorumd_commands=(count replay status soak create dump list message node migrate replay3 node3 replay-arbiter node-logged audit node3-logged help)
 
 # the words before the command
 _quorumd_before=(--links --key --open --halt)
@@ -15,8 +15,8 @@ _quorumd_options() {
     create) options=(--image --timing) ;;
     dump | list | migrate) options=(--image) ;;
     message) options=(--image --id --kind) ;;
-    node | node3 | node-logged) options=(--id --image --watchdog --resource --port --turns --leave --start-mode) ;;
-    audit) options=(--id --turns --leave --start-mode) ;;
+    node | node3 | node-logged | node3-logged) options=(--id --image --watchdog --resource --port --turns --leave --start-mode) ;;
+    audit) options=(--id --turns --leave --start-mode --images) ;;
     esac
 }
 
@@ -44,6 +44,7 @@ _quorumd_value() {
     --kind) _quorumd_offer clear test reset off exit crashdump ;;
     --timing) _quorumd_offer 5000,10000,1000,2000,1000 ;;
     --start-mode) _quorumd_offer 0 1 ;;
+    --images) _quorumd_offer 1 3 ;;
     --image | --watchdog | --resource) _quorumd_files ;;
     esac
 }

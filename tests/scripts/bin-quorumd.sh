@@ -1,7 +1,7 @@
 # bin/quorumd where it is called: through links, from other folders, beside CDPATH, and when it has to build first.
 . "$TOP/tests/expect.sh"
 
-commands='commands count replay status soak create dump list message node migrate replay3 node3 replay-arbiter node-logged audit help'
+commands='commands count replay status soak create dump list message node migrate replay3 node3 replay-arbiter node-logged audit node3-logged help'
 here=$PWD
 
 # called WORD..: this call of it writes the names of the commands, and nothing on standard error

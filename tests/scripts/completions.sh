@@ -25,7 +25,7 @@ offers() {
 same "$(bash -c 'source "$1" && complete -p quorumd' - "$TOP/completions/quorumd.bash")" 'complete -F _quorumd quorumd'
 
 # commands
-commands='count replay status soak create dump list message node migrate replay3 node3 replay-arbiter node-logged audit help'
+commands='count replay status soak create dump list message node migrate replay3 node3 replay-arbiter node-logged audit node3-logged help'
 offers "$commands" ''
 offers 'count create' c
 offers 'status soak' s
@@ -68,8 +68,9 @@ offers '--image --resource --port --leave --start-mode' node --turns 9 --id 1 --
 offers '--leave' node --id 1 --image disk --watchdog dog --resource res --port 7000 --turns 9 --start-mode 1 --
 offers '--id --image --watchdog --resource --port --turns --leave --start-mode' node3 ''
 offers '--id --image --watchdog --resource --port --turns --leave --start-mode' node-logged ''
-offers '--id --turns --leave --start-mode' audit ''
-offers '--leave --start-mode' audit --turns 9 --id 1 --
+offers '--id --image --watchdog --resource --port --turns --leave --start-mode' node3-logged ''
+offers '--id --turns --leave --start-mode --images' audit ''
+offers '--leave --start-mode --images' audit --turns 9 --id 1 --
 
 # a word that looks like an option can be a value; a redirection is no option
 offers --id message --image --id --kind off ''

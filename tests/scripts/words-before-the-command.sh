@@ -2,7 +2,7 @@
 # nothing on standard output; good ones change nothing of a command.
 . "$TOP/tests/expect.sh"
 
-commands='commands count replay status soak create dump list message node migrate replay3 node3 replay-arbiter node-logged audit help'
+commands='commands count replay status soak create dump list message node migrate replay3 node3 replay-arbiter node-logged audit node3-logged help'
 
 # says LINE WORD..: these words are refused with this line
 says() {

@@ -22,6 +22,6 @@ receive_recorded (got.Packet count) packet fits all = (omega (arith, fits, lengt
 receive_recorded got.Nothing packet fits all = (tt, tt)
 receive_recorded got.Failed packet fits all = (tt, tt)
 
-pub read_recorded : (sector : ℕ) (bytes : List ℕ) (ok : Bool) → sector < 1024 → length bytes ≡ 512 → IsBytes bytes → IsRecorded (call.Read sector (if ok then bytes else []) ok)
+pub read_recorded : (sector : ℕ) (bytes : List ℕ) (ok : Bool) → sector < 3072 → length bytes ≡ 512 → IsBytes bytes → IsRecorded (call.Read sector (if ok then bytes else []) ok)
 read_recorded sector bytes true within whole all = (whole, (omega (arith, within), all))
 read_recorded sector bytes false within whole all = (refl, (omega (arith, within), no_bytes))

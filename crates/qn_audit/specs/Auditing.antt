@@ -4,8 +4,9 @@ use Rattle.qn_base.specs.declared.calls.Call.{Call}
 use Rattle.qn_base.specs.declared.calls.Call.TheVariants as call
 use Rattle.qn_base.specs.declared.limits.TheConstants.{MOST_LINE_BYTES}
 use Rattle.qn_base.specs.Plans.{Plan, left, question}
-use Rattle.qn_live.specs.Machine.{EndsWith, RunFor}
+use Rattle.qn_live.specs.Machine.{EndsWith}
 use Rattle.qn_live.specs.Running.{Ran}
+use Rattle.qn_live3.specs.Images.{RunsAs}
 use Rattle.qn_model.specs.declared.line_fault.LineFault.{LineFault}
 use Rattle.qn_model.specs.declared.line_fault.LineFault.TheVariants.{TooLong, TooMany, Unended}
 use Rattle.qn_model.specs.Lines.{Ending, Ended, ReadFailed, lines_of}
@@ -21,7 +22,7 @@ use Rattle.qn_audit.specs.Reading.{call_of}
 
 -- what is left of the run is that plan
 abbrev pub StandsFor : Auditor → Plan Ran → Type 0
-StandsFor auditor plan = RunFor auditor.run plan
+StandsFor auditor plan = RunsAs auditor.run plan
 
 abbrev pub IsJudging : Auditor → Type 0
 IsJudging auditor = (plan : Plan Ran) × StandsFor auditor plan

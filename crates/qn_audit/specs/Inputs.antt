@@ -13,7 +13,8 @@ use Rattle.qn_head.specs.Parts as part
 use Rattle.qn_io.specs.declared.buffered.TheConstants.{PIECE}
 use Rattle.qn_io.specs.Outside.{HasRisen}
 use Rattle.qn_live.specs.Running.{Ran}
-use Rattle.qn_live.specs.Runs.{live_plan}
+use Rattle.qn_live3.specs.declared.node_images.NodeImages.{NodeImages}
+use Rattle.qn_live3.specs.Images.{plan_on}
 use Rattle.qn_model.specs.declared.configuration.Settings.{Settings}
 use Rattle.qn_model.specs.Inputs.{Tells}
 use Rattle.qn_model.specs.Lines.{Ending}
@@ -22,9 +23,10 @@ use Rattle.qn_audit.specs.declared.audit_end.AuditEnd.TheVariants as ended
 use Rattle.qn_audit.specs.Auditing.{LinesEnd, at_first}
 use Rattle.qn_audit.specs.Deciding.{Input, IsNeeded, input_of}
 
--- the run that a log is audited as: the id of its node, whether its boot was a clean start, the turn from which on it was to
+-- the run that a log is audited as: the images of its node, its id, whether its boot was a clean start, the turn from which on it was to
 -- leave, and how many turns it was to run
 pub record AuditedRun : Type 0 where
+  pub images : NodeImages
   pub id : NodeId
   pub clean : Bool
   pub leave : Option ℕ
@@ -36,7 +38,7 @@ rank_in run settings = position (λ node. node.id.0 == run.id.0) settings.nodes
 
 -- its plan, of the node of that rank
 abbrev pub plan_of : AuditedRun → Settings → ℕ → Plan Ran
-plan_of run settings rank = live_plan settings rank run.clean run.leave run.turns
+plan_of run settings rank = plan_on run.images settings rank run.clean run.leave run.turns
 
 -- the end of that name
 abbrev pub end_in_head : HeadFault → AuditEnd

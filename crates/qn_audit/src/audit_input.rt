@@ -8,15 +8,17 @@ use crate::log::audit_log;
 use qn_base::{NodeId, Rank};
 use qn_head::read_settings;
 use qn_io::{Pieces, Source};
+use qn_live3::NodeImages;
 use qn_model::{NodeEntry, Nodes};
 use std::alloc::Global;
 
 /// Judges an input of a settings text, a line `----` and a log: whether the log is a whole run of so many turns, or the
-/// beginning of one, of the node with that id. `clean` says that its boot is a clean start, and `leave_at` is the number
+/// beginning of one, of the node with that id on these images. `clean` says that its boot is a clean start, and `leave_at` is the number
 /// of the turn from which on it is to leave. Memory is taken for the settings alone.
 pub fn audit<I: Source>(
     alloc: Global,
     input: &mut I,
+    images: NodeImages,
     id: NodeId,
     turns: u64,
     leave_at: Option<u64>,
@@ -24,7 +26,7 @@ pub fn audit<I: Source>(
 ) -> AuditEnd
     requires some_turn { 1 ≤ turns }
     ensures judges { JudgesInput
-        (record { id = id; clean = clean; leave = leave_at; turns = turns })
+        (record { images = images; id = id; clean = clean; leave = leave_at; turns = turns })
         (input_at I.left I.faults input.old) (input_at I.left I.faults input.new) result }
     ensures never_falls { I.faults input.old ≤ I.faults input.new }
 {
@@ -37,7 +39,7 @@ pub fn audit<I: Source>(
         return AuditEnd::UnknownNode;
     };
     let lines = head.lines;
-    let mut auditor = Auditor::new(head.settings, me, clean, leave_at, turns);
+    let mut auditor = Auditor::new(images, head.settings, me, clean, leave_at, turns);
     audit_log(&mut auditor, lines, &mut pieces, input)
 }
 

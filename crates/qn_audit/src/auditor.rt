@@ -4,13 +4,14 @@ ghost use Rattle.std.specs.Prelude.{◌≡◌};
 use crate::answering::is_wanted;
 use crate::logged_call::LoggedCall;
 use qn_base::Rank;
-use qn_live::{LiveEnd, NodeRun, Room};
+use qn_live::{LiveEnd, Room};
+use qn_live3::{ImagesRun, NodeImages};
 use qn_model::Settings;
 
 /// A run of a node as far as the calls of a log tell of it.
 #[derive(Drop)]
 pub struct Auditor {
-    run: NodeRun,
+    run: ImagesRun,
     room: Room,
 }
 
@@ -31,15 +32,16 @@ impl Auditor {
     ghost use Rattle.std.specs.Prelude.{◌≤◌, ◌<◌, length, OnOk, OnErr};
     ghost use Rattle.qn_base.specs.Plans.{Plan, left};
     ghost use Rattle.qn_live.specs.Running.{Ran};
-    ghost use Rattle.qn_live.specs.Runs.{live_plan};
+    ghost use Rattle.qn_live3.specs.Images.{plan_on};
     ghost use Rattle.qn_model.specs.Settings.{IsValid};
     ghost use Rattle.qn_audit.specs.Auditing.{IsJudging, StandsFor, VerdictFor};
     ghost use Rattle.qn_audit.specs.Judging.{IsNext};
     ghost use Rattle.qn_audit.specs.LoggedCalls.{IsToldIn, call_in};
 
-    /// The run of the node of that rank before its first call. `clean` says that its boot is a clean start, and
+    /// The run of the node of that rank on these images before its first call. `clean` says that its boot is a clean start, and
     /// `leave_at` is the number of the turn from which on it is to leave.
     pub fn new(
+        images: NodeImages,
         settings: Settings,
         me: Rank,
         clean: bool,
@@ -49,10 +51,10 @@ impl Auditor {
         requires valid { IsValid settings }
         requires configured { me.0 < length settings.nodes }
         requires some_turn { 1 ≤ turns }
-        ensures { StandsFor result (live_plan settings me.0 clean leave_at turns) }
+        ensures { StandsFor result (plan_on images settings me.0 clean leave_at turns) }
     {
         Auditor {
-            run: NodeRun::new(settings, me, clean, leave_at, turns),
+            run: ImagesRun::new(images, settings, me, clean, leave_at, turns),
             room: Room::new(),
         }
     }

@@ -3,8 +3,8 @@ ghost use Rattle.std.specs.Prelude.{◌≡◌, ◌≤◌, ◌<◌, ◌∷◌, []
 ghost use Rattle.hex.specs.Hex.{IsBytes};
 ghost use Rattle.qn_base.specs.Plans.{Made};
 ghost use Rattle.qn_io.specs.Receives.{FitsPacket};
-ghost use Rattle.qn_live.specs.Asking.{IsWithin, told, Tells};
-ghost use Rattle.qn_live.specs.Runs.{live_plan};
+ghost use Rattle.qn_live.specs.Asking.{IsServed, told, Tells};
+ghost use Rattle.qn_live3.specs.Images.{plan_on};
 ghost use Rattle.qn_model.specs.Log.{Line};
 ghost use Rattle.qn_model.specs.Settings.{IsValid};
 ghost use Rattle.qn_audit.specs.Logs.{IsRecorded};
@@ -13,13 +13,15 @@ ghost use Rattle.qn_audit.specs.Recording.{DidLogged, LogsCall, log_of, recorded
 use crate::recorder::Recorder;
 use qn_base::Rank;
 use qn_io::{Env, Got, SECTOR, Sink};
-use qn_live::{Asked, Given, LiveEnd, NodeRun, Room};
+use qn_live::{Asked, Given, LiveEnd, Room};
+use qn_live3::{ImagesRun, NodeImages};
 use qn_model::Settings;
 
-/// Runs the node of that rank for that many turns at most, over an outside whose calls are recorded, as
-/// `qn_live::run_node` does. The calls that were made are those of the plan, and they were given to the log in that order.
+/// Runs the node of that rank on these images for that many turns at most, over an outside whose calls are recorded, as
+/// `qn_live::run_node` and `qn_live3::run_node3` do. The calls that were made are those of the plan, and they were given to the log in that order.
 pub fn run_recorded<E: Env, O: Sink>(
     recorder: &mut Recorder<'_, E, O>,
+    images: NodeImages,
     settings: &Settings,
     me: Rank,
     clean: bool,
@@ -34,14 +36,14 @@ pub fn run_recorded<E: Env, O: Sink>(
         (log_of O.written O.faults recorder.old) in
         let after = recorded (E.faults recorder.new.env.now) (E.calls recorder.new.env.now)
         (log_of O.written O.faults recorder.new) in
-        (log : List Line) × DidLogged (live_plan settings.now me.0 clean leave_at turns)
+        (log : List Line) × DidLogged (plan_on images settings.now me.0 clean leave_at turns)
         (record { end = result; log = log }) before after }
     ensures same_env { recorder.new.env.ghost_name ≡ recorder.old.env.ghost_name }
     ensures same_out { recorder.new.out.ghost_name ≡ recorder.old.out.ghost_name }
     ensures env_faults { E.faults recorder.old.env.now ≤ E.faults recorder.new.env.now }
     ensures sink_faults { O.faults recorder.old.out.now ≤ O.faults recorder.new.out.now }
 {
-    let mut run = NodeRun::new(settings.copy(), me, clean, leave_at, turns);
+    let mut run = ImagesRun::new(images, settings.copy(), me, clean, leave_at, turns);
     let mut room = Room::new();
     'calls: loop {
         let asked = match run.asks(&mut room) {
@@ -55,7 +57,7 @@ pub fn run_recorded<E: Env, O: Sink>(
 
 /// Makes the call on the outside, and records it.
 fn call<E: Env, O: Sink>(recorder: &mut Recorder<'_, E, O>, asked: Asked, room: &mut Room) -> Given
-    requires { IsWithin asked }
+    requires { IsServed asked }
     ensures made { Made (E.faults recorder.old.env.now) (E.faults recorder.new.env.now)
         (E.calls recorder.old.env.now) (E.calls recorder.new.env.now)
         (told asked room.old result room.new ∷ []) }

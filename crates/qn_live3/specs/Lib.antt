@@ -1,5 +1,7 @@
 pub mod Disk
 pub mod Halts
+pub mod ImageCounts
+pub mod Images
 pub mod Laws
 pub mod Machine
 pub mod Operations

@@ -9,17 +9,21 @@
 #![tactic(auto)]
 
 mod entry;
+mod images_run;
 mod laws;
+mod node_images;
 mod operations;
 mod part;
 mod running;
 mod told;
 mod triple_run;
 
+pub use images_run::ImagesRun;
 pub use laws::{
     law_triple_answers, law_triple_boot_halted, law_triple_check, law_triple_end,
     law_triple_end_causes, law_triple_handed_history, law_triple_history, law_triple_outputs,
     law_triple_writes,
 };
+pub use node_images::NodeImages;
 pub use running::run_node3;
 pub use triple_run::TripleRun;

@@ -33,6 +33,7 @@ statuses_of (Some command.Replay3) = Done ∷ BadConf ∷ BadSchedule ∷ NotAll
 statuses_of (Some (command.Node3 words)) = Done ∷ BadConf ∷ ReadFault ∷ WriteFault ∷ EnvFault ∷ NoMemory ∷ ClockBack ∷ SelfReset ∷ BootHalted ∷ UnknownNode ∷ []
 statuses_of (Some command.ReplayArbiter) = Done ∷ BadConf ∷ BadSchedule ∷ NotAllowed ∷ ReadFault ∷ WriteFault ∷ UnsafeTiming ∷ NoMemory ∷ UnsafeLease ∷ []
 statuses_of (Some (command.NodeLogged words)) = Done ∷ BadConf ∷ ReadFault ∷ WriteFault ∷ EnvFault ∷ NoMemory ∷ ClockBack ∷ SelfReset ∷ BootHalted ∷ UnknownNode ∷ []
+statuses_of (Some (command.Node3Logged words)) = Done ∷ BadConf ∷ ReadFault ∷ WriteFault ∷ EnvFault ∷ NoMemory ∷ ClockBack ∷ SelfReset ∷ BootHalted ∷ UnknownNode ∷ []
 statuses_of (Some (command.Audit words)) = Done ∷ BadConf ∷ BadSchedule ∷ ReadFault ∷ WriteFault ∷ NoMemory ∷ UnknownNode ∷ NotARun ∷ []
 statuses_of (Some command.Help) = Done ∷ WriteFault ∷ []
 
@@ -54,6 +55,7 @@ module _ (before later : Seen) (status : ℕ) where
   causes (Some (command.Node3 words)) does = does.causes
   causes (Some command.ReplayArbiter) does = does.causes
   causes (Some (command.NodeLogged words)) does = does.causes
+  causes (Some (command.Node3Logged words)) does = does.causes
   causes (Some (command.Audit words)) does = does.causes
   causes (Some command.Help) does = does.causes
 
@@ -73,6 +75,7 @@ module _ (before later : Seen) (status : ℕ) where
   no_usage (command.Node3 words) does = lacks 2 (statuses_of (Some (command.Node3 words))) status refl does.statuses
   no_usage command.ReplayArbiter does = lacks 2 (statuses_of (Some command.ReplayArbiter)) status refl does.statuses
   no_usage (command.NodeLogged words) does = lacks 2 (statuses_of (Some (command.NodeLogged words))) status refl does.statuses
+  no_usage (command.Node3Logged words) does = lacks 2 (statuses_of (Some (command.Node3Logged words))) status refl does.statuses
   no_usage (command.Audit words) does = lacks 2 (statuses_of (Some (command.Audit words))) status refl does.statuses
   no_usage command.Help does = lacks 2 (statuses_of (Some command.Help)) status refl does.statuses
 
@@ -93,6 +96,7 @@ module _ (before later : Seen) (status : ℕ) where
   enough (Some (command.Node3 words)) does takes = absurd (false≢true (sym takes))
   enough (Some command.ReplayArbiter) does takes = absurd (false≢true (sym takes))
   enough (Some (command.NodeLogged words)) does takes = absurd (false≢true (sym takes))
+  enough (Some (command.Node3Logged words)) does takes = absurd (false≢true (sym takes))
   enough (Some (command.Audit words)) does takes = absurd (false≢true (sym takes))
   enough (Some command.Help) does takes = lacks 11 (statuses_of (Some command.Help)) status refl does.statuses
 

@@ -10,7 +10,7 @@ use Rattle.qn_commands.specs.Commands.Message.{Sends}
 use Rattle.qn_commands.specs.Commands.Migrate.{Migrates}
 use Rattle.qn_commands.specs.Commands.Node.{RunsNode}
 use Rattle.qn_commands.specs.Commands.NodeLogged.{LogsNode}
-use Rattle.qn_commands.specs.declared.node_images.NodeImages.TheVariants.{One, Three}
+use Rattle.qn_live3.specs.declared.node_images.NodeImages.TheVariants.{One, Three}
 use Rattle.qn_commands.specs.Seen.{Seen}
 use Rattle.qn_top.specs.declared.command.Command.{Command}
 use Rattle.qn_top.specs.declared.command.Command.TheVariants as command
@@ -38,8 +38,9 @@ Does (Some (command.Migrate image)) = Migrates image
 Does (Some command.Replay3) = Replays3
 Does (Some (command.Node3 words)) = RunsNode Three words
 Does (Some command.ReplayArbiter) = ReplaysBeside
-Does (Some (command.NodeLogged words)) = LogsNode words
+Does (Some (command.NodeLogged words)) = LogsNode One words
 Does (Some (command.Audit words)) = Audits words
+Does (Some (command.Node3Logged words)) = LogsNode Three words
 Does (Some command.Help) = Helps
 
 -- whether a command reads the input; `create` does not where its times are not safe
@@ -60,6 +61,7 @@ reads_input (Some (command.Node3 words)) = true
 reads_input (Some command.ReplayArbiter) = true
 reads_input (Some (command.NodeLogged words)) = true
 reads_input (Some (command.Audit words)) = true
+reads_input (Some (command.Node3Logged words)) = true
 reads_input (Some command.Help) = false
 
 -- whether a command calls the outside of a node
@@ -80,6 +82,7 @@ calls_outside (Some (command.Node3 words)) = true
 calls_outside (Some command.ReplayArbiter) = false
 calls_outside (Some (command.NodeLogged words)) = true
 calls_outside (Some (command.Audit words)) = false
+calls_outside (Some (command.Node3Logged words)) = true
 calls_outside (Some command.Help) = false
 
 -- whether a command takes memory
@@ -100,4 +103,5 @@ takes_memory (Some (command.Node3 words)) = true
 takes_memory (Some command.ReplayArbiter) = true
 takes_memory (Some (command.NodeLogged words)) = true
 takes_memory (Some (command.Audit words)) = true
+takes_memory (Some (command.Node3Logged words)) = true
 takes_memory (Some command.Help) = false

@@ -26,6 +26,7 @@ ShowsOneHolder (Some command.Replay3) before later status = ShowsTripleRun befor
 ShowsOneHolder (Some (command.Node3 words)) before later status = Unit {0}
 ShowsOneHolder (Some command.ReplayArbiter) before later status = ShowsRunBeside before.written later.written
 ShowsOneHolder (Some (command.NodeLogged words)) before later status = Unit {0}
+ShowsOneHolder (Some (command.Node3Logged words)) before later status = Unit {0}
 ShowsOneHolder (Some (command.Audit words)) before later status = Unit {0}
 ShowsOneHolder (Some command.Help) before later status = Unit {0}
 

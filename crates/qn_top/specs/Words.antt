@@ -13,6 +13,8 @@ use Rattle.qn_model.specs.Messages.{operator_word}
 use Rattle.qn_model.specs.Timing.{usual_times}
 use Rattle.qn_commands.specs.declared.commands.audit.AuditWords.{AuditWords}
 use Rattle.qn_commands.specs.declared.commands.node.NodeWords.{NodeWords}
+use Rattle.qn_live3.specs.declared.node_images.NodeImages.{NodeImages}
+use Rattle.qn_live3.specs.declared.node_images.NodeImages.TheVariants as images
 use Rattle.qn_top.specs.declared.command.Command.{Command}
 use Rattle.qn_top.specs.declared.command.Command.TheVariants as command
 use Rattle.qn_top.specs.declared.command.Form.{Form}
@@ -147,7 +149,19 @@ mode_in word = option_map (λ mode. mode == 1) (number_in 0 1 word)
 unfoldable pub mode_of : List (List ℕ) → Option Bool
 mode_of options = option_map_or mode_in (value_of (option_text option.StartMode) options) (Some false)
 
--- `node`, `node3` and `node-logged`
+-- on which images a node ran: one or three; one where nothing is written
+abbrev pub images_by : ℕ → Option NodeImages
+images_by count = if count == 1 then Some images.One else if count == 3 then Some images.Three else None
+
+abbrev pub images_in : List ℕ → Option NodeImages
+images_in word = do
+  count ← number_in 1 3 word
+  images_by count
+
+unfoldable pub images_of : List (List ℕ) → Option NodeImages
+images_of options = option_map_or images_in (value_of (option_text option.Images) options) (Some images.One)
+
+-- `node`, `node3`, `node-logged` and `node3-logged`
 abbrev pub node_options : List OptionName
 node_options =
     option.Id ∷ option.Image ∷ option.Watchdog ∷ option.Resource ∷ option.Port ∷ option.Turns ∷ option.Leave
@@ -195,7 +209,7 @@ node3_words options = do
 
 -- `audit`
 abbrev pub audit_options : List OptionName
-audit_options = option.Id ∷ option.Turns ∷ option.Leave ∷ option.StartMode ∷ []
+audit_options = option.Id ∷ option.Turns ∷ option.Leave ∷ option.StartMode ∷ option.Images ∷ []
 
 unfoldable pub audit_words : List (List ℕ) → Option AuditWords
 audit_words options =
@@ -205,7 +219,8 @@ audit_words options =
       turns ← number_of_option option.Turns 1 MOST_TURNS options
       leave ← leave_of options
       clean ← mode_of options
-      Some (record { id = id; turns = turns; leave = leave; clean = clean })
+      images ← images_of options
+      Some (record { images = images; id = id; turns = turns; leave = leave; clean = clean })
 
 -- the command of this name, with these options
 abbrev pub command_with : CommandName → List (List ℕ) → Option Command
@@ -224,6 +239,7 @@ command_with name.Node3 options = option_map command.Node3 (node3_words options)
 command_with name.ReplayArbiter options = if are_options [] options then Some command.ReplayArbiter else None
 command_with name.NodeLogged options = option_map command.NodeLogged (node_words options)
 command_with name.Audit options = option_map command.Audit (audit_words options)
+command_with name.Node3Logged options = option_map command.Node3Logged (node3_words options)
 command_with name.Help options = if are_options [] options then Some command.Help else None
 
 -- the command that the words are, where they are one
@@ -250,4 +266,5 @@ IsProper (command.Node3 words) = 1 ≤ words.turns
 IsProper command.ReplayArbiter = Unit {0}
 IsProper (command.NodeLogged words) = 1 ≤ words.turns
 IsProper (command.Audit words) = 1 ≤ words.turns
+IsProper (command.Node3Logged words) = 1 ≤ words.turns
 IsProper command.Help = Unit {0}

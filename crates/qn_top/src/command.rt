@@ -3,13 +3,13 @@ ghost use Rattle.std.specs.Prelude.{◌≡◌, ◌≤◌, ◌==◌, map, option_
 ghost use Rattle.std.specs.Option.{option_copied};
 ghost use Rattle.qn_model.specs.Lines.{parts};
 ghost use Rattle.qn_sched.specs.Words.{parts_left};
-ghost use Rattle.qn_top.specs.Words.{IsProper, all_differ, are_three_paths, audit_words, command_of, command_with, create_of, form_named, form_of, id_of, image_alone, kind_named, kind_of, leave_of, message_of, mode_in, mode_of, next_time, node3_words, node_words, number_in, number_of_option, soak_of, timing_in, timing_of};
+ghost use Rattle.qn_top.specs.Words.{IsProper, all_differ, are_three_paths, audit_words, command_of, command_with, create_of, form_named, form_of, id_of, image_alone, images_by, images_in, images_of, kind_named, kind_of, leave_of, message_of, mode_in, mode_of, next_time, node3_words, node_words, number_in, number_of_option, soak_of, timing_in, timing_of};
 ghost use Rattle.qn_top.specs.Options.{value_of};
 
 use crate::command_name::{CommandName, name_of};
 use crate::options::{OptionName, are_options, value_of};
 use qn_base::{LONGEST_PERIOD, MOST_EVENTS, NodeId, read_decimal};
-use qn_commands::{AuditWords, NodeWords, Path};
+use qn_commands::{AuditWords, NodeImages, NodeWords, Path};
 use qn_model::{Message, Timing};
 use qn_sched::first_part;
 
@@ -66,13 +66,15 @@ pub enum Command<'words> {
     ReplayArbiter,
     /// `node-logged`, with the options of `node`: the same, and each call with its answer as a line of a log.
     NodeLogged(NodeWords<'words>),
-    /// `audit --id N --turns K [--leave T] [--start-mode 0 or 1]`: whether a log is a run of that node.
+    /// `audit --id N --turns K [--leave T] [--start-mode 0 or 1] [--images 1 or 3]`: whether a log is a run of that node.
     Audit(AuditWords),
+    /// `node3-logged`, with the options of `node3`: the same, and each call with its answer as a line of a log.
+    Node3Logged(NodeWords<'words>),
     /// `help`: the commands.
     Help,
 }
 
-/// The options of `node`, `node3` and `node-logged`.
+/// The options of `node`, `node3`, `node-logged` and `node3-logged`.
 const NODE_OPTIONS: [OptionName; 8] = [
     OptionName::Id,
     OptionName::Image,
@@ -85,11 +87,12 @@ const NODE_OPTIONS: [OptionName; 8] = [
 ];
 
 /// The options of `audit`.
-const AUDIT_OPTIONS: [OptionName; 4] = [
+const AUDIT_OPTIONS: [OptionName; 5] = [
     OptionName::Id,
     OptionName::Turns,
     OptionName::Leave,
     OptionName::StartMode,
+    OptionName::Images,
 ];
 
 /// The form of a status.
@@ -148,6 +151,7 @@ fn command_with(name: CommandName, options: &[String]) -> Option<Command<'_>>
         CommandName::ReplayArbiter => are_options(&[], options).then_some(Command::ReplayArbiter),
         CommandName::NodeLogged => node_logged_of(options),
         CommandName::Audit => audit_of(options),
+        CommandName::Node3Logged => node3_logged_of(options),
         CommandName::Help => are_options(&[], options).then_some(Command::Help),
     }
 }
@@ -297,6 +301,16 @@ fn node_logged_of(options: &[String]) -> Option<Command<'_>>
     Some(Command::NodeLogged(words))
 }
 
+/// `node3-logged` with these options.
+fn node3_logged_of(options: &[String]) -> Option<Command<'_>>
+    ensures command { result
+        ≡ option_map Command.Node3Logged (node3_words (map string_bytes options.now)) }
+    ensures proper { IfSome result IsProper }
+{
+    let words = node3_words(options)?;
+    Some(Command::Node3Logged(words))
+}
+
 /// `audit` with these options.
 fn audit_of(options: &[String]) -> Option<Command<'_>>
     ensures command { result
@@ -307,7 +321,7 @@ fn audit_of(options: &[String]) -> Option<Command<'_>>
     Some(Command::Audit(words))
 }
 
-/// What the options of `node`, `node3` or `node-logged` say.
+/// What the options of `node` or `node-logged` say.
 #[tactic(auto, unfolding(crate::specs::Words::node_words))]
 fn node_words(options: &[String]) -> Option<NodeWords<'_>>
     ensures words { result ≡ node_words (map string_bytes options.now) }
@@ -336,7 +350,7 @@ fn node_words(options: &[String]) -> Option<NodeWords<'_>>
     })
 }
 
-/// What the options of `node3` say: the paths of three images, of which no two are the same.
+/// What the options of `node3` or `node3-logged` say: the paths of three images, of which no two are the same.
 #[tactic(auto, unfolding(crate::specs::Words::node3_words))]
 fn node3_words(options: &[String]) -> Option<NodeWords<'_>>
     ensures words { result ≡ node3_words (map string_bytes options.now) }
@@ -384,7 +398,9 @@ fn audit_words(options: &[String]) -> Option<AuditWords>
     let turns = number_of_option(options, OptionName::Turns, 1, MOST_TURNS)?;
     let leave = leave_of(options)?;
     let clean = mode_of(options)?;
+    let images = images_of(options)?;
     Some(AuditWords {
+        images,
         id,
         turns,
         leave,
@@ -417,6 +433,33 @@ fn mode_of(options: &[String]) -> Option<bool>
             let mode = number_in(0, 1, word.as_str().as_bytes())?;
             Some(mode == 1)
         }
+    }
+}
+
+/// On which images a node ran: one or three; one where nothing is written.
+#[tactic(auto, unfolding(crate::specs::Words::images_of))]
+fn images_of(options: &[String]) -> Option<NodeImages>
+    ensures { result ≡ images_of (map string_bytes options.now) }
+{
+    match value_of(options, OptionName::Images) {
+        None => Some(NodeImages::One),
+        Some(word) => {
+            let count = number_in(1, 3, word.as_str().as_bytes())?;
+            images_by(count)
+        }
+    }
+}
+
+/// So many images, of which a node has one or three.
+fn images_by(count: u64) -> Option<NodeImages>
+    ensures { result ≡ images_by count }
+{
+    if count == 1 {
+        Some(NodeImages::One)
+    } else if count == 3 {
+        Some(NodeImages::Three)
+    } else {
+        None
     }
 }
 

@@ -20,11 +20,12 @@ pub(crate) enum CommandName {
     ReplayArbiter,
     NodeLogged,
     Audit,
+    Node3Logged,
     Help,
 }
 
 /// The names of all commands, in the order of `help`.
-const COMMAND_NAMES: [CommandName; 16] = [
+const COMMAND_NAMES: [CommandName; 17] = [
     CommandName::Count,
     CommandName::Replay,
     CommandName::Status,
@@ -40,6 +41,7 @@ const COMMAND_NAMES: [CommandName; 16] = [
     CommandName::ReplayArbiter,
     CommandName::NodeLogged,
     CommandName::Audit,
+    CommandName::Node3Logged,
     CommandName::Help,
 ];
 
@@ -64,6 +66,7 @@ impl CommandName {
             CommandName::ReplayArbiter => "replay-arbiter",
             CommandName::NodeLogged => "node-logged",
             CommandName::Audit => "audit",
+            CommandName::Node3Logged => "node3-logged",
             CommandName::Help => "help",
         }
     }

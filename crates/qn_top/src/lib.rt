@@ -4,7 +4,7 @@
 //! definition gives for the words, the bytes read and the answers of the calls (specs/Does.antt, a record for each
 //! command). Status 2 comes exactly for words that are no command; 6, 7 and 8 only where the count of faults of
 //! the source, the sink or the outside rose, and at 7 the first bytes of the text were written. `create`, `node`,
-//! `node3`, `node-logged` and `audit` take memory for their settings text, and `replay`, `status` and `soak` for that and for their worlds.
+//! `node3`, `node-logged`, `node3-logged` and `audit` take memory for their settings text, and `replay`, `status` and `soak` for that and for their worlds.
 //! Input is read in pieces of at most 4096 bytes, and none after the piece in which the end stood.
 #![tactic(auto)]
 

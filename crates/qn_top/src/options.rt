@@ -20,6 +20,7 @@ pub(crate) enum OptionName {
     Turns,
     Leave,
     StartMode,
+    Images,
 }
 
 impl OptionName {
@@ -38,6 +39,7 @@ impl OptionName {
             OptionName::Turns => "--turns",
             OptionName::Leave => "--leave",
             OptionName::StartMode => "--start-mode",
+            OptionName::Images => "--images",
         }
     }
 }

@@ -129,7 +129,12 @@ fn run_command<I: Source, O: Sink, E: Env>(
         Command::Replay3 => run_replay3(alloc, input, out),
         Command::Node3(words) => node(alloc, NodeImages::Three, words, input, out, env),
         Command::ReplayArbiter => run_replay_arbiter(alloc, input, out),
-        Command::NodeLogged(words) => node_logged(alloc, words, input, out, env),
+        Command::NodeLogged(words) => {
+            node_logged(alloc, NodeImages::One, words, input, out, env)
+        }
         Command::Audit(words) => run_audit(alloc, words, input, out),
+        Command::Node3Logged(words) => {
+            node_logged(alloc, NodeImages::Three, words, input, out, env)
+        }
     }
 }

@@ -84,9 +84,15 @@ pub const QUORUMD: &[Synopsis] = &[
         does: "the same as node, with a line for each of its calls",
     },
     Synopsis {
-        line: "audit --id 1..4294967295 --turns 1..1000000000 [--leave 1..1000000000] [--start-mode 0..1]",
+        line: "audit --id 1..4294967295 --turns 1..1000000000 [--leave 1..1000000000] [--start-mode 0..1] [--images 1|3]",
         reads: "RECORD",
         does: "whether the record of a node is a run of it",
+    },
+    Synopsis {
+        line: "node3-logged --id 1..4294967295 --image P1,P2,P3 --watchdog PATH --resource PATH --port 1024..65000 \
+               --turns 1..1000000000 [--leave 1..1000000000] [--start-mode 0..1]",
+        reads: "COROSYNC.CONF",
+        does: "the same as node3, with a line for each of its calls",
     },
     Synopsis {
         line: "help",

@@ -11,16 +11,16 @@ use Rattle.qn_live.specs.declared.live_end.LiveEnd.{LiveEnd}
 use Rattle.qn_live.specs.declared.live_end.LiveEnd.TheVariants as end
 use Rattle.qn_live.specs.Halts.{HaltedBy, one_call}
 use Rattle.qn_live.specs.Running.{Ran}
-use Rattle.qn_live.specs.Runs.{live_plan}
 use Rattle.qn_live.specs.Laws.{NeverFalls, is_by_call, is_by_clock, is_no_failure}
 use Rattle.qn_live3.specs.Halts.{HaltedOnThree}
-use Rattle.qn_live3.specs.Runs.{triple_plan}
+use Rattle.qn_live3.specs.ImageCounts.{image_count}
+use Rattle.qn_live3.specs.Images.{plan_on}
 use Rattle.qn_model.specs.declared.configuration.Settings.{Settings}
 use Rattle.qn_model.specs.declared.outputs.BootCause.{BootCause}
 use Rattle.qn_model.specs.Lines.{Ended}
 use Rattle.qn_commands.specs.declared.commands.node.NodeWords.{NodeWords}
-use Rattle.qn_commands.specs.declared.node_images.NodeImages.{NodeImages}
-use Rattle.qn_commands.specs.declared.node_images.NodeImages.TheVariants.{One, Three}
+use Rattle.qn_live3.specs.declared.node_images.NodeImages.{NodeImages}
+use Rattle.qn_live3.specs.declared.node_images.NodeImages.TheVariants.{One, Three}
 use Rattle.qn_commands.specs.declared.fault.Fault.{Fault}
 use Rattle.qn_commands.specs.declared.fault.Fault.TheVariants.{BootHalted, EnvFault, UnknownNode}
 use Rattle.qn_commands.specs.declared.status.Status.TheVariants as status
@@ -35,11 +35,6 @@ use Rattle.qn_commands.specs.Works.{Last, Makes, Work, after_plan, refusal}
 abbrev pub rank_with : Settings → NodeId → Option ℕ
 rank_with settings id = position (λ node. node.id.0 == id.0) settings.nodes
 
--- how many images these are
-abbrev pub image_count : NodeImages → ℕ
-image_count One = 1
-image_count Three = 3
-
 -- the one call that opens all that the node of that rank uses, with its answer
 abbrev pub opening : NodeImages → NodeWords → ℕ → Bool → Call
 opening images words rank ok = OpenNode (image_count images) words.image words.watchdog words.resource words.port (record { 0 = rank }) ok
@@ -50,8 +45,7 @@ run_end turns ran = Last (end_outcome turns ran.end).text (end_outcome turns ran
 
 -- the run of the node of that rank
 abbrev pub node_plan : NodeImages → NodeWords → Settings → ℕ → Plan Ran
-node_plan One words settings rank = live_plan settings rank words.clean words.leave words.turns
-node_plan Three words settings rank = triple_plan settings rank words.clean words.leave words.turns
+node_plan images words settings rank = plan_on images settings rank words.clean words.leave words.turns
 
 -- the boot of the node of that rank was halted for this cause by a disk operation that failed, the last of these calls
 abbrev pub HaltedOn : NodeImages → Settings → ℕ → BootCause → List Call → Type 0

@@ -12,11 +12,14 @@ use crate::status::Status;
 use qn_audit::{AuditEnd, audit};
 use qn_base::{NodeId, ShortText};
 use qn_io::{Sink, Source};
+use qn_live3::NodeImages;
 use std::alloc::Global;
 
 /// What the words of `audit` say of the run that a log is to be.
 #[derive(Drop)]
 pub struct AuditWords {
+    /// On which images the node ran.
+    pub images: NodeImages,
     pub id: NodeId,
     /// How many turns the node was to run at most, from 1.
     pub turns: u64,
@@ -45,6 +48,7 @@ pub fn run_audit<I: Source, O: Sink>(
     let end = audit(
         alloc,
         input,
+        words.images,
         words.id,
         words.turns,
         words.leave,

@@ -11,7 +11,6 @@ ghost use Rattle.qn_commands.specs.Works.{Carries, Works};
 
 use crate::ending::refuse;
 use crate::fault::Fault;
-use crate::node_images::NodeImages;
 use crate::node_texts::finish_node;
 use crate::path::Path;
 use crate::settings_text::read_settings;
@@ -19,7 +18,7 @@ use crate::status::Status;
 use qn_base::{Failed, NodeId, Rank};
 use qn_io::{Env, Opening, Sink, Source};
 use qn_live::{LiveEnd, law_boot_halted, law_end_causes, run_node};
-use qn_live3::{law_triple_boot_halted, law_triple_end_causes, run_node3};
+use qn_live3::{NodeImages, law_triple_boot_halted, law_triple_end_causes, run_node3};
 use qn_model::{NodeEntry, Settings};
 use std::alloc::Global;
 
@@ -164,7 +163,7 @@ fn run<E: Env>(
 
 /// Law: a node in whose run no call failed was not halted in its boot by a failed call, and one whose ticks did not fall did not
 /// end because the clock went back. A boot that a failed call halted was halted by the last disk operation of the run.
-fn law_node_ends()
+pub(crate) fn law_node_ends()
     ensures { (images : NodeImages) (words : NodeWords) (settings : Settings) (rank : ℕ)
         → EndsWithCause images words settings rank }
 {

@@ -1,4 +1,4 @@
-//! `node-logged`: a running node whose calls are recorded.
+//! `node-logged` and `node3-logged`: a running node whose calls are recorded.
 ghost use Rattle.std.specs.Prelude.{◌≡◌, ◌≤◌, ◌<◌, ◌⊎◌, [], ◌∷◌, Some, length, true};
 ghost use Rattle.qn_base.specs.Faults.{HasRisen};
 ghost use Rattle.qn_model.specs.Settings.{IsValid};
@@ -7,10 +7,9 @@ ghost use Rattle.qn_commands.specs.Commands.NodeLogged.{LogsNode, Opens, RunsLog
 ghost use Rattle.qn_commands.specs.Seen.{Input, Outside, outside, seen, sink, source};
 ghost use Rattle.qn_commands.specs.Statuses.{IsOneOf, code_of};
 
-use crate::commands::node::{NodeWords, open, place_of};
+use crate::commands::node::{NodeWords, law_node_ends, open, place_of};
 use crate::ending::refuse;
 use crate::fault::Fault;
-use crate::node_images::NodeImages;
 use crate::node_texts::finish_node;
 use crate::settings_text::read_settings;
 use crate::status::Status;
@@ -18,14 +17,16 @@ use qn_audit::{Recorder, run_recorded};
 use qn_base::{Failed, Rank};
 use qn_io::{Env, Sink, Source};
 use qn_live::LiveEnd;
+use qn_live3::NodeImages;
 use qn_model::Settings;
 use std::alloc::Global;
 
-/// `node-logged`: runs the node as `node` does, and writes each of its calls with its answer as a line before the next
+/// `node-logged`, and on three images `node3-logged`: runs the node as `node` and `node3` do, and writes each of its calls with its answer as a line before the next
 /// call. Memory is taken for the settings text alone.
 #[inline(never)]
 pub fn node_logged<I: Source, O: Sink, E: Env>(
     alloc: Global,
+    images: NodeImages,
     words: &NodeWords<'_>,
     input: &mut I,
     out: &mut O,
@@ -36,16 +37,18 @@ pub fn node_logged<I: Source, O: Sink, E: Env>(
         (outside E.calls E.faults env.old) in
         let after = seen (source I.left I.faults input.new) (sink O.written O.faults out.new)
         (outside E.calls E.faults env.new) in
-        LogsNode words.now before after (code_of result) }
+        LogsNode images words.now before after (code_of result) }
 {
+    law_node_ends();
     match read_settings(alloc, input) {
-        Ok(settings) => open_and_record(words, &settings, out, env),
+        Ok(settings) => open_and_record(images, words, &settings, out, env),
         Err(fault) => refuse(out, fault),
     }
 }
 
 /// Opens and runs the node, once the settings are read, and records its calls.
 fn open_and_record<O: Sink, E: Env>(
+    images: NodeImages,
     words: &NodeWords<'_>,
     settings: &Settings,
     out: &mut O,
@@ -58,8 +61,8 @@ fn open_and_record<O: Sink, E: Env>(
         (outside E.calls E.faults env.old) in
         let after = seen input (sink O.written O.faults out.new)
         (outside E.calls E.faults env.new) in
-        WorksLogged words.now settings.now before after (code_of result) }
-    ensures unopened { code_of result ≡ 8 → FailsToOpen NodeImages.One words.now
+        WorksLogged images words.now settings.now before after (code_of result) }
+    ensures unopened { code_of result ≡ 8 → FailsToOpen images words.now
         (outside E.calls E.faults env.old) (outside E.calls E.faults env.new) }
     ensures outcomes { IsOneOf (Status.Done ∷ Status.WriteFault ∷ Status.EnvFault ∷ Status.ClockBack
         ∷ Status.SelfReset ∷ Status.BootHalted ∷ Status.UnknownNode ∷ []) (code_of result) }
@@ -71,8 +74,8 @@ fn open_and_record<O: Sink, E: Env>(
         return refuse(out, Fault::UnknownNode { id: words.id });
     };
     let rank = Rank(place as u8);
-    match open(NodeImages::One, words, rank, env) {
-        Ok(()) => run_and_finish(words, settings, rank, out, env),
+    match open(images, words, rank, env) {
+        Ok(()) => run_and_finish(images, words, settings, rank, out, env),
         Err(Failed) => refuse(out, Fault::EnvFault),
     }
 }
@@ -80,6 +83,7 @@ fn open_and_record<O: Sink, E: Env>(
 /// Runs the opened node of that rank and records its calls, and then writes how it ended. Where the log could not be
 /// written, nothing more is.
 fn run_and_finish<O: Sink, E: Env>(
+    images: NodeImages,
     words: &NodeWords<'_>,
     settings: &Settings,
     rank: Rank,
@@ -90,9 +94,9 @@ fn run_and_finish<O: Sink, E: Env>(
     requires configured { rank.0 < length settings.now.nodes }
     requires some_turn { 1 ≤ words.now.turns }
     ensures works { (input : Input) (first : Outside)
-        → Opens words.now rank.0 first (outside E.calls E.faults env.old)
+        → Opens images words.now rank.0 first (outside E.calls E.faults env.old)
         → Some rank.0 ≡ rank_with settings.now words.now.id
-        → WorksLogged words.now settings.now
+        → WorksLogged images words.now settings.now
         (seen input (sink O.written O.faults out.old) first)
         (seen input (sink O.written O.faults out.new) (outside E.calls E.faults env.new))
         (code_of result) }
@@ -102,7 +106,7 @@ fn run_and_finish<O: Sink, E: Env>(
     ensures env_faults { E.faults env.old ≤ E.faults env.new }
     ensures sink_faults { O.faults out.old ≤ O.faults out.new }
 {
-    let (end, whole) = run_and_record(words, settings, rank, out, env);
+    let (end, whole) = run_and_record(images, words, settings, rank, out, env);
     if !whole {
         return Status::WriteFault;
     }
@@ -111,6 +115,7 @@ fn run_and_finish<O: Sink, E: Env>(
 
 /// Runs the opened node of that rank: how it ended, and whether its whole log was written.
 fn run_and_record<O: Sink, E: Env>(
+    images: NodeImages,
     words: &NodeWords<'_>,
     settings: &Settings,
     rank: Rank,
@@ -120,7 +125,7 @@ fn run_and_record<O: Sink, E: Env>(
     requires valid { IsValid settings.now }
     requires configured { rank.0 < length settings.now.nodes }
     requires some_turn { 1 ≤ words.now.turns }
-    ensures did { RunsLogged words.now settings.now rank.0
+    ensures did { RunsLogged images words.now settings.now rank.0
         (sink O.written O.faults out.old) (sink O.written O.faults out.new)
         (outside E.calls E.faults env.old) (outside E.calls E.faults env.new) result.0 result.1 }
     ensures env_faults { E.faults env.old ≤ E.faults env.new }
@@ -129,6 +134,7 @@ fn run_and_record<O: Sink, E: Env>(
     let mut recorder = Recorder::new(env, out);
     let end = run_recorded(
         &mut recorder,
+        images,
         settings,
         rank,
         words.clean,

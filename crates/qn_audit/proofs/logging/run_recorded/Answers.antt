@@ -1,7 +1,7 @@
 use Rattle.std.proofs.Common.{◌∷◌, ◌++◌, [], Some, sym, ap, ◌∙◌, arith, refl}
 use Rattle.qn_base.specs.PlanSteps.{made_none, made_then}
 use Rattle.qn_live.specs.Asking.{told}
-use Rattle.qn_live.specs.Runs.{live_plan}
+use Rattle.qn_live3.specs.Images.{plan_on}
 use Rattle.qn_audit.specs.Judging.{IsNext, left_after}
 use Rattle.qn_audit.specs.JudgeLaws.{keeps_call, kept_follows, left_call_after}
 use Rattle.qn_audit.specs.Logs.{log_text}
@@ -11,7 +11,7 @@ use Rattle.qn_audit.proofs.logging.run_recorded.Goals as goal
 
 pub calls-init : goal.calls-init
 calls-init g c = record {
-  did = ([], made_none _ _, tt, tt, rw (← c.copy.ensures) c.new-run.ensures.runs, logs_none _);
+  did = ([], made_none _ _, tt, tt, rw (← c.copy.ensures) c.new-run.ensures, logs_none _);
   same_env = refl;
   same_out = refl;
   sink = omega arith;
@@ -29,10 +29,22 @@ returns-in-Err g c =
       sink_faults = i.sink;
     }
 
+pub answer-requires-clause-answered : goal.answer-requires-clause-answered
+answer-requires-clause-answered g c =
+    let i = c.calls.invariant in
+    let plan = plan_on c.args.images c.args.settings.now c.args.me.0 c.args.clean c.args.leave_at c.args.turns in
+    let made = told c.in-Ok.asked c.asks.new.room c.call-given.result c.call-given.new.room in (
+      left_after plan i.did.0,
+      i.did.4,
+      made,
+      c.call-given.ensures.tells,
+      c.in-Ok.ensures.asked (left_after plan i.did.0) i.did.4 ∙ ap Some (sym (blank-told c.in-Ok.asked c.asks.new.room c.call-given.result c.call-given.new.room)),
+    )
+
 pub calls-preserved : goal.calls-preserved
 calls-preserved g c =
     let i = c.calls.invariant in
-    let plan = live_plan c.args.settings.now c.args.me.0 c.args.clean c.args.leave_at c.args.turns in
+    let plan = plan_on c.args.images c.args.settings.now c.args.me.0 c.args.clean c.args.leave_at c.args.turns in
     let made = told c.in-Ok.asked c.asks.new.room c.call-given.result c.call-given.new.room in
     let next : IsNext (left_after plan i.did.0) made =
     c.in-Ok.ensures.asked (left_after plan i.did.0) i.did.4 ∙ ap Some (sym (blank-told c.in-Ok.asked c.asks.new.room c.call-given.result c.call-given.new.room)) in

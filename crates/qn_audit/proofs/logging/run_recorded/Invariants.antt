@@ -1,8 +1,7 @@
 use Rattle.std.proofs.Common.{◌≡◌, ◌≤◌, List}
 use Rattle.qn_base.specs.declared.calls.Call.{Call}
 use Rattle.qn_base.specs.Plans.{Made}
-use Rattle.qn_live.specs.Machine.{RunFor, work}
-use Rattle.qn_live.specs.Runs.{live_plan}
+use Rattle.qn_live3.specs.Images.{RunsAs, images_work, plan_on}
 use Rattle.qn_audit.specs.Judging.{Keeps, left_after}
 use Rattle.qn_audit.specs.Logs.{AreRecorded, log_text}
 use Rattle.qn_audit.specs.Recording.{Logs, log_of}
@@ -12,9 +11,9 @@ abbrev pub invariant-calls : goal.invariant-calls
 invariant-calls g l = record {
   did : (calls : List Call)
       × Made (g.E.Env.faults l.fn.recorder.env.now) (g.E.Env.faults l.recorder.env.now) (g.E.Env.calls l.fn.recorder.env.now) (g.E.Env.calls l.recorder.env.now) calls
-      × Keeps (live_plan l.settings l.fn.me.0 l.clean l.fn.leave_at l.turns) calls
+      × Keeps (plan_on l.fn.images l.settings l.fn.me.0 l.clean l.fn.leave_at l.turns) calls
       × AreRecorded calls
-      × RunFor l.run (left_after (live_plan l.settings l.fn.me.0 l.clean l.fn.leave_at l.turns) calls)
+      × RunsAs l.run (left_after (plan_on l.fn.images l.settings l.fn.me.0 l.clean l.fn.leave_at l.turns) calls)
       × Logs (log_of g.O.Sink.written g.O.Sink.faults l.fn.recorder) (log_of g.O.Sink.written g.O.Sink.faults l.recorder) (log_text calls);
   same_env : l.recorder.env.ghost_name ≡ l.fn.recorder.env.ghost_name;
   same_out : l.recorder.out.ghost_name ≡ l.fn.recorder.out.ghost_name;
@@ -22,4 +21,4 @@ invariant-calls g l = record {
 }
 
 abbrev pub decreases-calls : goal.decreases-calls
-decreases-calls g l = work l.run
+decreases-calls g l = images_work l.run

@@ -69,6 +69,11 @@ returns-in-NodeLogged g c =
     of_words _ (Some (command.NodeLogged c.in-NodeLogged.words)) (ap Some c.in-NodeLogged.is)
     (record { does = c.node_logged.ensures; unread = used; uncalled = used; one_holder = tt })
 
+pub returns-in-Node3Logged : goal.returns-in-Node3Logged
+returns-in-Node3Logged g c =
+    of_words _ (Some (command.Node3Logged c.in-Node3Logged.words)) (ap Some c.in-Node3Logged.is)
+    (record { does = c.node_logged-in-Node3Logged.ensures; unread = used; uncalled = used; one_holder = tt })
+
 pub returns-in-Audit : goal.returns-in-Audit
 returns-in-Audit g c =
     of_words _ (Some (command.Audit c.in-Audit.words)) (ap Some c.in-Audit.is)

@@ -11,7 +11,7 @@ pub enum NodeImages {
 }
 
 impl NodeImages {
-    ghost use Rattle.qn_commands.specs.Commands.Node.{image_count};
+    ghost use Rattle.qn_live3.specs.ImageCounts.{image_count};
 
     /// How many images these are.
     pub fn count(self) -> u8
