@@ -28,7 +28,7 @@ use Rattle.qn_joined.specs.Joints.{Host, looked_first, returned}
 use Rattle.qn_joined.specs.Moves.{BeginsAsNode, BootsInWorld, Changes, FeedsInWorld, IsNodeIn, LogsHold, Moved}
 use Rattle.qn_joined.specs.NodeLogs.{IsNodeLog}
 use Rattle.qn_joined.specs.Nodes.{AllSaid, IsReady, Spends}
-use Rattle.qn_joined.specs.Numbers.{AllMay, is_ranked}
+use Rattle.qn_safety.specs.AnyNumbers.{AllMay, is_ranked}
 use Rattle.qn_joined.specs.Stands.{Stand, first_stand, log_at}
 use Rattle.qn_joined.specs.WorldOf.{AreAmong, NoCall, IsFresh, IsNode, disk_ahead}
 use Rattle.qn_joined.proofs.Frames.{grows_more, node_grows, own, put_other, put_same}

@@ -24,7 +24,7 @@ use Rattle.qn_joined.specs.Joints.{Host, ended, given_up_by, left_over, waits_fo
 use Rattle.qn_joined.specs.Moves.{Changes, EndsInWorld, IsNodeIn, LogsHold, Moved}
 use Rattle.qn_joined.specs.NodeLogs.{IsNodeLog}
 use Rattle.qn_joined.specs.Nodes.{at}
-use Rattle.qn_joined.specs.Numbers.{AllMay}
+use Rattle.qn_safety.specs.AnyNumbers.{AllMay}
 use Rattle.qn_joined.specs.Stands.{Spot, Receiving, Looking, Acting, Saying, Parting, Ended, first_stand, left_plan, log_at}
 use Rattle.qn_joined.specs.WorldOf.{AreAmong, NoCall, IsEnding, IsFresh, IsNode, greets_at, still_out}
 use Rattle.qn_joined.proofs.Boots.{no_event}

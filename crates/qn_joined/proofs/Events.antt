@@ -28,7 +28,7 @@ use Rattle.qn_model.specs.Wanted.{rank_of}
 use Rattle.qn_model.specs.World.{World, failed, given_up, leftover_at, node_at, op_at}
 use Rattle.qn_joined.specs.Joints.{Host}
 use Rattle.qn_joined.specs.Nodes.{Spends}
-use Rattle.qn_joined.specs.Numbers.{is_ranked}
+use Rattle.qn_safety.specs.AnyNumbers.{is_ranked}
 use Rattle.qn_joined.specs.WorldOf.{AreAmong, ComesIn, IsAnswer, WasSentTo}
 use Rattle.qn_joined.proofs.Frames.{put_other, put_same}
 

@@ -28,7 +28,7 @@ use Rattle.qn_joined.specs.Joints.{FitsImage, Host, Joint, MayHappen, happens, i
 use Rattle.qn_joined.specs.Moves.{LogsHold}
 use Rattle.qn_joined.specs.NodeLogs.{IsNodeLog}
 use Rattle.qn_joined.specs.Nodes.{at}
-use Rattle.qn_joined.specs.Numbers.{AllMay}
+use Rattle.qn_safety.specs.AnyNumbers.{AllMay}
 use Rattle.qn_joined.specs.Stands.{Spot, Receiving, Looking, Acting, Saying, Parting, Ended, left_plan, log_at}
 use Rattle.qn_joined.specs.Theorem.{TakesAlike}
 use Rattle.qn_joined.specs.WorldOf.{AreAmong, HasWorld, IsNode, IsWorld, Performs, TookAlike, disk_ahead}

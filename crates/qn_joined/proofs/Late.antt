@@ -25,7 +25,7 @@ use Rattle.qn_live.specs.Performing.{disk_call}
 use Rattle.qn_live.specs.Running.{RunState}
 use Rattle.qn_joined.specs.Joints as joints
 use Rattle.qn_joined.specs.Joints.{FitsImage, Host, Joint, MayHappen, happens, landed_image, with_host}
-use Rattle.qn_joined.specs.Numbers.{AllMay}
+use Rattle.qn_safety.specs.AnyNumbers.{AllMay}
 use Rattle.qn_joined.specs.Stands.{Spot, Receiving, Looking, Acting, Saying, Parting, Ended}
 use Rattle.qn_joined.specs.WorldOf.{AreAmong, NoCall, Skips, Made, ComesAs, ComesIn, HasWorld, IsAnswer, IsBacked, IsImage, IsNode, IsOperation, IsWorld, Waiting, disk_ahead, still_out}
 use Rattle.qn_joined.proofs.Frames.{one_moves, put_other, put_same}

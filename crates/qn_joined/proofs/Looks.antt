@@ -26,7 +26,7 @@ use Rattle.qn_joined.specs.Joints.{Host, returned}
 use Rattle.qn_joined.specs.Moves.{LooksInWorld}
 use Rattle.qn_joined.specs.NodeLogs.{IsNodeLog}
 use Rattle.qn_joined.specs.Nodes.{AllSaid, IsReady, at}
-use Rattle.qn_joined.specs.Numbers.{AllMay}
+use Rattle.qn_safety.specs.AnyNumbers.{AllMay}
 use Rattle.qn_joined.specs.Stands.{Looking}
 use Rattle.qn_joined.specs.WorldOf.{AreAmong, ComesAs, ComesIn, IsNode}
 use Rattle.qn_joined.proofs.Calls.{timed_on}

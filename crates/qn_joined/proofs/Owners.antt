@@ -13,7 +13,7 @@ use Rattle.qn_model.specs.Phases.{phase}
 use Rattle.qn_model.specs.Steps.{run}
 use Rattle.qn_model.specs.World.{node_at}
 use Rattle.qn_joined.specs.Joints.{Host, Joint}
-use Rattle.qn_joined.specs.Numbers.{OneMayHold}
+use Rattle.qn_safety.specs.AnyNumbers.{OneMayHold}
 use Rattle.qn_joined.specs.Owning.{Owns}
 use Rattle.qn_joined.specs.Stands.{log_at}
 use Rattle.qn_joined.specs.Theorem.{AtMostOneRuns, HostOwns}

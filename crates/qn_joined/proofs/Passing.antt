@@ -20,7 +20,7 @@ use Rattle.qn_model.specs.World.{World, node_at}
 use Rattle.qn_joined.specs.Joints as joints
 use Rattle.qn_joined.specs.Joints.{Host, Joint, MayHappen, happens, host_passes, is_timed}
 use Rattle.qn_joined.specs.Moves.{Grows}
-use Rattle.qn_joined.specs.Numbers.{AllMay}
+use Rattle.qn_safety.specs.AnyNumbers.{AllMay}
 use Rattle.qn_joined.specs.Stands.{log_at}
 use Rattle.qn_joined.specs.WorldOf.{HasWorld, IsNode, IsWorld}
 use Rattle.qn_joined.proofs.Frames.{backed_grows, grows_more, knows_grows}

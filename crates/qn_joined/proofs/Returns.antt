@@ -31,7 +31,7 @@ use Rattle.qn_joined.specs.Joints as joints
 use Rattle.qn_joined.specs.Joints.{FitsImage, Host, Joint, MayAnswer, MayHappen, MayReturn, after_effect, counts, happens, is_timed, packet_said, returned, sent_by, waits_for, with_host}
 use Rattle.qn_joined.specs.Moves.{IsNodeIn, LogsHold, Moved}
 use Rattle.qn_joined.specs.Nodes.{at, is_looking}
-use Rattle.qn_joined.specs.Numbers.{AllMay}
+use Rattle.qn_safety.specs.AnyNumbers.{AllMay}
 use Rattle.qn_joined.specs.Theorem.{PacketsReadBack}
 use Rattle.qn_joined.specs.Stands.{Spot, Receiving, Looking, Acting, Saying, Parting, Ended, left_plan}
 use Rattle.qn_joined.specs.WorldOf.{HasWorld, IsNode, IsWorld, WasSentTo, is_greeting}

@@ -11,7 +11,7 @@ use Rattle.qn_model.specs.Steps.{run}
 use Rattle.qn_joined.specs.Joints as joints
 use Rattle.qn_joined.specs.Joints.{AllMayHappen, FitsImage, Happening, Host, IsJoined, IsNewImage, Joint, MayHappen, began, ended, first_joint, happens, joint_after, looked_first, with_host}
 use Rattle.qn_joined.specs.Moves.{LogsHold, Moved}
-use Rattle.qn_joined.specs.Numbers.{AllMay}
+use Rattle.qn_safety.specs.AnyNumbers.{AllMay}
 use Rattle.qn_joined.specs.Theorem.{MailsReadBack, PacketsReadBack, TakesAlike}
 use Rattle.qn_joined.specs.WorldOf.{NoCall, EveryJointHasAWorld, HasWorld, IsWorld}
 use Rattle.qn_joined.proofs.Boots.{begins_as_node, boots_in_world, feeds_in_world, no_event}

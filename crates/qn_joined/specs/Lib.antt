@@ -2,7 +2,6 @@ pub mod Joints
 pub mod Moves
 pub mod NodeLogs
 pub mod Nodes
-pub mod Numbers
 pub mod Owning
 pub mod Stands
 pub mod Theorem

@@ -17,7 +17,7 @@ use Rattle.qn_live.specs.Running.{RunState}
 use Rattle.qn_joined.specs.Joints.{Host, began, ended, looked_first, returned}
 use Rattle.qn_joined.specs.NodeLogs.{IsNodeLog}
 use Rattle.qn_joined.specs.Nodes.{at}
-use Rattle.qn_joined.specs.Numbers.{AllMay}
+use Rattle.qn_safety.specs.AnyNumbers.{AllMay}
 use Rattle.qn_joined.specs.Stands.{Looking}
 use Rattle.qn_joined.specs.WorldOf.{IsNode, WasSentTo}
 

@@ -27,7 +27,7 @@ use Rattle.qn_live.specs.declared.place.Choice.{Choice}
 use Rattle.qn_live.specs.declared.place.Choice.TheVariants as choice
 use Rattle.qn_live.specs.Performing.{disk_call, done, end_after}
 use Rattle.qn_live.specs.Running.{RunState}
-use Rattle.qn_joined.specs.Numbers.{AllMay}
+use Rattle.qn_safety.specs.AnyNumbers.{AllMay}
 use Rattle.qn_joined.specs.Owning.{is_no_stop}
 use Rattle.qn_joined.specs.Stands.{Spot, Receiving, Looking, Acting, Saying, Parting, Ended, first_stand, log_at}
 use Rattle.qn_joined.specs.Joints.{Host, Joint, IsJoined, Happening, counts, is_timed, joint_after}

@@ -1,5 +1,5 @@
 //! The laws of running nodes that share one outside.
-ghost use Rattle.std.specs.Prelude.{◌≡◌, ℕ, Bool, Option, Some};
+ghost use Rattle.std.specs.Prelude.{◌≡◌, ℕ, Bool, Option, IsTrue, Some};
 ghost use Rattle.qn_base.specs.declared.calls.Call.{Call};
 ghost use Rattle.qn_base.specs.Plans.{left};
 ghost use Rattle.qn_model.specs.declared.configuration.Settings.{Settings};
@@ -8,12 +8,14 @@ ghost use Rattle.qn_joined.specs.Theorem.{AlwaysOwns, AtMostOneRuns, MailsReadBa
 ghost use Rattle.qn_joined.specs.WorldOf.{EveryJointHasAWorld};
 ghost use Rattle.qn_joined.specs.Moves.{BeginsAsNode, BootsInWorld, EndsInWorld, FeedsInWorld, LogsHold, LooksInWorld};
 ghost use Rattle.qn_joined.specs.Nodes.{LooksAsNode, ReturnsAsNode};
-ghost use Rattle.qn_joined.specs.Numbers.{OneMayHold};
+ghost use Rattle.qn_model.specs.Timing.{is_safe};
 ghost use Rattle.qn_live.specs.Runs.{live_plan};
 ghost use Rattle.qn_joined.specs.Stands.{Stand, after_call, first_stand, plan_at};
 ghost use Rattle.qn_joined.specs.Joints.{Host, returned, waits_for};
 ghost use Rattle.qn_base.specs.Calls.{blank};
 ghost use Rattle.qn_joined.specs.Owning.{Owns};
+
+use qn_safety::law_any_numbers;
 
 /// Law: a run begins at its first stand, and after each call what is left of it is what is left at the stand after that call.
 pub fn law_stands()
@@ -23,11 +25,12 @@ pub fn law_stands()
         → left (plan_at s me leave stand) call ≡ plan_at s me leave (after_call s me leave stand call) }
 {}
 
-/// Law: at most one resource runs at any moment of a joined run, where in each world that events lead to, whatever their numbers
-/// are, at most one node holds and the logs are as those of nodes are.
+/// Law: at most one resource runs at any moment of a joined run, for all safe timing, where the logs of each world are as those of
+/// nodes are.
 pub fn law_one_owner()
-    ensures { (s : Settings) (t : Timing) → OneMayHold s t → LogsHold s t → AtMostOneRuns s t }
+    ensures { (s : Settings) (t : Timing) → IsTrue (is_safe t) → LogsHold s t → AtMostOneRuns s t }
 {
+    law_any_numbers();
     law_worlds();
 }
 

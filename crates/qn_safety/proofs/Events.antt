@@ -26,6 +26,7 @@ use Rattle.qn_model.specs.Steps.{happens, landed, answered, fails, lands_late, e
 use Rattle.std.specs.Prelude.{slice_get}
 use Rattle.std.specs.List.{list_all, range_with_len}
 use Rattle.qn_model.specs.Steps.{AllAllowed}
+use Rattle.qn_safety.specs.AnyNumbers.{AllMay, is_ranked}
 use Rattle.qn_safety.proofs.Outs.{plain_no_answer}
 use Rattle.qn_safety.proofs.Runs.{sound}
 use Rattle.qn_safety.proofs.Seats.{seat_of, Effect, effect, allows, both_allow, running_allows, test_there}
@@ -35,12 +36,38 @@ use Rattle.qn_safety.proofs.Held.{Held, held_effect, first_held}
 -- events that are each allowed in their turn, newest first
 pub data IsAllowed (s : Settings) (t : Timing) : List Event → Type 0 where
   NoEvent : IsAllowed s t []
-  OneEvent : {e : Event} {earlier : List Event} → is_well_formed s e ≡ true → refusal s t e (run s t earlier) ≡ None → IsAllowed s t earlier → IsAllowed s t (e ∷ earlier)
+  OneEvent : {e : Event} {earlier : List Event} → is_ranked s e ≡ true → refusal s t e (run s t earlier) ≡ None → IsAllowed s t earlier → IsAllowed s t (e ∷ earlier)
+
+-- a well formed event boots a configured node, where it boots one
+ranked_of : (s : Settings) (e : Event) → is_well_formed s e ≡ true → is_ranked s e ≡ true
+unfolding is_well_formed
+ranked_of s (event.Boot rank base) form = and_left_of (is_configured s rank.0) (nat_le base 1000000000000000) form
+ranked_of s (event.BootClean rank base) form = and_left_of (is_configured s rank.0) (nat_le base 1000000000000000) form
+ranked_of s (event.Pass dt clocks) form = refl
+ranked_of s (event.Crash rank) form = refl
+ranked_of s (event.Land rank) form = refl
+ranked_of s (event.Done rank) form = refl
+ranked_of s (event.Fail rank) form = refl
+ranked_of s (event.Late rank number) form = refl
+ranked_of s (event.View rank view) form = refl
+ranked_of s (event.Deliver rank number) form = refl
+ranked_of s (event.Device rank agrees) form = refl
+ranked_of s (event.Tick rank) form = refl
+ranked_of s (event.Stopped rank) form = refl
+ranked_of s (event.Unstopped rank) form = refl
+ranked_of s (event.Leave rank) form = refl
+ranked_of s (event.Feed rank) form = refl
+ranked_of s (event.Operator rank message) form = refl
 
 pub allowed_of : (s : Settings) (t : Timing) (events : List Event) → AllAllowed s t events → IsAllowed s t events
 unfolding AllAllowed
 allowed_of s t [] all = NoEvent
-allowed_of s t (e ∷ earlier) all = OneEvent all.0 all.1 (allowed_of s t earlier all.2)
+allowed_of s t (e ∷ earlier) all = OneEvent (ranked_of s e all.0) all.1 (allowed_of s t earlier all.2)
+
+pub may_of : (s : Settings) (t : Timing) (events : List Event) → AllMay s t events → IsAllowed s t events
+unfolding AllMay
+may_of s t [] all = NoEvent
+may_of s t (e ∷ earlier) all = OneEvent all.0 all.1 (may_of s t earlier all.2)
 
 pub allowed_before : {s : Settings} {t : Timing} {old new : List Event} → Before old new → IsAllowed s t new → IsAllowed s t old
 allowed_before Itself allowed = allowed
@@ -92,17 +119,17 @@ packet_sent s r number sent ms there receiver = by_content sent.packet refl
     by_content (packet.Vote agrees) e = tt
 
 -- each event that is allowed adds a moment that obeys the rules, or none
-ruled_step : (s : Settings) (t : Timing) (e : Event) (w : World) → is_well_formed s e ≡ true → refusal s t e w ≡ None → ((j : ℕ) → Held s (seat_of s j w))
+ruled_step : (s : Settings) (t : Timing) (e : Event) (w : World) → is_ranked s e ≡ true → refusal s t e w ≡ None → ((j : ℕ) → Held s (seat_of s j w))
     → AllRuled s t w.moments → AllRuled s t (step s t e w).moments
-unfolding is_well_formed refusal step
+unfolding refusal step
 ruled_step s t (event.Pass dt clocks) w form ok held ruled =
     let may = allows (may_pass s t dt clocks w) 1 ok in
     OneRuled (λ rank below. in_range (λ r. passes t dt (advance_of dt clocks r) (time w.moments) (node s r w.moments)) (length s.nodes) 0 rank
     (and_right_of (list_all (λ clock. is_on s clock.0.0 w) clocks) _ may) (omega arith) (omega arith)) ruled
 ruled_step s t (event.Boot rank base) w form ok held ruled =
-    OneRuled (not_true (is_on s rank.0 w) (allows (not (is_on s rank.0 w)) 2 ok), ltb-true rank.0 (length s.nodes) (and_left_of (is_configured s rank.0) (nat_le base 1000000000000000) form)) ruled
+    OneRuled (not_true (is_on s rank.0 w) (allows (not (is_on s rank.0 w)) 2 ok), ltb-true rank.0 (length s.nodes) form) ruled
 ruled_step s t (event.BootClean rank base) w form ok held ruled =
-    OneRuled (not_true (is_on s rank.0 w) (allows (not (is_on s rank.0 w)) 2 ok), ltb-true rank.0 (length s.nodes) (and_left_of (is_configured s rank.0) (nat_le base 1000000000000000) form)) ruled
+    OneRuled (not_true (is_on s rank.0 w) (allows (not (is_on s rank.0 w)) 2 ok), ltb-true rank.0 (length s.nodes) form) ruled
 ruled_step s t (event.Crash rank) w form ok held ruled = OneRuled (running_allows (is_on s rank.0 w) 3 ok) ruled
 ruled_step s t (event.Land rank) w form ok held ruled = by_op (op_at s rank.0 w)
   where
@@ -149,7 +176,7 @@ pub record Stage (s : Settings) (t : Timing) (events : List Event) : Type 0 wher
   pub ruled : AllRuled s t (run s t events).moments
   pub held : (j : ℕ) → Held s (seat_of s j (run s t events))
 
-stage_step : (s : Settings) (t : Timing) (e : Event) (w w' : World) → w' ≡ step s t e w → is_well_formed s e ≡ true → refusal s t e w ≡ None → AllRuled s t w.moments → ((j : ℕ) → Held s (seat_of s j w))
+stage_step : (s : Settings) (t : Timing) (e : Event) (w w' : World) → w' ≡ step s t e w → is_ranked s e ≡ true → refusal s t e w ≡ None → AllRuled s t w.moments → ((j : ℕ) → Held s (seat_of s j w))
     → (AllRuled s t w'.moments) × ((j : ℕ) → Held s (seat_of s j w'))
 stage_step s t e w w' same form ok ruled held =
     let ruled' : AllRuled s t (step s t e w).moments = ruled_step s t e w form ok held ruled in

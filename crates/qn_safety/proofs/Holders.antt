@@ -6,8 +6,9 @@ use Rattle.qn_model.specs.declared.events.Event.{Event}
 use Rattle.qn_model.specs.Timing.{is_safe}
 use Rattle.qn_model.specs.Moments.{Itself, is_holder}
 use Rattle.qn_model.specs.Steps.{run, AllAllowed}
+use Rattle.qn_safety.specs.AnyNumbers.{OneMayHold}
 use Rattle.qn_safety.specs.Timed.{IsTimedRun}
-use Rattle.qn_safety.proofs.Events.{IsAllowed, allowed_of, stage}
+use Rattle.qn_safety.proofs.Events.{IsAllowed, allowed_of, may_of, stage}
 use Rattle.qn_safety.proofs.Facts.{headers_agree, clean_means_closed}
 use Rattle.qn_safety.proofs.Mail.{written_means_bad_mail}
 use Rattle.qn_safety.proofs.Rising.{numbers_rise}
@@ -29,3 +30,7 @@ run_timed s t events all = timed (allowed_of s t events all)
 pub one_holder : (s : Settings) (t : Timing) (events : List Event) (i j : ℕ) → is_safe t ≡ true → AllAllowed s t events
     → is_holder s (run s t events).moments i ≡ true → is_holder s (run s t events).moments j ≡ true → i ≡ j
 one_holder s t events i j safe all first second = at_most_one (run_timed s t events all) safe (run s t events).moments Itself i j first second
+
+-- the same of events with any numbers
+pub one_may_hold : (s : Settings) (t : Timing) → is_safe t ≡ true → OneMayHold s t
+one_may_hold s t safe events i j all first second = at_most_one (timed (may_of s t events all)) safe (run s t events).moments Itself i j first second

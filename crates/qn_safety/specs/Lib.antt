@@ -14,3 +14,4 @@ pub mod TripleRules
 pub mod TripleSteps
 pub mod TriplePremises
 pub mod TripleReported
+pub mod AnyNumbers

@@ -11,6 +11,7 @@ ghost use Rattle.qn_model.specs.Timing.{is_safe};
 ghost use Rattle.qn_model.specs.Moments.{Before, Moment, is_holder, time};
 ghost use Rattle.qn_model.specs.World.{node_at};
 ghost use Rattle.qn_model.specs.Steps.{AllAllowed, holders, run};
+ghost use Rattle.qn_safety.specs.AnyNumbers.{OneMayHold};
 ghost use Rattle.qn_safety.specs.Clocks.{RunsOn, clock};
 ghost use Rattle.qn_safety.specs.Closing.{asked_close, has_landed_close};
 ghost use Rattle.qn_safety.specs.Premises.{OneAfterAnother};
@@ -109,4 +110,10 @@ pub fn law_wait_for_all()
 /// two nodes hold the resource, one after the other.
 pub fn law_premises_are_met()
     ensures { OneAfterAnother }
+{}
+
+/// In the world after any events that the rules allow, whatever their numbers, at most one node holds the resource, for all
+/// settings and all safe timing: `law_no_two_holders` is this law of well formed events.
+pub fn law_any_numbers()
+    ensures { (s : Settings) (t : Timing) → IsTrue (is_safe t) → OneMayHold s t }
 {}

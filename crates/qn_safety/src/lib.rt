@@ -27,7 +27,7 @@ mod triple_laws;
 
 pub use landing::law_landed_reset;
 pub use laws::{
-    law_clocks, law_incarnations, law_no_two_holders, law_premises_are_met, law_runs_are_timed,
+    law_any_numbers, law_clocks, law_incarnations, law_no_two_holders, law_premises_are_met, law_runs_are_timed,
     law_timed_runs, law_wait_for_all,
 };
 pub use lemmas::{law_fence, law_tells};
