@@ -27,8 +27,8 @@ mod triple_laws;
 
 pub use landing::law_landed_reset;
 pub use laws::{
-    law_any_numbers, law_clocks, law_incarnations, law_no_two_holders, law_premises_are_met, law_runs_are_timed,
-    law_timed_runs, law_wait_for_all,
+    law_any_numbers, law_clocks, law_incarnations, law_no_two_holders, law_premises_are_met,
+    law_runs_are_timed, law_timed_runs, law_wait_for_all,
 };
 pub use lemmas::{law_fence, law_tells};
 pub use log_laws::{law_boots, law_log_moves, law_up_nodes};
