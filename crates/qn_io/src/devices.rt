@@ -2,6 +2,7 @@
 use crate::calls::Opening;
 use crate::disk::Disk;
 use crate::edge::Edge;
+use crate::etcd_word::check_reach;
 use crate::file_size_limit::refuse_file_size_limit;
 use crate::halt_file::HaltFile;
 use crate::image::Opener;
@@ -30,12 +31,10 @@ impl Devices {
     /// Opens the port, the images, the resource, the file for halts and the watchdog, in this order, up to the first that fails: the
     /// port is the lock on the node, and a watchdog is armed only where all else is there. Where a word of a machine was said before the
     /// command, nothing is made, and the headers of the images are read and the watchdog is looked at before it is opened.
-    pub(crate) fn open<R: Files<File = File> + Net<Stream = TcpStream> + Clock, E: Eprint>(
-        rt: &R,
-        errors: &E,
-        edge: &Edge,
-        opening: &Opening<'_>,
-    ) -> Result<(Disk, Devices), Failed> {
+    pub(crate) fn open<
+        R: Files<File = File> + Net<Stream = TcpStream> + Clock + AllocGlobal,
+        E: Eprint,
+    >(rt: &R, errors: &E, edge: &Edge, opening: &Opening<'_>) -> Result<(Disk, Devices), Failed> {
         let absent = edge.absent();
         reported(errors, "file size", refuse_file_size_limit(rt))?;
         let network = reported(
@@ -44,6 +43,7 @@ impl Devices {
             Network::open(rt, edge, opening.port, opening.rank),
         )?;
         let opener = Opener::Node(opening.rank);
+        reported(errors, opening.image, check_reach(edge, opening.image))?;
         let mut disk = Disk::open(rt, errors, opening.images, opening.image, opener, absent)?;
         let time = match absent {
             Absent::Made => None,

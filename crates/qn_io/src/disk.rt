@@ -57,7 +57,10 @@ impl Disk {
     }
 
     /// Opens the image of that word, or the three whose words stand between the two commas of the word. Of three one may fail.
-    pub(crate) fn open<R: Files<File = File> + Net<Stream = TcpStream> + Clock, E: Eprint>(
+    pub(crate) fn open<
+        R: Files<File = File> + Net<Stream = TcpStream> + Clock + AllocGlobal,
+        E: Eprint,
+    >(
         rt: &R,
         errors: &E,
         images: u8,
@@ -153,10 +156,26 @@ impl Disk {
         tell(rt, errors, image.name(), &mut self.told[index], done)
     }
 
+    /// Ends the boot of a node that has left, in each image that knows of boots. Where that fails another machine cannot open the node
+    /// there, which a line on standard error says.
+    pub(crate) fn end_boot<R: Net<Stream = TcpStream> + Clock, E: Eprint>(
+        &mut self,
+        rt: &R,
+        errors: &E,
+    ) {
+        'images: for image in &mut self.images {
+            if let Some(image) = image {
+                let done = image.end_boot(rt);
+                let _ = reported(errors, image.name(), done);
+            }
+        }
+    }
+
     /// The place of the image that has a sector, and the number of the sector there.
     fn place(&self, sector: u32) -> (usize, u32)
         requires { sector < 3072 }
-        ensures { result.0 < 3 }
+        ensures image { result.0 < 3 }
+        ensures sector { result.1 < 3072 }
     {
         match self.layout {
             Layout::One => (0, sector),
@@ -167,14 +186,14 @@ impl Disk {
     }
 }
 
-fn open_image<R: Files<File = File> + Net<Stream = TcpStream> + Clock, E: Eprint>(
+fn open_image<R: Files<File = File> + Net<Stream = TcpStream> + Clock + AllocGlobal, E: Eprint>(
     rt: &R,
     errors: &E,
     word: &str,
     opener: Opener,
     absent: Absent,
 ) -> Result<Image, Failed> {
-    let image = reported(errors, word, Image::open(rt, word, opener, absent))?;
+    let image = reported(errors, word, Image::open(rt, errors, word, opener, absent))?;
     if image.is_made() {
         let _ = eprintln!(errors; "quorumd: {word}: nothing was there, and an empty file was made");
     }
@@ -182,7 +201,7 @@ fn open_image<R: Files<File = File> + Net<Stream = TcpStream> + Clock, E: Eprint
 }
 
 /// Opens the three images of a word, of which at least two have to be there.
-fn open_three<R: Files<File = File> + Net<Stream = TcpStream> + Clock, E: Eprint>(
+fn open_three<R: Files<File = File> + Net<Stream = TcpStream> + Clock + AllocGlobal, E: Eprint>(
     rt: &R,
     errors: &E,
     word: &str,

@@ -1,6 +1,7 @@
 //! An image, wherever it lies.
 
 use crate::calls::SECTOR;
+use crate::etcd_image::EtcdImage;
 use crate::image_file::ImageFile;
 use crate::image_word::{ImageWord, Place};
 use crate::named_file::Absent;
@@ -26,16 +27,17 @@ pub(crate) enum Opener {
 pub(crate) enum Image {
     File(ImageFile),
     Block(NbdImage),
+    Cluster(EtcdImage),
 }
 
 impl Image {
+    ghost use Rattle.std.specs.Prelude.{◌<◌};
+
     /// Opens the image of that word.
-    pub(crate) fn open<R: Files<File = File> + Net<Stream = TcpStream> + Clock>(
-        rt: &R,
-        word: &str,
-        opener: Opener,
-        absent: Absent,
-    ) -> io::Result<Image> {
+    pub(crate) fn open<
+        R: Files<File = File> + Net<Stream = TcpStream> + Clock + AllocGlobal,
+        E: Eprint,
+    >(rt: &R, errors: &E, word: &str, opener: Opener, absent: Absent) -> io::Result<Image> {
         let ImageWord { place, stride } = ImageWord::read(word)?;
         match place {
             Place::File(path) => {
@@ -43,6 +45,13 @@ impl Image {
                 Ok(Image::File(image))
             }
             Place::Block(..) => Ok(Image::Block(NbdImage::open(rt, word, stride, opener)?)),
+            Place::Cluster(at) => {
+                let mut image = EtcdImage::open(rt, word, &at, opener)?;
+                if let Opener::Node(rank) = opener {
+                    image.begin_boot(rt, errors, rank)?;
+                }
+                Ok(Image::Cluster(image))
+            }
         }
     }
 
@@ -51,6 +60,7 @@ impl Image {
         match self {
             Image::File(image) => image.path(),
             Image::Block(image) => image.name(),
+            Image::Cluster(image) => image.name(),
         }
     }
 
@@ -58,16 +68,16 @@ impl Image {
     pub(crate) fn is_made(&self) -> bool {
         match self {
             Image::File(image) => image.is_made(),
-            Image::Block(_) => false,
+            Image::Block(_) | Image::Cluster(_) => false,
         }
     }
 
     /// Takes the exclusive lock of a file, and keeps it while the image is open. Where another program has the image open this fails, and
-    /// then no lock is held: the image is to be closed. A block server has no locks.
+    /// then no lock is held: the image is to be closed. A block server has no locks, and a cluster compares at each write.
     pub(crate) fn lock(&self) -> io::Result<()> {
         match self {
             Image::File(image) => image.lock(),
-            Image::Block(_) => Ok(()),
+            Image::Block(_) | Image::Cluster(_) => Ok(()),
         }
     }
 
@@ -77,10 +87,13 @@ impl Image {
         rt: &R,
         sector: u32,
         into: &mut [u8; SECTOR],
-    ) -> io::Result<()> {
+    ) -> io::Result<()>
+        requires { sector < 3072 }
+    {
         match self {
             Image::File(image) => image.read(rt, sector, into),
             Image::Block(image) => image.read(rt, sector, into),
+            Image::Cluster(image) => image.read(rt, sector, into),
         }
     }
 
@@ -90,10 +103,24 @@ impl Image {
         rt: &R,
         sector: u32,
         from: &[u8; SECTOR],
-    ) -> io::Result<()> {
+    ) -> io::Result<()>
+        requires { sector < 3072 }
+    {
         match self {
             Image::File(image) => image.write(rt, sector, from),
             Image::Block(image) => image.write(rt, sector, from),
+            Image::Cluster(image) => image.write(rt, sector, from),
+        }
+    }
+
+    /// Ends the boot of a node that has left, where the image knows of boots.
+    pub(crate) fn end_boot<R: Net<Stream = TcpStream> + Clock>(
+        &mut self,
+        rt: &R,
+    ) -> io::Result<()> {
+        match self {
+            Image::File(_) | Image::Block(_) => Ok(()),
+            Image::Cluster(image) => image.end_boot(rt),
         }
     }
 }

@@ -1,6 +1,7 @@
 //! The word of an image: where the image lies, and how far apart its sectors stand.
 
 use crate::calls::SECTOR;
+use crate::etcd_word::{CLUSTER, EtcdAt};
 use std::io::{self, ErrorKind};
 use std::net::SocketAddr;
 
@@ -11,7 +12,7 @@ const BLOCK_SERVER: &str = "nbd:";
 const SOCKET: &str = "unix:";
 
 /// What stands after an image whose sectors have places of 4096 bytes.
-const LONG: &str = "@4096";
+pub(crate) const LONG: &str = "@4096";
 
 /// The most bytes from the place of a sector to that of the next one.
 pub(crate) const MOST_PLACE: usize = 4096;
@@ -60,6 +61,8 @@ pub(crate) enum Place<'w> {
     File(&'w str),
     /// An export of a block server, by its name.
     Block(ServerAt<'w>, &'w str),
+    /// Keys of an etcd cluster.
+    Cluster(EtcdAt<'w>),
 }
 
 /// What the word of an image says.
@@ -70,16 +73,17 @@ pub(crate) struct ImageWord<'w> {
 }
 
 impl<'w> ImageWord<'w> {
-    /// Reads the word: `PATH`, `nbd:HOST:PORT`, `nbd:HOST:PORT/NAME` or `nbd:unix:PATH`, each perhaps with `@4096` after it. HOST is a literal
-    /// address, one of IPv6 in brackets.
+    /// Reads the word: `PATH`, `nbd:HOST:PORT`, `nbd:HOST:PORT/NAME` or `nbd:unix:PATH`, each perhaps with `@4096` after it; or
+    /// `etcd:HOST:PORT/PREFIX`. HOST is a literal address, one of IPv6 in brackets.
     pub(crate) fn read(word: &'w str) -> io::Result<ImageWord<'w>> {
         let (place, stride) = match word.strip_suffix(LONG) {
             Some(place) => (place, Stride::Long),
             None => (word, Stride::Short),
         };
-        let place = match place.strip_prefix(BLOCK_SERVER) {
-            Some(server) => block_server(server)?,
-            None => Place::File(place),
+        let place = match (place.strip_prefix(BLOCK_SERVER), word.strip_prefix(CLUSTER)) {
+            (Some(server), _) => block_server(server)?,
+            (None, Some(cluster)) => Place::Cluster(EtcdAt::read(cluster)?),
+            (None, None) => Place::File(place),
         };
         Ok(ImageWord { place, stride })
     }

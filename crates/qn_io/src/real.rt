@@ -6,6 +6,7 @@ use crate::devices::Devices;
 use crate::disk::Disk;
 use crate::edge::{Edge, Guard};
 use crate::error_lines::Lines;
+use crate::etcd_word::check_reach;
 use crate::image::Opener;
 use crate::named_file::Absent;
 use crate::reported::reported;
@@ -68,6 +69,13 @@ impl<R: Files<File = File> + Net<Stream = TcpStream> + Clock + Eprint + AllocGlo
             last_tick: None,
             faults: 0,
         }
+    }
+
+    /// Opens the image of that word for a command.
+    fn open_disk(&self, word: &str) -> Result<Disk, Failed> {
+        let errors = self.lines.over(&self.rt);
+        reported(&errors, word, check_reach(&self.edge, word))?;
+        Disk::open(&self.rt, &errors, 1, word, Opener::Command, Absent::Made)
     }
 
     /// Opens all that a node uses.
@@ -206,9 +214,7 @@ impl<R: Files<File = File> + Net<Stream = TcpStream> + Clock + Eprint + AllocGlo
     /// open, and makes it where it is absent.
     fn open_image(&mut self, path: &str) -> Result<(), Failed> {
         self.disk = Disk::closed();
-        let errors = self.lines.over(&self.rt);
-        let opened = Disk::open(&self.rt, &errors, 1, path, Opener::Command, Absent::Made);
-        let done = match opened {
+        let done = match self.open_disk(path) {
             Ok(disk) => {
                 self.disk = disk;
                 Ok(())
@@ -307,6 +313,9 @@ impl<R: Files<File = File> + Net<Stream = TcpStream> + Clock + Eprint + AllocGlo
 
     fn disarm(&mut self) -> Result<(), Failed> {
         let done = self.disarm_watchdog();
+        if done.is_ok() {
+            self.disk.end_boot(&self.rt, &self.lines.over(&self.rt));
+        }
         let done = self.note(Action::Disarm, done);
         self.counted(done)
     }
