@@ -25,8 +25,8 @@ use Rattle.qn_live.specs.declared.place.Choice.{Choice}
 use Rattle.qn_live.specs.declared.place.Choice.TheVariants as choice
 use Rattle.qn_live.specs.Running.{RunState, first_state}
 use Rattle.qn_joined.specs.Joints.{Host, looked_first, returned}
-use Rattle.qn_joined.specs.Moves.{BeginsAsNode, BootsInWorld, Changes, FeedsInWorld, IsNodeIn, LogsHold, Moved}
-use Rattle.qn_joined.specs.NodeLogs.{IsNodeLog}
+use Rattle.qn_joined.specs.Moves.{BeginsAsNode, BootsInWorld, Changes, FeedsInWorld, IsNodeIn, Moved}
+use Rattle.qn_safety.specs.NodeLogs.{IsNodeLog, LogsHold}
 use Rattle.qn_joined.specs.Nodes.{AllSaid, IsReady, Spends}
 use Rattle.qn_safety.specs.AnyNumbers.{AllMay, is_ranked}
 use Rattle.qn_joined.specs.Stands.{Stand, first_stand, log_at}
@@ -197,8 +197,8 @@ module _ (s : Settings) (t : Timing) (rank : ℕ) (events : List Event) (host : 
     node = subst (λ x. IsNodeIn s rank (looked_first s rank base (time w.moments) host) x) (sym run_is) booted_node;
   }
 
-pub boots_in_world : (s : Settings) (t : Timing) → BootsInWorld s t
-boots_in_world s t rank events host base logs below may is on unasked fed = boots_here s t rank events host base logs below may is on unasked fed
+pub boots_in_world : (s : Settings) (t : Timing) → LogsHold s t → BootsInWorld s t
+boots_in_world s t logs rank events host base below may is on unasked fed = boots_here s t rank events host base logs below may is on unasked fed
 
 -- a node that is off: nothing happens in its world
 pub no_event : {s : Settings} {t : Timing} {rank : ℕ} {events : List Event} {host : Host} → AllMay s t events → IsNodeIn s rank host (run s t events) → Moved s t rank events host

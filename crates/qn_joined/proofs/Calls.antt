@@ -27,7 +27,7 @@ use Rattle.qn_live.specs.Performing.{disk_answer, disk_call, end_after, noted, o
 use Rattle.qn_live.specs.Running.{RunState}
 use Rattle.qn_joined.specs.Joints.{Host, MayAnswer, MayReceive, after_effect, counts, is_disk, left_over, returned, waits_for}
 use Rattle.qn_joined.specs.Stands.{Spot, Receiving, Looking, Acting, Saying, Parting, Ended, Stand, acts_at, after_spot, left_plan, log_at, parts_at, said_at}
-use Rattle.qn_joined.specs.NodeLogs.{IsNodeLog}
+use Rattle.qn_safety.specs.NodeLogs.{IsNodeLog}
 use Rattle.qn_joined.specs.Nodes.{at, is_looking}
 use Rattle.qn_joined.specs.WorldOf.{AreAmong, IsAnswer, IsEnding, IsNode, Performs, TookAlike, Waiting, WasSentTo, disk_ahead, still_out}
 use Rattle.qn_joined.proofs.Moving.{EndsDisk, answer_backed, disk_effect, disk_of_call, left_alike, node_moves, quiet_effect, quiet_of, is_quiet}

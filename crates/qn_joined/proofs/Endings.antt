@@ -21,8 +21,8 @@ use Rattle.qn_model.specs.World.{World, given_up, leftover_at, node_at}
 use Rattle.qn_live.specs.Greetings.{sends_plan}
 use Rattle.qn_live.specs.Performing.{disk_call, out_call, outs_plan, own_number}
 use Rattle.qn_joined.specs.Joints.{Host, ended, given_up_by, left_over, waits_for}
-use Rattle.qn_joined.specs.Moves.{Changes, EndsInWorld, IsNodeIn, LogsHold, Moved}
-use Rattle.qn_joined.specs.NodeLogs.{IsNodeLog}
+use Rattle.qn_joined.specs.Moves.{Changes, EndsInWorld, IsNodeIn, Moved}
+use Rattle.qn_safety.specs.NodeLogs.{IsNodeLog, LogsHold}
 use Rattle.qn_joined.specs.Nodes.{at}
 use Rattle.qn_safety.specs.AnyNumbers.{AllMay}
 use Rattle.qn_joined.specs.Stands.{Spot, Receiving, Looking, Acting, Saying, Parting, Ended, first_stand, left_plan, log_at}
@@ -189,5 +189,5 @@ module _ (s : Settings) (t : Timing) (rank : ℕ) (events : List Event) (host : 
   }
   ends_here false off = no_event may (off_node host (node_at s rank w) (w.took rank) (w.left rank) (packets s w.moments) off is.greets (was_off off))
 
-pub ends_in_world : (s : Settings) (t : Timing) → EndsInWorld s t
-ends_in_world s t rank events host logs below may is on = ends_here s t rank events host logs below may is on (node_at s rank (run s t events)).on refl
+pub ends_in_world : (s : Settings) (t : Timing) → LogsHold s t → EndsInWorld s t
+ends_in_world s t logs rank events host below may is on = ends_here s t rank events host logs below may is on (node_at s rank (run s t events)).on refl

@@ -28,11 +28,11 @@ use Rattle.qn_live.specs.Performing.{end_after}
 use Rattle.qn_live.specs.Running.{RunState}
 use Rattle.qn_live.specs.Runs.{taken}
 use Rattle.qn_joined.specs.Joints.{Host, after_effect, returned}
-use Rattle.qn_joined.specs.NodeLogs.{IsNodeLog, is_end}
+use Rattle.qn_safety.specs.NodeLogs.{IsNodeLog, is_end, is_disk_last}
 use Rattle.qn_joined.specs.Owning.{is_no_stop}
 use Rattle.qn_joined.specs.Stands.{Looking, Stand, acts_at, after_spot, clocked_by, log_at}
 use Rattle.qn_joined.specs.Nodes.{AllSaid, IsReady, Spends, at}
-use Rattle.qn_joined.specs.WorldOf.{AllComeOut, AreAmong, IsAnswer, IsEnding, IsNode, Performs, Waiting, disk_ahead, is_answer_in, is_disk_last, still_out}
+use Rattle.qn_joined.specs.WorldOf.{AllComeOut, AreAmong, IsAnswer, IsEnding, IsNode, Performs, Waiting, disk_ahead, is_answer_in, still_out}
 use Rattle.qn_joined.proofs.Moving.{among_more}
 use Rattle.qn_joined.proofs.Owning.{acts_log}
 use Rattle.qn_joined.proofs.Standing.{acts_ahead, acts_backed, acts_greets}

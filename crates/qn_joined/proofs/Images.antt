@@ -16,7 +16,8 @@ use Rattle.qn_model.specs.World.{World, mailboxes_with, put, slots_with}
 use Rattle.qn_live.specs.Performing.{disk_call, done, reset_by}
 use Rattle.qn_joined.specs.Joints.{FitsImage, landed_image, takes}
 use Rattle.qn_joined.specs.Theorem.{place_of}
-use Rattle.qn_joined.specs.WorldOf.{IsImage, IsOperation}
+use Rattle.qn_joined.specs.WorldOf.{IsImage}
+use Rattle.qn_safety.specs.NodeLogs.{IsOperation}
 use Rattle.qn_joined.proofs.Frames.{put_other, put_same}
 
 mail_slot : (rank r : ℕ) → r < 32 → (512 + rank == 1 + 2 * r) ≡ false

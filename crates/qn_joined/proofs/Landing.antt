@@ -25,8 +25,7 @@ use Rattle.qn_live.specs.Greetings.{sends_plan}
 use Rattle.qn_live.specs.Performing.{disk_call, done, out_call, outs_plan, own_number}
 use Rattle.qn_joined.specs.Joints as joints
 use Rattle.qn_joined.specs.Joints.{FitsImage, Host, Joint, MayHappen, happens, is_deadly_mail, is_disk, is_timed, landed_image, takes, waits_for, with_host}
-use Rattle.qn_joined.specs.Moves.{LogsHold}
-use Rattle.qn_joined.specs.NodeLogs.{IsNodeLog}
+use Rattle.qn_safety.specs.NodeLogs.{IsNodeLog, LogsHold}
 use Rattle.qn_joined.specs.Nodes.{at}
 use Rattle.qn_safety.specs.AnyNumbers.{AllMay}
 use Rattle.qn_joined.specs.Stands.{Spot, Receiving, Looking, Acting, Saying, Parting, Ended, left_plan, log_at}

@@ -27,7 +27,8 @@ use Rattle.qn_joined.specs.Joints as joints
 use Rattle.qn_joined.specs.Joints.{FitsImage, Host, Joint, MayHappen, happens, landed_image, with_host}
 use Rattle.qn_safety.specs.AnyNumbers.{AllMay}
 use Rattle.qn_joined.specs.Stands.{Spot, Receiving, Looking, Acting, Saying, Parting, Ended}
-use Rattle.qn_joined.specs.WorldOf.{AreAmong, NoCall, Skips, Made, ComesAs, ComesIn, HasWorld, IsAnswer, IsBacked, IsImage, IsNode, IsOperation, IsWorld, Waiting, disk_ahead, still_out}
+use Rattle.qn_joined.specs.WorldOf.{AreAmong, NoCall, Skips, Made, ComesAs, ComesIn, HasWorld, IsAnswer, IsBacked, IsImage, IsNode, IsWorld, Waiting, disk_ahead, still_out}
+use Rattle.qn_safety.specs.NodeLogs.{IsOperation}
 use Rattle.qn_joined.proofs.Frames.{one_moves, put_other, put_same}
 use Rattle.qn_joined.proofs.Images.{image_lands}
 use Rattle.qn_joined.proofs.Moving.{among_more}

@@ -24,7 +24,7 @@ use Rattle.qn_live.specs.Choosing.{heard, looked, view_or_tick}
 use Rattle.qn_live.specs.Running.{RunState}
 use Rattle.qn_joined.specs.Joints.{Host, returned}
 use Rattle.qn_joined.specs.Moves.{LooksInWorld}
-use Rattle.qn_joined.specs.NodeLogs.{IsNodeLog}
+use Rattle.qn_safety.specs.NodeLogs.{IsNodeLog, LogsHold}
 use Rattle.qn_joined.specs.Nodes.{AllSaid, IsReady, at}
 use Rattle.qn_safety.specs.AnyNumbers.{AllMay}
 use Rattle.qn_joined.specs.Stands.{Looking}
@@ -92,9 +92,9 @@ module _ {s : Settings} {rank : ℕ} (host : Host) (chosen : Choice × RunState)
     among = subst (λ l. AreAmong s rank host.left (left ++ given_up (op_out l) took)) (is.log lives) (among_of is lives);
   }
 
-pub looks_in_world : (s : Settings) (t : Timing) → LooksInWorld s t
+pub looks_in_world : (s : Settings) (t : Timing) → LogsHold s t → LooksInWorld s t
 unfolding run AllMay
-looks_in_world s t rank events host chosen tick logs below may is on asked clock =
+looks_in_world s t logs rank events host chosen tick below may is on asked clock =
     record {
       events' = h.of ∷ events;
       may = (h.ranked, h.allowed, may);

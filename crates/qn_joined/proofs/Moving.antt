@@ -20,7 +20,8 @@ use Rattle.qn_model.specs.World.{failed, given_up, is_write}
 use Rattle.qn_live.specs.Performing.{disk_answer, disk_call, done}
 use Rattle.qn_joined.specs.Joints.{Host, MayAnswer, after_effect, is_disk, is_timed, left_over}
 use Rattle.qn_joined.specs.Stands.{log_at}
-use Rattle.qn_joined.specs.WorldOf.{AreAmong, NoCall, Skips, Made, IsBacked, IsEnding, IsNode, IsOperation, TookAlike, disk_ahead, greets_at, still_out}
+use Rattle.qn_joined.specs.WorldOf.{AreAmong, NoCall, Skips, Made, IsBacked, IsEnding, IsNode, TookAlike, disk_ahead, greets_at, still_out}
+use Rattle.qn_safety.specs.NodeLogs.{IsOperation}
 
 -- the call changes nothing of its host but what it runs
 abbrev pub is_quiet : Call → Bool

@@ -27,9 +27,10 @@ use Rattle.qn_wire.specs.Packets.{is_well_formed, packet_bytes}
 use Rattle.qn_wire.specs.Reading.{fields_of, packet_of, rank_at, view_at}
 use Rattle.qn_live.specs.Greetings.{sends_plan}
 use Rattle.qn_live.specs.Performing.{disk_call, out_call, outs_plan, own_number}
+use Rattle.qn_safety.specs.NodeLogs.{LogsHold}
 use Rattle.qn_joined.specs.Joints as joints
 use Rattle.qn_joined.specs.Joints.{FitsImage, Host, Joint, MayAnswer, MayHappen, MayReturn, after_effect, counts, happens, is_timed, packet_said, returned, sent_by, waits_for, with_host}
-use Rattle.qn_joined.specs.Moves.{IsNodeIn, LogsHold, Moved}
+use Rattle.qn_joined.specs.Moves.{IsNodeIn, Moved}
 use Rattle.qn_joined.specs.Nodes.{at, is_looking}
 use Rattle.qn_safety.specs.AnyNumbers.{AllMay}
 use Rattle.qn_joined.specs.Theorem.{PacketsReadBack}
@@ -181,7 +182,7 @@ module _ (s : Settings) (t : Timing) (rank : ℕ) (events : List Event) (host : 
   moved (Looking chosen) is on asked waits answer =
       let now = now_made made waits in
       subst (λ c. Moved s t rank events (returned s rank c (time w.moments) (at host (Looking chosen)))) (sym now.1)
-      (looks_in_world s t rank events host chosen now.0 logs below may is on asked (subst (λ c. MayAnswer rank (at host (Looking chosen)) sent c) now.1 answer))
+      (looks_in_world s t logs rank events host chosen now.0 below may is on asked (subst (λ c. MayAnswer rank (at host (Looking chosen)) sent c) now.1 answer))
   moved (Receiving st) is on asked waits answer = stays (Receiving st) is on asked waits answer refl
   moved (Acting entry outs o rest st) is on asked waits answer = stays (Acting entry outs o rest st) is on asked waits answer refl
   moved (Saying said rest st) is on asked waits answer = stays (Saying said rest st) is on asked waits answer refl

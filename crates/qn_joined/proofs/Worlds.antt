@@ -8,9 +8,10 @@ use Rattle.qn_model.specs.declared.times.Timing.{Timing}
 use Rattle.qn_model.specs.declared.events.Event.{Event}
 use Rattle.qn_model.specs.Moments.{node, packets, tick_of, time}
 use Rattle.qn_model.specs.Steps.{run}
+use Rattle.qn_safety.specs.NodeLogs.{LogsHold}
 use Rattle.qn_joined.specs.Joints as joints
 use Rattle.qn_joined.specs.Joints.{AllMayHappen, FitsImage, Happening, Host, IsJoined, IsNewImage, Joint, MayHappen, began, ended, first_joint, happens, joint_after, looked_first, with_host}
-use Rattle.qn_joined.specs.Moves.{LogsHold, Moved}
+use Rattle.qn_joined.specs.Moves.{Moved}
 use Rattle.qn_safety.specs.AnyNumbers.{AllMay}
 use Rattle.qn_joined.specs.Theorem.{MailsReadBack, PacketsReadBack, TakesAlike}
 use Rattle.qn_joined.specs.WorldOf.{NoCall, EveryJointHasAWorld, HasWorld, IsWorld}
@@ -86,7 +87,7 @@ module _ (s : Settings) (t : Timing) (alike : TakesAlike s t) (logs : LogsHold s
       let below = configured has rank may.0 in
       subst (λ k. HasWorld s t (with_host rank (looked_first s rank base k (j.hosts rank)) j)) has.world.time
       (moved_world rank (looked_first s rank base (time w.moments) (j.hosts rank)) has.world fits below
-      (boots_in_world s t rank has.events (j.hosts rank) base logs below has.may (has.world.nodes rank below) may.0 may.1 (subst (λ k. (j.hosts rank).fed ≤ k) (sym has.world.time) (has.world.fed rank)))
+      (boots_in_world s t logs rank has.events (j.hosts rank) base below has.may (has.world.nodes rank below) may.0 may.1 (subst (λ k. (j.hosts rank).fed ≤ k) (sym has.world.time) (has.world.fed rank)))
       (subst (λ f. f ≤ j.time) (sym (first_fed s rank base (time w.moments) (j.hosts rank))) (has.world.fed rank)))
   one_happens j (joints.Lands rank) has may =
       lands_in_world s t has.events j rank alike logs (configured has rank may.0) has.may has.world fits may
@@ -104,7 +105,7 @@ module _ (s : Settings) (t : Timing) (alike : TakesAlike s t) (logs : LogsHold s
   one_happens j (joints.Ends rank) has may =
       let below = configured has rank may in
       moved_world rank (ended s rank (j.hosts rank)) has.world fits below
-      (ends_in_world s t rank has.events (j.hosts rank) logs below has.may (has.world.nodes rank below) may) (has.world.fed rank)
+      (ends_in_world s t logs rank has.events (j.hosts rank) below has.may (has.world.nodes rank below) may) (has.world.fed rank)
   one_happens j (joints.Operates rank sent) has may = operates_in_world s t has.events j rank sent mails_back has.may has.world fits may
 
   each_has : (image : ℕ → List ℕ) (happenings : List Happening) → IsNewImage s t image → AllMayHappen s t image happenings → HasWorld s t (joint_after s image happenings)

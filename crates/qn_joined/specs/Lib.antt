@@ -1,6 +1,5 @@
 pub mod Joints
 pub mod Moves
-pub mod NodeLogs
 pub mod Nodes
 pub mod Owning
 pub mod Stands

@@ -15,7 +15,6 @@ use Rattle.qn_model.specs.World.{World, node_at}
 use Rattle.qn_live.specs.declared.place.Choice.{Choice}
 use Rattle.qn_live.specs.Running.{RunState}
 use Rattle.qn_joined.specs.Joints.{Host, began, ended, looked_first, returned}
-use Rattle.qn_joined.specs.NodeLogs.{IsNodeLog}
 use Rattle.qn_joined.specs.Nodes.{at}
 use Rattle.qn_safety.specs.AnyNumbers.{AllMay}
 use Rattle.qn_joined.specs.Stands.{Looking}
@@ -47,19 +46,10 @@ pub record Moved (s : Settings) (t : Timing) (rank : ℕ) (events : List Event) 
   pub mailboxes : (run s t events').mailboxes ≡ (run s t events).mailboxes
   pub node : IsNodeIn s rank host (run s t events')
 
--- in each world that events led to the logs are as those of nodes are
-abbrev pub LogsHold : Settings → Timing → Type 0
-LogsHold s t =
-    (events : List Event) (rank : ℕ)
-    → AllMay s t events
-    → rank < length s.nodes
-    → IsNodeLog s (node_at s rank (run s t events)).log
-
 -- a look at the clock is one event of the world, which hands the node what the running node is handed
 abbrev pub LooksInWorld : Settings → Timing → Type 0
 LooksInWorld s t =
     (rank : ℕ) (events : List Event) (host : Host) (chosen : Choice × RunState) (tick : ℕ)
-    → LogsHold s t
     → rank < length s.nodes
     → AllMay s t events
     → IsNodeIn s rank (at host (Looking chosen)) (run s t events)
@@ -73,7 +63,6 @@ LooksInWorld s t =
 abbrev pub BootsInWorld : Settings → Timing → Type 0
 BootsInWorld s t =
     (rank : ℕ) (events : List Event) (host : Host) (base : ℕ)
-    → LogsHold s t
     → rank < length s.nodes
     → AllMay s t events
     → IsNodeIn s rank host (run s t events)
@@ -105,7 +94,6 @@ FeedsInWorld s t =
 abbrev pub EndsInWorld : Settings → Timing → Type 0
 EndsInWorld s t =
     (rank : ℕ) (events : List Event) (host : Host)
-    → LogsHold s t
     → rank < length s.nodes
     → AllMay s t events
     → IsNodeIn s rank host (run s t events)

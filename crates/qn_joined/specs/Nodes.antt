@@ -19,7 +19,7 @@ use Rattle.qn_live.specs.declared.place.Choice.{Choice}
 use Rattle.qn_live.specs.Choosing.{looked}
 use Rattle.qn_live.specs.Running.{RunState}
 use Rattle.qn_joined.specs.Joints.{Host, MayAnswer, counts, returned, waits_for}
-use Rattle.qn_joined.specs.NodeLogs.{IsNodeLog}
+use Rattle.qn_safety.specs.NodeLogs.{IsNodeLog}
 use Rattle.qn_joined.specs.Owning.{is_no_stop}
 use Rattle.qn_joined.specs.Stands.{Spot, Receiving, Looking, Acting, Saying, Parting, Ended}
 use Rattle.qn_joined.specs.WorldOf.{AreAmong, IsNode, Waiting, WasSentTo, is_answer_in}

@@ -19,7 +19,8 @@ use Rattle.qn_live.specs.Runs.{live_plan}
 use Rattle.qn_joined.specs.Joints.{AllMayHappen, FitsImage, Happening, Host, IsJoined, calls_of, joint_after, runs_at}
 use Rattle.qn_joined.specs.Owning.{Owns}
 use Rattle.qn_joined.specs.Stands.{plan_at}
-use Rattle.qn_joined.specs.WorldOf.{IsImage, IsOperation}
+use Rattle.qn_joined.specs.WorldOf.{IsImage}
+use Rattle.qn_safety.specs.NodeLogs.{IsOperation}
 
 -- at most one resource runs at any moment
 abbrev pub AtMostOneRuns : Settings → Timing → Type 0

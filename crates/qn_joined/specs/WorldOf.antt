@@ -9,7 +9,6 @@ use Rattle.qn_model.specs.declared.packets.Packet.{Packet}
 use Rattle.qn_model.specs.declared.packets.Packet.TheVariants as packet
 use Rattle.qn_model.specs.declared.packets.Sent.{Sent}
 use Rattle.qn_model.specs.declared.outputs.DiskOp.{DiskOp}
-use Rattle.qn_model.specs.declared.outputs.DiskOp.TheVariants as disk
 use Rattle.qn_model.specs.declared.outputs.Out.{Out}
 use Rattle.qn_model.specs.declared.outputs.Out.TheVariants as out
 use Rattle.qn_model.specs.declared.entries.What.{What}
@@ -28,20 +27,10 @@ use Rattle.qn_live.specs.declared.place.Choice.TheVariants as choice
 use Rattle.qn_live.specs.Performing.{disk_call, done, end_after}
 use Rattle.qn_live.specs.Running.{RunState}
 use Rattle.qn_safety.specs.AnyNumbers.{AllMay}
+use Rattle.qn_safety.specs.NodeLogs.{IsOperation, is_disk_last}
 use Rattle.qn_joined.specs.Owning.{is_no_stop}
 use Rattle.qn_joined.specs.Stands.{Spot, Receiving, Looking, Acting, Saying, Parting, Ended, first_stand, log_at}
 use Rattle.qn_joined.specs.Joints.{Host, Joint, IsJoined, Happening, counts, is_timed, joint_after}
-
--- an operation is one of the cluster: its rank is configured, and its number fits a slot
-abbrev pub IsOperation : Settings → DiskOp → Type 0
-IsOperation s disk.ReadHeader = Unit {0}
-IsOperation s (disk.ReadSlot other) = other.0 < length s.nodes
-IsOperation s disk.CheckMail = Unit {0}
-IsOperation s (disk.WriteClaim number) = number < 2 ^ 64
-IsOperation s disk.WriteClear = Unit {0}
-IsOperation s disk.ReadMail = Unit {0}
-IsOperation s (disk.WriteReset other) = other.0 < length s.nodes
-IsOperation s (disk.WriteClose number) = number < 2 ^ 64
 
 -- The calls are those of some of the operations, in order: a process that died before it made a call has left its operation
 -- over in the world alone.
@@ -117,13 +106,6 @@ ComesOut log all (out.Halt kind) = Unit {0}
 abbrev pub AllComeOut : List Line → List Sent → List Out → Type 0
 AllComeOut log all [] = Unit {0}
 AllComeOut log all (o ∷ outs) = ComesOut log all o × AllComeOut log all outs
-
--- the operation of the disk, where there is one, is the last output
-abbrev pub is_disk_last : List Out → Bool
-is_disk_last [] = true
-is_disk_last (out.Disk op ∷ []) = true
-is_disk_last (out.Disk op ∷ o ∷ outs) = false
-is_disk_last (o ∷ outs) = is_disk_last outs
 
 -- what is known of the outputs that are still to be performed
 pub record Performs (s : Settings) (took_call : Option (List ℕ)) (took : Option What) (all : List Sent) (st : RunState) (outs : List Out) : Type 0 where

@@ -6,7 +6,7 @@ ghost use Rattle.qn_model.specs.declared.configuration.Settings.{Settings};
 ghost use Rattle.qn_model.specs.declared.times.Timing.{Timing};
 ghost use Rattle.qn_joined.specs.Theorem.{AlwaysOwns, AtMostOneRuns, MailsReadBack, OneRuns, PacketsReadBack, RunsAreRuns, TakesAlike};
 ghost use Rattle.qn_joined.specs.WorldOf.{EveryJointHasAWorld};
-ghost use Rattle.qn_joined.specs.Moves.{BeginsAsNode, BootsInWorld, EndsInWorld, FeedsInWorld, LogsHold, LooksInWorld};
+ghost use Rattle.qn_joined.specs.Moves.{BeginsAsNode, BootsInWorld, EndsInWorld, FeedsInWorld, LooksInWorld};
 ghost use Rattle.qn_joined.specs.Nodes.{LooksAsNode, ReturnsAsNode};
 ghost use Rattle.qn_model.specs.Timing.{is_safe};
 ghost use Rattle.qn_live.specs.Runs.{live_plan};
@@ -15,7 +15,7 @@ ghost use Rattle.qn_joined.specs.Joints.{Host, returned, waits_for};
 ghost use Rattle.qn_base.specs.Calls.{blank};
 ghost use Rattle.qn_joined.specs.Owning.{Owns};
 
-use qn_safety::law_any_numbers;
+use qn_safety::{law_any_numbers, law_node_logs};
 
 /// Law: a run begins at its first stand, and after each call what is left of it is what is left at the stand after that call.
 pub fn law_stands()
@@ -25,19 +25,19 @@ pub fn law_stands()
         → left (plan_at s me leave stand) call ≡ plan_at s me leave (after_call s me leave stand call) }
 {}
 
-/// Law: at most one resource runs at any moment of a joined run, for all safe timing, where the logs of each world are as those of
-/// nodes are.
+/// Law: at most one resource runs at any moment of a joined run, for all safe timing.
 pub fn law_one_owner()
-    ensures { (s : Settings) (t : Timing) → IsTrue (is_safe t) → LogsHold s t → AtMostOneRuns s t }
+    ensures { (s : Settings) (t : Timing) → IsTrue (is_safe t) → AtMostOneRuns s t }
 {
     law_any_numbers();
     law_worlds();
 }
 
-/// Law: every joint has a world, where the logs of each world are as those of nodes are.
+/// Law: every joint has a world: each joined run is a run of the world.
 pub fn law_worlds()
-    ensures { (s : Settings) (t : Timing) → LogsHold s t → EveryJointHasAWorld s t }
+    ensures { (s : Settings) (t : Timing) → EveryJointHasAWorld s t }
 {
+    law_node_logs();
     law_takes_alike();
     law_packets_read_back();
     law_mails_read_back();
@@ -98,29 +98,34 @@ pub fn law_looks_as_node()
     ensures { (s : Settings) (rank : ℕ) → LooksAsNode s rank }
 {}
 
-/// Law: where the logs of each world are as those of nodes are, a look at the clock of a running node is one event that the rules
-/// of its world allow, and leaves it the node of the world after it; no other node and no sector changes.
+/// Law: a look at the clock of a running node is one event that the rules of its world allow, and leaves it the node of the world
+/// after it; no other node and no sector changes.
 pub fn law_looks_in_world()
     ensures { (s : Settings) (t : Timing) → LooksInWorld s t }
-{}
+{
+    law_node_logs();
+}
 
 /// Law: a process that begins is a node of the world that is off.
 pub fn law_begins_as_node()
     ensures { (s : Settings) (rank : ℕ) → BeginsAsNode s rank }
 {}
 
-/// Law: where the logs of each world are as those of nodes are, the first look of a process at its clock is the boot of its node.
+/// Law: the first look of a process at its clock is the boot of its node.
 pub fn law_boots_in_world()
     ensures { (s : Settings) (t : Timing) → BootsInWorld s t }
-{}
+{
+    law_node_logs();
+}
 
 /// Law: a feed that takes effect is one event of the world where the node takes part in time, and else none.
 pub fn law_feeds_in_world()
     ensures { (s : Settings) (t : Timing) → FeedsInWorld s t }
 {}
 
-/// Law: where the logs of each world are as those of nodes are, a machine that is off is one event of the world where its node
-/// takes part in time, and else none.
+/// Law: a machine that is off is one event of the world where its node takes part in time, and else none.
 pub fn law_ends_in_world()
     ensures { (s : Settings) (t : Timing) → EndsInWorld s t }
-{}
+{
+    law_node_logs();
+}

@@ -1,12 +1,11 @@
 //! Running nodes that share one outside: one image, one network, true time, and a watchdog each.
 //!
 //! `specs/Joints` says what may happen to them, call by call and byte by byte, and `specs/WorldOf` which world that is. Promises:
-//! at most one resource runs at any moment (`law_one_owner`), under a premise on the worlds that events lead to, which is not proved
-//! so far: that the log of each node is as `specs/NodeLogs` says. Under it each such run is a run of the world (`law_worlds`): a call
-//! that returns leaves a running node the node that it was (`law_returns_as_node`), a look at the clock is one event
-//! (`law_looks_in_world`), and so are a boot, a feed and the end of a machine (`law_boots_in_world`, `law_feeds_in_world`,
-//! `law_ends_in_world`). Beside it: a run that
-//! stands between two calls as a value (`law_stands`), the calls of each process are the beginning of a run of its node
+//! at most one resource runs at any moment, for all safe times (`law_one_owner`). Each such run is a run of the world
+//! (`law_worlds`): a call that returns leaves a running node the node that it was (`law_returns_as_node`), a look at the clock is
+//! one event (`law_looks_in_world`), and so are a boot, a feed and the end of a machine (`law_boots_in_world`,
+//! `law_feeds_in_world`, `law_ends_in_world`). It rests on what holds of the logs of a world (`qn_safety::law_node_logs`). Beside
+//! it: a run that stands between two calls as a value (`law_stands`), the calls of each process are the beginning of a run of its node
 //! (`law_processes`), a resource that runs is held by the log of its node (`law_owned`), and what the bytes of a sector give a node
 //! is what its operation takes in the world (`law_takes_alike`). The rules of what may happen are met by a node that boots and
 //! starts its resource (`law_joints_are_met`).

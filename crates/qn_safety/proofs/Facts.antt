@@ -135,7 +135,7 @@ taken_clean s t i j (disk.WriteReset other) w e = absurd (false≢true e)
 taken_clean s t i j (disk.WriteClose number) w e = absurd (false≢true e)
 
 -- a close that is out was asked for
-close_asked : (log : List Line) → is_close (op_out log) ≡ true → asked_close log ≡ true
+pub close_asked : (log : List Line) → is_close (op_out log) ≡ true → asked_close log ≡ true
 close_asked log e = by_op (op_out log) refl e
   where
     asked_here : (line : Line) (past : List Line) (op : DiskOp) → disk_of line.outs ≡ Some op → is_close (Some op) ≡ true → asked_close (line ∷ past) ≡ true

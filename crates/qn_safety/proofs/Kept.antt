@@ -68,7 +68,7 @@ booted_back {s = s} {me = me} {line = line} {past = past} it plain booted = by_p
     by_phase false e = e
     by_phase true e = clash (is_booting (phase s (line ∷ past))) (boot_tick s me past line.what (in_time line.tick past) plain it.fitting e) booted
 
-booting_back : {s : Settings} {me : ℕ} {line : Line} {past : List Line} → IsLine s me line past → is_booting (phase s (line ∷ past)) ≡ true → is_booting (phase s past) ≡ true
+pub booting_back : {s : Settings} {me : ℕ} {line : Line} {past : List Line} → IsLine s me line past → is_booting (phase s (line ∷ past)) ≡ true → is_booting (phase s past) ≡ true
 booting_back {s = s} {line = line} {past = past} it booting = by_phase (is_booting (phase s past)) refl
   where
     by_phase : (b : Bool) → is_booting (phase s past) ≡ b → is_booting (phase s past) ≡ true

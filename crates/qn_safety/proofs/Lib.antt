@@ -44,3 +44,4 @@ pub mod TripleRows
 pub mod TriplePremises
 pub mod LogMoves
 pub mod UpNodes
+pub mod NodeLogs

@@ -219,7 +219,7 @@ own_read s me entry op p rank (CheckStep seen) e = absurd (cc)
 own_read s me entry op p rank ClaimStep e = absurd (cc)
 own_read s me entry op p rank ClearStep e = absurd (cc)
 
-no_reset : {number : ℕ} (s : Settings) (me : ℕ) (entry : What) (op : DiskOp) (p : Phase) (rank : Rank) → BootStep me number entry op p → op ≡ disk.WriteReset rank → ⊥
+pub no_reset : {number : ℕ} (s : Settings) (me : ℕ) (entry : What) (op : DiskOp) (p : Phase) (rank : Rank) → BootStep me number entry op p → op ≡ disk.WriteReset rank → ⊥
 no_reset s me entry op p rank (BeginStep clean) e = cc
 no_reset s me entry op p rank (HeaderStep seen) e = cc
 no_reset s me entry op p rank (SlotStep other own) e = cc
@@ -249,7 +249,7 @@ module _ {s : Settings} {me : ℕ} {line : Line} {past : List Line} (made : Made
       by_reason : Reason s me answer.asked.past answer.asked.line.what (before_outs answer.asked.line answer.asked.past) (disk.ReadSlot other) → FencingAsk s rank line past
       by_reason (inl boots) = absurd (differs (sym same ∙ sym (own_read s me answer.asked.line.what _ _ other
           (boot_step_of s me _ answer.asked.line.what (disk.ReadSlot other) false boots.goes_on boots.next) refl)))
-      by_reason (inr lives) = ask_at other same answer lives.state
+      by_reason (inr lives) = ask_at other same answer (lives.state.0, lives.state.1)
 
   write_by : (answer : AnswerOf line past) (other : Rank) → other.0 ≡ rank → answer.op ≡ disk.WriteReset other → FencingAsk s rank line past
   write_by answer other same is =
@@ -258,7 +258,7 @@ module _ {s : Settings} {me : ℕ} {line : Line} {past : List Line} (made : Made
       by_reason : Reason s me answer.asked.past answer.asked.line.what (before_outs answer.asked.line answer.asked.past) (disk.WriteReset other) → FencingAsk s rank line past
       by_reason (inl boots) = absurd (no_reset s me answer.asked.line.what _ _ other
           (boot_step_of s me _ answer.asked.line.what (disk.WriteReset other) false boots.goes_on boots.next) refl)
-      by_reason (inr lives) = ask_at other same answer lives.state
+      by_reason (inr lives) = ask_at other same answer (lives.state.0, lives.state.1)
 
 -- a read of another node's slot was asked for while up and while that node was outside the view
 pub slot_ask : {s : Settings} {me : ℕ} {line : Line} {past : List Line} → Made s me (line ∷ past) → (test : SlotSeen → Bool) (rank : ℕ) → ¬ (rank ≡ me)

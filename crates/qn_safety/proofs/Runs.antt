@@ -104,12 +104,18 @@ pub made_entry : (s : Settings) (me : ℕ) (past : List Line) (tick : ℕ) (entr
 unfolding with_entry
 made_entry s me past tick entry made order = OneMore (record { fitting = read_fits s me past entry; place = refl; gave = refl; order = order }) made
 
+-- the log before its newest line
+abbrev pub older : List Line → List Line
+older [] = []
+older (line ∷ past) = past
+
 -- what is always true of a node, at the present true time
 pub record IsSound (s : Settings) (t : Timing) (i now : ℕ) (n : Running) : Type 0 where
   pub made : Made s i n.log
   pub order : LogSpec.now n.log ≤ tick_of n.clock
   pub known : n.on ≡ true → i < length s.nodes
   pub living : n.on ≡ true → is_gone (phase s n.log) ≡ false
+  pub going : is_gone (phase s (older n.log)) ≡ false
   pub fed_before : n.fed ≤ now
   pub decided_before : (at : ℕ) → n.decided ≡ Some at → at ≤ now
   pub alive : n.on ≡ true → 99 * now ≤ 99 * n.fed + 100 * t.watchdog
@@ -127,6 +133,7 @@ sound_handed s t i now entry n was on =
       order = tick_order;
       known = λ e. was.known on;
       living = λ e. not_true (is_gone (phase s log)) e;
+      going = went_on;
       fed_before = was.fed_before;
       decided_before = λ at e. sound_decided (has_feed (newest_outs log)) now at n.decided (was.decided_before at) e;
       alive = λ e. was.alive on;
@@ -135,6 +142,9 @@ sound_handed s t i now entry n was on =
     tick_order : LogSpec.now (with_entry s i n.log (record { tick = tick_of n.clock; what = entry })) ≤ tick_of n.clock
     tick_order = unfold with_entry in (omega arith)
 
+    went_on : is_gone (phase s (older (with_entry s i n.log (record { tick = tick_of n.clock; what = entry })))) ≡ false
+    went_on = unfold with_entry in was.living on
+
 fresh_sound : (s : Settings) (t : Timing) (i now base boots : ℕ) → i < length s.nodes → IsSound s t i now (record { on = true; boots = boots; log = []; clock = base; fed = now; decided = None })
 unfolding phase
 fresh_sound s t i now base boots known = record {
@@ -142,6 +152,7 @@ fresh_sound s t i now base boots known = record {
   order = omega arith;
   known = λ e. known;
   living = λ e. refl;
+  going = refl;
   fed_before = omega arith;
   decided_before = λ at e. none_some at e;
   alive = λ e. omega arith;
@@ -164,6 +175,7 @@ sound_advanced s t i now dt advance n was rule = record {
   order = by_on n.on refl;
   known = was.known;
   living = was.living;
+  going = was.going;
   fed_before = let p = was.fed_before in omega arith;
   decided_before = λ at e. let p = was.decided_before at e in omega arith;
   alive = λ e. (pass_parts t dt advance now n e (rule e)).2;
@@ -179,6 +191,7 @@ sound_fed s t i now n was = record {
   order = was.order;
   known = was.known;
   living = was.living;
+  going = was.going;
   fed_before = omega arith;
   decided_before = was.decided_before;
   alive = λ e. omega arith;
@@ -190,6 +203,7 @@ sound_ended s t i now n was = record {
   order = was.order;
   known = λ e. absurd (false≢true e);
   living = λ e. absurd (false≢true e);
+  going = was.going;
   fed_before = was.fed_before;
   decided_before = was.decided_before;
   alive = λ e. absurd (false≢true e);
@@ -218,12 +232,13 @@ sound_turn s t i earlier moment (IsEnd e at) rule was =
     (sound_ended s t i (time earlier) (node s i earlier) was))
 
 never_sound : (s : Settings) (t : Timing) (i : ℕ) → IsSound s t i (time []) (node s i [])
-unfolding time node
+unfolding time node phase
 never_sound s t i = record {
   made = NoLine;
   order = omega arith;
   known = λ e. absurd (false≢true e);
   living = λ e. absurd (false≢true e);
+  going = refl;
   fed_before = omega arith;
   decided_before = λ at e. none_some at e;
   alive = λ e. absurd (false≢true e);

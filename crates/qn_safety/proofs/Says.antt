@@ -29,7 +29,7 @@ use Rattle.qn_model.specs.NodeVotes.{install, view, is_in_view, is_present, rele
 use Rattle.qn_model.specs.Unmet.{unmet, is_clear, is_chosen}
 use Rattle.qn_model.specs.Wanted.{wanted_with_delay, fencing_op_with_delay, is_delay_over, to_read, to_reset, to_reset_now, boot_op, close_op, rank_of, is_mail_due, may_fence}
 use Rattle.qn_model.specs.NodeOutputs.{acts, outs_at, live_outs, boot_outs, boot_step_outs, is_boot_step, is_begin, disk_outs, when, replies, reply, asks_under, ask_to, is_asking, gives_stop, gives_start, mail_feeds}
-use Rattle.qn_safety.specs.LeastRanks.{least_passes}
+use Rattle.qn_safety.specs.LeastRanks.{least_bound, least_passes}
 use Rattle.qn_safety.proofs.Tools.{some_same, none_some, and_left_of, and_right_of, not_true}
 
 -- an operation of the boot: the entry is a step of the boot that goes on
@@ -41,8 +41,8 @@ pub record BootReason (s : Settings) (me : ℕ) (past log : List Line) (entry : 
 -- the state that a node that takes part asks for an operation in
 abbrev pub LiveState : Settings → List Line → DiskOp → Type 0
 LiveState s log disk.ReadMail = Unit {0}
-LiveState s log (disk.ReadSlot rank) = (is_up (phase s log) ≡ true) × (is_in_view log rank.0 ≡ false)
-LiveState s log (disk.WriteReset rank) = (is_up (phase s log) ≡ true) × (is_in_view log rank.0 ≡ false)
+LiveState s log (disk.ReadSlot rank) = (is_up (phase s log) ≡ true) × (is_in_view log rank.0 ≡ false) × (rank.0 < length s.nodes)
+LiveState s log (disk.WriteReset rank) = (is_up (phase s log) ≡ true) × (is_in_view log rank.0 ≡ false) × (rank.0 < length s.nodes)
 LiveState s log (disk.WriteClose number) = (is_leaving (phase s log) ≡ true) × (holds log ≡ false) × (incarnation log ≡ Some number)
 LiveState s log op = ⊥
 
@@ -105,11 +105,11 @@ outside_first inside other e = not_true inside (and_left_of (not inside) other e
 outside_of_three : (inside b c : Bool) → (not inside && b && c) ≡ true → inside ≡ false
 outside_of_three inside b c e = outside_first inside b (and_left_of (not inside && b) c e)
 
-to_read_outside : (s : Settings) (log : List Line) (rank : ℕ) → to_read s log ≡ Some rank → is_in_view log rank ≡ false
-to_read_outside s log rank e = outside_first _ _ (least_passes _ 0 _ rank e)
+to_read_outside : (s : Settings) (log : List Line) (rank : ℕ) → to_read s log ≡ Some rank → (is_in_view log rank ≡ false) × (rank < length s.nodes)
+to_read_outside s log rank e = (outside_first _ _ (least_passes _ 0 _ rank e), (let under = least_bound (length s.nodes) 0 _ rank e in omega arith))
 
-to_reset_outside : (s : Settings) (log : List Line) (rank : ℕ) → to_reset s log ≡ Some rank → is_in_view log rank ≡ false
-to_reset_outside s log rank e = outside_of_three _ _ _ (least_passes _ 0 _ rank e)
+to_reset_outside : (s : Settings) (log : List Line) (rank : ℕ) → to_reset s log ≡ Some rank → (is_in_view log rank ≡ false) × (rank < length s.nodes)
+to_reset_outside s log rank e = (outside_of_three _ _ _ (least_passes _ 0 _ rank e), (let under = least_bound (length s.nodes) 0 _ rank e in omega arith))
 
 -- the node that is reset now is the one to reset
 now_or_later : (reset : Option ℕ) (over : ℕ → Bool) (rank : ℕ) → option_and_then (λ r. if over r then Some r else None) reset ≡ Some rank → reset ≡ Some rank
@@ -120,17 +120,17 @@ now_or_later (Some other) over rank e = by_delay (over other) e
     by_delay true is = is
     by_delay false is = none_some rank is
 
-to_reset_now_outside : (s : Settings) (log : List Line) (rank : ℕ) → to_reset_now s log ≡ Some rank → is_in_view log rank ≡ false
+to_reset_now_outside : (s : Settings) (log : List Line) (rank : ℕ) → to_reset_now s log ≡ Some rank → (is_in_view log rank ≡ false) × (rank < length s.nodes)
 to_reset_now_outside s log rank e = to_reset_outside s log rank (now_or_later (to_reset s log) (is_delay_over s log) rank e)
 
 fencing_state : (s : Settings) (log : List Line) (read reset : Option ℕ) (op : DiskOp)
     → is_up (phase s log) ≡ true
-    → ((rank : ℕ) → read ≡ Some rank → is_in_view log rank ≡ false)
-    → ((rank : ℕ) → reset ≡ Some rank → is_in_view log rank ≡ false)
+    → ((rank : ℕ) → read ≡ Some rank → (is_in_view log rank ≡ false) × (rank < length s.nodes))
+    → ((rank : ℕ) → reset ≡ Some rank → (is_in_view log rank ≡ false) × (rank < length s.nodes))
     → option_or (option_map (λ rank. disk.ReadSlot (rank_of rank)) read) (option_map (λ rank. disk.WriteReset (rank_of rank)) reset) ≡ Some op
     → LiveState s log op
-fencing_state s log (Some rank) reset op up p q e = subst (λ o. LiveState s log o) (some_same _ _ e) (up, p rank refl)
-fencing_state s log None (Some rank) op up p q e = subst (λ o. LiveState s log o) (some_same _ _ e) (up, q rank refl)
+fencing_state s log (Some rank) reset op up p q e = subst (λ o. LiveState s log o) (some_same _ _ e) (up, (p rank refl).0, (p rank refl).1)
+fencing_state s log None (Some rank) op up p q e = subst (λ o. LiveState s log o) (some_same _ _ e) (up, (q rank refl).0, (q rank refl).1)
 fencing_state s log None None op up p q e = none_some op e
 
 close_state : (s : Settings) (log : List Line) (number : Option ℕ) (op : DiskOp)

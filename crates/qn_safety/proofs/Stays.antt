@@ -201,7 +201,7 @@ up_not_over Gone e = refl
 up_not_over Booting e = absurd (false≢true e)
 up_not_over Up e = absurd (false≢true e)
 
-no_start_over : {s : Settings} {me : ℕ} {line : Line} {past : List Line} → IsLine s me line past → is_over (phase s (line ∷ past)) ≡ true → has_start line.outs ≡ false
+pub no_start_over : {s : Settings} {me : ℕ} {line : Line} {past : List Line} → IsLine s me line past → is_over (phase s (line ∷ past)) ≡ true → has_start line.outs ≡ false
 no_start_over {s = s} {line = line} {past = past} it over = by_start (has_start line.outs) refl
   where
     by_start : (b : Bool) → has_start line.outs ≡ b → has_start line.outs ≡ false

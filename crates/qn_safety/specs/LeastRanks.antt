@@ -55,3 +55,16 @@ least_below zero from test found e j above below = absurd (none-some found e)
 least_below (suc count) from test found e j above below =
     least_at test from found j (least_from count (from + 1) test) (test from) refl e above below
     (λ past rest. least_below count (from + 1) test found rest j (omega arith) below)
+
+bound_here : (from found below : ℕ) (later : Option ℕ) (b : Bool) → from < below → cond b (Some from) later ≡ Some found
+    → (later ≡ Some found → found < below) → found < below
+bound_here from found below later true under e rest = let same : from ≡ found = same_Some _ _ e in omega arith
+bound_here from found below later false under e rest = rest e
+
+-- it is among the numbers that were tried
+pub least_bound : (count from : ℕ) (test : ℕ → Bool) (found : ℕ) → least_from count from test ≡ Some found → found < from + count
+unfolding least_from
+least_bound zero from test found e = absurd (none-some found e)
+least_bound (suc count) from test found e =
+    bound_here from found (from + suc count) (least_from count (from + 1) test) (test from) (omega arith) e
+    (λ rest. let under = least_bound count (from + 1) test found rest in omega arith)

@@ -15,3 +15,4 @@ pub mod TripleSteps
 pub mod TriplePremises
 pub mod TripleReported
 pub mod AnyNumbers
+pub mod NodeLogs

@@ -7,8 +7,8 @@
 //! clock runs beside true time (`law_clocks`), and that with wait_for_all nothing is quorate before some node
 //! saw all (`law_wait_for_all`). The two lemmas that the theorem rests on are laws too: `law_fence` and
 //! `law_tells`; over the events of the world, from the landing of a reset on, the first is `law_landed_reset`. What one
-//! event is to the log of a node is `law_log_moves`, what stays as it is in one boot `law_boots`, and what holds of a
-//! node that is up `law_up_nodes`.
+//! event is to the log of a node is `law_log_moves`, what stays as it is in one boot `law_boots`, what holds of a
+//! node that is up `law_up_nodes`, and what holds of the log of each configured node `law_node_logs`.
 //! The premises are met by a schedule in which two nodes hold, one after the other (`law_premises_are_met`). The same
 //! is said of a disk of three images, any one of which may fail: `law_triple_no_two_holders`,
 //! `law_triple_runs_are_timed`, `law_triple_premises_are_met`, over the world of `specs/TripleSteps`.
@@ -31,7 +31,7 @@ pub use laws::{
     law_runs_are_timed, law_timed_runs, law_wait_for_all,
 };
 pub use lemmas::{law_fence, law_tells};
-pub use log_laws::{law_boots, law_log_moves, law_up_nodes};
+pub use log_laws::{law_boots, law_log_moves, law_node_logs, law_up_nodes};
 pub use part::Part;
 pub use triple_event::TripleEvent;
 pub use triple_laws::{

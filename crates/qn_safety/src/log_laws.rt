@@ -11,6 +11,7 @@ ghost use Rattle.qn_model.specs.Phases.{is_booting, phase};
 ghost use Rattle.qn_model.specs.Steps.{AllAllowed, run};
 ghost use Rattle.qn_safety.specs.Clocks.{RunsOn};
 ghost use Rattle.qn_safety.specs.LogMoves.{LogMove};
+ghost use Rattle.qn_safety.specs.NodeLogs.{LogsHold};
 ghost use Rattle.qn_safety.specs.Timed.{IsTimedRun, IsUp};
 
 /// Time, boots and logs from an old moment to a new one. Time and the count of boots never fall; in one boot
@@ -56,4 +57,12 @@ pub fn law_up_nodes()
         → Before now moments
         → IsTrue (fits s rank (node s rank now).log (what.Cleared ok))
         → IsTrue (is_booting (phase s (node s rank now).log)) }
+{}
+
+/// What holds of the log of each configured node in the world after any events that the rules allow, whatever their numbers:
+/// the operation of the disk is the last output; an entry after which the node is gone gave one output, which ends the run, and
+/// then no operation is out and nothing is held; an operation stays out until its answer, names what is configured, and its
+/// number fits a slot.
+pub fn law_node_logs()
+    ensures { (s : Settings) (t : Timing) → LogsHold s t }
 {}
