@@ -26,29 +26,7 @@ done
 # judged STORY-LINE..: what the judge says of a story of three nodes
 judged() {
     printf '%s\n' 'nodes 1 2 3' 'up 1 2 3' 'run 5000' "$@" > story
-    PYTHONPATH=$TOP/lib python3 -B - story << 'END'
-import sys
-
-from judge import Failure, Judge
-from stories import Play, read_story
-
-head, ids, lines = read_story(open(sys.argv[1]).read())
-watch = Judge()
-play = Play(head, ids, watch)
-watch.knows(play.world, 2, 0)
-try:
-    for line in lines:
-        if line.command == "message" and line.values[1] == "test":  # stands for a node that nobody starts at
-            play.world.hosts[line.values[0]].member.look = lambda tick: None
-        elif line.command == "message" and line.values[1] == "clear":  # stands for a reset of a node that is heard
-            play.world.event("view 1 9 1,2")
-        else:
-            play.commands.do(line)
-    print("well")
-except Failure as failure:
-    print(failure)
-play.replay.end()
-END
+    PYTHONPATH=$TOP/lib python3 -B "$TOP/tests/parts/campaign.py" story
 }
 same "$(judged 'cut 1' 'run 20000')" well
 same "$(judged 'split 1 | 2 | 3' 'run 5000' 'heal' 'run 8000')" well

@@ -89,23 +89,7 @@ cd "$(mktemp -d -p .)"
 ln -s "$doc/examples" examples
 PATH=$(dirname "$doc")/../../sbin:$(dirname "$doc")/../quorumd/bin:$PATH
 unset QUORUMD
-python3 - "$doc/README.md" << 'PYTHON'
-import re
-import subprocess
-import sys
-
-text = open(sys.argv[1]).read().partition("\n## Four commands\n")[2].partition("\n## ")[0]
-blocks = re.findall(r"(?ms)^```console\n(.*?)^```$", text)
-ran = 0
-for block in blocks:
-    for command, wanted in re.findall(r"(?m)^\$ (.*)\n((?:[^$\n].*\n)*)", block):
-        said = subprocess.run(command.replace("bin/quorumd", "quorumd"), shell=True, stdout=subprocess.PIPE, text=True).stdout
-        ran += 1
-        if said != wanted:
-            sys.exit("%s: wanted %s, got %s" % (command, wanted, said))
-if ran < 5:
-    sys.exit("only %d commands" % ran)
-PYTHON
+python3 -B "$TOP/tests/parts/package.py" "$doc/README.md"
 story --keep kept examples/try.story > account
 grep -q ' STARTS the resource$' account
 timeline --title 'The holder is killed' kept | cmp - examples/try.svg

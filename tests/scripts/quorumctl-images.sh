@@ -84,20 +84,7 @@ cp whole disk
 "$QUORUMCTL" check --image disk --json < /dev/null > checked
 put 1 SLOP
 "$QUORUMCTL" check --image disk --json < /dev/null > damaged || true
-python3 - << 'PYTHON'
-import json
-
-EMPTY = {"by": None, "message": "empty"}
-OFF = {"by": None, "message": "off"}
-FIRST, SECOND = ({"clean": True, "id": ident, "incarnation": 0} for ident in (1, 2))
-HEADER = {"version": 2, "watchdog": 5000, "msgwait": 10000, "loop": 1000, "read_limit": 2000, "feed_delay": 1000, "safe": True}
-nodes = [{"mail": EMPTY, "slot": FIRST}, {"mail": OFF, "slot": SECOND}]
-assert json.load(open("listed")) == nodes
-assert json.load(open("checked")) == {"findings": [], "header": HEADER, "nodes": nodes}
-damaged = [{"mail": EMPTY, "slot": None}, nodes[1]]
-assert json.load(open("damaged")) == {"findings": ["sector 1 is no slot"], "header": HEADER, "nodes": damaged}
-assert all(open(name).read().count("\n") == 1 for name in ("listed", "checked", "damaged"))
-PYTHON
+python3 -B "$TOP/tests/parts/quorumctl-images.py"
 
 # waits: for an empty mailbox, for a node that left, for msgwait, for a node that is none
 "$QUORUMD" create --image disk --timing 300,500,100,50,50 < "$TOP/examples/two-node.conf" > said
@@ -146,19 +133,8 @@ ctl 1 'fault: the slot or the mailbox cannot be read or is none\n' wait --image 
 ctl 1 'fault: sector 0 is no header: the file is no image\n' wait --image disk --id 3
 
 # at a terminal it is said that a text is read, by each command that reads one; elsewhere nothing is said
-cat > terminal.py << 'PYTHON'
-import os
-import pty
-import subprocess
-import sys
-
-main, side = pty.openpty()
-os.write(main, b"\x04")  # Ctrl-D: the text ends
-done = subprocess.run(sys.argv[1:], stdin=side, stdout=subprocess.PIPE, stderr=subprocess.PIPE, text=True, timeout=60)
-print(done.returncode, done.stderr, end="")
-PYTHON
 cp whole disk
 reads='quorumctl: a corosync.conf is read from the terminal; Ctrl-D on a line of its own ends it'
-same "$(python3 terminal.py "$QUORUMCTL" check --image disk)" "0 $reads"
-same "$(python3 terminal.py "$QUORUMCTL" settings)" "3 $reads"
-same "$(python3 terminal.py "$QUORUMCTL" list --image disk)" '0 '
+same "$(python3 -B "$TOP/tests/parts/terminal.py" "$QUORUMCTL" check --image disk)" "0 $reads"
+same "$(python3 -B "$TOP/tests/parts/terminal.py" "$QUORUMCTL" settings)" "3 $reads"
+same "$(python3 -B "$TOP/tests/parts/terminal.py" "$QUORUMCTL" list --image disk)" '0 '

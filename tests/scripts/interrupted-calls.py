@@ -1,9 +1,6 @@
-# A read of standard input and a write of standard output that are interrupted: each is made again, 999 times, and the next interruption is
-# a fault. The interruptions are the system's own: a call on a socket with a limit of time, which waits, ends with EINTR where its process was
-# stopped and goes on (signal(7)).
-. "$TOP/tests/expect.sh"
-
-python3 - <<'END'
+"""A read of standard input and a write of standard output that are interrupted: each is made again, 999 times, and the next interruption is
+a fault. The interruptions are the system's own: a call on a socket with a limit of time, which waits, ends with EINTR where its process was
+stopped and goes on (signal(7))."""
 import os
 import signal
 import socket
@@ -97,4 +94,3 @@ want("a read that is interrupted 1000 times", read_interrupted(1000),
 want("a write that is interrupted 999 times", write_interrupted(999), (0, HELP, b""))
 want("a write that is interrupted 1000 times", write_interrupted(1000),
      (7, b"", b"quorumd: standard output: operation interrupted\n"))
-END

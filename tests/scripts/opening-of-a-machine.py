@@ -1,6 +1,5 @@
-# The opening of a node with a word of a machine before the command: each refusal and their order, with nothing made and nothing armed; the
-# warnings; and what the opening without such a word says in their place.
-PYTHONPATH=$TOP/tests python3 -B - <<'END'
+"""The opening of a node with a word of a machine before the command: each refusal and their order, with nothing made and nothing armed; the
+warnings; and what the opening without such a word says in their place."""
 import os
 import resource
 import socket
@@ -130,4 +129,3 @@ def block_devices():
 
 
 try_all(refusals_in_order, watchdogs, without_a_word, block_devices)
-END

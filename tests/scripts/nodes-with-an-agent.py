@@ -1,6 +1,5 @@
-# Nodes whose resource is behind an agent: what the agent is sent, each answer that is none, a start and a stop that it refuses, and a stop
-# that takes 800 ms, after which the feed of its turn is not given and the next one is.
-PYTHONPATH=$TOP/tests python3 -B - <<'END'
+"""Nodes whose resource is behind an agent: what the agent is sent, each answer that is none, a start and a stop that it refuses, and a stop
+that takes 800 ms, after which the feed of its turn is not given and the next one is."""
 import os
 import subprocess
 import time
@@ -129,4 +128,3 @@ def agent_of_contrib():
 
 
 try_all(agent_of_contrib, wrong_answers, late_answer, no_answer, no_agent, refused_start, refused_stop, slow_stop, slow_start)
-END

@@ -1,7 +1,6 @@
-# Nodes that run and are disturbed: a watchdog that is full and one that is a pipe, bytes from the port of a node that does not run and from a port of
-# no node, and a node that stands
-# still for less than three loops, and for so long that another one follows it.
-PYTHONPATH=$TOP/tests python3 -B - <<'END'
+"""Nodes that run and are disturbed: a watchdog that is full and one that is a pipe, bytes from the port of a node that does not run and from a port of
+no node, and a node that stands
+still for less than three loops, and for so long that another one follows it."""
 import os
 import random
 import re
@@ -122,4 +121,3 @@ def stands_still():
 
 
 try_all(full_watchdog, pipe_as_watchdog, stranger, outsider, stands_still)
-END

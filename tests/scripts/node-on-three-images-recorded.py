@@ -1,18 +1,14 @@
-# `node3-logged` records a node on three images, also where one of them is lost, and `audit --images 3` takes the record as a whole run, each
-# beginning of it as the beginning of one, and names the first line that is another. Whole records of a node on one image, each read and
-# write of which is made on three images in their order, are runs of a node on three.
-. "$TOP/tests/expect.sh"
-
-PYTHONPATH=$TOP/tests python3 -B - "$TOP" <<'END'
+"""`node3-logged` records a node on three images, also where one of them is lost, and `audit --images 3` takes the record as a whole run, each
+beginning of it as the beginning of one, and names the first line that is another. Whole records of a node on one image, each read and
+write of which is made on three images in their order, are runs of a node on three."""
 import os
 import pathlib
 import re
 import subprocess
-import sys
 
 from live import QUORUMD, TripleCluster, same
 
-TOP = pathlib.Path(sys.argv[1])
+TOP = pathlib.Path(os.environ["TOP"])
 WORDS = ["--id", "1", "--turns", "60", "--leave", "40"]
 
 
@@ -110,4 +106,3 @@ same("some records", whole > 1, True)
 # words
 same("two images", audit("", *WORDS, "--images", "2")[0], 2)
 same("one image", audit("", *WORDS, "--images", "1")[0], audit("", *WORDS)[0])
-END

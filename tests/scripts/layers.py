@@ -1,12 +1,12 @@
-# No crate cites the proofs of another one, and each names every library of its line in crates.txt; and the table of crates in
-# docs/ARCHITECTURE.md has the crates of crates.txt and what each stands on: a row names crates of its line there, and the
-# others of that line stand below those. The row of a crate that is not built yet says so.
-python3 - "$TOP" <<'END'
+"""No crate cites the proofs of another one, and each names every library of its line in crates.txt; and the table of crates in
+docs/ARCHITECTURE.md has the crates of crates.txt and what each stands on: a row names crates of its line there, and the
+others of that line stand below those. The row of a crate that is not built yet says so."""
+import os
 import pathlib
 import re
 import sys
 
-TOP = pathlib.Path(sys.argv[1])
+TOP = pathlib.Path(os.environ["TOP"])
 wrong = []
 
 
@@ -71,4 +71,3 @@ look_at_rows({crate: used & libraries.keys() for crate, used in libraries.items(
 look_at_sources(libraries)
 print("\n".join(dict.fromkeys(wrong)))
 sys.exit(1 if wrong else 0)
-END

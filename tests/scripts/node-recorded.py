@@ -1,14 +1,9 @@
-# `node-logged` records a node, and `audit` takes the record as a whole run, each beginning of it as the beginning of one, and
-# names the first line that is another. A record that cannot be written: status 7, and the node ran on.
-. "$TOP/tests/expect.sh"
-
-python3 - "$TOP" <<'END'
+"""`node-logged` records a node, and `audit` takes the record as a whole run, each beginning of it as the beginning of one, and
+names the first line that is another. A record that cannot be written: status 7, and the node ran on."""
 import pathlib
 import re
 import subprocess
-import sys
 
-sys.path.insert(0, sys.argv[1] + "/tests")
 from live import QUORUMD, Cluster, Wrong, same
 
 WORDS = ["--id", "1", "--turns", "60", "--leave", "40"]
@@ -71,4 +66,3 @@ for line in ("start: ok", "stop: ok", "disarm: ok"):
     if not re.search(r"(?m)^quorumd: tick \d+: %s$" % line, said):
         raise Wrong("the node did not run on: no %r in %r" % (line, said))
 same("the slot", cluster.listed(1), "incarnation 2 clean mail empty")
-END

@@ -1,8 +1,6 @@
-# Stories of three, five and nine nodes at drawn moments: the holder is cut off, and the majority has a holder within the bound; packets are lost
-# for half a loop to 2.9 loops, of all nodes or of one, one way or both, and nobody is reset; two nodes of which one has a fence delay.
-# RUNS says how many of each there are.
-export QUORUMD
-RUNS=${RUNS-2} PYTHONPATH=$TOP/lib python3 -B - <<'END'
+"""Stories of three, five and nine nodes at drawn moments: the holder is cut off, and the majority has a holder within the bound; packets are lost
+for half a loop to 2.9 loops, of all nodes or of one, one way or both, and nobody is reset; two nodes of which one has a fence delay.
+RUNS says how many of each there are."""
 import concurrent.futures
 import os
 import random
@@ -75,7 +73,7 @@ def tried(job):
         return "%s of %d, seed %d: %s" % (scene.__name__, count, seed, failure)
 
 
-RUNS = int(os.environ["RUNS"])
+RUNS = int(os.environ.get("RUNS", 2))
 jobs = [(scene, count, seed) for seed in range(RUNS) for scene in (holder_cut, outage) for count in (3, 5, 9)]
 jobs += [(two_with_delay, 2, seed) for seed in range(RUNS)]
 with concurrent.futures.ProcessPoolExecutor() as pool:
@@ -84,4 +82,3 @@ print("%d stories, %d at fault" % (len(jobs), len(wrong)))
 if wrong:
     print("\n".join(wrong[:20]))
     sys.exit(1)
-END

@@ -1,7 +1,6 @@
-# Nodes with a key: between addresses of their own one takes over from another; a node with another key, another settings text or no key
-# hears nobody and is heard by nobody; packets that a stranger makes from the port of a node that was killed move nothing and cost no turn;
-# and a key is changed by restarts, while somebody holds.
-PYTHONPATH=$TOP/tests python3 -B - <<'END_OF_TESTS'
+"""Nodes with a key: between addresses of their own one takes over from another; a node with another key, another settings text or no key
+hears nobody and is heard by nobody; packets that a stranger makes from the port of a node that was killed move nothing and cost no turn;
+and a key is changed by restarts, while somebody holds."""
 import os
 import random
 import re
@@ -124,4 +123,3 @@ def new_key():
 
 
 try_all(take_over, another_key, another_text, no_key, stranger_at_a_free_port, new_key)
-END_OF_TESTS

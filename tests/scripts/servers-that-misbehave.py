@@ -1,7 +1,6 @@
-# A block server that fails, is late, cuts its answer short, answers something else, answers twice or closes, at each request in turn: a command
-# ends with a fault line and status 8, or did its whole work, and then the image is that of a file; and no node is ever fed on what
-# it did not read, nor do two hold.
-PYTHONPATH=$TOP/tests python3 -B - <<'END'
+"""A block server that fails, is late, cuts its answer short, answers something else, answers twice or closes, at each request in turn: a command
+ends with a fault line and status 8, or did its whole work, and then the image is that of a file; and no node is ever fed on what
+it did not read, nor do two hold."""
 import concurrent.futures
 import os
 import pathlib
@@ -142,4 +141,3 @@ def nodes():
 
 
 try_all(commands, nodes)
-END

@@ -1,6 +1,5 @@
-# Nodes that run, three of them on 127.0.0.1: one of them holds; a holder that is killed, reset or told to leave is followed by the next
-# one, after msgwait and not before where it did not end clean; messages, --leave and --turns; and what each says on standard error.
-PYTHONPATH=$TOP/tests python3 -B - <<'END'
+"""Nodes that run, three of them on 127.0.0.1: one of them holds; a holder that is killed, reset or told to leave is followed by the next
+one, after msgwait and not before where it did not end clean; messages, --leave and --turns; and what each says on standard error."""
 import time
 
 from live import Cluster, Wrong, milliseconds, same, try_all, wait_for
@@ -134,4 +133,3 @@ def turns_are_used_up():
 
 
 try_all(killed_holder, reset_holder, leaving_holder, told_when_to_leave, each_leaves_in_turn, turns_are_used_up)
-END

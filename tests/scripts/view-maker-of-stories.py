@@ -1,12 +1,9 @@
-# The view maker of stories, lib/members.py, over the rows from outside that the proved one is run over.
-. "$TOP/tests/expect.sh"
-
-python3 -B - "$TOP" <<'PYTHON'
+"""The view maker of stories, lib/members.py, over the rows from outside that the proved one is run over."""
+import os
 import pathlib
 import sys
 
-TOP = pathlib.Path(sys.argv[1])
-sys.path.insert(0, str(TOP / "lib"))
+TOP = pathlib.Path(os.environ["TOP"])
 from members import Member, View
 
 
@@ -47,4 +44,3 @@ for number, (call, wanted) in enumerate(rows, 1):
         wrong.append("row %d: %s: not %s" % (number, call, wanted))
 if wrong or len(rows) < 4900:
     sys.exit("%d rows\n%s" % (len(rows), "\n".join(wrong[:20])))
-PYTHON

@@ -1,13 +1,13 @@
-# Each name of docs/PROVED.md stands in the sources of its crate: functions, methods and types of the tables, and the clauses of
-# `top` or of the function that a row names. And each function of the rows by crate runs: the program, its companion or a test
-# calls it, or it stands on another one of its row that they call.
-python3 - "$TOP" <<'END'
+"""Each name of docs/PROVED.md stands in the sources of its crate: functions, methods and types of the tables, and the clauses of
+`top` or of the function that a row names. And each function of the rows by crate runs: the program, its companion or a test
+calls it, or it stands on another one of its row that they call."""
 import functools
+import os
 import pathlib
 import re
 import sys
 
-TOP = pathlib.Path(sys.argv[1])
+TOP = pathlib.Path(os.environ["TOP"])
 PAGE = (TOP / "docs" / "PROVED.md").read_text()
 wrong = []
 
@@ -119,4 +119,3 @@ for status in re.findall(r"(?m)^\| (\d+) \|", formats):
 
 print("\n".join(wrong))
 sys.exit(1 if wrong else 0)
-END

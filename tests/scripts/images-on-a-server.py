@@ -1,6 +1,5 @@
-# Images on block servers: each command writes the same bytes and the same answers as on a file, over each server that is installed and one of
-# the tests' own, with places of 512 and of 4096 bytes; exports and greetings that are refused; a node, and three servers under `node3`.
-PYTHONPATH=$TOP/tests python3 -B - <<'END'
+"""Images on block servers: each command writes the same bytes and the same answers as on a file, over each server that is installed and one of
+the tests' own, with places of 512 and of 4096 bytes; exports and greetings that are refused; a node, and three servers under `node3`."""
 import os
 import pathlib
 import subprocess
@@ -165,4 +164,3 @@ def three_servers():
 
 
 try_all(commands_as_on_a_file, places_of_4096_bytes, what_is_refused, an_export_that_can_only_be_read, a_node, three_servers)
-END

@@ -1,0 +1,165 @@
+"""For tests/scripts/pages-run.sh, which says what is tested."""
+import os
+import pathlib
+import re
+import shutil
+import subprocess
+import sys
+
+TOP = pathlib.Path(os.environ["TOP"])
+PAGES = sorted([TOP / "README.md", *TOP.glob("docs/*.md"), *TOP.glob("bench/*.md"), *TOP.glob("contrib/*.md"),
+                *TOP.glob("examples/**/*.md")])
+# tools that a machine may lack, and the Debian package of each
+PACKAGES = {"jq": "jq", "xxd": "xxd", "flock": "util-linux"}
+wrong = []
+
+
+def blocks_of(page):
+    """The blocks of a page: the line where each begins, what it is, and its lines."""
+    found, inside = [], None
+    for number, line in enumerate(page.read_text().splitlines(), 1):
+        if line.startswith("```"):
+            if inside is None:
+                inside = (number, line[3:].strip(), [])
+            else:
+                found.append(inside)
+                inside = None
+        elif inside is not None:
+            inside[2].append(line)
+    return found
+
+
+def commands_of(lines):
+    """The commands of a console block, each with what it is to write."""
+    commands = []
+    for line in lines:
+        if line.startswith("$ "):
+            commands.append((line[2:], []))
+        elif commands:
+            commands[-1][1].append(line)
+    return commands
+
+
+def missing_tool(command):
+    """The package of a tool that the command needs and that is not there."""
+    words = re.findall(r"[\w-]+", command)
+    return next((PACKAGES[word] for word in words if word in PACKAGES and not shutil.which(word)), None)
+
+
+def run(folder, command, text=""):
+    """What a command writes, in the folder of its page."""
+    done = subprocess.run(["bash", "-c", command], cwd=folder, input=text, stdout=subprocess.PIPE, stderr=subprocess.STDOUT, text=True)
+    return done.stdout
+
+
+def differs(place, command, got, wanted):
+    if got != wanted:
+        wrong.append("%s: %s\nwanted %s\ngot    %s" % (place, command, wanted, got))
+
+
+def try_console(folder, place, lines):
+    if not lines or not lines[0].startswith("$ "):
+        wrong.append("%s: a console block begins with a line `$ COMMAND`" % place)
+    for command, wanted in commands_of(lines):
+        package = missing_tool(command)
+        if package:
+            print("skipped: %s: not installed (Debian: %s), for: %s" % (place, package, command))
+        else:
+            differs(place, command, run(folder, command), "".join(line + "\n" for line in wanted))
+
+
+def try_unrun(place, lines):
+    """Commands that are not run: of the kit and of this repository, and not of the program."""
+    for line in lines:
+        words = line.split("#")[0].split()
+        if re.search(r"bin/quorumd|\$ ", line):
+            wrong.append("%s: %s: a call of the program is run" % (place, line))
+        elif words and not ((TOP / words[0]).is_file() or words[0] in ("cd", "git", "rt", "source", "man")):
+            wrong.append("%s: %s: no such command" % (place, line))
+
+
+def try_blocks(page, folder):
+    schedule = None
+    for number, kind, lines in blocks_of(page):
+        place = "%s:%d" % (page.relative_to(TOP), number)
+        text = "".join(line + "\n" for line in lines)
+        if (kind == "trace") != (schedule is not None):
+            wrong.append("%s: a schedule and its trace stand one after the other" % place)
+        if kind == "console":
+            try_console(folder, place, lines)
+        elif kind == "console not-run":
+            try_unrun(place, lines)
+        elif kind == "conf":
+            differs(place, "replay", run(folder, "bin/quorumd replay", text + "----\ntiming 5000 10000 1000 2000 1000\n"), "end 0\n")
+        elif kind == "trace":
+            differs(place, "replay", run(folder, "bin/quorumd replay", schedule or ""), text)
+        elif kind == "text":
+            if re.search(r"(?m)^(\$ |bin/|quorumd [a-z]+ --|rt )", text):
+                wrong.append("%s: a command in a block that is none" % place)
+        elif kind != "schedule":
+            wrong.append("%s: a block of no kind: %r" % (place, kind))
+        schedule = text if kind == "schedule" else None
+
+
+def folder_of(page):
+    """An empty folder in which the repository's files stand, with the program as bin/quorumd."""
+    folder = pathlib.Path("run", str(page.relative_to(TOP)).replace("/", "-"))
+    (folder / "bin").mkdir(parents=True)
+    (folder / "bin" / "quorumd").symlink_to(os.environ["QUORUMD"])
+    for script in (TOP / "bin").iterdir():
+        if script.name != "quorumd":
+            (folder / "bin" / script.name).symlink_to(script)
+    for there in TOP.iterdir():
+        if there.name not in ("bin", "out") and not there.name.startswith("."):
+            (folder / there.name).symlink_to(there)
+    return folder
+
+
+# what stands in one place: a pattern of its lines, and the page
+PLACES = [
+    (r"^\| `?unheard", "docs/STATUS.md", "the table of conditions"),
+    (r"^\| 16 \| `fault", "docs/FORMATS.md", "the table of exit statuses"),
+    (r"99 \*? ?\((M|msgwait) - 1\) >= 101", "docs/SAFETY.md", "the rule of safe times"),
+]
+
+
+def look_at_places():
+    for pattern, place, what in PLACES:
+        found = [str(page.relative_to(TOP)) for page in PAGES for _ in re.findall("(?m)" + pattern, page.read_text())]
+        if found != [place]:
+            wrong.append("%s stands in %s, and not in %s alone" % (what, ", ".join(found) or "no page", place))
+
+
+def look_at_links():
+    """Each link to a file, and to a heading of a page, leads somewhere."""
+    for page in PAGES:
+        for link in re.findall(r"\]\(([^)]+)\)", re.sub(r"(?ms)^```.*?^```", "", page.read_text())):
+            path, _, heading = link.partition("#")
+            if "://" in link:
+                continue
+            target = (page.parent / path).resolve() if path else page
+            if not target.exists():
+                wrong.append("%s: no file for the link %s" % (page.relative_to(TOP), link))
+            elif heading and heading not in headings_of(target):
+                wrong.append("%s: no heading for the link %s" % (page.relative_to(TOP), link))
+
+
+def headings_of(page):
+    heads = re.findall(r"(?m)^#+ (.*)$", page.read_text())
+    return {re.sub(r"[^\w -]", "", head.lower()).replace(" ", "-") for head in heads}
+
+
+def look_at_examples():
+    """Each page shows something that is run."""
+    for page in PAGES:
+        if page.name != "story.md" and not {"console", "schedule"} & {kind for _, kind, _ in blocks_of(page)}:
+            wrong.append("%s has no example that is run" % page.relative_to(TOP))
+
+
+for page in PAGES:
+    try_blocks(page, folder_of(page))
+look_at_places()
+look_at_links()
+look_at_examples()
+print("\n".join(wrong))
+sys.exit(1 if wrong else 0)
