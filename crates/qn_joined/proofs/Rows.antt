@@ -1,10 +1,11 @@
--- A joint that is met: one node over a new image boots and starts its resource.
-use Rattle.std.proofs.Common.{◌≡◌, ◌<◌, ℕ, suc, zero, true, false, List, [], ◌∷◌, ◌==◌, None, if◌then◌else◌, refl, arith}
+-- A joined run in which the resources of two nodes run, one after the other, with a reset between.
+use Rattle.std.proofs.Common.{◌≡◌, ◌<◌, ℕ, suc, zero, true, false, List, [], ◌∷◌, ◌++◌, ◌+◌, ◌^◌, ◌==◌, None, if◌then◌else◌, refl, arith}
 use Rattle.qn_base.specs.declared.calls.Call.TheVariants as call
 use Rattle.qn_base.specs.declared.calls.Received.TheVariants as received
 use Rattle.qn_model.specs.declared.configuration.Settings.{Settings}
 use Rattle.qn_model.specs.declared.times.Timing.{Timing}
 use Rattle.qn_model.specs.declared.disk.Message.TheVariants as message
+use Rattle.qn_model.specs.declared.packets.Packet.TheVariants as packet
 use Rattle.qn_model.specs.Log.{op_out, ask_place, ask_tick, begins_clean, claimed, slot_number, timing}
 use Rattle.qn_model.specs.NodeVotes.{view, install, votes}
 use Rattle.qn_model.specs.Votes.{answer_at, present_view, view_tick, is_released, expected_votes, device_yes}
@@ -15,161 +16,176 @@ use Rattle.qn_model.specs.Licences.{out_time, slot_read_since, reset_since}
 use Rattle.qn_model.specs.Unmet.{least_from, unmet}
 use Rattle.qn_model.specs.Wanted.{mail_tick, wanted_with_delay}
 use Rattle.qn_model.specs.NodeOutputs.{moment, acts, outs_at, with_entry, log_from}
-use Rattle.qn_model.specs.Sectors.{anonymous, header_bytes, header_bytes_in, mail_bytes, slot_bytes}
+use Rattle.qn_model.specs.Sectors.{anonymous, header_bytes, header_bytes_in, mail_bytes, mail_place, slot_bytes, slot_place}
 use Rattle.qn_model.specs.World.{failed}
 use Rattle.qn_sector.specs.Reading.{header_in, mail_of, slot_of}
 use Rattle.qn_member.specs.Maker.{after_tick, ranks_that, view_at}
+use Rattle.qn_wire.specs.Packets.{packet_bytes}
 use Rattle.qn_live.specs.Choosing.{choice_plan}
 use Rattle.qn_live.specs.Greetings.{sends_plan}
-use Rattle.qn_live.specs.Performing.{disk_call, done, out_call, outs_plan, waits_after}
+use Rattle.qn_live.specs.Performing.{disk_call, done, out_call, outs_plan, reset_by, waits_after}
 use Rattle.qn_live.specs.Runs.{clocked, greeted, handled, live_plan, parted, run_plan, settled}
 use Rattle.qn_joined.specs.Stands.{after_spot, left_plan}
-use Rattle.qn_joined.specs.Joints.{AllMayHappen, FitsImage, Happening, Begins, Feeds, Lands, Looks, Passes, Returns, IsNewImage, happens, joint_after, looked_first, returned, runs_at}
-use Rattle.qn_joined.specs.Theorem.{OneRuns}
+use Rattle.qn_joined.specs.Joints.{AllMayHappen, FitsImage, Happening, Begins, Ends, Feeds, Lands, Looks, Passes, Returns, IsNewImage, is_deadly_mail, happens, joint_after, looked_first, returned, runs_at}
+use Rattle.qn_joined.specs.Theorem.{OneAfterAnother}
 
-abbrev one_node : Settings
-one_node =
+-- two nodes of one vote each with two_node and without wait_for_all
+abbrev two_nodes : Settings
+two_nodes =
     record {
-      nodes = record { id = record { 0 = 1 }; votes = 1; fence_delay = 0 } ∷ [];
-      two_node = false;
+      nodes = record { id = record { 0 = 1 }; votes = 1; fence_delay = 0 } ∷ record { id = record { 0 = 2 }; votes = 1; fence_delay = 0 } ∷ [];
+      two_node = true;
       wait_for_all = false;
       last_man_standing = false;
       window = 10000;
       device = None;
-      expected = 1;
+      expected = 2;
       tie = None;
     }
 
-abbrev usual : Timing
-usual = record { watchdog = 5000; msgwait = 10000; loop_ms = 1000; read_limit = 2000; feed_delay = 1000 }
+abbrev short_times : Timing
+short_times = record { watchdog = 1000; msgwait = 1100; loop_ms = 1; read_limit = 10; feed_delay = 10 }
 
 abbrev new_image : ℕ → List ℕ
 new_image sector =
-    if sector == 0 then header_bytes 1 usual
-    else (if sector == 1 then slot_bytes 1 (record { incarnation = 0; clean = true }) else mail_bytes (anonymous message.Empty))
+    if sector == 0 then header_bytes 2 short_times
+    else (if sector == slot_place 0 then slot_bytes 1 (record { incarnation = 0; clean = true })
+    else (if sector == slot_place 1 then slot_bytes 2 (record { incarnation = 0; clean = true })
+    else mail_bytes (anonymous message.Empty)))
 
-only_first : (P : ℕ → Type 0) → P 0 → (rank : ℕ) → rank < 1 → P rank
-only_first P here zero below = here
-only_first P here (suc rank) below = absurd (omega arith)
+of_two : (P : ℕ → Type 0) → P 0 → P 1 → (rank : ℕ) → rank < 2 → P rank
+of_two P one two zero below = one
+of_two P one two (suc zero) below = two
+of_two P one two (suc (suc rank)) below = absurd (omega arith)
 
--- newest first
-abbrev boot_and_start : List Happening
-boot_and_start =
-    Returns 0 (call.Now 60)
-    ∷ Passes 10 []
-    ∷ Returns 0 (call.Receive received.Nothing)
-    ∷ Feeds 0
-    ∷ Returns 0 (call.Feed true)
-    ∷ Returns 0 (call.Now 50)
-    ∷ Passes 10 []
-    ∷ Returns 0 (call.Read 512 (mail_bytes (anonymous message.Empty)) true)
-    ∷ Lands 0
-    ∷ Returns 0 (call.Feed true)
-    ∷ Returns 0 (call.Now 40)
-    ∷ Passes 10 []
-    ∷ Returns 0 (call.Write 512 (mail_bytes (anonymous message.Empty)) true)
-    ∷ Lands 0
-    ∷ Returns 0 (call.Feed true)
-    ∷ Returns 0 (call.Now 30)
-    ∷ Passes 10 []
-    ∷ Returns 0 (call.Write 1 (slot_bytes 1 (record { incarnation = 1; clean = false })) true)
-    ∷ Lands 0
-    ∷ Returns 0 (call.Feed true)
-    ∷ Returns 0 (call.Now 20)
-    ∷ Passes 10 []
-    ∷ Returns 0 (call.Read 1 (slot_bytes 1 (record { incarnation = 0; clean = true })) true)
-    ∷ Lands 0
-    ∷ Returns 0 (call.Feed true)
-    ∷ Returns 0 (call.Now 10)
-    ∷ Passes 10 []
-    ∷ Returns 0 (call.Read 0 (header_bytes 1 usual) true)
-    ∷ Lands 0
-    ∷ Looks 0 0
-    ∷ Begins 0 false None 7
+-- Each list stands newest first. A node boots: it reads its header and its slot, and claims an incarnation.
+abbrev claims : ℕ → List Happening
+claims me =
+    Returns me (call.Feed true)
+    ∷ Returns me (call.Now 0)
+    ∷ Returns me (call.Write (slot_place me) (slot_bytes (me + 1) (record { incarnation = 1; clean = false })) true)
+    ∷ Lands me
+    ∷ Returns me (call.Feed true)
+    ∷ Returns me (call.Now 0)
+    ∷ Returns me (call.Read (slot_place me) (slot_bytes (me + 1) (record { incarnation = 0; clean = true })) true)
+    ∷ Lands me
+    ∷ Returns me (call.Feed true)
+    ∷ Returns me (call.Now 0)
+    ∷ Returns me (call.Read 0 (header_bytes 2 short_times) true)
+    ∷ Lands me
+    ∷ Looks me 0
+    ∷ Begins me false None 20
     ∷ []
 
-all_may : AllMayHappen one_node usual new_image boot_and_start
-unfolding op_out ask_place ask_tick begins_clean slot_number claimed timing view install votes answer_at present_view view_tick is_released expected_votes device_yes phase holds stop_due may_stop told out_time slot_read_since reset_since least_from unmet mail_tick wanted_with_delay moment acts outs_at with_entry log_from header_bytes_in mail_bytes slot_bytes header_in mail_of slot_of failed ranks_that view_at after_tick choice_plan sends_plan disk_call done out_call outs_plan waits_after clocked greeted handled settled live_plan parted run_plan left_plan after_spot returned looked_first happens joint_after AllMayHappen
-all_may = (
-  record { on = refl; asked = refl; waits = refl; answer = refl; spells = refl },
+-- it clears its mailbox and reads it: it is up, and says hello
+abbrev comes_up : ℕ → ℕ → List Happening
+comes_up me other =
+    Returns me (call.Feed true)
+    ∷ Returns me (call.Now 0)
+    ∷ Returns me (call.Send (record { 0 = other }) (packet_bytes (packet.Hello (record { 0 = me }))) true)
+    ∷ Returns me (call.Read (mail_place me) (mail_bytes (anonymous message.Empty)) true)
+    ∷ Lands me
+    ∷ Returns me (call.Feed true)
+    ∷ Returns me (call.Now 0)
+    ∷ Returns me (call.Write (mail_place me) (mail_bytes (anonymous message.Empty)) true)
+    ∷ Lands me
+    ∷ []
+
+-- it hears of nobody for three loops, and sees itself alone
+abbrev is_alone : ℕ → ℕ → List Happening
+is_alone me other =
+    Feeds me
+    ∷ Returns me (call.Feed true)
+    ∷ Returns me (call.Now 3)
+    ∷ Returns me (call.Send (record { 0 = other }) (packet_bytes (packet.Announce (record { 0 = me }) (record { id = 1; members = record { 0 = 2 ^ me } }))) true)
+    ∷ Returns me (call.Send (record { 0 = other }) (packet_bytes (packet.Hello (record { 0 = me }))) true)
+    ∷ Returns me (call.Read (mail_place me) (mail_bytes (anonymous message.Empty)) true)
+    ∷ Lands me
+    ∷ Returns me (call.Now 3)
+    ∷ Returns me (call.Receive received.Nothing)
+    ∷ Passes 3 []
+    ∷ Returns me (call.Now 0)
+    ∷ Returns me (call.Receive received.Nothing)
+    ∷ []
+
+-- it reads the slot of the other node, which is clean, and starts
+abbrev starts : List Happening
+starts =
+    Returns 1 (call.Now 3)
+    ∷ Returns 1 (call.Read (slot_place 0) (slot_bytes 1 (record { incarnation = 0; clean = true })) true)
+    ∷ Lands 1
+    ∷ []
+
+abbrev start_alone : List Happening
+start_alone = starts ++ is_alone 1 0 ++ comes_up 1 0 ++ claims 1
+
+-- it reads the slot of the other node, which is dirty, and writes a reset
+abbrev fences : List Happening
+fences =
+    Returns 0 (call.Now 3)
+    ∷ Returns 0 (call.Write (mail_place 1) (mail_bytes (reset_by two_nodes 0 1)) true)
+    ∷ Lands 0
+    ∷ Returns 0 (call.Now 3)
+    ∷ Returns 0 (call.Read (slot_place 1) (slot_bytes 2 (record { incarnation = 1; clean = false })) true)
+    ∷ Lands 0
+    ∷ []
+
+-- it goes on feeding its watchdog, and starts once msgwait has passed
+abbrev waits : List Happening
+waits =
+    Returns 0 (call.Now 1113)
+    ∷ Returns 0 (call.Receive received.Nothing)
+    ∷ Passes 120 []
+    ∷ Feeds 0
+    ∷ Returns 0 (call.Feed true)
+    ∷ Returns 0 (call.Now 993)
+    ∷ Returns 0 (call.Send (record { 0 = 1 }) (packet_bytes (packet.Announce (record { 0 = 0 }) (record { id = 1; members = record { 0 = 2 ^ 0 } }))) true)
+    ∷ Returns 0 (call.Send (record { 0 = 1 }) (packet_bytes (packet.Hello (record { 0 = 0 }))) true)
+    ∷ Returns 0 (call.Read (mail_place 0) (mail_bytes (anonymous message.Empty)) true)
+    ∷ Lands 0
+    ∷ Returns 0 (call.Now 993)
+    ∷ Returns 0 (call.Receive received.Nothing)
+    ∷ Passes 990 []
+    ∷ []
+
+-- the machine of the second node ends, and the first node takes over
+abbrev take_over : List Happening
+take_over = waits ++ fences ++ is_alone 0 1 ++ comes_up 0 1 ++ claims 0 ++ Ends 1 ∷ []
+
+abbrev May : List Happening → Type 0
+May happenings = AllMayHappen two_nodes short_times new_image happenings
+
+claims_first : May (claims 1)
+unfolding op_out ask_place ask_tick begins_clean slot_number claimed timing view install votes answer_at present_view view_tick is_released expected_votes device_yes phase holds stop_due may_stop told out_time slot_read_since reset_since least_from unmet mail_tick wanted_with_delay moment acts outs_at with_entry log_from header_bytes_in mail_bytes slot_bytes header_in mail_of slot_of failed ranks_that view_at after_tick choice_plan sends_plan disk_call done out_call outs_plan waits_after clocked greeted handled settled live_plan parted run_plan left_plan after_spot returned looked_first happens joint_after AllMayHappen packet_bytes
+claims_first = (
+  record { on = refl; asked = refl; waits = refl; answer = tt; spells = refl },
   (
-    (only_first _ refl, refl),
+    record { on = refl; asked = refl; waits = refl; answer = refl; spells = refl },
     (
-      record { on = refl; asked = refl; waits = refl; answer = tt; spells = refl },
+      record { on = refl; asked = refl; waits = refl; answer = λ ok. refl; spells = refl },
       (
-        (refl, refl),
+        (refl, refl, refl),
         (
           record { on = refl; asked = refl; waits = refl; answer = tt; spells = refl },
           (
             record { on = refl; asked = refl; waits = refl; answer = refl; spells = refl },
             (
-              (only_first _ refl, refl),
+              record { on = refl; asked = refl; waits = refl; answer = λ ok. refl; spells = refl },
               (
-                record { on = refl; asked = refl; waits = refl; answer = λ ok. refl; spells = refl },
+                (refl, refl, refl),
                 (
-                  (refl, refl, refl),
+                  record { on = refl; asked = refl; waits = refl; answer = tt; spells = refl },
                   (
-                    record { on = refl; asked = refl; waits = refl; answer = tt; spells = refl },
+                    record { on = refl; asked = refl; waits = refl; answer = refl; spells = refl },
                     (
-                      record { on = refl; asked = refl; waits = refl; answer = refl; spells = refl },
+                      record { on = refl; asked = refl; waits = refl; answer = λ ok. refl; spells = refl },
                       (
-                        (only_first _ refl, refl),
+                        (refl, refl, refl),
                         (
-                          record { on = refl; asked = refl; waits = refl; answer = λ ok. refl; spells = refl },
+                          (refl, refl, refl),
                           (
-                            (refl, refl, refl),
-                            (
-                              record { on = refl; asked = refl; waits = refl; answer = tt; spells = refl },
-                              (
-                                record { on = refl; asked = refl; waits = refl; answer = refl; spells = refl },
-                                (
-                                  (only_first _ refl, refl),
-                                  (
-                                    record { on = refl; asked = refl; waits = refl; answer = λ ok. refl; spells = refl },
-                                    (
-                                      (refl, refl, refl),
-                                      (
-                                        record { on = refl; asked = refl; waits = refl; answer = tt; spells = refl },
-                                        (
-                                          record { on = refl; asked = refl; waits = refl; answer = refl; spells = refl },
-                                          (
-                                            (only_first _ refl, refl),
-                                            (
-                                              record { on = refl; asked = refl; waits = refl; answer = λ ok. refl; spells = refl },
-                                              (
-                                                (refl, refl, refl),
-                                                (
-                                                  record { on = refl; asked = refl; waits = refl; answer = tt; spells = refl },
-                                                  (
-                                                    record { on = refl; asked = refl; waits = refl; answer = refl; spells = refl },
-                                                    (
-                                                      (only_first _ refl, refl),
-                                                      (
-                                                        record { on = refl; asked = refl; waits = refl; answer = λ ok. refl; spells = refl },
-                                                        (
-                                                          (refl, refl, refl),
-                                                          (
-                                                            (refl, refl, refl),
-                                                            (
-                                                              (omega arith, omega arith, refl),
-                                                              tt,
-                                                            ),
-                                                          ),
-                                                        ),
-                                                      ),
-                                                    ),
-                                                  ),
-                                                ),
-                                              ),
-                                            ),
-                                          ),
-                                        ),
-                                      ),
-                                    ),
-                                  ),
-                                ),
-                              ),
-                            ),
+                            (omega arith, omega arith, refl),
+                            tt,
                           ),
                         ),
                       ),
@@ -185,25 +201,308 @@ all_may = (
   ),
 )
 
-starts : runs_at one_node new_image boot_and_start 0 ≡ true
-unfolding op_out ask_place ask_tick begins_clean slot_number claimed timing view install votes answer_at present_view view_tick is_released expected_votes device_yes phase holds stop_due may_stop told out_time slot_read_since reset_since least_from unmet mail_tick wanted_with_delay moment acts outs_at with_entry log_from header_bytes_in mail_bytes slot_bytes header_in mail_of slot_of failed ranks_that view_at after_tick choice_plan sends_plan disk_call done out_call outs_plan waits_after clocked greeted handled settled live_plan parted run_plan left_plan after_spot returned looked_first happens joint_after AllMayHappen
-starts = refl
+comes_up_first : May (comes_up 1 0 ++ claims 1)
+unfolding op_out ask_place ask_tick begins_clean slot_number claimed timing view install votes answer_at present_view view_tick is_released expected_votes device_yes phase holds stop_due may_stop told out_time slot_read_since reset_since least_from unmet mail_tick wanted_with_delay moment acts outs_at with_entry log_from header_bytes_in mail_bytes slot_bytes header_in mail_of slot_of failed ranks_that view_at after_tick choice_plan sends_plan disk_call done out_call outs_plan waits_after clocked greeted handled settled live_plan parted run_plan left_plan after_spot returned looked_first happens joint_after AllMayHappen packet_bytes
+comes_up_first = (
+  record { on = refl; asked = refl; waits = refl; answer = tt; spells = refl },
+  (
+    record { on = refl; asked = refl; waits = refl; answer = refl; spells = refl },
+    (
+      record { on = refl; asked = refl; waits = refl; answer = tt; spells = refl },
+      (
+        record { on = refl; asked = refl; waits = refl; answer = λ ok. refl; spells = refl },
+        (
+          (refl, refl, refl),
+          (
+            record { on = refl; asked = refl; waits = refl; answer = tt; spells = refl },
+            (
+              record { on = refl; asked = refl; waits = refl; answer = refl; spells = refl },
+              (
+                record { on = refl; asked = refl; waits = refl; answer = λ ok. refl; spells = refl },
+                (
+                  (refl, refl, refl),
+                  claims_first,
+                ),
+              ),
+            ),
+          ),
+        ),
+      ),
+    ),
+  ),
+)
 
-created : IsNewImage one_node usual new_image
-created = record { header = refl; slots = only_first _ refl; mails = only_first _ refl }
+alone_first : May (is_alone 1 0 ++ comes_up 1 0 ++ claims 1)
+unfolding op_out ask_place ask_tick begins_clean slot_number claimed timing view install votes answer_at present_view view_tick is_released expected_votes device_yes phase holds stop_due may_stop told out_time slot_read_since reset_since least_from unmet mail_tick wanted_with_delay moment acts outs_at with_entry log_from header_bytes_in mail_bytes slot_bytes header_in mail_of slot_of failed ranks_that view_at after_tick choice_plan sends_plan disk_call done out_call outs_plan waits_after clocked greeted handled settled live_plan parted run_plan left_plan after_spot returned looked_first happens joint_after AllMayHappen packet_bytes
+alone_first = (
+  (refl, refl),
+  (
+    record { on = refl; asked = refl; waits = refl; answer = tt; spells = refl },
+    (
+      record { on = refl; asked = refl; waits = refl; answer = refl; spells = refl },
+      (
+        record { on = refl; asked = refl; waits = refl; answer = tt; spells = refl },
+        (
+          record { on = refl; asked = refl; waits = refl; answer = tt; spells = refl },
+          (
+            record { on = refl; asked = refl; waits = refl; answer = λ ok. refl; spells = refl },
+            (
+              (refl, refl, refl),
+              (
+                record { on = refl; asked = refl; waits = refl; answer = refl; spells = refl },
+                (
+                  record { on = refl; asked = refl; waits = refl; answer = tt; spells = refl },
+                  (
+                    (of_two _ refl refl, refl),
+                    (
+                      record { on = refl; asked = refl; waits = refl; answer = refl; spells = refl },
+                      (
+                        record { on = refl; asked = refl; waits = refl; answer = tt; spells = refl },
+                        comes_up_first,
+                      ),
+                    ),
+                  ),
+                ),
+              ),
+            ),
+          ),
+        ),
+      ),
+    ),
+  ),
+)
 
-fits : FitsImage one_node usual
+start_may : May start_alone
+unfolding op_out ask_place ask_tick begins_clean slot_number claimed timing view install votes answer_at present_view view_tick is_released expected_votes device_yes phase holds stop_due may_stop told out_time slot_read_since reset_since least_from unmet mail_tick wanted_with_delay moment acts outs_at with_entry log_from header_bytes_in mail_bytes slot_bytes header_in mail_of slot_of failed ranks_that view_at after_tick choice_plan sends_plan disk_call done out_call outs_plan waits_after clocked greeted handled settled live_plan parted run_plan left_plan after_spot returned looked_first happens joint_after AllMayHappen packet_bytes
+start_may = (
+  record { on = refl; asked = refl; waits = refl; answer = refl; spells = refl },
+  (
+    record { on = refl; asked = refl; waits = refl; answer = λ ok. refl; spells = refl },
+    (
+      (refl, refl, refl),
+      alone_first,
+    ),
+  ),
+)
+
+claims_second : May (claims 0 ++ Ends 1 ∷ start_alone)
+unfolding op_out ask_place ask_tick begins_clean slot_number claimed timing view install votes answer_at present_view view_tick is_released expected_votes device_yes phase holds stop_due may_stop told out_time slot_read_since reset_since least_from unmet mail_tick wanted_with_delay moment acts outs_at with_entry log_from header_bytes_in mail_bytes slot_bytes header_in mail_of slot_of failed ranks_that view_at after_tick choice_plan sends_plan disk_call done out_call outs_plan waits_after clocked greeted handled settled live_plan parted run_plan left_plan after_spot returned looked_first happens joint_after AllMayHappen packet_bytes
+claims_second = (
+  record { on = refl; asked = refl; waits = refl; answer = tt; spells = refl },
+  (
+    record { on = refl; asked = refl; waits = refl; answer = refl; spells = refl },
+    (
+      record { on = refl; asked = refl; waits = refl; answer = λ ok. refl; spells = refl },
+      (
+        (refl, refl, refl),
+        (
+          record { on = refl; asked = refl; waits = refl; answer = tt; spells = refl },
+          (
+            record { on = refl; asked = refl; waits = refl; answer = refl; spells = refl },
+            (
+              record { on = refl; asked = refl; waits = refl; answer = λ ok. refl; spells = refl },
+              (
+                (refl, refl, refl),
+                (
+                  record { on = refl; asked = refl; waits = refl; answer = tt; spells = refl },
+                  (
+                    record { on = refl; asked = refl; waits = refl; answer = refl; spells = refl },
+                    (
+                      record { on = refl; asked = refl; waits = refl; answer = λ ok. refl; spells = refl },
+                      (
+                        (refl, refl, refl),
+                        (
+                          (refl, refl, refl),
+                          (
+                            (omega arith, omega arith, refl),
+                            (refl, start_may),
+                          ),
+                        ),
+                      ),
+                    ),
+                  ),
+                ),
+              ),
+            ),
+          ),
+        ),
+      ),
+    ),
+  ),
+)
+
+comes_up_second : May (comes_up 0 1 ++ claims 0 ++ Ends 1 ∷ start_alone)
+unfolding op_out ask_place ask_tick begins_clean slot_number claimed timing view install votes answer_at present_view view_tick is_released expected_votes device_yes phase holds stop_due may_stop told out_time slot_read_since reset_since least_from unmet mail_tick wanted_with_delay moment acts outs_at with_entry log_from header_bytes_in mail_bytes slot_bytes header_in mail_of slot_of failed ranks_that view_at after_tick choice_plan sends_plan disk_call done out_call outs_plan waits_after clocked greeted handled settled live_plan parted run_plan left_plan after_spot returned looked_first happens joint_after AllMayHappen packet_bytes
+comes_up_second = (
+  record { on = refl; asked = refl; waits = refl; answer = tt; spells = refl },
+  (
+    record { on = refl; asked = refl; waits = refl; answer = refl; spells = refl },
+    (
+      record { on = refl; asked = refl; waits = refl; answer = tt; spells = refl },
+      (
+        record { on = refl; asked = refl; waits = refl; answer = λ ok. refl; spells = refl },
+        (
+          (refl, refl, refl),
+          (
+            record { on = refl; asked = refl; waits = refl; answer = tt; spells = refl },
+            (
+              record { on = refl; asked = refl; waits = refl; answer = refl; spells = refl },
+              (
+                record { on = refl; asked = refl; waits = refl; answer = λ ok. refl; spells = refl },
+                (
+                  (refl, refl, refl),
+                  claims_second,
+                ),
+              ),
+            ),
+          ),
+        ),
+      ),
+    ),
+  ),
+)
+
+alone_second : May (is_alone 0 1 ++ comes_up 0 1 ++ claims 0 ++ Ends 1 ∷ start_alone)
+unfolding op_out ask_place ask_tick begins_clean slot_number claimed timing view install votes answer_at present_view view_tick is_released expected_votes device_yes phase holds stop_due may_stop told out_time slot_read_since reset_since least_from unmet mail_tick wanted_with_delay moment acts outs_at with_entry log_from header_bytes_in mail_bytes slot_bytes header_in mail_of slot_of failed ranks_that view_at after_tick choice_plan sends_plan disk_call done out_call outs_plan waits_after clocked greeted handled settled live_plan parted run_plan left_plan after_spot returned looked_first happens joint_after AllMayHappen packet_bytes
+alone_second = (
+  (refl, refl),
+  (
+    record { on = refl; asked = refl; waits = refl; answer = tt; spells = refl },
+    (
+      record { on = refl; asked = refl; waits = refl; answer = refl; spells = refl },
+      (
+        record { on = refl; asked = refl; waits = refl; answer = tt; spells = refl },
+        (
+          record { on = refl; asked = refl; waits = refl; answer = tt; spells = refl },
+          (
+            record { on = refl; asked = refl; waits = refl; answer = λ ok. refl; spells = refl },
+            (
+              (refl, refl, refl),
+              (
+                record { on = refl; asked = refl; waits = refl; answer = refl; spells = refl },
+                (
+                  record { on = refl; asked = refl; waits = refl; answer = tt; spells = refl },
+                  (
+                    (of_two _ refl refl, refl),
+                    (
+                      record { on = refl; asked = refl; waits = refl; answer = refl; spells = refl },
+                      (
+                        record { on = refl; asked = refl; waits = refl; answer = tt; spells = refl },
+                        comes_up_second,
+                      ),
+                    ),
+                  ),
+                ),
+              ),
+            ),
+          ),
+        ),
+      ),
+    ),
+  ),
+)
+
+fences_second : May (fences ++ is_alone 0 1 ++ comes_up 0 1 ++ claims 0 ++ Ends 1 ∷ start_alone)
+unfolding op_out ask_place ask_tick begins_clean slot_number claimed timing view install votes answer_at present_view view_tick is_released expected_votes device_yes phase holds stop_due may_stop told out_time slot_read_since reset_since least_from unmet mail_tick wanted_with_delay moment acts outs_at with_entry log_from header_bytes_in mail_bytes slot_bytes header_in mail_of slot_of failed ranks_that view_at after_tick choice_plan sends_plan disk_call done out_call outs_plan waits_after clocked greeted handled settled live_plan parted run_plan left_plan after_spot returned looked_first happens joint_after AllMayHappen packet_bytes
+fences_second = (
+  record { on = refl; asked = refl; waits = refl; answer = refl; spells = refl },
+  (
+    record { on = refl; asked = refl; waits = refl; answer = λ ok. refl; spells = refl },
+    (
+      (refl, refl, refl),
+      (
+        record { on = refl; asked = refl; waits = refl; answer = refl; spells = refl },
+        (
+          record { on = refl; asked = refl; waits = refl; answer = λ ok. refl; spells = refl },
+          (
+            (refl, refl, refl),
+            alone_second,
+          ),
+        ),
+      ),
+    ),
+  ),
+)
+
+take_over_may : May (take_over ++ start_alone)
+unfolding op_out ask_place ask_tick begins_clean slot_number claimed timing view install votes answer_at present_view view_tick is_released expected_votes device_yes phase holds stop_due may_stop told out_time slot_read_since reset_since least_from unmet mail_tick wanted_with_delay moment acts outs_at with_entry log_from header_bytes_in mail_bytes slot_bytes header_in mail_of slot_of failed ranks_that view_at after_tick choice_plan sends_plan disk_call done out_call outs_plan waits_after clocked greeted handled settled live_plan parted run_plan left_plan after_spot returned looked_first happens joint_after AllMayHappen packet_bytes
+take_over_may = (
+  record { on = refl; asked = refl; waits = refl; answer = refl; spells = refl },
+  (
+    record { on = refl; asked = refl; waits = refl; answer = tt; spells = refl },
+    (
+      (of_two _ refl refl, refl),
+      (
+        (refl, refl),
+        (
+          record { on = refl; asked = refl; waits = refl; answer = tt; spells = refl },
+          (
+            record { on = refl; asked = refl; waits = refl; answer = refl; spells = refl },
+            (
+              record { on = refl; asked = refl; waits = refl; answer = tt; spells = refl },
+              (
+                record { on = refl; asked = refl; waits = refl; answer = tt; spells = refl },
+                (
+                  record { on = refl; asked = refl; waits = refl; answer = λ ok. refl; spells = refl },
+                  (
+                    (refl, refl, refl),
+                    (
+                      record { on = refl; asked = refl; waits = refl; answer = refl; spells = refl },
+                      (
+                        record { on = refl; asked = refl; waits = refl; answer = tt; spells = refl },
+                        (
+                          (of_two _ refl refl, refl),
+                          fences_second,
+                        ),
+                      ),
+                    ),
+                  ),
+                ),
+              ),
+            ),
+          ),
+        ),
+      ),
+    ),
+  ),
+)
+
+first_runs : runs_at two_nodes new_image start_alone 1 ≡ true
+unfolding op_out ask_place ask_tick begins_clean slot_number claimed timing view install votes answer_at present_view view_tick is_released expected_votes device_yes phase holds stop_due may_stop told out_time slot_read_since reset_since least_from unmet mail_tick wanted_with_delay moment acts outs_at with_entry log_from header_bytes_in mail_bytes slot_bytes header_in mail_of slot_of failed ranks_that view_at after_tick choice_plan sends_plan disk_call done out_call outs_plan waits_after clocked greeted handled settled live_plan parted run_plan left_plan after_spot returned looked_first happens joint_after AllMayHappen packet_bytes
+first_runs = refl
+
+second_runs : runs_at two_nodes new_image (take_over ++ start_alone) 0 ≡ true
+unfolding op_out ask_place ask_tick begins_clean slot_number claimed timing view install votes answer_at present_view view_tick is_released expected_votes device_yes phase holds stop_due may_stop told out_time slot_read_since reset_since least_from unmet mail_tick wanted_with_delay moment acts outs_at with_entry log_from header_bytes_in mail_bytes slot_bytes header_in mail_of slot_of failed ranks_that view_at after_tick choice_plan sends_plan disk_call done out_call outs_plan waits_after clocked greeted handled settled live_plan parted run_plan left_plan after_spot returned looked_first happens joint_after AllMayHappen packet_bytes
+second_runs = refl
+
+reset_stands : is_deadly_mail ((joint_after two_nodes new_image (take_over ++ start_alone)).image (mail_place 1)) ≡ true
+unfolding op_out ask_place ask_tick begins_clean slot_number claimed timing view install votes answer_at present_view view_tick is_released expected_votes device_yes phase holds stop_due may_stop told out_time slot_read_since reset_since least_from unmet mail_tick wanted_with_delay moment acts outs_at with_entry log_from header_bytes_in mail_bytes slot_bytes header_in mail_of slot_of failed ranks_that view_at after_tick choice_plan sends_plan disk_call done out_call outs_plan waits_after clocked greeted handled settled live_plan parted run_plan left_plan after_spot returned looked_first happens joint_after AllMayHappen packet_bytes
+reset_stands = refl
+
+created : IsNewImage two_nodes short_times new_image
+created = record { header = refl; slots = of_two _ refl refl; mails = of_two _ refl refl }
+
+fits : FitsImage two_nodes short_times
 fits =
-    record { some = omega arith; few = omega arith; times = refl; ids = only_first _ (omega arith, omega arith) }
+    record { some = omega arith; few = omega arith; times = refl; ids = of_two _ (omega arith, omega arith) (omega arith, omega arith) }
 
-pub one_runs : OneRuns
-one_runs =
+one_is_not_zero : ¬ (◌≡◌ {A = ℕ} 1 0)
+one_is_not_zero e = absurd (omega arith)
+
+pub one_after_another : OneAfterAnother
+one_after_another =
     record {
-      settings = one_node;
-      timing = usual;
+      settings = two_nodes;
+      timing = short_times;
       image = new_image;
-      happenings = boot_and_start;
-      rank = 0;
-      joined = record { fits = fits; created = created; may = all_may };
-      runs = starts;
+      earlier = start_alone;
+      later = take_over;
+      first = 1;
+      second = 0;
+      safe = refl;
+      joined = record { fits = fits; created = created; may = take_over_may };
+      first_runs = first_runs;
+      second_runs = second_runs;
+      reset = reset_stands;
+      differ = one_is_not_zero;
     }

@@ -9,6 +9,7 @@ use Rattle.qn_model.specs.declared.outputs.DiskOp.TheVariants as disk
 use Rattle.qn_model.specs.declared.mailbox.Mail.{Mail}
 use Rattle.qn_model.specs.declared.packets.Packet.{Packet}
 use Rattle.qn_model.specs.Sectors.{IsSender, mail_bytes, mail_place, slot_place}
+use Rattle.qn_model.specs.Timing.{is_safe}
 use Rattle.qn_model.specs.World.{World, taken}
 use Rattle.qn_sector.specs.Reading.{mail_of}
 use Rattle.qn_wire.specs.Packets.{is_well_formed, packet_bytes}
@@ -16,7 +17,7 @@ use Rattle.qn_wire.specs.Reading.{packet_of}
 use Rattle.qn_live.specs.Performing.{done}
 use Rattle.qn_live.specs.Running.{Ran}
 use Rattle.qn_live.specs.Runs.{live_plan}
-use Rattle.qn_joined.specs.Joints.{AllMayHappen, FitsImage, Happening, Host, IsJoined, calls_of, joint_after, runs_at}
+use Rattle.qn_joined.specs.Joints.{AllMayHappen, FitsImage, Happening, Host, IsJoined, calls_of, is_deadly_mail, joint_after, runs_at}
 use Rattle.qn_joined.specs.Owning.{Owns}
 use Rattle.qn_joined.specs.Stands.{plan_at}
 use Rattle.qn_joined.specs.WorldOf.{IsImage}
@@ -78,15 +79,22 @@ AlwaysOwns s t =
     → AllMayHappen s t image happenings
     → HostOwns ((joint_after s image happenings).hosts rank)
 
--- the premises are met: a joint in which a resource runs
-pub record OneRuns : Type 0 where
+-- the premises are met: a joined run in which the resources of two nodes run, one after the other, and a deadly message stands
+-- in the mailbox of the first
+pub record OneAfterAnother : Type 0 where
   pub settings : Settings
   pub timing : Timing
   pub image : ℕ → List ℕ
-  pub happenings : List Happening
-  pub rank : ℕ
-  pub joined : IsJoined settings timing image happenings
-  pub runs : runs_at settings image happenings rank ≡ true
+  pub earlier : List Happening
+  pub later : List Happening
+  pub first : ℕ
+  pub second : ℕ
+  pub safe : is_safe timing ≡ true
+  pub joined : IsJoined settings timing image (later ++ earlier)
+  pub first_runs : runs_at settings image earlier first ≡ true
+  pub second_runs : runs_at settings image (later ++ earlier) second ≡ true
+  pub reset : is_deadly_mail ((joint_after settings image (later ++ earlier)).image (mail_place first)) ≡ true
+  pub differ : ¬ (first ≡ second)
 
 -- what is put is read back: a packet whose numbers fit their bytes, and a mailbox
 abbrev pub PacketsReadBack : Type 0

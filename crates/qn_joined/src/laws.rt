@@ -4,7 +4,7 @@ ghost use Rattle.qn_base.specs.declared.calls.Call.{Call};
 ghost use Rattle.qn_base.specs.Plans.{left};
 ghost use Rattle.qn_model.specs.declared.configuration.Settings.{Settings};
 ghost use Rattle.qn_model.specs.declared.times.Timing.{Timing};
-ghost use Rattle.qn_joined.specs.Theorem.{AlwaysOwns, AtMostOneRuns, MailsReadBack, OneRuns, PacketsReadBack, RunsAreRuns, TakesAlike};
+ghost use Rattle.qn_joined.specs.Theorem.{AlwaysOwns, AtMostOneRuns, MailsReadBack, OneAfterAnother, PacketsReadBack, RunsAreRuns, TakesAlike};
 ghost use Rattle.qn_joined.specs.WorldOf.{EveryJointHasAWorld};
 ghost use Rattle.qn_joined.specs.Moves.{BeginsAsNode, BootsInWorld, EndsInWorld, FeedsInWorld, LooksInWorld};
 ghost use Rattle.qn_joined.specs.Nodes.{LooksAsNode, ReturnsAsNode};
@@ -82,9 +82,10 @@ pub fn law_owned()
     ensures { (s : Settings) (t : Timing) → AlwaysOwns s t }
 {}
 
-/// The premises are met: there is a joint in which a resource runs.
+/// The premises are met: there is a joined run with safe times in which the resources of two nodes run, one after the other, and a
+/// deadly message stands in the mailbox of the first.
 pub fn law_joints_are_met()
-    ensures { OneRuns }
+    ensures { OneAfterAnother }
 {}
 
 /// Law: a call that returns, and that is no look at the clock, leaves a running node the node of the world that it was.

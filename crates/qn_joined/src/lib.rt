@@ -7,8 +7,8 @@
 //! `law_feeds_in_world`, `law_ends_in_world`). It rests on what holds of the logs of a world (`qn_safety::law_node_logs`). Beside
 //! it: a run that stands between two calls as a value (`law_stands`), the calls of each process are the beginning of a run of its node
 //! (`law_processes`), a resource that runs is held by the log of its node (`law_owned`), and what the bytes of a sector give a node
-//! is what its operation takes in the world (`law_takes_alike`). The rules of what may happen are met by a node that boots and
-//! starts its resource (`law_joints_are_met`).
+//! is what its operation takes in the world (`law_takes_alike`). The rules of what may happen are met by a run in which a
+//! node boots and starts its resource, and another one resets it and takes over (`law_joints_are_met`).
 #![tactic(auto)]
 
 mod laws;
