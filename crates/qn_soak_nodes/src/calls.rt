@@ -1,0 +1,308 @@
+//! The calls of the processes: each takes its time, lands on the disk, may fail, and returns with its answer.
+use crate::disk::{Sector, mailbox_of};
+use crate::fault::Fault;
+use crate::host::{Operation, Step, UnderWay};
+use crate::network::Flight;
+use crate::process::Reply;
+use crate::simulation::Simulation;
+use qn_base::Rank;
+use qn_live::{Asked, LiveEnd};
+use qn_model::Event;
+
+/// How late a feed may be: the outside refuses one that was decided longer ago, by the clock of its host, in milliseconds.
+const LATEST_FEED: u64 = 500;
+
+impl Simulation {
+    /// The process of a host makes its next call, or its run is over.
+    pub(crate) fn ask(&mut self, place: usize) -> Result<(), Fault> {
+        match self.next_of(place) {
+            Some(Ok(asked)) => self.begin_call(place, asked),
+            Some(Err(end)) => self.end_run(place, end),
+            None => Ok(()),
+        }
+    }
+
+    fn next_of(&self, place: usize) -> Option<Result<Asked, LiveEnd>> {
+        let process = self.hosts.get(place)?.process.as_ref()?;
+        Some(process.next())
+    }
+
+    fn begin_call(&mut self, place: usize, asked: Asked) -> Result<(), Fault> {
+        let call = self.call_of(place, asked);
+        let Some(host) = self.hosts.get_mut(place) else {
+            return Ok(());
+        };
+        if matches!(asked, Asked::Start) {
+            self.counts.starts = self.counts.starts.saturating_add(1);
+            host.resource = host.resource || !call.fails;
+        }
+        host.call = Some(call);
+        Ok(())
+    }
+
+    /// How a call goes.
+    fn call_of(&mut self, place: usize, asked: Asked) -> UnderWay {
+        let call = UnderWay {
+            asked,
+            step: Step::Return,
+            at: self.time,
+            began: self.time,
+            returns_after: 0,
+            fails: false,
+            lands: true,
+            landed: false,
+            waits: false,
+        };
+        match asked {
+            Asked::Receive => self.wait_for_packet(place, call),
+            Asked::Read { .. } | Asked::Write { .. } => self.disk_call(place, call),
+            Asked::Start | Asked::Stop => UnderWay {
+                at: self.time.saturating_add(self.draw.between(0, 300)),
+                fails: self.draw.chance(self.rates.agent_faults),
+                ..call
+            },
+            Asked::Now | Asked::Feed | Asked::Send { .. } | Asked::Disarm | Asked::Halt { .. } => {
+                call
+            }
+        }
+    }
+
+    /// A packet is there, or one is waited for, for 50 milliseconds at most.
+    fn wait_for_packet(&mut self, place: usize, call: UnderWay) -> UnderWay {
+        let is_there = match self.hosts.get(place) {
+            Some(host) => !host.inbox.is_empty(),
+            None => false,
+        };
+        if is_there {
+            return call;
+        }
+        UnderWay {
+            at: self.time.saturating_add(self.draw.between(40, 50)),
+            waits: true,
+            ..call
+        }
+    }
+
+    /// An operation of the disk: it lands, and returns after that; one that fails lands in three cases of ten.
+    fn disk_call(&mut self, place: usize, call: UnderWay) -> UnderWay {
+        let (is_slow, is_broken) = match self.hosts.get(place) {
+            Some(host) => (self.time < host.slow_until, self.time < host.fails_until),
+            None => (false, false),
+        };
+        let most = if is_slow { 3000 } else { 3 };
+        let is_broken = is_broken && self.draw.chance(700);
+        let fails = is_broken || self.draw.chance(self.rates.disk_faults);
+        UnderWay {
+            step: Step::Land,
+            at: self.time.saturating_add(self.draw.between(0, most)),
+            returns_after: self.draw.between(0, most),
+            fails,
+            lands: !fails || self.draw.chance(300),
+            ..call
+        }
+    }
+
+    /// The call that is under way at a host lands, or returns and is answered.
+    pub(crate) fn proceed(&mut self, place: usize) -> Result<(), Fault> {
+        let time = self.time;
+        let Some(host) = self.hosts.get_mut(place) else {
+            return Ok(());
+        };
+        let paused_until = host.paused_until;
+        let Some(call) = host.call.as_mut() else {
+            return Ok(());
+        };
+        if call.step == Step::Land {
+            return self.land(place);
+        }
+        if time < paused_until {
+            call.waits = false;
+            call.at = paused_until;
+            return Ok(());
+        }
+        let call = *call;
+        self.give_back(place, &call)
+    }
+
+    /// The operation of the disk that is under way lands, or does not.
+    fn land(&mut self, place: usize) -> Result<(), Fault> {
+        let time = self.time;
+        let Some(host) = self.hosts.get_mut(place) else {
+            return Ok(());
+        };
+        let rank = host.rank;
+        let Some(call) = host.call.as_mut() else {
+            return Ok(());
+        };
+        call.step = Step::Return;
+        call.at = time.saturating_add(call.returns_after);
+        if !call.lands {
+            return Ok(());
+        }
+        call.landed = true;
+        match call.asked {
+            Asked::Read { sector } => self.land_read(place, rank, sector),
+            Asked::Write { sector } => self.land_write(place, rank, sector),
+            _ => Ok(()),
+        }
+    }
+
+    /// A read takes what stands in its sector. A damaged mailbox tells no more than a read that failed.
+    fn land_read(&mut self, place: usize, rank: Rank, sector: u32) -> Result<(), Fault> {
+        let bytes = self.disk.read(sector);
+        if let Some(host) = self.hosts.get_mut(place) {
+            host.taken = bytes;
+        }
+        if self.disk.is_damaged_mailbox(sector) {
+            return Ok(());
+        }
+        self.beside.tell(&Event::Land(rank))
+    }
+
+    fn land_write(&mut self, place: usize, rank: Rank, sector: u32) -> Result<(), Fault> {
+        if let Some(bytes) = self.bytes_to_write(place) {
+            self.disk.write(sector, &bytes);
+        }
+        if sector != mailbox_of(rank) {
+            self.note_write(rank, sector);
+        }
+        self.beside.tell(&Event::Land(rank))
+    }
+
+    fn bytes_to_write(&self, place: usize) -> Option<Sector> {
+        let process = self.hosts.get(place)?.process.as_ref()?;
+        Some(*process.sector())
+    }
+
+    /// A call returns: it takes effect, is answered, and the next one begins.
+    fn give_back(&mut self, place: usize, call: &UnderWay) -> Result<(), Fault> {
+        let reply = self.effect(place, call)?;
+        let Some(host) = self.hosts.get_mut(place) else {
+            return Ok(());
+        };
+        let taken = host.taken;
+        let Some(process) = host.process.as_mut() else {
+            return Ok(());
+        };
+        self.logs.add(place, call.asked, &reply, &taken, process)?;
+        process.answer(&reply, &taken);
+        if matches!(call.asked, Asked::Now) {
+            self.take_turn(place)?;
+        }
+        self.ask(place)
+    }
+
+    /// What a call does as it returns, and its answer.
+    fn effect(&mut self, place: usize, call: &UnderWay) -> Result<Reply, Fault> {
+        let ok = !call.fails;
+        match call.asked {
+            Asked::Receive => Ok(self.take_packet(place)),
+            Asked::Now => Ok(self.look_at_clock(place)),
+            Asked::Read { .. } => {
+                self.note_operation(place, ok, None);
+                Ok(Reply::done(ok))
+            }
+            Asked::Write { sector } => {
+                let bytes = self.bytes_to_write(place);
+                let write = if ok || call.landed { None } else { bytes };
+                self.note_operation(place, ok, write.map(|bytes| (sector, bytes)));
+                Ok(Reply::done(ok))
+            }
+            Asked::Feed => self.feed(place),
+            Asked::Start => Ok(Reply::done(ok)),
+            Asked::Stop => Ok(self.stop(place, ok)),
+            Asked::Send { to } => {
+                self.send(place, to)?;
+                Ok(Reply::done(true))
+            }
+            Asked::Disarm => Ok(self.disarm(place)),
+            Asked::Halt { .. } => Ok(Reply::done(true)),
+        }
+    }
+
+    fn take_packet(&mut self, place: usize) -> Reply {
+        let Some(host) = self.hosts.get_mut(place) else {
+            return Reply::done(true);
+        };
+        host.heard = None;
+        if host.inbox.is_empty() {
+            return Reply::done(true);
+        }
+        let flight = host.inbox.remove(0);
+        host.heard = flight.number;
+        Reply {
+            packet: Some(flight),
+            ..Reply::done(true)
+        }
+    }
+
+    fn look_at_clock(&mut self, place: usize) -> Reply {
+        let time = self.time;
+        let Some(host) = self.hosts.get_mut(place) else {
+            return Reply::done(true);
+        };
+        host.tick = host.clock.tick(time);
+        Reply {
+            tick: host.tick,
+            ..Reply::done(true)
+        }
+    }
+
+    /// Notes how an operation of the disk ended.
+    fn note_operation(&mut self, place: usize, ok: bool, write: Option<(u32, Sector)>) {
+        if let Some(host) = self.hosts.get_mut(place) {
+            host.operation = Operation { failed: !ok, write };
+        }
+    }
+
+    /// The watchdog is fed, but for a feed that was decided too long ago.
+    fn feed(&mut self, place: usize) -> Result<Reply, Fault> {
+        let time = self.time;
+        let Some(host) = self.hosts.get_mut(place) else {
+            return Ok(Reply::done(false));
+        };
+        if host.clock.tick(time) > host.tick.saturating_add(LATEST_FEED) {
+            return Ok(Reply::done(false));
+        }
+        host.watchdog.fed = time;
+        let rank = host.rank;
+        self.beside.tell(&Event::Feed(rank))?;
+        Ok(Reply::done(true))
+    }
+
+    fn stop(&mut self, place: usize, ok: bool) -> Reply {
+        if let Some(host) = self.hosts.get_mut(place) {
+            host.resource = host.resource && !ok;
+        }
+        Reply::done(ok)
+    }
+
+    fn disarm(&mut self, place: usize) -> Reply {
+        if let Some(host) = self.hosts.get_mut(place) {
+            host.watchdog.armed = false;
+        }
+        Reply::done(true)
+    }
+
+    /// A packet reached its host: it waits there, where a process runs and there is room.
+    pub(crate) fn receive(&mut self, flight: Flight) -> Result<(), Fault> {
+        let time = self.time;
+        if let (Some(from), true) = (flight.from, flight.hello) {
+            self.network.note_hello(from, flight.to, true);
+        }
+        let Some(host) = self.hosts.get_mut(usize::from(flight.to.0)) else {
+            return Ok(());
+        };
+        if host.process.is_none() || host.inbox.len() >= crate::host::INBOX {
+            return Ok(());
+        }
+        host.inbox.push(flight).map_err(|_| Fault::NoMemory)?;
+        if let Some(call) = host.call.as_mut() {
+            if call.waits {
+                call.waits = false;
+                call.at = time;
+            }
+        }
+        Ok(())
+    }
+}

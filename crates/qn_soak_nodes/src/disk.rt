@@ -1,0 +1,172 @@
+//! The disk that the hosts share: its image, sectors that are damaged, and writes that are left over.
+use qn_base::Rank;
+use qn_io::SECTOR;
+use qn_model::{Mail, Message, Settings, Slot, Timing};
+use qn_sector::{get_mail, get_slot, mail_sector, put_header, put_mail, put_slot, slot_sector};
+use std::alloc::{AllocError, Global};
+
+/// The bytes of a sector.
+pub type Sector = [u8; SECTOR];
+
+/// The sectors that nodes use: the header, the slots and the mailboxes.
+const USED: usize = 544;
+
+/// The first mailbox.
+const MAILBOXES: u32 = 512;
+
+/// The sector of the slot of a rank.
+pub fn slot_of(rank: Rank) -> u32 {
+    slot_sector(Rank(rank.0.min(31)))
+}
+
+/// The sector of the mailbox of a rank.
+pub fn mailbox_of(rank: Rank) -> u32 {
+    mail_sector(Rank(rank.0.min(31)))
+}
+
+/// A write that did not land when its call was over.
+#[derive(Clone, Copy)]
+pub struct Leftover {
+    /// When it lands.
+    pub at: u64,
+    pub sector: u32,
+    pub bytes: Sector,
+}
+
+/// A sector that is damaged, and what it held.
+#[derive(Clone, Copy)]
+pub struct Damage {
+    pub sector: u32,
+    pub held: Sector,
+}
+
+/// The disk that the hosts share.
+#[derive(Drop)]
+pub struct Disk {
+    image: Vec<Sector>,
+    /// The sectors that are damaged.
+    pub damages: Vec<Damage>,
+}
+
+impl Disk {
+    /// A disk with a new image of these settings and times.
+    pub fn new(alloc: Global, settings: &Settings, timing: &Timing) -> Result<Disk, AllocError> {
+        let mut image = Vec::new(alloc);
+        for _ in 0..USED {
+            image.push([0; SECTOR])?;
+        }
+        let mut disk = Disk {
+            image,
+            damages: Vec::new(alloc),
+        };
+        disk.create(settings, timing);
+        Ok(disk)
+    }
+
+    /// Writes the header, and a clean slot and an empty mailbox for each node.
+    fn create(&mut self, settings: &Settings, timing: &Timing) {
+        let mut bytes = [0; SECTOR];
+        let nodes = settings.nodes.as_slice();
+        if nodes.is_empty() || !timing.has_periods() {
+            return;
+        }
+        put_header(nodes.len() as u32, timing, &mut bytes);
+        self.write(0, &bytes);
+        for (rank, node) in nodes.iter().enumerate() {
+            let rank = Rank(rank.min(31) as u8);
+            let clean = Slot {
+                incarnation: 0,
+                clean: true,
+            };
+            if node.id.0 > 0 {
+                put_slot(node.id, &clean, &mut bytes);
+                self.write(slot_of(rank), &bytes);
+            }
+            put_mail(&Mail::anonymous(Message::Empty), &mut bytes);
+            self.write(mailbox_of(rank), &bytes);
+        }
+    }
+
+    /// What stands in a sector; zeros beyond those that nodes use.
+    pub fn read(&self, sector: u32) -> Sector {
+        match self.image.get(sector as usize) {
+            Some(bytes) => *bytes,
+            None => [0; SECTOR],
+        }
+    }
+
+    /// Puts these bytes into a sector.
+    pub fn write(&mut self, sector: u32, bytes: &Sector) {
+        if let Some(place) = self.image.get_mut(sector as usize) {
+            *place = *bytes;
+        }
+    }
+
+    /// The message in the mailbox of a rank; Empty where it is damaged.
+    pub fn message(&self, rank: Rank) -> Message {
+        match get_mail(&self.read(mailbox_of(rank))) {
+            Some(mail) => mail.message,
+            None => Message::Empty,
+        }
+    }
+
+    /// Puts a message of an operator into the mailbox of a rank.
+    pub fn put_message(&mut self, rank: Rank, message: Message) {
+        let mut bytes = [0; SECTOR];
+        put_mail(&Mail::anonymous(message), &mut bytes);
+        self.write(mailbox_of(rank), &bytes);
+    }
+
+    /// Whether the slot of a rank is claimed, and not marked as clean.
+    pub fn is_dirty(&self, rank: Rank) -> bool {
+        match get_slot(&self.read(slot_of(rank))) {
+            Some((_, slot)) => !slot.clean,
+            None => false,
+        }
+    }
+
+    /// Whether a sector is a mailbox that is damaged.
+    pub fn is_damaged_mailbox(&self, sector: u32) -> bool {
+        sector >= MAILBOXES && get_mail(&self.read(sector)).is_none()
+    }
+
+    /// Damages a sector, and keeps what it held.
+    pub fn damage(&mut self, sector: u32) -> Result<(), AllocError> {
+        let held = self.read(sector);
+        self.damages
+            .push(Damage { sector, held })
+            .map_err(|_| AllocError)?;
+        self.write(sector, &[0; SECTOR]);
+        Ok(())
+    }
+
+    /// Restores the slot and the mailbox of a rank, where they are damaged still.
+    pub fn repair(&mut self, rank: Rank) {
+        let mut place = 0usize;
+        for _ in 0..self.damages.len() {
+            let Some(damage) = self.damages.get(place).copied() else {
+                return;
+            };
+            if damage.sector != slot_of(rank) && damage.sector != mailbox_of(rank) {
+                place = place.saturating_add(1);
+                continue;
+            }
+            if self.read(damage.sector) == [0; SECTOR] {
+                self.write(damage.sector, &damage.held);
+            }
+            if place < self.damages.len() {
+                let _ = self.damages.swap_remove(place);
+            }
+        }
+    }
+}
+
+/// Whose mailbox a sector is.
+pub fn mailbox_owner(sector: u32) -> Option<Rank> {
+    let place = sector.checked_sub(MAILBOXES)?;
+    if place < 32 {
+        Some(Rank(place as u8))
+    } else {
+        None
+    }
+}

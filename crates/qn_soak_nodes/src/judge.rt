@@ -1,0 +1,239 @@
+//! Judges a run by who hears whom, who is well and who holds: a majority that is well without a holder for too long, and resets of nodes
+//! that were seen all the time, or again within three loops. The bound and the words stand in docs/LIVE.md.
+use crate::clock::NEVER;
+use crate::fault::Fault;
+use qn_base::{Mask, Rank};
+use qn_model::Timing;
+use std::alloc::{AllocError, Global};
+
+/// After so many loops and msgwait a majority that is well has a holder.
+const LOOPS: u64 = 8;
+
+/// A node that is seen again within so many loops is not to be reset.
+const SEEN_AGAIN: u64 = 3;
+
+/// For so many loops after its end a silence can be the reason of a reset.
+const LATELY: u64 = 8;
+
+/// The most nodes.
+const NODES: usize = 32;
+
+/// Who is well, and whom each node hears, at a moment.
+#[derive(Clone, Copy)]
+pub struct Scene {
+    pub well: Mask,
+    pub heard: [Mask; NODES],
+}
+
+/// The last time for which a node could not hear another one.
+#[derive(Clone, Copy)]
+struct Silence {
+    begin: u64,
+    /// NEVER while it goes on.
+    end: u64,
+    /// When the one asked for a reset of the other in it; else NEVER.
+    reset_at: u64,
+}
+
+/// What is known of a run so far.
+#[derive(Drop)]
+pub struct Judge {
+    loop_ms: u64,
+    /// How long a majority that is well may be without a holder.
+    bound: u64,
+    /// How many nodes are a majority, whatever a device says.
+    enough: u32,
+    /// Whether the service is judged: not where packets are lost at any time.
+    judges_service: bool,
+    scene: Scene,
+    /// By ranks of the hearer and of the other.
+    silences: Vec<Silence>,
+    /// The majority that is well, and since when there is one without a holder.
+    majority: Option<Mask>,
+    since: u64,
+    /// For how long a majority that was well had no holder at most.
+    longest: u64,
+}
+
+impl Judge {
+    /// Nothing was heard so far.
+    pub fn new(
+        alloc: Global,
+        timing: &Timing,
+        enough: u32,
+        delay: u64,
+        judges_service: bool,
+    ) -> Result<Judge, AllocError> {
+        let mut silences = Vec::new(alloc);
+        for _ in 0..NODES * NODES {
+            silences.push(Silence {
+                begin: 0,
+                end: NEVER,
+                reset_at: NEVER,
+            })?;
+        }
+        let loops = timing.loop_ms.saturating_mul(LOOPS);
+        let bound = timing.msgwait.saturating_add(loops).saturating_add(delay);
+        Ok(Judge {
+            loop_ms: timing.loop_ms,
+            bound: bound.saturating_mul(100) / 99,
+            enough,
+            judges_service,
+            scene: Scene {
+                well: Mask(0),
+                heard: [Mask(0); NODES],
+            },
+            silences,
+            majority: None,
+            since: 0,
+            longest: 0,
+        })
+    }
+
+    /// The longest time for which a majority that was well had no holder, in thousandths of the bound.
+    pub fn longest(&self) -> u64 {
+        self.longest.saturating_mul(1000) / self.bound.max(1)
+    }
+
+    /// Notes the scene of a moment.
+    pub fn look(&mut self, scene: &Scene, time: u64) -> Result<(), Fault> {
+        for hearer in 0..NODES {
+            self.look_at(hearer, scene, time)?;
+        }
+        let majority = if self.judges_service {
+            self.majority_of(scene)
+        } else {
+            None
+        };
+        if majority != self.majority {
+            self.majority = majority;
+            self.since = time;
+        }
+        self.scene = *scene;
+        Ok(())
+    }
+
+    /// Notes whom a node hears now, and did not before, or no longer.
+    fn look_at(&mut self, hearer: usize, scene: &Scene, time: u64) -> Result<(), Fault> {
+        let (Some(before), Some(now)) = (self.scene.heard.get(hearer), scene.heard.get(hearer))
+        else {
+            return Ok(());
+        };
+        let (before, now) = (*before, *now);
+        if before == now {
+            return Ok(());
+        }
+        for other in 0..NODES {
+            let rank = rank_of(other);
+            if before.has(rank) && !now.has(rank) {
+                self.fall_silent(hearer, other, time);
+            } else if now.has(rank) && !before.has(rank) {
+                self.hear_again(hearer, other, time)?;
+            }
+        }
+        Ok(())
+    }
+
+    /// A silence begins; soon after the last one it is the same, since no Hello may have come in between.
+    fn fall_silent(&mut self, hearer: usize, other: usize, time: u64) {
+        let loop_ms = self.loop_ms;
+        if let Some(silence) = self.silences.get_mut(place_of(hearer, other)) {
+            if silence.end == NEVER || time.saturating_sub(silence.end) > loop_ms {
+                silence.begin = time;
+            }
+            silence.end = NEVER;
+        }
+    }
+
+    /// A silence ends: a reset that was asked for in it is at fault, where it was short.
+    fn hear_again(&mut self, hearer: usize, other: usize, time: u64) -> Result<(), Fault> {
+        let loop_ms = self.loop_ms;
+        let Some(silence) = self.silences.get_mut(place_of(hearer, other)) else {
+            return Ok(());
+        };
+        silence.end = time;
+        let was_reset = silence.reset_at != NEVER;
+        silence.reset_at = NEVER;
+        if was_reset && is_short(silence.begin, time, loop_ms) {
+            return Err(Fault::NeedlessReset {
+                by: rank_of(hearer),
+                of: rank_of(other),
+            });
+        }
+        Ok(())
+    }
+
+    /// A node asks for a reset of another one, which is healthy and was in a view of it since it booted.
+    pub fn judge_reset(&mut self, by: Rank, of: Rank, time: u64) -> Result<(), Fault> {
+        let loop_ms = self.loop_ms;
+        let place = place_of(usize::from(by.0), usize::from(of.0));
+        let Some(silence) = self.silences.get_mut(place) else {
+            return Ok(());
+        };
+        if silence.end == NEVER {
+            silence.reset_at = time;
+            return Ok(());
+        }
+        let since = time.saturating_sub(silence.end);
+        let is_late = since > loop_ms.saturating_mul(LATELY);
+        if is_late || is_short(silence.begin, silence.end, loop_ms) {
+            return Err(Fault::NeedlessReset { by, of });
+        }
+        Ok(())
+    }
+
+    /// Judges the service at a moment at which these nodes hold.
+    pub fn judge_service(&mut self, holders: Mask, time: u64) -> Result<(), Fault> {
+        if holders.0 != 0 || self.majority.is_none() {
+            self.since = time;
+            return Ok(());
+        }
+        let waited = time.saturating_sub(self.since);
+        self.longest = self.longest.max(waited);
+        if waited > self.bound {
+            return Err(Fault::NoService { since: self.since });
+        }
+        Ok(())
+    }
+
+    /// The nodes that are well and hear one another, and nobody else, where they are enough.
+    fn majority_of(&self, scene: &Scene) -> Option<Mask> {
+        for (place, heard) in scene.heard.iter().enumerate() {
+            let group = heard.with(rank_of(place));
+            if group.0.count_ones() >= self.enough && is_closed(group, scene) {
+                return Some(group);
+            }
+        }
+        None
+    }
+}
+
+/// Whether all of a group are well, and each hears the others and nobody else.
+fn is_closed(group: Mask, scene: &Scene) -> bool {
+    if group.without(scene.well).0 != 0 {
+        return false;
+    }
+    for (place, heard) in scene.heard.iter().enumerate() {
+        let rank = rank_of(place);
+        if group.has(rank) && heard.with(rank) != group {
+            return false;
+        }
+    }
+    true
+}
+
+/// Whether a silence was within three loops by each clock that runs as fast as it may.
+fn is_short(begin: u64, end: u64, loop_ms: u64) -> bool {
+    let silent = end.saturating_sub(begin);
+    silent.saturating_mul(101) < loop_ms.saturating_mul(100 * SEEN_AGAIN)
+}
+
+/// The place of the silence between two hosts.
+fn place_of(hearer: usize, other: usize) -> usize {
+    hearer.min(NODES - 1) * NODES + other.min(NODES - 1)
+}
+
+/// The rank of that number.
+pub fn rank_of(place: usize) -> Rank {
+    Rank(place.min(NODES - 1) as u8)
+}

@@ -1,0 +1,69 @@
+//! A cluster of nodes that run, many at a time, over one outside in memory and in virtual time, beside a world that is told each event.
+//!
+//!     qn_soak_nodes SEED COUNT NODES SECONDS KIND DELAY [line|schedule|logs [FROM BEFORE]]
+//!
+//! COUNT runs of the seeds from SEED on, each of so many nodes for so many virtual seconds, with this fence delay in milliseconds, disturbed as its
+//! KIND says (`kind.rt`). It writes a line for each run; with `schedule` also the settings and what the world was told, for `quorumd replay`; with
+//! `logs` the calls of the last process of each node, for `quorumd audit`. Only the disturbances from the number FROM on and before BEFORE
+//! are made. The status is 1 where a run is at fault, and 2 for other words.
+//!
+//! A run is at fault where the world refuses an event or gives other outputs for an entry, where the resource runs at two hosts or at one whose
+//! node does not hold, where nodes with a majority are well and none holds for longer than docs/LIVE.md says, and where a node resets another one that it
+//! saw all the time or again within three loops.
+//!
+//! Promises: it is safe and it ends. What it is run on, and what it must write, stand beside it.
+#![tactic(auto)]
+
+mod beside;
+mod calls;
+mod clock;
+mod counts;
+mod disk;
+mod disturbances;
+mod draw;
+mod fault;
+mod host;
+mod judge;
+mod kind;
+mod logs;
+mod machines;
+mod network;
+mod packets;
+mod process;
+mod runs;
+mod simulation;
+mod turns;
+mod words;
+
+use runs::run_all;
+use std::process::ExitCode;
+use std::{env, io};
+use words::Words;
+
+/// The status for other words.
+const USAGE: u8 = 2;
+
+fn main(rt: HostRuntime) -> ExitCode {
+    match answer(&rt) {
+        Ok(status) => ExitCode::from(status),
+        Err(_) => ExitCode::from(1),
+    }
+}
+
+/// Makes the runs that the words say, and gives the status.
+fn answer(rt: &HostRuntime) -> io::Result<u8> {
+    let mut words = env::args(rt)?;
+    let _program = words.next();
+    let Ok(words) = words.collect::<Vec<String>>(rt.alloc()) else {
+        return Ok(1);
+    };
+    match Words::read(words.as_slice()) {
+        Some(words) => run_all(rt, &words),
+        None => {
+            println!(rt;
+                "usage: qn_soak_nodes SEED COUNT NODES SECONDS KIND DELAY [line|schedule|logs [FROM BEFORE]]"
+            )?;
+            Ok(USAGE)
+        }
+    }
+}

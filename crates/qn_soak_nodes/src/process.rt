@@ -1,0 +1,158 @@
+//! The process of a node: a running node as it stands, and the call that it waits for.
+ghost use Rattle.std.specs.Prelude.{◌≡◌, ◌<◌, ⊥, length};
+ghost use Rattle.qn_io.specs.Receives.{FitsPacket};
+ghost use Rattle.qn_live.specs.Asking.{question_of, told, Tells};
+ghost use Rattle.qn_model.specs.Settings.{IsValid};
+
+use crate::disk::Sector;
+use crate::network::Flight;
+use qn_base::Rank;
+use qn_io::{Got, SECTOR};
+use qn_live::{Asked, Given, LiveEnd, NodeRun, Room};
+use qn_model::{Outs, Settings, What};
+use std::marker::Model;
+
+/// The most turns of a run.
+const TURNS: u64 = 1_000_000_000;
+
+/// What the outside answers to a call.
+#[derive(Clone, Copy)]
+pub struct Reply {
+    /// Whether it succeeded.
+    pub ok: bool,
+    /// What the clock shows, in milliseconds.
+    pub tick: u64,
+    /// The packet that came.
+    pub packet: Option<Flight>,
+}
+
+impl Reply {
+    /// A reply that gives nothing but whether the call succeeded.
+    pub fn done(ok: bool) -> Reply {
+        Reply {
+            ok,
+            tick: 0,
+            packet: None,
+        }
+    }
+}
+
+/// The process of a node.
+#[derive(Drop)]
+pub struct Process {
+    run: NodeRun,
+    room: Room,
+    next: Result<Asked, LiveEnd>,
+}
+
+impl Model for Process {
+    ghost use Rattle.std.specs.Prelude.{Result};
+    ghost use Rattle.qn_live.specs.declared.asked.Asked.{Asked};
+    ghost use Rattle.qn_live.specs.declared.live_end.LiveEnd.{LiveEnd};
+
+    ghost Value = { Result Asked LiveEnd };
+
+    ghost use Rattle.qn_soak_nodes.specs.Asking.{IsAsking};
+
+    ghost view = { λ p. p.next };
+
+    ghost invariant = { IsAsking };
+}
+
+impl Process {
+    /// The process of the node of that rank before its first call. `clean` says that its boot is a clean start, and `leave_at`
+    /// is the number of the turn from which on it is to leave.
+    pub fn new(settings: &Settings, me: Rank, clean: bool, leave_at: Option<u64>) -> Process
+        requires valid { IsValid settings.now }
+        requires configured { me.0 < length settings.now.nodes }
+    {
+        let run = NodeRun::new(settings.copy(), me, clean, leave_at, TURNS);
+        let mut room = Room::new();
+        let next = run.asks(&mut room);
+        Process { run, room, next }
+    }
+
+    /// The call that it waits for, or how its run ended.
+    pub fn next(&self) -> Result<Asked, LiveEnd>
+        ensures { result ≡ self.now }
+    {
+        self.next
+    }
+
+    /// The last entry of its node.
+    pub fn entry(&self) -> What {
+        self.run.entry()
+    }
+
+    /// The outputs of that entry.
+    pub fn outs(&self) -> &Outs {
+        self.run.outs()
+    }
+
+    /// The bytes of the sector that is to be written.
+    pub fn sector(&self) -> &Sector {
+        &self.room.sector
+    }
+
+    /// The bytes of the packet that is to be sent.
+    pub fn sent(&self) -> &[u8] {
+        self.room.sent.as_slice()
+    }
+
+    /// Answers the call that it waits for; `sector` are the bytes of a read that succeeded.
+    pub fn answer(&mut self, reply: &Reply, sector: &Sector) {
+        let Ok(asked) = self.next else {
+            return;
+        };
+        let given = given_for(asked, reply, sector, &mut self.room);
+        self.run.answer(given, &self.room);
+        self.next = self.run.asks(&mut self.room);
+    }
+}
+
+/// The answer of a call as a running node takes it, with its bytes put into the room.
+fn given_for(asked: Asked, reply: &Reply, sector: &[u8; SECTOR], room: &mut Room) -> Given
+    ensures within { FitsPacket result.got }
+    ensures tells { Tells (told asked room.old result room.new) result room.new }
+{
+    match asked {
+        Asked::Receive => Given {
+            tick: 0,
+            got: got_for(&reply.packet, room),
+            ok: true,
+        },
+        Asked::Now => Given {
+            tick: reply.tick,
+            got: Got::Nothing,
+            ok: true,
+        },
+        Asked::Read { .. } => {
+            if reply.ok {
+                room.sector = *sector;
+            }
+            Given::done(reply.ok)
+        }
+        Asked::Write { .. }
+        | Asked::Feed
+        | Asked::Start
+        | Asked::Stop
+        | Asked::Send { .. }
+        | Asked::Disarm => Given::done(reply.ok),
+        Asked::Halt { .. } => Given::done(true),
+    }
+}
+
+/// What a receive gives, with the bytes of the packet put into the room.
+fn got_for(packet: &Option<Flight>, room: &mut Room) -> Got
+    ensures within { FitsPacket result }
+    ensures came { (result ≡ Got.Failed) → ⊥ }
+    ensures sent { room.new.sent ≡ room.old.sent }
+{
+    let Some(flight) = packet else {
+        return Got::Nothing;
+    };
+    for (to, from) in room.packet.iter_mut().zip(flight.bytes.iter()) {
+        *to = *from;
+    }
+    Got::Packet(flight.length.min(flight.bytes.len()))
+}

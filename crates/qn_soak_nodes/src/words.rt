@@ -1,0 +1,90 @@
+//! The words of the command line.
+use crate::kind::Kind;
+use qn_base::read_decimal;
+
+/// What a run writes beside its line.
+#[derive(Clone, Copy, PartialEq, Eq)]
+pub enum Told {
+    /// Nothing more.
+    Line,
+    /// The settings, the times and the schedule, for `replay`.
+    Schedule,
+    /// The log of the last process of each node, for `audit`.
+    Logs,
+}
+
+/// The words of the command line.
+#[derive(Clone, Copy)]
+pub struct Words {
+    /// The first seed, and how many runs there are.
+    pub seed: u64,
+    pub count: u64,
+    /// How many nodes, and for how many virtual seconds they run.
+    pub nodes: u64,
+    pub seconds: u64,
+    pub kind: Kind,
+    /// The fence delay of each node, in milliseconds.
+    pub delay: u64,
+    pub told: Told,
+    /// The disturbances that are made: from that one on, and before that one, counted from 0.
+    pub from: u64,
+    pub before: u64,
+}
+
+impl Words {
+    /// `SEED COUNT NODES SECONDS KIND DELAY [line|schedule|logs [FROM BEFORE]]`; None where they are others.
+    pub fn read(words: &[String]) -> Option<Words> {
+        let (said, rest) = match words {
+            [seed, count, nodes, seconds, kind, delay, rest @ ..] => {
+                (
+                    Words {
+                        seed: number(seed, 0, u64::MAX)?,
+                        count: number(count, 1, 1_000_000_000)?,
+                        nodes: number(nodes, 1, 32)?,
+                        seconds: number(seconds, 1, 100_000)?,
+                        kind: Kind::named(kind.as_str())?,
+                        delay: number(delay, 0, 3_600_000)?,
+                        told: Told::Line,
+                        from: 0,
+                        before: u64::MAX,
+                    },
+                    rest,
+                )
+            }
+            _ => return None,
+        };
+        match rest {
+            [] => Some(said),
+            [told] => Some(Words {
+                told: told_of(told.as_str())?,
+                ..said
+            }),
+            [told, from, before] => Some(Words {
+                told: told_of(told.as_str())?,
+                from: number(from, 0, u64::MAX)?,
+                before: number(before, 0, u64::MAX)?,
+                ..said
+            }),
+            _ => None,
+        }
+    }
+}
+
+fn told_of(word: &str) -> Option<Told> {
+    match word {
+        "line" => Some(Told::Line),
+        "schedule" => Some(Told::Schedule),
+        "logs" => Some(Told::Logs),
+        _ => None,
+    }
+}
+
+/// The number of a word, from one to another.
+fn number(word: &String, low: u64, high: u64) -> Option<u64> {
+    let number = read_decimal(word.as_bytes())?;
+    if low <= number && number <= high {
+        Some(number)
+    } else {
+        None
+    }
+}
