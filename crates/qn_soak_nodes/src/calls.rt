@@ -12,6 +12,11 @@ use qn_model::Event;
 /// How late a feed may be: the outside refuses one that was decided longer ago, by the clock of its host, in milliseconds.
 const LATEST_FEED: u64 = 500;
 
+/// The longest that an operation of the disk takes to land, and then to return, in milliseconds, where it is quick and where it is slow.
+const QUICK: u64 = 3;
+
+const SLOW: u64 = 4000;
+
 impl Simulation {
     /// The process of a host makes its next call, or its run is over.
     pub(crate) fn ask(&mut self, place: usize) -> Result<(), Fault> {
@@ -89,7 +94,7 @@ impl Simulation {
             Some(host) => (self.time < host.slow_until, self.time < host.fails_until),
             None => (false, false),
         };
-        let most = if is_slow { 3000 } else { 3 };
+        let most = if is_slow { SLOW } else { QUICK };
         let is_broken = is_broken && self.draw.chance(700);
         let fails = is_broken || self.draw.chance(self.rates.disk_faults);
         UnderWay {

@@ -96,7 +96,12 @@ impl Disturber {
             1 => Cut::Sides(Mask((self.draw.below(1 << 32)) as u32)),
             _ => Cut::Link(self.host(count), self.host(count)),
         };
-        Disturbance::Cut(cut, self.draw.between(200, 12_000))
+        let longest = if self.draw.chance(300) {
+            60_000
+        } else {
+            12_000
+        };
+        Disturbance::Cut(cut, self.draw.between(200, longest))
     }
 
     fn message(&mut self, count: usize) -> Disturbance {

@@ -1,5 +1,5 @@
 //! The process of a node: a running node as it stands, and the call that it waits for.
-ghost use Rattle.std.specs.Prelude.{◌≡◌, ◌<◌, ⊥, length};
+ghost use Rattle.std.specs.Prelude.{◌≡◌, ◌<◌, length};
 ghost use Rattle.qn_io.specs.Receives.{FitsPacket};
 ghost use Rattle.qn_live.specs.Asking.{question_of, told, Tells};
 ghost use Rattle.qn_model.specs.Settings.{IsValid};

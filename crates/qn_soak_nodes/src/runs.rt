@@ -10,6 +10,9 @@ use qn_settings::settings_of_text;
 use std::alloc::{AllocError, Global};
 use std::io;
 
+/// The least msgwait that is safe beside the other usual times, in milliseconds.
+const LEAST_MSGWAIT: u64 = 8164;
+
 /// Makes the runs, and gives the status: 1 where one is at fault.
 pub fn run_all(rt: &HostRuntime, words: &Words) -> io::Result<u8> {
     let Ok(text) = settings_text(rt.alloc(), words) else {
@@ -26,7 +29,7 @@ pub fn run_all(rt: &HostRuntime, words: &Words) -> io::Result<u8> {
 
 /// Makes the run of a seed, and gives the status.
 fn run_one(rt: &HostRuntime, words: &Words, text: &str, seed: u64) -> io::Result<u8> {
-    let timing = Timing::usual();
+    let timing = times_of(seed);
     let Ok(settings) = settings_of_text(rt.alloc(), text.as_bytes()) else {
         println!(rt; "no settings")?;
         return Ok(1);
@@ -42,10 +45,23 @@ fn run_one(rt: &HostRuntime, words: &Words, text: &str, seed: u64) -> io::Result
     write_line(rt, words, seed, fault, &simulation.counts())?;
     match words.told {
         Told::Line => {}
-        Told::Schedule => write_schedule(rt, text, simulation.schedule())?,
+        Told::Schedule => write_schedule(rt, text, &timing, simulation.schedule())?,
         Told::Logs => write_logs(rt, simulation.logs().as_slice())?,
     }
     Ok(u8::from(fault.is_some()))
+}
+
+/// The times of the image: of an even seed the usual ones, of an odd one with the least msgwait that is safe beside them.
+fn times_of(seed: u64) -> Timing {
+    let usual = Timing::usual();
+    if seed % 2 == 0 {
+        usual
+    } else {
+        Timing {
+            msgwait: LEAST_MSGWAIT,
+            ..usual
+        }
+    }
 }
 
 /// `seed SEED ok|FAULT at TIME ..` and the counts.
@@ -96,8 +112,15 @@ fn id_of(rank: u8) -> u64 {
     u64::from(rank) + 1
 }
 
-fn write_schedule(rt: &HostRuntime, text: &str, schedule: &str) -> io::Result<()> {
-    print!(rt; "{text}----\ntiming 5000 10000 1000 2000 1000\n{schedule}")
+fn write_schedule(
+    rt: &HostRuntime,
+    text: &str,
+    times: &Timing,
+    schedule: &str,
+) -> io::Result<()> {
+    print!(rt; "{text}----\ntiming {} {} ", times.watchdog, times.msgwait)?;
+    println!(rt; "{} {} {}", times.loop_ms, times.read_limit, times.feed_delay)?;
+    print!(rt; "{schedule}")
 }
 
 /// Each log behind a line with the node and the words of its run.
