@@ -25,6 +25,8 @@ pub enum Kind {
     Restarts,
     /// Starts and stops of the resource fail.
     Agents,
+    /// Links are cut while disks are slow or fail.
+    Isolations,
     /// A quorum device votes.
     Device,
     /// All of it, milder.
@@ -87,6 +89,7 @@ impl Kind {
             "leaves" => Some(Kind::Leaves),
             "restarts" => Some(Kind::Restarts),
             "agents" => Some(Kind::Agents),
+            "isolations" => Some(Kind::Isolations),
             "device" => Some(Kind::Device),
             "mixed" => Some(Kind::Mixed),
             _ => None,
@@ -107,6 +110,7 @@ impl Kind {
             Kind::Leaves => "leaves",
             Kind::Restarts => "restarts",
             Kind::Agents => "agents",
+            Kind::Isolations => "isolations",
             Kind::Device => "device",
             Kind::Mixed => "mixed",
         }
@@ -149,8 +153,9 @@ impl Kind {
                 ..CALM
             },
             Kind::Leaves => Rates {
-                leaves: 800,
+                leaves: 700,
                 crashes: 5,
+                cuts: 30,
                 ..CALM
             },
             Kind::Restarts => Rates {
@@ -162,6 +167,11 @@ impl Kind {
                 agent_faults: 200,
                 leaves: 300,
                 cuts: 20,
+                ..CALM
+            },
+            Kind::Isolations => Rates {
+                cuts: 60,
+                disks: 120,
                 ..CALM
             },
             Kind::Device => Rates {
