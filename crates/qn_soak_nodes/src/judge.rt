@@ -33,6 +33,16 @@ struct Silence {
     end: u64,
     /// When the one asked for a reset of the other in it; else NEVER.
     reset_at: u64,
+    /// When the last silence of three loops or more ended; NEVER before the first one.
+    long_end: u64,
+}
+
+impl Silence {
+    /// Whether a silence of three loops or more ended so lately that it can be the reason of a reset at that time: who was left out of a
+    /// view for it may be silent again before the next view.
+    fn is_excused(&self, at: u64, loop_ms: u64) -> bool {
+        self.long_end != NEVER && at.saturating_sub(self.long_end) <= loop_ms.saturating_mul(LATELY)
+    }
 }
 
 /// What is known of a run so far.
@@ -70,6 +80,7 @@ impl Judge {
                 begin: 0,
                 end: NEVER,
                 reset_at: NEVER,
+                long_end: NEVER,
             })?;
         }
         let loops = timing.loop_ms.saturating_mul(LOOPS);
@@ -152,9 +163,11 @@ impl Judge {
             return Ok(());
         };
         silence.end = time;
-        let was_reset = silence.reset_at != NEVER;
+        let reset_at = silence.reset_at;
         silence.reset_at = NEVER;
-        if was_reset && is_short(silence.begin, time, loop_ms) {
+        if !is_short(silence.begin, time, loop_ms) {
+            silence.long_end = time;
+        } else if reset_at != NEVER && !silence.is_excused(reset_at, loop_ms) {
             return Err(Fault::NeedlessReset {
                 by: rank_of(hearer),
                 of: rank_of(other),
@@ -174,12 +187,11 @@ impl Judge {
             silence.reset_at = time;
             return Ok(());
         }
-        let since = time.saturating_sub(silence.end);
-        let is_late = since > loop_ms.saturating_mul(LATELY);
-        if is_late || is_short(silence.begin, silence.end, loop_ms) {
-            return Err(Fault::NeedlessReset { by, of });
+        if silence.is_excused(time, loop_ms) {
+            Ok(())
+        } else {
+            Err(Fault::NeedlessReset { by, of })
         }
-        Ok(())
     }
 
     /// Judges the service at a moment at which these nodes hold.
