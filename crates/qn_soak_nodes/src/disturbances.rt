@@ -120,7 +120,11 @@ impl Disturber {
     /// The disk is slow or fails, for one host or for all.
     fn disk(&mut self, count: usize) -> Disturbance {
         let one = Mask(0).with(self.host(count));
-        let hosts = if self.draw.chance(500) { one } else { Mask(u32::MAX) };
+        let hosts = if self.draw.chance(500) {
+            one
+        } else {
+            Mask(u32::MAX)
+        };
         if self.draw.chance(500) {
             Disturbance::Slow(hosts, self.draw.between(100, 5000))
         } else {

@@ -74,6 +74,24 @@ const CALM: Rates = Rates {
     agent_faults: 0,
 };
 
+/// Every kind.
+pub static KINDS: [Kind; 14] = [
+    Kind::Quiet,
+    Kind::Cuts,
+    Kind::Kills,
+    Kind::Pauses,
+    Kind::Disks,
+    Kind::Damages,
+    Kind::Operators,
+    Kind::Losses,
+    Kind::Leaves,
+    Kind::Restarts,
+    Kind::Agents,
+    Kind::Isolations,
+    Kind::Device,
+    Kind::Mixed,
+];
+
 impl Kind {
     /// The kind of that name.
     pub fn named(word: &str) -> Option<Kind> {

@@ -3,7 +3,7 @@
 //!     qn_soak_nodes SEED COUNT NODES SECONDS KIND DELAY [line|schedule|logs [FROM BEFORE]]
 //!
 //! COUNT runs of the seeds from SEED on, each of so many nodes for so many virtual seconds, with this fence delay in milliseconds, disturbed as its
-//! KIND says (`kind.rt`). It writes a line for each run; with `schedule` also the settings and what the world was told, for `quorumd replay`; with
+//! KIND says (`kind.rt`; `all` is each of them in turn). It writes a line for each run; with `schedule` also the settings and what the world was told, for `quorumd replay`; with
 //! `logs` the calls of the last process of each node, for `quorumd audit`. Only the disturbances from the number FROM on and before BEFORE
 //! are made. The status is 1 where a run is at fault, and 2 for other words.
 //!

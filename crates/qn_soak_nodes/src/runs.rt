@@ -1,7 +1,7 @@
 //! The runs that the words ask for, and what is written of each.
 use crate::counts::Counts;
 use crate::fault::Fault;
-use crate::kind::Kind;
+use crate::kind::{KINDS, Kind};
 use crate::logs::Log;
 use crate::simulation::Simulation;
 use crate::words::{Told, Words};
@@ -15,6 +15,22 @@ const LEAST_MSGWAIT: u64 = 8164;
 
 /// Makes the runs, and gives the status: 1 where one is at fault.
 pub fn run_all(rt: &HostRuntime, words: &Words) -> io::Result<u8> {
+    if !words.all {
+        return run_kind(rt, words);
+    }
+    let mut status = 0;
+    for kind in KINDS.iter() {
+        let words = Words {
+            kind: *kind,
+            ..*words
+        };
+        status = status.max(run_kind(rt, &words)?);
+    }
+    Ok(status)
+}
+
+/// Makes the runs of a kind.
+fn run_kind(rt: &HostRuntime, words: &Words) -> io::Result<u8> {
     let Ok(text) = settings_text(rt.alloc(), words) else {
         println!(rt; "no memory")?;
         return Ok(1);
@@ -112,14 +128,12 @@ fn id_of(rank: u8) -> u64 {
     u64::from(rank) + 1
 }
 
-fn write_schedule(
-    rt: &HostRuntime,
-    text: &str,
-    times: &Timing,
-    schedule: &str,
-) -> io::Result<()> {
+fn write_schedule(rt: &HostRuntime, text: &str, times: &Timing, schedule: &str) -> io::Result<()> {
     print!(rt; "{text}----\ntiming {} {} ", times.watchdog, times.msgwait)?;
-    println!(rt; "{} {} {}", times.loop_ms, times.read_limit, times.feed_delay)?;
+    println!(rt;
+        "{} {} {}",
+        times.loop_ms, times.read_limit, times.feed_delay
+    )?;
     print!(rt; "{schedule}")
 }
 

@@ -2,6 +2,9 @@
 use crate::kind::Kind;
 use qn_base::read_decimal;
 
+/// The word for runs of every kind.
+const ALL: &str = "all";
+
 /// What a run writes beside its line.
 #[derive(Clone, Copy, PartialEq, Eq)]
 pub enum Told {
@@ -23,6 +26,8 @@ pub struct Words {
     pub nodes: u64,
     pub seconds: u64,
     pub kind: Kind,
+    /// Whether there are runs of every kind, and not of that one alone.
+    pub all: bool,
     /// The fence delay of each node, in milliseconds.
     pub delay: u64,
     pub told: Told,
@@ -42,7 +47,8 @@ impl Words {
                         count: number(count, 1, 1_000_000_000)?,
                         nodes: number(nodes, 1, 32)?,
                         seconds: number(seconds, 1, 100_000)?,
-                        kind: Kind::named(kind.as_str())?,
+                        kind: kind_of(kind.as_str())?,
+                        all: kind.as_str() == ALL,
                         delay: number(delay, 0, 3_600_000)?,
                         told: Told::Line,
                         from: 0,
@@ -67,6 +73,15 @@ impl Words {
             }),
             _ => None,
         }
+    }
+}
+
+/// The kind of that name; the first of all.
+fn kind_of(word: &str) -> Option<Kind> {
+    if word == ALL {
+        Some(Kind::Quiet)
+    } else {
+        Kind::named(word)
     }
 }
 
