@@ -26,6 +26,16 @@ def soaker():
     return os.environ.get("SOAK_NODES", str(TOP / "crates" / "qn_soak_nodes" / "out" / "qn_soak_nodes"))
 
 
+def is_built():
+    """Builds the two programs, where they are not given."""
+    builds = []
+    if "QUORUMD" not in os.environ:
+        builds.append(["bash", "-c", '"$0/bin/quorumd" --build-only', str(TOP)])
+    if "SOAK_NODES" not in os.environ:
+        builds.append(["bash", "-c", 'top=$0; name=qn_soak_nodes; . "$top/bin/built.bash" --build-only', str(TOP)])
+    return all(subprocess.run(words, check=False).returncode == 0 for words in builds)
+
+
 def run_of(number):
     """The run of that number: every kind with each count of nodes and each delay, and then the next seed."""
     seed, place = divmod(number, len(KINDS) * len(NODES) * len(DELAYS))
