@@ -18,6 +18,7 @@ class Outage:
     def __init__(self):
         self.begin, self.end = None, None  # the end is None while it goes on
         self.reset_at = None  # when the one asked for a reset of the other in it
+        self.long_end = None  # when the last one of three loops or more ended
 
 
 class Judge:
@@ -91,7 +92,9 @@ class Judge:
     def note(self, outage, hears, now):
         if hears and outage.begin is not None and outage.end is None:
             outage.end = now
-            if outage.reset_at is not None and self.is_short(outage, now):
+            if not self.is_short(outage, now):
+                outage.long_end = now
+            elif outage.reset_at is not None and not self.is_excused(outage, outage.reset_at):
                 raise Failure("a reset at %d of a node that was not seen from %d to %d" % (outage.reset_at, outage.begin, now))
             outage.reset_at = None
         elif not hears and (outage.begin is None or outage.end is not None):
@@ -103,6 +106,11 @@ class Judge:
         """Within three loops by each clock that runs as fast as it may."""
         return 101 * (end - outage.begin) < 100 * SEEN_AGAIN * self.loop
 
+    def is_excused(self, outage, at):
+        """Whether an outage of three loops or more ended so lately that it can be the reason of a reset at that time: who was left out of a view
+        for it may be unheard again, for a short time, before the next view."""
+        return outage.long_end is not None and at - outage.long_end <= LATELY * self.loop
+
     def judge_reset(self, writer, victim):
         """A node that runs and is heard, or is so again within three loops, is not to be reset by one that had it in a view. A node that has
         just booted waits three loops for the others, and no longer."""
@@ -113,7 +121,7 @@ class Judge:
             raise Failure("node %d resets node %d, which it heard all the time" % (writer, victim))
         if outage.end is None:
             outage.reset_at = now
-        elif self.is_short(outage, outage.end) or now - outage.end > LATELY * self.loop:
+        elif not self.is_excused(outage, now):
             raise Failure("node %d resets node %d, which it did not hear from %d to %d" % (writer, victim, outage.begin, outage.end))
 
     # ---- service

@@ -3,13 +3,28 @@
 . "$TOP/tests/expect.sh"
 
 export QUORUMD
+export SOAK_NODES=$TOP/crates/qn_soak_nodes/out/qn_soak_nodes
+
+# soaker FILE WORD..: makes a program that says so of each run
+soaker() {
+    printf '#!/usr/bin/env bash\necho "seed $1 kind $5 nodes $3 %s at 5000 disturbances 0 turns 9 events 9 boots 3 starts 1 take-overs 0 resets 1 %s"\n%s\n' \
+        "$2" 'late-writes 0 idle 0 longest 0' "$3" > "$1"
+    chmod +x "$1"
+}
+
+if [ ! -x "$SOAK_NODES" ]; then
+    echo 'skipped: not built (rt ci qn_soak_nodes), to run clusters of running nodes'
+    soaker well ok 'exit 0'
+    SOAK_NODES=$PWD/well
+fi
+
 campaign() {
     "$TOP/bench/campaign" "$@"
 }
 
 campaign 1 > said 2> progress
 counts='[0-9]+ events, [0-9]+ boots, [0-9]+ crashes, [0-9]+ resets, [0-9]+ starts, [0-9]+ take-overs'
-grep -qE "^campaign from seed 1: [0-9]+ s: [1-9][0-9]* soaks of $counts; [1-9][0-9]* stories of $counts; most holders 1, longest without one [0-9]+ % of the bound, 0 failed\$" said
+grep -qE "^campaign from seed 1: [0-9]+ s: [1-9][0-9]* soaks of $counts; [1-9][0-9]* stories of $counts; [1-9][0-9]* clusters of running nodes of $counts; most holders 1, longest without one [0-9]+ % of the bound, 0 failed\$" said
 same "$(wc -l < said)" 1
 
 # the story of a seed is a story, and the same each time
@@ -30,10 +45,16 @@ judged() {
 }
 same "$(judged 'cut 1' 'run 20000')" well
 same "$(judged 'split 1 | 2 | 3' 'run 5000' 'heal' 'run 8000')" well
+# a short time unheard after a long one that can be the reason of the reset: at its end, in it, and too long after it; and none before it
+long=('cut 3' 'run 3200' 'heal')
+same "$(judged "${long[@]}" 'run 1500' 'cut 3' 'run 500' 'heal' 'run 200' 'message 3 clear' 'run 3000')" well
+same "$(judged "${long[@]}" 'run 1500' 'cut 3' 'run 200' 'message 3 clear' 'run 200' 'heal' 'run 3000')" well
+judged "${long[@]}" 'run 9000' 'cut 3' 'run 500' 'heal' 'run 200' 'message 3 clear' 'run 3000' | grep -q '^node 1 resets node 3, which it did not hear from'
+judged 'cut 3' 'run 200' 'message 3 clear' 'run 200' 'heal' 'run 3000' | grep -q '^a reset at [0-9]* of a node that was not seen from'
 judged 'message 3 clear' 'run 3000' | grep -qE '^node 1 resets node 3, which it did not hear from 0 to [0-9]+$'
 judged 'message 2 test' 'message 3 test' 'kill 1' 'run 40000' | grep -qE '^nodes 2,3 are well, and nobody holds from [0-9]+ to [0-9]+$'
 
-# programs at fault: a soak with two holders, and a replay that ends at the first event
+# programs at fault: a soak with two holders, a replay that ends at the first event, and a cluster in which a reset is needless
 cat > faulty <<'PROGRAM'
 #!/usr/bin/env bash
 case $1 in
@@ -43,11 +64,13 @@ replay*) exit 9 ;;
 esac
 PROGRAM
 chmod +x faulty
+soaker needless 'needless-reset 2 1' 'exit 1'
 status=0
-REAL=$QUORUMD QUORUMD=$PWD/faulty campaign 0 17 > said 2> progress || status=$?
+REAL=$QUORUMD QUORUMD=$PWD/faulty SOAK_NODES=$PWD/needless campaign 0 17 > said 2> progress || status=$?
 same "$status" 1
 grep -A 1 '^FAILED soak of seed 17: 2 nodes hold at once$' said | grep -q '^  bin/quorumd soak 17 200000$'
 grep -A 1 '^FAILED story of seed 17: quorumd replay[a-z0-9-]* ended with status 9$' said | grep -q '^  bench/campaign --story 17 | bin/story$'
+grep -A 1 '^FAILED nodes of seed 17: needless-reset 2 1$' said | grep -q '^  qn_soak_nodes 1 1 5 300 kills 0$'
 tail -n 1 said | grep -qE '^campaign from seed 17: .*, [1-9][0-9]* failed$'
 REAL=$QUORUMD QUORUMD=$PWD/faulty campaign --story 17 > story 2> errors
 grep -qE '^campaign: quorumd replay[a-z0-9-]* ended with status 9$' errors

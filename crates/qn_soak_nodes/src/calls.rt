@@ -1,5 +1,5 @@
 //! The calls of the processes: each takes its time, lands on the disk, may fail, and returns with its answer.
-use crate::disk::{Sector, mailbox_of};
+use crate::disk::{Write, mailbox_of};
 use crate::fault::Fault;
 use crate::host::{Operation, Step, UnderWay};
 use crate::network::Flight;
@@ -165,8 +165,8 @@ impl Simulation {
     }
 
     fn land_write(&mut self, place: usize, rank: Rank, sector: u32) -> Result<(), Fault> {
-        if let Some(bytes) = self.bytes_to_write(place) {
-            self.disk.write(sector, &bytes);
+        if let Some(write) = self.write_at(place, sector) {
+            self.disk.write(sector, &write.bytes);
         }
         if sector != mailbox_of(rank) {
             self.note_write(rank, sector);
@@ -174,9 +174,9 @@ impl Simulation {
         self.beside.tell(&Event::Land(rank))
     }
 
-    fn bytes_to_write(&self, place: usize) -> Option<Sector> {
-        let process = self.hosts.get(place)?.process.as_ref()?;
-        Some(*process.sector())
+    /// The write of the process of a host into that sector.
+    fn write_at(&self, place: usize, sector: u32) -> Option<Write> {
+        self.hosts.get(place)?.write_of(sector)
     }
 
     /// A call returns: it takes effect, is answered, and the next one begins.
@@ -208,9 +208,12 @@ impl Simulation {
                 Ok(Reply::done(ok))
             }
             Asked::Write { sector } => {
-                let bytes = self.bytes_to_write(place);
-                let write = if ok || call.landed { None } else { bytes };
-                self.note_operation(place, ok, write.map(|bytes| (sector, bytes)));
+                let write = if ok || call.landed {
+                    None
+                } else {
+                    self.write_at(place, sector)
+                };
+                self.note_operation(place, ok, write);
                 Ok(Reply::done(ok))
             }
             Asked::Feed => self.feed(place),
@@ -254,7 +257,7 @@ impl Simulation {
     }
 
     /// Notes how an operation of the disk ended.
-    fn note_operation(&mut self, place: usize, ok: bool, write: Option<(u32, Sector)>) {
+    fn note_operation(&mut self, place: usize, ok: bool, write: Option<Write>) {
         if let Some(host) = self.hosts.get_mut(place) {
             host.operation = Operation { failed: !ok, write };
         }

@@ -24,13 +24,19 @@ pub fn mailbox_of(rank: Rank) -> u32 {
     mail_sector(Rank(rank.0.min(31)))
 }
 
+/// The write of a sector.
+#[derive(Clone, Copy)]
+pub struct Write {
+    pub sector: u32,
+    pub bytes: Sector,
+}
+
 /// A write that did not land when its call was over.
 #[derive(Clone, Copy)]
 pub struct Leftover {
     /// When it lands.
     pub at: u64,
-    pub sector: u32,
-    pub bytes: Sector,
+    pub write: Write,
 }
 
 /// A sector that is damaged, and what it held.

@@ -1,6 +1,6 @@
 //! One host: its machine, the process of its node, the call that is under way, its resource.
 use crate::clock::{Clock, NEVER, Watchdog};
-use crate::disk::{Leftover, Sector};
+use crate::disk::{Leftover, Sector, Write};
 use crate::network::Flight;
 use crate::process::Process;
 use qn_base::{Mask, Rank, View};
@@ -44,7 +44,7 @@ pub struct UnderWay {
 #[derive(Clone, Copy)]
 pub struct Operation {
     pub failed: bool,
-    pub write: Option<(u32, Sector)>,
+    pub write: Option<Write>,
 }
 
 /// What is due at a host.
@@ -190,13 +190,19 @@ impl Host {
     }
 
     /// The write of the call that is under way, where it has not landed.
-    pub fn pending_write(&self) -> Option<(u32, Sector)> {
+    pub fn pending_write(&self) -> Option<Write> {
         let call = self.call?;
-        let process = self.process.as_ref()?;
         match call.asked {
-            Asked::Write { sector } if !call.landed => Some((sector, *process.sector())),
+            Asked::Write { sector } if !call.landed => self.write_of(sector),
             _ => None,
         }
+    }
+
+    /// The write of its process into that sector.
+    pub fn write_of(&self, sector: u32) -> Option<Write> {
+        let process = self.process.as_ref()?;
+        let bytes = *process.sector();
+        Some(Write { sector, bytes })
     }
 
     /// Whether its node sends and hears packets: it takes part, and nothing holds it up.

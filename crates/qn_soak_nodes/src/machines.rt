@@ -115,14 +115,7 @@ impl Simulation {
         }
         self.beside.tell(&Event::Crash(rank))?;
         match write {
-            Some((sector, bytes)) => self.leave_over(
-                place,
-                Leftover {
-                    at: lands,
-                    sector,
-                    bytes,
-                },
-            ),
+            Some(write) => self.leave_over(place, Leftover { at: lands, write }),
             None => Ok(()),
         }
     }
@@ -177,8 +170,8 @@ impl Simulation {
         };
         let rank = host.rank;
         self.counts.late_writes = self.counts.late_writes.saturating_add(1);
-        self.disk.write(left.sector, &left.bytes);
-        self.note_write(rank, left.sector);
+        self.disk.write(left.write.sector, &left.write.bytes);
+        self.note_write(rank, left.write.sector);
         let number = (number as u64).saturating_add(1);
         self.beside.tell(&Event::Late(rank, number))
     }

@@ -41,7 +41,7 @@ impl Simulation {
             return Ok(());
         };
         match host.operation.write {
-            Some((sector, bytes)) => self.leave_over(place, Leftover { at, sector, bytes }),
+            Some(write) => self.leave_over(place, Leftover { at, write }),
             None => Ok(()),
         }
     }
