@@ -80,6 +80,13 @@ impl Beside {
         self.schedule.push_str("\n").map_err(|_| Fault::NoMemory)
     }
 
+    /// The settings of the world.
+    pub fn settings(&self) -> &Settings
+        ensures valid { IsValid result.now }
+    {
+        self.world.settings()
+    }
+
     /// What the node of the last event did in the world.
     pub fn outs(&self) -> &Outs {
         &self.report.outs

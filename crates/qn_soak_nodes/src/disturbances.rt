@@ -93,7 +93,7 @@ impl Disturber {
     fn cut(&mut self, count: usize) -> Disturbance {
         let cut = match self.draw.below(3) {
             0 => Cut::All,
-            1 => Cut::Sides(Mask((self.draw.below(1 << 32)) as u32)),
+            1 => Cut::Sides(self.draw.members()),
             _ => Cut::Link(self.host(count), self.host(count)),
         };
         let longest = if self.draw.chance(300) {

@@ -1,4 +1,5 @@
 //! Numbers drawn from a seed.
+use qn_base::Mask;
 use rand_core::{Rng, SeedableRng};
 use rand_xoshiro::Xoshiro256PlusPlus;
 
@@ -33,6 +34,11 @@ impl Draw {
     pub fn below(&mut self, count: u64) -> u64 {
         let word = self.words.next_u64();
         if count == 0 { 0 } else { word % count }
+    }
+
+    /// Each rank or not.
+    pub fn members(&mut self) -> Mask {
+        Mask((self.words.next_u64() % (1 << 32)) as u32)
     }
 
     /// A number from `low` to `high`.

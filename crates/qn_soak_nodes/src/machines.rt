@@ -64,8 +64,9 @@ impl Simulation {
         host.heard = None;
         host.doomed = false;
         host.viewed = Mask(0);
-        if usize::from(rank.0) < self.settings.nodes.len() {
-            host.process = Some(Process::new(&self.settings, rank, clean, leave_at));
+        let settings = self.beside.settings();
+        if usize::from(rank.0) < settings.nodes.len() {
+            host.process = Some(Process::new(settings, rank, clean, leave_at));
         }
         self.disk.repair(rank);
         self.logs.begin(place, clean, leave_at);

@@ -25,13 +25,15 @@ const MOST_STEPS: u64 = 1_000_000_000;
 
 const MOST_CALLS: u64 = 1000;
 
+/// The most clocks that a pass of time names.
+const MOST_CLOCKS: usize = 32;
+
 /// The longest that packets are on their way, in milliseconds, of those that are not late.
 pub const FLIGHT: u64 = 3;
 
 /// A cluster of running nodes.
 #[derive(Drop)]
 pub struct Simulation {
-    pub(crate) settings: Settings,
     pub(crate) timing: Timing,
     pub(crate) words: Words,
     pub(crate) rates: Rates,
@@ -77,7 +79,6 @@ impl Simulation {
         let logs = Logs::new(alloc, settings.nodes.len(), words.told == Told::Logs)?;
         let hosts = hosts_of(alloc, settings.nodes.len(), &mut draw)?;
         Ok(Simulation {
-            settings,
             timing,
             words,
             rates,
@@ -144,9 +145,7 @@ impl Simulation {
         let mut clocks = Clocks::new();
         let mut runs = false;
         for host in self.hosts.iter() {
-            if host.node_on && !clocks.is_full() {
-                clocks.push((host.rank, host.clock.advance(self.time, at)));
-            }
+            add_clock(&mut clocks, host, self.time, at);
             runs = runs || host.on && host.resource;
         }
         if !runs {
@@ -273,6 +272,14 @@ impl Simulation {
     /// The log of the last process of each node, where they are kept.
     pub fn logs(&self) -> &Logs {
         &self.logs
+    }
+}
+
+/// Adds the clock of a host from one true time to a later one, where its node is on.
+fn add_clock(clocks: &mut Clocks, host: &Host, from: u64, to: u64) {
+    let advance = host.clock.advance(from, to);
+    if host.node_on && clocks.len() < MOST_CLOCKS {
+        clocks.push((host.rank, advance));
     }
 }
 
