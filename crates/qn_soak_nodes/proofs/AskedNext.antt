@@ -1,5 +1,5 @@
 -- What a running node asks next is what the plan that is left of its run asks.
-use Rattle.std.proofs.Common.{◌≡◌, Result, Ok, Err, Some, refl, sym, ap, ◌∙◌}
+use Rattle.std.proofs.Common.{◌≡◌, Result, Ok, Err, Some, refl, ap}
 use Rattle.std.specs.Prelude.{IfOk, IfErr}
 use Rattle.qn_base.specs.Calls.{blank}
 use Rattle.qn_base.specs.Plans.{Plan, question}
