@@ -8,7 +8,7 @@ blocks = re.findall(r"(?ms)^```console\n(.*?)^```$", text)
 ran = 0
 for block in blocks:
     for command, wanted in re.findall(r"(?m)^\$ (.*)\n((?:[^$\n].*\n)*)", block):
-        said = subprocess.run(command.replace("bin/quorumd", "quorumd"), shell=True, stdout=subprocess.PIPE, text=True).stdout
+        said = subprocess.run(command.replace("bin/quorumd", "quorumd"), shell=True, stdout=subprocess.PIPE, stderr=subprocess.STDOUT, text=True).stdout
         ran += 1
         if said != wanted:
             sys.exit("%s: wanted %s, got %s" % (command, wanted, said))

@@ -3,7 +3,7 @@
 # this repository at once.
 . "$TOP/tests/expect.sh"
 
-commands='commands count replay status soak create dump list message node migrate replay3 node3 replay-arbiter node-logged audit help'
+commands=$("$QUORUMD" help)
 here=$PWD
 mkdir -p first/bin first/release first/crates/quorumd/src first/crates/quorumctl/src kit
 cp "$TOP"/bin/{quorumd,quorumctl,built.bash} first/bin
