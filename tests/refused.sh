@@ -6,12 +6,16 @@
 before_each() { :; }
 after_refusal() { :; }
 
+# where the C library is: the system's loader then maps no list of all libraries, which would take more room than the program where there are many
+library=$(ldd "$QUORUMD" | awk '$1 == "libc.so.6" { print $3 }')
+library=${library%/*}
+
 # limited WORD..: runs the program with these words under the limit; each of its allocations has pages of its own
 limited() {
     before_each
     [ "$limit" -lt 65536 ] || wrong "$@"
     status=0
-    (ulimit -v "$limit" && GLIBC_TUNABLES=glibc.malloc.mmap_threshold=1 exec "$QUORUMD" "$@") \
+    (ulimit -v "$limit" && LD_LIBRARY_PATH=$library GLIBC_TUNABLES=glibc.malloc.mmap_threshold=1 exec "$QUORUMD" "$@") \
         < "$input" > got 2> errors || status=$?
 }
 
