@@ -208,6 +208,12 @@ owner() {
     [ -n "$who" ] && [ $((now / 1000 - when)) -lt 1000 ] && echo "$who"
 }
 owns() { [ "$(owner)" = "$1" ]; }
+
+# holding: the machine that signed last, and for which holding of its boot
+holding() {
+    local who number
+    read -r _ who _ number _ < <(grep ' sign ' "$room/events" | tail -n 1) && echo "$who $number"
+}
 nobody_owns() { ! owner; }
 another_owns() { local who; who=$(owner) && [ "$who" != "$1" ]; }
 

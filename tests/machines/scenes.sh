@@ -42,13 +42,13 @@ by_message() {
     ! did 1 watchdog || { echo 'its watchdog reset it'; return 1; }
 }
 
-# goes_on SECONDS: machine 1 holds for so long, and nobody is reset
+# goes_on SECONDS: machine 1 holds for so long and does not stop in between: its signs are of the same holding. Nobody is reset
 goes_on() {
-    local last=$((SECONDS + $1))
-    while [ $SECONDS -lt $last ]; do
-        owns 1 || { echo "machine 1 does not hold: $(owner)"; return 1; }
-        sleep 0.2
-    done
+    local before
+    before=$(holding)
+    sleep "$1"
+    until_true 5 owns 1 || return 1
+    [ "$(holding)" = "$before" ] || { echo "machine 1 held anew: $before, $(holding)"; return 1; }
     resets_are 0 0 0
 }
 
