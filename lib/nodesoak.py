@@ -13,7 +13,7 @@ KINDS = ("quiet", "cuts", "kills", "pauses", "disks", "damages", "operators", "l
 NODES = (3, 2, 5)
 DELAYS = (0, 3000)
 SECONDS = 300
-COUNTS = ("turns", "events", "disturbances", "boots", "starts", "take-overs", "resets")
+COUNTS = ("turns", "events", "disturbances", "boots", "starts", "take-overs", "resets", "hurried")
 COMPARED_EACH = 50  # of so many runs one is compared with `replay` and `audit`, and lasts COMPARED_SECONDS
 COMPARED_SECONDS = 100
 

@@ -7,7 +7,7 @@ export SOAK_NODES=$TOP/crates/qn_soak_nodes/out/qn_soak_nodes
 
 # soaker FILE WORD..: makes a program that says so of each run
 soaker() {
-    printf '#!/usr/bin/env bash\necho "seed $1 kind $5 nodes $3 %s at 5000 disturbances 0 turns 9 events 9 boots 3 starts 1 take-overs 0 resets 1 %s"\n%s\n' \
+    printf '#!/usr/bin/env bash\necho "seed $1 kind $5 nodes $3 %s at 5000 disturbances 0 turns 9 events 9 boots 3 starts 1 take-overs 0 resets 1 hurried 0 %s"\n%s\n' \
         "$2" 'late-writes 0 idle 0 longest 0' "$3" > "$1"
     chmod +x "$1"
 }

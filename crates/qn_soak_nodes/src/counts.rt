@@ -10,6 +10,8 @@ pub struct Counts {
     pub starts: u64,
     pub take_overs: u64,
     pub resets: u64,
+    /// Of the resets those of a node that was silent for less than three loops, and left out of a view once a change had lasted three.
+    pub hurried: u64,
     pub late_writes: u64,
     /// For how many milliseconds no resource ran.
     pub idle: u64,
@@ -30,6 +32,7 @@ impl Counts {
             starts: 0,
             take_overs: 0,
             resets: 0,
+            hurried: 0,
             late_writes: 0,
             idle: 0,
             longest: 0,

@@ -1,7 +1,9 @@
 //! Judges a run by who hears whom, who is well and who holds: a majority that is well without a holder for too long, and resets of nodes
-//! that were seen all the time, or again within three loops. The bound and the words stand in docs/LIVE.md.
+//! that were seen all the time, or again within three loops. A reset of who was left out of a view once a change had lasted three loops is
+//! counted, and no fault: the rule of views says so (docs/VIEWS.md). The bound and the words stand in docs/LIVE.md.
 use crate::clock::NEVER;
 use crate::fault::Fault;
+use crate::waits::Waits;
 use qn_base::{Mask, Rank};
 use qn_model::Timing;
 use std::alloc::{AllocError, Global};
@@ -33,6 +35,8 @@ struct Silence {
     end: u64,
     /// When the one asked for a reset of the other in it; else NEVER.
     reset_at: u64,
+    /// Whether the other was left out then once a change had lasted three loops.
+    hurried: bool,
     /// When the last silence of three loops or more ended; NEVER before the first one.
     long_end: u64,
 }
@@ -58,6 +62,10 @@ pub struct Judge {
     scene: Scene,
     /// By ranks of the hearer and of the other.
     silences: Vec<Silence>,
+    /// By ranks.
+    waits: [Waits; NODES],
+    /// How many resets were asked for of who was silent for less than three loops, and left out once a change had lasted three.
+    hurried: u64,
     /// The majority that is well, and since when there is one without a holder.
     majority: Option<Mask>,
     since: u64,
@@ -80,6 +88,7 @@ impl Judge {
                 begin: 0,
                 end: NEVER,
                 reset_at: NEVER,
+                hurried: false,
                 long_end: NEVER,
             })?;
         }
@@ -95,6 +104,8 @@ impl Judge {
                 heard: [Mask(0); NODES],
             },
             silences,
+            waits: [Waits::none(); NODES],
+            hurried: 0,
             majority: None,
             since: 0,
             longest: 0,
@@ -104,6 +115,26 @@ impl Judge {
     /// The longest time for which a majority that was well had no holder, in thousandths of the bound.
     pub fn longest(&self) -> u64 {
         self.longest.saturating_mul(1000) / self.bound.max(1)
+    }
+
+    /// How many resets were of who was left out of a view once a change had lasted three loops, and silent for less.
+    pub fn hurried(&self) -> u64 {
+        self.hurried
+    }
+
+    /// A node boots.
+    pub fn boot(&mut self, rank: Rank) {
+        if let Some(waits) = self.waits.get_mut(usize::from(rank.0)) {
+            *waits = Waits::none();
+        }
+    }
+
+    /// A node installs a view of these members.
+    pub fn install(&mut self, rank: Rank, members: Mask, time: u64) {
+        let loop_ms = self.loop_ms;
+        if let Some(waits) = self.waits.get_mut(usize::from(rank.0)) {
+            waits.install(members, time, loop_ms);
+        }
     }
 
     /// Notes the scene of a moment.
@@ -131,6 +162,10 @@ impl Judge {
             return Ok(());
         };
         let (before, now) = (*before, *now);
+        let loop_ms = self.loop_ms;
+        if let Some(waits) = self.waits.get_mut(hearer) {
+            waits.hear(now.with(rank_of(hearer)), time, loop_ms);
+        }
         if before == now {
             return Ok(());
         }
@@ -167,31 +202,44 @@ impl Judge {
         silence.reset_at = NEVER;
         if !is_short(silence.begin, time, loop_ms) {
             silence.long_end = time;
-        } else if reset_at != NEVER && !silence.is_excused(reset_at, loop_ms) {
-            return Err(Fault::NeedlessReset {
-                by: rank_of(hearer),
-                of: rank_of(other),
-            });
+            return Ok(());
         }
-        Ok(())
+        if reset_at == NEVER || silence.is_excused(reset_at, loop_ms) {
+            return Ok(());
+        }
+        let hurried = silence.hurried;
+        self.judge_needless(rank_of(hearer), rank_of(other), hurried)
     }
 
     /// A node asks for a reset of another one, which is healthy and was in a view of it since it booted.
     pub fn judge_reset(&mut self, by: Rank, of: Rank, time: u64) -> Result<(), Fault> {
         let loop_ms = self.loop_ms;
+        let hurried = match self.waits.get(usize::from(by.0)) {
+            Some(waits) => waits.has_hurried(of),
+            None => false,
+        };
         let place = place_of(usize::from(by.0), usize::from(of.0));
         let Some(silence) = self.silences.get_mut(place) else {
             return Ok(());
         };
         if silence.end == NEVER {
             silence.reset_at = time;
+            silence.hurried = hurried;
             return Ok(());
         }
         if silence.is_excused(time, loop_ms) {
-            Ok(())
-        } else {
-            Err(Fault::NeedlessReset { by, of })
+            return Ok(());
         }
+        self.judge_needless(by, of, hurried)
+    }
+
+    /// A reset of a node that was heard all the time, or again within three loops.
+    fn judge_needless(&mut self, by: Rank, of: Rank, hurried: bool) -> Result<(), Fault> {
+        if !hurried {
+            return Err(Fault::NeedlessReset { by, of });
+        }
+        self.hurried = self.hurried.saturating_add(1);
+        Ok(())
     }
 
     /// Judges the service at a moment at which these nodes hold.

@@ -33,6 +33,7 @@ mod process;
 mod runs;
 mod simulation;
 mod turns;
+mod waits;
 mod words;
 
 use runs::run_all;

@@ -102,10 +102,11 @@ fn write_line(
         " boots {} starts {} take-overs {}",
         counts.boots, counts.starts, counts.take_overs
     )?;
-    println!(rt;
-        " resets {} late-writes {} idle {} longest {}",
-        counts.resets, counts.late_writes, counts.idle, counts.longest
-    )
+    print!(rt;
+        " resets {} hurried {} late-writes {}",
+        counts.resets, counts.hurried, counts.late_writes
+    )?;
+    println!(rt; " idle {} longest {}", counts.idle, counts.longest)
 }
 
 /// The name of a fault, and what it says.

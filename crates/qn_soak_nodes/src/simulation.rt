@@ -259,6 +259,7 @@ impl Simulation {
         let mut counts = self.counts;
         counts.events = self.beside.events();
         counts.longest = self.judge.longest();
+        counts.hurried = self.judge.hurried();
         counts.disturbances = self.disturber.made();
         counts.time = self.time;
         counts

@@ -23,8 +23,13 @@ impl Simulation {
         let event = event_of(host, entry, time);
         host.heard = None;
         host.node_on = true;
+        let rank = host.rank;
         if let What::View(view) = entry {
             host.note_view(view);
+            self.judge.install(rank, view.members, time);
+        }
+        if matches!(entry, What::Begin | What::BeginClean) {
+            self.judge.boot(rank);
         }
         if matches!(event, Event::Fail(_)) {
             self.leave_failed(place)?;
