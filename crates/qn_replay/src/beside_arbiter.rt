@@ -18,7 +18,9 @@ impl TakesEvents for ArbiterWorld {
     ghost use Rattle.qn_replay.specs.BesideReplay.{beside_replay, beside_world};
 
     type Event = ArbiterEvent;
+
     type Report = ArbiterReport;
+
     type Head = ArbiterHead;
 
     ghost World = { Defined };

@@ -34,9 +34,7 @@ mod three_images;
 
 pub use generator::Gen;
 pub use last::last_world;
-pub use laws::{
-    law_arbiter_ending, law_arbiter_traces, law_triple_ending, law_triple_one_holder,
-};
+pub use laws::{law_arbiter_ending, law_arbiter_traces, law_triple_ending, law_triple_one_holder};
 pub use replays::{replay, replay_arbiter, replay3};
 pub use rows::{law_ending, law_heads, law_one_holder, law_texts};
 pub use soaking::soak;

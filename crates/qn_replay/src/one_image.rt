@@ -16,7 +16,9 @@ impl TakesEvents for World {
     ghost use Rattle.qn_replay.specs.Replay.{image_replay, image_world};
 
     type Event = Event;
+
     type Report = Report;
+
     type Head = Head;
 
     ghost World = { Defined };

@@ -59,11 +59,7 @@ pub(crate) fn replay_by<W: TakesEvents, I: Source, O: Sink>(
 }
 
 /// A replay up to its end.
-fn run<W: TakesEvents, I: Source, O: Sink>(
-    alloc: Global,
-    input: &mut I,
-    out: &mut O,
-) -> ReplayEnd
+fn run<W: TakesEvents, I: Source, O: Sink>(alloc: Global, input: &mut I, out: &mut O) -> ReplayEnd
     ensures replays { Replays W.replay (I.left input.old) (I.left input.new)
         (HasRisen (I.faults input.old) (I.faults input.new))
         (O.written out.old) (O.written out.new)

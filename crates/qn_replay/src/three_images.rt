@@ -17,7 +17,9 @@ impl TakesEvents for TripleWorld {
     ghost use Rattle.qn_safety.specs.TripleWorld.{TripleWorld as Defined};
 
     type Event = TripleEvent;
+
     type Report = Report;
+
     type Head = Head;
 
     ghost World = { Defined };
