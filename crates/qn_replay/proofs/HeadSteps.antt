@@ -3,7 +3,7 @@ use Rattle.std.proofs.Common.{◌≡◌, ◌≤◌, ◌+◌, ℕ, Bool, true, fa
 use Rattle.qn_arbiter_sched.specs.LeaseLine.{lease_of}
 use Rattle.qn_head.specs.declared.head.Head.{Head}
 use Rattle.qn_head.specs.Heads.{head_part, line_part}
-use Rattle.qn_head.specs.Parts.{Gives, Leads, Part, Refuses, then_given, whole}
+use Rattle.qn_head.specs.Parts.{Gives, Leads, Part, Refuses, whole}
 use Rattle.qn_head.specs.PartLaws.{leads_judged, leads_then, leads_to_next, refuses_first, refuses_judged, refuses_then}
 use Rattle.qn_lease.specs.declared.lease.Lease.{Lease}
 use Rattle.qn_lease.specs.Lease.{is_safe_lease}

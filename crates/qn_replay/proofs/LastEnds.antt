@@ -10,7 +10,7 @@ use Rattle.qn_model.specs.Lines.{Ending, Ended, ReadFailed}
 use Rattle.qn_head.specs.declared.head.Head.{Head}
 use Rattle.qn_head.specs.Faults.{IsHeadEnd}
 use Rattle.qn_head.specs.HeadLaws.{head_fits, head_open}
-use Rattle.qn_head.specs.ReplayLaws.{answer_fits, nothing_decides, stops_in_head, stops_without_world}
+use Rattle.qn_head.specs.ReplayLaws.{answer_fits, nothing_decides}
 use Rattle.qn_head.specs.Replays.{WantsMemory, answer_of}
 use Rattle.qn_model.specs.World.{World}
 use Rattle.qn_play.specs.Lines.{Taken}

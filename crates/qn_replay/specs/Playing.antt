@@ -1,5 +1,5 @@
 -- A replay after its head, line after line, whatever world takes the events: this project's profile.
-use Rattle.std.specs.Prelude.{◌≡◌, ℕ, List, [], ◌∷◌, Option, Result, Ok, Err}
+use Rattle.std.specs.Prelude.{◌≡◌, ℕ, List, Result, Ok, Err}
 use Rattle.qn_play.specs.Lines.{Play, Taken, Wants}
 use Rattle.qn_play.specs.Worlds.{IsAfter, Place, Progress, RefusesLine, TakesLine, WorldRules, event_play, event_wants, start_of}
 use Rattle.qn_sched.specs.declared.replay_end.ReplayEnd.{ReplayEnd}
