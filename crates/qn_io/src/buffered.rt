@@ -112,7 +112,7 @@ impl Pieces {
     }
 
     /// How many bytes the first line has that waits whole, without its `\n`, or none.
-    pub(crate) fn first_line(&self) -> Option<usize>
+    pub fn first_line(&self) -> Option<usize>
         ensures inside { IfSome result (λ count. count < length self.now) }
         ensures line { IfSome result
             (λ count. self.now ≡ take count self.now ++ 10 ∷ drop (count + 1) self.now) }

@@ -1,6 +1,7 @@
 -- A run of a world, line after line, up to its end.
 use Rattle.std.proofs.Common.{◌≡◌, ◌+◌, ◌<◌, ◌≤◌, arith, ℕ, List, [], ◌∷◌, ◌++◌, Option, length, Ok, refl, sym, ap, ◌∙◌, subst, append_assoc, append-nil}
 use Rattle.std.specs.Io.KnownBytes.{IsAtEnd, prepend_known, append_known}
+use Rattle.std.specs.Prelude.{drop}
 use Rattle.qn_io.specs.Outside.{prepend_known-append}
 use Rattle.qn_io.specs.declared.buffered.TheConstants.{PIECE}
 use Rattle.qn_io.specs.Writes.{AppendsFront}
@@ -9,7 +10,10 @@ use Rattle.qn_model.specs.Lines.{Ending, Ended}
 use Rattle.qn_sched.specs.declared.replay_end.ReplayEnd.{ReplayEnd}
 use Rattle.qn_sched.specs.declared.replay_end.ReplayEnd.TheVariants.{Done, WriteFault}
 use Rattle.qn_io.specs.declared.lines.LineRead.{LineRead}
+use Rattle.qn_io.specs.declared.next_line.NextLine.{NextLine}
+use Rattle.qn_io.specs.declared.next_line.NextLine.TheVariants as next
 use Rattle.qn_io.specs.Lines.{IsDrainedLine, OnFailedLine, ReadsLine}
+use Rattle.qn_io.specs.NextLines.{own_count, read_of}
 use Rattle.qn_model.specs.LineLaws.{IsPartOfLine}
 use Rattle.qn_play.specs.Judging.{RefusesAt, StandsAfter, judged}
 use Rattle.qn_play.specs.Lines.{Play, Taken, Wants, last_line, rest_of}
@@ -20,6 +24,7 @@ use Rattle.qn_play.specs.Runs.{Cut, EndsAs, Finishes, Runs, Unwritten, Wanted, W
 use Rattle.qn_play.specs.Steps.{goes_nowhere, goes_then, goes_traced, needed_after, needed_traced, takes_after, tells_after, tells_traced}
 use Rattle.qn_play.specs.Writing.{GivesOut, gives_later, gives_on, gives_then, prefix_then, written_all, written_prefix}
 use Rattle.qn_play.proofs.LineSteps.{WantsHere, read_goes, read_stops}
+use Rattle.std.proofs.lemmas.List.{length-drop}
 
 -- The lines so far were taken, and their trace text was given out: the world stands after them, and what the whole input gives
 -- is that text and what the rest of the input gives.
@@ -222,3 +227,26 @@ finishes {play} {wants} {standing} {standing_new} {head} {count} {left} {between
     subst (λ (e : ReplayEnd). Runs (rest_of play head []) standing_new (WantsAtLine play wants standing_new head) left left_new failed old new write_failed e) (sym is) (ends run pieces end within stands stop whole)
 finishes {play} {wants} {standing} {standing_new} {head} {count} {left} {between} {old} {now} {left_new} {new} {waiting} {failed} {write_failed} run pieces end result within stands wider stop (Cut is fails prefix) =
     subst (λ (e : ReplayEnd). Runs (rest_of play head []) standing_new (WantsAtLine play wants standing_new head) left left_new failed old new write_failed e) (sym is) (ends_unwritten run pieces end within stop (wider fails) prefix)
+
+-- ---- a line that was left where it stands, once its bytes were passed over
+
+module _ (next : NextLine) (what : LineRead) (same : what ≡ read_of next) (before passed : List ℕ) (is : passed ≡ drop (own_count next) before) where
+  pub reads_passed : (between left : Option (List ℕ)) (line : List ℕ) → ReadsLine (read_of next) line between (prepend_known (drop (own_count next) before) left) → ReadsLine what line between (prepend_known passed left)
+  reads_passed between left line reads =
+      subst (λ (w : LineRead). ReadsLine w line between (prepend_known passed left)) (sym same)
+      (subst (λ (p : List ℕ). ReadsLine (read_of next) line between (prepend_known p left)) (sym is) reads)
+
+  pub failed_passed : (failed : Type 0) → OnFailedLine (read_of next) failed → OnFailedLine what failed
+  failed_passed failed cause = subst (λ (w : LineRead). OnFailedLine w failed) (sym same) cause
+
+drained_after : (next : NextLine) (before : List ℕ) → IsDrainedLine (read_of next) before → IsDrainedLine (read_of next) (drop (own_count next) before)
+drained_after (next.Waits count) before drained = tt
+drained_after (next.Copied how) before drained = drained
+
+pub drained_passed : (next : NextLine) (what : LineRead) → what ≡ read_of next → (before passed : List ℕ) → passed ≡ drop (own_count next) before → IsDrainedLine (read_of next) before → IsDrainedLine what passed
+drained_passed next what same before passed is drained =
+    subst (λ (w : LineRead). IsDrainedLine w passed) (sym same) (subst (λ (p : List ℕ). IsDrainedLine (read_of next) p) (sym is) (drained_after next before drained))
+
+-- no more bytes wait than before
+pub within_passed : (next : NextLine) (before passed : List ℕ) → passed ≡ drop (own_count next) before → length before ≤ PIECE → length passed ≤ PIECE
+within_passed next before passed is within = subst (λ (p : List ℕ). length p ≤ PIECE) (sym is) (let short = length-drop (own_count next) before in omega (arith, short, within))

@@ -52,10 +52,12 @@ pub fn play<W: Plays, I: Source, O: Sink>(
     let mut place = Place { head, events: 0 };
     let mut text = ArrayVec::new();
     'lines: loop {
-        let Ok(read) = lines.next(input, out) else {
+        let Ok(next) = lines.next(input, out) else {
             return ReplayEnd::WriteFault;
         };
-        if let Err(end) = place.judge(read, lines.line(), world, &mut text) {
+        let judged = place.judge(next.read(), lines.text(next), world, &mut text);
+        lines.pass_over(next);
+        if let Err(end) = judged {
             return finish(end, &mut lines.output, out);
         }
         let Ok(()) = lines.output.put(out, text.as_slice()) else {

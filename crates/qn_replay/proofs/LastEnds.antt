@@ -4,12 +4,18 @@ use Rattle.std.specs.Io.KnownBytes.{IsAtEnd, prepend_known}
 use Rattle.qn_io.specs.declared.buffered.TheConstants.{PIECE}
 use Rattle.qn_io.specs.Outside.{prepend_known-append, prepend_known-nil}
 use Rattle.qn_model.specs.Inputs.{Tells, Anyway, AtEnd, AtFailure, tells_more}
-use Rattle.qn_model.specs.Lines.{Ended}
-use Rattle.qn_head.specs.HeadLaws.{head_open}
-use Rattle.qn_head.specs.ReplayLaws.{nothing_decides}
+use Rattle.qn_model.specs.declared.events.Event.{Event}
+use Rattle.qn_model.specs.declared.reports.Report.{Report}
+use Rattle.qn_model.specs.Lines.{Ending, Ended, ReadFailed}
+use Rattle.qn_head.specs.declared.head.Head.{Head}
+use Rattle.qn_head.specs.Faults.{IsHeadEnd}
+use Rattle.qn_head.specs.HeadLaws.{head_fits, head_open}
+use Rattle.qn_head.specs.ReplayLaws.{answer_fits, nothing_decides}
+use Rattle.qn_head.specs.Replays.{WantsMemory, answer_of}
 use Rattle.qn_model.specs.World.{World}
 use Rattle.qn_play.specs.Lines.{Taken}
-use Rattle.qn_play.specs.Reading.{Anywhere, EndsWith, StillOpen, Stops, Told}
+use Rattle.qn_play.specs.Endings.{EndFits}
+use Rattle.qn_play.specs.Reading.{Anywhere, EndsWith, IsNeeded, IsOpen, LastDecides, Rest, StillOpen, Stops, Told}
 use Rattle.qn_play.specs.Reading as reading
 use Rattle.qn_play.specs.RunLaws.{tells_all}
 use Rattle.qn_play.specs.Runs as runs
@@ -17,14 +23,16 @@ use Rattle.qn_sched.specs.declared.replay_end.ReplayEnd.{ReplayEnd}
 use Rattle.qn_sched.specs.declared.replay_end.ReplayEnd.TheVariants.{Done, BadConf, BadSettings, BadSchedule, NotAllowed, ReadFault, WriteFault, UnsafeTiming, UnsafeLease, NoMemory}
 use Rattle.qn_world.specs.Standing.{WorldFor}
 use Rattle.qn_world.specs.Whole.{Whole}
-use Rattle.qn_replay.specs.declared.playback.Playback.{Playback}
 use Rattle.qn_play.specs.EndLaws.{fits, run_leased, run_unwritten, tells_leased, tells_unwritten}
 use Rattle.qn_play.specs.Runs.{Unwritten, Wanted, WroteAll}
 use Rattle.qn_play.specs.Worlds.{Progress, progress_at}
+use Rattle.qn_replay.specs.declared.playback.Playback.{Playback as AnyPlayback}
 use Rattle.qn_replay.specs.Endings.{replay_fits}
-use Rattle.qn_replay.specs.Playing.{HasPlayed, place_at}
-use Rattle.qn_replay.specs.Replay.{Replayed, ends, image_replay, replay_of}
-use Rattle.qn_replay.specs.Runs.{GivesWorld, IsFault, Reaches, WantsMemory, last_of}
+use Rattle.qn_replay.specs.EventWorlds.{untraced}
+use Rattle.qn_replay.specs.Playing.{HasPlayed, last_of, place_at}
+use Rattle.qn_replay.specs.Replay.{Replayed, ends, image_replay, image_world, replay_of}
+use Rattle.qn_replay.specs.Runs.{GivesWorld, IsFault, Reaches}
+use Rattle.qn_replay.proofs.Untraced.{SameEnd, answers_same}
 
 abbrev no_world : ReplayEnd → Result Whole ReplayEnd
 no_world end = Err end
@@ -58,6 +66,49 @@ reaches_in_head {left} {left_new} pieces waiting end none fault within stop = re
   ends = head_gives end fault stop.stops;
 }
 
+-- an end within the head is a fault
+pub head_fault : (fault : ReplayEnd) → IsHeadEnd fault → IsFault fault
+head_fault (Done events) is = is
+head_fault (BadConf fault) is = tt
+head_fault (BadSettings fault) is = tt
+head_fault (BadSchedule line fault) is = tt
+head_fault (NotAllowed line rule) is = tt
+head_fault ReadFault is = tt
+head_fault WriteFault is = is
+head_fault (UnsafeTiming timing) is = tt
+head_fault (UnsafeLease timeout limit lease) is = is
+head_fault NoMemory is = tt
+
+-- ---- a run of which no trace is kept
+
+abbrev Playback : Type 0
+Playback = AnyPlayback Whole Event Report Head
+
+-- what such a replay answers
+abbrev untraced_of : Rest (Option (Progress World))
+untraced_of = answer_of (untraced image_replay)
+
+untraced_fits : (ending : Ending) (bytes : List ℕ) → EndFits (untraced_of ending bytes).end ending
+untraced_fits ending bytes = answer_fits (untraced image_replay) ⊥ head_fits ending bytes
+
+-- it needs the same bytes
+open_same : (taken : List ℕ) → IsOpen untraced_of taken → IsOpen replay_of taken
+open_same taken still = sym (answers_same image_replay ReadFailed taken).end ∙ still
+
+needed_same : {taken : List ℕ} → IsNeeded untraced_of taken → IsNeeded replay_of taken
+needed_same {taken} (StillOpen still) = StillOpen (open_same taken still)
+needed_same (LastDecides front byte parts still) = LastDecides front byte parts (open_same front still)
+
+-- and tells of the same end and place
+tells_same : {taken : List ℕ} {at_end failed : Type 0} (played : Replayed) (P : Replayed → Type 0) → ((a : Replayed) → SameEnd played a → P a)
+    → Tells untraced_of taken at_end failed (λ p. p ≡ played) → Tells replay_of taken at_end failed P
+tells_same {taken} played P holds (Anyway always) =
+    Anyway (λ ending more. holds (replay_of ending (taken ++ more)) (subst (λ (p : Replayed). SameEnd p (replay_of ending (taken ++ more))) (always ending more) (answers_same image_replay ending (taken ++ more))))
+tells_same {taken} played P holds (AtEnd at_end is) =
+    AtEnd at_end (holds (replay_of Ended taken) (subst (λ (p : Replayed). SameEnd p (replay_of Ended taken)) is (answers_same image_replay Ended taken)))
+tells_same {taken} played P holds (AtFailure fails is) =
+    AtFailure fails (holds (replay_of ReadFailed taken) (subst (λ (p : Replayed). SameEnd p (replay_of ReadFailed taken)) is (answers_same image_replay ReadFailed taken)))
+
 -- where the world of a playback stands
 pub record IsPlaceOf (playback : Playback) (last : Option (Progress World)) : Type 0 where
   pub so_far : Progress World
@@ -67,66 +118,66 @@ pub record IsPlaceOf (playback : Playback) (last : Option (Progress World)) : Ty
   pub stands : WorldFor playback.world so_far.world
 
 -- it stands where its lines lead
-pub place_after : (start playback : Playback) (earlier : Taken) (played : HasPlayed start playback earlier) → IsPlaceOf playback (Some (progress_at (place_at playback) played.world))
+pub place_after : (start playback : Playback) (earlier : Taken) (played : HasPlayed image_world start playback earlier) → IsPlaceOf playback (Some (progress_at (place_at image_world playback) played.after.world))
 place_after start playback earlier played = record {
-  so_far = progress_at (place_at playback) played.world;
+  so_far = progress_at (place_at image_world playback) played.after.world;
   is = refl;
   settings = refl;
   timing = refl;
-  stands = played.stands;
+  stands = played.after.stands;
 }
 
 module _ (playback : Playback) where
-  gives : {taken : List ℕ} {at_end failed : Type 0} (played a : Replayed) (end : ReplayEnd) → Tells replay_of taken at_end failed (λ p. p ≡ played) → end ≡ played.end → IsPlaceOf playback played.last → a ≡ played
+  gives : {taken : List ℕ} {at_end failed : Type 0} (played a : Replayed) (end : ReplayEnd) → Tells untraced_of taken at_end failed (λ p. p ≡ played) → end ≡ played.end → IsPlaceOf playback played.last → SameEnd played a
       → GivesWorld (last_of playback.world end) a
   gives played a (Done events) tells is place same = record {
     events = events;
     so_far = place.so_far;
-    ends = ap (λ (x : Replayed). x.end) same ∙ sym is;
-    last = ap (λ (x : Replayed). x.last) same ∙ place.is;
+    ends = sym same.end ∙ sym is;
+    last = sym same.last ∙ place.is;
     settings = place.settings;
     timing = place.timing;
     stands = place.stands;
   }
-  gives played a WriteFault tells is place same = absurd (tells_unwritten ⊥ replay_of replay_fits played tells (sym is))
-  gives played a (UnsafeLease timeout limit lease) tells is place same = absurd (tells_leased ⊥ replay_of replay_fits played timeout limit lease tells (sym is))
-  gives played a (BadConf fault) tells is place same = (ap (λ (x : Replayed). x.end) same ∙ sym is, tt)
-  gives played a (BadSettings fault) tells is place same = (ap (λ (x : Replayed). x.end) same ∙ sym is, tt)
-  gives played a (BadSchedule line fault) tells is place same = (ap (λ (x : Replayed). x.end) same ∙ sym is, tt)
-  gives played a (NotAllowed line rule) tells is place same = (ap (λ (x : Replayed). x.end) same ∙ sym is, tt)
-  gives played a ReadFault tells is place same = (ap (λ (x : Replayed). x.end) same ∙ sym is, tt)
-  gives played a (UnsafeTiming timing) tells is place same = (ap (λ (x : Replayed). x.end) same ∙ sym is, tt)
-  gives played a NoMemory tells is place same = (ap (λ (x : Replayed). x.end) same ∙ sym is, tt)
+  gives played a WriteFault tells is place same = absurd (tells_unwritten ⊥ untraced_of untraced_fits played tells (sym is))
+  gives played a (UnsafeLease timeout limit lease) tells is place same = absurd (tells_leased ⊥ untraced_of untraced_fits played timeout limit lease tells (sym is))
+  gives played a (BadConf fault) tells is place same = (sym same.end ∙ sym is, tt)
+  gives played a (BadSettings fault) tells is place same = (sym same.end ∙ sym is, tt)
+  gives played a (BadSchedule line fault) tells is place same = (sym same.end ∙ sym is, tt)
+  gives played a (NotAllowed line rule) tells is place same = (sym same.end ∙ sym is, tt)
+  gives played a ReadFault tells is place same = (sym same.end ∙ sym is, tt)
+  gives played a (UnsafeTiming timing) tells is place same = (sym same.end ∙ sym is, tt)
+  gives played a NoMemory tells is place same = (sym same.end ∙ sym is, tt)
 
   run_gives : {taken : List ℕ} {at_end failed write_failed : Type 0} {old new : Option (List ℕ)} (end : ReplayEnd) → (write_failed → ⊥)
-      → runs.EndsAs replay_of (IsPlaceOf playback) WantsMemory taken at_end failed old new write_failed end
+      → runs.EndsAs untraced_of (IsPlaceOf playback) (WantsMemory (untraced image_replay)) taken at_end failed old new write_failed end
       → (last_of playback.world end ≡ Err NoMemory) ⊎ Tells replay_of taken at_end failed (GivesWorld (last_of playback.world end))
   run_gives end wrote (WroteAll played tells is whole place) =
-      inr (tells_more (λ p. p ≡ played) (GivesWorld (last_of playback.world end)) (λ a same. gives played a end tells is place same) tells)
+      inr (tells_same played (GivesWorld (last_of playback.world end)) (λ a same. gives played a end tells is place same) tells)
   run_gives end wrote (Unwritten trace tells is fails prefix) = absurd (wrote fails)
   run_gives end wrote (Wanted trace tells is whole why) = inl (ap (last_of playback.world) is)
 
   -- the run ended
   pub reaches_out : {left left_new old new : Option (List ℕ)} {failed write_failed : Type 0} (end : ReplayEnd) → (write_failed → ⊥)
-      → runs.Runs replay_of (IsPlaceOf playback) WantsMemory left left_new failed old new write_failed end → Reaches left left_new failed (last_of playback.world end)
+      → runs.Runs untraced_of (IsPlaceOf playback) (WantsMemory (untraced image_replay)) left left_new failed old new write_failed end → Reaches left left_new failed (last_of playback.world end)
   reaches_out end wrote run = record {
     taken = run.taken;
     waiting = run.waiting;
     takes = run.takes;
-    needed = run.needed;
+    needed = needed_same run.needed;
     within = run.within;
     ends = run_gives end wrote run.ends;
   }
 
 -- a run of which nothing is written does not fail to write
 pub is_written : {left left_new old new : Option (List ℕ)} {failed write_failed : Type 0} {end : ReplayEnd} (playback : Playback) → (write_failed → ⊥)
-    → runs.Runs replay_of (IsPlaceOf playback) WantsMemory left left_new failed old new write_failed end → end ≢ WriteFault
-is_written {end} playback wrote run is = wrote (run_unwritten ⊥ replay_of replay_fits end _ _ run is)
+    → runs.Runs untraced_of (IsPlaceOf playback) (WantsMemory (untraced image_replay)) left left_new failed old new write_failed end → end ≢ WriteFault
+is_written {end} playback wrote run is = wrote (run_unwritten ⊥ untraced_of untraced_fits end _ _ run is)
 
 -- and judges no lease
 pub is_unleased : {left left_new old new : Option (List ℕ)} {failed write_failed : Type 0} {end : ReplayEnd} (playback : Playback)
-    → runs.Runs replay_of (IsPlaceOf playback) WantsMemory left left_new failed old new write_failed end → (timeout limit lease : ℕ) → end ≢ UnsafeLease timeout limit lease
-is_unleased {end = end} playback run timeout limit lease is = run_leased ⊥ replay_of replay_fits end _ _ run timeout limit lease is
+    → runs.Runs untraced_of (IsPlaceOf playback) (WantsMemory (untraced image_replay)) left left_new failed old new write_failed end → (timeout limit lease : ℕ) → end ≢ UnsafeLease timeout limit lease
+is_unleased {end = end} playback run timeout limit lease is = run_leased ⊥ untraced_of untraced_fits end _ _ run timeout limit lease is
 
 -- the end of a run is a fault where it gives no world
 pub out_fault : (world : Whole) (end : ReplayEnd) → end ≢ WriteFault → ((timeout limit lease : ℕ) → end ≢ UnsafeLease timeout limit lease) → IfErr (last_of world end) IsFault

@@ -1,9 +1,14 @@
+mod ArbiterTimes
+mod BesideTraces
 mod Choices
 mod Clocks
 mod Forced
-mod Judging
+mod HeadSteps
 mod LastEnds
 mod Playbacks
 mod RunTraces
 mod SoakSteps
-mod Starts
+mod TripleTimes
+mod TripleTraces
+mod Untraced
+mod Worlds

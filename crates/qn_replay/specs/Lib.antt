@@ -1,8 +1,17 @@
+pub mod BesideEndings
+pub mod BesideHeads
+pub mod BesideReplay
+pub mod BesideTrace
 pub mod Draws
 pub mod Endings
+pub mod EventWorlds
 pub mod Generator
+pub mod Heads
 pub mod Playing
 pub mod Replay
 pub mod RunTrace
 pub mod Runs
 pub mod Soak
+pub mod TripleEndings
+pub mod TripleReplay
+pub mod TripleTrace

@@ -4,8 +4,9 @@ use Rattle.qn_head.specs.declared.head.Head.{Head}
 use Rattle.qn_head.specs.Heads.{head_part}
 use Rattle.qn_head.specs.Replays.{ReplayKind, answer_of}
 use Rattle.qn_model.specs.declared.events.Event.{Event}
+use Rattle.qn_model.specs.declared.reports.Report.{Report}
 use Rattle.qn_model.specs.Lines.{Ending}
-use Rattle.qn_model.specs.Rules.{refusal}
+use Rattle.qn_model.specs.Rules.{is_well_formed, refusal}
 use Rattle.qn_model.specs.Settings.{ids}
 use Rattle.qn_model.specs.Steps.{report, step}
 use Rattle.qn_model.specs.World.{World, first_world}
@@ -15,6 +16,9 @@ use Rattle.qn_sched.specs.declared.replay_end.ReplayEnd.{ReplayEnd}
 use Rattle.qn_sched.specs.EventReading.{event_of}
 use Rattle.qn_sched.specs.TraceLines.{trace_line}
 use Rattle.qn_world.specs.Memory.{needs_memory}
+use Rattle.qn_world.specs.Standing.{WorldFor}
+use Rattle.qn_world.specs.Whole.{Whole}
+use Rattle.qn_replay.specs.EventWorlds.{EventWorld}
 
 -- the world of one image, with the lines of its schedules
 abbrev pub image_rules : WorldRules World Event
@@ -26,6 +30,20 @@ image_rules =
       step = step;
       text = λ s number event before after. trace_line (ids s.nodes) number (report s event after);
       needs_memory = needs_memory;
+    }
+
+-- the world of one image, as one that takes events
+abbrev pub image_world : EventWorld Whole World Event Report
+image_world =
+    record {
+      settings = λ w. w.settings;
+      timing = λ w. w.timing;
+      steps = λ w. w.steps;
+      time = λ w. w.time;
+      StandsFor = WorldFor;
+      rules = λ w. image_rules;
+      is_well_formed = is_well_formed;
+      trace_line = λ s number event report. trace_line (ids s.nodes) number report;
     }
 
 -- the replay of a schedule

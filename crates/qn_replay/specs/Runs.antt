@@ -1,4 +1,4 @@
--- A whole replay: what it took from its input, what it wrote, and how it ended.
+-- The last world of a replay, and why a replay ran out of memory.
 use Rattle.std.specs.Prelude.{◌≡◌, ◌≤◌, ◌⊎◌, ℕ, length, List, [], ◌++◌, Option, Some, Result, Ok, Err}
 use Rattle.qn_world.specs.Standing.{WorldFor}
 use Rattle.qn_world.specs.Whole.{Whole}
@@ -11,27 +11,12 @@ use Rattle.qn_play.specs.Reading.{IsNeeded}
 use Rattle.qn_play.specs.Worlds.{Progress}
 use Rattle.qn_sched.specs.declared.replay_end.ReplayEnd.{ReplayEnd}
 use Rattle.qn_sched.specs.declared.replay_end.ReplayEnd.TheVariants.{Done, BadConf, BadSettings, BadSchedule, NotAllowed, ReadFault, WriteFault, UnsafeTiming, UnsafeLease, NoMemory}
-pub use Rattle.qn_play.specs.Runs.{AnswersWhole, IfDone}
 use Rattle.qn_replay.specs.Replay.{Replayed, image_replay, replay_of}
 
 -- Why it ran out of memory after a trace: nothing was written yet; or the event after those whose lines were written adds a packet or a
 -- leftover to the world.
 abbrev pub WantsMemory : List ℕ → List ℕ → Type 0
 WantsMemory = kinds.WantsMemory image_replay
-
--- Bytes were taken, none more than the end needs. The trace that they tell of was written whole, and the end is the one that
--- they tell of; or a prefix of it was written, because the sink failed or it ran out of memory. What was read after them is
--- of one piece, waits, and was not looked at.
-abbrev pub Replays : Option (List ℕ) → Option (List ℕ) → Type 0 → Option (List ℕ) → Option (List ℕ) → Type 0 → ReplayEnd → Type 0
-Replays = kinds.Replays image_replay
-
--- out of memory after this trace, which is all that was written
-abbrev pub Wants : Option (List ℕ) → Option (List ℕ) → Option (List ℕ) → Option (List ℕ) → Type 0
-Wants = kinds.RunsOut image_replay
-
--- the whole input was read, and all of its trace was written
-abbrev pub Completes : Option (List ℕ) → Option (List ℕ) → Option (List ℕ) → Option (List ℕ) → ReplayEnd → Type 0
-Completes = kinds.Completes image_replay
 
 -- an end that is a fault of the input, or out of memory
 abbrev pub IsFault : ReplayEnd → Type 0
@@ -45,11 +30,6 @@ IsFault WriteFault = ⊥
 IsFault (UnsafeTiming timing) = Unit {0}
 IsFault (UnsafeLease timeout limit lease) = ⊥
 IsFault NoMemory = Unit {0}
-
--- the world, where the replay ended well
-abbrev pub last_of : Whole → ReplayEnd → Result Whole ReplayEnd
-last_of world (Done events) = Ok world
-last_of world end = Err end
 
 -- a world after the last event of a replay that ended well
 pub record IsLast (answer : Replayed) (world : Whole) : Type 0 where

@@ -5,7 +5,9 @@ ghost use Rattle.qn_model.specs.Lines.{Ended};
 ghost use Rattle.qn_replay.specs.Replay.{replay_of};
 ghost use Rattle.qn_replay.specs.Runs.{GivesWorld, IsFault, Reaches};
 
-use crate::start::start;
+use crate::playback::Playback;
+use crate::takes_events::TakesEvents;
+use qn_head::read_head;
 use qn_io::{Pieces, Source};
 use qn_play::{NullSink, Output, play};
 use qn_sched::ReplayEnd;
@@ -29,7 +31,7 @@ pub fn last_world<I: Source>(alloc: Global, input: &mut I) -> Result<World, Repl
     run_silent(alloc, input)
 }
 
-/// A replay up to its end, of which nothing is written.
+/// A replay up to its end, of which no trace is kept and nothing is written.
 fn run_silent<I: Source>(alloc: Global, input: &mut I) -> Result<World, ReplayEnd>
     ensures reaches { Reaches (I.left input.old) (I.left input.new)
         (HasRisen (I.faults input.old) (I.faults input.new)) result }
@@ -40,8 +42,12 @@ fn run_silent<I: Source>(alloc: Global, input: &mut I) -> Result<World, ReplayEn
         return Err(ReplayEnd::NoMemory);
     };
     let mut pieces = Pieces::new();
-    let mut playback = start(alloc, &mut pieces, input)?;
-    let head = playback.head();
-    let end = play(&mut playback, head, pieces, output, input, &mut NullSink);
+    let head = read_head(alloc, &mut pieces, input)?;
+    let lines = head.lines;
+    let Ok(world) = World::begin(alloc, head) else {
+        return Err(ReplayEnd::NoMemory);
+    };
+    let mut playback = Playback::new(world, lines, false);
+    let end = play(&mut playback, lines, pieces, output, input, &mut NullSink);
     playback.last(end)
 }

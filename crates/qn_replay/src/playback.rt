@@ -1,78 +1,68 @@
-//! A replay after its head, as a world that qn_play plays.
+//! A replay after its head, as a world that qn_play plays, whatever world takes the events.
+use crate::takes_events::TakesEvents;
 use arrayvec::ArrayVec;
-use qn_base::{MOST_LINE_BYTES, NoMemory, Rank};
-use qn_head::Head;
-use qn_model::{Event, LineFault, Refused, Report};
+use qn_base::MOST_LINE_BYTES;
+use qn_model::{LineFault, Refused};
 use qn_play::Plays;
-use qn_sched::{ReplayEnd, read_line_into, write_trace};
-use qn_world::{World, blank_report};
-use std::alloc::Global;
+use qn_sched::ReplayEnd;
 
 /// A replay after its head: the world after the events so far, the last of them and what it came to, how many lines
-/// the head had, and how many events there were.
+/// the head had, how many events there were, and whether the trace is kept. Where it is not, each trace line is empty.
 #[derive(Drop)]
-pub(crate) struct Playback {
-    world: World,
-    event: Event,
-    report: Report,
+pub(crate) struct Playback<W: TakesEvents> {
+    world: W,
+    event: W::Event,
+    report: W::Report,
     head: u64,
     events: u64,
+    traced: bool,
 }
 
-impl Playback {
-    ghost use Rattle.std.specs.Prelude.{◌≡◌, ◌<◌, ◌≤◌, ◌+◌, ◌^◌, [], true, OnOk, OnErr, IfOk, IfErr};
+impl<W: TakesEvents> Playback<W> {
+    ghost use Rattle.std.specs.Prelude.{◌≡◌, ◌<◌, ◌≤◌, ◌+◌, ◌++◌, ◌^◌, [], ◌∷◌, OnOk, OnErr, IfErr, length};
     ghost use Rattle.qn_base.specs.declared.limits.TheConstants.{MOST_EVENTS};
-    ghost use Rattle.qn_head.specs.Replays.{start_after};
-    ghost use Rattle.qn_model.specs.Settings.{IsValid};
-    ghost use Rattle.qn_model.specs.Timing.{is_safe};
     ghost use Rattle.qn_play.specs.Worlds.{IsGoing, refused_end};
-    ghost use Rattle.qn_replay.specs.Playing.{HasPlayed, Refuses, Takes, place_at, report_text, start_at};
-    ghost use Rattle.qn_replay.specs.Replay.{image_replay};
-    ghost use Rattle.qn_replay.specs.Runs.{last_of};
+    ghost use Rattle.qn_replay.specs.EventWorlds.{traced_if};
+    ghost use Rattle.qn_replay.specs.Playing.{HasPlayed, Refuses, Takes, last_line, last_of, place_at};
 
-    /// A replay whose head was read: nothing has happened.
-    pub(crate) fn new(alloc: Global, head: Head) -> Result<Playback, NoMemory>
-        requires valid { IsValid head.settings }
-        requires safe { is_safe head.timing ≡ true }
-        requires few_lines { head.lines ≤ 4294967296 }
-        ensures begins { IfOk result (λ playback. HasPlayed playback playback []) }
-        ensures start { IfOk result
-            (λ playback. start_at playback ≡ start_after image_replay head) }
-        ensures lines { IfOk result (λ playback. playback.head ≡ head.lines) }
+    /// A replay whose head had so many lines, and to whose first world nothing has happened.
+    pub(crate) fn new(world: W, head: u64, traced: bool) -> Playback<W>
+        requires first { W.world.StandsFor world (W.world.rules world).first }
+        requires steps { W.world.steps world ≡ 18446744073709551615 }
+        requires time { W.world.time world ≡ 0 }
+        requires few_lines { head ≤ 4294967296 }
+        ensures begins { HasPlayed W.world result result [] }
+        ensures world { result.world ≡ world }
+        ensures head { result.head ≡ head }
+        ensures traced { result.traced ≡ traced }
     {
-        let world = World::new(alloc, head.settings, head.timing)?;
-        Ok(Playback {
+        let (event, report) = W::blank();
+        Playback {
             world,
-            event: Event::Tick(Rank(0)),
-            report: blank_report(),
-            head: head.lines,
+            event,
+            report,
+            head,
             events: 0,
-        })
-    }
-
-    /// How many lines the head had.
-    pub(crate) fn head(&self) -> u64
-        ensures { result ≡ self.now.head }
-    {
-        self.head
+            traced,
+        }
     }
 
     /// Takes a line, without its end: its event happens, and is reported. Otherwise nothing does.
     fn happen(&mut self, line: &[u8]) -> Result<(), ReplayEnd>
-        requires going { IsGoing (place_at self.old) }
+        requires going { IsGoing (place_at W.world self.old) }
         requires few { self.old.events < MOST_EVENTS }
-        ensures event { OnOk result (Takes self.old self.new line.now) }
-        ensures end { IfErr result (Refuses self.old line.now) }
+        ensures event { OnOk result (Takes W.world self.old self.new line.now) }
+        ensures end { IfErr result (Refuses W.world self.old line.now) }
         ensures kept { OnErr result (self.new.world ≡ self.old.world) }
         ensures kept_events { OnErr result (self.new.events ≡ self.old.events) }
         ensures head { self.new.head ≡ self.old.head }
-        ensures settings { self.new.world.settings ≡ self.old.world.settings }
-        ensures timing { self.new.world.timing ≡ self.old.world.timing }
+        ensures traced { self.new.traced ≡ self.old.traced }
+        ensures rules { W.world.rules self.new.world ≡ W.world.rules self.old.world }
     {
-        if let Err(fault) = read_line_into(line, self.world.settings(), &mut self.event) {
+        if let Err(fault) = self.world.read(line, &mut self.event) {
             return Err(self.bad_line(fault));
         }
-        if let Err(refused) = self.world.apply_into(&self.event, &mut self.report) {
+        if let Err(refused) = self.world.apply(&self.event, &mut self.report) {
             return Err(self.refusal(refused));
         }
         self.events += 1;
@@ -106,14 +96,27 @@ impl Playback {
 
     /// Puts the trace line of the last event, with its end, in place of `text`.
     fn write(&self, text: &mut ArrayVec<u8, MOST_LINE_BYTES>)
-        ensures { text.new.items ≡ report_text self.now }
+        ensures { text.new.items ≡ last_line W.world self.now ++ 10 ∷ [] }
     {
-        write_trace(self.events, &self.report, self.world.settings(), text);
+        self.write_line(text);
         text.push(b'\n');
     }
 
+    /// Puts the trace line of the last event in place of `text`, or no byte where the trace is not kept.
+    fn write_line(&self, text: &mut ArrayVec<u8, MOST_LINE_BYTES>)
+        ensures line { text.new.items ≡ last_line W.world self.now }
+        ensures fits { length text.new.items ≤ 4000 }
+    {
+        if self.traced {
+            self.world
+                .write(self.events, &self.event, &self.report, text);
+        } else {
+            text.clear();
+        }
+    }
+
     /// The world after the last event, where the replay ended well.
-    pub(crate) fn last(self, end: ReplayEnd) -> Result<World, ReplayEnd>
+    pub(crate) fn last(self, end: ReplayEnd) -> Result<W, ReplayEnd>
         ensures { result ≡ last_of self.world end }
     {
         match end {
@@ -123,16 +126,14 @@ impl Playback {
     }
 }
 
-impl Plays for Playback {
-    ghost use Rattle.qn_play.specs.Worlds.{event_play, event_wants};
-    ghost use Rattle.qn_replay.specs.Playing.{HasPlayed, start_at};
-    ghost use Rattle.qn_replay.specs.Replay.{image_rules};
+impl<W: TakesEvents> Plays for Playback<W> {
+    ghost use Rattle.qn_replay.specs.Playing.{HasPlayed, play_from, wants_from};
 
-    ghost play = { λ playback. event_play image_rules (start_at playback) };
+    ghost play = { λ start. play_from W.world start };
 
-    ghost wants = { λ playback. event_wants image_rules (start_at playback) };
+    ghost wants = { λ start. wants_from W.world start };
 
-    ghost stands = { HasPlayed };
+    ghost stands = { λ start playback earlier. HasPlayed W.world start playback earlier };
 
     fn take(
         &mut self,

@@ -1,9 +1,8 @@
 -- `replay3`: the trace of a schedule of three images, and then its last line; this project's profile.
 use Rattle.std.specs.Prelude.{ℕ, List, Option}
 use Rattle.qn_commands.specs.Seen.{Seen}
-use Rattle.qn_triple_replay.specs.Replay.{replay3_of}
-use Rattle.qn_triple_replay.specs.RunTrace.{IsRunTrace}
-use Rattle.qn_triple_replay.specs.Runs.{WantsMemory}
+use Rattle.qn_replay.specs.TripleReplay.{WantsMemory, replay3_of}
+use Rattle.qn_replay.specs.TripleTrace.{IsRunTrace}
 use Rattle.qn_top.specs.Traces.{ShowsTrace, WritesTrace, replay_statuses}
 
 -- The trace and its last line were written. It runs out of memory before any of it, or at an event that adds a packet or a

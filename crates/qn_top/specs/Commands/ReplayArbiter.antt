@@ -1,8 +1,7 @@
 -- `replay-arbiter`: the trace of a schedule beside an arbiter, and then its last line; this project's profile.
 use Rattle.std.specs.Prelude.{ℕ, List, Option}
-use Rattle.qn_arbiter_replay.specs.Replay.{replay_arbiter_of}
-use Rattle.qn_arbiter_replay.specs.RunTrace.{IsRunTrace}
-use Rattle.qn_arbiter_replay.specs.Runs.{WantsMemory}
+use Rattle.qn_replay.specs.BesideReplay.{WantsMemory, replay_arbiter_of}
+use Rattle.qn_replay.specs.BesideTrace.{IsRunTrace}
 use Rattle.qn_commands.specs.Seen.{Seen}
 use Rattle.qn_top.specs.Traces.{ShowsTrace, WritesTrace, lease_statuses}
 

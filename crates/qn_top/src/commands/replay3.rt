@@ -6,8 +6,8 @@ ghost use Rattle.qn_top.specs.Commands.Replay3.{Replays3, ShowsTripleRun};
 use crate::replay_end::finish_replay;
 use qn_commands::Status;
 use qn_io::{Sink, Source};
+use qn_replay::{law_triple_ending, law_triple_one_holder, replay3};
 use qn_sched::ReplayEnd;
-use qn_triple_replay::{law_triple_ending, law_triple_one_holder, replay3};
 use std::alloc::Global;
 
 /// `replay3`: the trace of the schedule of three images that the input is, and then how it ended.

@@ -4,9 +4,9 @@ ghost use Rattle.qn_commands.specs.Statuses.{code_of};
 ghost use Rattle.qn_top.specs.Commands.ReplayArbiter.{ReplaysBeside, ShowsRunBeside};
 
 use crate::replay_end::finish_replay;
-use qn_arbiter_replay::{law_arbiter_ending, law_arbiter_traces, replay_arbiter};
 use qn_commands::Status;
 use qn_io::{Sink, Source};
+use qn_replay::{law_arbiter_ending, law_arbiter_traces, replay_arbiter};
 use qn_sched::ReplayEnd;
 use std::alloc::Global;
 

@@ -1,9 +1,8 @@
 use Rattle.std.proofs.Common.{None, arith}
 use Rattle.qn_commands.specs.Seen.{Outside, seen, sink, source}
 use Rattle.qn_commands.specs.Statuses.{code_of}
-use Rattle.qn_arbiter_replay.specs.Replay.{replay_arbiter_of}
-use Rattle.qn_arbiter_replay.specs.RunTrace.{IsRunTrace}
-use Rattle.qn_arbiter_replay.specs.Runs.{WantsMemory}
+use Rattle.qn_replay.specs.BesideReplay.{WantsMemory, replay_arbiter_of}
+use Rattle.qn_replay.specs.BesideTrace.{IsRunTrace}
 use Rattle.qn_top.specs.Traces.{RunsTrace}
 use Rattle.qn_top.proofs.PlayedEnds.{writes_beside}
 use Rattle.qn_top.proofs.Replayed.{trace_finished, trace_unwritten}

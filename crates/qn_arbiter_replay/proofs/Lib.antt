@@ -1,5 +1,0 @@
-mod ArbiterTimes
-mod HeadSteps
-mod Playbacks
-mod RunTraces
-mod Standings

@@ -1,4 +1,0 @@
-mod AfterHead
-mod Playbacks
-mod RunTraces
-mod TripleTimes
