@@ -13,6 +13,7 @@ mod edge;
 use before::Before;
 use edge::edge_of;
 use qn_io::{Edge, RealEnv, StdSink, StdSource, put_all};
+use qn_live::NoNotices;
 use qn_top::top;
 use qn_usage::{BEFORE, QUORUMD, help_text, refusal_of, version_text};
 use std::env;
@@ -53,7 +54,15 @@ fn main(rt: HostRuntime) -> ExitCode {
     let mut input = StdSource::new(rt.reader(), &rt);
     let mut out = StdSink::new(io::writer(&rt), &rt);
     let mut env = RealEnv::new(outside, edge);
-    let status = top(rt.alloc(), words, &mut input, &mut out, &mut env);
+    let mut notices = NoNotices;
+    let status = top(
+        rt.alloc(),
+        words,
+        &mut input,
+        &mut out,
+        &mut env,
+        &mut notices,
+    );
     if status == USAGE {
         say_what_is_wrong(&rt, words);
     }
