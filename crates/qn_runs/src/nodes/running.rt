@@ -10,6 +10,7 @@ use crate::nodes::scripted::scripted;
 use qn_audit::Recorder;
 use qn_commands::{NodeImages, NodeWords, Status, create, node};
 use qn_io::{Env, MemSink, PIECE, QuietEnv, Sink};
+use qn_live::NoNotices;
 use qn_model::Timing;
 use sha2::{Digest, Sha256};
 use std::alloc::Global;
@@ -105,7 +106,7 @@ pub fn run_node<E: Env, O: Sink>(
     requires { 1 ≤ words.now.turns }
 {
     let mut input = input_of(alloc, settings, PIECE, 0).ok()?;
-    Some(node(alloc, images, words, &mut input, end, env))
+    Some(node(alloc, images, words, &mut input, end, env, &mut NoNotices))
 }
 
 impl Ran {
