@@ -175,7 +175,11 @@ struct Words {
 
 impl Words {
     fn add(&mut self, byte: u8) {
-        let escaped = [b'%', HEX[usize::from(byte / 16)], HEX[usize::from(byte % 16)]];
+        let escaped = [
+            b'%',
+            HEX[usize::from(byte / 16)],
+            HEX[usize::from(byte % 16)],
+        ];
         let _ = if byte < 32 || byte == 127 {
             self.bytes.try_extend_from_slice(&escaped)
         } else {

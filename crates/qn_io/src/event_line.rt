@@ -210,5 +210,9 @@ fn hex_digit(digit: u8) -> u8
     ensures value { result ≡ hex_digit digit }
     ensures letter { 48 ≤ result × result ≤ 70 }
 {
-    if digit <= 9 { b'0' + digit } else { b'A' + (digit - 10) }
+    if digit <= 9 {
+        b'0' + digit
+    } else {
+        b'A' + (digit - 10)
+    }
 }

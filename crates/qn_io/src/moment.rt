@@ -48,9 +48,5 @@ fn three_digits(number: u64) -> [u8; 3]
     let hundreds = number / 100;
     let tens = (number / 10) % 10;
     let ones = number % 10;
-    [
-        b'0' + hundreds as u8,
-        b'0' + tens as u8,
-        b'0' + ones as u8,
-    ]
+    [b'0' + hundreds as u8, b'0' + tens as u8, b'0' + ones as u8]
 }

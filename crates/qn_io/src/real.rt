@@ -48,8 +48,10 @@ pub struct RealEnv<
     faults: u64,
 }
 
-impl<'a, R: Files<File = File> + Net<Stream = TcpStream> + Clock + Eprint + AllocGlobal + Drop> Model
-    for RealEnv<'a, R> {
+impl<
+    'a,
+    R: Files<File = File> + Net<Stream = TcpStream> + Clock + Eprint + AllocGlobal + Drop,
+> Model for RealEnv<'a, R> {
     ghost use Rattle.std.specs.Prelude.{ℕ};
 
     ghost Value = { ℕ };
@@ -57,10 +59,10 @@ impl<'a, R: Files<File = File> + Net<Stream = TcpStream> + Clock + Eprint + Allo
     ghost view = { λ e. e.faults };
 }
 
-impl<'a, R: Files<File = File> + Net<Stream = TcpStream> + Clock + Eprint + AllocGlobal + Drop> RealEnv<
+impl<
     'a,
-    R,
-> {
+    R: Files<File = File> + Net<Stream = TcpStream> + Clock + Eprint + AllocGlobal + Drop,
+> RealEnv<'a, R> {
     ghost use Rattle.std.specs.Prelude.{◌≡◌, ◌≤◌, IfOk, IfSome, OnErr};
     ghost use Rattle.qn_io.specs.Outside.{HasRisen};
 
