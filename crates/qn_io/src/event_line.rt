@@ -51,7 +51,6 @@ impl EventLine {
     pub fn word(&mut self, key: &[u8], value: &[u8], most: usize)
         ensures head { self.new.head ≡ self.old.head }
         ensures level { self.new.level ≡ self.old.level }
-        ensures grows { (rest : List ℕ) × self.new.words ≡ self.old.words ++ rest }
         ensures plain { All IsLineByte self.new.words }
         ensures short { length self.new.head + length self.new.words ≤ 511 }
     {
@@ -65,7 +64,6 @@ impl EventLine {
     pub fn number(&mut self, key: &[u8], number: u64)
         ensures head { self.new.head ≡ self.old.head }
         ensures level { self.new.level ≡ self.old.level }
-        ensures grows { (rest : List ℕ) × self.new.words ≡ self.old.words ++ rest }
     {
         let mut digits = ArrayVec::new();
         write_decimal(number, &mut digits);
@@ -76,7 +74,6 @@ impl EventLine {
     pub fn truth(&mut self, key: &[u8], truth: bool)
         ensures head { self.new.head ≡ self.old.head }
         ensures level { self.new.level ≡ self.old.level }
-        ensures grows { (rest : List ℕ) × self.new.words ≡ self.old.words ++ rest }
     {
         self.word(key, yes_no(truth), EVENT_WORDS);
     }
@@ -85,7 +82,6 @@ impl EventLine {
     pub fn quoted(&mut self, key: &[u8], value: &[u8])
         ensures head { self.new.head ≡ self.old.head }
         ensures level { self.new.level ≡ self.old.level }
-        ensures grows { (rest : List ℕ) × self.new.words ≡ self.old.words ++ rest }
         ensures plain { All IsLineByte self.new.words }
         ensures short { length self.new.head + length self.new.words ≤ 511 }
     {
@@ -131,8 +127,7 @@ impl EventLine {
         requires { IsLineByte byte }
         ensures head { self.new.head ≡ self.old.head }
         ensures level { self.new.level ≡ self.old.level }
-        ensures grows { (rest : List ℕ) × self.new.words ≡ self.old.words ++ rest }
-        ensures room { length self.old.words < 384 → self.new.words ≡ self.old.words ++ byte ∷ [] }
+        ensures adds { length self.old.words < 384 → self.new.words ≡ self.old.words ++ byte ∷ [] }
     {
         if !self.words.is_full() {
             self.words.push(byte);
@@ -143,7 +138,6 @@ impl EventLine {
     fn escape(&mut self, text: &[u8], most: usize)
         ensures head { self.new.head ≡ self.old.head }
         ensures level { self.new.level ≡ self.old.level }
-        ensures grows { (rest : List ℕ) × self.new.words ≡ self.old.words ++ rest }
     {
         let end = self.words.len().saturating_add(most).min(EVENT_WORDS);
         'bytes: for byte in text {
@@ -159,7 +153,6 @@ impl EventLine {
         requires { length self.old.words + 3 ≤ 384 }
         ensures head { self.new.head ≡ self.old.head }
         ensures level { self.new.level ≡ self.old.level }
-        ensures grows { (rest : List ℕ) × self.new.words ≡ self.old.words ++ rest }
     {
         if byte == b' ' || byte == b'=' {
             self.plain(byte);
