@@ -72,6 +72,7 @@ fn main(rt: HostRuntime) -> ExitCode {
 }
 
 /// What the words before the command say of the outside, and the file of the status.
+#[derive(Drop)]
 struct Outside {
     edge: Edge,
     status: Option<ReplacedFile>,
