@@ -138,7 +138,7 @@ class Told:
             if packet[0] == 3:
                 self.member.on_hello(self.tick, sender)
             elif packet[2][1] < 1 << len(self.ids):
-                self.member.on_announce(self.tick, sender, self.view_of(packet[2]))
+                self.member.on_announce(sender, self.view_of(packet[2]))
         view = self.member.look(self.tick)
         return ("view", view) if view is not None else ("tick", None)
 

@@ -7,12 +7,10 @@ import os
 import pathlib
 import re
 import subprocess
-import sys
 
-TOP = pathlib.Path(__file__).resolve().parent.parent.parent
-sys.path.insert(0, str(TOP / "lib"))
+TOP = pathlib.Path(os.environ["TOP"])
 
-from live import PLAIN, QUORUMD, Agent, Cluster, Wrong, event_of, same, try_all, wait_for
+from live import PLAIN, QUORUMD, WARNINGS, Agent, Cluster, Wrong, event_of, same, try_all, wait_for
 from told import said_in, told_of
 
 try:
@@ -22,7 +20,7 @@ except ImportError:
     Draft202012Validator = None
 
 LINE = re.compile(r'quorumd: node=\d+ tick=\d+ time=\d+\.\d{3} level=[3-6] event=[a-z-]+( [a-z-]+=([^\x00-\x20"=\x7f]+|"[^\x00-\x1f"\x7f]*"))*')
-PIPE = 4096  # bytes of a small pipe
+PIPE = 32768  # bytes of a small pipe
 
 
 class RecordedCluster(Cluster):
@@ -111,7 +109,7 @@ def failed_stop():
     tells_the_same(cluster, node)
     same("the stops", [event["ok"] for event in node.events("stop")], ["no", "yes"])
     lines = node.log.read_text().splitlines()
-    same("other lines than of the journal and of the agent", [line for line in lines if not event_of(line) and "socket" not in line], [])
+    same("other lines than of the journal and of the agent", [line for line in lines if not event_of(line) and "socket" not in line and not line.endswith(WARNINGS)], [])
 
 
 def killed():
@@ -161,7 +159,7 @@ def full_pipe():
     whole(cluster, node)
     events = [event_of(line) for line in read.lstrip(b"x").decode().splitlines()]
     same("the first line", events[0]["event"], "lines-dropped")
-    same("what was dropped", int(events[0]["count"]), last_status(cluster)["dropped"])
+    same("what was dropped", sum(int(event["count"]) for event in events if event["event"] == "lines-dropped"), last_status(cluster)["dropped"])
     same("the last line", events[-1]["event"], "end")
     os.close(reader)
 
@@ -255,7 +253,7 @@ def statuses():
     first = seen_statuses(files[0], lambda status: status["view"] and len(status["view"]["members"]) == 2)
     same("conditions", {status["why"].split(":")[0] for status in first} - {"down", "no-view", "not-quorate"}, set())
     cluster.message(ids[1], "test")
-    last = seen_statuses(files[1], lambda status: status["mail"] == "test")[-1]
+    last = seen_statuses(files[1], lambda status: status["mail"] == "test" and status["votes"] > 0)[-1]
     same("a test", (last["mail_by"], last["id"], len(last["peers"]), last["votes"]), (None, ids[1], 31, 2))
     same("who was heard", [peer["id"] for peer in last["peers"] if peer["hello_tick"] is not None], [ids[0]])
     for node, ident in zip(nodes, ids):

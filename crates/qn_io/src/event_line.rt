@@ -178,15 +178,15 @@ impl EventLine {
     }
 }
 
-/// How much room a byte of a text wants: that of `%XX`, its own where it goes on with a character, or that of the longest character.
+/// How much room a byte of a text wants: its own, that of `%XX`, or that of the longest character that it may begin.
 fn room_for(byte: u8) -> usize
     ensures enough { length (escape_of byte) ≤ result }
     ensures little { result ≤ 4 }
 {
     match byte {
-        0..128 => 3,
-        128..192 => 1,
-        _ => 4,
+        192.. => 4,
+        _ if is_value_byte(byte) => 1,
+        _ => 3,
     }
 }
 

@@ -259,6 +259,7 @@ fn shown_standing(run: &NodeRun) -> Standing {
         return standing;
     }
     Standing {
+        phase: standing.phase,
         incarnation: standing.incarnation,
         ..Standing::first(run.settings(), me)
     }
