@@ -199,8 +199,8 @@ def levels():
     node = cluster.node(1, more=("--leave", "60"), run_as=("env", "JOURNAL_STREAM=8:1"))
     whole(cluster, node)
     for line in node.log.read_text().splitlines():
-        level = re.match(r"<(\d)>quorumd: node=1 .* level=(\d) ", line)
-        if not level or level[1] != level[2]:
+        level = re.match(r"<(\d)>quorumd: (?:node=1 .* level=(\d) )?", line)
+        if not level or level[1] != (level[2] or "4"):
             raise Wrong("no level: %r" % line)
 
 

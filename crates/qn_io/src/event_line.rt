@@ -35,8 +35,6 @@ impl EventLine {
     pub fn new(at: Moment, level: u8, event: &[u8]) -> EventLine
         ensures begins { result.head ≡ head_of at level }
         ensures level { result.level ≡ level }
-        ensures plain { All IsLineByte result.words }
-        ensures short { length result.head + length result.words ≤ 511 }
     {
         let mut line = EventLine {
             level,
@@ -51,8 +49,6 @@ impl EventLine {
     pub fn word(&mut self, key: &[u8], value: &[u8], most: usize)
         ensures head { self.new.head ≡ self.old.head }
         ensures level { self.new.level ≡ self.old.level }
-        ensures plain { All IsLineByte self.new.words }
-        ensures short { length self.new.head + length self.new.words ≤ 511 }
     {
         self.plain(b' ');
         self.escape(key, key.len());
@@ -82,8 +78,6 @@ impl EventLine {
     pub fn quoted(&mut self, key: &[u8], value: &[u8])
         ensures head { self.new.head ≡ self.old.head }
         ensures level { self.new.level ≡ self.old.level }
-        ensures plain { All IsLineByte self.new.words }
-        ensures short { length self.new.head + length self.new.words ≤ 511 }
     {
         self.plain(b' ');
         self.escape(key, key.len());
