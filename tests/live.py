@@ -86,13 +86,13 @@ def event_of(line):
 
 def shown(path):
     """A path as the line of an opening has it."""
-    escaped, text = "", path
-    for byte in text.encode():
-        one = chr(byte) if byte > 32 and byte not in b'"=\x7f' else "%%%02X" % byte
-        if len(escaped) + 3 > MOST_OF_A_PATH:
+    escaped = b""
+    for byte in path.encode():
+        one = bytes([byte]) if byte > 32 and byte not in b'"=\x7f' else b"%%%02X" % byte
+        if len(escaped) + (4 if byte >= 192 else len(one)) > MOST_OF_A_PATH:
             break
         escaped += one
-    return escaped
+    return escaped.decode()
 
 
 def done_of(event):
