@@ -5,7 +5,7 @@
 _quorumd_commands=(count replay status soak create dump list message node migrate replay3 node3 replay-arbiter node-logged audit node3-logged help)
 
 # the words before the command
-_quorumd_before=(--links --key --open --halt)
+_quorumd_before=(--links --key --open --halt --status)
 
 # _quorumd_options COMMAND: leaves the options that a command takes in `options`
 _quorumd_options() {
@@ -83,7 +83,7 @@ _quorumd() {
     local at=1
     while ((at < COMP_CWORD)); do
         case ${COMP_WORDS[at]} in
-        --links | --key | --halt) ((at += 2)) ;;
+        --links | --key | --halt | --status) ((at += 2)) ;;
         --open) ((at += 1)) ;;
         *) break ;;
         esac

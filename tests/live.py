@@ -21,6 +21,7 @@ TURNS = 20000  # of a node that nobody ends: about a quarter of an hour
 LONG_LOOP = "500,2100,1000,1000,500"  # a node that the machine lets wait for less than three loops is not taken for a dead one
 WARNINGS = (": a file or a pipe: it resets nothing", ": nothing was there, and an empty file was made",
             "packets carry no seal: any user of this host can forge them")
+PLAIN = {name: value for name, value in os.environ.items() if name != "JOURNAL_STREAM"}  # with that, lines begin with their level
 RESERVED = []  # a TCP socket for each UDP port that a script uses, so that two scripts never use the same one
 STARTED = []
 
@@ -70,6 +71,43 @@ def free_ports(count):
         RESERVED.extend(sockets[::2])
         return first
     raise Wrong("no %d free ports" % count)
+
+
+HALTS = {"reset": 2, "off": 3, "crashdump": 5}  # the code that a halt is made with
+MOST_OF_A_PATH = 100  # bytes of a path in the line of an opening
+
+
+def event_of(line):
+    """The words of a line of a journal by their keys, or None where it is none."""
+    if not re.match(r"(<\d>)?quorumd: node=", line):
+        return None
+    return {key: quoted or plain for key, plain, quoted in re.findall(r' ([a-z-]+)=(?:([^ "=]+)|"([^"]*)")', line)}
+
+
+def shown(path):
+    """A path as the line of an opening has it."""
+    escaped = b""
+    for byte in path.encode():
+        one = bytes([byte]) if byte > 32 and byte not in b'"=\x7f' else b"%%%02X" % byte
+        if len(escaped) + (4 if byte >= 192 else len(one)) > MOST_OF_A_PATH:
+            break
+        escaped += one
+    return escaped.decode()
+
+
+def done_of(event):
+    """What a node did, as a test names it: an opening, a start, a stop, a disarm, a halt, and packets that were refused; None: another event."""
+    outcome = {"yes": "ok", "no": "failed"}.get(event.get("ok"))
+    if event["event"] == "open":
+        return "open port %(port)s image %(image)s resource %(resource)s watchdog %(watchdog)s: " % event + outcome
+    if event["event"] in ("start", "stop", "disarm"):
+        return "%s: %s" % (event["event"], outcome)
+    if event["event"] == "halt":
+        cause = event["cause"]
+        return "halt %d: ok" % (10 + int(cause.removeprefix("boot-")) if cause.startswith("boot-") else HALTS[cause])
+    if event["event"] == "packets-refused" and "unsealed" in event:
+        return "refused " + " ".join("%s=%s" % (key, event[key]) for key in ("count", "unsealed", "astray", "old", "elsewhere"))
+    return None
 
 
 class Cluster:
@@ -173,22 +211,26 @@ class Node:
         self.log, self.answer = cluster.folder / ("log.%d" % number), cluster.folder / ("answer.%d" % number)
         options = [word for name, value in self.words.items() for word in ("--" + name, value)]
         with open(cluster.folder / "conf") as settings, open(self.log, "w") as log, open(self.answer, "w") as answer:
-            self.process = subprocess.Popen([*run_as, QUORUMD, *before, cluster.COMMAND, *options, *more], stdin=settings, stdout=answer, stderr=errors or log)
+            self.process = subprocess.Popen([*run_as, QUORUMD, *before, cluster.COMMAND, *options, *more], stdin=settings, stdout=answer, stderr=errors or log, env=PLAIN)
         STARTED.append(self.process)
 
+    def events(self, *names):
+        """The events of its journal so far, of these names where some are given."""
+        return [event for event in map(event_of, self.log.read_text().splitlines()) if event and (not names or event["event"] in names)]
+
     def said(self):
-        """The lines on standard error so far, each after `quorumd: `, and without its tick; but no warning of an opening."""
-        lines = [re.sub(r"^quorumd: (tick \d+: )?", "", line) for line in self.log.read_text().splitlines()]
-        return [line for line in lines if not line.endswith(WARNINGS)]
+        """What it did and the system's own words, in the order of its lines on standard error; but no warning of an opening."""
+        lines = [done_of(event_of(line)) if event_of(line) else line.removeprefix("quorumd: ") for line in self.log.read_text().splitlines()]
+        return [line for line in lines if line and not line.endswith(WARNINGS)]
 
     def opened(self):
-        """The line of its opening, without its end."""
+        """What it says of its opening, without its end."""
         port = int(self.words["port"]) + self.ident - 1
-        return "open port %d image %s resource %s watchdog %s: " % (port, self.words["image"], self.words["resource"], self.words["watchdog"])
+        return "open port %d image %s resource %s watchdog %s: " % (port, *(shown(self.words[name]) for name in ("image", "resource", "watchdog")))
 
     def ticks(self, line):
-        """The ticks of such lines on standard error."""
-        return [int(tick) for tick in re.findall(r"(?m)^quorumd: tick (\d+): %s$" % re.escape(line), self.log.read_text())]
+        """The ticks of such things in its journal."""
+        return [int(event["tick"]) for event in self.events() if done_of(event) == line]
 
     def waits_for(self, line):
         """Waits until it says this, and gives the tick of the first such line."""

@@ -57,7 +57,7 @@ scene_reboot_of_holder() {
     on 1 systemctl reboot
     until_true 20 another_owns 1 || { on 1 systemctl list-jobs; return 1; }
     until_true 60 unit_is 1 active || return 1
-    said 1 'disarm: ok' -b -1 -u quorumd@1.service || return 1
+    said 1 'event=disarm ok=yes' -b -1 -u quorumd@1.service || return 1
     sleep 5
     until_true 3 another_owns 1
 }
@@ -282,7 +282,7 @@ scene_renewed() {
     printf '[Timer]\nOnActiveSec=\nOnActiveSec=20s\nRandomizedDelaySec=0\nAccuracySec=1s\n' > "$room/host1/etc/systemd/system/quorumd-renew@1.timer.d/soon.conf"
     begun || return 1
     pid=$(on 1 systemctl show -P MainPID quorumd@1.service)
-    until_true 40 said 1 'disarm: ok' -u quorumd@1.service || return 1
+    until_true 40 said 1 'event=disarm ok=yes' -u quorumd@1.service || return 1
     until_true 20 owner || return 1
     until_true 20 unit_is 1 active || return 1
     [ "$(on 1 systemctl show -P MainPID quorumd@1.service)" != "$pid" ] && not_reset 1
@@ -313,7 +313,7 @@ scene_confined() {
     on 1 ionice -p "$pid"
     on 1 grep -q '^CapEff:[[:space:]]*0*$' "/proc/$pid/status" && on 1 grep -q '^Seccomp:[[:space:]]*2' "/proc/$pid/status" &&
         on 1 chrt -p "$pid" | grep -q SCHED_RR && on 1 cat "/proc/$pid/oom_score_adj" &&
-        on 1 journalctl -o cat QUORUMD_NODE=1 | grep -q 'start: ok'
+        on 1 journalctl -o cat QUORUMD_NODE=1 | grep -q 'event=start ok=yes'
 }
 
 # database_on_store AGENT: PostgreSQL with its data on the shared disk is the resource, and its clients come from outside the hosts

@@ -3,7 +3,7 @@ import os
 import shutil
 import time
 
-from live import Cluster, same, try_all, wait_for
+from live import Cluster, done_of, event_of, same, try_all, wait_for
 
 LOOP = 1.0  # seconds
 
@@ -73,8 +73,9 @@ def full_errors():
     cluster.message(1, "exit")
     same("answer", node.end(), (0, "left clean\n"))
     said = os.read(reader, 65536).decode().splitlines()
-    same("it said first", said[0], "quorumd: 3 lines were passed over: standard error took none")
-    same("and then", [line.split(": ", 2)[2] for line in said[1:]], ["stop: ok", "disarm: ok"])
+    events = [event_of(line) for line in said]
+    same("it said first", events[0]["event"], "lines-dropped")
+    same("and then", [done_of(event) for event in events if done_of(event)], ["stop: ok", "disarm: ok"])
 
 
 try_all(an_image_that_is_unlinked, an_image_that_is_replaced, put_back, full_errors)

@@ -45,7 +45,7 @@ class LinkedCluster(Cluster):
 
 
 def without_losses(node):
-    return [line for line in node.said()[1:] if not line.startswith("network: ")]
+    return [line for line in node.said()[1:] if not line.startswith("refused ")]
 
 
 def take_over(network, name):

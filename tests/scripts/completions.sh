@@ -35,10 +35,11 @@ offers '' x
 expect 0 "commands $commands\\n" help
 
 # the words before the command, and what follows them
-offers '--links --key --open --halt' -
+offers '--links --key --open --halt --status' -
 offers --links --l
 offers "$commands" --open ''
 offers --key --open --k
+offers 'node node3 node-logged node3-logged' --status file node
 offers 'status soak' --links conf --key key s
 offers --form --links conf --key key status ''
 offers '--image --timing' --key one --key two create ''

@@ -4,7 +4,7 @@ import pathlib
 import re
 import subprocess
 
-from live import QUORUMD, Cluster, Wrong, same
+from live import QUORUMD, Cluster, done_of, event_of, same
 
 WORDS = ["--id", "1", "--turns", "60", "--leave", "40"]
 cluster = Cluster("one", ids=(1,))
@@ -62,7 +62,6 @@ same("no leave", audit(text, *WORDS[:4])[0], 18)
 with open("/dev/full", "w") as full:
     status, said = run_logged(full)
 same("a full disk", status, 7)
-for line in ("start: ok", "stop: ok", "disarm: ok"):
-    if not re.search(r"(?m)^quorumd: tick \d+: %s$" % line, said):
-        raise Wrong("the node did not run on: no %r in %r" % (line, said))
+done = [done_of(event) for event in map(event_of, said.splitlines()) if event]
+same("what it did", [line for line in done if line and not line.startswith("open")], ["start: ok", "stop: ok", "disarm: ok"])
 same("the slot", cluster.listed(1), "incarnation 2 clean mail empty")

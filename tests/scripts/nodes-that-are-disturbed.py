@@ -94,7 +94,7 @@ def outsider():
     same("answer", (status, answer.split(" quorate")[0]), (0, "turns 200 up holds=no"))
     if time.monotonic() - began < 200 * 0.035:
         raise Wrong("200 turns took %.1f s" % (time.monotonic() - began))
-    said = [line for line in node.said()[1:] if not re.fullmatch(r"network: \d+ packets not taken: 0 unsealed, 0 astray, 0 old, \d+ of another address", line)]
+    said = [line for line in node.said()[1:] if not re.fullmatch(r"refused count=\d+ unsealed=0 astray=0 old=0 elsewhere=\d+", line)]
     same("said", (said, len(node.said())), ([], 2))
 
 

@@ -11,7 +11,7 @@ import time
 from live import Cluster, Wrong, same, try_all
 from rotation import TIMING, rotate
 
-NOT_TAKEN = r"network: \d+ packets not taken: (\d+) unsealed, (\d+) astray, (\d+) old, (\d+) of another address"
+NOT_TAKEN = r"refused count=\d+ unsealed=(\d+) astray=(\d+) old=(\d+) elsewhere=(\d+)"
 
 
 class KeyCluster(Cluster):

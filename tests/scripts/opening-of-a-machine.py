@@ -50,7 +50,7 @@ class Stage:
         limited = (lambda: resource.setrlimit(resource.RLIMIT_FSIZE, (1 << 20, 1 << 20))) if self.limit else None
         with open(self.cluster.folder / "conf") as settings:
             done = subprocess.run(words, stdin=settings, capture_output=True, text=True, check=False, preexec_fn=limited)
-        said = [line.removeprefix("quorumd: ") for line in done.stderr.splitlines() if ": open port " not in line and ": disarm: " not in line]
+        said = [line.removeprefix("quorumd: ") for line in done.stderr.splitlines() if not live.event_of(line)]
         return done.returncode, done.stdout, said
 
 

@@ -77,6 +77,26 @@ for line in '1 1.5' '1,5 1' '1.5' '1.5 1 2' '' '-1 1' '1.5 1 off'; do
     refused 2 "^timeline: line 2: $line: not a time in seconds and an id$" --journal < <(printf '0.5 1\n%s\n' "$line")
 done
 
+# what two nodes said: one holds, resets the other one, and leaves; lines of the system are passed over
+said() {
+    printf 'quorumd: node=%s tick=1 time=1795899837.%s level=5 event=%s\n' "$@"
+}
+{
+    said 2 775 'phase from=booting to=up'
+    said 1 700 'open port=7400 image=d resource=r watchdog=w ok=yes'
+    said 2 800 'view view=2 members=2 quorate=yes votes=1 quorum=1 expected=1'
+    printf 'quorumd: disk: Permission denied (os error 13)\n'
+    said 2 820 'why why=unfenced:1:unwritten'
+    said 2 850 'fence-written of=1 ok=yes msgwait=10000'
+    said 2 900 'hold-won'
+    said 1 910 'mail message=reset by=2 by-incarnation=1'
+    said 1 950 'end end="fault SelfReset reset"'
+    said 2 999 'end end="left clean"'
+} > journal
+timeline --journal journal > drawn.svg
+same "$(grep -o 'data-lane="[^"]*"\|data-kind="[a-z]*" data-\(first="[0-9]*" data-last\|point\)="[0-9]*"' drawn.svg | tr -d '"' | xargs)" \
+    'data-lane=node 1 data-kind=landed data-point=5 data-kind=message data-point=7 data-kind=halts data-point=8 data-kind=booting data-first=1 data-last=8 data-lane=node 2 data-kind=view data-point=3 data-kind=left data-point=9 data-kind=up data-first=2 data-last=9 data-kind=holds data-first=6 data-last=9 data-kind=quorate data-first=3 data-last=9 data-kind=blocked data-first=4 data-last=9'
+
 # a record of a node: from its start to its stop, and its end; its own line at the end is passed over
 printf '%s\n' 'now 100' 'read 0 failed' 'now 200' 'feed ok' 'start ok' 'now 300' 'receive nothing' 'now 400' 'stop failed' 'now 500' 'stop ok' \
     'write 1 00ff ok' 'now 600' 'send 1 - failed' 'disarm ok' 'left clean' > record

@@ -52,14 +52,21 @@ printf 'nodelist {\n%s\n}\n' "$(node 1 2001:db8::1)" > conf6
 says '--links: given twice' --links conf --links conf --open help
 says '--open: given twice' --open --open help
 says '--halt: given twice' --halt a --halt b help
+says '--status: given twice' --status a --status b node
+says '--status stands before a node alone' --status a help
+says '--status stands before a node alone' --status a audit --id 1 --turns 1
+says '--status stands before a node alone' --open --status a
+for path in '' "$(head -c 4091 /dev/zero | tr '\0' x)"; do
+    says '--status: a path has 1 to 4090 bytes' --status "$path" node
+done
 says '--key: more than three' --key one --key two --key three --key four help
 says '--open beside --key' --open --key one help
 says '--open beside --key' --key one --open help
 says '--links wants --key or --open' --links conf help
 says '--links wants --key or --open' --halt file --links conf
-for word in --links --key --halt; do
+for word in --links --key --halt --status; do
     says "$word: its value is missing" "$word"
-    for next in --links --key --open --halt; do
+    for next in --links --key --open --halt --status; do
         says "$word: its value is missing" "$word" "$next" conf help
     done
 done

@@ -13,14 +13,16 @@ ghost use Rattle.qn_audit.specs.Recording.{DidLogged, LogsCall, log_of, recorded
 use crate::recorder::Recorder;
 use qn_base::Rank;
 use qn_io::{Env, Got, SECTOR, Sink};
-use qn_live::{Asked, Given, LiveEnd, Room};
+use qn_live::{Asked, Given, LiveEnd, Notices, Room};
 use qn_live3::{ImagesRun, NodeImages};
 use qn_model::Settings;
 
 /// Runs the node of that rank on these images for that many turns at most, over an outside whose calls are recorded, as
 /// `qn_live::run_node` and `qn_live3::run_node3` do. The calls that were made are those of the plan, and they were given to the log in that order.
-pub fn run_recorded<E: Env, O: Sink>(
+/// `notices` is told of each call, and of the end.
+pub fn run_recorded<E: Env, O: Sink, N: Notices>(
     recorder: &mut Recorder<'_, E, O>,
+    notices: &mut N,
     images: NodeImages,
     settings: &Settings,
     me: Rank,
@@ -48,10 +50,14 @@ pub fn run_recorded<E: Env, O: Sink>(
     'calls: loop {
         let asked = match run.asks(&mut room) {
             Ok(asked) => asked,
-            Err(end) => return end,
+            Err(end) => {
+                notices.ended(end, run.node_run());
+                return end;
+            }
         };
         let given = call(recorder, asked, &mut room);
         run.answer(given, &room);
+        notices.made(asked, given, &room, run.node_run());
     }
 }
 

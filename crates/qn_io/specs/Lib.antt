@@ -1,5 +1,7 @@
 pub mod Admission
 pub mod Answered
+pub mod EventLines
+pub mod EventTexts
 pub mod Halts
 pub mod Lines
 pub mod Memory

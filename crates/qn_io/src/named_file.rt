@@ -72,6 +72,13 @@ impl NamedFile {
         NamedFile::open_with(rt, path, &options)
     }
 
+    /// Opens the file of that path for writing, empty, and makes it where it is absent.
+    pub(crate) fn open_anew<R: Files<File = File>>(rt: &R, path: &str) -> io::Result<NamedFile> {
+        let mut options = OpenOptions::new();
+        options.write(true).create(true).truncate(true);
+        NamedFile::open_with(rt, path, &options)
+    }
+
     fn open_with<R: Files<File = File>>(
         rt: &R,
         path: &str,

@@ -6,6 +6,7 @@ use crate::again::TRIES;
 use crate::calls::PACKET;
 use crate::deadline::{Deadline, is_late};
 use crate::edge::{Edge, Guard, MOST_NODES};
+use crate::error_lines::Lines;
 use crate::named_file::FIRST_OF_A_FILE;
 use crate::peers::Peers;
 use crate::refusals::Refusals;
@@ -174,8 +175,8 @@ impl Network {
     }
 
     /// Says on standard error, at most once a minute, how many datagrams were passed over.
-    pub(crate) fn say_refusals<E: Eprint>(&mut self, errors: &E, tick: u64) {
-        self.refusals.say(errors, tick);
+    pub(crate) fn say_refusals<R: Clock + Eprint>(&mut self, rt: &R, lines: &Lines, tick: u64) {
+        self.refusals.say(rt, lines, tick);
     }
 
     /// Sends a packet to the node of that rank, whether it is there or not.

@@ -1,6 +1,5 @@
 //! The real outside: images, the monotonic clock, a port, a watchdog, a resource and a file for halts.
 
-use crate::action::{Action, noted};
 use crate::calls::{Env, Got, Opening, PACKET, SECTOR};
 use crate::devices::Devices;
 use crate::disk::Disk;
@@ -19,18 +18,27 @@ use std::net::{Net, TcpStream};
 use std::rt::Files;
 use std::time::{Clock, Duration};
 
+/// The most bytes of a path in the line of an opening.
+const MOST_OF_A_PATH: usize = 100;
+
+/// The levels of a line, as syslog(3) has them.
+const ERROR: u8 = 3;
+
+const NOTICE: u8 = 5;
+
 /// How long a node waits after a packet could not be received, in milliseconds.
 const REST: u64 = 40;
 
 /// The outside of a node over the runtime: one image file or three, the monotonic clock in milliseconds, UDP, a
 /// watchdog, a resource and a file for halts. It does not tell its calls, and is seen as its count of faults. Of each call that failed
-/// a line on standard error says why, and of what a node opens, starts, stops, disarms and ends one says when.
+/// a line on standard error says why, and one says what a node opens.
 #[derive(Drop)]
 pub struct RealEnv<
+    'a,
     R: Files<File = File> + Net<Stream = TcpStream> + Clock + Eprint + AllocGlobal + Drop,
 > {
     rt: R,
-    lines: Lines,
+    lines: &'a Lines,
     /// With what it waits where the network fails at once, once a node was opened.
     waiting: Option<Waiting>,
     edge: Edge,
@@ -40,8 +48,10 @@ pub struct RealEnv<
     faults: u64,
 }
 
-impl<R: Files<File = File> + Net<Stream = TcpStream> + Clock + Eprint + AllocGlobal + Drop> Model
-    for RealEnv<R> {
+impl<
+    'a,
+    R: Files<File = File> + Net<Stream = TcpStream> + Clock + Eprint + AllocGlobal + Drop,
+> Model for RealEnv<'a, R> {
     ghost use Rattle.std.specs.Prelude.{ℕ};
 
     ghost Value = { ℕ };
@@ -49,19 +59,20 @@ impl<R: Files<File = File> + Net<Stream = TcpStream> + Clock + Eprint + AllocGlo
     ghost view = { λ e. e.faults };
 }
 
-impl<R: Files<File = File> + Net<Stream = TcpStream> + Clock + Eprint + AllocGlobal + Drop> RealEnv<
-    R,
-> {
+impl<
+    'a,
+    R: Files<File = File> + Net<Stream = TcpStream> + Clock + Eprint + AllocGlobal + Drop,
+> RealEnv<'a, R> {
     ghost use Rattle.std.specs.Prelude.{◌≡◌, ◌≤◌, IfOk, IfSome, OnErr};
     ghost use Rattle.qn_io.specs.Outside.{HasRisen};
 
-    /// An outside over this runtime with what was said of it before the command, with nothing opened and no fault so far.
-    pub fn new(rt: R, edge: Edge) -> RealEnv<R>
+    /// An outside over this runtime with what was said of it before the command, and these lines, with nothing opened and no fault so far.
+    pub fn new(rt: R, edge: Edge, lines: &'a Lines) -> RealEnv<'a, R>
         ensures { result ≡ 0 }
     {
         RealEnv {
             rt,
-            lines: Lines::at_once(),
+            lines,
             waiting: None,
             edge,
             disk: Disk::closed(),
@@ -132,12 +143,17 @@ impl<R: Files<File = File> + Net<Stream = TcpStream> + Clock + Eprint + AllocGlo
         u64::try_from(time.as_millis()).ok()
     }
 
-    /// Says on standard error what the node did at the last answer of `now`.
-    fn note(&self, action: Action<'_>, done: Result<(), Failed>) -> Result<(), Failed>
-        ensures { result ≡ done }
-    {
-        let errors = self.lines.over(&self.rt);
-        noted(&errors, self.last_tick.unwrap_or(0), action, done)
+    /// Says what a node opens, and whether all of it was opened.
+    fn say_opening(&self, opening: &Opening<'_>, ok: bool) {
+        let level = if ok { NOTICE } else { ERROR };
+        let port = opening.port.wrapping_add(u16::from(opening.rank.0));
+        let mut line = self.lines.line(&self.rt, level, b"open");
+        line.number(b"port", u64::from(port));
+        line.word(b"image", opening.image.as_bytes(), MOST_OF_A_PATH);
+        line.word(b"resource", opening.resource.as_bytes(), MOST_OF_A_PATH);
+        line.word(b"watchdog", opening.watchdog.as_bytes(), MOST_OF_A_PATH);
+        line.truth(b"ok", ok);
+        self.lines.say(&self.rt, &line);
     }
 
     /// Has the resource started or stopped.
@@ -157,7 +173,7 @@ impl<R: Files<File = File> + Net<Stream = TcpStream> + Clock + Eprint + AllocGlo
         let errors = self.lines.over(&self.rt);
         let network = &mut self.devices.as_mut().ok_or(Failed)?.network;
         let came = network.receive(&self.rt, packet);
-        network.say_refusals(&errors, tick);
+        network.say_refusals(&self.rt, self.lines, tick);
         reported(&errors, "network", came)
     }
 
@@ -202,8 +218,8 @@ impl<R: Files<File = File> + Net<Stream = TcpStream> + Clock + Eprint + AllocGlo
     }
 }
 
-impl<R: Files<File = File> + Net<Stream = TcpStream> + Clock + Eprint + AllocGlobal + Drop> Env
-    for RealEnv<R> {
+impl<'a, R: Files<File = File> + Net<Stream = TcpStream> + Clock + Eprint + AllocGlobal + Drop> Env
+    for RealEnv<'a, R> {
     ghost use Rattle.std.specs.Prelude.{None};
 
     ghost faults = { λ e. e };
@@ -230,13 +246,14 @@ impl<R: Files<File = File> + Net<Stream = TcpStream> + Clock + Eprint + AllocGlo
     fn open_node(&mut self, opening: &Opening<'_>) -> Result<(), Failed> {
         self.disk = Disk::closed();
         self.devices = None;
-        self.lines = Lines::new(&self.rt);
+        self.lines.wait_for_nobody(&self.rt);
         self.waiting = Waiting::new(&self.rt).ok();
         let opened = self.open_all(opening);
         let done = self.keep(opened);
-        let tick = self.tick().unwrap_or(0);
-        let errors = self.lines.over(&self.rt);
-        let done = noted(&errors, tick, Action::Open(opening), done);
+        if let Some(tick) = self.tick() {
+            self.lines.set_tick(tick);
+        }
+        self.say_opening(opening, done.is_ok());
         let done = self.warn_of_forgery(done);
         self.counted(done)
     }
@@ -244,7 +261,10 @@ impl<R: Files<File = File> + Net<Stream = TcpStream> + Clock + Eprint + AllocGlo
     /// The time of the monotonic clock. Where it cannot be read, the last answer, and a fault.
     fn now(&mut self) -> u64 {
         match self.tick() {
-            Some(tick) => self.last_tick = Some(tick),
+            Some(tick) => {
+                self.last_tick = Some(tick);
+                self.lines.set_tick(tick);
+            }
             None => self.faults = self.faults.saturating_add(1),
         }
         self.last_tick.unwrap_or(0)
@@ -288,14 +308,12 @@ impl<R: Files<File = File> + Net<Stream = TcpStream> + Clock + Eprint + AllocGlo
     /// Has the resource started. An agent has 20 seconds to answer.
     fn start(&mut self) -> Result<(), Failed> {
         let done = self.order(Order::Start);
-        let done = self.note(Action::Start, done);
         self.counted(done)
     }
 
     /// Has the resource stopped. An agent has 20 seconds to answer.
     fn stop(&mut self) -> Result<(), Failed> {
         let done = self.order(Order::Stop);
-        let done = self.note(Action::Stop, done);
         self.counted(done)
     }
 
@@ -316,13 +334,11 @@ impl<R: Files<File = File> + Net<Stream = TcpStream> + Clock + Eprint + AllocGlo
         if done.is_ok() {
             self.disk.end_boot(&self.rt, &self.lines.over(&self.rt));
         }
-        let done = self.note(Action::Disarm, done);
         self.counted(done)
     }
 
-    /// Tells the file for halts, where there is one, and says so on standard error.
+    /// Tells the file for halts, where there is one.
     fn halt(&mut self, code: u8) {
-        let done = self.tell_halt(code);
-        let _ = self.note(Action::Halt(code), done);
+        let _ = self.tell_halt(code);
     }
 }

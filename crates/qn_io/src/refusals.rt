@@ -3,7 +3,12 @@ ghost use Rattle.std.specs.Prelude.{◌≡◌, ◌+◌, nat_lt};
 ghost use Rattle.qn_io.specs.Refusals.{counted, is_due, is_minute_ago, refusals_after};
 
 use crate::admission::Reason;
+use crate::error_lines::Lines;
 use qn_seal::Refused;
+use std::time::Clock;
+
+/// The level of the line, as syslog(3) has it.
+const WARNING: u8 = 4;
 
 /// How long no second line is said, in milliseconds.
 const BETWEEN_LINES: u64 = 60_000;
@@ -56,8 +61,8 @@ impl Refusals {
         }
     }
 
-    /// Says how many there were, where a line is due, and counts anew from then on. That the line cannot be written is no fault.
-    pub(crate) fn say<E: Eprint>(&mut self, errors: &E, tick: u64)
+    /// Says how many there were, where a line is due, and counts anew from then on.
+    pub(crate) fn say<R: Clock + Eprint>(&mut self, rt: &R, lines: &Lines, tick: u64)
         ensures { self.new ≡ refusals_after self.old tick }
     {
         if !self.is_due(tick) {
@@ -74,9 +79,13 @@ impl Refusals {
             .saturating_add(astray)
             .saturating_add(stale)
             .saturating_add(elsewhere);
-        let _ = eprintln!(errors;
-            "quorumd: network: {all} packets not taken: {unsealed} unsealed, {astray} astray, {stale} old, {elsewhere} of another address"
-        );
+        let mut line = lines.line(rt, WARNING, b"packets-refused");
+        line.number(b"count", all);
+        line.number(b"unsealed", unsealed);
+        line.number(b"astray", astray);
+        line.number(b"old", stale);
+        line.number(b"elsewhere", elsewhere);
+        lines.say(rt, &line);
         *self = Refusals {
             said: Some(tick),
             ..Refusals::default()

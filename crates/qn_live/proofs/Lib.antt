@@ -7,5 +7,6 @@ pub mod Ids
 pub mod Joining
 pub mod Operations
 mod Rows
+pub mod Taking
 pub mod Telling
 pub mod Through

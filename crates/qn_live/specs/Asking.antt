@@ -1,5 +1,5 @@
 -- The calls of a running node as values: what is asked, and what a call gave. This project's profile.
-use Rattle.std.specs.Prelude.{◌≡◌, ◌<◌, true, false, not, [], if◌then◌else◌}
+use Rattle.std.specs.Prelude.{◌≡◌, ◌<◌, Bool, true, false, not, [], if◌then◌else◌}
 use Rattle.qn_base.specs.declared.calls.Call.{Call}
 use Rattle.qn_base.specs.declared.calls.Call.TheVariants as call
 use Rattle.qn_base.specs.declared.calls.Received.TheVariants as received
@@ -36,6 +36,19 @@ IsServed asked.Stop = Unit {0}
 IsServed (asked.Send to) = to.0 < 32
 IsServed asked.Disarm = Unit {0}
 IsServed (asked.Halt code) = Unit {0}
+
+-- the call is a look at the clock
+abbrev pub is_look : Asked → Bool
+is_look asked.Now = true
+is_look asked.Receive = false
+is_look (asked.Read sector) = false
+is_look (asked.Write sector) = false
+is_look asked.Feed = false
+is_look asked.Start = false
+is_look asked.Stop = false
+is_look (asked.Send to) = false
+is_look asked.Disarm = false
+is_look (asked.Halt code) = false
 
 -- the call that is asked for, with no answer
 abbrev pub question_of : Asked → Room → Call

@@ -11,3 +11,4 @@ pub mod Performing
 pub mod Places
 pub mod Running
 pub mod Runs
+pub mod Standings

@@ -1,12 +1,14 @@
 -- What a running node that waits for a call stands for: what is left of its run. This project's profile.
-use Rattle.std.specs.Prelude.{◌≡◌, ◌<◌, ℕ, false, true, ◌+◌, ◌==◌, List, All, Option, None, Some, length, drop, option_and_then, slice_get}
+use Rattle.std.specs.Prelude.{◌≡◌, ◌<◌, ℕ, Bool, false, true, ◌+◌, ◌==◌, List, All, Option, None, Some, length, drop, option_and_then, slice_get}
 use Rattle.qn_base.specs.Plans.{Plan, Ends, ◌>>=◌}
 use Rattle.qn_model.specs.declared.configuration.Settings.{Settings}
+use Rattle.qn_model.specs.declared.entries.Entry.{Entry}
 use Rattle.qn_model.specs.declared.outputs.DiskOp.{DiskOp}
 use Rattle.qn_model.specs.declared.outputs.Out.{Out}
 use Rattle.qn_model.specs.declared.outputs.Out.TheVariants as out
 use Rattle.qn_model.specs.declared.packets.Sent.{Sent}
 use Rattle.qn_model.specs.Log.{Line, now}
+use Rattle.qn_model.specs.NodeOutputs.{newest_outs, with_entry}
 use Rattle.qn_model.specs.Settings.{IsValid}
 use Rattle.qn_node.specs.declared.node.Node.{Node}
 use Rattle.qn_node.specs.Node.{NodeFor}
@@ -134,6 +136,34 @@ pub record RunFor (run : NodeRun) (plan : Plan Ran) : Type 0 where
   pub stands : Stands run log
   pub more : HasMore run.settings run.me.0 run.outs run.place
   pub is_left : plan ≡ left_of run log
+
+-- the clock is looked at next
+abbrev pub looks_at : Place → Bool
+looks_at (place.Now choice) = true
+looks_at place.Receive = false
+looks_at (place.Act at) = false
+looks_at (place.Greet said to) = false
+looks_at (place.Part view to) = false
+looks_at (place.Over end) = false
+
+abbrev pub looks_next : NodeRun → Bool
+looks_next run = looks_at run.place
+
+-- the last entry that was taken in
+abbrev pub last_entry : NodeRun → Entry
+last_entry run = record { tick = run.tick; what = run.entry }
+
+-- the last entry was taken in after this log, at this tick: the machine stands for the log with it, and has its outputs
+pub record TookIn (run : NodeRun) (log : List Line) (tick : ℕ) : Type 0 where
+  pub at : run.tick ≡ tick
+  pub stands : Stands run (with_entry run.settings run.me.0 log (last_entry run))
+  pub outs : run.outs ≡ newest_outs (with_entry run.settings run.me.0 log (last_entry run))
+
+-- no entry was taken in
+pub record KeepsEntry (before after : NodeRun) : Type 0 where
+  pub node : after.node ≡ before.node
+  pub entry : last_entry after ≡ last_entry before
+  pub outs : after.outs ≡ before.outs
 
 -- the machine stands for some log, and for some plan
 abbrev pub IsStanding : NodeRun → Type 0

@@ -17,10 +17,12 @@ mod disk;
 mod greeting;
 mod laws;
 mod live_end;
+mod notices;
 mod outputs;
 mod place;
 mod run;
 mod running;
+mod standing;
 
 pub use asked::{Asked, Given, Room};
 pub use calling::call;
@@ -30,5 +32,7 @@ pub use laws::{
     law_operation, law_outputs, law_rest, law_sound_end,
 };
 pub use live_end::LiveEnd;
+pub use notices::{NoNotices, Notices};
 pub use run::NodeRun;
 pub use running::run_node;
+pub use standing::Standing;

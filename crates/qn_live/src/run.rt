@@ -9,6 +9,7 @@ use crate::greeting::{announced, farewell, greeting_packet, hello_due, keep_memb
 use crate::live_end::LiveEnd;
 use crate::outputs::{self, end_in, operation_in, waits_after};
 use crate::place::{Choice, Greeting, Place, Waits};
+use crate::standing::Standing;
 use qn_base::{Rank, View};
 use qn_member::Member;
 use qn_model::{DiskOp, Entry, Outs, Phase, Settings, What};
@@ -43,7 +44,7 @@ pub struct NodeRun {
 }
 
 impl NodeRun {
-    ghost use Rattle.std.specs.Prelude.{◌≡◌, ◌<◌, ◌-◌, ◌*◌, ◌==◌, ℕ, List, [], Some, All, IfOk, OnOk, IfErr, IfSome, IfNone, length, slice_get, false};
+    ghost use Rattle.std.specs.Prelude.{◌≡◌, ◌<◌, ◌-◌, ◌*◌, ◌==◌, ℕ, List, [], Some, All, IfOk, OnOk, IfErr, IfSome, IfNone, length, slice_get, false, true};
     ghost use Rattle.qn_base.specs.declared.calls.Call.{Call};
     ghost use Rattle.qn_base.specs.Calls.{blank};
     ghost use Rattle.qn_base.specs.Plans.{Plan, question, left};
@@ -54,15 +55,16 @@ impl NodeRun {
     ghost use Rattle.qn_model.specs.Phases.{is_live, phase};
     ghost use Rattle.qn_model.specs.Settings.{IsValid};
     ghost use Rattle.qn_node.specs.Outputs.{IsNodeOutput};
-    ghost use Rattle.qn_live.specs.Asking.{IsServed, IsWithin, question_of, Tells};
+    ghost use Rattle.qn_live.specs.Asking.{IsServed, IsWithin, is_look, question_of, Tells};
     ghost use Rattle.qn_live.specs.Choosing.{is_to_leave};
     ghost use Rattle.qn_live.specs.Greetings.{farewells, greeting_call, others_from, to_send};
-    ghost use Rattle.qn_live.specs.Machine.{EndsWith, HasMore, IsStanding, IsUnderWay, RunFor, Stands, acting, begun, clocking, ending, next_of, operation_of, parting, saying, settling, state_of, work};
+    ghost use Rattle.qn_live.specs.Machine.{EndsWith, HasMore, IsStanding, IsUnderWay, KeepsEntry, RunFor, Stands, TookIn, acting, begun, clocking, ending, looks_next, next_of, operation_of, parting, saying, settling, state_of, work};
     ghost use Rattle.qn_live.specs.Halts.{is_on_disk};
     ghost use Rattle.qn_live.specs.Performing.{disk_answer, disk_call, noted, out_call, own_number};
     ghost use Rattle.qn_live.specs.Places.{calls_of_greeting};
     ghost use Rattle.qn_live.specs.Running.{Ran};
     ghost use Rattle.qn_live.specs.Runs.{live_plan, turns_end};
+    ghost use Rattle.qn_live.specs.Standings.{standing};
 
     /// A run of that many turns of the node of that rank; `clean` says that its boot is a clean start, and `leave_at` is
     /// the number of the turn from which on it is to leave.
@@ -144,6 +146,15 @@ impl NodeRun {
         self.loop_ms
     }
 
+    /// Where the node stands after its last entry, at the tick of that entry.
+    pub fn standing(&self) -> Standing
+        ensures { (log : List Line)
+            → Stands self.now log
+            → result ≡ standing self.now.settings self.now.me.0 log }
+    {
+        Standing::of(&self.node, self.tick)
+    }
+
     /// The call that comes next, whose bytes are put into the room, or how the run ended.
     pub fn asks(&self, room: &mut Room) -> Result<Asked, LiveEnd>
         requires under_way { IsUnderWay self.now }
@@ -153,6 +164,7 @@ impl NodeRun {
         ensures within { IfOk result IsWithin }
         ensures served { IfOk result IsServed }
         ensures work { OnOk result (0 < work self.now) }
+        ensures looks { IfOk result (λ asked. is_look asked ≡ looks_next self.now) }
         ensures over { IfErr result
             (λ end. (plan : Plan Ran) → RunFor self.now plan → EndsWith plan end) }
     {
@@ -198,7 +210,8 @@ impl NodeRun {
         Asked::Send { to: Rank(to) }
     }
 
-    /// Takes the answer of the call that was asked for, with its bytes in the room, and goes on to the next call.
+    /// Takes the answer of the call that was asked for, with its bytes in the room, and goes on to the next call. An entry is
+    /// taken in at each look at the clock that did not go back, and at no other call.
     pub fn answer(&mut self, given: Given, room: &Room)
         requires under_way { IsUnderWay self.old }
         requires fits { FitsPacket given.got }
@@ -210,6 +223,15 @@ impl NodeRun {
         ensures work { 0 < work self.old → work self.new < work self.old }
         ensures settings { self.new.settings ≡ self.old.settings }
         ensures rank { self.new.me ≡ self.old.me }
+        ensures took { (log : List Line)
+            → Stands self.old log
+            → looks_next self.old ≡ true
+            → self.old.tick ≤ given.tick
+            → TookIn self.new log given.tick }
+        ensures back { looks_next self.old ≡ true
+            → given.tick < self.old.tick
+            → KeepsEntry self.old self.new }
+        ensures keeps { looks_next self.old ≡ false → KeepsEntry self.old self.new }
     {
         match self.place {
             Place::Receive => {
@@ -252,6 +274,7 @@ impl NodeRun {
             → work self.new < work self.old }
         ensures settings { self.new.settings ≡ self.old.settings }
         ensures rank { self.new.me ≡ self.old.me }
+        ensures keeps { KeepsEntry self.old self.new }
     {
         match self.place {
             Place::Act { at } => {
@@ -279,6 +302,11 @@ impl NodeRun {
         ensures work { work self.new < 128 * self.old.after + 126 }
         ensures settings { self.new.settings ≡ self.old.settings }
         ensures rank { self.new.me ≡ self.old.me }
+        ensures took { (log : List Line)
+            → Stands self.old log
+            → self.old.tick ≤ tick
+            → TookIn self.new log tick }
+        ensures back { tick < self.old.tick → KeepsEntry self.old self.new }
     {
         if tick < self.tick {
             self.place = Place::Over(LiveEnd::ClockBack {
@@ -312,6 +340,7 @@ impl NodeRun {
         ensures work { work self.new < 128 * self.old.after + 80 + (41 - at) }
         ensures settings { self.new.settings ≡ self.old.settings }
         ensures rank { self.new.me ≡ self.old.me }
+        ensures keeps { KeepsEntry self.old self.new }
     {
         let out = self.outs.get(at);
         self.waits = waits_after(&self.settings, self.waits, out, given, room);
@@ -327,6 +356,7 @@ impl NodeRun {
         ensures work { work self.new < 128 * self.old.after + 80 + (42 - at) }
         ensures settings { self.new.settings ≡ self.old.settings }
         ensures rank { self.new.me ≡ self.old.me }
+        ensures keeps { KeepsEntry self.old self.new }
     {
         if at < self.outs.len() {
             self.place = Place::Act { at };
@@ -343,6 +373,7 @@ impl NodeRun {
         ensures work { work self.new < 128 * self.old.after + 80 }
         ensures settings { self.new.settings ≡ self.old.settings }
         ensures rank { self.new.me ≡ self.old.me }
+        ensures keeps { KeepsEntry self.old self.new }
     {
         if let Some(end) = end_in(self.entry, &self.outs) {
             self.leave(end);
@@ -371,6 +402,7 @@ impl NodeRun {
         ensures work { work self.new < 128 * self.old.after + 80 }
         ensures settings { self.new.settings ≡ self.old.settings }
         ensures rank { self.new.me ≡ self.old.me }
+        ensures keeps { KeepsEntry self.old self.new }
     {
         match farewell(end, &self.member) {
             Some(view) => self.part(view, 0),
@@ -387,6 +419,7 @@ impl NodeRun {
         ensures work { work self.new ≤ 33 - from }
         ensures settings { self.new.settings ≡ self.old.settings }
         ensures rank { self.new.me ≡ self.old.me }
+        ensures keeps { KeepsEntry self.old self.new }
     {
         match self.other_from(from) {
             Some(to) => self.place = Place::Part { view, to },
@@ -415,6 +448,7 @@ impl NodeRun {
         ensures work { work self.new < 128 * self.old.after + 1 + calls_of_greeting greeting from }
         ensures settings { self.new.settings ≡ self.old.settings }
         ensures rank { self.new.me ≡ self.old.me }
+        ensures keeps { KeepsEntry self.old self.new }
     {
         match self.next_greeting(greeting, from) {
             Some((greeting, to)) => self.place = Place::Greet { greeting, to },
@@ -476,6 +510,7 @@ impl NodeRun {
         ensures work { work self.new ≤ 128 * self.old.after }
         ensures settings { self.new.settings ≡ self.old.settings }
         ensures rank { self.new.me ≡ self.old.me }
+        ensures keeps { KeepsEntry self.old self.new }
     {
         if self.after == 0 {
             self.place = Place::Over(self.turns_end());
@@ -509,6 +544,7 @@ impl NodeRun {
         ensures work { work self.new ≤ 128 * self.old.after + 127 }
         ensures settings { self.new.settings ≡ self.old.settings }
         ensures rank { self.new.me ≡ self.old.me }
+        ensures keeps { KeepsEntry self.old self.new }
     {
         match ready(self.is_to_leave(), self.rests, self.waits) {
             Some((entry, waits)) => {

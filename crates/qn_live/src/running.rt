@@ -8,15 +8,17 @@ ghost use Rattle.qn_live.specs.Runs.{live_plan};
 use crate::asked::Room;
 use crate::calling::call;
 use crate::live_end::LiveEnd;
+use crate::notices::Notices;
 use crate::run::NodeRun;
 use qn_base::Rank;
 use qn_io::Env;
 use qn_model::Settings;
 
 /// Runs the node of that rank for that many turns at most. `clean` says that its boot is a clean start, and `leave_at` is
-/// the number of the turn, from 1, from which on it is to leave.
-pub fn run_node<E: Env>(
+/// the number of the turn, from 1, from which on it is to leave. `notices` is told of each call, and of the end.
+pub fn run_node<E: Env, N: Notices>(
     env: &mut E,
+    notices: &mut N,
     settings: &Settings,
     me: Rank,
     clean: bool,
@@ -35,9 +37,13 @@ pub fn run_node<E: Env>(
     'calls: loop {
         let asked = match run.asks(&mut room) {
             Ok(asked) => asked,
-            Err(end) => return end,
+            Err(end) => {
+                notices.ended(end, &run);
+                return end;
+            }
         };
         let given = call(env, asked, &mut room);
         run.answer(given, &room);
+        notices.made(asked, given, &room, &run);
     }
 }

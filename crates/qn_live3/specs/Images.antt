@@ -6,6 +6,7 @@ use Rattle.qn_base.specs.Plans.{Plan, question}
 use Rattle.qn_model.specs.declared.configuration.Settings.{Settings}
 use Rattle.qn_live.specs.declared.asked.Given.{Given}
 use Rattle.qn_live.specs.declared.asked.Room.{Room}
+use Rattle.qn_live.specs.declared.run.NodeRun.{NodeRun}
 use Rattle.qn_live.specs.Asking.{Tells}
 use Rattle.qn_live.specs.Machine.{RunFor, work}
 use Rattle.qn_live.specs.Running.{Ran}
@@ -22,6 +23,11 @@ abbrev pub plan_on : NodeImages → Settings → ℕ → Bool → Option ℕ →
 plan_on images.One s me clean leave turns = live_plan s me clean leave turns
 plan_on images.Three s me clean leave turns = triple_plan s me clean leave turns
 
+-- the run as that of a node on one image
+abbrev pub node_run : ImagesRun → NodeRun
+node_run (run.One single) = single
+node_run (run.Three triple) = triple.run
+
 -- the machine stands for the plan: this is left of its run
 abbrev pub RunsAs : ImagesRun → Plan Ran → Type 0
 RunsAs (run.One single) plan = RunFor single plan
@@ -37,8 +43,7 @@ WasAnswered of given room =
 
 -- the calls that are to come of the node, and at most so many that the machine still makes
 abbrev pub has_work : ImagesRun → ℕ
-has_work (run.One single) = work single
-has_work (run.Three triple) = work triple.run
+has_work of = work (node_run of)
 
 abbrev pub images_work : ImagesRun → ℕ
 images_work (run.One single) = work single

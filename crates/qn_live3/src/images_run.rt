@@ -26,7 +26,7 @@ impl ImagesRun {
     ghost use Rattle.qn_live.specs.Asking.{IsServed, Tells, question_of};
     ghost use Rattle.qn_live.specs.Machine.{EndsWith};
     ghost use Rattle.qn_live.specs.Running.{Ran};
-    ghost use Rattle.qn_live3.specs.Images.{HasRun, RunsAs, WasAnswered, has_work, images_work, plan_on};
+    ghost use Rattle.qn_live3.specs.Images.{HasRun, RunsAs, WasAnswered, has_work, images_work, node_run, plan_on};
 
     /// A run of that many turns of the node of that rank on these images; `clean` says that its boot is a clean start, and
     /// `leave_at` is the number of the turn from which on it is to leave.
@@ -50,6 +50,16 @@ impl ImagesRun {
             NodeImages::Three => {
                 ImagesRun::Three(TripleRun::new(settings, me, clean, leave_at, turns))
             }
+        }
+    }
+
+    /// The run as that of a node on one image.
+    pub fn node_run(&self) -> &NodeRun
+        ensures { result.now ≡ node_run self.now }
+    {
+        match self {
+            ImagesRun::One(run) => run,
+            ImagesRun::Three(run) => run.node_run(),
         }
     }
 

@@ -13,13 +13,15 @@ ghost use Rattle.qn_live3.specs.Runs.{triple_plan};
 use crate::triple_run::TripleRun;
 use qn_base::Rank;
 use qn_io::Env;
-use qn_live::{LiveEnd, Room, call};
+use qn_live::{LiveEnd, Notices, Room, call};
 use qn_model::Settings;
 
 /// Runs the node of that rank for that many turns at most, on three images. `clean` says that its boot is a clean start,
-/// and `leave_at` is the number of the turn, from 1, from which on it is to leave.
-pub fn run_node3<E: Env>(
+/// and `leave_at` is the number of the turn, from 1, from which on it is to leave. `notices` is told of each call, and of the
+/// end.
+pub fn run_node3<E: Env, N: Notices>(
     env: &mut E,
+    notices: &mut N,
     settings: &Settings,
     me: Rank,
     clean: bool,
@@ -43,9 +45,13 @@ pub fn run_node3<E: Env>(
     'calls: loop {
         let asked = match run.asks(&mut room) {
             Ok(asked) => asked,
-            Err(end) => return end,
+            Err(end) => {
+                notices.ended(end, run.node_run());
+                return end;
+            }
         };
         let given = call(env, asked, &mut room);
         run.answer(given, &room);
+        notices.made(asked, given, &room, run.node_run());
     }
 }

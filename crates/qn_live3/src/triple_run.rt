@@ -66,6 +66,13 @@ impl TripleRun {
         }
     }
 
+    /// The run as that of a node on one image, which takes one answer for each disk operation.
+    pub fn node_run(&self) -> &NodeRun
+        ensures { result.now ≡ self.now.run }
+    {
+        &self.run
+    }
+
     /// The call that comes next, whose bytes are put into the room, or how the run ended.
     pub fn asks(&self, room: &mut Room) -> Result<Asked, LiveEnd>
         requires under_way { IsUnderWay self.now }

@@ -40,7 +40,7 @@ mod stage;
 mod words;
 
 use machine::Machine;
-use qn_io::{Edge, RealEnv};
+use qn_io::{Edge, Lines, RealEnv};
 use stage::{Nodes, Stage};
 use std::fs::File;
 use std::io;
@@ -59,10 +59,11 @@ fn play_on<R: Files<File = File> + Net<Stream = TcpStream> + Clock + Eprint + Al
     machine: &R,
     stage: &Stage<'_>,
 ) -> io::Result<()> {
+    let lines = Lines::new(0, false);
     let mut nodes = Nodes {
-        first: RealEnv::new(machine, Edge::local()),
-        second: RealEnv::new(machine, Edge::local()),
-        third: RealEnv::new(machine, Edge::local()),
+        first: RealEnv::new(machine, Edge::local(), &lines),
+        second: RealEnv::new(machine, Edge::local(), &lines),
+        third: RealEnv::new(machine, Edge::local(), &lines),
     };
     stage.play(&mut nodes)
 }

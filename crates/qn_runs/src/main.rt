@@ -10,6 +10,8 @@
 //!     holds write S HEX ok        what a sector of the image holds before the run, for the rows `fails`
 //!     any other line              a call of the log with its answer
 //!     ends STATUS LINE            the outside plays the log, and the node ends so
+//!     tells TICK EVENT; TICK EVENT ..
+//!                                 the events of that run, as Rust's `Debug` writes them, each after the tick of the last entry
 //!     fails N CALLS DIGEST STATUS LINE
 //!                                 the outside is one in memory whose Nth call fails, and the log of so many calls has this
 //!                                 SHA-256; N is 0 where none fails

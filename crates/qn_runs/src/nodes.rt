@@ -4,4 +4,5 @@ pub mod played;
 pub mod reader;
 pub mod running;
 pub mod scripted;
+pub mod telling;
 pub mod timed;

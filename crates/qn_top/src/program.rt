@@ -23,16 +23,18 @@ use qn_commands::{
     run_audit, send,
 };
 use qn_io::{Env, Sink, Source};
+use qn_live::Notices;
 use std::alloc::Global;
 
 /// All that the program does: reads the words as a command, runs it on the input and on the outside of a node,
-/// writes to the output, and gives the exit status.
-pub fn top<I: Source, O: Sink, E: Env>(
+/// writes to the output, and gives the exit status. `notices` is told of the run of a node.
+pub fn top<I: Source, O: Sink, E: Env, N: Notices>(
     alloc: Global,
     words: &[String],
     input: &mut I,
     out: &mut O,
     env: &mut E,
+    notices: &mut N,
 ) -> u8
     // The command does what its record says (specs/Does.antt).
     ensures does { let command = command_of (map string_bytes words.now) in
@@ -71,17 +73,18 @@ pub fn top<I: Source, O: Sink, E: Env>(
         → command_of (map string_bytes words.now) ≡ Some (Command.Soak seed events) → result ≡ 0
         → (soaked seed events).tally.most_holders ≤ 1 }
 {
-    let status = run(alloc, words, input, out, env);
+    let status = run(alloc, words, input, out, env, notices);
     status.code()
 }
 
 /// Reads the words as a command and runs it, and says how it ended.
-fn run<I: Source, O: Sink, E: Env>(
+fn run<I: Source, O: Sink, E: Env, N: Notices>(
     alloc: Global,
     words: &[String],
     input: &mut I,
     out: &mut O,
     env: &mut E,
+    notices: &mut N,
 ) -> Status
     ensures { let before = seen (source I.left I.faults input.old) (sink O.written O.faults out.old)
         (outside E.calls E.faults env.old) in
@@ -92,17 +95,18 @@ fn run<I: Source, O: Sink, E: Env>(
 {
     match command_of(words) {
         None => refuse(out, Fault::Usage),
-        Some(command) => run_command(alloc, &command, input, out, env),
+        Some(command) => run_command(alloc, &command, input, out, env, notices),
     }
 }
 
 /// Runs a command, and says how it ended.
-fn run_command<I: Source, O: Sink, E: Env>(
+fn run_command<I: Source, O: Sink, E: Env, N: Notices>(
     alloc: Global,
     command: &Command<'_>,
     input: &mut I,
     out: &mut O,
     env: &mut E,
+    notices: &mut N,
 ) -> Status
     requires { IsProper command.now }
     ensures { let before = seen (source I.left I.faults input.old) (sink O.written O.faults out.old)
@@ -124,17 +128,17 @@ fn run_command<I: Source, O: Sink, E: Env>(
         Command::Dump { image } => dump(image.as_str(), out, env),
         Command::List { image } => list(image.as_str(), out, env),
         Command::Message { image, id, kind } => send(image.as_str(), *id, *kind, out, env),
-        Command::Node(words) => node(alloc, NodeImages::One, words, input, out, env),
+        Command::Node(words) => node(alloc, NodeImages::One, words, input, out, env, notices),
         Command::Migrate { image } => migrate(image.as_str(), out, env),
         Command::Replay3 => run_replay3(alloc, input, out),
-        Command::Node3(words) => node(alloc, NodeImages::Three, words, input, out, env),
+        Command::Node3(words) => node(alloc, NodeImages::Three, words, input, out, env, notices),
         Command::ReplayArbiter => run_replay_arbiter(alloc, input, out),
         Command::NodeLogged(words) => {
-            node_logged(alloc, NodeImages::One, words, input, out, env)
+            node_logged(alloc, NodeImages::One, words, input, out, env, notices)
         }
         Command::Audit(words) => run_audit(alloc, words, input, out),
         Command::Node3Logged(words) => {
-            node_logged(alloc, NodeImages::Three, words, input, out, env)
+            node_logged(alloc, NodeImages::Three, words, input, out, env, notices)
         }
     }
 }

@@ -1,4 +1,4 @@
-//! The words before the command: `--links CONF`, `--key FILE` up to three times, `--open` and `--halt FILE`, in any order.
+//! The words before the command: `--links CONF`, `--key FILE` up to three times, `--open`, `--halt FILE` and `--status FILE`, in any order.
 use std::fmt;
 use std::fmt::Display;
 
@@ -6,7 +6,7 @@ use std::fmt::Display;
 pub const MOST_KEYS: usize = 3;
 
 /// The most words that may stand before the command: two for each but `--open`.
-const MOST_WORDS: u32 = 11;
+const MOST_WORDS: u32 = 13;
 
 /// What the words before the command say.
 #[derive(Clone, Copy, Default)]
@@ -15,6 +15,7 @@ pub struct Before<'words> {
     pub keys: [Option<&'words str>; MOST_KEYS],
     pub is_open: bool,
     pub halt: Option<&'words str>,
+    pub status: Option<&'words str>,
     /// How many words these are.
     pub count: usize,
 }
@@ -27,6 +28,8 @@ pub enum WordFault<'words> {
     FourthKey,
     OpenBesideKey,
     NeitherKeyNorOpen,
+    StatusWithoutNode,
+    StatusPath,
 }
 
 impl<'words> Display for WordFault<'words> {
@@ -37,6 +40,8 @@ impl<'words> Display for WordFault<'words> {
             WordFault::FourthKey => f.write_str("--key: more than three"),
             WordFault::OpenBesideKey => f.write_str("--open beside --key"),
             WordFault::NeitherKeyNorOpen => f.write_str("--links wants --key or --open"),
+            WordFault::StatusWithoutNode => f.write_str("--status stands before a node alone"),
+            WordFault::StatusPath => f.write_str("--status: a path has 1 to 4090 bytes"),
         }
     }
 }
@@ -48,6 +53,7 @@ enum Word {
     Key,
     Open,
     Halt,
+    Status,
 }
 
 impl Word {
@@ -58,6 +64,7 @@ impl Word {
             "--key" => Some(Word::Key),
             "--open" => Some(Word::Open),
             "--halt" => Some(Word::Halt),
+            "--status" => Some(Word::Status),
             _ => None,
         }
     }
@@ -76,7 +83,8 @@ impl<'words> Before<'words> {
             };
             before.take(word, text.as_str(), words)?;
         }
-        before.judged()
+        let command = words.get(before.count).map_or("", String::as_str);
+        before.judged(command)
     }
 
     /// Takes the word, which stands at the place that is counted, and its value after it.
@@ -98,6 +106,7 @@ impl<'words> Before<'words> {
         match word {
             Word::Links => put_once(&mut self.links, text, value),
             Word::Halt => put_once(&mut self.halt, text, value),
+            Word::Status => put_once(&mut self.status, text, value),
             Word::Key => self.key(value),
             Word::Open => Ok(()),
         }
@@ -121,8 +130,11 @@ impl<'words> Before<'words> {
         }
     }
 
-    /// The same, where they go together.
-    fn judged(self) -> Result<Before<'words>, WordFault<'words>> {
+    /// The same, where they go together and with the command.
+    fn judged(self, command: &str) -> Result<Before<'words>, WordFault<'words>> {
+        if self.status.is_some() && !is_node(command) {
+            return Err(WordFault::StatusWithoutNode);
+        }
         let first = self.keys[0];
         let has_key = first.is_some();
         if self.is_open && has_key {
@@ -133,6 +145,11 @@ impl<'words> Before<'words> {
         }
         Ok(self)
     }
+}
+
+/// Whether a command runs a node.
+fn is_node(command: &str) -> bool {
+    matches!(command, "node" | "node3" | "node-logged" | "node3-logged")
 }
 
 /// Puts the value of a word that may stand once.

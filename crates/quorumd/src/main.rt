@@ -10,15 +10,17 @@
 mod before;
 mod edge;
 
-use before::Before;
+use before::{Before, WordFault};
 use edge::edge_of;
-use qn_io::{Edge, RealEnv, StdSink, StdSource, put_all};
+use qn_base::read_decimal;
+use qn_io::{Edge, Lines, RealEnv, ReplacedFile, StdSink, StdSource, put_all};
+use qn_journal::Journal;
 use qn_top::top;
 use qn_usage::{BEFORE, QUORUMD, help_text, refusal_of, version_text};
 use std::env;
 use std::fs::File;
 use std::io::{self, ErrorKind};
-use std::process::ExitCode;
+use std::process::{self, ExitCode};
 use std::rt::{Env, Files};
 
 /// The name of the program, and what it is.
@@ -43,39 +45,69 @@ fn main(rt: HostRuntime) -> ExitCode {
     if let Some(status) = answer_about(&rt, words.as_slice()) {
         return ExitCode::from(status);
     }
-    let (edge, words) = match before_command(&rt, words.as_slice()) {
+    let (before, words) = match before_command(&rt, words.as_slice()) {
         Ok(read) => read,
         Err(status) => return ExitCode::from(status),
     };
     let Ok(outside) = rt.clone() else {
         return ExitCode::from(NO_MEMORY);
     };
-    let mut input = StdSource::new(rt.reader(), &rt);
-    let mut out = StdSink::new(io::writer(&rt), &rt);
-    let mut env = RealEnv::new(outside, edge);
-    let status = top(rt.alloc(), words, &mut input, &mut out, &mut env);
+    let lines = Lines::new(id_in(words), env::var(&rt, "JOURNAL_STREAM").is_ok());
+    let mut input = StdSource::new(rt.reader(), lines.over(&rt));
+    let mut out = StdSink::new(io::writer(&rt), lines.over(&rt));
+    let mut env = RealEnv::new(outside, before.edge, &lines);
+    let mut journal = Journal::new(&rt, &lines, before.status, process::id(rt.process()));
+    let status = top(
+        rt.alloc(),
+        words,
+        &mut input,
+        &mut out,
+        &mut env,
+        &mut journal,
+    );
     if status == USAGE {
         say_what_is_wrong(&rt, words);
     }
     ExitCode::from(status)
 }
 
+/// What the words before the command say of the outside, and the file of the status.
+#[derive(Drop)]
+struct Outside {
+    edge: Edge,
+    status: Option<ReplacedFile>,
+}
+
 /// What the words before the command say, and the words after them; or the status to end with.
 fn before_command<'words, R: Files<File = File> + AllocGlobal + Eprint>(
     rt: &R,
     words: &'words [String],
-) -> Result<(Edge, &'words [String]), u8> {
-    match Before::read(words) {
-        Ok(before) => {
-            let edge = edge_of(rt, &before)?;
-            let count = before.count.min(words.len());
-            Ok((edge, words.split_at(count).1))
-        }
-        Err(fault) => {
-            let _ = eprintln!(rt; "{PROGRAM}: {fault}");
-            Err(USAGE)
-        }
-    }
+) -> Result<(Outside, &'words [String]), u8> {
+    let before = Before::read(words).map_err(|fault| refuse_words(rt, fault))?;
+    let status = match before.status {
+        None => None,
+        Some(path) => Some(ReplacedFile::at(path).ok_or_else(|| refuse_words(
+            rt,
+            WordFault::StatusPath,
+        ))?),
+    };
+    let edge = edge_of(rt, &before)?;
+    let count = before.count.min(words.len());
+    Ok((Outside { edge, status }, words.split_at(count).1))
+}
+
+/// Says what is wrong with the words before the command, and gives the status to end with.
+fn refuse_words<E: Eprint>(errors: &E, fault: WordFault<'_>) -> u8 {
+    let _ = eprintln!(errors; "{PROGRAM}: {fault}");
+    USAGE
+}
+
+/// The id that the words of a command name, 0 where they name none: lines of a node begin with it.
+fn id_in(words: &[String]) -> u32 {
+    let name = words.iter().position(|word| word.as_str() == "--id");
+    let value = name.and_then(|name| words.get(name.saturating_add(1)));
+    let id = value.and_then(|value| read_decimal(value.as_str().as_bytes()));
+    id.and_then(|id| u32::try_from(id).ok()).unwrap_or(0)
 }
 
 /// Answers what is asked about the program itself, with the status to end with; None where the words ask for something else.

@@ -17,7 +17,7 @@ use crate::settings_text::read_settings;
 use crate::status::Status;
 use qn_base::{Failed, NodeId, Rank};
 use qn_io::{Env, Opening, Sink, Source};
-use qn_live::{LiveEnd, law_boot_halted, law_end_causes, run_node};
+use qn_live::{LiveEnd, Notices, law_boot_halted, law_end_causes, run_node};
 use qn_live3::{NodeImages, law_triple_boot_halted, law_triple_end_causes, run_node3};
 use qn_model::{NodeEntry, Settings};
 use std::alloc::Global;
@@ -41,14 +41,15 @@ pub struct NodeWords<'words> {
 }
 
 /// `node`, and on three images `node3`: runs the node of that id over the outside, by the settings of the input. The settings
-/// and the id are judged before anything is opened. Memory is taken for the settings text.
-pub fn node<I: Source, O: Sink, E: Env>(
+/// and the id are judged before anything is opened. `notices` is told of the run. Memory is taken for the settings text.
+pub fn node<I: Source, O: Sink, E: Env, N: Notices>(
     alloc: Global,
     images: NodeImages,
     words: &NodeWords<'_>,
     input: &mut I,
     out: &mut O,
     env: &mut E,
+    notices: &mut N,
 ) -> Status
     requires some_turn { 1 ≤ words.now.turns }
     ensures { let before = seen (source I.left I.faults input.old) (sink O.written O.faults out.old)
@@ -59,18 +60,19 @@ pub fn node<I: Source, O: Sink, E: Env>(
 {
     law_node_ends();
     match read_settings(alloc, input) {
-        Ok(settings) => open_and_run(images, words, &settings, out, env),
+        Ok(settings) => open_and_run(images, words, &settings, out, env, notices),
         Err(fault) => refuse(out, fault),
     }
 }
 
 /// Opens and runs the node, once the settings are read.
-fn open_and_run<O: Sink, E: Env>(
+fn open_and_run<O: Sink, E: Env, N: Notices>(
     images: NodeImages,
     words: &NodeWords<'_>,
     settings: &Settings,
     out: &mut O,
     env: &mut E,
+    notices: &mut N,
 ) -> Status
     requires valid { IsValid settings.now }
     requires some_turn { 1 ≤ words.now.turns }
@@ -94,7 +96,7 @@ fn open_and_run<O: Sink, E: Env>(
     let rank = Rank(place as u8);
     match open(images, words, rank, env) {
         Ok(()) => {
-            let end = run(images, words, settings, rank, env);
+            let end = run(images, words, settings, rank, env, notices);
             finish_node(out, words.turns, end)
         }
         Err(Failed) => refuse(out, Fault::EnvFault),
@@ -141,12 +143,13 @@ pub(crate) fn open<E: Env>(
 }
 
 /// Runs the opened node of that rank.
-fn run<E: Env>(
+fn run<E: Env, N: Notices>(
     images: NodeImages,
     words: &NodeWords<'_>,
     settings: &Settings,
     rank: Rank,
     env: &mut E,
+    notices: &mut N,
 ) -> LiveEnd
     requires valid { IsValid settings.now }
     requires configured { rank.0 < length settings.now.nodes }
@@ -156,8 +159,24 @@ fn run<E: Env>(
         (record { end = result; log = log }) }
 {
     match images {
-        NodeImages::One => run_node(env, settings, rank, words.clean, words.leave, words.turns),
-        NodeImages::Three => run_node3(env, settings, rank, words.clean, words.leave, words.turns),
+        NodeImages::One => run_node(
+            env,
+            notices,
+            settings,
+            rank,
+            words.clean,
+            words.leave,
+            words.turns,
+        ),
+        NodeImages::Three => run_node3(
+            env,
+            notices,
+            settings,
+            rank,
+            words.clean,
+            words.leave,
+            words.turns,
+        ),
     }
 }
 

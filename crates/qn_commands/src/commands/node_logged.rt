@@ -16,21 +16,22 @@ use crate::status::Status;
 use qn_audit::{Recorder, run_recorded};
 use qn_base::{Failed, Rank};
 use qn_io::{Env, Sink, Source};
-use qn_live::LiveEnd;
+use qn_live::{LiveEnd, Notices};
 use qn_live3::NodeImages;
 use qn_model::Settings;
 use std::alloc::Global;
 
 /// `node-logged`, and on three images `node3-logged`: runs the node as `node` and `node3` do, and writes each of its calls with its answer as a line before the next
-/// call. Memory is taken for the settings text alone.
+/// call. `notices` is told of the run. Memory is taken for the settings text alone.
 #[inline(never)]
-pub fn node_logged<I: Source, O: Sink, E: Env>(
+pub fn node_logged<I: Source, O: Sink, E: Env, N: Notices>(
     alloc: Global,
     images: NodeImages,
     words: &NodeWords<'_>,
     input: &mut I,
     out: &mut O,
     env: &mut E,
+    notices: &mut N,
 ) -> Status
     requires some_turn { 1 ≤ words.now.turns }
     ensures { let before = seen (source I.left I.faults input.old) (sink O.written O.faults out.old)
@@ -41,18 +42,19 @@ pub fn node_logged<I: Source, O: Sink, E: Env>(
 {
     law_node_ends();
     match read_settings(alloc, input) {
-        Ok(settings) => open_and_record(images, words, &settings, out, env),
+        Ok(settings) => open_and_record(images, words, &settings, out, env, notices),
         Err(fault) => refuse(out, fault),
     }
 }
 
 /// Opens and runs the node, once the settings are read, and records its calls.
-fn open_and_record<O: Sink, E: Env>(
+fn open_and_record<O: Sink, E: Env, N: Notices>(
     images: NodeImages,
     words: &NodeWords<'_>,
     settings: &Settings,
     out: &mut O,
     env: &mut E,
+    notices: &mut N,
 ) -> Status
     requires valid { IsValid settings.now }
     requires some_turn { 1 ≤ words.now.turns }
@@ -75,20 +77,21 @@ fn open_and_record<O: Sink, E: Env>(
     };
     let rank = Rank(place as u8);
     match open(images, words, rank, env) {
-        Ok(()) => run_and_finish(images, words, settings, rank, out, env),
+        Ok(()) => run_and_finish(images, words, settings, rank, out, env, notices),
         Err(Failed) => refuse(out, Fault::EnvFault),
     }
 }
 
 /// Runs the opened node of that rank and records its calls, and then writes how it ended. Where the log could not be
 /// written, nothing more is.
-fn run_and_finish<O: Sink, E: Env>(
+fn run_and_finish<O: Sink, E: Env, N: Notices>(
     images: NodeImages,
     words: &NodeWords<'_>,
     settings: &Settings,
     rank: Rank,
     out: &mut O,
     env: &mut E,
+    notices: &mut N,
 ) -> Status
     requires valid { IsValid settings.now }
     requires configured { rank.0 < length settings.now.nodes }
@@ -106,7 +109,7 @@ fn run_and_finish<O: Sink, E: Env>(
     ensures env_faults { E.faults env.old ≤ E.faults env.new }
     ensures sink_faults { O.faults out.old ≤ O.faults out.new }
 {
-    let (end, whole) = run_and_record(images, words, settings, rank, out, env);
+    let (end, whole) = run_and_record(images, words, settings, rank, out, env, notices);
     if !whole {
         return Status::WriteFault;
     }
@@ -114,13 +117,14 @@ fn run_and_finish<O: Sink, E: Env>(
 }
 
 /// Runs the opened node of that rank: how it ended, and whether its whole log was written.
-fn run_and_record<O: Sink, E: Env>(
+fn run_and_record<O: Sink, E: Env, N: Notices>(
     images: NodeImages,
     words: &NodeWords<'_>,
     settings: &Settings,
     rank: Rank,
     out: &mut O,
     env: &mut E,
+    notices: &mut N,
 ) -> (LiveEnd, bool)
     requires valid { IsValid settings.now }
     requires configured { rank.0 < length settings.now.nodes }
@@ -134,6 +138,7 @@ fn run_and_record<O: Sink, E: Env>(
     let mut recorder = Recorder::new(env, out);
     let end = run_recorded(
         &mut recorder,
+        notices,
         images,
         settings,
         rank,

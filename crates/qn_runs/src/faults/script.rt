@@ -3,6 +3,7 @@ use crate::faults::outside::{Counts, Loss, Outside};
 use crate::lines::{at_fault, first_word, number_of, text_of};
 use crate::memory::{input_of, output_of};
 use qn_io::{MemSink, MemSource};
+use qn_live::NoNotices;
 use qn_top::top;
 use std::alloc::{AllocError, Global};
 use std::{io, str};
@@ -156,7 +157,7 @@ fn status_of(
     out: &mut MemSink,
     outside: &mut Outside,
 ) -> u8 {
-    top(alloc, words, input, out, outside)
+    top(alloc, words, input, out, outside, &mut NoNotices)
 }
 
 /// The four numbers of streams, or the usual ones.

@@ -1,7 +1,7 @@
 //! Reads cases and runs of nodes.
 use crate::lines::first_word;
 use crate::nodes::case::Case;
-use crate::nodes::running::{failing_text, played_text, quiet_text};
+use crate::nodes::running::{failing_text, played_text, quiet_text, told_text};
 use std::alloc::{AllocError, Global};
 use std::io;
 
@@ -36,6 +36,11 @@ impl Reader {
             "ends" => {
                 self.count_case();
                 let told = played_text(alloc, &self.case);
+                self.compare(rt, told, rest)
+            }
+            "tells" => {
+                self.rows = self.rows.saturating_add(1);
+                let told = told_text(alloc, &self.case);
                 self.compare(rt, told, rest)
             }
             "fails" => {

@@ -7,9 +7,11 @@ use crate::memory::{input_of, output_of};
 use crate::nodes::case::Case;
 use crate::nodes::played::Played;
 use crate::nodes::scripted::scripted;
+use crate::nodes::telling::Telling;
 use qn_audit::Recorder;
 use qn_commands::{NodeImages, NodeWords, Status, create, node};
 use qn_io::{Env, MemSink, PIECE, QuietEnv, Sink};
+use qn_live::{NoNotices, Notices};
 use qn_model::Timing;
 use sha2::{Digest, Sha256};
 use std::alloc::Global;
@@ -37,6 +39,18 @@ pub fn played_text(alloc: Global, case: &Case) -> Option<String> {
         Some(line) => format!(in alloc; "another call at line {line}").ok(),
         None => ran.end_text(alloc),
     }
+}
+
+/// What is told of the run over the log of the case.
+pub fn told_text(alloc: Global, case: &Case) -> Option<String> {
+    let mut telling = Telling::new(alloc);
+    let mut end = output_of(alloc, MOST_END_BYTES, 0).ok()?;
+    let mut env = Played::new(case.log.as_bytes());
+    let settings = case.settings.as_str();
+    let words = case.words()?;
+    let images = NodeImages::One;
+    run_node(alloc, images, settings, words, &mut env, &mut end, &mut telling)?;
+    String::from_str(alloc, telling.text()).ok()
 }
 
 /// What the run comes to over an outside in memory that answers as the log of the case does, but that the call of that
@@ -90,22 +104,24 @@ pub fn record<E: Env, L: Sink, O: Sink>(
     requires { 1 ≤ words.now.turns }
 {
     let mut recorder = Recorder::new(env, log);
-    run_node(alloc, NodeImages::One, settings, words, &mut recorder, end)
+    let images = NodeImages::One;
+    run_node(alloc, images, settings, words, &mut recorder, end, &mut NoNotices)
 }
 
 /// Runs the node over the outside, and writes how it ended.
-pub fn run_node<E: Env, O: Sink>(
+pub fn run_node<E: Env, O: Sink, N: Notices>(
     alloc: Global,
     images: NodeImages,
     settings: &str,
     words: &NodeWords<'_>,
     env: &mut E,
     end: &mut O,
+    notices: &mut N,
 ) -> Option<Status>
     requires { 1 ≤ words.now.turns }
 {
     let mut input = input_of(alloc, settings, PIECE, 0).ok()?;
-    Some(node(alloc, images, words, &mut input, end, env))
+    Some(node(alloc, images, words, &mut input, end, env, notices))
 }
 
 impl Ran {

@@ -8,6 +8,7 @@ use crate::nodes::running::{MOST_END_BYTES, quiet_outside, record, run_node};
 use qn_base::{Failed, NodeId};
 use qn_commands::{NodeImages, NodeWords};
 use qn_io::{Env, QuietEnv, SECTOR, Sink, StdSink, put_all};
+use qn_live::NoNotices;
 use std::alloc::Global;
 use std::io;
 
@@ -35,7 +36,7 @@ fn run_turns<O: Sink>(alloc: Global, images: NodeImages, turns: &str, out: &mut 
     let words = words_for(turns)?;
     let mut env = quiet_outside(alloc, THREE)?;
     copy_image(&mut env).ok()?;
-    let _ = run_node(alloc, images, THREE, &words, &mut env, out)?;
+    let _ = run_node(alloc, images, THREE, &words, &mut env, out, &mut NoNotices)?;
     Some(())
 }
 

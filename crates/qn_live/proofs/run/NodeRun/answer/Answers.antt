@@ -67,3 +67,9 @@ returns-in-Part-clause-runs c = λ plan call h tells asked.
     let is : plan ≡ parting run h.log (farewells run.settings run.me.0 view to) =
     h.is_left ∙ ap (λ p. left_at run h.log p) c.in-Part.is in
     stands_too (left_call call (is ∙ parting_more run h.log view to more.0 more.1)) (c.part.ensures.runs h.log h.stands)
+
+pub returns-in-Now-clause-took : goal.returns-in-Now-clause-took
+returns-in-Now-clause-took c = λ log stands looks rises. c.at_tick.ensures.took log stands rises
+
+pub returns-in-Now-clause-back : goal.returns-in-Now-clause-back
+returns-in-Now-clause-back c = λ looks falls. c.at_tick.ensures.back falls

@@ -5,6 +5,7 @@ use Rattle.qn_model.specs.NodeOutputs.{with_entry}
 use Rattle.qn_live.specs.Machine.{next_of, state_of}
 use Rattle.qn_live.specs.Running.{later}
 use Rattle.qn_live.proofs.Joining.{clocked_back, clocked_on, stands_too}
+use Rattle.qn_live.proofs.Taking.{took_on}
 use Rattle.qn_live.proofs.run.NodeRun.at_tick.Goals as goal
 
 pub returns-then-tick-self-clause-runs : goal.returns-then-tick-self-clause-runs
@@ -29,3 +30,15 @@ returns-clause-runs c = λ log stands.
     (ap (λ p. p >>= later (next_of run))
     (clocked_on run.settings run.me.0 c.args.choice (state_of run log) c.args.tick c.look-what.new.member c.look-what.result c.loop_after-self.result c.failed_answer-self.result c.step.new.outs before c.look-what.ensures c.loop_after-self.ensures c.failed_answer-self.ensures outs))
     (c.act.ensures.runs (with_entry run.settings run.me.0 log (record { tick = c.args.tick; what = c.look-what.result })) (record { valid = stands.valid; stands = c.step.ensures.stands run.settings run.me.0 log stands.stands before; at = refl }) (c.step.ensures.ranks run.settings run.me.0 log stands.stands before))
+
+pub returns-clause-took : goal.returns-clause-took
+unfolding with_entry
+returns-clause-took c = λ log stands rises.
+    let run = c.args.self.now in
+    let before : now log ≤ c.args.tick = omega (arith, rises, stands.at) in
+    took_on _ _ log c.args.tick c.act.ensures.settings c.act.ensures.rank c.act.ensures.keeps
+    (record {
+      at = refl;
+      stands = record { valid = stands.valid; stands = c.step.ensures.stands run.settings run.me.0 log stands.stands before; at = refl };
+      outs = c.step.ensures.outs run.settings run.me.0 log stands.stands before;
+    })

@@ -1,0 +1,309 @@
+//! The journal of a running node.
+ghost use Rattle.qn_io.specs.Receives.{FitsPacket};
+
+use crate::ending::end_text;
+use crate::event_words::{ERROR, INFORMATION, NOTICE, WARNING, id_of, line_of};
+use crate::mail::{MailNews, MailState, Mailbox};
+use crate::peers::Peers;
+use crate::seldom::Seldom;
+use crate::status_text::{Counts, Shown, status_text};
+use qn_base::Rank;
+use qn_io::{EventLine, Got, Lines, ReplacedFile};
+use qn_live::{Asked, Given, LiveEnd, NodeRun, Notices, Room, Standing};
+use qn_model::{HeaderSeen, Mail, MailSeen, Packet, Phase, What};
+use qn_notice::{Event, Observer};
+use qn_sector::{get_mail, mail_sector};
+use qn_wire::get_packet;
+use std::fs::File;
+use std::rt::Files;
+use std::time::Clock;
+
+/// How many sectors an image of three has.
+const IMAGE: u32 = 1024;
+
+/// How old a status becomes before it is written anew, in milliseconds.
+const AGE: u64 = 500;
+
+/// Tells of a running node on standard error, and in a status file where one is named. It changes nothing of the run, waits for nobody, and
+/// what it cannot write is no fault.
+#[derive(Drop)]
+pub struct Journal<'a, R: Files<File = File> + Clock + Eprint> {
+    rt: &'a R,
+    lines: &'a Lines,
+    status: Option<ReplacedFile>,
+    pid: u32,
+    observer: Observer,
+    /// How long the times of the header have a reset be waited for, in milliseconds; 0 before.
+    msgwait: u64,
+    mailbox: Mailbox,
+    peers: Peers,
+    /// Whose Hello came in this turn.
+    greeted: Option<Rank>,
+    refused: Seldom,
+    late: Seldom,
+    turns: u64,
+    /// Whether something was told since the last status, and the tick of that.
+    is_new: bool,
+    written: Option<u64>,
+    unwritten: u64,
+    /// Whether the last status could not be written.
+    is_failing: bool,
+}
+
+impl<'a, R: Files<File = File> + Clock + Eprint> Journal<'a, R> {
+    /// A journal by these lines, of the process of that number, with that status file.
+    pub fn new(
+        rt: &'a R,
+        lines: &'a Lines,
+        status: Option<ReplacedFile>,
+        pid: u32,
+    ) -> Journal<'a, R> {
+        Journal {
+            rt,
+            lines,
+            status,
+            pid,
+            observer: Observer::new(),
+            msgwait: 0,
+            mailbox: Mailbox::new(),
+            peers: Peers::new(),
+            greeted: None,
+            refused: Seldom::default(),
+            late: Seldom::default(),
+            turns: 0,
+            is_new: false,
+            written: None,
+            unwritten: 0,
+            is_failing: false,
+        }
+    }
+
+    fn line(&self, level: u8, event: &[u8]) -> EventLine {
+        self.lines.line(self.rt, level, event)
+    }
+
+    fn say(&mut self, line: &EventLine) {
+        self.is_new = true;
+        self.lines.say(self.rt, line);
+    }
+
+    /// A turn began at that tick, with what it was handed.
+    fn turn(&mut self, tick: u64, run: &NodeRun) {
+        self.turns = self.turns.saturating_add(1);
+        match run.entry() {
+            What::Header(HeaderSeen::Read { timing, .. }) => self.msgwait = timing.msgwait,
+            What::MailChecked(seen) | What::MailRead(seen) => self.take_mail(seen, tick),
+            _ => {}
+        }
+        self.greet(tick, run);
+        self.miss(tick, run);
+    }
+
+    /// Tells of a node that is heard now.
+    fn greet(&mut self, tick: u64, run: &NodeRun) {
+        let Some(rank) = self.greeted else {
+            return;
+        };
+        self.greeted = None;
+        let nodes = &run.settings().nodes;
+        if usize::from(rank.0) >= nodes.len() || rank == run.rank() {
+            return;
+        }
+        if self.peers.hear(rank, tick) {
+            let mut line = self.line(INFORMATION, b"peer-seen");
+            line.number(b"id", id_of(nodes, rank));
+            self.say(&line);
+        }
+    }
+
+    /// Tells of nodes that are heard no more.
+    fn miss(&mut self, tick: u64, run: &NodeRun) {
+        for (rank, node) in run.settings().nodes.as_slice().iter().enumerate() {
+            if let Some(silent) = self.peers.lose(rank, tick, run.loop_ms()) {
+                let mut line = self.line(WARNING, b"peer-lost");
+                line.number(b"id", u64::from(node.id.0));
+                line.number(b"silent", silent);
+                self.say(&line);
+            }
+        }
+    }
+
+    /// Tells an event.
+    fn tell(&mut self, event: &Event, run: &NodeRun) {
+        let at = self.lines.moment(self.rt);
+        let line = line_of(at, &run.settings().nodes, self.msgwait, event);
+        self.say(&line);
+    }
+
+    /// A packet came, of these bytes.
+    fn hear(&mut self, bytes: &[u8]) {
+        match get_packet(bytes) {
+            Some(Packet::Hello { from }) => self.greeted = Some(from),
+            Some(Packet::Ask(_) | Packet::Tell(_) | Packet::Announce { .. } | Packet::Vote { .. }) => {}
+            None => self.refused.count(),
+        }
+    }
+
+    /// A sector was read, and has these bytes.
+    fn look(&mut self, sector: u32, room: &Room, run: &NodeRun) {
+        let me = run.rank();
+        if me.0 < 32 && sector % IMAGE == mail_sector(me) {
+            let image = (sector / IMAGE) as usize;
+            self.mailbox.read(image, get_mail(&room.sector));
+        }
+    }
+
+    /// The node was handed a read of its mailbox.
+    fn take_mail(&mut self, seen: MailSeen, tick: u64) {
+        match self.mailbox.take(seen, tick) {
+            Some(MailNews::Message(mail)) => self.tell_mail(&mail),
+            Some(MailNews::Damaged) => {
+                let line = self.line(ERROR, b"mail-damaged");
+                self.say(&line);
+            }
+            Some(MailNews::Failed) => {
+                let line = self.line(ERROR, b"mail-failed");
+                self.say(&line);
+            }
+            None => {}
+        }
+    }
+
+    /// Tells of another message in the mailbox.
+    fn tell_mail(&mut self, mail: &Mail) {
+        let level = if mail.message.is_deadly() { ERROR } else { NOTICE };
+        let mut line = self.line(level, b"mail");
+        let name = mail.message.name().as_bytes();
+        line.word(b"message", name, name.len());
+        match mail.by {
+            Some(sender) => {
+                line.number(b"by", u64::from(sender.id.0));
+                line.number(b"by-incarnation", sender.incarnation);
+            }
+            None => line.word(b"by", b"operator", 8),
+        }
+        self.say(&line);
+    }
+
+    /// Tells of what happens often, where that is due.
+    fn tell_seldom(&mut self, tick: u64) {
+        if let Some(count) = self.late.due(tick) {
+            let mut line = self.line(ERROR, b"feed");
+            line.truth(b"ok", false);
+            line.number(b"count", count);
+            self.say(&line);
+        }
+        if let Some(count) = self.refused.due(tick) {
+            let mut line = self.line(WARNING, b"packets-refused");
+            line.number(b"count", count);
+            self.say(&line);
+        }
+    }
+
+    /// Writes the status where something was told since, or the last one is old.
+    fn refresh(&mut self, tick: u64, run: &NodeRun) {
+        let is_old = match self.written {
+            Some(written) => tick >= written.saturating_add(AGE),
+            None => true,
+        };
+        if self.is_new || is_old {
+            self.is_new = false;
+            self.written = Some(tick);
+            self.write_status(run, None);
+        }
+    }
+
+    /// Writes the status. The first of the writes that fail one after the other is told.
+    fn write_status(&mut self, run: &NodeRun, end: Option<&[u8]>) {
+        let Some(file) = &self.status else {
+            return;
+        };
+        let standing = shown_standing(run);
+        let text = status_text(&Shown {
+            at: self.lines.moment(self.rt),
+            pid: self.pid,
+            nodes: &run.settings().nodes,
+            me: run.rank(),
+            standing: &standing,
+            loop_ms: run.loop_ms(),
+            mailbox: &self.mailbox,
+            peers: &self.peers,
+            counts: Counts {
+                dropped: self.lines.dropped(),
+                refused: self.refused.all(),
+                unwritten: self.unwritten,
+                late: self.late.all(),
+            },
+            end,
+        });
+        match file.replace(self.rt, text.as_slice()) {
+            Ok(()) => self.is_failing = false,
+            Err(error) => {
+                self.unwritten = self.unwritten.saturating_add(1);
+                if !self.is_failing {
+                    let errors = self.lines.over(self.rt);
+                    let path = file.path();
+                    let _ = eprintln!(&errors; "quorumd: {path}: {error}");
+                }
+                self.is_failing = true;
+            }
+        }
+    }
+}
+
+/// Where a node stands, as a status says it: one that has ended counts no votes, as a node that is off.
+fn shown_standing(run: &NodeRun) -> Standing {
+    let standing = run.standing();
+    let me = run.rank();
+    if !matches!(standing.phase, Phase::Gone) || usize::from(me.0) >= run.settings().nodes.len() {
+        return standing;
+    }
+    Standing {
+        phase: standing.phase,
+        incarnation: standing.incarnation,
+        ..Standing::first(run.settings(), me)
+    }
+}
+
+impl<'a, R: Files<File = File> + Clock + Eprint> Notices for Journal<'a, R> {
+    fn made(&mut self, asked: Asked, given: Given, room: &Room, run: &NodeRun)
+        requires { FitsPacket given.got }
+    {
+        let is_turn = matches!(asked, Asked::Now);
+        if is_turn {
+            self.turn(given.tick, run);
+        }
+        for event in &self.observer.made(asked, given, run) {
+            self.tell(event, run);
+        }
+        match asked {
+            Asked::Now => {
+                self.tell_seldom(given.tick);
+                self.refresh(given.tick, run);
+            }
+            Asked::Receive => if let Got::Packet(count) = given.got {
+                self.hear(&room.packet[..count]);
+            },
+            Asked::Read { sector } => if given.ok {
+                self.look(sector, room, run);
+            },
+            Asked::Feed => if !given.ok {
+                self.late.count();
+            },
+            Asked::Write { .. }
+            | Asked::Start
+            | Asked::Stop
+            | Asked::Send { .. }
+            | Asked::Disarm
+            | Asked::Halt { .. } => {}
+        }
+    }
+
+    fn ended(&mut self, end: LiveEnd, run: &NodeRun) {
+        let (text, is_fault) = end_text(end, self.turns);
+        let mut line = self.line(if is_fault { ERROR } else { NOTICE }, b"end");
+        line.quoted(b"end", text.as_slice());
+        self.say(&line);
+        self.write_status(run, Some(text.as_slice()));
+    }
+}

@@ -1,0 +1,173 @@
+//! The status of a running node as one object of JSON, with its keys in alphabetical order.
+use crate::event_words::id_of;
+use crate::mail::{MailState, Mailbox};
+use crate::peers::Peers;
+use crate::text::Text;
+use arrayvec::ArrayVec;
+use qn_base::{Rank, View};
+use qn_io::Moment;
+use qn_live::Standing;
+use qn_model::{Nodes, Phase};
+use qn_sched::{phase_name, write_why};
+
+/// What a status says of its node besides where it stands.
+#[derive(Clone, Copy)]
+pub(crate) struct Counts {
+    /// Lines that were dropped, packets that were none, writes of the status that failed, and feeds that failed.
+    pub(crate) dropped: u64,
+    pub(crate) refused: u64,
+    pub(crate) unwritten: u64,
+    pub(crate) late: u64,
+}
+
+/// What a status is made of.
+#[derive(Clone, Copy)]
+pub(crate) struct Shown<'a> {
+    pub(crate) at: Moment,
+    pub(crate) pid: u32,
+    pub(crate) nodes: &'a Nodes,
+    pub(crate) me: Rank,
+    pub(crate) standing: &'a Standing,
+    pub(crate) loop_ms: u64,
+    pub(crate) mailbox: &'a Mailbox,
+    pub(crate) peers: &'a Peers,
+    pub(crate) counts: Counts,
+    /// How the run ended, where it has.
+    pub(crate) end: Option<&'a [u8]>,
+}
+
+/// The status, with the end of its line.
+pub(crate) fn status_text(shown: &Shown<'_>) -> Text {
+    let mut text = Text::new();
+    add_dropped_to_loop(&mut text, shown);
+    add_mail(&mut text, shown);
+    add_peers(&mut text, shown);
+    add_phase_to_released(&mut text, shown);
+    add_tick_to_why(&mut text, shown);
+    text
+}
+
+fn add_dropped_to_loop(text: &mut Text, shown: &Shown<'_>) {
+    text.add(b"{\"dropped\":");
+    text.number(shown.counts.dropped);
+    text.add(b",\"end\":");
+    match shown.end {
+        Some(end) => {
+            text.add(b"\"");
+            text.add(end);
+            text.add(b"\"");
+        }
+        None => text.add(b"null"),
+    }
+    text.add(b",\"expected\":");
+    text.number(shown.standing.answer.expected);
+    text.add(b",\"format\":1,\"holds\":");
+    text.truth(shown.standing.holds);
+    text.add(b",\"id\":");
+    text.number(id_of(shown.nodes, shown.me));
+    text.add(b",\"incarnation\":");
+    text.maybe(shown.standing.incarnation);
+    text.add(b",\"late\":");
+    text.number(shown.counts.late);
+    text.add(b",\"loop\":");
+    text.number(shown.loop_ms);
+}
+
+fn add_mail(text: &mut Text, shown: &Shown<'_>) {
+    let (name, by) = match shown.mailbox.state {
+        MailState::Unread => (b"unread".as_slice(), None),
+        MailState::Held(mail) => (mail.message.name().as_bytes(), mail.by),
+        MailState::Damaged => (b"damaged".as_slice(), None),
+        MailState::Failed => (b"failed".as_slice(), None),
+    };
+    text.add(b",\"mail\":\"");
+    text.add(name);
+    text.add(b"\",\"mail_by\":");
+    text.maybe(by.map(|sender| u64::from(sender.id.0)));
+    text.add(b",\"mail_tick\":");
+    text.maybe(shown.mailbox.tick);
+}
+
+fn add_peers(text: &mut Text, shown: &Shown<'_>) {
+    text.add(b",\"peers\":[");
+    let mut is_first = true;
+    for (rank, node) in shown.nodes.as_slice().iter().enumerate() {
+        if rank != usize::from(shown.me.0) {
+            text.add(if is_first {
+                b"{\"hello_tick\":".as_slice()
+            } else {
+                b",{\"hello_tick\":".as_slice()
+            });
+            text.maybe(shown.peers.hello(rank));
+            text.add(b",\"id\":");
+            text.number(u64::from(node.id.0));
+            text.add(b"}");
+            is_first = false;
+        }
+    }
+    text.add(b"]");
+}
+
+fn add_phase_to_released(text: &mut Text, shown: &Shown<'_>) {
+    let answer = &shown.standing.answer;
+    text.add(b",\"phase\":\"");
+    text.add(phase_name(shown.standing.phase).as_bytes());
+    text.add(b"\",\"pid\":");
+    text.number(u64::from(shown.pid));
+    text.add(b",\"quorate\":");
+    text.truth(answer.quorate);
+    text.add(b",\"quorum\":");
+    text.number(answer.quorum);
+    text.add(b",\"refused\":");
+    text.number(shown.counts.refused);
+    text.add(b",\"released\":");
+    text.truth(answer.released);
+}
+
+fn add_tick_to_why(text: &mut Text, shown: &Shown<'_>) {
+    let mut condition = ArrayVec::new();
+    write_why(&shown.standing.why, &mut condition);
+    text.add(b",\"tick\":");
+    text.number(shown.at.tick);
+    text.add(b",\"time\":");
+    add_time(text, shown.at.time);
+    text.add(b",\"unwritten\":");
+    text.number(shown.counts.unwritten);
+    text.add(b",\"view\":");
+    match shown.standing.view {
+        Some((_, view)) if !matches!(shown.standing.phase, Phase::Gone) =>
+            add_view(text, shown.nodes, view),
+        _ => text.add(b"null"),
+    }
+    text.add(b",\"votes\":");
+    text.number(shown.standing.answer.votes);
+    text.add(b",\"why\":\"");
+    text.add(condition.as_slice());
+    text.add(b"\"}\n");
+}
+
+/// Adds milliseconds as seconds with three places.
+fn add_time(text: &mut Text, time: u64) {
+    text.number(time / 1000);
+    text.add(b".");
+    text.number(time / 100 % 10);
+    text.number(time / 10 % 10);
+    text.number(time % 10);
+}
+
+fn add_view(text: &mut Text, nodes: &Nodes, view: View) {
+    text.add(b"{\"id\":");
+    text.number(view.id);
+    text.add(b",\"members\":[");
+    let mut is_first = true;
+    for (rank, node) in nodes.as_slice().iter().enumerate() {
+        if view.members.contains(Rank(rank as u8)) {
+            if !is_first {
+                text.add(b",");
+            }
+            text.number(u64::from(node.id.0));
+            is_first = false;
+        }
+    }
+    text.add(b"]}");
+}

@@ -1,0 +1,5 @@
+pub mod Answers
+pub mod Events
+pub mod Journal
+pub mod Laws
+pub mod Observing

@@ -1,0 +1,407 @@
+"""What a node tells of a run in its journal, worked out from the calls that `quorumd node-logged` recorded of it: the events of docs/LIVE.md by
+the rules of docs/NODE.md, and not by the program. For settings whose votes are plain: a majority, and none of the flags of votequorum(5)."""
+import re
+import struct
+from collections import namedtuple
+
+from members import Member, View
+
+ERROR, WARNING, NOTICE, INFORMATION = 3, 4, 5, 6
+MESSAGES = ("empty", "test", "reset", "off", "exit", "crashdump")
+DEADLY = {"reset", "off", "crashdump"}
+HALTS = {2: "reset", 3: "off", 5: "crashdump"}
+SELDOM = 10000  # milliseconds between two lines of what happens often
+MAILBOXES = 512  # the sector of the first mailbox
+
+# A turn of a record: the bytes that were received, None where nothing was and False where nothing was asked for; the tick; and the calls
+# after it, each as a list of words.
+Turn = namedtuple("Turn", "received tick calls")
+
+# Where a node stands, as it is told.
+Standing = namedtuple("Standing", "phase holds quorate votes why incarnation installs")
+
+# An answer of the disk: its kind, the place of the entry that asked, the rank that it is of, and what it gave.
+Answer = namedtuple("Answer", "kind asked rank gave tick")
+
+
+def turns_of(lines):
+    """The turns of a record, without the line of the node itself."""
+    turns, received = [], False
+    for line in lines:
+        words = line.split(" ")
+        if words[0] == "receive":
+            received = None if words[1] in ("nothing", "failed") else bytes.fromhex(words[1].replace("-", ""))
+        elif words[0] == "now":
+            turns.append(Turn(received, int(words[1]), []))
+            received = False
+        else:
+            turns[-1].calls.append(words)
+    return turns
+
+
+def packet_of(data):
+    """A packet as its kind and its fields, or None where the bytes are none."""
+    lengths = {1: 33, 2: 34, 3: 4, 4: 16, 5: 4}
+    if data[:2] != b"QN" or len(data) < 4 or lengths.get(data[2]) != len(data):
+        return None
+    kind, fields = data[2], data[3:]
+    if kind == 5:
+        return (kind, fields[0] == 1) if fields[0] < 2 else None
+    if kind == 3:
+        return (kind, fields[0]) if fields[0] < 32 else None
+    if kind == 4:
+        number, members = struct.unpack(">QL", fields[1:13])
+        return (kind, fields[0], (number, members)) if fields[0] < 32 and members else None
+    sender, to, incarnation, install, number, members = struct.unpack(">BBQQQL", fields[:30])
+    if sender >= 32 or to >= 32 or not members or (kind == 2 and fields[30] > 3):
+        return None
+    flags = fields[30] if kind == 2 else 0
+    return kind, sender, to, incarnation, install, (number, members), bool(flags & 1), bool(flags & 2)
+
+
+def mail_of(data):
+    """A mailbox as its message and its sender, or None where the bytes are none."""
+    code, ident, incarnation = data[4], *struct.unpack(">LQ", data[8:20])
+    if data[:4] != b"MAIL" or code >= len(MESSAGES) or any(data[5:8]) or any(data[20:]) or (ident == 0 and incarnation != 0):
+        return None
+    return MESSAGES[code], (ident, incarnation) if ident else None
+
+
+class Seldom:
+    """What is told at most once in ten seconds."""
+
+    def __init__(self):
+        self.untold, self.told = 0, None
+
+    def due(self, tick):
+        if not self.untold or (self.told is not None and tick < self.told + SELDOM):
+            return None
+        count, self.untold, self.told = self.untold, 0, tick
+        return count
+
+
+class Told:
+    """A node, turn by turn: what it knows, and what its journal says."""
+
+    def __init__(self, ids, ident, leave=None):
+        self.ids, self.ident, self.me, self.leave = tuple(ids), ident, tuple(ids).index(ident), leave
+        self.lines, self.tick, self.place, self.turns = [], 0, 0, 0
+        self.phase, self.holds, self.incarnation = "booting", False, None
+        self.claim = None  # the incarnation of the claim that is under way
+        self.view, self.installs, self.tells = None, 0, {}
+        self.member, self.loop, self.msgwait, self.read_limit = None, 0, 0, 0
+        self.waits_stopped, self.waits_disk, self.rests, self.asked_tick = None, None, False, 0
+        self.out_place, self.slots, self.resets = {}, [], []
+        self.mail, self.mail_state = ("empty", None), None
+        self.hellos, self.seen = {}, set()
+        self.late, self.refused = Seldom(), Seldom()
+        self.before = self.standing()
+
+    def say(self, level, event, *words):
+        self.lines.append(" ".join(["tick=%d" % self.tick, "level=%d" % level, "event=" + event, *words]))
+
+    # what the node is handed
+
+    def entry(self, turn):
+        """The kind of the entry of a turn, and what comes with it."""
+        if turn.received is False:
+            return self.waiting()
+        if turn.received is None:
+            return self.looked(None)
+        packet = packet_of(turn.received)
+        if packet is None:
+            self.refused.untold += 1
+        elif packet[0] == 3:
+            self.greeted = packet[1]
+        if packet is not None and (packet[0] == 5 or packet[0] in (1, 2) and packet[2] == self.me):
+            return {1: "ask", 2: "tell", 5: "device"}[packet[0]], packet
+        return self.looked(packet)
+
+    def waiting(self):
+        """The entry of a turn in which no packet is received."""
+        if self.place == 0:
+            return "begin", None
+        if self.waits_stopped is not None:
+            ok, self.waits_stopped = self.waits_stopped, None
+            return "stopped", ok
+        if self.waits_disk is not None and not self.rests:
+            answer, self.waits_disk = self.waits_disk, None
+            return "disk", answer
+        return "leave", None
+
+    def looked(self, packet):
+        """The view maker hears a packet and looks."""
+        if self.member is None:
+            return "tick", None
+        if packet and packet[0] in (3, 4) and packet[1] < len(self.ids) and packet[1] != self.me:
+            sender = self.ids[packet[1]]
+            if packet[0] == 3:
+                self.member.on_hello(self.tick, sender)
+            elif packet[2][1] < 1 << len(self.ids):
+                self.member.on_announce(sender, self.view_of(packet[2]))
+        view = self.member.look(self.tick)
+        return ("view", view) if view is not None else ("tick", None)
+
+    def view_of(self, view):
+        return View(view[0], tuple(ident for rank, ident in enumerate(self.ids) if view[1] >> rank & 1))
+
+    # what it knows then
+
+    def take(self, kind, given):
+        self.place += 1
+        self.rests = False
+        if kind == "disk":
+            self.take_answer(given)
+        elif kind == "stopped":
+            self.holds = self.holds and not given
+        elif kind == "leave":
+            self.phase = "leaving"
+        elif kind == "view":
+            self.view, self.installs, self.tells = given, self.installs + 1, {}
+            for ident in given.members:
+                self.out_place[ident] = self.place
+        elif kind == "tell":
+            _, sender, _, incarnation, install, view, holds, _ = given
+            if (incarnation, install) == (self.incarnation, self.installs) and self.view == self.view_of(view):
+                self.tells.setdefault(self.ids[sender], []).append(holds)
+
+    def take_answer(self, answer):
+        kind, gave = answer.kind, answer.gave
+        self.rests = gave in (False, "failed") and self.phase in ("up", "leaving", "dying")
+        if kind == "header":
+            self.take_header(gave)
+        elif kind == "slot":
+            self.take_slot(answer)
+        elif kind == "check" and (not isinstance(gave, tuple) or gave[0] not in ("empty", "exit")):
+            self.phase = "off"
+        elif kind == "claim":
+            self.phase, self.incarnation = (self.phase, self.claim) if gave else ("off", self.incarnation)
+        elif kind == "clear":
+            self.phase = "up" if gave else "off"
+            self.out_place = {ident: self.place for ident in self.ids}
+        elif kind == "mail" and isinstance(gave, tuple):
+            if gave[0] in DEADLY:
+                self.phase = "dying"
+            elif gave[0] == "exit" and self.tick <= answer.tick + self.read_limit:
+                self.phase = "leaving"
+        elif kind == "reset" and gave:
+            self.resets.append((answer.asked, answer.rank, self.tick))
+        elif kind == "close":
+            self.phase = "off"
+
+    def take_header(self, gave):
+        if not isinstance(gave, bytes):
+            self.phase = "off"
+            return
+        _, self.msgwait, self.loop, self.read_limit, _ = struct.unpack(">QQQQQ", gave[16:56])
+
+    def take_slot(self, answer):
+        if self.phase == "booting":
+            if not isinstance(answer.gave, tuple):
+                self.phase = "off"
+        elif isinstance(answer.gave, tuple) and answer.gave[1]:
+            self.slots.append((answer.asked, answer.rank))
+
+    def standing(self):
+        """Where the node stands at its tick."""
+        members = self.view.members if self.view else ()
+        votes, quorum = len(members), len(self.ids) // 2 + 1
+        quorate = votes >= quorum
+        return Standing(self.phase, self.holds, quorate, votes, self.why(members, votes, quorum, quorate), self.incarnation, self.installs)
+
+    def why(self, members, votes, quorum, quorate):
+        if self.phase != "up":
+            return "down"
+        if self.holds:
+            return "holding"
+        if self.view is None:
+            return "no-view"
+        if not quorate:
+            return "not-quorate:%d/%d" % (votes, quorum)
+        if members[0] != self.ident:
+            return "not-chosen:%d" % members[0]
+        others = [ident for ident in members if ident != self.ident]
+        held = [ident for ident in others if all(self.tells.get(ident, [False]))]
+        unheard = [ident for ident in others if ident not in self.tells]
+        if held or unheard:
+            return "held-by:%d" % held[0] if held else "unheard:%d" % unheard[0]
+        return self.unfenced(members)
+
+    def unfenced(self, members):
+        for rank, ident in enumerate(self.ids):
+            since = self.out_place.get(ident, 0)
+            if ident in members or any(asked > since and rank == of for asked, of in self.slots):
+                continue
+            written = [tick for asked, of, tick in self.resets if asked > since and of == rank]
+            if not written:
+                return "unfenced:%d:unwritten" % ident
+            if written[-1] + self.msgwait > self.tick:
+                return "unfenced:%d:%d" % (ident, written[-1] + self.msgwait - self.tick)
+        return "clear"
+
+    # what it tells
+
+    def turn(self, turn):
+        self.tick, self.greeted = turn.tick, None
+        self.turns += 1
+        kind, given = self.entry(turn)
+        self.take(kind, given)
+        words = [call[0] for call in turn.calls]
+        self.holds = self.holds or "start" in words
+        self.tell_mail(kind, given)
+        self.tell_peers()
+        self.tell_changes(kind, given, turn.calls)
+        self.tell_seldom()
+        for call in turn.calls:
+            self.answered(call)
+        if self.phase in ("up", "leaving"):
+            self.member = self.member or Member(self.ident, self.ids, self.loop)
+        else:
+            self.member = None
+
+    def tell_mail(self, kind, given):
+        if kind != "disk" or given.kind not in ("mail", "check"):
+            return
+        before, self.mail_state = self.mail_state, given.gave
+        if given.gave in ("damaged", "failed"):
+            if before != given.gave:
+                self.say(ERROR, "mail-" + given.gave)
+        elif given.gave != self.mail:
+            self.mail = given.gave
+            message, by = given.gave
+            sender = ["by=%d" % by[0], "by-incarnation=%d" % by[1]] if by else ["by=operator"]
+            self.say(ERROR if message in DEADLY else NOTICE, "mail", "message=" + message, *sender)
+
+    def tell_peers(self):
+        if self.greeted is not None and self.greeted < len(self.ids) and self.greeted != self.me:
+            ident = self.ids[self.greeted]
+            self.hellos[ident] = self.tick
+            if ident not in self.seen:
+                self.seen.add(ident)
+                self.say(INFORMATION, "peer-seen", "id=%d" % ident)
+        for ident in self.ids:
+            if ident in self.seen and self.tick - self.hellos[ident] > 3 * self.loop:
+                self.seen.remove(ident)
+                self.say(WARNING, "peer-lost", "id=%d" % ident, "silent=%d" % (self.tick - self.hellos[ident]))
+
+    def tell_changes(self, kind, given, calls):
+        before, after = self.before, self.standing()
+        self.before = after
+        if kind == "disk":
+            self.tell_answer(given)
+        if before.phase != after.phase:
+            self.say(NOTICE, "phase", "from=" + before.phase, "to=" + after.phase)
+        count = ["quorate=" + ("yes" if after.quorate else "no"), "votes=%d" % after.votes, "quorum=%d" % (len(self.ids) // 2 + 1), "expected=%d" % len(self.ids)]
+        if kind == "view":
+            self.say(NOTICE, "view", "view=%d" % given.number, "members=" + ",".join(map(str, given.members)), *count)
+        if before.quorate != after.quorate:
+            self.say(*((NOTICE, "quorum-won") if after.quorate else (WARNING, "quorum-lost")), *count)
+        self.tell_outputs(calls)
+        if before.holds != after.holds:
+            self.say(NOTICE, "hold-won" if after.holds else "hold-lost")
+        if without_numbers(before.why) != without_numbers(after.why):
+            self.say(INFORMATION, "why", "why=" + after.why)
+        for call in calls:
+            if call[0] == "halt":
+                code = int(call[1])
+                self.say(ERROR, "halt", "cause=" + HALTS.get(code, "boot-%d" % (code - 10)))
+
+    def tell_answer(self, answer):
+        if answer.kind == "claim" and answer.gave:
+            self.say(NOTICE, "claimed", "incarnation=%d" % self.incarnation)
+        elif answer.kind == "reset":
+            said = ["of=%d" % self.ids[answer.rank], "ok=" + ("yes" if answer.gave else "no"), "msgwait=%d" % self.msgwait]
+            self.say(WARNING if answer.gave else ERROR, "fence-written", *said)
+        elif answer.kind == "slot" and isinstance(answer.gave, tuple) and answer.gave[1] and self.view and self.ids[answer.rank] not in self.view.members:
+            self.say(INFORMATION, "licence", "of=%d" % self.ids[answer.rank], "by=clean-slot")
+
+    def tell_outputs(self, calls):
+        for words in calls:
+            rank = self.mailbox_of(words)
+            if words[0] == "write" and rank is not None and rank != self.me:
+                self.say(WARNING, "fence-asked", "of=%d" % self.ids[rank])
+        for name in "start", "stop":
+            if any(words[0] == name for words in calls):
+                self.say(NOTICE, name + "-asked")
+
+    def mailbox_of(self, words):
+        """The rank whose mailbox a call reads or writes."""
+        if words[0] in ("read", "write") and MAILBOXES <= int(words[1]) < MAILBOXES + len(self.ids):
+            return int(words[1]) - MAILBOXES
+        return None
+
+    def tell_seldom(self):
+        count = self.late.due(self.tick)
+        if count:
+            self.say(ERROR, "feed", "ok=no", "count=%d" % count)
+        count = self.refused.due(self.tick)
+        if count:
+            self.say(WARNING, "packets-refused", "count=%d" % count)
+
+    # what its calls gave
+
+    def answered(self, call):
+        ok = call[-1] == "ok"
+        if call[0] in ("start", "stop", "disarm"):
+            self.say(NOTICE if ok else ERROR, call[0], "ok=" + ("yes" if ok else "no"))
+        if call[0] == "stop":
+            self.waits_stopped = ok
+        if call[0] == "feed" and not ok:
+            self.late.untold += 1
+        if call[0] in ("read", "write"):
+            self.waits_disk = self.answer_of(call)
+
+    def answer_of(self, call):
+        sector, rank = int(call[1]), self.mailbox_of(call)
+        if call[0] == "write":
+            ok, data = call[3] == "ok", bytes.fromhex(call[2])
+            if rank is not None:
+                return self.asked("clear" if rank == self.me else "reset", rank, ok)
+            incarnation, clean = struct.unpack(">QB", data[8:17])
+            if not clean:
+                self.claim = incarnation
+            return self.asked("close" if clean else "claim", self.me, ok)
+        if sector == 0:
+            return self.asked("header", None, read_of(call[2], lambda data: data if data[:8] == b"QNSBD001" else None))
+        if rank is not None:
+            return self.asked("check" if self.phase == "booting" else "mail", rank, read_of(call[2], mail_of))
+        of = (sector - 1) // 2
+        return self.asked("slot", of, read_of(call[2], lambda data: self.slot_of(data, of)))
+
+    def slot_of(self, data, rank):
+        ident, incarnation, clean = struct.unpack(">LQB", data[4:17])
+        return (incarnation, clean == 1) if data[:4] == b"SLOT" and ident == self.ids[rank] else None
+
+    def asked(self, kind, rank, gave):
+        return Answer(kind, self.place, rank, gave, self.tick)
+
+
+def read_of(text, parse):
+    """What a read gave: `failed`, `damaged`, or what the bytes say."""
+    if text == "failed":
+        return "failed"
+    found = parse(bytes.fromhex(text))
+    return "damaged" if found is None else found
+
+
+def without_numbers(why):
+    """A condition without its votes, and without the milliseconds that remain."""
+    return re.sub(r"^(unfenced:\d+):\d+$", r"\1:written", re.sub(r"^not-quorate:.*", "not-quorate", why))
+
+
+def told_of(record, ids, ident):
+    """The lines of the journal of a record, without node and time, and without the line of the opening."""
+    lines = record.splitlines()
+    end = lines.pop() if lines and re.match(r"turns |left |fault ", lines[-1]) else None
+    node = Told(ids, ident)
+    for turn in turns_of(lines):
+        node.turn(turn)
+    if end:
+        node.say(ERROR if end.startswith("fault") else NOTICE, "end", 'end="%s"' % end)
+    return node.lines
+
+
+def said_in(journal):
+    """The same lines of a journal."""
+    lines = [line for line in journal.splitlines() if line.startswith("quorumd: node=")]
+    return [re.sub(r"^quorumd: node=\d+ (tick=\d+) time=\d+\.\d{3} (.*)$", r"\1 \2", line) for line in lines if " event=open " not in line]
