@@ -1,7 +1,8 @@
 -- What follows from a verdict.
-use Rattle.std.proofs.Common.{◌≡◌, ◌≤◌, ◌<◌, ℕ, Bool, true, false, not, ◌&&◌, ◌||◌, ◌==◌, List, [], ◌∷◌, refl, sym, ◌∙◌, ap, arith, if◌then◌else◌, nat_lt, filter, length, All, tt, absurd}
+use Rattle.std.proofs.Common.{◌≡◌, ◌≤◌, ◌<◌, ℕ, Bool, true, false, not, ◌&&◌, ◌||◌, ◌==◌, List, [], ◌∷◌, refl, sym, ◌∙◌, ap, arith, if◌then◌else◌, nat_lt, filter, length, All, slice_index_or}
 use Rattle.std.specs.List.{list_any, list_all}
-use Rattle.std.proofs.lemmas.Bool.{false≢true, true≢false, and_parts, not-true, lt-ltb, ltb-false, eqb-false}
+use Rattle.std.proofs.lemmas.Bool.{false≢true, and_parts, not-true, lt-ltb, ltb-false, eqb-false}
+use Rattle.std.proofs.lemmas.List.Sums.{AllPass-from_list_all}
 use Rattle.qn_control.specs.declared.node_file.NodeFile.{NodeFile}
 use Rattle.qn_control.specs.declared.verdict.Verdict.{Verdict}
 use Rattle.qn_control.specs.declared.verdict.Verdict.TheVariants.{Healthy, Degraded, NoOwner, Unknown}
@@ -28,7 +29,7 @@ pub two_holders : (now : ℕ) (files : List NodeFile) → 2 ≤ holders now file
 two_holders now files two =
     rw (live_of_holder now files (omega arith)) (rw (lt-ltb 1 (holders now files) (omega arith)) refl)
 
-is_healthy : Verdict → Bool
+abbrev is_healthy : Verdict → Bool
 is_healthy Healthy = true
 is_healthy Degraded = false
 is_healthy NoOwner = false
@@ -70,11 +71,12 @@ healthy_parts now files healthy = by_live (list_any (is_live now) files) healthy
     by_live true is = by_two (nat_lt 1 (holders now files)) refl is
     by_live false is = no_other Unknown refl is
 
-pub all_fresh : (now : ℕ) (files : List NodeFile) → list_all (is_well now) files ≡ true → All (λ file. is_stale now file ≡ false) files
-all_fresh now [] well = tt
-all_fresh now (file ∷ files) well =
-    let both = and_parts (is_well now file) (list_all (is_well now) files) well in
-    let without_mail = and_parts (is_live now file && file.quorate && sees_all file) (is_quiet file.mail) both.0 in
+fresh : (now : ℕ) (file : NodeFile) → is_well now file ≡ true → is_stale now file ≡ false
+fresh now file well =
+    let without_mail = and_parts (is_live now file && file.quorate && sees_all file) (is_quiet file.mail) well in
     let without_view = and_parts (is_live now file && file.quorate) (sees_all file) without_mail.0 in
     let live = and_parts (is_live now file) file.quorate without_view.0 in
-    (not-true (is_stale now file) live.0, all_fresh now files both.1)
+    not-true (is_stale now file) live.0
+
+pub all_fresh : (now : ℕ) (files : List NodeFile) → list_all (is_well now) files ≡ true → All (λ file. is_stale now file ≡ false) files
+all_fresh now files well = λ k d below. fresh now (slice_index_or files k d) (AllPass-from_list_all (is_well now) files well k d below)
