@@ -47,7 +47,7 @@ pub struct NodeFile {
 }
 
 /// Where a node is in its life, as the status has it.
-#[derive(Clone, Copy, PartialEq, Eq)]
+#[derive(Clone, Copy)]
 pub enum PhaseOfFile {
     Off,
     Booting,
@@ -57,7 +57,7 @@ pub enum PhaseOfFile {
 }
 
 /// What the last read of the mailbox gave.
-#[derive(Clone, Copy, PartialEq, Eq)]
+#[derive(Clone, Copy)]
 pub enum MailOfFile {
     /// A mailbox with this message.
     Holds(Message),

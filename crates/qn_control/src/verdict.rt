@@ -6,7 +6,7 @@ use crate::node_file::NodeFile;
 use qn_base::NodeId;
 
 /// What the status files of a cluster come to. Its exit status is that of a Nagios plug-in.
-#[derive(Clone, Copy, PartialEq, Eq, Debug)]
+#[derive(Clone, Copy)]
 pub enum Verdict {
     /// One live node holds, and nothing is wrong with any node.
     Healthy,
