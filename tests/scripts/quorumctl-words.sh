@@ -5,24 +5,25 @@ version=$(sed -n 's/^\.Os quorumd //p' "$TOP/man/quorumctl.8")
 same "$("$QUORUMCTL" --version)" "quorumctl $version"
 "$QUORUMCTL" --help > text
 "$QUORUMCTL" -h | cmp text -
-same "$(sed -n 's/^quorumctl \([a-z]*\).*/\1/p' text | xargs)" 'settings timing check list wait'
+same "$(sed -n 's/^quorumctl \([a-z]*\).*/\1/p' text | xargs)" 'settings timing check list wait status history'
 
 # the options of each command, as the manual page has them
 options() {
     grep -o -- '--[a-z-]*' | sort | tr '\n' ' '
 }
-for command in settings timing check list wait; do
+for command in settings timing check list wait status history; do
     page=$(awk -v wanted="$command" '/^\.Sh/ { inside = $2 == "SYNOPSIS" } inside && $1 == ".Cm" { found = $2 == wanted } inside && /^\.Fl -help/ { found = 0 } inside && found' "$TOP/man/quorumctl.8")
     same "$command $(sed -n "s/^quorumctl $command\( .*\)*\$/\1/p" text | options)" \
         "$command $(printf '%s\n' "$page" | sed -n 's/.*Fl \(-[a-z-]*\).*/-\1/p' | options)"
 done
 
-# refused 'WHAT' WORD..: status 2, nothing on standard output, and this line on standard error
+# refused 'WHAT' WORD..: status 2, of `status` 3, nothing on standard output, and this line on standard error
 refused() {
-    local what=$1 status=0
+    local what=$1 status=0 wanted=2
     shift
+    [ "${1-}" != status ] || wanted=3
     "$QUORUMCTL" "$@" > got 2> errors < /dev/null || status=$?
-    same "$status $(cat got errors)" "2 quorumctl: $what"
+    same "$status $(cat got errors)" "$wanted quorumctl: $what"
 }
 refused 'there is no command'
 refused '"lists" is no command' lists
@@ -32,6 +33,14 @@ refused '"--json" is not taken; usage: list --image PATH [--json]' list --json -
 refused '"0" is not taken; usage: wait --image PATH --id 1..4294967295' wait --id 0 --image d
 refused '--feed-delay is missing; usage: timing --watchdog 1..3600000 --loop 1..3600000 --read-limit 1..3600000 --feed-delay 1..3600000 [--disk 1..3600000]' \
     timing --watchdog 1 --loop 1 --read-limit 1
+usage='usage: status [--json|--prometheus|--watch] [--image PATH] FILE..'
+refused "a word is missing; $usage" status
+refused "a word is missing; $usage" status --image disk --json
+refused "\"--xml\" is not taken; $usage" status --xml file
+refused "\"--watch\" is not taken; $usage" status --json --watch file
+refused "\"--json\" is not taken; $usage" status --json file --json
+refused "a value is missing at the end, PATH; $usage" status file --image
+refused '"--json" is not taken; usage: history [FILE..]' history --json
 
 # the streams
 status=0
@@ -55,11 +64,18 @@ offers() {
     shift
     same "$*: $(bash offers.bash "$TOP/completions/quorumctl.bash" "$@" | xargs)" "$*: $wanted"
 }
-offers 'settings timing check list wait' ''
-offers 'settings' s
+offers 'settings timing check list wait status history' ''
+offers 'settings status' s
 offers '--image --json' check ''
 offers '--json' list --image disk ''
 offers '--id' wait --image disk --
 offers '--watchdog --read-limit --feed-delay --disk' timing --loop 5 ''
+offers '--json --prometheus --watch --image' status -
+offers '--image' status --json file -
+offers '--json --prometheus --watch' status --image disk --
+offers '' history -
 touch disk.image
 offers disk.image check --image disk
+offers disk.image status disk
+offers disk.image status --json disk
+offers disk.image history other disk

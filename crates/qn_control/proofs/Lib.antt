@@ -1,1 +1,2 @@
 mod SlowDisks
+mod VerdictLaws

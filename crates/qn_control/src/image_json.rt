@@ -46,15 +46,14 @@ fn add_header(json: &mut Text, version: u16, timing: &Timing) {
     json.add_number(",\"loop\":", timing.loop_ms);
     json.add_number(",\"msgwait\":", timing.msgwait);
     json.add_number(",\"read_limit\":", timing.read_limit);
-    json.add(",\"safe\":");
-    json.add(truth(timing_safe(timing)));
+    json.add_truth(",\"safe\":", timing_safe(timing));
     json.add_number(",\"version\":", u64::from(version));
     json.add_number(",\"watchdog\":", timing.watchdog);
     json.add("}");
 }
 
 /// The array of these nodes.
-fn add_nodes(json: &mut Text, nodes: &[NodeSeen]) {
+pub(crate) fn add_nodes(json: &mut Text, nodes: &[NodeSeen]) {
     let mut before = "[";
     for node in nodes {
         json.add(before);
@@ -80,8 +79,7 @@ fn add_node(json: &mut Text, node: &NodeSeen) {
 }
 
 fn add_slot(json: &mut Text, id: NodeId, slot: &Slot) {
-    json.add("{\"clean\":");
-    json.add(truth(slot.clean));
+    json.add_truth("{\"clean\":", slot.clean);
     json.add_number(",\"id\":", u64::from(id.0));
     json.add_number(",\"incarnation\":", slot.incarnation);
     json.add("}");
@@ -100,8 +98,4 @@ fn add_mail(json: &mut Text, mail: &Mail) {
     json.add(",\"message\":\"");
     json.add(mail.message.name());
     json.add("\"}");
-}
-
-fn truth(holds: bool) -> &'static str {
-    if holds { "true" } else { "false" }
 }

@@ -1,4 +1,5 @@
 //! What an image says, in lines.
+use crate::cluster::Cluster;
 use crate::image::{ImageSeen, NodeSeen};
 use crate::text::Text;
 use std::alloc::{AllocError, Global};
@@ -14,6 +15,44 @@ pub fn node_lines(alloc: Global, nodes: &[NodeSeen]) -> Result<String, AllocErro
         text.add("\n");
     }
     text.finish()
+}
+
+/// A line for each node of an image that is looked at beside status files.
+pub fn image_lines_beside(
+    alloc: Global,
+    seen: &ImageSeen,
+    cluster: &Cluster,
+) -> Result<String, AllocError> {
+    let mut text = Text::new(alloc);
+    for node in seen.nodes.as_slice() {
+        add_beside(&mut text, node, cluster);
+    }
+    text.finish()
+}
+
+/// The line of a node: its slot and its mailbox, and that it has no status file where it has none.
+fn add_beside(text: &mut Text, node: &NodeSeen, cluster: &Cluster) {
+    match &node.slot {
+        Some((id, slot)) => {
+            text.add_number("node ", u64::from(id.0));
+            let has_file = cluster
+                .nodes
+                .as_slice()
+                .iter()
+                .any(|file| file.id.0 == id.0);
+            text.add(if has_file {
+                " slot "
+            } else {
+                " no file; slot "
+            });
+            text.add(if slot.clean { "clean" } else { "dirty" });
+            text.add_number(", incarnation ", slot.incarnation);
+        }
+        None => text.add("node ? slot ?"),
+    }
+    text.add(", mail ");
+    add_mail(text, node);
+    text.add("\n");
 }
 
 /// A line for each thing that is wrong with an image.

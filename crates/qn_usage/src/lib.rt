@@ -13,6 +13,6 @@ mod words;
 
 pub use help::{help_text, version_text};
 pub use quorumd::{BEFORE, QUORUMD};
-pub use refusal::{Refusal, refusal_of};
+pub use refusal::{Refusal, file_of, refusal_of};
 pub use synopsis::{Synopsis, Takes};
 pub use words::{has_word, value_of};

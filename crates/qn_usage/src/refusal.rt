@@ -98,7 +98,10 @@ fn refusal_of_options<'words>(
             Takes::Nothing => {
                 let takes = command.option(word);
                 before = takes.unwrap_or(Takes::Nothing);
-                takes.is_some() && place_of(command, words, word) == Some(place)
+                match takes {
+                    Some(_) => place_of(command, words, word) == Some(place),
+                    None => command.takes_files() && !word.starts_with("--"),
+                }
             }
         };
         if !is_taken {
@@ -111,24 +114,65 @@ fn refusal_of_options<'words>(
     }
 }
 
-/// The first option that the command needs and that does not stand among these words.
+/// The first option that the command needs and that does not stand among these words, or a file where it needs one.
 fn lacking<'words>(command: &Synopsis, words: &'words [String]) -> Option<Refusal<'words>> {
     for number in 0..usize::MAX {
-        let name = command.needed(number)?;
+        let Some(name) = command.needed(number) else {
+            break;
+        };
         if place_of(command, words, name).is_none() {
             return Some(Refusal::Lacks(name, *command));
         }
     }
+    if command.needs_file() && file_by(command, words, 0).is_none() {
+        return Some(Refusal::LacksOperand(*command));
+    }
     None
 }
 
-/// The place among these words at which the option of this name stands first, and is no value of another one.
+/// The file of this number, from 0, among the words of one of these commands of which `refusal_of` found none that is not taken.
+pub fn file_of<'words>(
+    commands: &[Synopsis],
+    words: &'words [String],
+    number: usize,
+) -> Option<&'words str> {
+    let [name, rest @ ..] = words else {
+        return None;
+    };
+    let mut commands = commands.iter();
+    let command = commands.find(|command| command.name() == name.as_str())?;
+    file_by(command, rest, number)
+}
+
+/// The word of this number, from 0, that is no option and no value of one.
+fn file_by<'words>(
+    command: &Synopsis,
+    words: &'words [String],
+    number: usize,
+) -> Option<&'words str> {
+    let mut left = number;
+    let mut is_value = false;
+    for word in words {
+        let takes = command.option(word.as_str());
+        if !is_value && takes.is_none() {
+            if left == 0 {
+                return Some(word.as_str());
+            }
+            left -= 1;
+        }
+        is_value = !is_value && matches!(takes, Some(Takes::Value(_)));
+    }
+    None
+}
+
+/// The place among these words at which the option of this name, or one that is taken in its place, stands first, and is no value of
+/// another one.
 fn place_of(command: &Synopsis, words: &[String], name: &str) -> Option<usize> {
     let mut is_value = false;
     for (place, word) in words.iter().enumerate() {
         let is_option = !is_value;
         is_value = is_option && matches!(command.option(word.as_str()), Some(Takes::Value(_)));
-        if is_option && word.as_str() == name {
+        if is_option && command.is_either(word.as_str(), name) {
             return Some(place);
         }
     }

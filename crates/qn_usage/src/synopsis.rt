@@ -3,8 +3,9 @@
 /// A command, as it is printed and as it is read.
 ///
 /// The line begins with the command's name. The words after it stand for operands, up to the first option. An option begins with two
-/// dashes; the word after it stands for its value, and an option without one stands alone. Brackets stand round what may be left out.
-/// Options come in any order, each at most once. `is_value` says what a word for a value stands for.
+/// dashes; the word after it stands for its value, and an option without one stands alone. Of options with a bar between them one is
+/// taken. Brackets stand round what may be left out. Options come in any order, each at most once. `is_value` says what a word for a
+/// value stands for. `FILE..` stands for files, before, between and behind the options: one at least, or with brackets any number.
 #[derive(Clone, Copy)]
 pub struct Synopsis {
     /// The words, without the name of the program.
@@ -24,6 +25,9 @@ pub enum Takes {
     Value(&'static str),
 }
 
+/// The word of a synopsis that stands for files.
+const FILES: &str = "FILE..";
+
 impl Synopsis {
     /// The name of the command.
     pub fn name(&self) -> &'static str {
@@ -37,22 +41,37 @@ impl Synopsis {
             .trim_end_matches('[')
             .split_whitespace()
             .skip(1)
+            .filter(|word| bare(word) != FILES)
             .nth(number)
+    }
+
+    /// Whether the command takes files.
+    pub fn takes_files(&self) -> bool {
+        self.line.split_whitespace().any(|word| bare(word) == FILES)
+    }
+
+    /// Whether the command needs a file.
+    pub fn needs_file(&self) -> bool {
+        self.line.split_whitespace().any(|word| word == FILES)
     }
 
     /// What the option of this name takes; None where the command has no such option.
     pub fn option(&self, name: &str) -> Option<Takes> {
         let mut words = self.line.split_whitespace();
-        let option = words.find(|word| bare(word) == name)?;
-        if !is_option(option) {
-            return None;
-        }
+        let option = words.find(|word| has_option(word, name))?;
         match words.next() {
             Some(value) if !option.ends_with(']') && !is_option(value) => {
                 Some(Takes::Value(bare(value)))
             }
             _ => Some(Takes::Nothing),
         }
+    }
+
+    /// Whether two words are options of the command of which one alone is taken: the same one, or two with a bar between them.
+    pub fn is_either(&self, one: &str, other: &str) -> bool {
+        self.line
+            .split_whitespace()
+            .any(|word| has_option(word, one) && has_option(word, other))
     }
 
     /// The option of this number, from 0, of those that the command needs; None where there are not so many.
@@ -68,6 +87,11 @@ impl Synopsis {
         }
         None
     }
+}
+
+/// Whether a word of a synopsis is this option, or has it beside others.
+fn has_option(word: &str, name: &str) -> bool {
+    is_option(word) && bare(word).split('|').any(|one| one == name)
 }
 
 /// Whether a word of a synopsis is an option, in brackets or not.

@@ -95,8 +95,7 @@ pub fn list<R: Files<File = File> + Print + Eprint + AllocGlobal>(
     path: &str,
     is_json: bool,
 ) -> Result<u8, Trouble> {
-    let file = ImageFile::open(rt, path).map_err(Trouble::System)?;
-    let seen = look_at_image(rt.alloc(), &file, None)?;
+    let seen = look(rt, path)?;
     if seen.header.is_none() && !is_json {
         return say_no_image(rt, &seen);
     }
@@ -107,6 +106,12 @@ pub fn list<R: Files<File = File> + Print + Eprint + AllocGlobal>(
     }
     let is_whole = seen.header.is_some() && nodes.iter().all(is_seen);
     Ok(if is_whole { 0 } else { WRONG })
+}
+
+/// Looks at an image without settings.
+pub fn look<R: Files<File = File> + AllocGlobal>(rt: &R, path: &str) -> Result<ImageSeen, Trouble> {
+    let file = ImageFile::open(rt, path).map_err(Trouble::System)?;
+    Ok(look_at_image(rt.alloc(), &file, None)?)
 }
 
 /// Says in a line why a file is no image.
@@ -179,7 +184,7 @@ pub fn wait<R: Files<File = File> + Net + Clock + Print + AllocGlobal>(
             return say_outcome(rt, &outcome, was_exit);
         }
         was_exit = was_exit || matches!(outcome, Outcome::Exit);
-        pause(rt)?;
+        pause(rt, LOOK)?;
     }
     Ok(0)
 }
@@ -286,11 +291,11 @@ fn outcome_by(slot: &Slot, mail: Option<&Mail>) -> Outcome {
     }
 }
 
-/// Lets a moment pass: waits at a port at which nothing comes.
-fn pause<R: Net>(rt: &R) -> Result<(), Trouble> {
+/// Lets so many milliseconds pass: waits at a port at which nothing comes.
+pub fn pause<R: Net>(rt: &R, milliseconds: u64) -> Result<(), Trouble> {
     let socket = UdpSocket::bind(rt, (Ipv4Addr::LOCALHOST, 0)).map_err(Trouble::System)?;
     socket
-        .set_read_timeout(Some(Duration::from_millis(LOOK)))
+        .set_read_timeout(Some(Duration::from_millis(milliseconds)))
         .map_err(Trouble::System)?;
     let _ = socket.recv_from(&mut [0; 1]);
     Ok(())

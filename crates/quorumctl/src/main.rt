@@ -3,14 +3,21 @@
 //! Promises: nothing. What it says stands on `qn_control`; a text is judged by `settings_of_text`, as `quorumd` judges it.
 #![tactic(auto)]
 
+mod cluster;
 mod files;
 mod images;
 mod input;
+mod journals;
+mod members;
+mod status_file;
 mod table;
 mod texts;
 mod trouble;
 
+use cluster::status;
 use images::{check, list, wait};
+use journals::history;
+use qn_control::Verdict;
 use qn_usage::{has_word, help_text, refusal_of, value_of, version_text};
 use std::env;
 use std::fs::File;
@@ -26,7 +33,7 @@ use trouble::Trouble;
 /// The name of the program, and what it is.
 const PROGRAM: &str = "quorumctl";
 
-const IS: &str = "looks at the settings, the times and the image of a quorumd cluster";
+const IS: &str = "looks at the settings, the times, the image and the nodes of a quorumd cluster";
 
 /// The status for words that are no command.
 const USAGE: u8 = 2;
@@ -45,7 +52,7 @@ fn main(rt: HostRuntime) -> ExitCode {
         words => match refusal_of(QUORUMCTL, words) {
             Some(refusal) => {
                 let _ = eprintln!(rt; "{PROGRAM}: {refusal}");
-                Ok(USAGE)
+                Ok(usage_status(words))
             }
             None => run(&rt, words),
         },
@@ -56,6 +63,14 @@ fn main(rt: HostRuntime) -> ExitCode {
             let _ = eprintln!(rt; "{PROGRAM}: {trouble}");
             ExitCode::from(trouble.status())
         }
+    }
+}
+
+/// The status for words that are not taken. `status` is run by monitors, to which that of the other commands is an alarm.
+fn usage_status(words: &[String]) -> u8 {
+    match words {
+        [name, ..] if name.as_str() == "status" => Verdict::Unknown.exit_status(),
+        _ => USAGE,
     }
 }
 
@@ -75,6 +90,8 @@ fn run<R: Files<File = File> + Net + Clock + Print + Eprint + Input + AllocGloba
         "check" => check(rt, image, is_json),
         "list" => list(rt, image, is_json),
         "wait" => wait(rt, image, options),
+        "status" => Ok(status(rt, words)),
+        "history" => history(rt, words),
         _ => Ok(USAGE),
     }
 }

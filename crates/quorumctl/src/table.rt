@@ -28,4 +28,14 @@ pub const QUORUMCTL: &[Synopsis] = &[
         reads: "",
         does: "returns when the message to a node was read, or msgwait has passed",
     },
+    Synopsis {
+        line: "status [--json|--prometheus|--watch] [--image PATH] FILE..",
+        reads: "",
+        does: "what the status files of the nodes of this host come to",
+    },
+    Synopsis {
+        line: "history [FILE..]",
+        reads: "",
+        does: "what the journals of the nodes tell, in the order of time",
+    },
 ];

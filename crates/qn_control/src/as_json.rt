@@ -1,0 +1,140 @@
+//! The status of a cluster, as JSON (RFC 8259), with the keys in alphabetical order.
+use crate::cluster::{Cluster, UnreadFile};
+use crate::image::ImageSeen;
+use crate::image_json::add_nodes as add_nodes_of_image;
+use crate::node_file::{NodeFile, PeerOfFile, ViewOfFile};
+use crate::text::Text;
+use std::alloc::{AllocError, Global};
+
+/// One line: an object with the slots and the mailboxes of an image, where one is looked at; the nodes and the files that are none; the
+/// reason of the verdict; and its word.
+pub fn cluster_json(
+    alloc: Global,
+    cluster: &Cluster,
+    image: Option<&ImageSeen>,
+) -> Result<String, AllocError> {
+    let reason = cluster.reason(alloc)?;
+    let mut json = Text::new(alloc);
+    json.add("{");
+    if let Some(image) = image {
+        json.add("\"image\":");
+        add_nodes_of_image(&mut json, image.nodes.as_slice());
+        json.add(",");
+    }
+    json.add("\"nodes\":");
+    add_nodes(&mut json, cluster);
+    json.add(",\"said\":");
+    json.add_string(reason.as_str());
+    json.add(",\"state\":");
+    json.add_string(cluster.verdict().name());
+    json.add("}\n");
+    json.finish()
+}
+
+/// The array of the nodes, and of the files that are none behind them.
+fn add_nodes(json: &mut Text, cluster: &Cluster) {
+    let mut separator = "";
+    json.add("[");
+    for node in cluster.nodes.as_slice() {
+        json.add(separator);
+        add_node(json, cluster, node);
+        separator = ",";
+    }
+    for file in cluster.unread.as_slice() {
+        json.add(separator);
+        add_unread(json, file);
+        separator = ",";
+    }
+    json.add("]");
+}
+
+fn add_unread(json: &mut Text, file: &UnreadFile) {
+    json.add("{\"error\":");
+    json.add_string(file.why.as_str());
+    json.add(",\"id\":null,\"path\":");
+    json.add_string(file.path.as_str());
+    json.add(",\"stale\":true}");
+}
+
+fn add_node(json: &mut Text, cluster: &Cluster, node: &NodeFile) {
+    json.add_number("{\"age\":", cluster.age(node));
+    json.add_number(",\"dropped\":", node.dropped);
+    json.add(",\"end\":");
+    match &node.end {
+        Some(end) => json.add_string(end.as_str()),
+        None => json.add("null"),
+    }
+    json.add_number(",\"expected\":", node.expected);
+    json.add_truth(",\"format\":1,\"holds\":", node.holds);
+    json.add_number(",\"id\":", u64::from(node.id.0));
+    json.add_number_or_null(",\"incarnation\":", node.incarnation);
+    json.add_number(",\"late\":", node.late);
+    json.add_number(",\"loop\":", u64::from(node.loop_ms));
+    add_mail(json, node);
+    json.add(",\"peers\":");
+    add_peers(json, node.peers.as_slice());
+    json.add(",\"phase\":");
+    json.add_string(node.phase.name());
+    add_votes(json, node);
+    json.add_truth(",\"stale\":", node.is_stale(cluster.now));
+    add_rest(json, node);
+}
+
+/// The keys from `mail` on.
+fn add_mail(json: &mut Text, node: &NodeFile) {
+    json.add(",\"mail\":");
+    json.add_string(node.mail.name());
+    let sender = node.mail_by.map(|id| u64::from(id.0));
+    json.add_number_or_null(",\"mail_by\":", sender);
+    json.add_number_or_null(",\"mail_tick\":", node.mail_tick);
+}
+
+fn add_peers(json: &mut Text, peers: &[PeerOfFile]) {
+    let mut separator = "";
+    json.add("[");
+    for peer in peers {
+        json.add(separator);
+        json.add_number_or_null("{\"hello_tick\":", peer.hello_tick);
+        json.add_number(",\"id\":", u64::from(peer.id.0));
+        json.add("}");
+        separator = ",";
+    }
+    json.add("]");
+}
+
+/// The keys from `pid` to `released`.
+fn add_votes(json: &mut Text, node: &NodeFile) {
+    json.add_number(",\"pid\":", node.pid);
+    json.add_truth(",\"quorate\":", node.quorate);
+    json.add_number(",\"quorum\":", node.quorum);
+    json.add_number(",\"refused\":", node.refused);
+    json.add_truth(",\"released\":", node.released);
+}
+
+/// The keys from `tick` on, and the end of the object.
+fn add_rest(json: &mut Text, node: &NodeFile) {
+    json.add_number(",\"tick\":", node.tick);
+    json.add(",\"time\":");
+    json.add(node.time.as_str());
+    json.add_number(",\"unwritten\":", node.unwritten);
+    json.add(",\"view\":");
+    match &node.view {
+        Some(view) => add_view(json, view),
+        None => json.add("null"),
+    }
+    json.add_number(",\"votes\":", node.votes);
+    json.add(",\"why\":");
+    json.add_string(node.why.as_str());
+    json.add("}");
+}
+
+fn add_view(json: &mut Text, view: &ViewOfFile) {
+    json.add_number("{\"id\":", view.id);
+    json.add(",\"members\":[");
+    let mut separator = "";
+    for member in view.members.as_slice() {
+        json.add_number(separator, u64::from(member.0));
+        separator = ",";
+    }
+    json.add("]}");
+}
