@@ -17,7 +17,8 @@ pub one_is_not_zero : ¬ (◌≡◌ {A = ℕ} 1 0)
 one_is_not_zero same = absurd (omega arith)
 
 -- the number that a test picks has the bound of both
-pub either_within : (b : Bool) (first second bound : ℕ) → first ≤ bound → second ≤ bound → (if b then first else second) ≤ bound
+pub either_within : (b : Bool) (first second bound : ℕ) → first ≤ bound → second ≤ bound
+    → (if b then first else second) ≤ bound
 either_within true first second bound below other = below
 either_within false first second bound below other = other
 

@@ -24,20 +24,24 @@ value_there (Some a) there = (a, refl)
 value_there None there = absurd (false≢true there)
 
 -- what passes a test that nothing fails is there, and its value passes
-pub value_tested : {A : Type 0} (test : A → Bool) (o : Option A) → option_map_or test o false ≡ true → (a : A) × (o ≡ Some a) × (test a ≡ true)
+pub value_tested : {A : Type 0} (test : A → Bool) (o : Option A) → option_map_or test o false ≡ true
+    → (a : A) × (o ≡ Some a) × (test a ≡ true)
 value_tested test (Some a) passed = (a, refl, passed)
 value_tested test None passed = absurd (false≢true passed)
 
 -- a number that is the newest one, or an earlier one with the bound
-pub found_within : (b : Bool) (newest found : ℕ) (before : Option ℕ) → (before ≡ Some found → found ≤ newest) → (if b then Some newest else before) ≡ Some found → found ≤ newest
+pub found_within : (b : Bool) (newest found : ℕ) (before : Option ℕ) → (before ≡ Some found → found ≤ newest)
+    → (if b then Some newest else before) ≡ Some found → found ≤ newest
 found_within true newest found before old is = let same : newest ≡ found = same_Some newest found is in omega arith
 found_within false newest found before old is = old is
 
 -- a value that is there only where a test holds
-pub some_if_true : {A : Type 0} (test : Bool) (value : A) → test ≡ true → (if test then Some value else None) ≡ Some value
+pub some_if_true : {A : Type 0} (test : Bool) (value : A) → test ≡ true
+    → (if test then Some value else None) ≡ Some value
 some_if_true true value holds = refl
 some_if_true false value holds = absurd (false≢true holds)
 
-pub true_if_some : {A : Type 0} (test : Bool) (value found : A) → (if test then Some value else None) ≡ Some found → (test ≡ true) × (found ≡ value)
+pub true_if_some : {A : Type 0} (test : Bool) (value found : A) → (if test then Some value else None) ≡ Some found
+    → (test ≡ true) × (found ≡ value)
 true_if_some true value found is = (refl, sym (same_Some value found is))
 true_if_some false value found is = none_is_not_some found is
