@@ -1,5 +1,4 @@
-use Rattle.std.proofs.Common.{◌≡◌, ℕ, zero, suc, ◌+◌, ◌*◌, ◌-◌, ◌^◌, ◌<◌, ◌≤◌, ◌&&◌, inl, inr, List, [], ◌∷◌, length, get_or, take, true, false, Option, Some, None, refl, sym, ap, ◌∙◌, arith, nat_lt, nat_le, lit≤, lit<}
-use Rattle.std.specs.Prelude.{decimal}
+use Rattle.std.proofs.Common.{◌≡◌, ℕ, zero, suc, ◌+◌, ◌*◌, ◌-◌, ◌^◌, ◌<◌, ◌≤◌, ◌&&◌, inl, inr, List, [], ◌∷◌, length, get_or, take, true, false, Option, Some, None, refl, sym, ap, ◌∙◌, arith, nat_lt, nat_le, lit≤}
 use Rattle.std.specs.Str.{all_ascii_digits}
 use Rattle.std.specs.Int.{IsInRange}
 use Rattle.std.specs.Char.{digit_value, is_ascii_digit}
@@ -10,13 +9,9 @@ use Rattle.std.specs.Str.Parse.{digits_value}
 use Rattle.std.proofs.lemmas.Bool.Decides.{nat_tests}
 use Rattle.std.proofs.lemmas.Str.{digit_value_digit}
 use Rattle.std.proofs.lemmas.Int.Digits.{digits_value_more}
-use Rattle.std.proofs.lemmas.Fmt.{digits_decimal, digits_value-decimal, decimal_nonempty, length-decimal-le}
-use Rattle.std.proofs.lemmas.Str.Parse.{IsNumeralModel, numerals_by_value, tells_all_ascii_digits, tells_by_index, digits_value_short, digits_value-take-le}
+use Rattle.std.proofs.lemmas.Str.Parse.{numerals_by_value, tells_by_index, digits_value_short, digits_value-take-le}
 use Rattle.qn_base.specs.Decimal.{number_of}
-
--- the digits' own words are std's
-pub numerals : IsNumeralModel (λ ds. all_ascii_digits ds ≡ true) (digits_value 10)
-numerals = numerals_by_value (λ ds. all_ascii_digits ds ≡ true) tells_all_ascii_digits
+use Rattle.qn_base.specs.lemmas.Decimals.{numerals}
 
 -- the value of at most 19 digits
 digits_value-lt_19 : (ds : List ℕ) → all_ascii_digits ds ≡ true → length ds ≤ 19 → digits_value 10 ds < 10 ^ 19
@@ -41,18 +36,6 @@ value-take-lt ds i digits short =
     let below : digits_value 10 (take i ds) ≤ digits_value 10 ds = digits_value-take-le 10 ds i (lit≤ tt) in
     let small : digits_value 10 ds < 10 ^ 19 = digits_value-lt_19 ds digits short in
     omega arith
-
--- what is written is read back
-pub number_of-decimal : (n : ℕ) → n < 2 ^ 64 → number_of (decimal n) ≡ Some n
-number_of-decimal n small =
-    let long : 0 < length (decimal n) = decimal_nonempty n small in
-    let short : length (decimal n) ≤ 20 = length-decimal-le 20 n (lit< tt) (omega arith) small in
-    let digits : all_ascii_digits (decimal n) ≡ true = digits_decimal numerals n small in
-    let value : digits_value 10 (decimal n) ≡ n = digits_value-decimal numerals n small in
-    let low : nat_le 1 (length (decimal n)) ≡ true = grind (arith, nat_tests) in
-    let high : nat_le (length (decimal n)) 20 ≡ true = grind (arith, nat_tests) in
-    let fits : nat_lt n (2 ^ 64) ≡ true = grind (arith, nat_tests) in
-    rw (low, high, digits, value, fits) refl
 
 -- the first digits are digits
 pub all_ascii_digits-take : (i : ℕ) (ds : List ℕ) → all_ascii_digits ds ≡ true → all_ascii_digits (take i ds) ≡ true

@@ -6,3 +6,4 @@ pub mod PlanSteps
 pub mod Plans
 pub mod Rising
 pub mod Text
+pub mod lemmas

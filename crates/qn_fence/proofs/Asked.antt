@@ -1,39 +1,19 @@
 -- Where the answers of a log were asked for.
-use Rattle.std.proofs.Common.{◌≡◌, ℕ, suc, ◌≤◌, Bool, true, false, List, [], ◌∷◌, length, Some, refl, ◌&&◌, ◌||◌, if◌then◌else◌, ◌∙◌, ap, arith}
-use Rattle.std.specs.Prelude.{nat_lt, is_some}
-use Rattle.std.proofs.lemmas.Bool.Decides.{nat_tests}
+use Rattle.std.proofs.Common.{◌≡◌, ℕ, ◌≤◌, Bool, false, List, [], ◌∷◌, length, Some, refl, ◌&&◌, ◌||◌, if◌then◌else◌, ◌∙◌, ap, arith}
+use Rattle.std.specs.Prelude.{nat_lt}
+use Rattle.std.proofs.Math.Bool.{and-false}
+use Rattle.std.proofs.lemmas.Bool.{le-ltb}
+use Rattle.qn_base.specs.lemmas.Numbers.{either_within}
 use Rattle.qn_model.specs.declared.configuration.Settings.{Settings}
 use Rattle.qn_model.specs.declared.entries.Entry.{Entry}
 use Rattle.qn_model.specs.declared.entries.What.{What}
 use Rattle.qn_model.specs.declared.seen.SlotSeen.{SlotSeen}
+use Rattle.qn_model.specs.lemmas.Logs.{ask_place-within}
 use Rattle.qn_model.specs.Fitting.{read_as}
-use Rattle.qn_model.specs.Log.{Line, ask_place, disk_of, is_answer}
-use Rattle.qn_model.specs.Licences.{out_time, reads_slot, reset_since, slot_read_since, starts_out_time, writes_reset}
+use Rattle.qn_model.specs.Log.{Line, ask_place, is_answer}
+use Rattle.qn_model.specs.Licences.{reads_slot, reset_since, slot_read_since, writes_reset}
 use Rattle.qn_model.specs.NodeOutputs.{log_from, log_of, with_entry, with_read}
 use Rattle.qn_fence.specs.Fence.{IsAskedInside}
-
-pub and_false : (b : Bool) → (b && false) ≡ false
-and_false true = refl
-and_false false = refl
-
--- a number is 0, or some length and that is not more
-one_of : (b : Bool) (first second bound : ℕ) → first ≤ bound → second ≤ bound → (if b then first else second) ≤ bound
-one_of true first second bound p q = p
-one_of false first second bound p q = q
-
-pub ask_place-within : (log : List Line) → ask_place log ≤ length log
-unfolding ask_place
-ask_place-within [] = omega arith
-ask_place-within (line ∷ past) =
-    let before = ask_place-within past in
-    one_of (is_some (disk_of line.outs)) (suc (length past)) (ask_place past) (suc (length past)) (omega arith) (omega arith)
-
-pub out_time-within : (rank : ℕ) (log : List Line) → out_time rank log ≤ length log
-unfolding out_time
-out_time-within rank [] = omega arith
-out_time-within rank (line ∷ past) =
-    let before = out_time-within rank past in
-    one_of (starts_out_time rank line.what) (suc (length past)) (out_time rank past) (suc (length past)) (omega arith) (omega arith)
 
 -- a line that is no read of that kind
 pub slot_read_since-other : (place rank : ℕ) (test : SlotSeen → Bool) (log : List Line) (line : Line)
@@ -41,7 +21,7 @@ pub slot_read_since-other : (place rank : ℕ) (test : SlotSeen → Bool) (log :
 unfolding slot_read_since
 slot_read_since-other place rank test log line e =
     ap (λ b. (nat_lt place line.asked && b) || slot_read_since place test rank log) e
-    ∙ ap (λ b. b || slot_read_since place test rank log) (and_false (nat_lt place line.asked))
+    ∙ ap (λ b. b || slot_read_since place test rank log) (and-false (nat_lt place line.asked))
 
 -- a line that is no reset of that rank
 pub reset_since-other : (place rank : ℕ) (log : List Line) (line : Line)
@@ -49,15 +29,12 @@ pub reset_since-other : (place rank : ℕ) (log : List Line) (line : Line)
 unfolding reset_since
 reset_since-other place rank log line e =
     ap (λ b. if nat_lt place line.asked && b then Some line.tick else reset_since place rank log) e
-    ∙ ap (λ b. if b then Some line.tick else reset_since place rank log) (and_false (nat_lt place line.asked))
+    ∙ ap (λ b. if b then Some line.tick else reset_since place rank log) (and-false (nat_lt place line.asked))
 
 -- nothing is asked for after the end of the empty log
 pub inside-none : IsAskedInside []
 unfolding slot_read_since reset_since
 inside-none = record { reads = λ place rank test beyond. refl; resets = λ place rank beyond. refl }
-
-not_behind : (place asked : ℕ) → asked ≤ place → nat_lt place asked ≡ false
-not_behind place asked before = grind (arith, nat_tests)
 
 -- a line that was asked for up to its place
 pub inside-more : (log : List Line) (line : Line) → IsAskedInside log → line.asked ≤ length log → IsAskedInside (line ∷ log)
@@ -65,11 +42,11 @@ unfolding slot_read_since reset_since
 inside-more log line h within = record {
   reads = λ place rank test beyond.
       let old : length log ≤ place = omega arith in
-      let none = not_behind place line.asked (omega arith) in
+      let none = le-ltb place line.asked (omega arith) in
       ap (λ b. (b && reads_slot test rank line.what) || slot_read_since place test rank log) none ∙ h.reads place rank test old;
   resets = λ place rank beyond.
       let old : length log ≤ place = omega arith in
-      let none = not_behind place line.asked (omega arith) in
+      let none = le-ltb place line.asked (omega arith) in
       ap (λ b. if b && writes_reset rank line.what then Some line.tick else reset_since place rank log) none ∙ h.resets place rank old;
 }
 
@@ -84,7 +61,7 @@ inside-other log line h no_read no_reset = record {
 
 pub inside-read : (s : Settings) (me : ℕ) (log : List Line) (tick : ℕ) (entry : What) → IsAskedInside log → IsAskedInside (with_read s me log tick entry)
 inside-read s me log tick entry h =
-    inside-more log _ h (one_of (is_answer entry) (ask_place log) 0 (length log) (ask_place-within log) (omega arith))
+    inside-more log _ h (either_within (is_answer entry) (ask_place log) 0 (length log) (ask_place-within log) (omega arith))
 
 inside-from : (s : Settings) (me : ℕ) (log : List Line) (history : List Entry) → IsAskedInside log → IsAskedInside (log_from s me log history)
 unfolding log_from with_entry

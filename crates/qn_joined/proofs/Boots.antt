@@ -12,8 +12,10 @@ use Rattle.qn_model.specs.declared.events.Event.{Event}
 use Rattle.qn_model.specs.declared.events.Event.TheVariants as event
 use Rattle.qn_model.specs.declared.outputs.DiskOp.{DiskOp}
 use Rattle.qn_model.specs.declared.packets.Sent.{Sent}
+use Rattle.qn_model.specs.lemmas.Entries.{begin_answers_none}
+use Rattle.qn_model.specs.lemmas.Moments.{node_boots, boots_apart, node_feeds, put_same, put_other}
 use Rattle.qn_model.specs.Holding.{holds}
-use Rattle.qn_model.specs.Log.{is_answer, now, op_out}
+use Rattle.qn_model.specs.Log.{now, op_out}
 use Rattle.qn_model.specs.Moments.{Boots, Feeds, Moment, Running, begin_of, booted, given_out, handed, is_gone, node, packets, tick_of, time}
 use Rattle.qn_model.specs.NodeOutputs.{newest_outs}
 use Rattle.qn_model.specs.Phases.{phase}
@@ -31,7 +33,7 @@ use Rattle.qn_joined.specs.Nodes.{AllSaid, IsReady, Spends}
 use Rattle.qn_safety.specs.AnyNumbers.{AllMay, is_ranked}
 use Rattle.qn_joined.specs.Stands.{Stand, first_stand, log_at}
 use Rattle.qn_joined.specs.WorldOf.{AreAmong, NoCall, IsFresh, IsNode, disk_ahead}
-use Rattle.qn_joined.proofs.Frames.{grows_more, node_grows, own, put_other, put_same}
+use Rattle.qn_joined.proofs.Frames.{grows_more, node_grows}
 use Rattle.qn_joined.proofs.Handing.{handed_at}
 use Rattle.qn_joined.proofs.Looks.{all_said}
 
@@ -62,14 +64,6 @@ begins_as_node s rank host n took left all clean leave turns begun is off =
     lives : n.on ≡ true → ⊥
     lives on = let both = sym off_now ∙ on in cc
 
-node_own_boots : (s : Settings) (rank base : ℕ) (clean : Bool) (ms : List Moment) → node s rank (Boots rank base clean ∷ ms) ≡ booted s rank (time ms) base clean (node s rank ms)
-unfolding node
-node_own_boots s rank base clean ms = ap (λ b. if b then booted s rank (time ms) base clean (node s rank ms) else node s rank ms) (own rank)
-
-node_apart_boots : (s : Settings) (rank r base : ℕ) (clean : Bool) (ms : List Moment) → (rank == r) ≡ false → node s r (Boots rank base clean ∷ ms) ≡ node s r ms
-unfolding node
-node_apart_boots s rank r base clean ms e = ap (λ b. if b then booted s r (time ms) base clean (node s r ms) else node s r ms) e
-
 said_at_boot : (s : Settings) (rank base : ℕ) (clean : Bool) (ms : List Moment)
     → AllSaid (packets s (Boots rank base clean ∷ ms)) (newest_outs (node s rank (Boots rank base clean ∷ ms)).log)
 unfolding packets given_out
@@ -95,17 +89,13 @@ unfolding step
 boot_steps s t rank base false w = refl
 boot_steps s t rank base true w = refl
 
-begin_plain : (clean : Bool) → is_answer (begin_of clean) ≡ false
-begin_plain false = refl
-begin_plain true = refl
-
 boots_changes : (s : Settings) (rank base : ℕ) (clean : Bool) (w : World) → Changes s rank w (boots rank base clean w)
 unfolding time packets
 boots_changes s rank base clean w =
     record {
       time = refl;
       grows = grows_more (packets s w.moments) _;
-      node = λ r apart. node_apart_boots s rank r base clean w.moments apart;
+      node = λ r apart. boots_apart s rank r base clean w.moments apart;
       took = λ r apart. put_other w.took rank r None apart;
       left = λ r apart. put_other w.left rank r [] apart;
     }
@@ -160,12 +150,12 @@ module _ (s : Settings) (t : Timing) (rank : ℕ) (events : List Event) (host : 
   spends : Spends s rank (begin_of fresh.clean) first None (after.took rank) [] (after.left rank)
   spends = record {
     plain = λ e. (put_same w.took rank None, put_same w.left rank []);
-    answer = λ e. absurd (let both = sym (begin_plain fresh.clean) ∙ e in cc);
+    answer = λ e. absurd (let both = sym (begin_answers_none fresh.clean) ∙ e in cc);
   }
 
   node_is : node_at s rank after ≡ handed s rank (time w.moments) (begin_of fresh.clean) before
   unfolding booted
-  node_is = node_own_boots s rank base fresh.clean w.moments
+  node_is = node_boots s rank base fresh.clean w.moments
 
   may_boot : AllMay s t (boot_event rank base fresh.clean ∷ events)
   unfolding AllMay
@@ -211,10 +201,6 @@ no_event {s} {t} {rank} {events} {host} may is =
       mailboxes = refl;
       node = is;
     }
-
-node_own_feeds : (s : Settings) (rank : ℕ) (ms : List Moment) → node s rank (Feeds rank ∷ ms) ≡ record (node s rank ms) { fed = time ms }
-unfolding node
-node_own_feeds s rank ms = ap (λ b. if b then record (node s rank ms) { fed = time ms } else node s rank ms) (own rank)
 
 node_apart_feeds : (s : Settings) (rank r : ℕ) (ms : List Moment) → (rank == r) ≡ false → node s r (Feeds rank ∷ ms) ≡ node s r ms
 unfolding node
@@ -296,7 +282,7 @@ module _ (s : Settings) (t : Timing) (rank : ℕ) (events : List Event) (host : 
         slots = refl;
         mailboxes = refl;
         node =
-            subst (λ x. IsNode s rank (record host { fed = time fed_world.moments }) x (fed_world.took rank) (fed_world.left rank) (packets s (Feeds rank ∷ fed_world.moments))) (sym (node_own_feeds s rank fed_world.moments))
+            subst (λ x. IsNode s rank (record host { fed = time fed_world.moments }) x (fed_world.took rank) (fed_world.left rank) (packets s (Feeds rank ∷ fed_world.moments))) (sym (node_feeds s rank fed_world.moments))
             (node_grows (packets s (Feeds rank ∷ fed_world.moments)) (grows_more (packets s fed_world.moments) _) (fed_node (time fed_world.moments) is));
       }
 

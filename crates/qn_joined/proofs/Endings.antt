@@ -1,5 +1,5 @@
 -- The end of a machine as an event of its world.
-use Rattle.std.proofs.Common.{◌≡◌, ◌<◌, ℕ, Bool, true, false, ◌&&◌, List, [], ◌∷◌, ◌++◌, Option, None, Some, ◌==◌, if◌then◌else◌, refl, sym, ap, subst, ◌∙◌}
+use Rattle.std.proofs.Common.{◌≡◌, ◌<◌, ℕ, Bool, true, false, ◌&&◌, List, [], ◌∷◌, ◌++◌, Option, None, Some, if◌then◌else◌, refl, sym, ap, subst, ◌∙◌}
 use Rattle.std.specs.Prelude.{is_none, length}
 use Rattle.std.specs.Option.{option_or}
 use Rattle.std.proofs.lemmas.List.{append-nil}
@@ -11,8 +11,9 @@ use Rattle.qn_model.specs.declared.events.Event.TheVariants as event
 use Rattle.qn_model.specs.declared.outputs.DiskOp.{DiskOp}
 use Rattle.qn_model.specs.declared.outputs.Out.TheVariants as out
 use Rattle.qn_model.specs.declared.packets.Sent.{Sent}
+use Rattle.qn_model.specs.lemmas.Moments.{node_ends, ends_apart, put_same, put_other}
 use Rattle.qn_model.specs.Log.{disk_of, op_out}
-use Rattle.qn_model.specs.Moments.{Ends, Moment, Running, is_gone, node, packets, time}
+use Rattle.qn_model.specs.Moments.{Ends, Running, is_gone, node, packets, time}
 use Rattle.qn_model.specs.Phases.{phase}
 use Rattle.qn_model.specs.Rules.{refusal, unless}
 use Rattle.qn_model.specs.Steps.{gives_up, happens, run, step}
@@ -29,16 +30,8 @@ use Rattle.qn_joined.specs.Stands.{Spot, Receiving, Looking, Acting, Saying, Par
 use Rattle.qn_joined.specs.WorldOf.{AreAmong, NoCall, IsEnding, IsFresh, IsNode, greets_at, still_out}
 use Rattle.qn_joined.proofs.Boots.{no_event}
 use Rattle.qn_joined.proofs.Calls.{timed_on}
-use Rattle.qn_joined.proofs.Frames.{grows_more, own, put_other, put_same}
+use Rattle.qn_joined.proofs.Frames.{grows_more}
 use Rattle.qn_joined.proofs.Moving.{among_more, disk_given_up}
-
-node_own_ends : (s : Settings) (rank : ℕ) (ms : List Moment) → node s rank (Ends rank ∷ ms) ≡ record (node s rank ms) { on = false }
-unfolding node
-node_own_ends s rank ms = ap (λ b. if b then record (node s rank ms) { on = false } else node s rank ms) (own rank)
-
-node_apart_ends : (s : Settings) (rank r : ℕ) (ms : List Moment) → (rank == r) ≡ false → node s r (Ends rank ∷ ms) ≡ node s r ms
-unfolding node
-node_apart_ends s rank r ms e = ap (λ b. if b then record (node s r ms) { on = false } else node s r ms) e
 
 module _ {s : Settings} {rank : ℕ} (host : Host) (n : Running) (took : Option What) (left : List DiskOp) (all : List Sent) where
   -- what was left over before is among what is left over then
@@ -133,7 +126,7 @@ ends_changes s rank w =
     record {
       time = refl;
       grows = grows_more (packets s w.moments) _;
-      node = λ r apart. node_apart_ends s rank r w.moments apart;
+      node = λ r apart. ends_apart s rank r w.moments apart;
       took = λ r apart. put_other w.took rank r None apart;
       left = λ r apart. put_other w.left rank r (w.left rank ++ leftover_at s rank w) apart;
     }
@@ -156,7 +149,7 @@ module _ (s : Settings) (t : Timing) (rank : ℕ) (events : List Event) (host : 
 
   crashed : (node_at s rank w).on ≡ true → IsNodeIn s rank (ended s rank host) after
   crashed lives =
-      off_node host (node_at s rank after) (after.took rank) (after.left rank) (packets s after.moments) (ap (λ x. x.on) (node_own_ends s rank w.moments)) is.greets
+      off_node host (node_at s rank after) (after.took rank) (after.left rank) (packets s after.moments) (ap (λ x. x.on) (node_ends s rank w.moments)) is.greets
       (subst (λ l. AreAmong s rank (host.left ++ given_up_by (waits_for s rank host) host.took) l) (sym (put_same w.left rank (w.left rank ++ leftover_at s rank w)))
       (ends_among host (node_at s rank w) (w.took rank) (w.left rank) (packets s w.moments) host.stand.spot is lives (logs events rank may below)))
 

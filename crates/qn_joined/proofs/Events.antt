@@ -17,6 +17,7 @@ use Rattle.qn_model.specs.declared.outputs.DiskOp.{DiskOp}
 use Rattle.qn_model.specs.declared.packets.Packet.{Packet}
 use Rattle.qn_model.specs.declared.packets.Packet.TheVariants as packet
 use Rattle.qn_model.specs.declared.packets.Sent.{Sent}
+use Rattle.qn_model.specs.lemmas.Moments.{put_same, put_other}
 use Rattle.qn_model.specs.Holding.{stop_due}
 use Rattle.qn_model.specs.Log.{is_answer}
 use Rattle.qn_model.specs.Moments.{Adds, handed, logged, packets, tick_of, time}
@@ -30,7 +31,6 @@ use Rattle.qn_joined.specs.Joints.{Host}
 use Rattle.qn_joined.specs.Nodes.{Spends}
 use Rattle.qn_safety.specs.AnyNumbers.{is_ranked}
 use Rattle.qn_joined.specs.WorldOf.{AreAmong, ComesIn, IsAnswer, WasSentTo}
-use Rattle.qn_joined.proofs.Frames.{put_other, put_same}
 
 -- an event that hands a node an entry: what it is to the world
 pub record Hands (s : Settings) (t : Timing) (rank : ℕ) (entry : What) (host : Host) (w : World) : Type 0 where

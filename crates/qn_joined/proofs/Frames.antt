@@ -1,7 +1,7 @@
 -- What changes one node of a world leaves the others as they were.
 use Rattle.std.proofs.Common.{◌≡◌, ◌<◌, ◌≤◌, ℕ, Bool, true, false, List, [], ◌∷◌, ◌++◌, Option, Some, ◌==◌, if◌then◌else◌, refl, sym, ap, subst, ◌∙◌, arith}
 use Rattle.std.specs.Prelude.{Contains, length}
-use Rattle.std.proofs.lemmas.Bool.{eq-eqb, eqb-true}
+use Rattle.std.proofs.lemmas.Bool.{eqb-true}
 use Rattle.std.proofs.lemmas.List.Elements.{Contains-append_left}
 use Rattle.qn_model.specs.declared.configuration.Settings.{Settings}
 use Rattle.qn_model.specs.declared.times.Timing.{Timing}
@@ -12,8 +12,9 @@ use Rattle.qn_model.specs.declared.outputs.Out.{Out}
 use Rattle.qn_model.specs.declared.outputs.Out.TheVariants as out
 use Rattle.qn_model.specs.declared.packets.Packet.{Packet}
 use Rattle.qn_model.specs.declared.packets.Sent.{Sent}
+use Rattle.qn_model.specs.lemmas.Moments.{adds_apart}
 use Rattle.qn_model.specs.Log.{Line}
-use Rattle.qn_model.specs.Moments.{Moment, Adds, Running, handed, node, packets, time}
+use Rattle.qn_model.specs.Moments.{Adds, Running, node, packets, time}
 use Rattle.qn_model.specs.World.{World, node_at, put}
 use Rattle.qn_wire.specs.Reading.{packet_of}
 use Rattle.qn_live.specs.declared.place.Choice.{Choice}
@@ -22,24 +23,6 @@ use Rattle.qn_joined.specs.Joints.{Host, Joint, counts}
 use Rattle.qn_joined.specs.Moves.{Changes, Grows}
 use Rattle.qn_joined.specs.Stands.{Spot, Receiving, Looking, Acting, Saying, Parting, Ended}
 use Rattle.qn_joined.specs.WorldOf.{AllComeOut, ComesAs, ComesIn, ComesOut, IsBacked, IsImage, IsNode, IsWorld, WasSentTo}
-
-pub own : (rank : ℕ) → (rank == rank) ≡ true
-own rank = eq-eqb rank rank refl
-
-pub put_same : {A : Type 0} (f : ℕ → A) (rank : ℕ) (value : A) → put f rank value rank ≡ value
-put_same f rank value = ap (λ b. if b then value else f rank) (own rank)
-
-pub put_other : {A : Type 0} (f : ℕ → A) (rank r : ℕ) (value : A) → (rank == r) ≡ false → put f rank value r ≡ f r
-put_other f rank r value e = ap (λ b. if b then value else f r) e
-
--- the node of a rank after a moment of it
-pub node_own_adds : (s : Settings) (rank : ℕ) (entry : What) (ms : List Moment) → node s rank (Adds rank entry ∷ ms) ≡ handed s rank (time ms) entry (node s rank ms)
-unfolding node
-node_own_adds s rank entry ms = ap (λ b. if b then handed s rank (time ms) entry (node s rank ms) else node s rank ms) (own rank)
-
-pub node_apart_adds : (s : Settings) (rank r : ℕ) (entry : What) (ms : List Moment) → (rank == r) ≡ false → node s r (Adds rank entry ∷ ms) ≡ node s r ms
-unfolding node
-node_apart_adds s rank r entry ms e = ap (λ b. if b then handed s r (time ms) entry (node s r ms) else node s r ms) e
 
 pub grows_more : (all more : List Sent) → Grows all (all ++ more)
 grows_more all more rank p is = record { to = is.to; there = Contains-append_left all more is.to is.there; receiver = is.receiver; content = is.content }
@@ -120,7 +103,7 @@ adds_changes s rank entry w w' adds took left =
     record {
       time = ap time adds;
       grows = λ r p is. subst (λ m. WasSentTo r (packets s m) p) (sym adds) (grows_more (packets s w.moments) _ r p is);
-      node = λ r apart. ap (node s r) adds ∙ node_apart_adds s rank r entry w.moments apart;
+      node = λ r apart. ap (node s r) adds ∙ adds_apart s rank r entry w.moments apart;
       took = took;
       left = left;
     }

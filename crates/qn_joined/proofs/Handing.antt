@@ -1,8 +1,8 @@
 -- A look at the clock hands the node of the world what it hands the running node.
 use Rattle.std.proofs.Common.{◌≡◌, ◌≤◌, ℕ, Bool, true, false, not, ◌&&◌, ◌||◌, List, [], ◌∷◌, ◌++◌, Option, None, Some, if◌then◌else◌, refl, sym, ap, subst, ◌∙◌, is_some, arith}
 use Rattle.std.specs.Prelude.{is_none, nat_lt}
-use Rattle.std.specs.Option.{option_or}
 use Rattle.std.proofs.lemmas.List.{append-nil}
+use Rattle.std.proofs.lemmas.Bool.{le-ltb}
 use Rattle.qn_base.specs.declared.calls.Call.TheVariants as call
 use Rattle.qn_base.specs.declared.ids.View.{View}
 use Rattle.qn_model.specs.declared.configuration.Settings.{Settings}
@@ -13,7 +13,8 @@ use Rattle.qn_model.specs.declared.outputs.HaltKind.TheVariants as halt
 use Rattle.qn_model.specs.declared.outputs.Out.{Out}
 use Rattle.qn_model.specs.declared.outputs.Out.TheVariants as out
 use Rattle.qn_model.specs.declared.packets.Sent.{Sent}
-use Rattle.qn_model.specs.Fitting.{fits, read_as}
+use Rattle.qn_model.specs.lemmas.Entries.{read_answers_none}
+use Rattle.qn_model.specs.lemmas.Logs.{op_out-newest}
 use Rattle.qn_model.specs.Holding.{answers_stop, holds, stop_due}
 use Rattle.qn_model.specs.Log.{Line, disk_of, has_stop, is_answer, now, op_out}
 use Rattle.qn_model.specs.Moments.{Running, handed, has_feed, is_gone, logged, tick_of}
@@ -58,18 +59,6 @@ stops_newest : (line : Line) (past : List Line) → has_stop line.outs ≡ true 
 unfolding stop_due
 stops_newest line past is = ap (λ b. b || (stop_due past && not (answers_stop line.what))) is
 
-disk_newest : (line : Line) (past : List Line) (op : DiskOp) → disk_of line.outs ≡ Some op → op_out (line ∷ past) ≡ Some op
-unfolding op_out
-disk_newest line past op is = ap (λ o. option_or o (if is_answer line.what then None else op_out past)) is
-
--- an entry that answers nothing is read as one that answers nothing
-read_plain : (s : Settings) (me : ℕ) (past : List Line) (entry : What) → is_answer entry ≡ false → is_answer (read_as s me past entry) ≡ false
-read_plain s me past entry plain = by_fit (fits s me past entry)
-  where
-    by_fit : (b : Bool) → is_answer (if b then entry else what.Tick) ≡ false
-    by_fit true = plain
-    by_fit false = refl
-
 end_ends : (entry : What) (o : Out) → is_end o ≡ true → is_some (end_after entry o) ≡ true
 end_ends entry out.Disarm is = refl
 end_ends entry (out.Halt (halt.Deadly message)) is = refl
@@ -83,9 +72,6 @@ end_ends entry (out.Disk op) is = absurd cc
 no_stop_waits : (stopped : Option Bool) (ok : Bool) → is_no_stop stopped ≡ true → stopped ≡ Some ok → ⊥
 no_stop_waits None ok is e = cc
 no_stop_waits (Some other) ok is e = cc
-
-not_less : (low high : ℕ) → high ≤ low → nat_lt low high ≡ false
-not_less low high le = grind arith
 
 view_plain : (found : Option View) → is_answer (view_or_tick found) ≡ false
 view_plain None = refl
@@ -132,11 +118,11 @@ module _ (s : Settings) (rank : ℕ) (n : Running) (took took' : Option What) (l
   -- the operation that is out stays, where the entry answers nothing
   stays : is_answer found.1 ≡ false → (op : DiskOp) → op_out chosen.1.log ≡ Some op → (op_out st'.log ≡ Some op) × (disk_of outs ≡ None)
   unfolding with_entry
-  stays plain op out = known.kept _ chosen.1.log op refl (read_plain s rank chosen.1.log found.1 plain) out
+  stays plain op out = known.kept _ chosen.1.log op refl (read_answers_none s rank chosen.1.log found.1 plain) out
 
   comes : AllComeOut st'.log all' outs
   unfolding with_entry
-  comes = all_come st'.log all' outs (stops_newest _ chosen.1.log) (disk_newest _ chosen.1.log) known.last said'
+  comes = all_come st'.log all' outs (stops_newest _ chosen.1.log) (op_out-newest _ chosen.1.log) known.last said'
 
   now_newest : now st'.log ≡ tick
   unfolding with_entry
@@ -193,7 +179,7 @@ module _ (s : Settings) (rank : ℕ) (n : Running) (took took' : Option What) (l
 
   -- the clock does not go back
   goes_on : nat_lt tick (now chosen.1.log) ≡ false
-  goes_on = not_less tick (now chosen.1.log)
+  goes_on = le-ltb tick (now chosen.1.log)
       (subst (λ k. now chosen.1.log ≤ k) (sym clock) (subst (λ c. now chosen.1.log ≤ tick_of c) is.clock (subst (λ l. now l ≤ tick_of n.clock) is.log is.tick)))
 
   is_acted : returned s rank (call.Now tick) time (at host (Looking chosen)) ≡ acted

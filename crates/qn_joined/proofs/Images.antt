@@ -10,6 +10,7 @@ use Rattle.qn_model.specs.declared.mailbox.Sender.{Sender}
 use Rattle.qn_model.specs.declared.times.Timing.{Timing}
 use Rattle.qn_model.specs.declared.outputs.DiskOp.{DiskOp}
 use Rattle.qn_model.specs.declared.outputs.DiskOp.TheVariants as disk
+use Rattle.qn_model.specs.lemmas.Moments.{put_same, put_other}
 use Rattle.qn_model.specs.Sectors.{IsSender, anonymous, mail_bytes, mail_place, slot_bytes, slot_place}
 use Rattle.qn_model.specs.Unmet.{id_of}
 use Rattle.qn_model.specs.World.{World, mailboxes_with, put, slots_with}
@@ -18,7 +19,6 @@ use Rattle.qn_joined.specs.Joints.{FitsImage, landed_image, takes}
 use Rattle.qn_joined.specs.Theorem.{place_of}
 use Rattle.qn_joined.specs.WorldOf.{IsImage}
 use Rattle.qn_safety.specs.NodeLogs.{IsOperation}
-use Rattle.qn_joined.proofs.Frames.{put_other, put_same}
 
 mail_slot : (rank r : ℕ) → r < 32 → (512 + rank == 1 + 2 * r) ≡ false
 mail_slot rank r small = ne_eqb (512 + rank) (1 + 2 * r) (λ e. omega arith)

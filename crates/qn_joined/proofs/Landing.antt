@@ -12,6 +12,7 @@ use Rattle.qn_model.specs.declared.events.Event.TheVariants as event
 use Rattle.qn_model.specs.declared.outputs.DiskOp.{DiskOp}
 use Rattle.qn_model.specs.declared.outputs.Out.TheVariants as out
 use Rattle.qn_model.specs.declared.packets.Sent.{Sent}
+use Rattle.qn_model.specs.lemmas.Moments.{put_same, put_other}
 use Rattle.qn_model.specs.Log.{op_out}
 use Rattle.qn_model.specs.Moments.{Running, is_gone, packets}
 use Rattle.qn_model.specs.Phases.{phase}
@@ -32,7 +33,7 @@ use Rattle.qn_joined.specs.Stands.{Spot, Receiving, Looking, Acting, Saying, Par
 use Rattle.qn_joined.specs.Theorem.{TakesAlike}
 use Rattle.qn_joined.specs.WorldOf.{AreAmong, HasWorld, IsNode, IsWorld, Performs, TookAlike, disk_ahead}
 use Rattle.qn_joined.proofs.Calls.{timed_on}
-use Rattle.qn_joined.proofs.Frames.{one_moves, put_other, put_same}
+use Rattle.qn_joined.proofs.Frames.{one_moves}
 use Rattle.qn_joined.proofs.Images.{image_lands, mail_put, takes_done}
 use Rattle.qn_joined.proofs.Passing.{asked_of}
 

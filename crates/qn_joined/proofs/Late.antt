@@ -13,6 +13,7 @@ use Rattle.qn_model.specs.declared.events.Event.{Event}
 use Rattle.qn_model.specs.declared.events.Event.TheVariants as event
 use Rattle.qn_model.specs.declared.outputs.DiskOp.{DiskOp}
 use Rattle.qn_model.specs.declared.packets.Sent.{Sent}
+use Rattle.qn_model.specs.lemmas.Moments.{put_same, put_other}
 use Rattle.qn_model.specs.Log.{Line, op_out}
 use Rattle.qn_model.specs.Moments.{Running, packets}
 use Rattle.qn_model.specs.Rules.{may_land, refusal, unless}
@@ -29,7 +30,7 @@ use Rattle.qn_safety.specs.AnyNumbers.{AllMay}
 use Rattle.qn_joined.specs.Stands.{Spot, Receiving, Looking, Acting, Saying, Parting, Ended}
 use Rattle.qn_joined.specs.WorldOf.{AreAmong, NoCall, Skips, Made, ComesAs, ComesIn, HasWorld, IsAnswer, IsBacked, IsImage, IsNode, IsWorld, Waiting, disk_ahead, still_out}
 use Rattle.qn_safety.specs.NodeLogs.{IsOperation}
-use Rattle.qn_joined.proofs.Frames.{one_moves, put_other, put_same}
+use Rattle.qn_joined.proofs.Frames.{one_moves}
 use Rattle.qn_joined.proofs.Images.{image_lands}
 use Rattle.qn_joined.proofs.Moving.{among_more}
 

@@ -11,6 +11,7 @@ use Rattle.qn_model.specs.declared.outputs.DiskOp.{DiskOp}
 use Rattle.qn_model.specs.declared.outputs.Out.{Out}
 use Rattle.qn_model.specs.declared.outputs.Out.TheVariants as out
 use Rattle.qn_model.specs.declared.packets.Sent.{Sent}
+use Rattle.qn_model.specs.lemmas.Moments.{node_adds}
 use Rattle.qn_model.specs.Log.{Line, op_out}
 use Rattle.qn_model.specs.Moments.{Adds, Moment, Running, given_out, handed, is_gone, node, packets, packets_of, time}
 use Rattle.qn_model.specs.NodeOutputs.{newest_outs}
@@ -31,7 +32,7 @@ use Rattle.qn_joined.specs.Stands.{Looking}
 use Rattle.qn_joined.specs.WorldOf.{AreAmong, ComesAs, ComesIn, IsNode}
 use Rattle.qn_joined.proofs.Calls.{timed_on}
 use Rattle.qn_joined.proofs.Events.{Hands, hands}
-use Rattle.qn_joined.proofs.Frames.{adds_changes, node_own_adds}
+use Rattle.qn_joined.proofs.Frames.{adds_changes}
 use Rattle.qn_joined.proofs.Handing.{answer_looked, handed_at, plain_looked}
 
 -- the packets among the outputs are among those that were sent
@@ -106,7 +107,7 @@ looks_in_world s t logs rank events host chosen tick below may is on asked clock
           (handed_at s rank n (w.took rank) (w'.took rank) (w.left rank) (w'.left rank) (packets s w'.moments) host chosen (time w.moments) tick (ready_of host chosen is on lives) on asked clock
           (subst (λ x. IsNodeLog s x.log) node_is (logs (h.of ∷ events) rank (h.ranked, h.allowed, may) below))
           h.spends (plain_looked tick chosen.0 chosen.1.maker) (answer_looked tick chosen.0 chosen.1.maker)
-          (subst (λ x. AllSaid (packets s w'.moments) (newest_outs x.log)) (node_own_adds s rank h.given w.moments ∙ h.same)
+          (subst (λ x. AllSaid (packets s w'.moments) (newest_outs x.log)) (node_adds s rank h.given w.moments ∙ h.same)
           (subst (λ m. AllSaid (packets s m) (newest_outs (node s rank (Adds rank h.given ∷ w.moments)).log)) (sym h.moments) (said_newest s rank h.given w.moments))));
     }
   where
@@ -134,4 +135,4 @@ looks_in_world s t logs rank events host chosen tick below may is on asked clock
     w' = step s t h.of w
 
     node_is : node_at s rank w' ≡ handed s rank (time w.moments) entry n
-    node_is = ap (node s rank) h.moments ∙ node_own_adds s rank h.given w.moments ∙ h.same
+    node_is = ap (node s rank) h.moments ∙ node_adds s rank h.given w.moments ∙ h.same

@@ -1,7 +1,7 @@
 -- At most one resource runs where every joint has a world.
 use Rattle.std.proofs.Common.{◌≡◌, ◌<◌, ◌≤◌, ℕ, Bool, true, false, not, List, Option, refl, ap, ◌∙◌, inl, inr}
 use Rattle.std.specs.Prelude.{◌&&◌, ◌⊎◌, length}
-use Rattle.std.proofs.lemmas.Bool.{cases_lt}
+use Rattle.std.proofs.lemmas.Bool.{cases_lt, and_parts, and_from}
 use Rattle.qn_model.specs.declared.configuration.Settings.{Settings}
 use Rattle.qn_model.specs.declared.times.Timing.{Timing}
 use Rattle.qn_model.specs.declared.entries.What.{What}
@@ -19,11 +19,6 @@ use Rattle.qn_joined.specs.Stands.{log_at}
 use Rattle.qn_joined.specs.Theorem.{AtMostOneRuns, HostOwns}
 use Rattle.qn_joined.specs.WorldOf.{EveryJointHasAWorld, HasWorld, IsNode}
 use Rattle.qn_joined.proofs.Owned.{always_owns}
-
-both : (on runs : Bool) → (on && runs) ≡ true → (on ≡ true) × (runs ≡ true)
-both true true is = (refl, refl)
-both true false is = absurd cc
-both false runs is = absurd cc
 
 -- a host that is on is configured
 pub configured : {s : Settings} {t : Timing} {j : Joint} (has : HasWorld s t j) (rank : ℕ) → (j.hosts rank).on ≡ true → rank < length s.nodes
@@ -58,20 +53,15 @@ timed false asked gone one two three = cc
 timed true false gone one two three = cc
 timed true true true one two three = cc
 
-holder : (on held : Bool) → on ≡ true → held ≡ true → (on && held) ≡ true
-holder true true one two = refl
-holder false held one two = cc
-holder true false one two = cc
-
 -- a resource that runs is held in the world
 runner_holds : {s : Settings} {t : Timing} {j : Joint} (has : HasWorld s t j) (rank : ℕ) → HostOwns (j.hosts rank)
     → ((j.hosts rank).on && (j.hosts rank).runs) ≡ true → is_holder s (run s t has.events).moments rank ≡ true
 runner_holds {s} {t} {j} has rank owned runs =
-    let two = both (j.hosts rank).on (j.hosts rank).runs runs in
+    let two = and_parts (j.hosts rank).on (j.hosts rank).runs runs in
     let owns = owned two.0 in
     let is = has.world.nodes rank (configured has rank two.0) in
     let on = is.on ∙ timed (j.hosts rank).on (j.hosts rank).asked (is_gone (phase s (log_at (j.hosts rank).stand.spot))) two.0 (asked_runs is two.0 two.1) (living_runs is two.0 owns two.1) in
-    holder (node_at s rank (run s t has.events)).on (holds (node_at s rank (run s t has.events)).log) on (ap holds (is.log on) ∙ (owns.held two.1).0)
+    and_from (node_at s rank (run s t has.events)).on (holds (node_at s rank (run s t has.events)).log) on (ap holds (is.log on) ∙ (owns.held two.1).0)
 
 pub one_owner : (s : Settings) (t : Timing) → OneMayHold s t → EveryJointHasAWorld s t → AtMostOneRuns s t
 one_owner s t one every image happenings i j joined first second =

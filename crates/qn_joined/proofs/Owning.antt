@@ -1,5 +1,6 @@
 -- A resource that runs is held, from call to call.
 use Rattle.std.proofs.Common.{◌≡◌, ℕ, suc, zero, Bool, true, false, not, ◌&&◌, ◌||◌, List, [], ◌∷◌, Option, None, Some, if◌then◌else◌, refl, sym, ap, subst, ◌∙◌}
+use Rattle.std.proofs.lemmas.Bool.{not-true}
 use Rattle.qn_base.specs.declared.ids.View.{View}
 use Rattle.qn_model.specs.declared.configuration.Settings.{Settings}
 use Rattle.qn_model.specs.declared.entries.What.{What}
@@ -27,17 +28,13 @@ pub record Fine (st : RunState) (runs : Bool) : Type 0 where
   pub held : runs ≡ true → (holds st.log ≡ true) × (is_done_stop st.waits.stopped ≡ false)
   pub calm : is_calm st.waits.disk ≡ true
 
-not_true_is_false : (b : Bool) → not b ≡ true → b ≡ false
-not_true_is_false true is = absurd cc
-not_true_is_false false is = refl
-
 taking_owns : (st : RunState) (runs leaves rests : Bool) (stopped : Option Bool) (disk : Option What)
     → (runs ≡ true → (holds st.log ≡ true) × (is_done_stop stopped ≡ false))
     → is_calm disk ≡ true
     → Owns (taking (record st { waits = record { stopped = stopped; disk = disk } }) (ready leaves rests (record { stopped = stopped; disk = disk }))) runs
 taking_owns st runs leaves rests (Some ok) disk held calm = record { held = held; free = refl; calm = calm }
 taking_owns st runs leaves false None (Some answer) held calm =
-    record { held = λ r. ((held r).0, not_true_is_false (is_stopped answer) calm); free = refl; calm = refl }
+    record { held = λ r. ((held r).0, not-true (is_stopped answer) calm); free = refl; calm = refl }
 taking_owns st runs true false None None held calm = record { held = held; free = refl; calm = refl }
 taking_owns st runs false false None None held calm = record { held = held; free = refl; calm = refl }
 taking_owns st runs true true None disk held calm = record { held = held; free = refl; calm = calm }

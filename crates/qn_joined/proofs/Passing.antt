@@ -4,6 +4,7 @@ use Rattle.std.specs.Prelude.{length}
 use Rattle.std.specs.List.{list_all, range_with_len}
 use Rattle.std.proofs.lemmas.Bool.{cases_lt, le-leb, leb-true}
 use Rattle.qn_base.specs.declared.ids.Rank.{Rank}
+use Rattle.qn_base.specs.lemmas.Bools.{second_of_three, first_of_three}
 use Rattle.qn_model.specs.declared.configuration.Settings.{Settings}
 use Rattle.qn_model.specs.declared.times.Timing.{Timing}
 use Rattle.qn_model.specs.declared.entries.What.{What}
@@ -29,18 +30,9 @@ use Rattle.qn_joined.proofs.Images.{same_image}
 tick_grows : (clock advance : ℕ) → tick_of clock ≤ tick_of (clock + advance)
 tick_grows clock advance = omega arith
 
-second_of : (a b c : Bool) → (a && b && c) ≡ true → b ≡ true
-second_of true true c is = refl
-second_of true false c is = cc
-second_of false b c is = absurd cc
-
-first_of : (a b c : Bool) → (a && b && c) ≡ true → a ≡ true
-first_of true b c is = refl
-first_of false b c is = absurd cc
-
 pub asked_of : {s : Settings} {rank : ℕ} {host : Host} {n : Running} {took : Option What} {left : List DiskOp} {all : List Sent}
     → IsNode s rank host n took left all → n.on ≡ true → host.asked ≡ true
-asked_of {s} {rank} {host} is on = second_of host.on host.asked (not (is_gone (phase s (log_at host.stand.spot)))) (sym is.on ∙ on)
+asked_of {s} {rank} {host} is on = second_of_three host.on host.asked (not (is_gone (phase s (log_at host.stand.spot)))) (sym is.on ∙ on)
 
 passes_node : {s : Settings} {rank : ℕ} {host : Host} {n : Running} {took : Option What} {left : List DiskOp} {all : List Sent} (all' : List Sent) (advance : ℕ)
     → Grows all all'
@@ -124,7 +116,7 @@ passes_in_world s t events j dt clocks may is fits happen =
         by_order (inl below) = (is.nodes r below).on ∙ timed
         by_order (inr out) =
             let off = is.off r out in
-            let on = first_of (j.hosts r).on (j.hosts r).asked (not (is_gone (phase s (log_at (j.hosts r).stand.spot)))) timed in
+            let on = first_of_three (j.hosts r).on (j.hosts r).asked (not (is_gone (phase s (log_at (j.hosts r).stand.spot)))) timed in
             absurd (let both = sym off ∙ on in cc)
 
     each : (r : ℕ) → r < length s.nodes → passes t dt (advance_of dt clocks r) (time w.moments) (node_at s r w) ≡ true

@@ -1,21 +1,14 @@
 -- A joined run in which the resources of two nodes run, one after the other, with a reset between.
-use Rattle.std.proofs.Common.{◌≡◌, ◌<◌, ℕ, suc, zero, true, false, List, [], ◌∷◌, ◌++◌, ◌+◌, ◌^◌, ◌==◌, None, if◌then◌else◌, refl, arith}
+use Rattle.std.proofs.Common.{◌≡◌, ◌<◌, ℕ, suc, zero, Bool, true, false, List, [], ◌∷◌, ◌++◌, ◌+◌, ◌^◌, ◌==◌, None, if◌then◌else◌, refl, arith}
 use Rattle.qn_base.specs.declared.calls.Call.TheVariants as call
 use Rattle.qn_base.specs.declared.calls.Received.TheVariants as received
-use Rattle.qn_model.specs.declared.configuration.Settings.{Settings}
+use Rattle.qn_base.specs.lemmas.Numbers.{one_is_not_zero}
 use Rattle.qn_model.specs.declared.times.Timing.{Timing}
 use Rattle.qn_model.specs.declared.disk.Message.TheVariants as message
 use Rattle.qn_model.specs.declared.packets.Packet.TheVariants as packet
-use Rattle.qn_model.specs.Log.{op_out, ask_place, ask_tick, begins_clean, claimed, slot_number, timing}
-use Rattle.qn_model.specs.NodeVotes.{view, install, votes}
-use Rattle.qn_model.specs.Votes.{answer_at, present_view, view_tick, is_released, expected_votes, device_yes}
-use Rattle.qn_model.specs.Phases.{phase}
-use Rattle.qn_model.specs.Holding.{holds, stop_due, may_stop}
-use Rattle.qn_model.specs.Hearing.{told}
-use Rattle.qn_model.specs.Licences.{out_time, slot_read_since, reset_since}
-use Rattle.qn_model.specs.Unmet.{least_from, unmet}
-use Rattle.qn_model.specs.Wanted.{mail_tick, wanted_with_delay}
-use Rattle.qn_model.specs.NodeOutputs.{moment, acts, outs_at, with_entry, log_from}
+use Rattle.qn_model.specs.lemmas.WorldSteps.{node_steps}
+use Rattle.qn_model.specs.lemmas.TwoNodes.{two_nodes}
+use Rattle.qn_model.specs.NodeOutputs.{log_from}
 use Rattle.qn_model.specs.Sectors.{anonymous, header_bytes, header_bytes_in, mail_bytes, mail_place, slot_bytes, slot_place}
 use Rattle.qn_model.specs.World.{failed}
 use Rattle.qn_sector.specs.Reading.{header_in, mail_of, slot_of}
@@ -28,20 +21,6 @@ use Rattle.qn_live.specs.Runs.{clocked, greeted, handled, live_plan, parted, run
 use Rattle.qn_joined.specs.Stands.{after_spot, left_plan}
 use Rattle.qn_joined.specs.Joints.{AllMayHappen, FitsImage, Happening, Begins, Ends, Feeds, Lands, Looks, Passes, Returns, IsNewImage, is_deadly_mail, happens, joint_after, looked_first, returned, runs_at}
 use Rattle.qn_joined.specs.Theorem.{OneAfterAnother}
-
--- two nodes of one vote each with two_node and without wait_for_all
-abbrev two_nodes : Settings
-two_nodes =
-    record {
-      nodes = record { id = record { 0 = 1 }; votes = 1; fence_delay = 0 } ∷ record { id = record { 0 = 2 }; votes = 1; fence_delay = 0 } ∷ [];
-      two_node = true;
-      wait_for_all = false;
-      last_man_standing = false;
-      window = 10000;
-      device = None;
-      expected = 2;
-      tie = None;
-    }
 
 abbrev short_times : Timing
 short_times = record { watchdog = 1000; msgwait = 1100; loop_ms = 1; read_limit = 10; feed_delay = 10 }
@@ -155,8 +134,13 @@ take_over = waits ++ fences ++ is_alone 0 1 ++ comes_up 0 1 ++ claims 0 ++ Ends 
 abbrev May : List Happening → Type 0
 May happenings = AllMayHappen two_nodes short_times new_image happenings
 
+-- what the rows compute with
+joint_steps : Bool
+unfolding node_steps log_from header_bytes_in mail_bytes slot_bytes header_in mail_of slot_of failed ranks_that view_at after_tick choice_plan sends_plan disk_call done out_call outs_plan waits_after clocked greeted handled settled live_plan parted run_plan left_plan after_spot returned looked_first happens joint_after AllMayHappen packet_bytes
+joint_steps = true
+
 claims_first : May (claims 1)
-unfolding op_out ask_place ask_tick begins_clean slot_number claimed timing view install votes answer_at present_view view_tick is_released expected_votes device_yes phase holds stop_due may_stop told out_time slot_read_since reset_since least_from unmet mail_tick wanted_with_delay moment acts outs_at with_entry log_from header_bytes_in mail_bytes slot_bytes header_in mail_of slot_of failed ranks_that view_at after_tick choice_plan sends_plan disk_call done out_call outs_plan waits_after clocked greeted handled settled live_plan parted run_plan left_plan after_spot returned looked_first happens joint_after AllMayHappen packet_bytes
+unfolding joint_steps
 claims_first = (
   record { on = refl; asked = refl; waits = refl; answer = tt; spells = refl },
   (
@@ -202,7 +186,7 @@ claims_first = (
 )
 
 comes_up_first : May (comes_up 1 0 ++ claims 1)
-unfolding op_out ask_place ask_tick begins_clean slot_number claimed timing view install votes answer_at present_view view_tick is_released expected_votes device_yes phase holds stop_due may_stop told out_time slot_read_since reset_since least_from unmet mail_tick wanted_with_delay moment acts outs_at with_entry log_from header_bytes_in mail_bytes slot_bytes header_in mail_of slot_of failed ranks_that view_at after_tick choice_plan sends_plan disk_call done out_call outs_plan waits_after clocked greeted handled settled live_plan parted run_plan left_plan after_spot returned looked_first happens joint_after AllMayHappen packet_bytes
+unfolding joint_steps
 comes_up_first = (
   record { on = refl; asked = refl; waits = refl; answer = tt; spells = refl },
   (
@@ -233,7 +217,7 @@ comes_up_first = (
 )
 
 alone_first : May (is_alone 1 0 ++ comes_up 1 0 ++ claims 1)
-unfolding op_out ask_place ask_tick begins_clean slot_number claimed timing view install votes answer_at present_view view_tick is_released expected_votes device_yes phase holds stop_due may_stop told out_time slot_read_since reset_since least_from unmet mail_tick wanted_with_delay moment acts outs_at with_entry log_from header_bytes_in mail_bytes slot_bytes header_in mail_of slot_of failed ranks_that view_at after_tick choice_plan sends_plan disk_call done out_call outs_plan waits_after clocked greeted handled settled live_plan parted run_plan left_plan after_spot returned looked_first happens joint_after AllMayHappen packet_bytes
+unfolding joint_steps
 alone_first = (
   (refl, refl),
   (
@@ -273,7 +257,7 @@ alone_first = (
 )
 
 start_may : May start_alone
-unfolding op_out ask_place ask_tick begins_clean slot_number claimed timing view install votes answer_at present_view view_tick is_released expected_votes device_yes phase holds stop_due may_stop told out_time slot_read_since reset_since least_from unmet mail_tick wanted_with_delay moment acts outs_at with_entry log_from header_bytes_in mail_bytes slot_bytes header_in mail_of slot_of failed ranks_that view_at after_tick choice_plan sends_plan disk_call done out_call outs_plan waits_after clocked greeted handled settled live_plan parted run_plan left_plan after_spot returned looked_first happens joint_after AllMayHappen packet_bytes
+unfolding joint_steps
 start_may = (
   record { on = refl; asked = refl; waits = refl; answer = refl; spells = refl },
   (
@@ -286,7 +270,7 @@ start_may = (
 )
 
 claims_second : May (claims 0 ++ Ends 1 ∷ start_alone)
-unfolding op_out ask_place ask_tick begins_clean slot_number claimed timing view install votes answer_at present_view view_tick is_released expected_votes device_yes phase holds stop_due may_stop told out_time slot_read_since reset_since least_from unmet mail_tick wanted_with_delay moment acts outs_at with_entry log_from header_bytes_in mail_bytes slot_bytes header_in mail_of slot_of failed ranks_that view_at after_tick choice_plan sends_plan disk_call done out_call outs_plan waits_after clocked greeted handled settled live_plan parted run_plan left_plan after_spot returned looked_first happens joint_after AllMayHappen packet_bytes
+unfolding joint_steps
 claims_second = (
   record { on = refl; asked = refl; waits = refl; answer = tt; spells = refl },
   (
@@ -332,7 +316,7 @@ claims_second = (
 )
 
 comes_up_second : May (comes_up 0 1 ++ claims 0 ++ Ends 1 ∷ start_alone)
-unfolding op_out ask_place ask_tick begins_clean slot_number claimed timing view install votes answer_at present_view view_tick is_released expected_votes device_yes phase holds stop_due may_stop told out_time slot_read_since reset_since least_from unmet mail_tick wanted_with_delay moment acts outs_at with_entry log_from header_bytes_in mail_bytes slot_bytes header_in mail_of slot_of failed ranks_that view_at after_tick choice_plan sends_plan disk_call done out_call outs_plan waits_after clocked greeted handled settled live_plan parted run_plan left_plan after_spot returned looked_first happens joint_after AllMayHappen packet_bytes
+unfolding joint_steps
 comes_up_second = (
   record { on = refl; asked = refl; waits = refl; answer = tt; spells = refl },
   (
@@ -363,7 +347,7 @@ comes_up_second = (
 )
 
 alone_second : May (is_alone 0 1 ++ comes_up 0 1 ++ claims 0 ++ Ends 1 ∷ start_alone)
-unfolding op_out ask_place ask_tick begins_clean slot_number claimed timing view install votes answer_at present_view view_tick is_released expected_votes device_yes phase holds stop_due may_stop told out_time slot_read_since reset_since least_from unmet mail_tick wanted_with_delay moment acts outs_at with_entry log_from header_bytes_in mail_bytes slot_bytes header_in mail_of slot_of failed ranks_that view_at after_tick choice_plan sends_plan disk_call done out_call outs_plan waits_after clocked greeted handled settled live_plan parted run_plan left_plan after_spot returned looked_first happens joint_after AllMayHappen packet_bytes
+unfolding joint_steps
 alone_second = (
   (refl, refl),
   (
@@ -403,7 +387,7 @@ alone_second = (
 )
 
 fences_second : May (fences ++ is_alone 0 1 ++ comes_up 0 1 ++ claims 0 ++ Ends 1 ∷ start_alone)
-unfolding op_out ask_place ask_tick begins_clean slot_number claimed timing view install votes answer_at present_view view_tick is_released expected_votes device_yes phase holds stop_due may_stop told out_time slot_read_since reset_since least_from unmet mail_tick wanted_with_delay moment acts outs_at with_entry log_from header_bytes_in mail_bytes slot_bytes header_in mail_of slot_of failed ranks_that view_at after_tick choice_plan sends_plan disk_call done out_call outs_plan waits_after clocked greeted handled settled live_plan parted run_plan left_plan after_spot returned looked_first happens joint_after AllMayHappen packet_bytes
+unfolding joint_steps
 fences_second = (
   record { on = refl; asked = refl; waits = refl; answer = refl; spells = refl },
   (
@@ -425,7 +409,7 @@ fences_second = (
 )
 
 take_over_may : May (take_over ++ start_alone)
-unfolding op_out ask_place ask_tick begins_clean slot_number claimed timing view install votes answer_at present_view view_tick is_released expected_votes device_yes phase holds stop_due may_stop told out_time slot_read_since reset_since least_from unmet mail_tick wanted_with_delay moment acts outs_at with_entry log_from header_bytes_in mail_bytes slot_bytes header_in mail_of slot_of failed ranks_that view_at after_tick choice_plan sends_plan disk_call done out_call outs_plan waits_after clocked greeted handled settled live_plan parted run_plan left_plan after_spot returned looked_first happens joint_after AllMayHappen packet_bytes
+unfolding joint_steps
 take_over_may = (
   record { on = refl; asked = refl; waits = refl; answer = refl; spells = refl },
   (
@@ -468,15 +452,15 @@ take_over_may = (
 )
 
 first_runs : runs_at two_nodes new_image start_alone 1 ≡ true
-unfolding op_out ask_place ask_tick begins_clean slot_number claimed timing view install votes answer_at present_view view_tick is_released expected_votes device_yes phase holds stop_due may_stop told out_time slot_read_since reset_since least_from unmet mail_tick wanted_with_delay moment acts outs_at with_entry log_from header_bytes_in mail_bytes slot_bytes header_in mail_of slot_of failed ranks_that view_at after_tick choice_plan sends_plan disk_call done out_call outs_plan waits_after clocked greeted handled settled live_plan parted run_plan left_plan after_spot returned looked_first happens joint_after AllMayHappen packet_bytes
+unfolding joint_steps
 first_runs = refl
 
 second_runs : runs_at two_nodes new_image (take_over ++ start_alone) 0 ≡ true
-unfolding op_out ask_place ask_tick begins_clean slot_number claimed timing view install votes answer_at present_view view_tick is_released expected_votes device_yes phase holds stop_due may_stop told out_time slot_read_since reset_since least_from unmet mail_tick wanted_with_delay moment acts outs_at with_entry log_from header_bytes_in mail_bytes slot_bytes header_in mail_of slot_of failed ranks_that view_at after_tick choice_plan sends_plan disk_call done out_call outs_plan waits_after clocked greeted handled settled live_plan parted run_plan left_plan after_spot returned looked_first happens joint_after AllMayHappen packet_bytes
+unfolding joint_steps
 second_runs = refl
 
 reset_stands : is_deadly_mail ((joint_after two_nodes new_image (take_over ++ start_alone)).image (mail_place 1)) ≡ true
-unfolding op_out ask_place ask_tick begins_clean slot_number claimed timing view install votes answer_at present_view view_tick is_released expected_votes device_yes phase holds stop_due may_stop told out_time slot_read_since reset_since least_from unmet mail_tick wanted_with_delay moment acts outs_at with_entry log_from header_bytes_in mail_bytes slot_bytes header_in mail_of slot_of failed ranks_that view_at after_tick choice_plan sends_plan disk_call done out_call outs_plan waits_after clocked greeted handled settled live_plan parted run_plan left_plan after_spot returned looked_first happens joint_after AllMayHappen packet_bytes
+unfolding joint_steps
 reset_stands = refl
 
 created : IsNewImage two_nodes short_times new_image
@@ -485,9 +469,6 @@ created = record { header = refl; slots = of_two _ refl refl; mails = of_two _ r
 fits : FitsImage two_nodes short_times
 fits =
     record { some = omega arith; few = omega arith; times = refl; ids = of_two _ (omega arith, omega arith) (omega arith, omega arith) }
-
-one_is_not_zero : ¬ (◌≡◌ {A = ℕ} 1 0)
-one_is_not_zero e = absurd (omega arith)
 
 pub one_after_another : OneAfterAnother
 one_after_another =

@@ -10,10 +10,11 @@ use Rattle.qn_model.specs.declared.packets.Sent.{Sent}
 use Rattle.qn_base.specs.declared.calls.Received.{Received}
 use Rattle.qn_base.specs.declared.calls.Received.TheVariants as received
 use Rattle.qn_model.specs.Holding.{stop_due}
-use Rattle.qn_model.specs.Log.{Line, disk_of, is_answer, now}
+use Rattle.qn_model.specs.Log.{Line, disk_of, now}
 use Rattle.qn_model.specs.Steps.{entry_of}
 use Rattle.qn_base.specs.declared.ids.View.{View}
 use Rattle.std.specs.Option.{option_map_or}
+use Rattle.qn_model.specs.lemmas.Entries.{packet_answers_none}
 use Rattle.qn_member.specs.Maker.{Maker}
 use Rattle.qn_wire.specs.Reading.{packet_of}
 use Rattle.qn_live.specs.declared.live_end.LiveEnd.{LiveEnd}
@@ -142,13 +143,6 @@ entry_comes rank log took all (packet.Hello from) sent = tt
 entry_comes rank log took all (packet.Announce from view) sent = tt
 entry_comes rank log took all (packet.Vote agrees) sent = tt
 
-entry_plain : (p : Packet) → is_answer (entry_of p) ≡ false
-entry_plain (packet.Ask ask) = refl
-entry_plain (packet.Tell tell) = refl
-entry_plain (packet.Hello from) = refl
-entry_plain (packet.Announce from view) = refl
-entry_plain (packet.Vote agrees) = refl
-
 -- what a packet becomes
 abbrev pub Taken : ℕ → List Line → Option What → List Sent → Option Packet → Type 0
 Taken rank log took all p = ComesAs rank log took all (choice_of rank p) × (is_answer_in (choice_of rank p) ≡ false)
@@ -160,7 +154,7 @@ packet_comes rank log took all None sent = (tt, refl)
 packet_comes rank log took all (Some p) sent = by_test (is_entry_for rank p)
   where
     by_test : (mine : Bool) → ComesAs rank log took all (if mine then choice.Whole (entry_of p) else choice.Open (Some p)) × (is_answer_in (if mine then choice.Whole (entry_of p) else choice.Open (Some p)) ≡ false)
-    by_test true = (entry_comes rank log took all p (λ c. sent p refl c), entry_plain p)
+    by_test true = (entry_comes rank log took all p (λ c. sent p refl c), packet_answers_none p)
     by_test false = (tt, refl)
 
 pub received_comes : (rank : ℕ) (log : List Line) (took : Option What) (all : List Sent) (got : Received)

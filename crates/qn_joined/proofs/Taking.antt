@@ -1,8 +1,9 @@
 -- What the bytes of an image give a node is what its operation takes in the world.
-use Rattle.std.proofs.Common.{◌≡◌, ◌<◌, ◌≤◌, ℕ, true, List, Some, if◌then◌else◌, refl, ap, ◌∙◌, arith}
+use Rattle.std.proofs.Common.{◌≡◌, ◌<◌, ◌≤◌, ℕ, List, Some, if◌then◌else◌, refl, ap, ◌∙◌}
 use Rattle.std.specs.Prelude.{◌==◌, ◌^◌, IsTrue, IfSome, length}
 use Rattle.std.specs.Option.{option_map_or}
 use Rattle.qn_base.specs.declared.ids.NodeId.{NodeId}
+use Rattle.qn_base.specs.lemmas.Numbers.{equal_to_itself}
 use Rattle.qn_model.specs.declared.configuration.Settings.{Settings}
 use Rattle.qn_model.specs.declared.disk.Slot.{Slot}
 use Rattle.qn_model.specs.declared.mailbox.Mail.{Mail}
@@ -28,13 +29,10 @@ pub record ReadsBack : Type 0 where
   pub slot : (id : NodeId) (own : Slot) → 1 ≤ id.0 → id.0 < 2 ^ 32 → own.incarnation < 2 ^ 64 → slot_of (slot_bytes id.0 own) ≡ Some (id, own)
   pub mailbox : (m : Mail) → IfSome m.by IsSender → mail_of (mail_bytes m) ≡ Some m
 
-same_number : (n : ℕ) → (n == n) ≡ true
-same_number n = grind arith
-
 slot_read : (s : Settings) (rank : ℕ) (own : Slot) (bytes : List ℕ) → slot_of bytes ≡ Some (id_of s rank, own) → slot_seen s rank bytes ≡ slot.Read own
 slot_read s rank own bytes spelled =
     ap (λ found. option_map_or (λ f. if f.0.0 == (id_of s rank).0 then slot.Read f.1 else slot.Damaged) found slot.Damaged) spelled
-    ∙ ap (λ b. if b then slot.Read own else slot.Damaged) (same_number (id_of s rank).0)
+    ∙ ap (λ b. if b then slot.Read own else slot.Damaged) (equal_to_itself (id_of s rank).0)
 
 mail_read : (m : Mail) (bytes : List ℕ) → mail_of bytes ≡ Some m → mail_seen bytes ≡ mail.Read m.message
 mail_read m bytes spelled = ap (λ found. option_map_or (λ f. mail.Read f.message) found mail.Damaged) spelled

@@ -9,21 +9,11 @@ use Rattle.qn_model.specs.declared.life.Why.{Why}
 use Rattle.qn_model.specs.declared.life.Why.TheVariants as why
 use Rattle.qn_model.specs.declared.votes.Answer.{Answer}
 use Rattle.qn_model.specs.declared.votes.VoteWhat.TheVariants as vote
+use Rattle.qn_model.specs.lemmas.WorldSteps.{vote_steps, world_steps}
 use Rattle.qn_model.specs.Tie.{answer_with_tie_at}
-use Rattle.qn_model.specs.Log.{op_out, ask_place, ask_tick, begins_clean, claimed, slot_number, timing}
 use Rattle.qn_model.specs.NodeVotes.{view, install, votes}
-use Rattle.qn_model.specs.Votes.{answer_at, present_view, view_tick, is_released, expected_votes, device_yes}
-use Rattle.qn_model.specs.Phases.{phase}
-use Rattle.qn_model.specs.Holding.{holds, stop_due, may_stop}
-use Rattle.qn_model.specs.Hearing.{told}
-use Rattle.qn_model.specs.Licences.{out_time, slot_read_since, reset_since}
-use Rattle.qn_model.specs.Unmet.{least_from, unmet}
-use Rattle.qn_model.specs.Wanted.{mail_tick, wanted_with_delay}
-use Rattle.qn_model.specs.NodeOutputs.{moment, acts, outs_at, with_entry}
-use Rattle.qn_model.specs.Moments.{logged, handed, booted, time, node, given_out, packets}
-use Rattle.qn_model.specs.World.{taken, failed}
-use Rattle.qn_model.specs.Rules.{is_well_formed, refusal}
-use Rattle.qn_model.specs.Steps.{step, report}
+use Rattle.qn_model.specs.Moments.{time}
+use Rattle.qn_model.specs.Steps.{report}
 use Rattle.qn_model.specs.Timing.{usual_times}
 use Rattle.qn_lease.specs.declared.events.ArbiterEvent.{ArbiterEvent}
 use Rattle.qn_lease.specs.declared.events.ArbiterEvent.TheVariants as beside
@@ -76,6 +66,11 @@ longest_lease = refl
 lease_too_long : is_safe_lease with_device (lasting 36000001) ≡ false
 lease_too_long = refl
 
+-- what the rows compute with
+arbiter_steps : Bool
+unfolding world_steps report arbiter_after played pollers_after poll_sent reply_sent report_beside run_beside_from said_at step_beside is_well_formed_beside refusal_beside
+arbiter_steps = true
+
 abbrev seen : ℕ → ℕ → View
 seen id members = record { id = id; members = record { 0 = members } }
 
@@ -121,11 +116,11 @@ counts_at tick =
     answer_with_tie_at with_device (record { tick = 12244; what = vote.Device true } ∷ record { tick = 12244; what = vote.View (seen 1 1) } ∷ []) tick
 
 first_counts_it : counts_at 22243 ≡ record { quorate = true; votes = 2; quorum = 2; expected = 3; released = true }
-unfolding answer_at present_view view_tick is_released expected_votes device_yes
+unfolding vote_steps
 first_counts_it = refl
 
 its_yes_ends : counts_at 22244 ≡ record { quorate = false; votes = 1; quorum = 2; expected = 3; released = true }
-unfolding answer_at present_view view_tick is_released expected_votes device_yes
+unfolding vote_steps
 its_yes_ends = refl
 
 -- a poll of an earlier incarnation, or of an earlier view, gets no yes once a later one was heard, be that one refused
@@ -211,26 +206,26 @@ second_polls =
     first_has_its_vote ++ boot_of (rank_of 1) ++ beside.One (event.View (rank_of 1) (seen 2 2)) ∷ beside.Poll (rank_of 1) ∷ []
 
 schedule_is_allowed : all_allowed (first_arbiter_world (lasting 12244)) (second_polls ++ beside.Hear 1 ∷ []) ≡ true
-unfolding op_out ask_place ask_tick claimed timing begins_clean slot_number view install votes answer_at present_view view_tick is_released expected_votes device_yes phase holds stop_due may_stop told out_time slot_read_since reset_since least_from unmet mail_tick wanted_with_delay moment acts outs_at with_entry logged handed booted time node given_out packets taken failed is_well_formed refusal step report arbiter_after played pollers_after poll_sent reply_sent report_beside run_beside_from said_at step_beside is_well_formed_beside refusal_beside
+unfolding arbiter_steps
 schedule_is_allowed = refl
 
 arbiter_boots : reported [] (beside.ArbiterBoot 0) ≡ arbiter_says 0 Nothing
-unfolding op_out ask_place ask_tick claimed timing begins_clean slot_number view install votes answer_at present_view view_tick is_released expected_votes device_yes phase holds stop_due may_stop told out_time slot_read_since reset_since least_from unmet mail_tick wanted_with_delay moment acts outs_at with_entry logged handed booted time node given_out packets taken failed is_well_formed refusal step report arbiter_after played pollers_after poll_sent reply_sent report_beside run_beside_from said_at step_beside is_well_formed_beside refusal_beside
+unfolding arbiter_steps
 arbiter_boots = refl
 
 first_polls : reported alone_after_a_lease (beside.Poll (rank_of 0)) ≡ node_says (rank_of 0) (counted false 1) (why.NotQuorate 1 2) (Polled 0)
-unfolding op_out ask_place ask_tick claimed timing begins_clean slot_number view install votes answer_at present_view view_tick is_released expected_votes device_yes phase holds stop_due may_stop told out_time slot_read_since reset_since least_from unmet mail_tick wanted_with_delay moment acts outs_at with_entry logged handed booted time node given_out packets taken failed is_well_formed refusal step report arbiter_after played pollers_after poll_sent reply_sent report_beside run_beside_from said_at step_beside is_well_formed_beside refusal_beside
+unfolding arbiter_steps
 first_polls = refl
 
 first_is_heard : reported (alone_after_a_lease ++ beside.Poll (rank_of 0) ∷ []) (beside.Hear 0) ≡ arbiter_says 12244 (Answered 0 true)
-unfolding op_out ask_place ask_tick claimed timing begins_clean slot_number view install votes answer_at present_view view_tick is_released expected_votes device_yes phase holds stop_due may_stop told out_time slot_read_since reset_since least_from unmet mail_tick wanted_with_delay moment acts outs_at with_entry logged handed booted time node given_out packets taken failed is_well_formed refusal step report arbiter_after played pollers_after poll_sent reply_sent report_beside run_beside_from said_at step_beside is_well_formed_beside refusal_beside
+unfolding arbiter_steps
 first_is_heard = refl
 
 first_is_quorate : reported (alone_after_a_lease ++ beside.Poll (rank_of 0) ∷ beside.Hear 0 ∷ []) (beside.Reply 0)
     ≡ node_says (rank_of 0) (counted true 2) (why.Unfenced (record { 0 = 2 }) false 0) Nothing
-unfolding op_out ask_place ask_tick claimed timing begins_clean slot_number view install votes answer_at present_view view_tick is_released expected_votes device_yes phase holds stop_due may_stop told out_time slot_read_since reset_since least_from unmet mail_tick wanted_with_delay moment acts outs_at with_entry logged handed booted time node given_out packets taken failed is_well_formed refusal step report arbiter_after played pollers_after poll_sent reply_sent report_beside run_beside_from said_at step_beside is_well_formed_beside refusal_beside
+unfolding arbiter_steps
 first_is_quorate = refl
 
 second_is_refused : reported second_polls (beside.Hear 1) ≡ arbiter_says 12244 (Answered 1 false)
-unfolding op_out ask_place ask_tick claimed timing begins_clean slot_number view install votes answer_at present_view view_tick is_released expected_votes device_yes phase holds stop_due may_stop told out_time slot_read_since reset_since least_from unmet mail_tick wanted_with_delay moment acts outs_at with_entry logged handed booted time node given_out packets taken failed is_well_formed refusal step report arbiter_after played pollers_after poll_sent reply_sent report_beside run_beside_from said_at step_beside is_well_formed_beside refusal_beside
+unfolding arbiter_steps
 second_is_refused = refl

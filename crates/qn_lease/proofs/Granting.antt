@@ -1,10 +1,14 @@
 -- A yes of the device that a node counts was given by the arbiter to a poll that the node sent in its present boot and view.
-use Rattle.std.proofs.Common.{◌≡◌, ℕ, suc, ◌+◌, ◌<◌, ◌≤◌, Bool, true, false, List, [], ◌∷◌, Some, None, Option, refl, sym, ap, ◌∙◌, subst, arith, ◌&&◌, ◌==◌, not, ◌⊎◌, inl, inr, if◌then◌else◌, nat_le}
+use Rattle.std.proofs.Common.{◌≡◌, ℕ, suc, ◌+◌, ◌≤◌, Bool, true, false, List, [], ◌∷◌, Some, None, Option, refl, sym, ap, ◌∙◌, subst, arith, ◌&&◌, ◌==◌, not, ◌⊎◌, inl, inr, if◌then◌else◌, nat_le}
 use Rattle.std.specs.Prelude.{slice_get, is_some}
 use Rattle.std.specs.Option.{option_map, option_map_or}
-use Rattle.std.proofs.lemmas.Bool.{cases_order, eqb-true, leb-true, false≢true, true≢false}
+use Rattle.std.proofs.lemmas.Bool.{eqb-true, leb-true, false≢true, true≢false, not-true}
+use Rattle.std.proofs.lemmas.Option.{same_Some}
+use Rattle.qn_safety.specs.Boots.{one_boot}
 use Rattle.qn_base.specs.declared.ids.Rank.{Rank}
 use Rattle.qn_base.specs.declared.ids.View.{View}
+use Rattle.qn_base.specs.lemmas.Options.{none_is_not_some, value_tested}
+use Rattle.qn_base.specs.lemmas.Bools.{first_of_both, second_of_both}
 use Rattle.qn_model.specs.declared.configuration.Settings.{Settings}
 use Rattle.qn_model.specs.declared.entries.What.{What}
 use Rattle.qn_model.specs.declared.entries.What.TheVariants as what
@@ -20,7 +24,7 @@ use Rattle.qn_model.specs.Votes.{device_yes, newer_yes}
 use Rattle.qn_model.specs.World.{node_at}
 use Rattle.qn_safety.specs.Clocks.{RunsOn}
 use Rattle.qn_safety.specs.LogMoves.{ComesOf, LogMove, Rests, Enters, Begins}
-use Rattle.qn_safety.specs.Timed.{IsSameBoot, IsTimedRun, IsUp}
+use Rattle.qn_safety.specs.Timed.{IsSameBoot}
 use Rattle.qn_lease.specs.declared.events.ArbiterEvent.{ArbiterEvent}
 use Rattle.qn_lease.specs.declared.events.ArbiterEvent.TheVariants as beside
 use Rattle.qn_lease.specs.declared.lease.Lease.{Lease}
@@ -32,11 +36,12 @@ use Rattle.qn_lease.specs.ArbiterWorld.{Arbiter, ArbiterWorld, arbiter_tick, pol
 use Rattle.qn_lease.specs.ArbiterRules.{is_yes_of_device, pass_of, refusal_beside}
 use Rattle.qn_lease.specs.ArbiterSteps.{device_event, played, reply_event, reply_sent, reply_to, run_beside}
 use Rattle.qn_lease.proofs.Below.{Below}
-use Rattle.qn_lease.proofs.Tools.{some_same, none_some, and_left_of, and_right_of, before_then, first_allows, test_there, added_item, not_true}
+use Rattle.qn_lease.proofs.Tools.{before_then, first_allows, added_item}
 use Rattle.qn_lease.proofs.Playing.{IsRun, NoEvent, OneEvent, Hears, hear_there, moments_at, moments_grow, newest_allowed, replies_now, reply_there, timed_of}
 use Rattle.qn_lease.proofs.Sendings.{PollerMove, Keeps, Forgets, Fresh, RankStep, Idle, Sends, Acts, pass_is, rank_step}
 use Rattle.qn_lease.proofs.Standings.{SentFrom, Numbered, last_stands, numbered_step, same_install, same_view, was_sent}
 use Rattle.qn_model.specs.declared.votes.VoteWhat.TheVariants.{Released, Tick}
+use Rattle.qn_model.specs.lemmas.Moments.{never_logged}
 
 -- the arbiter gave its yes to a poll that was sent at some moments
 pub record Granted (s : Settings) (t : Timing) (times : Lease) (poll : Poll) (sent : List Moment) (events : List ArbiterEvent) : Type 0 where
@@ -82,26 +87,26 @@ record Answers (s : Settings) (event : ArbiterEvent) (w : ArbiterWorld) (reply :
 
 answers_of : (s : Settings) (t : Timing) (event : ArbiterEvent) (w : ArbiterWorld) (reply : Reply) → refusal_beside s t event w ≡ None → reply_sent event w ≡ Some reply → Answers s event w reply
 unfolding reply_sent
-answers_of s t (beside.One one) w reply ok e = none_some reply e
-answers_of s t (beside.PassWith advance one) w reply ok e = none_some reply e
-answers_of s t (beside.ArbiterBoot base) w reply ok e = none_some reply e
-answers_of s t beside.ArbiterCrash w reply ok e = none_some reply e
-answers_of s t (beside.Poll rank) w reply ok e = none_some reply e
-answers_of s t (beside.Reply number) w reply ok e = none_some reply e
+answers_of s t (beside.One one) w reply ok e = none_is_not_some reply e
+answers_of s t (beside.PassWith advance one) w reply ok e = none_is_not_some reply e
+answers_of s t (beside.ArbiterBoot base) w reply ok e = none_is_not_some reply e
+answers_of s t beside.ArbiterCrash w reply ok e = none_is_not_some reply e
+answers_of s t (beside.Poll rank) w reply ok e = none_is_not_some reply e
+answers_of s t (beside.Reply number) w reply ok e = none_is_not_some reply e
 answers_of s t (beside.Hear number) w reply ok e =
     let it = hear_there s t number w ok in
     record {
       number = number;
       is_hear = refl;
       hears = it;
-      same = some_same (reply_to it.arbiter it.poll) reply
+      same = same_Some (reply_to it.arbiter it.poll) reply
           (sym (ap (λ a. option_map_or (λ arbiter. option_map (reply_to arbiter) (poll_at number w)) a None) it.runs ∙ ap (λ p. option_map (reply_to it.arbiter) p) it.there) ∙ e);
     }
 
 pub replied : {s : Settings} {t : Timing} {times : Lease} {events : List ArbiterEvent} → Below → IsRun s t times events → (number : ℕ) (reply : Reply)
     → reply_at number (run_beside s t times events) ≡ Some reply → reply.agrees ≡ true → Replied s t times reply events
 unfolding run_beside
-replied law NoEvent number reply is agrees = none_some reply is
+replied law NoEvent number reply is agrees = none_is_not_some reply is
 replied {s = s} {t = t} {times = times} law (OneEvent {event = event} {earlier = earlier} form ok run) number reply is agrees =
     by_item (added_item (run_beside s t times earlier).replies (reply_sent event (run_beside s t times earlier)) number reply
     (sym (ap (λ rs. slice_get rs number) (replies_now s t times event earlier)) ∙ is)) (λ was. replied law run number reply was agrees)
@@ -173,17 +178,6 @@ limit_is {s = s} {t = t} {times = times} law (OneEvent {event = event} {earlier 
     by_step (Idle same kept silent) was = ap (λ (p : Poller). p.limit) kept ∙ was
     by_step (Sends own at is same stands kept gave) was = ap (λ (p : Poller). p.limit) kept ∙ was
     by_step (Acts one plays' moved poller silent) was = limit_kept times rank one _ _ poller was
-
--- two moments at which a rank is up with one number are of one boot
-pub one_boot : {s : Settings} {t : Timing} {all : List Moment} (timed : IsTimedRun s t all) (rank number : ℕ) (p q : List Moment) → Before p all → Before q all → IsUp s rank p → IsUp s rank q
-    → incarnation (node s rank p).log ≡ Some number → incarnation (node s rank q).log ≡ Some number → IsSameBoot s rank p q
-one_boot {s = s} timed rank number p q p_all q_all up_p up_q has_p has_q = by_order (cases_order (node s rank p).boots (node s rank q).boots)
-  where
-    by_order : ((node s rank p).boots ≡ (node s rank q).boots) ⊎ (((node s rank p).boots < (node s rank q).boots) ⊎ ((node s rank q).boots < (node s rank p).boots))
-        → (node s rank p).boots ≡ (node s rank q).boots
-    by_order (inl same) = same
-    by_order (inr (inl less)) = absurd (let rise = timed.rise rank number number p q p_all q_all up_p up_q less has_p has_q in omega arith)
-    by_order (inr (inr more)) = absurd (let rise = timed.rise rank number number q p q_all p_all up_q up_p more has_q has_p in omega arith)
 
 -- along a log the install number rises with each view
 install_step : (line : Line) (past : List Line) → install past ≤ install (line ∷ past)
@@ -310,22 +304,22 @@ taken_yes o limit tick reply e = by_test (option_map_or (is_taken limit tick rep
   where
     by_test : (b : Bool) → option_map_or (is_taken limit tick reply) o false ≡ b → (if b then Some reply.agrees else None) ≡ Some true
         → (last : SentPoll) × ((o ≡ Some last) × ((is_taken limit tick reply last ≡ true) × (reply.agrees ≡ true)))
-    by_test true is e' = let it = test_there (is_taken limit tick reply) o is in (it.0, (it.1, (it.2, some_same reply.agrees true e')))
-    by_test false is e' = none_some true e'
+    by_test true is e' = let it = value_tested (is_taken limit tick reply) o is in (it.0, (it.1, (it.2, same_Some reply.agrees true e')))
+    by_test false is e' = none_is_not_some true e'
 
 takes : (s : Settings) (t : Timing) (rank : ℕ) (event : ArbiterEvent) (w : ArbiterWorld) → refusal_beside s t event w ≡ None
     → played s event w ≡ Some (met.Device (record { 0 = rank }) true) → Takes s rank event w
 unfolding played refusal_beside
-takes s t rank (beside.ArbiterBoot base) w ok e = none_some _ e
-takes s t rank beside.ArbiterCrash w ok e = none_some _ e
-takes s t rank (beside.Poll own) w ok e = none_some _ e
-takes s t rank (beside.Hear number) w ok e = none_some _ e
+takes s t rank (beside.ArbiterBoot base) w ok e = none_is_not_some _ e
+takes s t rank beside.ArbiterCrash w ok e = none_is_not_some _ e
+takes s t rank (beside.Poll own) w ok e = none_is_not_some _ e
+takes s t rank (beside.Hear number) w ok e = none_is_not_some _ e
 takes s t rank (beside.One one) w ok e =
-    let refused = not_true (is_yes_of_device one) (first_allows (not (is_yes_of_device one)) 11 (refusal s t one w.world) ok).0 in
-    absurd (true≢false (sym (ap is_yes_of_device (some_same one (met.Device (record { 0 = rank }) true) e)) ∙ refused))
+    let refused = not-true (is_yes_of_device one) (first_allows (not (is_yes_of_device one)) 11 (refusal s t one w.world) ok).0 in
+    absurd (true≢false (sym (ap is_yes_of_device (same_Some one (met.Device (record { 0 = rank }) true) e)) ∙ refused))
 takes s t rank (beside.PassWith advance one) w ok e =
     let is = pass_is s t advance one w ok in
-    none_some is.0 (sym (ap pass_of (some_same one (met.Device (record { 0 = rank }) true) e)) ∙ is.1.0)
+    none_is_not_some is.0 (sym (ap pass_of (same_Some one (met.Device (record { 0 = rank }) true) e)) ∙ is.1.0)
 takes s t rank (beside.Reply number) w ok e = by_reply (reply_there s t number w ok)
   where
     by_answer : (reply : Reply) → reply_at number w ≡ Some reply → is_on s reply.to.0 w.world ≡ true → (o : Option Bool)
@@ -351,7 +345,7 @@ takes s t rank (beside.Reply number) w ok e = by_reply (reply_there s t number w
     by_reply : ((reply : Reply) × (reply_at number w ≡ Some reply) × (is_on s reply.to.0 w.world ≡ true)) → Takes s rank (beside.Reply number) w
     by_reply it =
         by_answer it.0 it.1 it.2 (answer_taken (tick_of (node_at s it.0.to.0 w.world).clock) it.0 (w.pollers it.0.to.0)) refl
-        (some_same _ _ (sym (ap (λ o. option_map (reply_event s w) o) it.1) ∙ e))
+        (same_Some _ _ (sym (ap (λ o. option_map (reply_event s w) o) it.1) ∙ e))
 
 -- the reply that is taken answers the last poll of the rank, and gives its yes the time of that poll
 voted_of : {s : Settings} {t : Timing} {times : Lease} {event : ArbiterEvent} {earlier : List ArbiterEvent} → Below → IsRun s t times (event ∷ earlier) → (rank : ℕ) (line : Line)
@@ -368,16 +362,16 @@ voted_of {s = s} {t = t} {times = times} {event = event} {earlier = earlier} law
     let from = subst (λ k. SentFrom s k sought.poll sought.sent) it.to sought.from in
     let numbered = subst (λ k. Numbered s k sought.poll sought.sent old (w.pollers k)) it.to sought.numbered in
     let last = last_stands law run rank it.last it.kept in
-    let is_reply = and_left_of (is_reply_to it.last.poll reply) (nat_le (tick_of (node_at s rank w.world).clock) (it.last.tick + (w.pollers rank).limit)) it.answers_it in
+    let is_reply = first_of_both (is_reply_to it.last.poll reply) (nat_le (tick_of (node_at s rank w.world).clock) (it.last.tick + (w.pollers rank).limit)) it.answers_it in
     let timely = leb-true (tick_of (node_at s rank w.world).clock) (it.last.tick + (w.pollers rank).limit)
-    (and_right_of (is_reply_to it.last.poll reply) (nat_le (tick_of (node_at s rank w.world).clock) (it.last.tick + (w.pollers rank).limit)) it.answers_it) in
-    let first_two = and_left_of (it.last.poll.number == reply.number && it.last.poll.incarnation == reply.incarnation) (it.last.poll.install == reply.install) is_reply in
+    (second_of_both (is_reply_to it.last.poll reply) (nat_le (tick_of (node_at s rank w.world).clock) (it.last.tick + (w.pollers rank).limit)) it.answers_it) in
+    let first_two = first_of_both (it.last.poll.number == reply.number && it.last.poll.incarnation == reply.incarnation) (it.last.poll.install == reply.install) is_reply in
     let number_is : it.last.poll.number ≡ reply.number =
-    eqb-true it.last.poll.number reply.number (and_left_of (it.last.poll.number == reply.number) (it.last.poll.incarnation == reply.incarnation) first_two) in
+    eqb-true it.last.poll.number reply.number (first_of_both (it.last.poll.number == reply.number) (it.last.poll.incarnation == reply.incarnation) first_two) in
     let incarnation_is : it.last.poll.incarnation ≡ reply.incarnation =
-    eqb-true it.last.poll.incarnation reply.incarnation (and_right_of (it.last.poll.number == reply.number) (it.last.poll.incarnation == reply.incarnation) first_two) in
+    eqb-true it.last.poll.incarnation reply.incarnation (second_of_both (it.last.poll.number == reply.number) (it.last.poll.incarnation == reply.incarnation) first_two) in
     let install_is : it.last.poll.install ≡ reply.install =
-    eqb-true it.last.poll.install reply.install (and_right_of (it.last.poll.number == reply.number && it.last.poll.incarnation == reply.incarnation) (it.last.poll.install == reply.install) is_reply) in
+    eqb-true it.last.poll.install reply.install (second_of_both (it.last.poll.number == reply.number && it.last.poll.incarnation == reply.incarnation) (it.last.poll.install == reply.install) is_reply) in
     let limit = limit_is law run rank in
     let timed = timed_of law run in
     let same_sent = one_boot timed rank reply.incarnation sought.sent last.sent numbered.back last.back from.up last.from.up
@@ -400,10 +394,6 @@ voted_of {s = s} {t = t} {times = times} {event = event} {earlier = earlier} law
       in_time = omega arith;
     }
 
-never_logged : (s : Settings) (rank : ℕ) → (node s rank []).log ≡ []
-unfolding node
-never_logged s rank = refl
-
 first_moments : (s : Settings) (t : Timing) (times : Lease) → moments_at s t times [] ≡ []
 unfolding run_beside
 first_moments s t times = refl
@@ -412,7 +402,7 @@ first_moments s t times = refl
 pub voted : {s : Settings} {t : Timing} {times : Lease} {events : List ArbiterEvent} → Below → IsRun s t times events → (rank since : ℕ)
     → device_yes (votes (node s rank (moments_at s t times events)).log) ≡ Some since → Voted s t times rank since events
 voted {s = s} {t = t} {times = times} law NoEvent rank since is =
-    none_some since (sym (ap (λ ms. device_yes (votes (node s rank ms).log)) (first_moments s t times) ∙ ap (λ log. device_yes (votes log)) (never_logged s rank) ∙ no_yes) ∙ is)
+    none_is_not_some since (sym (ap (λ ms. device_yes (votes (node s rank ms).log)) (first_moments s t times) ∙ ap (λ log. device_yes (votes log)) (never_logged s rank) ∙ no_yes) ∙ is)
 voted {s = s} {t = t} {times = times} law (OneEvent {event = event} {earlier = earlier} form ok run) rank since is =
     by_step (rank_step law (OneEvent form ok run) rank) (λ e. voted law run rank since e)
   where
@@ -451,14 +441,14 @@ voted {s = s} {t = t} {times = times} law (OneEvent {event = event} {earlier = e
         → ComesOf one rank line.what → line.tick ≡ tick_of (node s rank old).clock → VoteStep (node s rank old).log line.tick line.what
         → (device_yes (votes (node s rank old).log) ≡ Some since → Voted s t times rank since earlier) → Voted s t times rank since (event ∷ earlier)
     by_line one line plays' same log comes at (EndsYes ends) rest =
-        none_some since (sym (ap (λ l. device_yes (votes l)) log ∙ yes_with line (node s rank old).log ∙ ends (device_yes (votes (node s rank old).log))) ∙ is)
+        none_is_not_some since (sym (ap (λ l. device_yes (votes l)) log ∙ yes_with line (node s rank old).log ∙ ends (device_yes (votes (node s rank old).log))) ∙ is)
     by_line one line plays' same log comes at (KeepsYes unseen keeps) rest =
         moved_on (rest (sym (ap (λ l. device_yes (votes l)) log ∙ yes_with line (node s rank old).log ∙ keeps (device_yes (votes (node s rank old).log))) ∙ is)) same
         (ap install log ∙ same_install line (node s rank old).log unseen) (ap view log ∙ same_view line (node s rank old).log unseen)
     by_line one line plays' same log comes at (GivesYes says) rest =
         let handed : one ≡ met.Device (record { 0 = rank }) true = subst (λ x. ComesOf one rank x) says comes in
         let since_is : line.tick ≡ since =
-        some_same line.tick since (sym (ap (λ l. device_yes (votes l)) log ∙ yes_with line (node s rank old).log
+        same_Some line.tick since (sym (ap (λ l. device_yes (votes l)) log ∙ yes_with line (node s rank old).log
         ∙ ap (λ x. newer_yes line.tick (vote_of (node s rank old).log x) (device_yes (votes (node s rank old).log))) says) ∙ is) in
         subst (λ n. Voted s t times rank n (event ∷ earlier)) since_is
         (voted_of law whole rank line (takes s t rank event w ok (plays' ∙ ap Some handed)) same log (ap view_of says) at)
@@ -468,7 +458,7 @@ voted {s = s} {t = t} {times = times} law (OneEvent {event = event} {earlier = e
     by_move one plays' (Rests none same log) rest =
         moved_on (rest (sym (ap (λ l. device_yes (votes l)) log) ∙ is)) same (ap install log) (ap view log)
     by_move one plays' (Enters line none same log comes at) rest = by_line one line plays' same log comes at (vote_step (node s rank old).log line.tick line.what) rest
-    by_move one plays' (Begins line boot count log begins) rest = none_some since (sym (ap (λ l. device_yes (votes l)) log ∙ begin_no_yes line begins) ∙ is)
+    by_move one plays' (Begins line boot count log begins) rest = none_is_not_some since (sym (ap (λ l. device_yes (votes l)) log ∙ begin_no_yes line begins) ∙ is)
 
     by_step : RankStep s times event w rank old new (w.pollers rank) ((run_beside s t times (event ∷ earlier)).pollers rank)
         → (device_yes (votes (node s rank old).log) ≡ Some since → Voted s t times rank since earlier) → Voted s t times rank since (event ∷ earlier)

@@ -2,7 +2,9 @@
 use Rattle.std.proofs.Common.{◌≡◌, ℕ, ◌+◌, ◌-◌, ◌*◌, ◌/◌, ◌<◌, ◌≤◌, Bool, true, false, List, ◌∷◌, length, Some, refl, sym, ap, ◌∙◌, subst, arith, ◌&&◌, ◌||◌, ◌==◌, ◌⊎◌, inl, inr, if◌then◌else◌, nat_le, nat_lt}
 use Rattle.std.specs.Option.{option_map, option_map_or}
 use Rattle.std.proofs.lemmas.Bool.{cases_order, eq-eqb, lt-ltb, leb-true, ltb-true, true≢false}
+use Rattle.std.proofs.lemmas.Option.{same_Some}
 use Rattle.qn_base.specs.declared.ids.View.{View}
+use Rattle.qn_base.specs.lemmas.Bools.{first_of_both, second_of_both}
 use Rattle.qn_model.specs.declared.configuration.Device.{Device}
 use Rattle.qn_model.specs.declared.configuration.Settings.{Settings}
 use Rattle.qn_model.specs.declared.nodelist.NodeEntry.{NodeEntry}
@@ -29,7 +31,7 @@ use Rattle.qn_lease.specs.Law.{LeasesVote, IsQuorateIn}
 use Rattle.qn_lease.specs.Lease.{is_in_range, is_safe_lease, outlasts_yes}
 use Rattle.qn_lease.proofs.Below.{Below}
 use Rattle.qn_lease.proofs.Counting.{leased_of, must_count}
-use Rattle.qn_lease.proofs.Tools.{some_same, and_left_of, and_right_of, before_then, before_tail, before_total, newest_state}
+use Rattle.qn_lease.proofs.Tools.{before_then, before_tail, before_total, newest_state}
 use Rattle.qn_lease.proofs.Memories.{last_after, yes_after_lease, yes_in_the_way}
 use Rattle.qn_lease.proofs.Playing.{IsRun, moments_at, moments_grow, arbiter_now, plays_of, run_before, run_of, timed_of}
 use Rattle.qn_lease.proofs.Standings.{SentFrom}
@@ -97,13 +99,13 @@ same_view_of {s = s} {t = t} {times = times} {device = device} {rank = rank} {ev
         let own = law.stays s t rank it.votes_it.sent now now timed (runs_on it) it.votes_it.from.up in
         let other = law.stays s t rank at now now timed runs from.up in
         let one_number : poll.incarnation ≡ it.votes_it.poll.incarnation =
-        some_same poll.incarnation it.votes_it.poll.incarnation (sym (other ∙ from.number) ∙ own ∙ it.votes_it.from.number) in
+        same_Some poll.incarnation it.votes_it.poll.incarnation (sym (other ∙ from.number) ∙ own ∙ it.votes_it.from.number) in
         let most = install_le grows in
         let installed = it.votes_it.installed in
         let sent = from.installed in
         let no_less = (older_cases poll it.votes_it.poll order).1 one_number in
         let same_install : install (node s rank at).log ≡ install (node s rank now).log = by_least most installed sent no_less in
-        some_same poll.view it.votes_it.poll.view (sym from.seen ∙ sym (view_stays grows same_install) ∙ it.votes_it.seen)
+        same_Some poll.view it.votes_it.poll.view (sym from.seen ∙ sym (view_stays grows same_install) ∙ it.votes_it.seen)
       where
         by_least : install (node s rank at).log ≤ install (node s rank now).log → install (node s rank now).log ≡ it.votes_it.poll.install → install (node s rank at).log ≡ poll.install
             → ((poll.install < it.votes_it.poll.install) → ⊥) → install (node s rank at).log ≡ install (node s rank now).log
@@ -200,7 +202,7 @@ module _ {s : Settings} {t : Timing} {times : Lease} {device : Device} {i j : �
           let lease = memory.lease in
           absurd (omega arith)
       by_lived (Remained was runs kept clock) =
-          let is : hearing one.votes_it.poll earlier_grant.arbiter ≡ was = some_same _ was (sym (behind_grant earlier_grant) ∙ runs) in
+          let is : hearing one.votes_it.poll earlier_grant.arbiter ≡ was = same_Some _ was (sym (behind_grant earlier_grant) ∙ runs) in
           remembered (subst (λ (a : Arbiter). Before a.memory.heard arbiter.memory.heard) (sym is) kept)
           (subst (λ (a : Arbiter). arbiter.clock + 101 * time (moments_at s t times first) ≤ 101 * time (moments_at s t times later_grant.earlier) + a.clock) (sym is) clock)
 
@@ -213,7 +215,7 @@ module _ {s : Settings} {t : Timing} {times : Lease} {device : Device} {i j : �
       by_state (inr more) = while_live one.votes_it.granted other.votes_it.granted more
       by_state (inl same) =
           let parts = hear_same _ _ _ _ same in
-          let polls = some_same one.votes_it.poll other.votes_it.poll
+          let polls = same_Some one.votes_it.poll other.votes_it.poll
           (sym one.votes_it.granted.there
           ∙ ap (λ n. poll_at n (run_beside s t times one.votes_it.granted.earlier)) parts.0
           ∙ ap (λ es. poll_at other.votes_it.granted.number (run_beside s t times es)) parts.1
@@ -236,9 +238,9 @@ granted_below {s = s} {t = t} {times = times} {poll = poll} run few it =
 safe_for : (s : Settings) (times : Lease) (device : Device) → is_safe_lease s times ≡ true → s.device ≡ Some device
     → (101 * (times.limit + device.timeout) ≤ 99 * (times.lease - 1)) × (1 ≤ times.lease)
 safe_for s times device e has =
-    let outlasts : outlasts_yes times device ≡ true = sym (ap (λ o. option_map_or (outlasts_yes times) o false) has) ∙ and_right_of (is_in_range times) (option_map_or (outlasts_yes times) s.device false) e in
-    let range = and_right_of (is_between 1 3600000 times.limit) (is_between 1 36000000 times.lease) (and_left_of (is_in_range times) (option_map_or (outlasts_yes times) s.device false) e) in
-    (leb-true (101 * (times.limit + device.timeout)) (99 * (times.lease - 1)) outlasts, leb-true 1 times.lease (and_left_of (nat_le 1 times.lease) (nat_le times.lease 36000000) range))
+    let outlasts : outlasts_yes times device ≡ true = sym (ap (λ o. option_map_or (outlasts_yes times) o false) has) ∙ second_of_both (is_in_range times) (option_map_or (outlasts_yes times) s.device false) e in
+    let range = second_of_both (is_between 1 3600000 times.limit) (is_between 1 36000000 times.lease) (first_of_both (is_in_range times) (option_map_or (outlasts_yes times) s.device false) e) in
+    (leb-true (101 * (times.limit + device.timeout)) (99 * (times.lease - 1)) outlasts, leb-true 1 times.lease (first_of_both (nat_le 1 times.lease) (nat_le times.lease 36000000) range))
 
 module _ (law : Below)
     (together : (nodes : List NodeEntry) (left right : View) → AreDisjoint left right → votes_among nodes left.members + votes_among nodes right.members ≤ all_votes nodes)
@@ -276,10 +278,10 @@ module _ (law : Below)
       second = counts_yes run leased swapped other one
 
       first_view : left ≡ first.votes_it.poll.view
-      first_view = some_same left first.votes_it.poll.view (sym one.sees ∙ first.votes_it.seen)
+      first_view = same_Some left first.votes_it.poll.view (sym one.sees ∙ first.votes_it.seen)
 
       second_view : right ≡ second.votes_it.poll.view
-      second_view = some_same right second.votes_it.poll.view (sym other.sees ∙ second.votes_it.seen)
+      second_view = same_Some right second.votes_it.poll.view (sym other.sees ∙ second.votes_it.seen)
 
       polls_apart : AreDisjoint first.votes_it.poll.view second.votes_it.poll.view
       polls_apart = subst (λ v. AreDisjoint v second.votes_it.poll.view) first_view (subst (λ v. AreDisjoint left v) second_view apart)

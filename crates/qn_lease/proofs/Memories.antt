@@ -3,14 +3,16 @@
 use Rattle.std.proofs.Common.{◌≡◌, ℕ, ◌+◌, ◌<◌, ◌≤◌, Bool, true, false, List, [], ◌∷◌, Some, refl, sym, ap, ◌∙◌, arith, ◌&&◌, ◌||◌, ◌==◌, not, cond, nat_le, nat_lt}
 use Rattle.std.specs.Option.{option_map_or}
 use Rattle.std.specs.List.{range_with_len}
-use Rattle.std.proofs.lemmas.Bool.{eq-eqb, eqb-true, leb-true, lt-ltb, ltb-true, true≢false}
+use Rattle.std.proofs.lemmas.Bool.{eq-eqb, eqb-true, leb-true, lt-ltb, ltb-true, true≢false, not-true}
 use Rattle.qn_base.specs.Members.{is_member}
 use Rattle.qn_model.specs.Laws.{AreDisjoint}
 use Rattle.qn_model.specs.Moments.{Before, Itself, Later}
 use Rattle.qn_lease.specs.declared.polls.Poll.{Poll}
 use Rattle.qn_lease.specs.Arbiter.{HeardPoll, Memory, do_meet, gives_yes, is_live_yes, is_newest, is_of_same_rank, is_older, is_vote_left, last_yes, leaves_vote}
-use Rattle.qn_lease.proofs.Tools.{and_left_of, and_right_of, not_true, or_right_of, in_range, some_item, each_item}
+use Rattle.qn_lease.proofs.Tools.{or_right_of, some_item, each_item}
 use Rattle.qn_base.specs.declared.ids.View.{View}
+use Rattle.qn_base.specs.lemmas.Bools.{first_of_both, second_of_both}
+use Rattle.qn_base.specs.lemmas.Ranges.{each_in_range}
 
 -- the tick of the newest poll that was heard, 0 where none was
 abbrev pub newest_tick : List HeardPoll → ℕ
@@ -68,13 +70,13 @@ last_after {lease = lease} {began = began} {g = g} {rest = rest} (OnePoll {newes
   where
     newer : (newest.agrees && newest.poll.from.0 == g.poll.from.0) ≡ true → LastYes g (newest ∷ others)
     newer e =
-        let from : newest.poll.from.0 ≡ g.poll.from.0 = eqb-true newest.poll.from.0 g.poll.from.0 (and_right_of newest.agrees (newest.poll.from.0 == g.poll.from.0) e) in
-        let gave = sym answers ∙ and_left_of newest.agrees (newest.poll.from.0 == g.poll.from.0) e in
+        let from : newest.poll.from.0 ≡ g.poll.from.0 = eqb-true newest.poll.from.0 g.poll.from.0 (second_of_both newest.agrees (newest.poll.from.0 == g.poll.from.0) e) in
+        let gave = sym answers ∙ first_of_both newest.agrees (newest.poll.from.0 == g.poll.from.0) e in
         let memory : Memory = record { lease = lease; began = began; heard = others } in
         let fresh : is_newest others newest.poll ≡ true =
-        and_right_of (nat_le (began + lease) newest.tick) (is_newest others newest.poll)
-        (and_left_of (nat_le (began + lease) newest.tick && is_newest others newest.poll) (is_vote_left memory newest.tick newest.poll) gave) in
-        let here = not_true (is_of_same_rank g.poll newest.poll && is_older newest.poll g.poll)
+        second_of_both (nat_le (began + lease) newest.tick) (is_newest others newest.poll)
+        (first_of_both (nat_le (began + lease) newest.tick && is_newest others newest.poll) (is_vote_left memory newest.tick newest.poll) gave) in
+        let here = not-true (is_of_same_rank g.poll newest.poll && is_older newest.poll g.poll)
         (each_item (λ before. not (is_of_same_rank before.poll newest.poll && is_older newest.poll before.poll)) more fresh) in
         let p = ticks_rise was more in
         record {
@@ -103,22 +105,22 @@ last_after {lease = lease} {began = began} {g = g} {rest = rest} (OnePoll {newes
 meet_in : (left right : View) → AreDisjoint left right → do_meet left.members right.members ≡ true → ⊥
 meet_in left right apart e =
     let at = some_item (λ rank. is_member left.members rank && is_member right.members rank) (range_with_len 0 32) e in
-    apart at.0 (and_left_of (is_member left.members at.0) (is_member right.members at.0) at.1) (and_right_of (is_member left.members at.0) (is_member right.members at.0) at.1)
+    apart at.0 (first_of_both (is_member left.members at.0) (is_member right.members at.0) at.1) (second_of_both (is_member left.members at.0) (is_member right.members at.0) at.1)
 
 -- a poll that gets a yes comes a lease after the boot
 pub yes_after_lease : (memory : Memory) (tick : ℕ) (poll : Poll) → gives_yes memory tick poll ≡ true → memory.began + memory.lease ≤ tick
 yes_after_lease memory tick poll gave =
     leb-true (memory.began + memory.lease) tick
-    (and_left_of (nat_le (memory.began + memory.lease) tick) (is_newest memory.heard poll)
-    (and_left_of (nat_le (memory.began + memory.lease) tick && is_newest memory.heard poll) (is_vote_left memory tick poll) gave))
+    (first_of_both (nat_le (memory.began + memory.lease) tick) (is_newest memory.heard poll)
+    (first_of_both (nat_le (memory.began + memory.lease) tick && is_newest memory.heard poll) (is_vote_left memory tick poll) gave))
 
 -- a live yes to another rank is in the way of a poll of nodes that it has nothing in common with
 pub yes_in_the_way : (memory : Memory) (tick rank : ℕ) (poll : Poll) (last : HeardPoll) → gives_yes memory tick poll ≡ true → rank < 32 → ((rank ≡ poll.from.0) → ⊥)
     → last_yes rank memory.heard ≡ Some last → tick < last.tick + memory.lease → AreDisjoint last.poll.view poll.view → ⊥
 yes_in_the_way memory tick rank poll last gave below other found live apart =
-    let left : is_vote_left memory tick poll ≡ true = and_right_of (nat_le (memory.began + memory.lease) tick && is_newest memory.heard poll) (is_vote_left memory tick poll) gave in
+    let left : is_vote_left memory tick poll ≡ true = second_of_both (nat_le (memory.began + memory.lease) tick && is_newest memory.heard poll) (is_vote_left memory tick poll) gave in
     let here : (rank == poll.from.0 || option_map_or (leaves_vote memory.lease tick poll) (last_yes rank memory.heard) true) ≡ true =
-    in_range (λ r. r == poll.from.0 || option_map_or (leaves_vote memory.lease tick poll) (last_yes r memory.heard) true) 32 0 rank left (omega arith) below in
+    each_in_range (λ r. r == poll.from.0 || option_map_or (leaves_vote memory.lease tick poll) (last_yes r memory.heard) true) 32 0 rank left (omega arith) below in
     let leaves : option_map_or (leaves_vote memory.lease tick poll) (last_yes rank memory.heard) true ≡ true =
     or_right_of (rank == poll.from.0) (option_map_or (leaves_vote memory.lease tick poll) (last_yes rank memory.heard) true) here (apart_ranks (rank == poll.from.0) refl) in
     let stays : leaves_vote memory.lease tick poll last ≡ true = sym (ap (λ o. option_map_or (leaves_vote memory.lease tick poll) o true) found) ∙ leaves in

@@ -21,8 +21,12 @@ use Rattle.qn_lease.specs.ArbiterWorld.{Arbiter, ArbiterWorld, poll_at, reply_at
 use Rattle.qn_lease.specs.ArbiterRules.{is_well_formed_beside, is_yes_of_device, may_pass_with, may_reply, refusal_beside}
 use Rattle.qn_lease.specs.ArbiterSteps.{AllAllowedBeside, arbiter_after, device_event, played, plays, poll_sent, pollers_after, reply_event, reply_sent, reply_to, run_beside, step_beside, world_after}
 use Rattle.qn_lease.proofs.Below.{Below}
-use Rattle.qn_lease.proofs.Tools.{some_same, none_some, and_right_of, some_of, test_there, allows, first_allows, added_item}
+use Rattle.qn_lease.proofs.Tools.{first_allows, added_item}
 use Rattle.std.specs.Prelude.{slice_get}
+use Rattle.std.proofs.lemmas.Option.{same_Some}
+use Rattle.qn_base.specs.lemmas.Options.{none_is_not_some, value_there, value_tested}
+use Rattle.qn_base.specs.lemmas.Bools.{second_of_both}
+use Rattle.qn_model.specs.lemmas.Rules.{allowed}
 
 -- the moments of the nodes after events
 abbrev pub moments_at : Settings → Timing → Lease → List ArbiterEvent → List Moment
@@ -92,12 +96,12 @@ pub record Known (s : Settings) (w : ArbiterWorld) : Type 0 where
 pub reply_there : (s : Settings) (t : Timing) (number : ℕ) (w : ArbiterWorld) → refusal_beside s t (beside.Reply number) w ≡ None
     → (reply : Reply) × (reply_at number w ≡ Some reply) × (is_on s reply.to.0 w.world ≡ true)
 unfolding refusal_beside
-reply_there s t number w ok = test_there (λ (reply : Reply). is_on s reply.to.0 w.world) (reply_at number w) (allows (may_reply s number w) 14 ok)
+reply_there s t number w ok = value_tested (λ (reply : Reply). is_on s reply.to.0 w.world) (reply_at number w) (allowed (may_reply s number w) 14 ok)
 
 pub poll_there : (s : Settings) (t : Timing) (rank : Rank) (w : ArbiterWorld) → refusal_beside s t (beside.Poll rank) w ≡ None
     → (at : Standing) × (standing_at s rank.0 w ≡ Some at)
 unfolding refusal_beside
-poll_there s t rank w ok = some_of (standing_at s rank.0 w) (allows (is_some (standing_at s rank.0 w)) 13 ok)
+poll_there s t rank w ok = value_there (standing_at s rank.0 w) (allowed (is_some (standing_at s rank.0 w)) 13 ok)
 
 -- the arbiter that hears, and the poll that it hears
 pub record Hears (number : ℕ) (w : ArbiterWorld) : Type 0 where
@@ -110,8 +114,8 @@ pub hear_there : (s : Settings) (t : Timing) (number : ℕ) (w : ArbiterWorld) �
 unfolding refusal_beside
 hear_there s t number w ok =
     let rules = first_allows (is_some w.arbiter) 12 (unless (is_some (poll_at number w)) 14) ok in
-    let arbiter = some_of w.arbiter rules.0 in
-    let poll = some_of (poll_at number w) (allows (is_some (poll_at number w)) 14 rules.1) in
+    let arbiter = value_there w.arbiter rules.0 in
+    let poll = value_there (poll_at number w) (allowed (is_some (poll_at number w)) 14 rules.1) in
     record { arbiter = arbiter.0; poll = poll.0; runs = arbiter.1; there = poll.1 }
 
 -- the events that the nodes meet are well formed and allowed
@@ -125,18 +129,18 @@ pub played_allowed : (s : Settings) (t : Timing) (event : ArbiterEvent) (w : Arb
     → Known s w → played s event w ≡ Some one → (is_well_formed s one ≡ true) × (refusal s t one w.world ≡ None)
 unfolding is_well_formed_beside refusal_beside played
 played_allowed s t (beside.One other) w one form ok known e =
-    subst (λ x. (is_well_formed s x ≡ true) × (refusal s t x w.world ≡ None)) (some_same other one e)
+    subst (λ x. (is_well_formed s x ≡ true) × (refusal s t x w.world ≡ None)) (same_Some other one e)
     (form, (first_allows (not (is_yes_of_device other)) 11 (refusal s t other w.world) ok).1)
 played_allowed s t (beside.PassWith advance other) w one form ok known e =
-    subst (λ x. (is_well_formed s x ≡ true) × (refusal s t x w.world ≡ None)) (some_same other one e)
-    (and_right_of (nat_le advance 1000000000000) (is_well_formed s other) form, (first_allows (may_pass_with advance other w) 15 (refusal s t other w.world) ok).1)
-played_allowed s t (beside.ArbiterBoot base) w one form ok known e = none_some one e
-played_allowed s t beside.ArbiterCrash w one form ok known e = none_some one e
-played_allowed s t (beside.Poll rank) w one form ok known e = none_some one e
-played_allowed s t (beside.Hear number) w one form ok known e = none_some one e
+    subst (λ x. (is_well_formed s x ≡ true) × (refusal s t x w.world ≡ None)) (same_Some other one e)
+    (second_of_both (nat_le advance 1000000000000) (is_well_formed s other) form, (first_allows (may_pass_with advance other w) 15 (refusal s t other w.world) ok).1)
+played_allowed s t (beside.ArbiterBoot base) w one form ok known e = none_is_not_some one e
+played_allowed s t beside.ArbiterCrash w one form ok known e = none_is_not_some one e
+played_allowed s t (beside.Poll rank) w one form ok known e = none_is_not_some one e
+played_allowed s t (beside.Hear number) w one form ok known e = none_is_not_some one e
 played_allowed s t (beside.Reply number) w one form ok known e =
     let it = reply_there s t number w ok in
-    let same : reply_event s w it.0 ≡ one = some_same (reply_event s w it.0) one (sym (ap (λ o. option_map (reply_event s w) o) it.1) ∙ e) in
+    let same : reply_event s w it.0 ≡ one = same_Some (reply_event s w it.0) one (sym (ap (λ o. option_map (reply_event s w) o) it.1) ∙ e) in
     subst (λ x. (is_well_formed s x ≡ true) × (refusal s t x w.world ≡ None)) same
     (handed_allowed s t it.0.to (answer_taken (tick_of (node_at s it.0.to.0 w.world).clock) it.0 (w.pollers it.0.to.0)) w.world (known.replies number it.0 it.1) it.2)
 
@@ -144,33 +148,33 @@ played_allowed s t (beside.Reply number) w one form ok known e =
 poll_known : (s : Settings) (t : Timing) (event : ArbiterEvent) (w : ArbiterWorld) (poll : Poll) → is_well_formed_beside s event ≡ true → poll_sent s event w ≡ Some poll
     → is_configured s poll.from.0 ≡ true
 unfolding is_well_formed_beside poll_sent
-poll_known s t (beside.One one) w poll form e = none_some poll e
-poll_known s t (beside.PassWith advance one) w poll form e = none_some poll e
-poll_known s t (beside.ArbiterBoot base) w poll form e = none_some poll e
-poll_known s t beside.ArbiterCrash w poll form e = none_some poll e
-poll_known s t (beside.Hear number) w poll form e = none_some poll e
-poll_known s t (beside.Reply number) w poll form e = none_some poll e
+poll_known s t (beside.One one) w poll form e = none_is_not_some poll e
+poll_known s t (beside.PassWith advance one) w poll form e = none_is_not_some poll e
+poll_known s t (beside.ArbiterBoot base) w poll form e = none_is_not_some poll e
+poll_known s t beside.ArbiterCrash w poll form e = none_is_not_some poll e
+poll_known s t (beside.Hear number) w poll form e = none_is_not_some poll e
+poll_known s t (beside.Reply number) w poll form e = none_is_not_some poll e
 poll_known s t (beside.Poll rank) w poll form e = by_standing (standing_at s rank.0 w) e
   where
     by_standing : (o : Option Standing) → option_map (λ at. next_poll rank at (w.pollers rank.0)) o ≡ Some poll → is_configured s poll.from.0 ≡ true
-    by_standing None is = none_some poll is
-    by_standing (Some at) is = subst (λ p. is_configured s p.from.0 ≡ true) (some_same (next_poll rank at (w.pollers rank.0)) poll is) form
+    by_standing None is = none_is_not_some poll is
+    by_standing (Some at) is = subst (λ p. is_configured s p.from.0 ≡ true) (same_Some (next_poll rank at (w.pollers rank.0)) poll is) form
 
 reply_known : (s : Settings) (event : ArbiterEvent) (w : ArbiterWorld) (reply : Reply) → Known s w → reply_sent event w ≡ Some reply → is_configured s reply.to.0 ≡ true
 unfolding reply_sent
-reply_known s (beside.One one) w reply known e = none_some reply e
-reply_known s (beside.PassWith advance one) w reply known e = none_some reply e
-reply_known s (beside.ArbiterBoot base) w reply known e = none_some reply e
-reply_known s beside.ArbiterCrash w reply known e = none_some reply e
-reply_known s (beside.Poll rank) w reply known e = none_some reply e
-reply_known s (beside.Reply number) w reply known e = none_some reply e
+reply_known s (beside.One one) w reply known e = none_is_not_some reply e
+reply_known s (beside.PassWith advance one) w reply known e = none_is_not_some reply e
+reply_known s (beside.ArbiterBoot base) w reply known e = none_is_not_some reply e
+reply_known s beside.ArbiterCrash w reply known e = none_is_not_some reply e
+reply_known s (beside.Poll rank) w reply known e = none_is_not_some reply e
+reply_known s (beside.Reply number) w reply known e = none_is_not_some reply e
 reply_known s (beside.Hear number) w reply known e = by_arbiter w.arbiter (poll_at number w) refl e
   where
     by_arbiter : (a : Option Arbiter) (p : Option Poll) → poll_at number w ≡ p → option_map_or (λ arbiter. option_map (reply_to arbiter) p) a None ≡ Some reply
         → is_configured s reply.to.0 ≡ true
-    by_arbiter None p there is = none_some reply is
-    by_arbiter (Some arbiter) None there is = none_some reply is
-    by_arbiter (Some arbiter) (Some poll) there is = subst (λ r. is_configured s r.to.0 ≡ true) (some_same (reply_to arbiter poll) reply is) (known.polls number poll there)
+    by_arbiter None p there is = none_is_not_some reply is
+    by_arbiter (Some arbiter) None there is = none_is_not_some reply is
+    by_arbiter (Some arbiter) (Some poll) there is = subst (λ r. is_configured s r.to.0 ≡ true) (same_Some (reply_to arbiter poll) reply is) (known.polls number poll there)
 
 -- the run of the nodes alone
 pub record Plays (s : Settings) (t : Timing) (times : Lease) (events : List ArbiterEvent) : Type 0 where
@@ -195,7 +199,7 @@ unfolding AllAllowed plays run_beside run
 first_plays s t times = record {
   allowed = tt;
   same = refl;
-  known = record { polls = λ number poll e. none_some poll e; replies = λ number reply e. none_some reply e };
+  known = record { polls = λ number poll e. none_is_not_some poll e; replies = λ number reply e. none_is_not_some reply e };
 }
 
 known_step : (s : Settings) (t : Timing) (times : Lease) (event : ArbiterEvent) (earlier : List ArbiterEvent) → is_well_formed_beside s event ≡ true

@@ -1,14 +1,13 @@
 -- A schedule in which the vote goes from one half to the other, both of which run: the premises of the law are met.
-use Rattle.std.proofs.Common.{◌<◌, ◌+◌, ◌≤◌, ◌==◌, ◌⊎◌, inl, inr, slice_index, sym, ap, ◌∙◌, subst, arith, All, ◌≡◌, ℕ, true, false, List, [], ◌∷◌, Some, None, refl}
+use Rattle.std.proofs.Common.{◌≡◌, ◌≤◌, ◌==◌, ◌&&◌, ◌⊎◌, inl, inr, ℕ, Bool, true, false, List, [], ◌∷◌, ◌++◌, Some, None, refl, sym, ap, ◌∙◌, subst, arith}
+use Rattle.std.specs.Prelude.{is_none}
 use Rattle.std.proofs.lemmas.Bool.{cases_eq, false≢true}
-use Rattle.std.proofs.lemmas.List.Elements.{All-nil, All-cons}
 use Rattle.std.proofs.lemmas.Nat.Bits.{bit_at-pow_other}
 use Rattle.qn_base.specs.Members.{is_member}
-use Rattle.qn_model.specs.declared.nodelist.NodeEntry.{NodeEntry}
 use Rattle.qn_model.specs.Laws.{AreDisjoint}
-use Rattle.qn_model.specs.Settings.{IsValid, ids}
+use Rattle.qn_model.specs.Settings.{IsValid}
 use Rattle.qn_model.specs.World.{node_at}
-use Rattle.qn_model.specs.Moments.{Before, Itself, Later}
+use Rattle.qn_safety.specs.Earlier.{before_joined}
 use Rattle.qn_lease.specs.Law.{IsQuorateIn}
 use Rattle.qn_lease.specs.Premises.{VoteGoesOver}
 use Rattle.qn_lease.specs.ArbiterSteps.{AllAllowedBeside, run_beside}
@@ -16,20 +15,11 @@ use Rattle.qn_base.specs.declared.ids.Rank.{Rank}
 use Rattle.qn_base.specs.declared.ids.View.{View}
 use Rattle.qn_model.specs.declared.configuration.Settings.{Settings}
 use Rattle.qn_model.specs.declared.events.Event.TheVariants as event
-use Rattle.qn_model.specs.Log.{op_out, ask_place, ask_tick, begins_clean, claimed, slot_number, timing}
-use Rattle.qn_model.specs.NodeVotes.{view, install, votes}
-use Rattle.qn_model.specs.Votes.{answer_at, present_view, view_tick, is_released, expected_votes, device_yes}
-use Rattle.qn_model.specs.Phases.{phase}
-use Rattle.qn_model.specs.Holding.{holds, stop_due, may_stop}
-use Rattle.qn_model.specs.Hearing.{told}
-use Rattle.qn_model.specs.Licences.{out_time, slot_read_since, reset_since}
-use Rattle.qn_model.specs.Unmet.{least_from, unmet}
-use Rattle.qn_model.specs.Wanted.{mail_tick, wanted_with_delay}
-use Rattle.qn_model.specs.NodeOutputs.{moment, acts, outs_at, with_entry}
-use Rattle.qn_model.specs.Moments.{logged, handed, booted, time, node, given_out, packets}
-use Rattle.qn_model.specs.World.{taken, failed}
-use Rattle.qn_model.specs.Rules.{is_well_formed, refusal}
-use Rattle.qn_model.specs.Steps.{step}
+use Rattle.qn_model.specs.declared.times.Timing.{Timing}
+use Rattle.qn_model.specs.lemmas.Rules.{allowed_in_turn}
+use Rattle.qn_model.specs.lemmas.TwoNodes.{first_node, second_node, each_of_two, two_ids_ascend}
+use Rattle.qn_model.specs.lemmas.WorldSteps.{world_steps}
+use Rattle.qn_model.specs.NodeVotes.{view}
 use Rattle.qn_model.specs.Timing.{usual_times}
 use Rattle.qn_lease.specs.declared.events.ArbiterEvent.{ArbiterEvent}
 use Rattle.qn_lease.specs.declared.events.ArbiterEvent.TheVariants as beside
@@ -41,7 +31,7 @@ use Rattle.qn_lease.specs.ArbiterSteps.{arbiter_after, played, pollers_after, po
 abbrev pub with_device : Settings
 with_device =
     record {
-      nodes = record { id = record { 0 = 1 }; votes = 1; fence_delay = 0 } ∷ record { id = record { 0 = 2 }; votes = 1; fence_delay = 0 } ∷ [];
+      nodes = first_node ∷ second_node ∷ [];
       two_node = false;
       wait_for_all = false;
       last_man_standing = false;
@@ -63,37 +53,80 @@ right_node = record { 0 = 1 }
 abbrev pub sees : ℕ → View
 sees members = record { id = 1; members = record { 0 = members } }
 
+-- the operation that is out lands, and is answered; the newest event stands first
+abbrev pub done : Rank → List ArbiterEvent
+done rank = beside.One (event.Done rank) ∷ beside.One (event.Land rank) ∷ []
+
+abbrev comes_up : Rank → List ArbiterEvent
+comes_up rank = done rank ++ done rank ++ done rank ++ done rank ++ beside.One (event.Boot rank 0) ∷ []
+
+-- a node boots, is alone in its view, polls, and has the vote by the reply of that number
+abbrev comes_to_vote : Rank → View → ℕ → List ArbiterEvent
+comes_to_vote rank seen number =
+    beside.Reply number ∷ beside.Hear number ∷ beside.Poll rank ∷ beside.One (event.View rank seen) ∷ comes_up rank
+
+-- so many milliseconds pass, and a node reads its mailbox and is fed
+abbrev reads_on : Rank → ℕ → List ArbiterEvent
+reads_on rank dt =
+    beside.One (event.Feed rank) ∷ done rank ++ beside.One (event.Tick rank) ∷ beside.One (event.Pass dt []) ∷ []
+
 -- a lease after the arbiter's boot the first node, alone in its view, polls and has the vote
 abbrev pub left_has_it : List ArbiterEvent
-left_has_it = beside.Reply 0 ∷ beside.Hear 0 ∷ beside.Poll left_node ∷ beside.One (event.View left_node (sees 1)) ∷ beside.One (event.Done left_node) ∷ beside.One (event.Land left_node) ∷ beside.One (event.Done left_node) ∷ beside.One (event.Land left_node) ∷ beside.One (event.Done left_node) ∷ beside.One (event.Land left_node) ∷ beside.One (event.Done left_node) ∷ beside.One (event.Land left_node) ∷ beside.One (event.Boot left_node 0) ∷ beside.One (event.Pass 12244 []) ∷ beside.ArbiterBoot 0 ∷ []
+left_has_it = comes_to_vote left_node (sees 1) 0 ++ beside.One (event.Pass 12244 []) ∷ beside.ArbiterBoot 0 ∷ []
 
 -- it lives on, and its yes ends; more than a lease behind that yes the second node, alone in its
 -- view, boots, polls and has the vote
+abbrev goes_over_after : List ArbiterEvent
+goes_over_after =
+    comes_to_vote right_node (sees 2) 1 ++ reads_on left_node 4000 ++ reads_on left_node 4000 ++ reads_on left_node 4000
+    ++ beside.One (event.Feed left_node) ∷ done left_node ++ done left_node ++ beside.One (event.Pass 4000 [])
+    ∷ beside.One (event.Feed left_node) ∷ done left_node
+
 abbrev goes_over : List ArbiterEvent
-goes_over = beside.Reply 1 ∷ beside.Hear 1 ∷ beside.Poll right_node ∷ beside.One (event.View right_node (sees 2)) ∷ beside.One (event.Done right_node) ∷ beside.One (event.Land right_node) ∷ beside.One (event.Done right_node) ∷ beside.One (event.Land right_node) ∷ beside.One (event.Done right_node) ∷ beside.One (event.Land right_node) ∷ beside.One (event.Done right_node) ∷ beside.One (event.Land right_node) ∷ beside.One (event.Boot right_node 0) ∷ beside.One (event.Feed left_node) ∷ beside.One (event.Done left_node) ∷ beside.One (event.Land left_node) ∷ beside.One (event.Tick left_node) ∷ beside.One (event.Pass 4000 []) ∷ beside.One (event.Feed left_node) ∷ beside.One (event.Done left_node) ∷ beside.One (event.Land left_node) ∷ beside.One (event.Tick left_node) ∷ beside.One (event.Pass 4000 []) ∷ beside.One (event.Feed left_node) ∷ beside.One (event.Done left_node) ∷ beside.One (event.Land left_node) ∷ beside.One (event.Tick left_node) ∷ beside.One (event.Pass 4000 []) ∷ beside.One (event.Feed left_node) ∷ beside.One (event.Done left_node) ∷ beside.One (event.Land left_node) ∷ beside.One (event.Done left_node) ∷ beside.One (event.Land left_node) ∷ beside.One (event.Pass 4000 []) ∷ beside.One (event.Feed left_node) ∷ beside.One (event.Done left_node) ∷ beside.One (event.Land left_node) ∷ left_has_it
+goes_over = goes_over_after ++ left_has_it
+
+-- what the schedule computes with
+unfoldable pub lease_steps : Bool
+unfolding world_steps arbiter_after played pollers_after poll_sent reply_sent step_beside run_beside is_well_formed_beside refusal_beside
+lease_steps = true
 
 left_is_quorate : IsQuorateIn with_device 0 (sees 1) (run_beside with_device usual_times least_lease left_has_it)
-unfolding op_out ask_place ask_tick claimed timing begins_clean slot_number view install votes answer_at present_view view_tick is_released expected_votes device_yes phase holds stop_due may_stop told out_time slot_read_since reset_since least_from unmet mail_tick wanted_with_delay moment acts outs_at with_entry logged handed booted time node given_out packets taken failed is_well_formed refusal step arbiter_after played pollers_after poll_sent reply_sent step_beside run_beside is_well_formed_beside refusal_beside AllAllowedBeside
+unfolding lease_steps
 left_is_quorate = record { on = refl; sees = refl; quorate = refl }
 
 right_is_quorate : IsQuorateIn with_device 1 (sees 2) (run_beside with_device usual_times least_lease goes_over)
-unfolding op_out ask_place ask_tick claimed timing begins_clean slot_number view install votes answer_at present_view view_tick is_released expected_votes device_yes phase holds stop_due may_stop told out_time slot_read_since reset_since least_from unmet mail_tick wanted_with_delay moment acts outs_at with_entry logged handed booted time node given_out packets taken failed is_well_formed refusal step arbiter_after played pollers_after poll_sent reply_sent step_beside run_beside is_well_formed_beside refusal_beside AllAllowedBeside
+unfolding lease_steps
 right_is_quorate = record { on = refl; sees = refl; quorate = refl }
 
 left_runs : (node_at with_device 0 (run_beside with_device usual_times least_lease goes_over).world).on ≡ true
-unfolding op_out ask_place ask_tick claimed timing begins_clean slot_number view install votes answer_at present_view view_tick is_released expected_votes device_yes phase holds stop_due may_stop told out_time slot_read_since reset_since least_from unmet mail_tick wanted_with_delay moment acts outs_at with_entry logged handed booted time node given_out packets taken failed is_well_formed refusal step arbiter_after played pollers_after poll_sent reply_sent step_beside run_beside is_well_formed_beside refusal_beside AllAllowedBeside
+unfolding lease_steps
 left_runs = refl
 
-left_sees : view (node_at with_device 0 (run_beside with_device usual_times least_lease goes_over).world).log ≡ Some (sees 1)
-unfolding op_out ask_place ask_tick claimed timing begins_clean slot_number view install votes answer_at present_view view_tick is_released expected_votes device_yes phase holds stop_due may_stop told out_time slot_read_since reset_since least_from unmet mail_tick wanted_with_delay moment acts outs_at with_entry logged handed booted time node given_out packets taken failed is_well_formed refusal step arbiter_after played pollers_after poll_sent reply_sent step_beside run_beside is_well_formed_beside refusal_beside AllAllowedBeside
+left_sees : view (node_at with_device 0 (run_beside with_device usual_times least_lease goes_over).world).log
+    ≡ Some (sees 1)
+unfolding lease_steps
 left_sees = refl
 
-goes_over_allowed : AllAllowedBeside with_device usual_times least_lease goes_over
-unfolding op_out ask_place ask_tick claimed timing begins_clean slot_number view install votes answer_at present_view view_tick is_released expected_votes device_yes phase holds stop_due may_stop told out_time slot_read_since reset_since least_from unmet mail_tick wanted_with_delay moment acts outs_at with_entry logged handed booted time node given_out packets taken failed is_well_formed refusal step arbiter_after played pollers_after poll_sent reply_sent step_beside run_beside is_well_formed_beside refusal_beside AllAllowedBeside
-goes_over_allowed = (refl, refl, (refl, refl, (refl, refl, (refl, refl, (refl, refl, (refl, refl, (refl, refl, (refl, refl, (refl, refl, (refl, refl, (refl, refl, (refl, refl, (refl, refl, (refl, refl, (refl, refl, (refl, refl, (refl, refl, (refl, refl, (refl, refl, (refl, refl, (refl, refl, (refl, refl, (refl, refl, (refl, refl, (refl, refl, (refl, refl, (refl, refl, (refl, refl, (refl, refl, (refl, refl, (refl, refl, (refl, refl, (refl, refl, (refl, refl, (refl, refl, (refl, refl, (refl, refl, (refl, refl, (refl, refl, (refl, refl, (refl, refl, (refl, refl, (refl, refl, (refl, refl, (refl, refl, (refl, refl, (refl, refl, (refl, refl, (refl, refl, (refl, refl, (refl, refl, (refl, refl, tt))))))))))))))))))))))))))))))))))))))))))))))))))))
+-- the test of allowed events
+unfoldable pub all_allowed : Settings → Timing → Lease → List ArbiterEvent → Bool
+all_allowed s t times [] = true
+all_allowed s t times (event ∷ earlier) =
+    is_well_formed_beside s event && is_none (refusal_beside s t event (run_beside s t times earlier))
+    && all_allowed s t times earlier
 
-goes_over_later : Before left_has_it goes_over
-goes_over_later = Later (beside.Reply 1) (Later (beside.Hear 1) (Later (beside.Poll right_node) (Later (beside.One (event.View right_node (sees 2))) (Later (beside.One (event.Done right_node)) (Later (beside.One (event.Land right_node)) (Later (beside.One (event.Done right_node)) (Later (beside.One (event.Land right_node)) (Later (beside.One (event.Done right_node)) (Later (beside.One (event.Land right_node)) (Later (beside.One (event.Done right_node)) (Later (beside.One (event.Land right_node)) (Later (beside.One (event.Boot right_node 0)) (Later (beside.One (event.Feed left_node)) (Later (beside.One (event.Done left_node)) (Later (beside.One (event.Land left_node)) (Later (beside.One (event.Tick left_node)) (Later (beside.One (event.Pass 4000 [])) (Later (beside.One (event.Feed left_node)) (Later (beside.One (event.Done left_node)) (Later (beside.One (event.Land left_node)) (Later (beside.One (event.Tick left_node)) (Later (beside.One (event.Pass 4000 [])) (Later (beside.One (event.Feed left_node)) (Later (beside.One (event.Done left_node)) (Later (beside.One (event.Land left_node)) (Later (beside.One (event.Tick left_node)) (Later (beside.One (event.Pass 4000 [])) (Later (beside.One (event.Feed left_node)) (Later (beside.One (event.Done left_node)) (Later (beside.One (event.Land left_node)) (Later (beside.One (event.Done left_node)) (Later (beside.One (event.Land left_node)) (Later (beside.One (event.Pass 4000 [])) (Later (beside.One (event.Feed left_node)) (Later (beside.One (event.Done left_node)) (Later (beside.One (event.Land left_node)) (Itself)))))))))))))))))))))))))))))))))))))
+pub all_are_allowed : (s : Settings) (t : Timing) (times : Lease) (events : List ArbiterEvent)
+    → all_allowed s t times events ≡ true
+    → AllAllowedBeside s t times events
+unfolding all_allowed AllAllowedBeside
+all_are_allowed s t times [] passed = tt
+all_are_allowed s t times (event ∷ earlier) passed =
+    let refused = refusal_beside s t event (run_beside s t times earlier) in
+    let parts = allowed_in_turn (is_well_formed_beside s event) refused (all_allowed s t times earlier) passed in
+    (parts.0, parts.1, all_are_allowed s t times earlier parts.2)
+
+goes_over_passes : all_allowed with_device usual_times least_lease goes_over ≡ true
+unfolding lease_steps all_allowed
+goes_over_passes = refl
 
 not_same : ¬ (◌≡◌ {A = ℕ} 0 1)
 not_same e = absurd (omega arith)
@@ -106,38 +139,26 @@ views_apart rank in_left in_right = by_rank (cases_eq rank 0)
     by_rank (inl same) = false≢true (subst (λ r. is_member (record { 0 = 2 }) r ≡ true) same in_right)
     by_rank (inr other) = false≢true (sym (ap (λ n. n == 1) (bit_at-pow_other 0 rank other)) ∙ in_left)
 
-each_node : (P : NodeEntry → Type 0) → P (record { id = record { 0 = 1 }; votes = 1; fence_delay = 0 }) → P (record { id = record { 0 = 2 }; votes = 1; fence_delay = 0 }) → All P with_device.nodes
-each_node P one two = All-cons P one_vote (two_votes ∷ []) one (All-cons P two_votes [] two (All-nil P))
-  where
-    one_vote : NodeEntry
-    one_vote = record { id = record { 0 = 1 }; votes = 1; fence_delay = 0 }
-
-    two_votes : NodeEntry
-    two_votes = record { id = record { 0 = 2 }; votes = 1; fence_delay = 0 }
-
 pub with_device_valid : IsValid with_device
 with_device_valid = record {
   some_node = omega arith;
   few_nodes = omega arith;
-  ids_from_one = each_node (λ n. 1 ≤ n.id.0) (omega arith) (omega arith);
-  ids_fit = each_node (λ n. n.id.0 ≤ 4294967295) (omega arith) (omega arith);
-  ids_ascend = ids_ascend;
-  votes_fit = each_node (λ n. n.votes ≤ 65535) (omega arith) (omega arith);
+  ids_from_one = each_of_two (λ n. 1 ≤ n.id.0) (omega arith) (omega arith);
+  ids_fit = each_of_two (λ n. n.id.0 ≤ 4294967295) (omega arith) (omega arith);
+  ids_ascend = two_ids_ascend;
+  votes_fit = each_of_two (λ n. n.votes ≤ 65535) (omega arith) (omega arith);
   some_vote = omega arith;
   some_expected = omega arith;
   window = (omega arith, omega arith);
   timeout = (omega arith, omega arith);
   two_nodes = λ e. refl;
-  two_votes = λ e. each_node (λ n. n.votes ≡ 1) refl refl;
+  two_votes = λ e. each_of_two (λ n. n.votes ≡ 1) refl refl;
   two_alone = λ e. absurd (false≢true e);
   last_man_votes = λ e. absurd (false≢true e);
-  delays_fit = each_node (λ n. n.fence_delay ≤ 3600000) (omega arith) (omega arith);
+  delays_fit = each_of_two (λ n. n.fence_delay ≤ 3600000) (omega arith) (omega arith);
   tie_order = tt;
   tie_alone = λ e. absurd (false≢true e);
 }
-  where
-    ids_ascend : (k : ℕ) → k + 1 < 2 → slice_index (ids with_device.nodes) k < slice_index (ids with_device.nodes) (k + 1)
-    ids_ascend k below = let same : k ≡ 0 = omega arith in subst (λ n. slice_index (ids with_device.nodes) n < slice_index (ids with_device.nodes) (n + 1)) (sym same) (omega arith)
 
 pub vote_goes_over : VoteGoesOver
 vote_goes_over = record {
@@ -159,8 +180,8 @@ vote_goes_over = record {
     safe = refl;
   };
   safe = refl;
-  allowed = goes_over_allowed;
-  order = goes_over_later;
+  allowed = all_are_allowed with_device usual_times least_lease goes_over goes_over_passes;
+  order = before_joined goes_over_after left_has_it;
   differ = not_same;
   apart = views_apart;
   first_quorate = left_is_quorate;

@@ -22,12 +22,15 @@ use Rattle.qn_lease.specs.ArbiterWorld.{Arbiter, ArbiterWorld, arbiter_tick, pol
 use Rattle.qn_lease.specs.ArbiterRules.{is_arbiter_on, pass_of, refusal_beside}
 use Rattle.qn_lease.specs.ArbiterSteps.{advanced_arbiter, arbiter_after, booted_arbiter, hearing, played, run_beside, world_after}
 use Rattle.qn_lease.proofs.Below.{Below}
-use Rattle.qn_lease.proofs.Tools.{some_same, none_some, and_right_of, before_length, before_then, newest_state}
+use Rattle.qn_lease.proofs.Tools.{before_length, before_then, newest_state}
 use Rattle.qn_lease.proofs.Memories.{WasHeard, NoPoll, OnePoll, newest_tick}
 use Rattle.qn_lease.proofs.Playing.{IsRun, NoEvent, OneEvent, Hears, arbiter_now, hear_there, moments_at, moments_grow, newest_allowed, world_now}
 use Rattle.qn_lease.proofs.Sendings.{pass_is}
 use Rattle.qn_lease.proofs.Standings.{SentFrom, was_sent}
 use Rattle.std.specs.Prelude.{slice_get}
+use Rattle.std.proofs.lemmas.Option.{same_Some}
+use Rattle.qn_base.specs.lemmas.Options.{none_is_not_some}
+use Rattle.qn_base.specs.lemmas.Bools.{second_of_both}
 
 -- what an event is to the arbiter that runs behind it
 pub data ArbiterMove (s : Settings) (t : Timing) (times : Lease) (event : ArbiterEvent) (w : ArbiterWorld) (after : Arbiter) : Type 0 where
@@ -83,8 +86,8 @@ pass_time s t (event.Deliver rank number) w = by_sent (slice_get (packets s w.mo
 
 advances : (s : Settings) (t : Timing) (times : Lease) (event : ArbiterEvent) (w : ArbiterWorld) (advance : ℕ) (o : Option Arbiter) (after : Arbiter) → w.arbiter ≡ o
     → option_map (advanced_arbiter advance) o ≡ Some after → advance + 101 * time w.world.moments ≤ 101 * time (world_after s t event w).moments → ArbiterMove s t times event w after
-advances s t times event w advance None after was is bound = none_some after is
-advances s t times event w advance (Some before) after was is bound = Advances before advance was (sym (some_same (advanced_arbiter advance before) after is)) bound
+advances s t times event w advance None after was is bound = none_is_not_some after is
+advances s t times event w advance (Some before) after was is bound = Advances before advance was (sym (same_Some (advanced_arbiter advance before) after is)) bound
 
 stands_still : (s : Settings) (t : Timing) (times : Lease) (event : ArbiterEvent) (w : ArbiterWorld) (after : Arbiter) → w.arbiter ≡ Some after
     → time w.world.moments ≤ time (world_after s t event w).moments → ArbiterMove s t times event w after
@@ -97,7 +100,7 @@ heard_move : (s : Settings) (t : Timing) (times : Lease) (number : ℕ) (w : Arb
     → option_map_or (λ poll. option_map (hearing poll) w.arbiter) (poll_at number w) w.arbiter ≡ Some after → ArbiterMove s t times (beside.Hear number) w after
 heard_move s t times number w after it is =
     Listens number it.arbiter it.poll refl it.runs it.there
-    (sym (some_same (hearing it.poll it.arbiter) after
+    (sym (same_Some (hearing it.poll it.arbiter) after
     (sym (ap (λ o. option_map_or (λ poll. option_map (hearing poll) w.arbiter) o w.arbiter) it.there ∙ ap (λ a. option_map (hearing it.poll) a) it.runs) ∙ is)))
 
 arbiter_move : (s : Settings) (t : Timing) (times : Lease) (event : ArbiterEvent) (w : ArbiterWorld) (after : Arbiter) → refusal_beside s t event w ≡ None
@@ -109,13 +112,13 @@ arbiter_move s t times (beside.PassWith advance one) w after ok later is = passi
   where
     passing : (dt : ℕ) × ((pass_of one ≡ Some dt) × ((is_arbiter_on w && is_within_bounds dt advance) ≡ true)) → ArbiterMove s t times (beside.PassWith advance one) w after
     passing may =
-        let within = and_right_of (is_arbiter_on w) (is_within_bounds may.0 advance) may.1.1 in
-        let most = leb-true advance (101 * may.0) (and_right_of (nat_le (99 * may.0) advance) (nat_le advance (101 * may.0)) within) in
+        let within = second_of_both (is_arbiter_on w) (is_within_bounds may.0 advance) may.1.1 in
+        let most = leb-true advance (101 * may.0) (second_of_both (nat_le (99 * may.0) advance) (nat_le advance (101 * may.0)) within) in
         let passes : unwrap_or (pass_of one) 0 ≡ may.0 = ap (λ o. unwrap_or o 0) may.1.0 in
         let p = pass_time s t one w.world in
         unfold played in advances s t times (beside.PassWith advance one) w advance w.arbiter after refl is (omega arith)
-arbiter_move s t times (beside.ArbiterBoot base) w after ok later is = Starts base (sym (some_same (booted_arbiter times.lease base) after is))
-arbiter_move s t times beside.ArbiterCrash w after ok later is = none_some after is
+arbiter_move s t times (beside.ArbiterBoot base) w after ok later is = Starts base (sym (same_Some (booted_arbiter times.lease base) after is))
+arbiter_move s t times beside.ArbiterCrash w after ok later is = none_is_not_some after is
 arbiter_move s t times (beside.Poll rank) w after ok later is = stands_still s t times (beside.Poll rank) w after is later
 arbiter_move s t times (beside.Hear number) w after ok later is = heard_move s t times number w after (hear_there s t number w ok) is
 arbiter_move s t times (beside.Reply number) w after ok later is = stands_still s t times (beside.Reply number) w after is later
@@ -142,7 +145,7 @@ nothing_before x xs back = absurd (let long = before_length back in omega arith)
 pub remembers : {s : Settings} {t : Timing} {times : Lease} {events : List ArbiterEvent} → Below → IsRun s t times events → (arbiter : Arbiter)
     → (run_beside s t times events).arbiter ≡ Some arbiter → Remembers s times (moments_at s t times events) arbiter
 unfolding run_beside
-remembers law NoEvent arbiter is = none_some arbiter is
+remembers law NoEvent arbiter is = none_is_not_some arbiter is
 remembers {s = s} {t = t} {times = times} law (OneEvent {event = event} {earlier = earlier} form ok run) arbiter is =
     by_move (arbiter_step law (OneEvent form ok run) arbiter is) (λ before runs. remembers law run before runs)
   where

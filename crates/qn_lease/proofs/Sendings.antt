@@ -2,8 +2,10 @@
 use Rattle.std.proofs.Common.{◌≡◌, ℕ, Bool, true, false, List, ◌∷◌, Some, None, Option, refl, sym, ap, ◌∙◌, subst, ◌&&◌, ◌==◌, if◌then◌else◌}
 use Rattle.std.specs.Option.{option_map, option_map_or}
 use Rattle.std.proofs.lemmas.Bool.{eq-eqb, eqb-true, true≢false}
+use Rattle.std.proofs.lemmas.Option.{same_Some}
 use Rattle.qn_base.specs.declared.ids.Rank.{Rank}
 use Rattle.qn_base.specs.declared.ids.View.{View}
+use Rattle.qn_base.specs.lemmas.Options.{none_is_not_some, value_tested}
 use Rattle.qn_model.specs.declared.configuration.Settings.{Settings}
 use Rattle.qn_model.specs.declared.events.Event.{Event}
 use Rattle.qn_model.specs.declared.events.Event.TheVariants as event
@@ -21,7 +23,7 @@ use Rattle.qn_lease.specs.ArbiterWorld.{ArbiterWorld, standing_at}
 use Rattle.qn_lease.specs.ArbiterRules.{is_arbiter_on, may_pass_with, pass_of, refusal_beside}
 use Rattle.qn_lease.specs.ArbiterSteps.{device_event, played, poll_sent, pollers_after, pollers_with, reply_event, run_beside}
 use Rattle.qn_lease.proofs.Below.{Below}
-use Rattle.qn_lease.proofs.Tools.{some_same, none_some, first_allows, test_there}
+use Rattle.qn_lease.proofs.Tools.{first_allows}
 use Rattle.qn_lease.proofs.Playing.{IsRun, NodeMove, NoMove, Moves, moments_at, newest_allowed, node_move, poll_there, pollers_now, reply_there}
 use Rattle.qn_model.specs.Rules.{is_within_bounds, refusal}
 
@@ -70,22 +72,22 @@ device_keeps times rank to None poller = Keeps refl (λ v q. cc) refl
 
 pass_keeps : (times : Lease) (rank : ℕ) (one : Event) (dt : ℕ) (poller : Poller) → pass_of one ≡ Some dt → PollerMove times rank one poller poller
 pass_keeps times rank (event.Pass time clocks) dt poller e = Keeps refl (λ v q. cc) refl
-pass_keeps times rank (event.Boot other base) dt poller e = none_some dt e
-pass_keeps times rank (event.BootClean other base) dt poller e = none_some dt e
-pass_keeps times rank (event.View other seen) dt poller e = none_some dt e
-pass_keeps times rank (event.Crash other) dt poller e = none_some dt e
-pass_keeps times rank (event.Land other) dt poller e = none_some dt e
-pass_keeps times rank (event.Done other) dt poller e = none_some dt e
-pass_keeps times rank (event.Fail other) dt poller e = none_some dt e
-pass_keeps times rank (event.Late other number) dt poller e = none_some dt e
-pass_keeps times rank (event.Deliver other number) dt poller e = none_some dt e
-pass_keeps times rank (event.Device other agrees) dt poller e = none_some dt e
-pass_keeps times rank (event.Tick other) dt poller e = none_some dt e
-pass_keeps times rank (event.Stopped other) dt poller e = none_some dt e
-pass_keeps times rank (event.Unstopped other) dt poller e = none_some dt e
-pass_keeps times rank (event.Leave other) dt poller e = none_some dt e
-pass_keeps times rank (event.Feed other) dt poller e = none_some dt e
-pass_keeps times rank (event.Operator other message) dt poller e = none_some dt e
+pass_keeps times rank (event.Boot other base) dt poller e = none_is_not_some dt e
+pass_keeps times rank (event.BootClean other base) dt poller e = none_is_not_some dt e
+pass_keeps times rank (event.View other seen) dt poller e = none_is_not_some dt e
+pass_keeps times rank (event.Crash other) dt poller e = none_is_not_some dt e
+pass_keeps times rank (event.Land other) dt poller e = none_is_not_some dt e
+pass_keeps times rank (event.Done other) dt poller e = none_is_not_some dt e
+pass_keeps times rank (event.Fail other) dt poller e = none_is_not_some dt e
+pass_keeps times rank (event.Late other number) dt poller e = none_is_not_some dt e
+pass_keeps times rank (event.Deliver other number) dt poller e = none_is_not_some dt e
+pass_keeps times rank (event.Device other agrees) dt poller e = none_is_not_some dt e
+pass_keeps times rank (event.Tick other) dt poller e = none_is_not_some dt e
+pass_keeps times rank (event.Stopped other) dt poller e = none_is_not_some dt e
+pass_keeps times rank (event.Unstopped other) dt poller e = none_is_not_some dt e
+pass_keeps times rank (event.Leave other) dt poller e = none_is_not_some dt e
+pass_keeps times rank (event.Feed other) dt poller e = none_is_not_some dt e
+pass_keeps times rank (event.Operator other message) dt poller e = none_is_not_some dt e
 
 -- a pass that is allowed with a clock of the arbiter's
 pub pass_is : (s : Settings) (t : Timing) (advance : ℕ) (one : Event) (w : ArbiterWorld) → refusal_beside s t (beside.PassWith advance one) w ≡ None
@@ -93,7 +95,7 @@ pub pass_is : (s : Settings) (t : Timing) (advance : ℕ) (one : Event) (w : Arb
 unfolding refusal_beside
 pass_is s t advance one w ok =
     let may = (first_allows (may_pass_with advance one w) 15 (refusal s t one w.world) ok).0 in
-    let is = test_there (λ dt. is_arbiter_on w && is_within_bounds dt advance) (pass_of one) may in
+    let is = value_tested (λ dt. is_arbiter_on w && is_within_bounds dt advance) (pass_of one) may in
     (is.0, (is.1, is.2))
 
 -- what an event is to a rank: nothing, the sending of a poll, or an event of the nodes
@@ -112,20 +114,20 @@ module _ (s : Settings) (t : Timing) (times : Lease) (event : ArbiterEvent) (ear
 
   acting : (one : Event) (after : Poller) → played s event (run_beside s t times earlier) ≡ Some one → NodeMove s t times event earlier rank
       → PollerMove times rank one ((run_beside s t times earlier).pollers rank) after → poll_sent s event (run_beside s t times earlier) ≡ None → Step after
-  acting one after plays' (NoMove none same) moved silent = none_some one (sym none ∙ plays')
+  acting one after plays' (NoMove none same) moved silent = none_is_not_some one (sym none ∙ plays')
   acting one after plays' (Moves other plays_other moves) moved silent =
-      Acts other plays_other moves (subst (λ e. PollerMove times rank e ((run_beside s t times earlier).pollers rank) after) (some_same one other (sym plays' ∙ plays_other)) moved) silent
+      Acts other plays_other moves (subst (λ e. PollerMove times rank e ((run_beside s t times earlier).pollers rank) after) (same_Some one other (sym plays' ∙ plays_other)) moved) silent
 
   idle : (after : Poller) → played s event (run_beside s t times earlier) ≡ None → NodeMove s t times event earlier rank → after ≡ (run_beside s t times earlier).pollers rank
       → ((poll : Poll) → poll_sent s event (run_beside s t times earlier) ≡ Some poll → poll.from.0 ≡ rank → ⊥) → Step after
   idle after none (NoMove none' same) kept silent = Idle same kept silent
-  idle after none (Moves other plays' moves) kept silent = none_some other (sym none ∙ plays')
+  idle after none (Moves other plays' moves) kept silent = none_is_not_some other (sym none ∙ plays')
 
   sending : (own : Rank) (at : Standing) (after : Poller) → own.0 ≡ rank → played s event (run_beside s t times earlier) ≡ None → NodeMove s t times event earlier rank
       → standing_at s rank (run_beside s t times earlier) ≡ Some at → after ≡ with_sent own at ((run_beside s t times earlier).pollers rank)
       → poll_sent s event (run_beside s t times earlier) ≡ Some (next_poll own at ((run_beside s t times earlier).pollers rank)) → Step after
   sending own at after is none (NoMove none' same) stands sent gave = Sends own at is same stands sent gave
-  sending own at after is none (Moves other plays' moves) stands sent gave = none_some other (sym none ∙ plays')
+  sending own at after is none (Moves other plays' moves) stands sent gave = none_is_not_some other (sym none ∙ plays')
 
 -- the poller of a rank after a node polls
 polled : (s : Settings) (t : Timing) (times : Lease) (own : Rank) (earlier : List ArbiterEvent) (rank : ℕ) (at : Standing) (b : Bool)
@@ -142,7 +144,7 @@ polled s t times own earlier rank at true stands is moved =
     (ap (λ o. option_map (λ x. next_poll own x ((run_beside s t times earlier).pollers own.0)) o) stands ∙ ap (λ k. Some (next_poll own at ((run_beside s t times earlier).pollers k))) same)
 polled s t times own earlier rank at false stands is moved =
     idle s t times (beside.Poll own) earlier rank ((run_beside s t times earlier).pollers rank) refl moved refl
-    (λ poll e from. true≢false (sym (eq-eqb own.0 rank (ap (λ (p : Poll). p.from.0) (some_same _ _ (sym (ap (λ o. option_map (λ x. next_poll own x ((run_beside s t times earlier).pollers own.0)) o) stands) ∙ e)) ∙ from)) ∙ is))
+    (λ poll e from. true≢false (sym (eq-eqb own.0 rank (ap (λ (p : Poll). p.from.0) (same_Some _ _ (sym (ap (λ o. option_map (λ x. next_poll own x ((run_beside s t times earlier).pollers own.0)) o) stands) ∙ e)) ∙ from)) ∙ is))
 
 -- each event that is allowed is one of these to each rank
 step_of : (s : Settings) (t : Timing) (times : Lease) (event : ArbiterEvent) (earlier : List ArbiterEvent) (rank : ℕ) → refusal_beside s t event (run_beside s t times earlier) ≡ None
@@ -161,11 +163,11 @@ step_of s t times (beside.PassWith advance one) earlier rank ok moved =
         let is = pass_is s t advance one w may in
         pass_keeps times rank one is.0 (w.pollers rank) is.1.0
 step_of s t times (beside.ArbiterBoot base) earlier rank ok moved =
-    idle s t times (beside.ArbiterBoot base) earlier rank _ refl moved refl (λ poll e from. none_some poll e)
+    idle s t times (beside.ArbiterBoot base) earlier rank _ refl moved refl (λ poll e from. none_is_not_some poll e)
 step_of s t times beside.ArbiterCrash earlier rank ok moved =
-    idle s t times beside.ArbiterCrash earlier rank _ refl moved refl (λ poll e from. none_some poll e)
+    idle s t times beside.ArbiterCrash earlier rank _ refl moved refl (λ poll e from. none_is_not_some poll e)
 step_of s t times (beside.Hear number) earlier rank ok moved =
-    idle s t times (beside.Hear number) earlier rank _ refl moved refl (λ poll e from. none_some poll e)
+    idle s t times (beside.Hear number) earlier rank _ refl moved refl (λ poll e from. none_is_not_some poll e)
 step_of s t times (beside.Reply number) earlier rank ok moved =
     let it = reply_there s t number (run_beside s t times earlier) ok in
     acting s t times (beside.Reply number) earlier rank (reply_event s (run_beside s t times earlier) it.0) _

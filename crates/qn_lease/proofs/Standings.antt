@@ -2,21 +2,22 @@
 use Rattle.std.proofs.Common.{◌≡◌, ℕ, suc, ◌<◌, ◌≤◌, Bool, true, false, List, ◌∷◌, Some, None, Option, refl, sym, ap, ◌∙◌, subst, arith, ◌&&◌, ◌⊎◌, inl, inr, if◌then◌else◌, unwrap_or}
 use Rattle.std.specs.Prelude.{slice_get, is_some}
 use Rattle.std.specs.Option.{option_map, option_or}
-use Rattle.std.proofs.lemmas.Bool.{false≢true}
+use Rattle.std.proofs.lemmas.Option.{same_Some}
 use Rattle.qn_base.specs.declared.ids.Rank.{Rank}
 use Rattle.qn_base.specs.declared.ids.View.{View}
+use Rattle.qn_base.specs.lemmas.Options.{none_is_not_some}
+use Rattle.qn_base.specs.lemmas.Bools.{never_both, first_of_both, second_of_both}
 use Rattle.qn_model.specs.declared.configuration.Settings.{Settings}
 use Rattle.qn_model.specs.declared.entries.What.{What}
 use Rattle.qn_model.specs.declared.entries.What.TheVariants as what
 use Rattle.qn_model.specs.declared.events.Event.{Event}
 use Rattle.qn_model.specs.declared.events.Event.TheVariants as event
-use Rattle.qn_model.specs.declared.life.Phase.{Phase}
-use Rattle.qn_model.specs.declared.life.Phase.TheVariants.{Booting, Up, Leaving, Dying, Gone}
 use Rattle.qn_model.specs.declared.times.Timing.{Timing}
+use Rattle.qn_model.specs.lemmas.Phases.{up_booted}
 use Rattle.qn_model.specs.Log.{Line, incarnation, view_of}
 use Rattle.qn_model.specs.Moments.{Before, Itself, Later, Moment, Running, node, tick_of}
 use Rattle.qn_model.specs.NodeVotes.{install, view}
-use Rattle.qn_model.specs.Phases.{is_booting, is_up, phase}
+use Rattle.qn_model.specs.Phases.{is_up, phase}
 use Rattle.qn_model.specs.Steps.{run}
 use Rattle.qn_safety.specs.LogMoves.{ComesOf, LogMove, Rests, Enters, Begins, is_boot_of}
 use Rattle.qn_safety.specs.Timed.{IsSameBoot, IsUp}
@@ -27,7 +28,7 @@ use Rattle.qn_lease.specs.Poller.{Poller, SentPoll, Standing, next_poll, with_se
 use Rattle.qn_lease.specs.ArbiterWorld.{poll_at, standing_at, standing_in, standing_of}
 use Rattle.qn_lease.specs.ArbiterSteps.{plays, poll_sent, run_beside}
 use Rattle.qn_lease.proofs.Below.{Below}
-use Rattle.qn_lease.proofs.Tools.{some_same, none_some, clash, and_left_of, and_right_of, before_then, added_item}
+use Rattle.qn_lease.proofs.Tools.{before_then, added_item}
 use Rattle.qn_lease.proofs.Playing.{IsRun, NoEvent, OneEvent, moments_at, moments_grow, plays_of, polls_now}
 use Rattle.qn_lease.proofs.Sendings.{PollerMove, Keeps, Forgets, Fresh, RankStep, Idle, Sends, Acts, rank_step}
 
@@ -54,13 +55,6 @@ pub record LastStands (s : Settings) (rank : ℕ) (last : SentPoll) (moments : L
   pub same : IsSameBoot s rank sent moments
   pub installed : install (node s rank moments).log ≡ last.poll.install
 
-up_booted : (p : Phase) → is_up p ≡ true → is_booting p ≡ false
-up_booted Up e = refl
-up_booted Booting e = absurd (false≢true e)
-up_booted Leaving e = absurd (false≢true e)
-up_booted Dying e = absurd (false≢true e)
-up_booted Gone e = absurd (false≢true e)
-
 -- what a node shows in a poll is what it has
 record Shows (s : Settings) (n : Running) (at : Standing) : Type 0 where
   on : n.on ≡ true
@@ -72,20 +66,20 @@ shows : (s : Settings) (n : Running) (at : Standing) → standing_of s n ≡ Som
 shows s n at e = by_up (n.on && is_up (phase s n.log)) refl e
   where
     by_view : (n.on && is_up (phase s n.log)) ≡ true → (o : Option View) → view n.log ≡ o → option_map (standing_in n) o ≡ Some at → Shows s n at
-    by_view up None seen is = none_some at is
+    by_view up None seen is = none_is_not_some at is
     by_view up (Some v) seen is =
-        let same = some_same (standing_in n v) at is in
+        let same = same_Some (standing_in n v) at is in
         let own : v ≡ at.view = ap (λ (x : Standing). x.view) same in
         record {
-          on = and_left_of n.on (is_up (phase s n.log)) up;
-          up = and_right_of n.on (is_up (phase s n.log)) up;
+          on = first_of_both n.on (is_up (phase s n.log)) up;
+          up = second_of_both n.on (is_up (phase s n.log)) up;
           seen = seen ∙ ap Some own;
           shown = sym same ∙ ap (standing_in n) own;
         }
 
     by_up : (b : Bool) → (n.on && is_up (phase s n.log)) ≡ b → (if b then option_map (standing_in n) (view n.log) else None) ≡ Some at → Shows s n at
     by_up true up is = by_view up (view n.log) refl is
-    by_up false up is = none_some at is
+    by_up false up is = none_is_not_some at is
 
 -- the poll that a rank sends tells what it has
 sends_from : {s : Settings} {t : Timing} {times : Lease} {earlier : List ArbiterEvent} → Below → IsRun s t times earlier → (rank : ℕ) (own : Rank) (at : Standing) (poller : Poller)
@@ -124,9 +118,9 @@ numbered_move s times rank poll sent old new before after one back rose moved po
     kept same (Forgets e none) boots = record {
       back = before_then was.back back;
       below = λ own. subst (λ (p : Poller). poll.number < p.count) (sym e) (was.below (own ∙ sym same));
-      ticks = λ own last is number. none_some last (sym (ap (λ (p : Poller). p.last) e) ∙ is);
+      ticks = λ own last is number. none_is_not_some last (sym (ap (λ (p : Poller). p.last) e) ∙ is);
     }
-    kept same (Fresh e boot) boots = clash (is_boot_of rank one) boot boots
+    kept same (Fresh e boot) boots = never_both (is_boot_of rank one) boot boots
 
     by_moves : LogMove s rank one old new → PollerMove times rank one before after → Numbered s rank poll sent new after
     by_moves (Rests none same log) poller' = kept same poller' none
@@ -160,7 +154,7 @@ numbered_step {s = s} {t = t} {times = times} {event = event} {earlier = earlier
         (record {
           back = was.back;
           below = λ boot. let p = was.below boot in omega arith;
-          ticks = λ boot last e number. absurd (let p = was.below boot in let q : before.count ≡ last.poll.number = ap (λ (x : SentPoll). x.poll.number) (some_same _ last e) in omega arith);
+          ticks = λ boot last e number. absurd (let p = was.below boot in let q : before.count ≡ last.poll.number = ap (λ (x : SentPoll). x.poll.number) (same_Some _ last e) in omega arith);
         }))
     by_step (Acts one plays' moved poller silent) =
         numbered_move s times rank poll sent old new before after one (moments_grow law run (Later event Itself)) (law.count s rank sent old was.back) moved poller was
@@ -197,7 +191,7 @@ same_view line past none = ap (λ o. option_or o (view past)) none
 pub last_stands : {s : Settings} {t : Timing} {times : Lease} {events : List ArbiterEvent} → Below → IsRun s t times events → (rank : ℕ) (last : SentPoll)
     → ((run_beside s t times events).pollers rank).last ≡ Some last → LastStands s rank last (moments_at s t times events)
 unfolding run_beside
-last_stands law NoEvent rank last is = none_some last is
+last_stands law NoEvent rank last is = none_is_not_some last is
 last_stands {s = s} {t = t} {times = times} law (OneEvent {event = event} {earlier = earlier} form ok run) rank last is =
     by_step (rank_step law (OneEvent form ok run) rank) (λ was. last_stands law run rank last was)
   where
@@ -226,17 +220,17 @@ last_stands {s = s} {t = t} {times = times} law (OneEvent {event = event} {earli
     }
 
     by_poller : (one : Event) → LogMove s rank one old new → PollerMove times rank one before after → (before.last ≡ Some last → LastStands s rank last old) → LastStands s rank last new
-    by_poller one moved (Forgets e none) rest = none_some last (sym (ap (λ (p : Poller). p.last) e) ∙ is)
-    by_poller one moved (Fresh e boot) rest = none_some last (sym (ap (λ (p : Poller). p.last) e) ∙ is)
+    by_poller one moved (Forgets e none) rest = none_is_not_some last (sym (ap (λ (p : Poller). p.last) e) ∙ is)
+    by_poller one moved (Fresh e boot) rest = none_is_not_some last (sym (ap (λ (p : Poller). p.last) e) ∙ is)
     by_poller one (Rests none same log) (Keeps e unseen boots) rest = moved_on (rest (sym (ap (λ (p : Poller). p.last) e) ∙ is)) same (ap install log)
     by_poller one (Enters line none same log comes tick) (Keeps e unseen boots) rest =
         moved_on (rest (sym (ap (λ (p : Poller). p.last) e) ∙ is)) same (ap install log ∙ same_install line (node s rank old).log (unseen_entry one rank line.what comes unseen))
-    by_poller one (Begins line boot count log begins) (Keeps e unseen boots) rest = clash (is_boot_of rank one) boot boots
+    by_poller one (Begins line boot count log begins) (Keeps e unseen boots) rest = never_both (is_boot_of rank one) boot boots
 
     by_step : RankStep s times event (run_beside s t times earlier) rank old new before after → (before.last ≡ Some last → LastStands s rank last old) → LastStands s rank last new
     by_step (Idle same kept silent) rest = subst (λ ms. LastStands s rank last ms) (sym same) (rest (sym (ap (λ (p : Poller). p.last) kept) ∙ is))
     by_step (Sends own at own_rank same stands kept gave) rest =
-        let new_last = some_same (record { tick = at.tick; poll = next_poll own at before }) last (sym (ap (λ (p : Poller). p.last) kept) ∙ is) in
+        let new_last = same_Some (record { tick = at.tick; poll = next_poll own at before }) last (sym (ap (λ (p : Poller). p.last) kept) ∙ is) in
         let from = sends_from law run rank own at before own_rank stands in
         subst (λ ms. LastStands s rank last ms) (sym same)
         (subst (λ x. LastStands s rank x old) new_last (record { sent = old; from = from; back = Itself; same = refl; installed = from.installed }))
@@ -251,7 +245,7 @@ pub record WasSent (s : Settings) (rank : ℕ) (poll : Poll) (moments : List Mom
 pub was_sent : {s : Settings} {t : Timing} {times : Lease} {events : List ArbiterEvent} → Below → IsRun s t times events → (number : ℕ) (poll : Poll)
     → poll_at number (run_beside s t times events) ≡ Some poll → WasSent s poll.from.0 poll (moments_at s t times events) ((run_beside s t times events).pollers poll.from.0)
 unfolding run_beside
-was_sent law NoEvent number poll is = none_some poll is
+was_sent law NoEvent number poll is = none_is_not_some poll is
 was_sent {s = s} {t = t} {times = times} law (OneEvent {event = event} {earlier = earlier} form ok run) number poll is =
     by_item (added_item (run_beside s t times earlier).polls (poll_sent s event (run_beside s t times earlier)) number poll (sym (ap (λ ps. slice_get ps number) (polls_now s t times event earlier)) ∙ is))
     (λ was. was_sent law run number poll was)
@@ -273,9 +267,9 @@ was_sent {s = s} {t = t} {times = times} law (OneEvent {event = event} {earlier 
 
     by_step : RankStep s times event (run_beside s t times earlier) rank old new before after → poll_sent s event (run_beside s t times earlier) ≡ Some poll → WasSent s rank poll new after
     by_step (Idle same kept silent) gives = absurd (silent poll gives refl)
-    by_step (Acts one plays' moved poller silent) gives = none_some poll (sym silent ∙ gives)
+    by_step (Acts one plays' moved poller silent) gives = none_is_not_some poll (sym silent ∙ gives)
     by_step (Sends own at own_rank same stands kept gave) gives =
-        let it = some_same (next_poll own at before) poll (sym gave ∙ gives) in
+        let it = same_Some (next_poll own at before) poll (sym gave ∙ gives) in
         let from = subst (λ p. SentFrom s rank p old) it (sends_from law run rank own at before own_rank stands) in
         let number_is : before.count ≡ poll.number = ap (λ (p : Poll). p.number) it in
         subst (λ p. WasSent s rank poll new p) (sym kept) (subst (λ ms. WasSent s rank poll ms (with_sent own at before)) (sym same)
@@ -285,7 +279,7 @@ was_sent {s = s} {t = t} {times = times} law (OneEvent {event = event} {earlier 
           numbered = record {
             back = Itself;
             below = λ boot. omega arith;
-            ticks = λ boot last e same_number. sym (ap (λ (x : SentPoll). x.tick) (some_same _ last e)) ∙ shown_tick s rank old at stands;
+            ticks = λ boot last e same_number. sym (ap (λ (x : SentPoll). x.tick) (same_Some _ last e)) ∙ shown_tick s rank old at stands;
           };
         }))
 

@@ -1,7 +1,8 @@
-use Rattle.std.proofs.Common.{◌≡◌, ℕ, ◌+◌, ◌-◌, ◌<◌, List, ◌∷◌, length, get_or, drop, drop-cons, add-one, zero-add, ap, if◌then◌else◌, arith, suc, ◌&&◌, Bool, true, false, sym, ◌∙◌}
+use Rattle.std.proofs.Common.{◌≡◌, ℕ, ◌+◌, ◌-◌, ◌<◌, List, ◌∷◌, length, get_or, drop, drop-cons, add-one, zero-add, ap, if◌then◌else◌, ◌&&◌, Bool, true, false, sym, ◌∙◌}
 use Rattle.std.specs.List.{list_all, range_with_len}
 use Rattle.qn_base.specs.declared.ids.Mask.{Mask}
 use Rattle.qn_base.specs.Members.{is_member, votes_from}
+use Rattle.qn_base.specs.lemmas.Ranges.{range_begins}
 use Rattle.qn_model.specs.declared.nodelist.NodeEntry.{NodeEntry}
 use Rattle.qn_model.specs.Settings.{node_votes}
 
@@ -27,18 +28,11 @@ pub votes_from-outsider : (members : Mask) (nodes : List NodeEntry) (rank : ℕ)
 votes_from-outsider members nodes rank d here outside =
     votes_from-drop members nodes rank d here ∙ (ap (λ b. (if b then (get_or nodes rank d).votes else 0) + votes_from (rank + 1) (node_votes (drop (rank + 1) nodes)) members) outside ∙ zero-add _)
 
--- the ranks from one on are it and those from the next on
-pub range_with_len-more : (rank count : ℕ) → rank < count
-    → range_with_len rank (count - rank) ≡ rank ∷ range_with_len (rank + 1) (count - (rank + 1))
-range_with_len-more rank count below =
-    let one_more : count - rank ≡ suc (count - (rank + 1)) = omega arith in
-    ap (range_with_len rank) one_more
-
 -- a test of the ranks from one on, that rank passed or refused
 list_all-range_with_len : (members : Mask) (rank count : ℕ) → rank < count
     → list_all (is_member members) (range_with_len rank (count - rank))
     ≡ (is_member members rank && list_all (is_member members) (range_with_len (rank + 1) (count - (rank + 1))))
-list_all-range_with_len members rank count below = ap (list_all (is_member members)) (range_with_len-more rank count below)
+list_all-range_with_len members rank count below = ap (list_all (is_member members)) (range_begins rank count below)
 
 pub all_in-member : (members : Mask) (rank count : ℕ) (all : Bool) → rank < count → is_member members rank ≡ true
     → list_all (is_member members) (range_with_len rank (count - rank)) ≡ all

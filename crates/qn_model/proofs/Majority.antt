@@ -1,8 +1,9 @@
-use Rattle.std.proofs.Common.{◌≡◌, ℕ, ◌+◌, ◌/◌, ◌≤◌, Bool, true, false, List, [], ◌∷◌, Some, IsTrue, if◌then◌else◌, refl, arith, is_some, ◌&&◌, add-zero}
-use Rattle.std.proofs.lemmas.Bool.{leb-true, false≢true}
+use Rattle.std.proofs.Common.{◌≡◌, ℕ, ◌+◌, ◌/◌, ◌≤◌, Bool, true, false, List, [], ◌∷◌, Some, IsTrue, if◌then◌else◌, refl, arith, is_some, add-zero}
+use Rattle.std.proofs.lemmas.Bool.{leb-true}
 use Rattle.std.proofs.lemmas.List.Sums.{sum_by-cons}
 use Rattle.qn_base.specs.declared.ids.View.{View}
 use Rattle.qn_base.specs.Members.{is_member, votes_from}
+use Rattle.qn_base.specs.lemmas.Bools.{last_of_three}
 use Rattle.qn_model.specs.declared.nodelist.NodeEntry.{NodeEntry}
 use Rattle.qn_model.specs.declared.configuration.Settings.{Settings}
 use Rattle.qn_model.specs.declared.votes.VoteEntry.{VoteEntry}
@@ -53,16 +54,11 @@ counted_votes-plain : (s : Settings) (past : List VoteEntry) (now : ℕ) (view :
     → counted_votes s past now ≡ votes_among s.nodes view.members
 counted_votes-plain s past now view plain seen = rw (seen, plain.no_last_man, plain.no_device) (add-zero _)
 
-last_of : (a b c : Bool) → IsTrue (a && b && c) → IsTrue c
-last_of true true c all = all
-last_of true false c all = absurd (false≢true all)
-last_of false b c all = absurd (false≢true all)
-
 -- a quorate view has more than half of all votes
 more_than_half : (s : Settings) (past : List VoteEntry) (now : ℕ) (view : View) → IsPlainMajority s → present_view past ≡ Some view
     → IsTrue (is_quorate s past now) → all_votes s.nodes / 2 + 1 ≤ votes_among s.nodes view.members
 more_than_half s past now view plain seen quorate =
-    let enough : quorum_of s (expected_votes s past) ≤ counted_votes s past now = leb-true _ _ (last_of (is_some (present_view past)) (is_released s past) _ quorate) in
+    let enough : quorum_of s (expected_votes s past) ≤ counted_votes s past now = leb-true _ _ (last_of_three (is_some (present_view past)) (is_released s past) _ quorate) in
     let half : quorum_of s (expected_votes s past) ≡ expected_votes s past / 2 + 1 = rw plain.no_two_node refl in
     let counted = counted_votes-plain s past now view plain seen in
     let whole = plain.whole in

@@ -1,5 +1,5 @@
 -- A reset is written only to a node that is outside the view and was not read as clean, once its fence delay is over.
-use Rattle.std.proofs.Common.{◌≡◌, ℕ, suc, zero, ◌+◌, Bool, true, false, List, [], ◌∷◌, ◌++◌, Some, None, refl, cond, ◌&&◌, ◌||◌, not, if◌then◌else◌}
+use Rattle.std.proofs.Common.{◌≡◌, ℕ, ◌+◌, Bool, true, false, List, [], ◌∷◌, ◌++◌, Some, None, refl, ◌&&◌, ◌||◌, not, if◌then◌else◌}
 use Rattle.std.specs.Prelude.{Option, All, is_some, option_and_then}
 use Rattle.std.specs.Option.{option_or, option_map, option_map_or}
 use Rattle.std.specs.List.{Contains}
@@ -19,13 +19,13 @@ use Rattle.qn_model.specs.declared.outputs.DiskOp.TheVariants as disk
 use Rattle.qn_model.specs.declared.outputs.Out.{Out}
 use Rattle.qn_model.specs.declared.outputs.Out.TheVariants as out
 use Rattle.qn_model.specs.declared.outputs.HaltKind.TheVariants as halt
+use Rattle.qn_model.specs.lemmas.LeastRanks.{least_passes}
 use Rattle.qn_model.specs.Log.{Line, begins_clean, incarnation, op_out, slot_number}
 use Rattle.qn_model.specs.Phases.{phase, boot_halt, message_of, deadly_of, is_booting, is_live, is_leaving}
 use Rattle.qn_model.specs.Holding.{holds}
 use Rattle.qn_model.specs.Votes.{view_tick}
 use Rattle.qn_model.specs.NodeVotes.{view, is_in_view, votes}
 use Rattle.qn_model.specs.Licences.{out_time, slot_read_since, is_clean, is_written}
-use Rattle.qn_model.specs.Unmet.{least_from}
 use Rattle.qn_model.specs.Wanted.{wanted_with_delay, fencing_op_with_delay, is_delay_over, to_read, to_reset, to_reset_now, boot_op, claim_after, close_op, rank_of, is_mail_due, may_fence}
 use Rattle.qn_model.specs.Fitting.{read_as}
 use Rattle.qn_model.specs.NodeOutputs.{acts, outs_at, live_outs, boot_outs, boot_step_outs, is_boot_step, is_begin, disk_outs, when, replies, asks_under, ask_to, is_asking, gives_stop, gives_start, mail_feeds, taken_in, with_read, with_entry, log_from, log_of, newest_outs, outs_of}
@@ -38,19 +38,6 @@ MayBeReset s log rank = (is_in_view log rank ≡ false) × (is_clean log rank �
 abbrev pub IsOutsider : Settings → List Line → Out → Type 0
 IsOutsider s log (out.Disk (disk.WriteReset rank)) = MayBeReset s log rank.0
 IsOutsider s log output = Unit {0}
-
--- the first of two numbers, where it passes, or else the later one
-passes_here : (test : ℕ → Bool) (from found : ℕ) (later : Option ℕ) (b : Bool) → test from ≡ b
-    → (later ≡ Some found → test found ≡ true) → cond b (Some from) later ≡ Some found → test found ≡ true
-passes_here test from found later true here rest is = let same : from ≡ found = cc in rw (← same) here
-passes_here test from found later false here rest is = rest is
-
--- the least number that passes a test passes it
-least_passes : (count from : ℕ) (test : ℕ → Bool) (found : ℕ) → least_from count from test ≡ Some found → test found ≡ true
-unfolding least_from
-least_passes zero from test found e = cc
-least_passes (suc count) from test found e =
-    passes_here test from found (least_from count (from + 1) test) (test from) refl (least_passes count (from + 1) test found) e
 
 -- a number that passes one more test is the one that there was
 passes_on : (found : Option ℕ) (test : ℕ → Bool) (rank : ℕ) → option_and_then (λ r. if test r then Some r else None) found ≡ Some rank

@@ -25,3 +25,4 @@ pub mod Unmet
 pub mod Votes
 pub mod Wanted
 pub mod World
+pub mod lemmas

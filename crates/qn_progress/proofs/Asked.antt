@@ -1,13 +1,16 @@
 -- Over the moments of a quiet world each other member is asked within a loop and a turn.
 use Rattle.std.proofs.Common.{◌≡◌, ℕ, ◌+◌, ◌≤◌, ◌<◌, Bool, true, false, List, ◌∷◌, Contains, length, Some, if◌then◌else◌, ◌==◌, refl, sym, ap, ◌∙◌, subst, arith, ◌⊎◌, inl, inr}
 use Rattle.std.specs.Option.{option_map_or}
-use Rattle.std.proofs.lemmas.Bool.{eq-eqb, eqb-true}
+use Rattle.std.proofs.lemmas.Bool.{eqb-true}
 use Rattle.qn_base.specs.declared.ids.View.{View}
 use Rattle.qn_base.specs.Members.{is_member}
+use Rattle.qn_base.specs.lemmas.Numbers.{equal_to_itself}
+use Rattle.qn_base.specs.lemmas.Elements.{IsIn, contains}
 use Rattle.qn_model.specs.declared.configuration.Settings.{Settings}
 use Rattle.qn_model.specs.declared.times.Timing.{Timing}
 use Rattle.qn_model.specs.declared.entries.What.{What}
 use Rattle.qn_model.specs.declared.life.Phase.TheVariants.{Booting}
+use Rattle.qn_model.specs.lemmas.Entries.{read_fits}
 use Rattle.qn_model.specs.Log.{Line, now, timing}
 use Rattle.qn_model.specs.Phases.{phase}
 use Rattle.qn_model.specs.Fitting.{read_as}
@@ -23,9 +26,9 @@ use Rattle.qn_progress.proofs.Entries.{view_same}
 use Rattle.qn_progress.proofs.Busy.{Quietly, line_with}
 use Rattle.qn_progress.proofs.Steps.{outs_now}
 use Rattle.qn_progress.proofs.Starts.{free_stays}
-use Rattle.qn_progress.proofs.Over.{asked_by, Stands, stands, Known, known, QuietLog, quiet_log, quiet_last, entry_quietly, since_before, now_by, read_by_clock, read_fits, not_booting}
+use Rattle.qn_progress.proofs.Over.{asked_by, Stands, stands, Known, known, QuietLog, quiet_log, quiet_last, entry_quietly, since_before, now_by, read_by_clock, not_booting}
 use Rattle.qn_progress.proofs.Below.{Below}
-use Rattle.qn_progress.proofs.Asking.{IsIn, asking_step, contained}
+use Rattle.qn_progress.proofs.Asking.{asking_step}
 
 -- The node asked another rank under a view by a tick: at an entry between the two moments the Ask is among its outputs.
 pub record HasAsked (s : Settings) (rank : ℕ) (present : View) (other limit : ℕ) (old new : List Moment) : Type 0 where
@@ -79,18 +82,12 @@ pub data Step (s : Settings) (me : ℕ) (earlier : List Moment) : Moment → Typ
       ≡ with_read s me (node s me earlier).log (tick_of (node s me earlier).clock) (read_as s me (node s me earlier).log entry) → Step s me earlier (Adds me entry)
   Restarts : {m : Moment} → phase s (node s me (m ∷ earlier)).log ≡ Booting → Step s me earlier m
 
-same_rank : (other me : ℕ) → (other == me) ≡ true → other ≡ me
-same_rank other me same = eqb-true other me same
-
-mine : (me : ℕ) → (me == me) ≡ true
-mine me = eq-eqb me me refl
-
 -- the log of a node that was handed an entry
 pub added_log : (s : Settings) (me : ℕ) (entry : What) (earlier : List Moment) → (node s me (Adds me entry ∷ earlier)).log
     ≡ with_read s me (node s me earlier).log (tick_of (node s me earlier).clock) (read_as s me (node s me earlier).log entry)
 unfolding node
 added_log s me entry earlier =
-    ap (λ b. (if b then handed s me (time earlier) entry (node s me earlier) else node s me earlier).log) (mine me)
+    ap (λ b. (if b then handed s me (time earlier) entry (node s me earlier) else node s me earlier).log) (equal_to_itself me)
     ∙ handed_is s me (time earlier) entry (node s me earlier)
 
 added : (s : Settings) (me : ℕ) (entry : What) (earlier : List Moment) → Step s me earlier (Adds me entry)
@@ -99,7 +96,7 @@ added s me entry earlier = Enters entry (added_log s me entry earlier)
 restarted : (s : Settings) (me base : ℕ) (clean : Bool) (earlier : List Moment) → Step s me earlier (Boots me base clean)
 unfolding node
 restarted s me base clean earlier =
-    Restarts (ap (λ b. phase s (if b then booted s me (time earlier) base clean (node s me earlier) else node s me earlier).log) (mine me)
+    Restarts (ap (λ b. phase s (if b then booted s me (time earlier) base clean (node s me earlier) else node s me earlier).log) (equal_to_itself me)
     ∙ booting_is s me (time earlier) base clean (node s me earlier))
 
 pub step : (s : Settings) (me : ℕ) (m : Moment) (earlier : List Moment) → Step s me earlier m
@@ -108,12 +105,12 @@ step s me (Passes dt clocks) earlier = Rests refl
 step s me (Boots other base clean) earlier = by_owner (other == me) refl
   where
     by_owner : (b : Bool) → (other == me) ≡ b → Step s me earlier (Boots other base clean)
-    by_owner true e = subst (λ rank. Step s me earlier (Boots rank base clean)) (sym (same_rank other me e)) (restarted s me base clean earlier)
+    by_owner true e = subst (λ rank. Step s me earlier (Boots rank base clean)) (sym (eqb-true other me e)) (restarted s me base clean earlier)
     by_owner false e = Rests (ap (λ b. (if b then booted s me (time earlier) base clean (node s me earlier) else node s me earlier).log) e)
 step s me (Adds other entry) earlier = by_owner (other == me) refl
   where
     by_owner : (b : Bool) → (other == me) ≡ b → Step s me earlier (Adds other entry)
-    by_owner true e = subst (λ rank. Step s me earlier (Adds rank entry)) (sym (same_rank other me e)) (added s me entry earlier)
+    by_owner true e = subst (λ rank. Step s me earlier (Adds rank entry)) (sym (eqb-true other me e)) (added s me entry earlier)
     by_owner false e = Rests (ap (λ b. (if b then handed s me (time earlier) entry (node s me earlier) else node s me earlier).log) e)
 step s me (Feeds other) earlier = by_owner (other == me) refl
   where
@@ -175,7 +172,7 @@ asking_turn {s = s} {t = t} {me = me} {pace = pace} {views = views} present j ba
           before = earlier;
           after = after;
           back = Itself;
-          asks = contained (subst (λ l. IsIn (ask_to me (taken_in (node s me earlier).log (tick_of (node s me earlier).clock) (read_as s me (node s me earlier).log entry)) present j) (newest_outs l)) (sym is_log) asks);
+          asks = contains (subst (λ l. IsIn (ask_to me (taken_in (node s me earlier).log (tick_of (node s me earlier).clock) (read_as s me (node s me earlier).log entry)) present j) (newest_outs l)) (sym is_log) asks);
           soon = let turns = before.turns in omega arith;
         })
         by_step (inr (inr (waits', soon))) = Waits (ap (λ l. moment s l) is_log ∙ waits') (rw is_log (omega arith))

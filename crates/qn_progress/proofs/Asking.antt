@@ -2,9 +2,9 @@
 use Rattle.std.proofs.Common.{◌≡◌, ℕ, suc, zero, ◌+◌, ◌≤◌, ◌<◌, Bool, true, false, List, [], ◌∷◌, ◌++◌, length, map, filter, Some, Option, refl, sym, ap, ◌∙◌, subst, arith, ◌||◌, ◌&&◌, ◌==◌, not, if◌then◌else◌, nat_le, ◌⊎◌, inl, inr}
 use Rattle.std.specs.Option.{option_map_or}
 use Rattle.std.specs.List.{range_with_len}
-use Rattle.std.specs.Prelude.{Contains}
 use Rattle.std.proofs.lemmas.Bool.{false≢true, true≢false, le-leb, leb-true, leb-false, ne_eqb, cases_order}
 use Rattle.qn_base.specs.declared.ids.View.{View}
+use Rattle.qn_base.specs.lemmas.Elements.{IsIn, First, Behind}
 use Rattle.qn_model.specs.declared.configuration.Settings.{Settings}
 use Rattle.qn_model.specs.declared.times.Timing.{Timing}
 use Rattle.qn_model.specs.declared.entries.What.{What}
@@ -20,15 +20,6 @@ use Rattle.qn_progress.specs.Pace.{Pace}
 use Rattle.qn_progress.proofs.Given.{outs_up}
 use Rattle.qn_progress.proofs.Busy.{Quietly}
 use Rattle.qn_progress.proofs.Steps.{outs_now, stays_up}
-
--- an element of a list
-pub data IsIn {A : Type 0} (x : A) : List A → Type 0 where
-  First : {xs : List A} → IsIn x (x ∷ xs)
-  Behind : (y : A) {xs : List A} → IsIn x xs → IsIn x (y ∷ xs)
-
-pub contained : {A : Type 0} {x : A} {xs : List A} → IsIn x xs → Contains xs x
-contained First = (0, omega arith, refl)
-contained (Behind y more) = let rest = contained more in (suc rest.0, omega (arith, rest.1), rest.2)
 
 pub in_left : {A : Type 0} {x : A} {xs : List A} (ys : List A) → IsIn x xs → IsIn x (xs ++ ys)
 in_left ys First = First

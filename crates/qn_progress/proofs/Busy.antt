@@ -133,15 +133,6 @@ silent past tick entry outs e = (
   ap (λ o. if asks_mail o then tick else mail_tick past) e,
 )
 
-pub out_inside : (rank : ℕ) (log : List Line) → out_time rank log ≤ length log
-unfolding out_time
-out_inside rank [] = omega arith
-out_inside rank (line ∷ past) = by_test (Rattle.qn_model.specs.Licences.starts_out_time rank line.what) (out_inside rank past)
-  where
-    by_test : (b : Bool) → out_time rank past ≤ length past → (if b then suc (length past) else out_time rank past) ≤ suc (length past)
-    by_test true rest = omega arith
-    by_test false rest = omega arith
-
 -- what is owed does not depend on what comes out
 pub owed_alike : (past : List Line) (tick : ℕ) (entry : What) (outs : List Out) (j : ℕ)
     → (read_due (line_with past tick entry outs ∷ past) j ≡ read_due (taken_in past tick entry) j) × (reset_due (line_with past tick entry outs ∷ past) j ≡ reset_due (taken_in past tick entry) j)

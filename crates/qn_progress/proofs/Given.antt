@@ -1,9 +1,8 @@
 -- What comes out of an entry of a node that was up and stays up: its Start and its disk operation.
-use Rattle.std.proofs.Common.{◌≡◌, ℕ, Bool, true, false, List, [], ◌∷◌, ◌++◌, length, Some, None, Option, refl, sym, ap, ◌∙◌, map, filter, ◌||◌, ◌&&◌, if◌then◌else◌}
+use Rattle.std.proofs.Common.{◌≡◌, ℕ, Bool, true, false, List, [], ◌∷◌, ◌++◌, length, Some, None, Option, refl, sym, ap, ◌∙◌, filter, ◌||◌, ◌&&◌, if◌then◌else◌}
 use Rattle.std.specs.Option.{option_map_or}
 use Rattle.std.proofs.lemmas.Bool.{false≢true, true≢false}
 use Rattle.qn_base.specs.declared.ids.View.{View}
-use Rattle.qn_base.specs.Members.{is_member}
 use Rattle.std.specs.List.{range_with_len}
 use Rattle.qn_model.specs.Holding.{holds}
 use Rattle.std.proofs.lemmas.Option.{none-some}
@@ -16,11 +15,12 @@ use Rattle.qn_model.specs.declared.life.Phase.TheVariants.{Up, Leaving, Dying, G
 use Rattle.qn_model.specs.declared.outputs.DiskOp.{DiskOp}
 use Rattle.qn_model.specs.declared.outputs.Out.{Out}
 use Rattle.qn_model.specs.declared.outputs.Out.TheVariants as out
+use Rattle.qn_model.specs.lemmas.Operations.{none_when, none_of_replies, none_of_asks}
 use Rattle.qn_model.specs.Log.{Line, disk_of, has_start}
-use Rattle.qn_model.specs.NodeVotes.{view, is_present}
+use Rattle.qn_model.specs.NodeVotes.{view}
 use Rattle.qn_model.specs.Phases.{phase, next_phase, in_time, is_booting, is_live, is_up, deadly_of, message_of, gives_exit}
 use Rattle.qn_model.specs.Wanted.{wanted_with_delay}
-use Rattle.qn_model.specs.NodeOutputs.{when, disk_outs, gives_stop, gives_start, replies, reply, asks, is_asked, asks_under, ask_to, is_asking, acts, live_outs, outs_at, mail_feeds, taken_in, with_read}
+use Rattle.qn_model.specs.NodeOutputs.{when, disk_outs, gives_stop, gives_start, replies, reply, asks, is_asked, asks_under, is_asking, acts, live_outs, outs_at, mail_feeds, taken_in, with_read}
 
 not_up : {P : Type 0} (p : Phase) → is_up p ≡ false → p ≡ Up → P
 not_up p no' e = absurd (true≢false (sym (ap is_up e) ∙ no'))
@@ -77,38 +77,11 @@ starts_front (out.Stop ∷ front) rest e = starts_front front rest e
 starts_front (out.Send to sent ∷ front) rest e = starts_front front rest e
 starts_front (out.Disk op ∷ front) rest e = starts_front front rest e
 
-none_when : (b : Bool) (given : Out) → disk_of (given ∷ []) ≡ None → disk_of (when b given) ≡ None
-none_when true given e = e
-none_when false given e = refl
-
-no_reply : (s : Settings) (me : ℕ) (held : Bool) (log : List Line) (entry : What) → disk_of (replies s me held log entry) ≡ None
-no_reply s me held log (what.Ask ask) = none_when (is_present log ask.view && is_member ask.view.members ask.from.0) _ refl
-no_reply s me held log what.Begin = refl
-no_reply s me held log what.BeginClean = refl
-no_reply s me held log (what.Header seen) = refl
-no_reply s me held log (what.SlotRead rank seen) = refl
-no_reply s me held log (what.MailChecked seen) = refl
-no_reply s me held log (what.Claimed ok) = refl
-no_reply s me held log (what.Cleared ok) = refl
-no_reply s me held log (what.MailRead seen) = refl
-no_reply s me held log (what.MailWritten rank ok) = refl
-no_reply s me held log (what.View installed) = refl
-no_reply s me held log (what.Tell tell) = refl
-no_reply s me held log (what.Device agrees) = refl
-no_reply s me held log what.Tick = refl
-no_reply s me held log (what.Stopped ok) = refl
-no_reply s me held log what.Leave = refl
-no_reply s me held log (what.Closed ok) = refl
-
-no_ask : (me : ℕ) (log : List Line) (present : View) (ranks : List ℕ) → disk_of (map (ask_to me log present) ranks) ≡ None
-no_ask me log present [] = refl
-no_ask me log present (rank ∷ ranks) = no_ask me log present ranks
-
 no_asks : (s : Settings) (me : ℕ) (log : List Line) → disk_of (asks s me log) ≡ None
 no_asks s me log = by_test (is_asking s log) (view log)
   where
     by_test : (b : Bool) (v : Option View) → disk_of (if b then option_map_or (asks_under s me log) v [] else []) ≡ None
-    by_test true (Some present) = no_ask me log present (filter (is_asked s me log) (range_with_len 0 (length s.nodes)))
+    by_test true (Some present) = none_of_asks me log present (filter (is_asked s me log) (range_with_len 0 (length s.nodes)))
     by_test true None = refl
     by_test false v = refl
 
@@ -131,7 +104,7 @@ acts_disk s me log entry fed =
     five (when (gives_stop s log) out.Stop) (when (gives_start s me log) out.Start) (when fed out.Feed)
     (replies s me (gives_start s me log || holds log) log entry) (asks s me log) (disk_outs (wanted_with_delay s me log))
     (none_when (gives_stop s log) out.Stop refl) (none_when (gives_start s me log) out.Start refl) (none_when fed out.Feed refl)
-    (no_reply s me (gives_start s me log || holds log) log entry) (no_asks s me log)
+    (none_of_replies s me (gives_start s me log || holds log) log entry) (no_asks s me log)
     ∙ the_disk (wanted_with_delay s me log)
 
 starts_second : (x y : Bool) → y ≡ true → has_start (when x out.Stop ++ when y out.Start) ≡ true

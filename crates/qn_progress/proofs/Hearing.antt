@@ -5,6 +5,7 @@ use Rattle.std.specs.Prelude.{Contains}
 use Rattle.std.proofs.lemmas.Bool.{cases_lt, eq-eqb, eqb-true, false≢true}
 use Rattle.qn_base.specs.declared.ids.View.{View}
 use Rattle.qn_base.specs.Members.{is_member}
+use Rattle.qn_base.specs.lemmas.Elements.{contains}
 use Rattle.qn_model.specs.declared.configuration.Settings.{Settings}
 use Rattle.qn_model.specs.declared.times.Timing.{Timing}
 use Rattle.qn_model.specs.declared.packets.Ask.{Ask}
@@ -29,7 +30,6 @@ use Rattle.qn_progress.specs.Hearing.{HasHeld, HearsQuietly, IsDelivered, IsUnde
 use Rattle.qn_progress.specs.Pace.{Pace}
 use Rattle.qn_progress.specs.Quiet.{AndThen, DelaysOver, FromHere, HasTakenTicks, IsQuiet, QuietSince}
 use Rattle.qn_progress.proofs.Asked.{AsksQuietly, Enters, HasAsked, Rests, Restarts, Step, added_log, is_asked_within, step}
-use Rattle.qn_progress.proofs.Asking.{contained}
 use Rattle.qn_progress.proofs.Below.{Below, Boots}
 use Rattle.qn_progress.proofs.Busy.{line_with}
 use Rattle.qn_progress.proofs.Entries.{no_view}
@@ -111,7 +111,7 @@ teller {s = s} {j = j} {present = present} at ask here there fit under member = 
         inr (
           held,
           subst (λ l. Contains (newest_outs l) (tell_to s j (taken_in (node s j at).log (tick_of (node s j at).clock) (what.Ask ask)) ask)) (sym is_log)
-              (contained (member_tells s j (node s j at).log (tick_of (node s j at).clock) ask here.up stays shown member)),
+              (contains (member_tells s j (node s j at).log (tick_of (node s j at).clock) ask here.up stays shown member)),
         )
 
 install_alike : (s : Settings) (me : ℕ) (past : List Line) (tick : ℕ) (entry : What) → install (taken_in past tick entry) ≡ install (with_read s me past tick entry)

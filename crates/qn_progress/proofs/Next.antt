@@ -1,6 +1,6 @@
 -- The operation that a chosen, quorate node asks for next.
 use Rattle.qn_model.specs.Licences.{is_clean, is_written}
-use Rattle.std.proofs.Common.{◌≡◌, ℕ, suc, zero, ◌+◌, ◌≤◌, ◌<◌, Bool, true, false, List, length, Some, None, Option, refl, sym, ap, ◌∙◌, subst, arith, cond, ◌&&◌, not, if◌then◌else◌, is_some, option_and_then}
+use Rattle.std.proofs.Common.{◌≡◌, ℕ, ◌+◌, ◌≤◌, ◌<◌, Bool, true, false, List, length, Some, None, Option, refl, sym, ap, ◌∙◌, subst, arith, ◌&&◌, not, if◌then◌else◌, is_some, option_and_then}
 use Rattle.std.specs.Option.{option_or, option_map}
 use Rattle.std.proofs.lemmas.Bool.{false≢true, true≢false, le-leb}
 use Rattle.qn_model.specs.declared.configuration.Settings.{Settings}
@@ -13,24 +13,12 @@ use Rattle.qn_model.specs.NodeVotes.{is_in_view, quorate_with_tie, votes}
 use Rattle.qn_model.specs.Votes.{view_tick}
 use Rattle.qn_model.specs.Holding.{holds}
 use Rattle.qn_model.specs.Phases.{phase, is_up, is_leaving}
-use Rattle.qn_model.specs.Unmet.{least_from, is_chosen}
+use Rattle.qn_model.specs.Unmet.{is_chosen}
 use Rattle.qn_model.specs.Wanted.{rank_of, is_mail_due, to_read, to_reset, to_reset_now, is_delay_over, fence_delay, fencing_op_with_delay, close_op, may_fence, wanted_with_delay}
-use Rattle.std.proofs.lemmas.Option.{none-some, same_Some}
-use Rattle.qn_safety.specs.LeastRanks.{least_none, least_passes}
+use Rattle.std.proofs.lemmas.Option.{none-some}
+use Rattle.qn_model.specs.lemmas.LeastRanks.{least_none, least_passes, least_bound}
 use Rattle.qn_progress.proofs.Totals.{zero_total}
 use Rattle.qn_progress.proofs.Entries.{read_due, reset_due, one, owed, pending}
-
--- the least number that passes is among those that are tried
-pub least_within : (count from : ℕ) (test : ℕ → Bool) (found : ℕ) → least_from count from test ≡ Some found → found < from + count
-unfolding least_from
-least_within zero from test found e = absurd (none-some found e)
-least_within (suc count) from test found e = by_test (test from) refl (λ rest. least_within count (from + 1) test found rest)
-  where
-    by_test : (b : Bool) → test from ≡ b → (least_from count (from + 1) test ≡ Some found → found < (from + 1) + count) → found < from + suc count
-    by_test true is rest =
-        let same : from ≡ found = same_Some _ _ (sym (ap (λ b. cond b (Some from) (least_from count (from + 1) test)) is) ∙ e) in omega arith
-    by_test false is rest =
-        let past = rest (sym (ap (λ b. cond b (Some from) (least_from count (from + 1) test)) is) ∙ e) in omega arith
 
 -- an operation of the fencing that is still owed
 pub data Fences (s : Settings) (log : List Line) : Option DiskOp → Type 0 where
@@ -54,7 +42,7 @@ fences s log over = by_read (to_read s log) refl
     resets : (r : Option ℕ) → to_read s log ≡ None → to_reset s log ≡ r
         → Fences s log (option_map (λ rank. disk.WriteReset (rank_of rank)) (option_and_then (λ rank. if is_delay_over s log rank then Some rank else None) r))
     resets (Some j) read e =
-        let below : j < 0 + length s.nodes = least_within (length s.nodes) 0 _ j e in
+        let below : j < 0 + length s.nodes = least_bound (length s.nodes) 0 _ j e in
         subst (λ b. Fences s log (option_map (λ rank. disk.WriteReset (rank_of rank)) (if b then Some j else None))) (sym (le-leb _ _ (over j (omega arith) (is_outside (is_in_view log j) (is_clean log j) (is_written log j) (least_passes (length s.nodes) 0 _ j e)))))
         (Resets j (omega arith) (least_passes (length s.nodes) 0 _ j e))
     resets None read e = Nothing (zero_total (length s.nodes) (owed log) (λ j below.
@@ -65,7 +53,7 @@ fences s log over = by_read (to_read s log) refl
     by_read : (r : Option ℕ) → to_read s log ≡ r
         → Fences s log (option_or (option_map (λ rank. disk.ReadSlot (rank_of rank)) r) (option_map (λ rank. disk.WriteReset (rank_of rank)) (to_reset_now s log)))
     by_read (Some j) e =
-        let below : j < 0 + length s.nodes = least_within (length s.nodes) 0 _ j e in
+        let below : j < 0 + length s.nodes = least_bound (length s.nodes) 0 _ j e in
         ReadsSlot j (omega arith) (least_passes (length s.nodes) 0 _ j e)
     by_read None e = resets (to_reset s log) e refl
 

@@ -12,6 +12,7 @@ use Rattle.qn_model.specs.declared.entries.What.TheVariants as what
 use Rattle.qn_model.specs.declared.outputs.DiskOp.{DiskOp}
 use Rattle.qn_model.specs.declared.life.Phase.{Phase}
 use Rattle.qn_model.specs.declared.life.Phase.TheVariants.{Booting, Up}
+use Rattle.qn_model.specs.lemmas.Entries.{read_fits}
 use Rattle.qn_model.specs.Log.{Line, op_out, ask_tick, disk_of, now, timing}
 use Rattle.qn_model.specs.NodeVotes.{view, install, quorate_with_tie, released, is_in_view, votes}
 use Rattle.qn_model.specs.Votes.{view_tick}
@@ -84,13 +85,6 @@ pub data Move (s : Settings) (me : ℕ) (old new : Running) : Type 0 where
   Rests : new.log ≡ old.log → tick_of old.clock ≤ tick_of new.clock → new.boots ≡ old.boots → Move s me old new
   Enters : (entry : What) → fits s me old.log entry ≡ true → new.log ≡ with_read s me old.log (tick_of old.clock) entry → new.clock ≡ old.clock → new.boots ≡ old.boots → Move s me old new
   Restarts : (line : Line) → new.log ≡ line ∷ [] → line.tick ≤ tick_of new.clock → phase s new.log ≡ Booting → Move s me old new
-
-pub read_fits : (s : Settings) (me : ℕ) (past : List Line) (entry : What) → fits s me past (read_as s me past entry) ≡ true
-read_fits s me past entry = by_test (fits s me past entry) refl
-  where
-    by_test : (b : Bool) → fits s me past entry ≡ b → fits s me past (if b then entry else what.Tick) ≡ true
-    by_test true e = e
-    by_test false e = refl
 
 pub booted_move : (s : Settings) (me now' base : ℕ) (clean : Bool) (old : Running) → Move s me old (booted s me now' base clean old)
 unfolding booted handed logged with_entry phase

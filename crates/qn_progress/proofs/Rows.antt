@@ -1,52 +1,25 @@
 -- A run that is quiet for as long as a take-over takes.
-use Rattle.std.proofs.Common.{◌<◌, ◌+◌, ◌*◌, suc, zero, slice_index, sym, subst, ◌≡◌, ℕ, ◌≤◌, true, false, List, [], ◌∷◌, None, refl, arith, All}
+use Rattle.std.proofs.Common.{◌<◌, ◌+◌, ◌*◌, suc, zero, sym, subst, ◌≡◌, ℕ, ◌≤◌, true, false, List, [], ◌∷◌, refl, arith}
 use Rattle.std.proofs.lemmas.Bool.{false≢true, leb-true}
-use Rattle.std.proofs.lemmas.List.Elements.{All-nil, All-cons}
 use Rattle.qn_base.specs.declared.ids.Rank.{Rank}
 use Rattle.qn_base.specs.declared.ids.View.{View}
-use Rattle.qn_model.specs.declared.configuration.Settings.{Settings}
-use Rattle.qn_model.specs.declared.nodelist.NodeEntry.{NodeEntry}
 use Rattle.qn_model.specs.declared.events.Event.{Event}
 use Rattle.qn_model.specs.declared.events.Event.TheVariants as event
-use Rattle.qn_model.specs.Log.{op_out, ask_place, ask_tick, begins_clean, claimed, slot_number, timing}
-use Rattle.qn_model.specs.NodeVotes.{view, install, votes}
-use Rattle.qn_model.specs.Votes.{answer_at, present_view, view_tick, is_released, expected_votes, device_yes}
-use Rattle.qn_model.specs.Phases.{phase}
-use Rattle.qn_model.specs.Holding.{holds, stop_due, may_stop}
-use Rattle.qn_model.specs.Hearing.{told}
-use Rattle.qn_model.specs.Licences.{out_time, slot_read_since, reset_since}
-use Rattle.qn_model.specs.Settings.{IsValid, ids}
+use Rattle.qn_model.specs.NodeVotes.{install}
 use Rattle.qn_model.specs.declared.times.Timing.{Timing}
 use Rattle.qn_model.specs.declared.entries.What.TheVariants as what
 use Rattle.qn_model.specs.declared.disk.Message.TheVariants as message
 use Rattle.qn_model.specs.declared.seen.MailSeen.TheVariants as mail
 use Rattle.qn_model.specs.declared.seen.SlotSeen.TheVariants as slot
 use Rattle.qn_model.specs.declared.seen.HeaderSeen.TheVariants as header
-use Rattle.qn_model.specs.Unmet.{least_from, unmet}
-use Rattle.qn_model.specs.Wanted.{mail_tick, wanted_with_delay}
-use Rattle.qn_model.specs.NodeOutputs.{moment, acts, outs_at, with_entry}
-use Rattle.qn_model.specs.Moments.{Moment, Passes, Boots, Adds, Feeds, Ends, tick_of, logged, handed, booted, time, node, given_out, packets, is_holder}
-use Rattle.qn_model.specs.World.{taken, failed}
-use Rattle.qn_model.specs.Rules.{is_well_formed, refusal}
-use Rattle.qn_model.specs.Steps.{step, run, AllAllowed}
+use Rattle.qn_model.specs.lemmas.WorldSteps.{world_steps}
+use Rattle.qn_model.specs.lemmas.TwoNodes.{two_nodes, two_nodes_valid}
+use Rattle.qn_model.specs.Moments.{Moment, Passes, Boots, Adds, Feeds, Ends, tick_of, time, node, is_holder}
+use Rattle.qn_model.specs.Steps.{run, AllAllowed}
 use Rattle.qn_progress.specs.Pace.{Pace, total, outside, take_over_ticks}
 use Rattle.qn_progress.specs.Quiet.{IsQuiet, QuietSince, FromHere, AndThen, DelaysOver, HasHeardAll, HasTakenTime, StaysQuiet}
 use Rattle.qn_progress.proofs.Over.{start_of}
 use Rattle.qn_progress.specs.Premises.{TakesOver}
-
--- two nodes of one vote each with two_node and without wait_for_all
-abbrev two_nodes : Settings
-two_nodes =
-    record {
-      nodes = record { id = record { 0 = 1 }; votes = 1; fence_delay = 0 } ∷ record { id = record { 0 = 2 }; votes = 1; fence_delay = 0 } ∷ [];
-      two_node = true;
-      wait_for_all = false;
-      last_man_standing = false;
-      window = 10000;
-      device = None;
-      expected = 2;
-      tie = None;
-    }
 
 abbrev first : Rank
 first = record { 0 = 0 }
@@ -148,178 +121,145 @@ abbrev m24 : List Moment
 m24 = Passes 10 [] ∷ m23
 
 quiet0 : IsQuiet two_nodes 0 short_pace 1 m0
-unfolding op_out ask_place ask_tick claimed timing begins_clean slot_number view install votes answer_at present_view view_tick is_released expected_votes device_yes phase holds stop_due may_stop told out_time slot_read_since reset_since least_from unmet mail_tick wanted_with_delay moment acts outs_at with_entry logged handed booted time node given_out packets taken failed is_well_formed refusal step run AllAllowed total
+unfolding world_steps run AllAllowed total
 quiet0 = record { on = refl; up = refl; view = refl; free = refl; quorate = refl; least = refl; gentle = refl; turns = leb-true _ _ refl; answers = λ some. leb-true _ _ refl }
 
 quiet1 : IsQuiet two_nodes 0 short_pace 1 m1
-unfolding op_out ask_place ask_tick claimed timing begins_clean slot_number view install votes answer_at present_view view_tick is_released expected_votes device_yes phase holds stop_due may_stop told out_time slot_read_since reset_since least_from unmet mail_tick wanted_with_delay moment acts outs_at with_entry logged handed booted time node given_out packets taken failed is_well_formed refusal step run AllAllowed total
+unfolding world_steps run AllAllowed total
 quiet1 = record { on = refl; up = refl; view = refl; free = refl; quorate = refl; least = refl; gentle = refl; turns = leb-true _ _ refl; answers = λ some. leb-true _ _ refl }
 
 quiet2 : IsQuiet two_nodes 0 short_pace 1 m2
-unfolding op_out ask_place ask_tick claimed timing begins_clean slot_number view install votes answer_at present_view view_tick is_released expected_votes device_yes phase holds stop_due may_stop told out_time slot_read_since reset_since least_from unmet mail_tick wanted_with_delay moment acts outs_at with_entry logged handed booted time node given_out packets taken failed is_well_formed refusal step run AllAllowed total
+unfolding world_steps run AllAllowed total
 quiet2 = record { on = refl; up = refl; view = refl; free = refl; quorate = refl; least = refl; gentle = refl; turns = leb-true _ _ refl; answers = λ some. leb-true _ _ refl }
 
 quiet3 : IsQuiet two_nodes 0 short_pace 1 m3
-unfolding op_out ask_place ask_tick claimed timing begins_clean slot_number view install votes answer_at present_view view_tick is_released expected_votes device_yes phase holds stop_due may_stop told out_time slot_read_since reset_since least_from unmet mail_tick wanted_with_delay moment acts outs_at with_entry logged handed booted time node given_out packets taken failed is_well_formed refusal step run AllAllowed total
+unfolding world_steps run AllAllowed total
 quiet3 = record { on = refl; up = refl; view = refl; free = refl; quorate = refl; least = refl; gentle = refl; turns = leb-true _ _ refl; answers = λ some. leb-true _ _ refl }
 
 quiet4 : IsQuiet two_nodes 0 short_pace 1 m4
-unfolding op_out ask_place ask_tick claimed timing begins_clean slot_number view install votes answer_at present_view view_tick is_released expected_votes device_yes phase holds stop_due may_stop told out_time slot_read_since reset_since least_from unmet mail_tick wanted_with_delay moment acts outs_at with_entry logged handed booted time node given_out packets taken failed is_well_formed refusal step run AllAllowed total
+unfolding world_steps run AllAllowed total
 quiet4 = record { on = refl; up = refl; view = refl; free = refl; quorate = refl; least = refl; gentle = refl; turns = leb-true _ _ refl; answers = λ some. leb-true _ _ refl }
 
 quiet5 : IsQuiet two_nodes 0 short_pace 1 m5
-unfolding op_out ask_place ask_tick claimed timing begins_clean slot_number view install votes answer_at present_view view_tick is_released expected_votes device_yes phase holds stop_due may_stop told out_time slot_read_since reset_since least_from unmet mail_tick wanted_with_delay moment acts outs_at with_entry logged handed booted time node given_out packets taken failed is_well_formed refusal step run AllAllowed total
+unfolding world_steps run AllAllowed total
 quiet5 = record { on = refl; up = refl; view = refl; free = refl; quorate = refl; least = refl; gentle = refl; turns = leb-true _ _ refl; answers = λ some. leb-true _ _ refl }
 
 quiet6 : IsQuiet two_nodes 0 short_pace 1 m6
-unfolding op_out ask_place ask_tick claimed timing begins_clean slot_number view install votes answer_at present_view view_tick is_released expected_votes device_yes phase holds stop_due may_stop told out_time slot_read_since reset_since least_from unmet mail_tick wanted_with_delay moment acts outs_at with_entry logged handed booted time node given_out packets taken failed is_well_formed refusal step run AllAllowed total
+unfolding world_steps run AllAllowed total
 quiet6 = record { on = refl; up = refl; view = refl; free = refl; quorate = refl; least = refl; gentle = refl; turns = leb-true _ _ refl; answers = λ some. leb-true _ _ refl }
 
 quiet7 : IsQuiet two_nodes 0 short_pace 1 m7
-unfolding op_out ask_place ask_tick claimed timing begins_clean slot_number view install votes answer_at present_view view_tick is_released expected_votes device_yes phase holds stop_due may_stop told out_time slot_read_since reset_since least_from unmet mail_tick wanted_with_delay moment acts outs_at with_entry logged handed booted time node given_out packets taken failed is_well_formed refusal step run AllAllowed total
+unfolding world_steps run AllAllowed total
 quiet7 = record { on = refl; up = refl; view = refl; free = refl; quorate = refl; least = refl; gentle = refl; turns = leb-true _ _ refl; answers = λ some. leb-true _ _ refl }
 
 quiet8 : IsQuiet two_nodes 0 short_pace 1 m8
-unfolding op_out ask_place ask_tick claimed timing begins_clean slot_number view install votes answer_at present_view view_tick is_released expected_votes device_yes phase holds stop_due may_stop told out_time slot_read_since reset_since least_from unmet mail_tick wanted_with_delay moment acts outs_at with_entry logged handed booted time node given_out packets taken failed is_well_formed refusal step run AllAllowed total
+unfolding world_steps run AllAllowed total
 quiet8 = record { on = refl; up = refl; view = refl; free = refl; quorate = refl; least = refl; gentle = refl; turns = leb-true _ _ refl; answers = λ some. absurd (some refl) }
 
 quiet9 : IsQuiet two_nodes 0 short_pace 1 m9
-unfolding op_out ask_place ask_tick claimed timing begins_clean slot_number view install votes answer_at present_view view_tick is_released expected_votes device_yes phase holds stop_due may_stop told out_time slot_read_since reset_since least_from unmet mail_tick wanted_with_delay moment acts outs_at with_entry logged handed booted time node given_out packets taken failed is_well_formed refusal step run AllAllowed total
+unfolding world_steps run AllAllowed total
 quiet9 = record { on = refl; up = refl; view = refl; free = refl; quorate = refl; least = refl; gentle = refl; turns = leb-true _ _ refl; answers = λ some. leb-true _ _ refl }
 
 quiet10 : IsQuiet two_nodes 0 short_pace 1 m10
-unfolding op_out ask_place ask_tick claimed timing begins_clean slot_number view install votes answer_at present_view view_tick is_released expected_votes device_yes phase holds stop_due may_stop told out_time slot_read_since reset_since least_from unmet mail_tick wanted_with_delay moment acts outs_at with_entry logged handed booted time node given_out packets taken failed is_well_formed refusal step run AllAllowed total
+unfolding world_steps run AllAllowed total
 quiet10 = record { on = refl; up = refl; view = refl; free = refl; quorate = refl; least = refl; gentle = refl; turns = leb-true _ _ refl; answers = λ some. leb-true _ _ refl }
 
 quiet11 : IsQuiet two_nodes 0 short_pace 1 m11
-unfolding op_out ask_place ask_tick claimed timing begins_clean slot_number view install votes answer_at present_view view_tick is_released expected_votes device_yes phase holds stop_due may_stop told out_time slot_read_since reset_since least_from unmet mail_tick wanted_with_delay moment acts outs_at with_entry logged handed booted time node given_out packets taken failed is_well_formed refusal step run AllAllowed total
+unfolding world_steps run AllAllowed total
 quiet11 = record { on = refl; up = refl; view = refl; free = refl; quorate = refl; least = refl; gentle = refl; turns = leb-true _ _ refl; answers = λ some. leb-true _ _ refl }
 
 quiet12 : IsQuiet two_nodes 0 short_pace 1 m12
-unfolding op_out ask_place ask_tick claimed timing begins_clean slot_number view install votes answer_at present_view view_tick is_released expected_votes device_yes phase holds stop_due may_stop told out_time slot_read_since reset_since least_from unmet mail_tick wanted_with_delay moment acts outs_at with_entry logged handed booted time node given_out packets taken failed is_well_formed refusal step run AllAllowed total
+unfolding world_steps run AllAllowed total
 quiet12 = record { on = refl; up = refl; view = refl; free = refl; quorate = refl; least = refl; gentle = refl; turns = leb-true _ _ refl; answers = λ some. absurd (some refl) }
 
 quiet13 : IsQuiet two_nodes 0 short_pace 1 m13
-unfolding op_out ask_place ask_tick claimed timing begins_clean slot_number view install votes answer_at present_view view_tick is_released expected_votes device_yes phase holds stop_due may_stop told out_time slot_read_since reset_since least_from unmet mail_tick wanted_with_delay moment acts outs_at with_entry logged handed booted time node given_out packets taken failed is_well_formed refusal step run AllAllowed total
+unfolding world_steps run AllAllowed total
 quiet13 = record { on = refl; up = refl; view = refl; free = refl; quorate = refl; least = refl; gentle = refl; turns = leb-true _ _ refl; answers = λ some. leb-true _ _ refl }
 
 quiet14 : IsQuiet two_nodes 0 short_pace 1 m14
-unfolding op_out ask_place ask_tick claimed timing begins_clean slot_number view install votes answer_at present_view view_tick is_released expected_votes device_yes phase holds stop_due may_stop told out_time slot_read_since reset_since least_from unmet mail_tick wanted_with_delay moment acts outs_at with_entry logged handed booted time node given_out packets taken failed is_well_formed refusal step run AllAllowed total
+unfolding world_steps run AllAllowed total
 quiet14 = record { on = refl; up = refl; view = refl; free = refl; quorate = refl; least = refl; gentle = refl; turns = leb-true _ _ refl; answers = λ some. leb-true _ _ refl }
 
 quiet15 : IsQuiet two_nodes 0 short_pace 1 m15
-unfolding op_out ask_place ask_tick claimed timing begins_clean slot_number view install votes answer_at present_view view_tick is_released expected_votes device_yes phase holds stop_due may_stop told out_time slot_read_since reset_since least_from unmet mail_tick wanted_with_delay moment acts outs_at with_entry logged handed booted time node given_out packets taken failed is_well_formed refusal step run AllAllowed total
+unfolding world_steps run AllAllowed total
 quiet15 = record { on = refl; up = refl; view = refl; free = refl; quorate = refl; least = refl; gentle = refl; turns = leb-true _ _ refl; answers = λ some. leb-true _ _ refl }
 
 quiet16 : IsQuiet two_nodes 0 short_pace 1 m16
-unfolding op_out ask_place ask_tick claimed timing begins_clean slot_number view install votes answer_at present_view view_tick is_released expected_votes device_yes phase holds stop_due may_stop told out_time slot_read_since reset_since least_from unmet mail_tick wanted_with_delay moment acts outs_at with_entry logged handed booted time node given_out packets taken failed is_well_formed refusal step run AllAllowed total
+unfolding world_steps run AllAllowed total
 quiet16 = record { on = refl; up = refl; view = refl; free = refl; quorate = refl; least = refl; gentle = refl; turns = leb-true _ _ refl; answers = λ some. absurd (some refl) }
 
 quiet17 : IsQuiet two_nodes 0 short_pace 1 m17
-unfolding op_out ask_place ask_tick claimed timing begins_clean slot_number view install votes answer_at present_view view_tick is_released expected_votes device_yes phase holds stop_due may_stop told out_time slot_read_since reset_since least_from unmet mail_tick wanted_with_delay moment acts outs_at with_entry logged handed booted time node given_out packets taken failed is_well_formed refusal step run AllAllowed total
+unfolding world_steps run AllAllowed total
 quiet17 = record { on = refl; up = refl; view = refl; free = refl; quorate = refl; least = refl; gentle = refl; turns = leb-true _ _ refl; answers = λ some. leb-true _ _ refl }
 
 quiet18 : IsQuiet two_nodes 0 short_pace 1 m18
-unfolding op_out ask_place ask_tick claimed timing begins_clean slot_number view install votes answer_at present_view view_tick is_released expected_votes device_yes phase holds stop_due may_stop told out_time slot_read_since reset_since least_from unmet mail_tick wanted_with_delay moment acts outs_at with_entry logged handed booted time node given_out packets taken failed is_well_formed refusal step run AllAllowed total
+unfolding world_steps run AllAllowed total
 quiet18 = record { on = refl; up = refl; view = refl; free = refl; quorate = refl; least = refl; gentle = refl; turns = leb-true _ _ refl; answers = λ some. leb-true _ _ refl }
 
 quiet19 : IsQuiet two_nodes 0 short_pace 1 m19
-unfolding op_out ask_place ask_tick claimed timing begins_clean slot_number view install votes answer_at present_view view_tick is_released expected_votes device_yes phase holds stop_due may_stop told out_time slot_read_since reset_since least_from unmet mail_tick wanted_with_delay moment acts outs_at with_entry logged handed booted time node given_out packets taken failed is_well_formed refusal step run AllAllowed total
+unfolding world_steps run AllAllowed total
 quiet19 = record { on = refl; up = refl; view = refl; free = refl; quorate = refl; least = refl; gentle = refl; turns = leb-true _ _ refl; answers = λ some. leb-true _ _ refl }
 
 quiet20 : IsQuiet two_nodes 0 short_pace 1 m20
-unfolding op_out ask_place ask_tick claimed timing begins_clean slot_number view install votes answer_at present_view view_tick is_released expected_votes device_yes phase holds stop_due may_stop told out_time slot_read_since reset_since least_from unmet mail_tick wanted_with_delay moment acts outs_at with_entry logged handed booted time node given_out packets taken failed is_well_formed refusal step run AllAllowed total
+unfolding world_steps run AllAllowed total
 quiet20 = record { on = refl; up = refl; view = refl; free = refl; quorate = refl; least = refl; gentle = refl; turns = leb-true _ _ refl; answers = λ some. absurd (some refl) }
 
 quiet21 : IsQuiet two_nodes 0 short_pace 1 m21
-unfolding op_out ask_place ask_tick claimed timing begins_clean slot_number view install votes answer_at present_view view_tick is_released expected_votes device_yes phase holds stop_due may_stop told out_time slot_read_since reset_since least_from unmet mail_tick wanted_with_delay moment acts outs_at with_entry logged handed booted time node given_out packets taken failed is_well_formed refusal step run AllAllowed total
+unfolding world_steps run AllAllowed total
 quiet21 = record { on = refl; up = refl; view = refl; free = refl; quorate = refl; least = refl; gentle = refl; turns = leb-true _ _ refl; answers = λ some. leb-true _ _ refl }
 
 quiet22 : IsQuiet two_nodes 0 short_pace 1 m22
-unfolding op_out ask_place ask_tick claimed timing begins_clean slot_number view install votes answer_at present_view view_tick is_released expected_votes device_yes phase holds stop_due may_stop told out_time slot_read_since reset_since least_from unmet mail_tick wanted_with_delay moment acts outs_at with_entry logged handed booted time node given_out packets taken failed is_well_formed refusal step run AllAllowed total
+unfolding world_steps run AllAllowed total
 quiet22 = record { on = refl; up = refl; view = refl; free = refl; quorate = refl; least = refl; gentle = refl; turns = leb-true _ _ refl; answers = λ some. leb-true _ _ refl }
 
 quiet23 : IsQuiet two_nodes 0 short_pace 1 m23
-unfolding op_out ask_place ask_tick claimed timing begins_clean slot_number view install votes answer_at present_view view_tick is_released expected_votes device_yes phase holds stop_due may_stop told out_time slot_read_since reset_since least_from unmet mail_tick wanted_with_delay moment acts outs_at with_entry logged handed booted time node given_out packets taken failed is_well_formed refusal step run AllAllowed total
+unfolding world_steps run AllAllowed total
 quiet23 = record { on = refl; up = refl; view = refl; free = refl; quorate = refl; least = refl; gentle = refl; turns = leb-true _ _ refl; answers = λ some. leb-true _ _ refl }
 
 quiet24 : IsQuiet two_nodes 0 short_pace 1 m24
-unfolding op_out ask_place ask_tick claimed timing begins_clean slot_number view install votes answer_at present_view view_tick is_released expected_votes device_yes phase holds stop_due may_stop told out_time slot_read_since reset_since least_from unmet mail_tick wanted_with_delay moment acts outs_at with_entry logged handed booted time node given_out packets taken failed is_well_formed refusal step run AllAllowed total
+unfolding world_steps run AllAllowed total
 quiet24 = record { on = refl; up = refl; view = refl; free = refl; quorate = refl; least = refl; gentle = refl; turns = leb-true _ _ refl; answers = λ some. absurd (some refl) }
 
 quiet : QuietSince two_nodes 0 short_pace 1 m0 m24
 quiet = AndThen (AndThen (AndThen (AndThen (AndThen (AndThen (AndThen (AndThen (AndThen (AndThen (AndThen (AndThen (AndThen (AndThen (AndThen (AndThen (AndThen (AndThen (AndThen (AndThen (AndThen (AndThen (AndThen (AndThen (FromHere quiet0) quiet1) quiet2) quiet3) quiet4) quiet5) quiet6) quiet7) quiet8) quiet9) quiet10) quiet11) quiet12) quiet13) quiet14) quiet15) quiet16) quiet17) quiet18) quiet19) quiet20) quiet21) quiet22) quiet23) quiet24
 
 runs_so : (run two_nodes short_times starts_alone).moments ≡ m24
-unfolding op_out ask_place ask_tick claimed timing begins_clean slot_number view install votes answer_at present_view view_tick is_released expected_votes device_yes phase holds stop_due may_stop told out_time slot_read_since reset_since least_from unmet mail_tick wanted_with_delay moment acts outs_at with_entry logged handed booted time node given_out packets taken failed is_well_formed refusal step run AllAllowed total
+unfolding world_steps run AllAllowed total
 runs_so = refl
 
 sees_once : install (node two_nodes 0 m0).log ≡ 1
-unfolding op_out ask_place ask_tick claimed timing begins_clean slot_number view install votes answer_at present_view view_tick is_released expected_votes device_yes phase holds stop_due may_stop told out_time slot_read_since reset_since least_from unmet mail_tick wanted_with_delay moment acts outs_at with_entry logged handed booted time node given_out packets taken failed is_well_formed refusal step run AllAllowed total
+unfolding world_steps run AllAllowed total
 sees_once = refl
 
 all_allowed : AllAllowed two_nodes short_times starts_alone
-unfolding op_out ask_place ask_tick claimed timing begins_clean slot_number view install votes answer_at present_view view_tick is_released expected_votes device_yes phase holds stop_due may_stop told out_time slot_read_since reset_since least_from unmet mail_tick wanted_with_delay moment acts outs_at with_entry logged handed booted time node given_out packets taken failed is_well_formed refusal step run AllAllowed total
+unfolding world_steps run AllAllowed total
 all_allowed = (refl, refl, (refl, refl, (refl, refl, (refl, refl, (refl, refl, (refl, refl, (refl, refl, (refl, refl, (refl, refl, (refl, refl, (refl, refl, (refl, refl, (refl, refl, (refl, refl, (refl, refl, (refl, refl, (refl, refl, (refl, refl, (refl, refl, (refl, refl, (refl, refl, (refl, refl, (refl, refl, (refl, refl, (refl, refl, (refl, refl, (refl, refl, (refl, refl, (refl, refl, (refl, refl, (refl, refl, (refl, refl, (refl, refl, (refl, refl, (refl, refl, (refl, refl, (refl, refl, (refl, refl, (refl, refl, (refl, refl, (refl, refl, (refl, refl, (refl, refl, (refl, refl, (refl, refl, (refl, refl, (refl, refl, (refl, refl, (refl, refl, (refl, refl, (refl, refl, tt)))))))))))))))))))))))))))))))))))))))))))))))))))
 
 nobody_holds : (other : ℕ) → other < 2 → is_holder two_nodes m0 other ≡ false
-unfolding op_out ask_place ask_tick claimed timing begins_clean slot_number view install votes answer_at present_view view_tick is_released expected_votes device_yes phase holds stop_due may_stop told out_time slot_read_since reset_since least_from unmet mail_tick wanted_with_delay moment acts outs_at with_entry logged handed booted time node given_out packets taken failed is_well_formed refusal step run AllAllowed total
+unfolding world_steps run AllAllowed total
 nobody_holds zero below = refl
 nobody_holds (suc zero) below = refl
 nobody_holds (suc (suc other)) below = absurd (omega arith)
 
 delays : DelaysOver two_nodes (tick_of (node two_nodes 0 m0).clock) (node two_nodes 0 m0).log
-unfolding op_out ask_place ask_tick claimed timing begins_clean slot_number view install votes answer_at present_view view_tick is_released expected_votes device_yes phase holds stop_due may_stop told out_time slot_read_since reset_since least_from unmet mail_tick wanted_with_delay moment acts outs_at with_entry logged handed booted time node given_out packets taken failed is_well_formed refusal step run AllAllowed total
+unfolding world_steps run AllAllowed total
 delays zero below away = omega arith
 delays (suc zero) below away = omega arith
 delays (suc (suc other)) below away = absurd (omega arith)
 
 heard : HasHeardAll two_nodes 0 (node two_nodes 0 m0).log
-unfolding op_out ask_place ask_tick claimed timing begins_clean slot_number view install votes answer_at present_view view_tick is_released expected_votes device_yes phase holds stop_due may_stop told out_time slot_read_since reset_since least_from unmet mail_tick wanted_with_delay moment acts outs_at with_entry logged handed booted time node given_out packets taken failed is_well_formed refusal step run AllAllowed total
+unfolding world_steps run AllAllowed total
 heard zero below inside other = absurd (other refl)
 heard (suc zero) below inside other = absurd (false≢true inside)
 heard (suc (suc j)) below inside other = absurd (omega arith)
 
 long : 100 * take_over_ticks short_times short_pace (outside two_nodes (node two_nodes 0 m0).log) + 99 * time m0 ≤ 99 * time m24
-unfolding op_out ask_place ask_tick claimed timing begins_clean slot_number view install votes answer_at present_view view_tick is_released expected_votes device_yes phase holds stop_due may_stop told out_time slot_read_since reset_since least_from unmet mail_tick wanted_with_delay moment acts outs_at with_entry logged handed booted time node given_out packets taken failed is_well_formed refusal step run AllAllowed total
+unfolding world_steps run AllAllowed total
 long = leb-true _ _ refl
 
 one_turn : 100 * (short_pace.turn + 1) + 99 * time m0 ≤ 99 * time m24
 unfolding time
 one_turn = leb-true _ _ refl
-
-each_node : (P : NodeEntry → Type 0) → P (record { id = record { 0 = 1 }; votes = 1; fence_delay = 0 }) → P (record { id = record { 0 = 2 }; votes = 1; fence_delay = 0 }) → All P two_nodes.nodes
-each_node P one two = All-cons P one_vote (two_votes ∷ []) one (All-cons P two_votes [] two (All-nil P))
-  where
-    one_vote : NodeEntry
-    one_vote = record { id = record { 0 = 1 }; votes = 1; fence_delay = 0 }
-
-    two_votes : NodeEntry
-    two_votes = record { id = record { 0 = 2 }; votes = 1; fence_delay = 0 }
-
-two_nodes_valid : IsValid two_nodes
-two_nodes_valid = record {
-  some_node = omega arith;
-  few_nodes = omega arith;
-  ids_from_one = each_node (λ n. 1 ≤ n.id.0) (omega arith) (omega arith);
-  ids_fit = each_node (λ n. n.id.0 ≤ 4294967295) (omega arith) (omega arith);
-  ids_ascend = ids_ascend;
-  votes_fit = each_node (λ n. n.votes ≤ 65535) (omega arith) (omega arith);
-  some_vote = omega arith;
-  some_expected = omega arith;
-  window = (omega arith, omega arith);
-  timeout = tt;
-  two_nodes = λ e. refl;
-  two_votes = λ e. each_node (λ n. n.votes ≡ 1) refl refl;
-  two_alone = λ e. refl;
-  last_man_votes = λ e. absurd (false≢true e);
-  delays_fit = each_node (λ n. n.fence_delay ≤ 3600000) (omega arith) (omega arith);
-  tie_order = tt;
-  tie_alone = λ e. absurd (false≢true e);
-}
-  where
-    ids_ascend : (k : ℕ) → k + 1 < 2 → slice_index (ids two_nodes.nodes) k < slice_index (ids two_nodes.nodes) (k + 1)
-    ids_ascend k below = let same : k ≡ 0 = omega arith in subst (λ n. slice_index (ids two_nodes.nodes) n < slice_index (ids two_nodes.nodes) (n + 1)) (sym same) (omega arith)
 
 pub takes_over : TakesOver
 takes_over = record {

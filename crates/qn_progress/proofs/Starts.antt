@@ -1,7 +1,7 @@
 -- Once the fencing is over and msgwait has passed, the only member of a view starts.
-use Rattle.std.proofs.Common.{◌≡◌, ℕ, ◌+◌, ◌≤◌, ◌<◌, Bool, true, false, List, [], ◌∷◌, length, Some, None, Option, refl, sym, ap, ◌∙◌, arith, ◌||◌, ◌&&◌, ◌==◌, not, if◌then◌else◌, is_some, is_none, nat_le, ◌⊎◌, inl, inr}
+use Rattle.std.proofs.Common.{◌≡◌, ℕ, ◌+◌, ◌≤◌, ◌<◌, Bool, true, false, List, [], ◌∷◌, length, Some, None, Option, refl, sym, ap, ◌∙◌, arith, ◌&&◌, ◌==◌, not, if◌then◌else◌, is_some, is_none, nat_le, ◌⊎◌, inl, inr}
 use Rattle.std.specs.Option.{option_map_or}
-use Rattle.std.proofs.lemmas.Bool.{false≢true, true≢false, le-leb, eq-eqb}
+use Rattle.std.proofs.lemmas.Bool.{false≢true, true≢false, le-leb, eq-eqb, or_left, or_right}
 use Rattle.qn_base.specs.declared.ids.View.{View}
 use Rattle.qn_base.specs.Members.{is_member}
 use Rattle.qn_model.specs.declared.configuration.Settings.{Settings}
@@ -26,7 +26,7 @@ use Rattle.qn_model.specs.NodeOutputs.{taken_in, with_read, gives_start, mail_fe
 use Rattle.qn_progress.specs.Pace.{Pace}
 use Rattle.qn_progress.specs.Quiet.{is_gentle, HasHeardAll}
 use Rattle.std.proofs.lemmas.Option.{same_Some}
-use Rattle.qn_safety.specs.LeastRanks.{least_passes}
+use Rattle.qn_model.specs.lemmas.LeastRanks.{least_passes}
 use Rattle.qn_progress.proofs.Totals.{total_zero}
 use Rattle.qn_progress.proofs.Given.{outs_up, acts_start}
 use Rattle.qn_progress.proofs.Entries.{reset_due, read_due, one, owed, pending, in_view_same, pending_less, Reset, WrittenNow, AsBefore, reset_is}
@@ -82,14 +82,6 @@ resets_next {s = s} {t = t} {me = me} {pace = pace} {past = past} {tick = tick} 
         let below = soon writes (by_end busy tick quiet.answers quiet.turns) in omega arith
     by_reset AsBefore is = before j w is
 
-or_left_true : (a b : Bool) → a ≡ true → (a || b) ≡ true
-or_left_true true b e = refl
-or_left_true false b e = absurd (false≢true e)
-
-or_right_true : (a b : Bool) → b ≡ true → (a || b) ≡ true
-or_right_true true b e = refl
-or_right_true false b e = e
-
 no_holder : (inside other told free : Bool) → (inside ≡ true → (other ≡ false) ⊎ (free ≡ true)) → (inside && other && (told && not free)) ≡ false
 no_holder false other told free e = refl
 no_holder true false told free e = refl
@@ -115,7 +107,7 @@ all_heard true true false held e = by_case (e refl)
 pub free_stays : (line : Line) (past : List Line) → is_view line.what ≡ false → (j : ℕ) → is_free past j ≡ true → is_free (line ∷ past) j ≡ true
 unfolding told
 free_stays line past none j free =
-    or_right_true (tells (λ tell. not tell.holds) j past line.what) (not (is_view line.what) && told (λ tell. not tell.holds) j past)
+    or_right (tells (λ tell. not tell.holds) j past line.what) (not (is_view line.what) && told (λ tell. not tell.holds) j past)
     (ap (λ b. not b && told (λ tell. not tell.holds) j past) none ∙ free)
 
 due_none : (inside clean written licensed : Bool) → (not inside && not clean && not written) ≡ false → (clean ≡ true → licensed ≡ true) → (written ≡ true → licensed ≡ true)
@@ -197,8 +189,8 @@ nothing_lacks {s = s} {t = t} {me = me} {pace = pace} {past = past} {tick = tick
     licensed j below =
         due_none (is_in_view (taken_in past tick entry) j) (is_clean (taken_in past tick entry) j) (is_written (taken_in past tick entry) j) (is_licensed (taken_in past tick entry) j tick)
         (one_none (read_due (taken_in past tick entry) j) (reset_due (taken_in past tick entry) j) (total_zero (length s.nodes) (owed (taken_in past tick entry)) none_owed j below))
-        (λ clean. or_left_true (is_clean (taken_in past tick entry) j) (is_fenced (taken_in past tick entry) j tick) clean)
-        (λ written. or_right_true (is_clean (taken_in past tick entry) j) (is_fenced (taken_in past tick entry) j tick) (fenced j written))
+        (λ clean. or_left (is_clean (taken_in past tick entry) j) (is_fenced (taken_in past tick entry) j tick) clean)
+        (λ written. or_right (is_clean (taken_in past tick entry) j) (is_fenced (taken_in past tick entry) j tick) (fenced j written))
 
 not_stopped : (entry : What) → is_gentle entry ≡ true → not (is_stopped entry) ≡ true
 not_stopped (what.Stopped ok) g = g
@@ -224,7 +216,7 @@ pub holds_on : {s : Settings} {t : Timing} {me : ℕ} {pace : Pace} {past : List
     → Quietly s t me pace past tick entry → holds past ≡ true → holds (with_read s me past tick entry) ≡ true
 unfolding holds
 holds_on {s = s} {me = me} {past = past} {tick = tick} {entry = entry} quiet held =
-    or_right_true (has_start (outs_now s me past tick entry)) (holds past && not (is_stopped entry))
+    or_right (has_start (outs_now s me past tick entry)) (holds past && not (is_stopped entry))
     (ap (λ b. b && not (is_stopped entry)) held ∙ not_stopped entry quiet.gentle)
 
 idle_of : (past : List Line) (tick : ℕ) (entry : What) → holds past ≡ false → holds (taken_in past tick entry) ≡ false
@@ -233,7 +225,7 @@ idle_of past tick entry e = ap (λ b. b && not (is_stopped entry)) e
 
 pub starts_of : (s : Settings) (me : ℕ) (past : List Line) (tick : ℕ) (entry : What) → has_start (outs_now s me past tick entry) ≡ true → holds (with_read s me past tick entry) ≡ true
 unfolding holds
-starts_of s me past tick entry e = or_left_true (has_start (outs_now s me past tick entry)) (holds past && not (is_stopped entry)) e
+starts_of s me past tick entry e = or_left (has_start (outs_now s me past tick entry)) (holds past && not (is_stopped entry)) e
 
 -- the only member of a view holds from the first entry on after msgwait
 pub starts : {s : Settings} {t : Timing} {me : ℕ} {pace : Pace} {past : List Line} {tick : ℕ} {entry : What} (end : ℕ)

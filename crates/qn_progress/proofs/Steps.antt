@@ -13,19 +13,21 @@ use Rattle.qn_model.specs.Log.{Line, op_out, ask_tick, ask_place, disk_of, is_an
 use Rattle.qn_model.specs.NodeVotes.{votes, is_in_view}
 use Rattle.qn_model.specs.Votes.{view_tick}
 use Rattle.qn_model.specs.Phases.{phase}
-use Rattle.qn_model.specs.Fitting.{fits, answers_op}
+use Rattle.qn_model.specs.Fitting.{answers_op}
 use Rattle.qn_model.specs.Licences.{out_time, is_seen_slot, reads_slot, writes_reset, is_slot_seen, is_clean, is_written}
 use Rattle.qn_model.specs.Wanted.{rank_of, mail_tick, is_mail_due, fence_delay, fencing_op_with_delay, wanted_with_delay}
 use Rattle.qn_model.specs.NodeOutputs.{outs_at, taken_in, with_read, mail_feeds}
 use Rattle.qn_progress.specs.Pace.{Pace}
 use Rattle.qn_progress.specs.Quiet.{is_gentle}
 use Rattle.std.proofs.lemmas.Option.{none-some}
+use Rattle.qn_model.specs.lemmas.Entries.{fitting_answers}
+use Rattle.qn_model.specs.lemmas.Logs.{out_time-within}
 use Rattle.qn_progress.proofs.Tools.{same_or_less, one_less}
 use Rattle.qn_progress.proofs.Totals.{total_lt}
 use Rattle.qn_progress.proofs.Given.{outs_up, acts_disk}
 use Rattle.qn_progress.proofs.Entries.{read_due, reset_due, one, owed, pending, Plain, in_view_same, out_same, view_tick_same, read_now, written_now, read_less, reset_less, owed_less, pending_less, pending_same, read_due_same, reset_due_same}
 use Rattle.qn_progress.proofs.Next.{Fences, ReadsSlot, Resets, Nothing, fences, wants, wants_none}
-use Rattle.qn_progress.proofs.Busy.{Busy, Done, Idle, Stale, Mail, Fencing, Owes, OwesRead, OwesReset, resets_out, is_out, owes_one, some_pending, line_with, Quietly, asked_out, asked_mail, silent, out_inside, owed_alike, pending_alike}
+use Rattle.qn_progress.proofs.Busy.{Busy, Done, Idle, Stale, Mail, Fencing, Owes, OwesRead, OwesReset, resets_out, is_out, owes_one, some_pending, line_with, Quietly, asked_out, asked_mail, silent, owed_alike, pending_alike}
 
 -- the outputs of the entry
 abbrev pub outs_now : Settings → ℕ → List Line → ℕ → What → List Out
@@ -94,7 +96,7 @@ asks_next {s = s} {t = t} {me = me} {pace = pace} {past = past} {tick = tick} {e
         Fencing (disk.ReadSlot (rank_of j)) j asked.0 below (place_after j asked.2) owes (rw asked.1 bound)
       where
         place_after : (k : ℕ) → ask_place (with_read s me past tick entry) ≡ suc (length past) → out_time k (with_read s me past tick entry) < ask_place (with_read s me past tick entry)
-        place_after k place = let inside = out_inside k past in let same = out_same past (plain_now quiet outs) k in omega arith
+        place_after k place = let inside = out_time-within k past in let same = out_same past (plain_now quiet outs) k in omega arith
     fencing _ (Resets j below due) gave =
         let asked = asked_out past tick entry outs (disk.WriteReset (rank_of j)) gave in
         let here : reset_due (with_read s me past tick entry) j ≡ true = (owed_alike past tick entry outs j).1 ∙ due in
@@ -104,7 +106,7 @@ asks_next {s = s} {t = t} {me = me} {pace = pace} {past = past} {tick = tick} {e
         Fencing (disk.WriteReset (rank_of j)) j asked.0 below (place_after j asked.2) owes (rw asked.1 bound)
       where
         place_after : (k : ℕ) → ask_place (with_read s me past tick entry) ≡ suc (length past) → out_time k (with_read s me past tick entry) < ask_place (with_read s me past tick entry)
-        place_after k place = let inside = out_inside k past in let same = out_same past (plain_now quiet outs) k in omega arith
+        place_after k place = let inside = out_time-within k past in let same = out_same past (plain_now quiet outs) k in omega arith
     fencing _ (Nothing none) gave =
         let still = silent past tick entry outs gave in
         Done (is_pending ∙ none) (ap resets_out (still.0 ∙ sym (taken_out past tick entry) ∙ out))
@@ -160,26 +162,6 @@ stays {s = s} {t = t} {me = me} {pace = pace} {past = past} {tick = tick} {entry
     by_busy (Fencing op j is below place owes bound) =
         let same = out_same past (plain_now quiet outs) j in
         Fencing op j (still_out ∙ is) below (rw is_place (rw same place)) (still_owes j op owes) (rw is_tick (rw is_pending bound))
-
--- an answer that fits answers the operation that is out
-answers_out : (s : Settings) (me : ℕ) (past : List Line) (entry : What) → is_answer entry ≡ true → fits s me past entry ≡ true → answers_op (op_out past) entry ≡ true
-answers_out s me past (what.Header seen) is fit = fit
-answers_out s me past (what.SlotRead rank seen) is fit = fit
-answers_out s me past (what.MailChecked seen) is fit = fit
-answers_out s me past (what.Claimed ok) is fit = fit
-answers_out s me past (what.Cleared ok) is fit = fit
-answers_out s me past (what.MailRead seen) is fit = fit
-answers_out s me past (what.MailWritten rank ok) is fit = fit
-answers_out s me past (what.Closed ok) is fit = fit
-answers_out s me past what.Begin is fit = absurd (false≢true is)
-answers_out s me past what.BeginClean is fit = absurd (false≢true is)
-answers_out s me past (what.View installed) is fit = absurd (false≢true is)
-answers_out s me past (what.Ask ask) is fit = absurd (false≢true is)
-answers_out s me past (what.Tell tell) is fit = absurd (false≢true is)
-answers_out s me past (what.Device agrees) is fit = absurd (false≢true is)
-answers_out s me past what.Tick is fit = absurd (false≢true is)
-answers_out s me past (what.Stopped ok) is fit = absurd (false≢true is)
-answers_out s me past what.Leave is fit = absurd (false≢true is)
 
 -- a read of a slot that did not fail, and a reset that was written, are owed no more
 read_hits : (j : ℕ) (entry : What) → answers_op (Some (disk.ReadSlot (rank_of j))) entry ≡ true → is_gentle entry ≡ true → reads_slot is_seen_slot j entry ≡ true
@@ -270,7 +252,7 @@ busy_next {s = s} {t = t} {me = me} {pace = pace} {past = past} {tick = tick} {e
     by_busy : is_answer entry ≡ true → op_out (taken_in past tick entry) ≡ None → Busy s pace end past → Busy s pace end (with_read s me past tick entry)
     by_busy is free (Done none no_reset) = let l = less in asks_next end quiet free (λ some due. absurd (omega arith)) (λ some. absurd (omega arith))
     by_busy is free (Idle nothing bound) =
-        absurd (true≢false (sym (answers_out s me past entry is quiet.fitting) ∙ ap (λ o. answers_op o entry) nothing))
+        absurd (true≢false (sym (fitting_answers s me past entry is quiet.fitting) ∙ ap (λ o. answers_op o entry) nothing))
     by_busy is free (Stale op out bound) =
         let soon = quiet.answers (is_out out) in let l = less_time in
         asks_next end quiet free (λ some due. omega arith) (λ some. omega arith)
@@ -288,7 +270,7 @@ busy_next {s = s} {t = t} {me = me} {pace = pace} {past = past} {tick = tick} {e
     by_busy is free (Fencing op j out below place owes bound) =
         let soon = quiet.answers (is_out out) in
         let asked : (line_with past tick entry outs).asked ≡ ask_place past = ap (λ b. if b then ask_place past else 0) is in
-        let answer : answers_op (Some op) entry ≡ true = ap (λ o. answers_op o entry) (sym out) ∙ answers_out s me past entry is quiet.fitting in
+        let answer : answers_op (Some op) entry ≡ true = ap (λ o. answers_op o entry) (sym out) ∙ fitting_answers s me past entry is quiet.fitting in
         let one_fewer = answered_less past j op (plain_now quiet outs) owes answer quiet.gentle (rw asked place) in
         let fewer : pending s (with_read s me past tick entry) < pending s past =
         total_lt (length s.nodes) (owed (with_read s me past tick entry)) (owed past) j below one_fewer (λ k under. owed_less past (plain_now quiet outs) k) in

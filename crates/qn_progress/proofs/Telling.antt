@@ -4,6 +4,7 @@ use Rattle.std.specs.Option.{option_map_or}
 use Rattle.std.proofs.lemmas.Bool.{false≢true, eq-eqb, ne_eqb, lt-ltb}
 use Rattle.qn_base.specs.declared.ids.View.{View}
 use Rattle.qn_base.specs.Members.{is_member}
+use Rattle.qn_base.specs.lemmas.Elements.{IsIn, First}
 use Rattle.qn_model.specs.declared.configuration.Settings.{Settings}
 use Rattle.qn_model.specs.declared.packets.Ask.{Ask}
 use Rattle.qn_model.specs.declared.packets.Tell.{Tell}
@@ -22,7 +23,7 @@ use Rattle.qn_model.specs.NodeOutputs.{when, disk_outs, acts, asks, gives_stop, 
 use Rattle.qn_progress.proofs.Given.{acts_start, outs_up}
 use Rattle.qn_progress.proofs.Steps.{outs_now}
 use Rattle.qn_progress.proofs.Starts.{starts_of}
-use Rattle.qn_progress.proofs.Asking.{IsIn, First, in_left, in_right}
+use Rattle.qn_progress.proofs.Asking.{in_left, in_right}
 
 -- the Tell of a node that answers an Ask
 abbrev pub tell_to : Settings → ℕ → List Line → Ask → Out

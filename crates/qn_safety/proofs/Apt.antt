@@ -2,7 +2,9 @@
 use Rattle.std.proofs.Common.{◌≡◌, ℕ, ◌+◌, Bool, true, false, List, [], ◌∷◌, Some, None, Option, refl, sym, ap, ◌∙◌, subst, ◌&&◌, ◌||◌, if◌then◌else◌, inl, inr, is_some}
 use Rattle.std.specs.Option.{option_or}
 use Rattle.std.proofs.lemmas.Bool.{false≢true, true≢false, eqb-true}
+use Rattle.std.proofs.lemmas.Option.{same_Some}
 use Rattle.qn_base.specs.declared.ids.Rank.{Rank}
+use Rattle.qn_base.specs.lemmas.Options.{none_is_not_some, some_is_not_none}
 use Rattle.qn_model.specs.declared.configuration.Settings.{Settings}
 use Rattle.qn_model.specs.declared.disk.Message.{Message}
 use Rattle.qn_model.specs.declared.disk.Slot.{Slot}
@@ -22,7 +24,6 @@ use Rattle.qn_model.specs.Moments.{begin_of}
 use Rattle.qn_model.specs.Phases.{phase, next_phase, boot_phase, mail_phase, header_halt, slot_halt, check_halt, boot_halt, message_of, deadly_of, in_time, is_booting, is_live, is_up, is_leaving}
 use Rattle.qn_model.specs.Wanted.{boot_op, rank_of}
 use Rattle.qn_model.specs.Fitting.{fits, answers_op, is_closed, is_first}
-use Rattle.qn_safety.proofs.Tools.{some_same, none_some, some_none}
 use Rattle.qn_safety.proofs.Says.{Reason, LiveState}
 use Rattle.qn_safety.proofs.Logs.{Made, NoLine, OneMore, IsLine, before_outs, disk_reason}
 
@@ -233,35 +234,35 @@ step_at {number = number} me entry o op p q it same phase_same =
 
 slot_step_of : (me : ℕ) (number : ℕ) (rank : Rank) (own : Slot) (op : DiskOp) (clean : Bool)
     → boot_op me clean number (what.SlotRead rank (slot.Read own)) ≡ Some op → BootStep me number (what.SlotRead rank (slot.Read own)) op Booting
-slot_step_of me number rank own op true next = step_at me _ _ op _ _ (CleanSlotStep rank own) (some_same _ _ next) refl
-slot_step_of me number rank own op false next = step_at me _ _ op _ _ (SlotStep rank own) (some_same _ _ next) refl
+slot_step_of me number rank own op true next = step_at me _ _ op _ _ (CleanSlotStep rank own) (same_Some _ _ next) refl
+slot_step_of me number rank own op false next = step_at me _ _ op _ _ (SlotStep rank own) (same_Some _ _ next) refl
 
 pub boot_step_of : {number : ℕ} (s : Settings) (me : ℕ) (clean : Bool) (entry : What) (op : DiskOp) (timely : Bool) → boot_halt s entry ≡ None
     → boot_op me clean number entry ≡ Some op → BootStep me number entry op (next_phase s entry timely Booting)
-boot_step_of s me clean what.Begin op timely goes next = step_at me _ _ op _ _ (BeginStep false) (some_same _ _ next) refl
-boot_step_of s me clean what.BeginClean op timely goes next = step_at me _ _ op _ _ (BeginStep true) (some_same _ _ next) refl
+boot_step_of s me clean what.Begin op timely goes next = step_at me _ _ op _ _ (BeginStep false) (same_Some _ _ next) refl
+boot_step_of s me clean what.BeginClean op timely goes next = step_at me _ _ op _ _ (BeginStep true) (same_Some _ _ next) refl
 boot_step_of s me clean (what.Header seen) op timely goes next =
-    step_at me _ _ op _ _ (HeaderStep seen) (some_same _ _ next) (ap (λ c. boot_phase c Booting) (sym goes))
+    step_at me _ _ op _ _ (HeaderStep seen) (same_Some _ _ next) (ap (λ c. boot_phase c Booting) (sym goes))
 boot_step_of {number = number} s me clean (what.SlotRead rank (slot.Read own)) op timely goes next =
     step_at me _ _ op _ _ (slot_step_of me number rank own op clean next) refl (ap (λ c. boot_phase c Booting) (sym goes))
-boot_step_of s me clean (what.SlotRead rank slot.Damaged) op timely goes next = some_none _ goes
-boot_step_of s me clean (what.SlotRead rank slot.Failed) op timely goes next = some_none _ goes
+boot_step_of s me clean (what.SlotRead rank slot.Damaged) op timely goes next = some_is_not_none _ goes
+boot_step_of s me clean (what.SlotRead rank slot.Failed) op timely goes next = some_is_not_none _ goes
 boot_step_of s me clean (what.MailChecked seen) op timely goes next =
-    step_at me _ _ op _ _ (CheckStep seen) (some_same _ _ next) (ap (λ c. boot_phase c Booting) (sym goes))
-boot_step_of s me clean (what.Claimed true) op timely goes next = step_at me _ _ op _ _ ClaimStep (some_same _ _ next) refl
-boot_step_of s me clean (what.Claimed false) op timely goes next = some_none _ goes
-boot_step_of s me clean (what.Cleared true) op timely goes next = step_at me _ _ op _ _ ClearStep (some_same _ _ next) refl
-boot_step_of s me clean (what.Cleared false) op timely goes next = some_none _ goes
-boot_step_of s me clean (what.MailRead seen) op timely goes next = none_some op next
-boot_step_of s me clean (what.MailWritten rank ok) op timely goes next = none_some op next
-boot_step_of s me clean (what.View installed) op timely goes next = none_some op next
-boot_step_of s me clean (what.Ask ask) op timely goes next = none_some op next
-boot_step_of s me clean (what.Tell tell) op timely goes next = none_some op next
-boot_step_of s me clean (what.Device agrees) op timely goes next = none_some op next
-boot_step_of s me clean what.Tick op timely goes next = none_some op next
-boot_step_of s me clean (what.Stopped ok) op timely goes next = none_some op next
-boot_step_of s me clean what.Leave op timely goes next = none_some op next
-boot_step_of s me clean (what.Closed ok) op timely goes next = none_some op next
+    step_at me _ _ op _ _ (CheckStep seen) (same_Some _ _ next) (ap (λ c. boot_phase c Booting) (sym goes))
+boot_step_of s me clean (what.Claimed true) op timely goes next = step_at me _ _ op _ _ ClaimStep (same_Some _ _ next) refl
+boot_step_of s me clean (what.Claimed false) op timely goes next = some_is_not_none _ goes
+boot_step_of s me clean (what.Cleared true) op timely goes next = step_at me _ _ op _ _ ClearStep (same_Some _ _ next) refl
+boot_step_of s me clean (what.Cleared false) op timely goes next = some_is_not_none _ goes
+boot_step_of s me clean (what.MailRead seen) op timely goes next = none_is_not_some op next
+boot_step_of s me clean (what.MailWritten rank ok) op timely goes next = none_is_not_some op next
+boot_step_of s me clean (what.View installed) op timely goes next = none_is_not_some op next
+boot_step_of s me clean (what.Ask ask) op timely goes next = none_is_not_some op next
+boot_step_of s me clean (what.Tell tell) op timely goes next = none_is_not_some op next
+boot_step_of s me clean (what.Device agrees) op timely goes next = none_is_not_some op next
+boot_step_of s me clean what.Tick op timely goes next = none_is_not_some op next
+boot_step_of s me clean (what.Stopped ok) op timely goes next = none_is_not_some op next
+boot_step_of s me clean what.Leave op timely goes next = none_is_not_some op next
+boot_step_of s me clean (what.Closed ok) op timely goes next = none_is_not_some op next
 
 step_apt : {number : ℕ} (me : ℕ) (entry : What) (op : DiskOp) (p : Phase) → BootStep me number entry op p → is_apt (Some op) p ≡ true
 step_apt me entry op p (BeginStep clean) = refl
@@ -281,7 +282,7 @@ mail_lives found timely before live none = by_deadly (deadly_of found) none
 
     by_deadly : (d : Option Message) → d ≡ None → is_live (if is_some d then Dying else (if Rattle.qn_model.specs.Phases.gives_exit found && timely then Leaving else before)) ≡ true
     by_deadly None e = either (Rattle.qn_model.specs.Phases.gives_exit found && timely)
-    by_deadly (Some m) e = some_none m e
+    by_deadly (Some m) e = some_is_not_none m e
 
 live_stays : (before : Phase) (halted : Option BootCause) → is_live before ≡ true → is_live (if is_booting before then boot_phase halted before else before) ≡ true
 live_stays Up halted live = refl

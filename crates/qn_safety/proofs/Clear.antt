@@ -2,6 +2,8 @@
 use Rattle.std.proofs.Common.{◌≡◌, ℕ, ◌<◌, ◌≤◌, Bool, true, false, List, length, Some, None, Option, refl, ap, arith, ◌&&◌, ◌==◌, not, if◌then◌else◌, ◌⊎◌, inl, inr, is_none}
 use Rattle.std.specs.Option.{option_map_or}
 use Rattle.std.proofs.lemmas.Bool.{false≢true, true≢false, cases_lt, eqb-true, ne_eqb}
+use Rattle.qn_base.specs.lemmas.Options.{some_is_not_none}
+use Rattle.qn_base.specs.lemmas.Bools.{never_both}
 use Rattle.qn_model.specs.declared.configuration.Settings.{Settings}
 use Rattle.qn_model.specs.declared.life.Why.TheVariants as why
 use Rattle.qn_model.specs.Log.{Line}
@@ -11,8 +13,7 @@ use Rattle.qn_model.specs.NodeVotes.{view, is_in_view, released, quorate_with_ti
 use Rattle.qn_model.specs.Hearing.{is_free, is_held}
 use Rattle.qn_model.specs.Licences.{is_licensed, is_written, left_to_wait}
 use Rattle.qn_model.specs.Unmet.{unmet, is_clear, id_of, chosen, holder, unheard, unfenced, or_else, other_chosen}
-use Rattle.qn_safety.proofs.Tools.{some_none, clash}
-use Rattle.qn_safety.specs.LeastRanks.{least_none, least_below}
+use Rattle.qn_model.specs.lemmas.LeastRanks.{least_none, least_below}
 
 -- what a start rests on
 pub record IsClear (s : Settings) (me : ℕ) (log : List Line) (tick : ℕ) : Type 0 where
@@ -60,16 +61,16 @@ clear_cases s log tick votes quorum false h v f q d c b a e = absurd (false≢tr
 least_member : (s : Settings) (me : ℕ) (log : List Line) (found : Option ℕ) → chosen s log ≡ found
     → (if option_map_or (λ rank. rank == me) found false then None else found) ≡ None
     → (j : ℕ) → j < length s.nodes → is_in_view log j ≡ true → me ≤ j
-least_member s me log None is other j below member = clash (is_in_view log j) member (least_none (length s.nodes) 0 _ is j (omega arith) (omega arith))
+least_member s me log None is other j below member = never_both (is_in_view log j) member (least_none (length s.nodes) 0 _ is j (omega arith) (omega arith))
 least_member s me log (Some rank) is other j below member = by_test (rank == me) refl other
   where
     not_less : (rank ≡ me) → (j < me) ⊎ (me ≤ j) → me ≤ j
     not_less same (inr above) = above
-    not_less same (inl under) = clash (is_in_view log j) member (least_below (length s.nodes) 0 _ rank is j (omega arith) (omega arith))
+    not_less same (inl under) = never_both (is_in_view log j) member (least_below (length s.nodes) 0 _ rank is j (omega arith) (omega arith))
 
     by_test : (b : Bool) → (rank == me) ≡ b → (if b then None else Some rank) ≡ None → me ≤ j
     by_test true same o = not_less (eqb-true rank me same) (cases_lt j me)
-    by_test false differs o = some_none rank o
+    by_test false differs o = some_is_not_none rank o
 
 free_of : (inside other free held : Bool) → inside ≡ true → other ≡ true → (inside && other && held) ≡ false → (inside && other && not free && not held) ≡ false → free ≡ true
 free_of true true true held i o h u = refl

@@ -1,7 +1,7 @@
 -- The events of the world and the moments of its run: the moments obey the rules, and each of them comes of an event.
-use Rattle.std.proofs.Common.{◌≡◌, ℕ, suc, zero, ◌+◌, ◌<◌, ◌≤◌, Bool, true, List, [], ◌∷◌, length, Some, None, Option, refl, sym, ◌∙◌, subst, arith, ◌==◌, not, ◌⊎◌, inl, inr, nat_le}
+use Rattle.std.proofs.Common.{◌≡◌, ℕ, ◌+◌, ◌<◌, ◌≤◌, Bool, true, List, [], ◌∷◌, length, Some, None, Option, refl, sym, ◌∙◌, subst, arith, ◌==◌, not, ◌⊎◌, inl, inr, nat_le}
 use Rattle.std.specs.Option.{option_map_or}
-use Rattle.std.proofs.lemmas.Bool.{cases_order, eqb-true, ltb-true, leb-true}
+use Rattle.std.proofs.lemmas.Bool.{cases_order, eqb-true, ltb-true, leb-true, not-true}
 use Rattle.qn_base.specs.Members.{is_member}
 use Rattle.qn_model.specs.declared.configuration.Settings.{Settings}
 use Rattle.qn_model.specs.declared.times.Timing.{Timing}
@@ -13,7 +13,6 @@ use Rattle.qn_model.specs.declared.outputs.DiskOp.{DiskOp}
 use Rattle.qn_model.specs.NodeVotes.{view}
 use Rattle.qn_model.specs.Fitting.{answers_op}
 use Rattle.qn_model.specs.Moments.{Before, Itself, Later}
-use Rattle.qn_safety.proofs.Tools.{clash, and_left_of, and_right_of, not_true}
 use Rattle.qn_model.specs.declared.packets.Sent.{Sent}
 use Rattle.qn_model.specs.Moments.{Moment, Adds, advance_of, time, node, packets}
 use Rattle.qn_model.specs.Rules.{passes}
@@ -24,13 +23,17 @@ use Rattle.qn_model.specs.World.{World, op_at, failed, numbered}
 use Rattle.qn_model.specs.Rules.{is_well_formed, refusal, is_on, may_pass, may_be_done, may_fail, may_be_stopped, may_deliver, may_feed, is_configured}
 use Rattle.qn_model.specs.Steps.{happens, landed, answered, fails, lands_late, entry_of, step, run}
 use Rattle.std.specs.Prelude.{slice_get}
-use Rattle.std.specs.List.{list_all, range_with_len}
+use Rattle.std.specs.List.{list_all}
+use Rattle.qn_base.specs.lemmas.Ranges.{each_in_range}
+use Rattle.qn_base.specs.lemmas.Options.{value_tested}
+use Rattle.qn_base.specs.lemmas.Bools.{never_both, first_of_both, second_of_both}
+use Rattle.qn_model.specs.lemmas.Rules.{allowed, both_allowed}
+use Rattle.qn_model.specs.lemmas.Entries.{failed_answers}
 use Rattle.qn_model.specs.Steps.{AllAllowed}
 use Rattle.qn_safety.specs.AnyNumbers.{AllMay, is_ranked}
 use Rattle.qn_safety.proofs.Outs.{plain_no_answer}
 use Rattle.qn_safety.proofs.Runs.{sound}
-use Rattle.qn_safety.proofs.Seats.{seat_of, Effect, effect, allows, both_allow, running_allows, test_there}
-use Rattle.qn_safety.proofs.Kept.{failed_answers}
+use Rattle.qn_safety.proofs.Seats.{seat_of, Effect, effect, running_allows}
 use Rattle.qn_safety.proofs.Held.{Held, held_effect, first_held}
 
 -- events that are each allowed in their turn, newest first
@@ -41,8 +44,8 @@ pub data IsAllowed (s : Settings) (t : Timing) : List Event → Type 0 where
 -- a well formed event boots a configured node, where it boots one
 ranked_of : (s : Settings) (e : Event) → is_well_formed s e ≡ true → is_ranked s e ≡ true
 unfolding is_well_formed
-ranked_of s (event.Boot rank base) form = and_left_of (is_configured s rank.0) (nat_le base 1000000000000000) form
-ranked_of s (event.BootClean rank base) form = and_left_of (is_configured s rank.0) (nat_le base 1000000000000000) form
+ranked_of s (event.Boot rank base) form = first_of_both (is_configured s rank.0) (nat_le base 1000000000000000) form
+ranked_of s (event.BootClean rank base) form = first_of_both (is_configured s rank.0) (nat_le base 1000000000000000) form
 ranked_of s (event.Pass dt clocks) form = refl
 ranked_of s (event.Crash rank) form = refl
 ranked_of s (event.Land rank) form = refl
@@ -73,24 +76,10 @@ pub allowed_before : {s : Settings} {t : Timing} {old new : List Event} → Befo
 allowed_before Itself allowed = allowed
 allowed_before (Later newest more) (OneEvent form ok allowed) = allowed_before more allowed
 
-in_range_at : (test : ℕ → Bool) (from k : ℕ) → test from ≡ true → (from < k → test k ≡ true) → from ≤ k → test k ≡ true
-in_range_at test from k here later above = by_order (cases_order from k)
-  where
-    by_order : (from ≡ k) ⊎ ((from < k) ⊎ (k < from)) → test k ≡ true
-    by_order (inl same) = subst (λ n. test n ≡ true) same here
-    by_order (inr (inl past)) = later past
-    by_order (inr (inr behind)) = absurd (omega arith)
-
-in_range : (test : ℕ → Bool) (count from k : ℕ) → list_all test (range_with_len from count) ≡ true → from ≤ k → k < from + count → test k ≡ true
-in_range test zero from k all above below = absurd (omega arith)
-in_range test (suc count) from k all above below =
-    in_range_at test from k (and_left_of (test from) (list_all test (range_with_len (from + 1) count)) all)
-    (λ past. in_range test count (from + 1) k (and_right_of (test from) (list_all test (range_with_len (from + 1) count)) all) (omega arith) (omega arith)) above
-
 -- an answer of the disk is no packet
 answer_unsent : (s : Settings) (r : ℕ) (op : Option DiskOp) (entry : What) (ms : List Moment) → answers_op op entry ≡ true → WasSent s r entry ms
-answer_unsent s r op (what.Ask ask) ms e = clash (answers_op op (what.Ask ask)) e (plain_no_answer op (what.Ask ask) refl)
-answer_unsent s r op (what.Tell tell) ms e = clash (answers_op op (what.Tell tell)) e (plain_no_answer op (what.Tell tell) refl)
+answer_unsent s r op (what.Ask ask) ms e = never_both (answers_op op (what.Ask ask)) e (plain_no_answer op (what.Ask ask) refl)
+answer_unsent s r op (what.Tell tell) ms e = never_both (answers_op op (what.Tell tell)) e (plain_no_answer op (what.Tell tell) refl)
 answer_unsent s r op what.Begin ms e = tt
 answer_unsent s r op what.BeginClean ms e = tt
 answer_unsent s r op (what.Header seen) ms e = tt
@@ -123,13 +112,13 @@ ruled_step : (s : Settings) (t : Timing) (e : Event) (w : World) → is_ranked s
     → AllRuled s t w.moments → AllRuled s t (step s t e w).moments
 unfolding refusal step
 ruled_step s t (event.Pass dt clocks) w form ok held ruled =
-    let may = allows (may_pass s t dt clocks w) 1 ok in
-    OneRuled (λ rank below. in_range (λ r. passes t dt (advance_of dt clocks r) (time w.moments) (node s r w.moments)) (length s.nodes) 0 rank
-    (and_right_of (list_all (λ clock. is_on s clock.0.0 w) clocks) _ may) (omega arith) (omega arith)) ruled
+    let may = allowed (may_pass s t dt clocks w) 1 ok in
+    OneRuled (λ rank below. each_in_range (λ r. passes t dt (advance_of dt clocks r) (time w.moments) (node s r w.moments)) (length s.nodes) 0 rank
+    (second_of_both (list_all (λ clock. is_on s clock.0.0 w) clocks) _ may) (omega arith) (omega arith)) ruled
 ruled_step s t (event.Boot rank base) w form ok held ruled =
-    OneRuled (not_true (is_on s rank.0 w) (allows (not (is_on s rank.0 w)) 2 ok), ltb-true rank.0 (length s.nodes) form) ruled
+    OneRuled (not-true (is_on s rank.0 w) (allowed (not (is_on s rank.0 w)) 2 ok), ltb-true rank.0 (length s.nodes) form) ruled
 ruled_step s t (event.BootClean rank base) w form ok held ruled =
-    OneRuled (not_true (is_on s rank.0 w) (allows (not (is_on s rank.0 w)) 2 ok), ltb-true rank.0 (length s.nodes) form) ruled
+    OneRuled (not-true (is_on s rank.0 w) (allowed (not (is_on s rank.0 w)) 2 ok), ltb-true rank.0 (length s.nodes) form) ruled
 ruled_step s t (event.Crash rank) w form ok held ruled = OneRuled (running_allows (is_on s rank.0 w) 3 ok) ruled
 ruled_step s t (event.Land rank) w form ok held ruled = by_op (op_at s rank.0 w)
   where
@@ -139,7 +128,7 @@ ruled_step s t (event.Land rank) w form ok held ruled = by_op (op_at s rank.0 w)
 ruled_step s t (event.Done rank) w form ok held ruled = by_took (w.took rank.0) refl
   where
     on : is_on s rank.0 w ≡ true
-    on = (both_allow (is_on s rank.0 w) (may_be_done s rank.0 w) 3 5 ok).0
+    on = (both_allowed (is_on s rank.0 w) (may_be_done s rank.0 w) 3 5 ok).0
 
     by_took : (o : Option What) → w.took rank.0 ≡ o → AllRuled s t (option_map_or (λ entry. answered rank.0 entry w) o w).moments
     by_took None e = ruled
@@ -148,26 +137,26 @@ ruled_step s t (event.Fail rank) w form ok held ruled = by_op (op_at s rank.0 w)
   where
     by_op : (o : Option DiskOp) → AllRuled s t (option_map_or (λ op. fails s rank.0 op w) o w).moments
     by_op None = ruled
-    by_op (Some op) = OneRuled ((both_allow (is_on s rank.0 w) (may_fail s rank.0 w) 3 5 ok).0, answer_unsent s rank.0 (Some op) (failed op) w.moments (failed_answers op)) ruled
+    by_op (Some op) = OneRuled ((both_allowed (is_on s rank.0 w) (may_fail s rank.0 w) 3 5 ok).0, answer_unsent s rank.0 (Some op) (failed op) w.moments (failed_answers op)) ruled
 ruled_step s t (event.Late rank number) w form ok held ruled = by_op (numbered (w.left rank.0) number)
   where
     by_op : (o : Option DiskOp) → AllRuled s t (option_map_or (λ op. lands_late rank.0 number op w) o w).moments
     by_op None = ruled
     by_op (Some op) = ruled
-ruled_step s t (event.View rank view) w form ok held ruled = OneRuled ((both_allow (is_on s rank.0 w) (is_member view.members rank.0) 3 7 ok).0, tt) ruled
+ruled_step s t (event.View rank view) w form ok held ruled = OneRuled ((both_allowed (is_on s rank.0 w) (is_member view.members rank.0) 3 7 ok).0, tt) ruled
 ruled_step s t (event.Deliver rank number) w form ok held ruled =
-    let rules = both_allow (is_on s rank.0 w) (may_deliver s rank.0 number w) 3 8 ok in
-    let sent = test_there (λ (x : Sent). x.to.0 == rank.0) (slice_get (packets s w.moments) number) rules.1 in
+    let rules = both_allowed (is_on s rank.0 w) (may_deliver s rank.0 number w) 3 8 ok in
+    let sent = value_tested (λ (x : Sent). x.to.0 == rank.0) (slice_get (packets s w.moments) number) rules.1 in
     subst (λ o. AllRuled s t (option_map_or (λ x. happens (Adds rank.0 (entry_of x.packet)) w) o w).moments) (sym sent.1)
     (OneRuled (rules.0, packet_sent s rank.0 number sent.0 w.moments sent.1 sent.2) ruled)
 ruled_step s t (event.Device rank agrees) w form ok held ruled = OneRuled (running_allows (is_on s rank.0 w) 3 ok, tt) ruled
 ruled_step s t (event.Tick rank) w form ok held ruled = OneRuled (running_allows (is_on s rank.0 w) 3 ok, tt) ruled
-ruled_step s t (event.Stopped rank) w form ok held ruled = OneRuled ((both_allow (is_on s rank.0 w) (may_be_stopped s rank.0 w) 3 5 ok).0, tt) ruled
-ruled_step s t (event.Unstopped rank) w form ok held ruled = OneRuled ((both_allow (is_on s rank.0 w) (may_be_stopped s rank.0 w) 3 5 ok).0, tt) ruled
+ruled_step s t (event.Stopped rank) w form ok held ruled = OneRuled ((both_allowed (is_on s rank.0 w) (may_be_stopped s rank.0 w) 3 5 ok).0, tt) ruled
+ruled_step s t (event.Unstopped rank) w form ok held ruled = OneRuled ((both_allowed (is_on s rank.0 w) (may_be_stopped s rank.0 w) 3 5 ok).0, tt) ruled
 ruled_step s t (event.Leave rank) w form ok held ruled = OneRuled (running_allows (is_on s rank.0 w) 3 ok, tt) ruled
 ruled_step s t (event.Feed rank) w form ok held ruled =
-    let rules = both_allow (is_on s rank.0 w) (may_feed s t rank.0 w) 3 9 ok in
-    let fed = test_there (λ decided. nat_le (time w.moments) (decided + t.feed_delay)) (node s rank.0 w.moments).decided rules.1 in
+    let rules = both_allowed (is_on s rank.0 w) (may_feed s t rank.0 w) 3 9 ok in
+    let fed = value_tested (λ decided. nat_le (time w.moments) (decided + t.feed_delay)) (node s rank.0 w.moments).decided rules.1 in
     OneRuled (record { on = rules.0; at = fed.0; decided = fed.1; in_time = leb-true (time w.moments) (fed.0 + t.feed_delay) fed.2 }) ruled
 ruled_step s t (event.Operator rank message) w form ok held ruled = ruled
 

@@ -1,6 +1,9 @@
 -- The four facts of the disk hold of every run of the world.
 use Rattle.std.proofs.Common.{◌≡◌, ℕ, ◌≤◌, Bool, true, false, List, ◌∷◌, Some, None, Option, refl, sym, ap, ◌∙◌, subst, arith, ◌&&◌, ◌||◌, ◌==◌, if◌then◌else◌, is_some}
 use Rattle.std.proofs.lemmas.Bool.{false≢true, eqb-true}
+use Rattle.std.proofs.lemmas.Option.{same_Some}
+use Rattle.qn_base.specs.lemmas.Options.{none_is_not_some}
+use Rattle.qn_base.specs.lemmas.Bools.{never_both, first_of_both, second_of_both}
 use Rattle.qn_model.specs.declared.configuration.Settings.{Settings}
 use Rattle.qn_model.specs.declared.times.Timing.{Timing}
 use Rattle.qn_model.specs.declared.disk.Slot.{Slot}
@@ -12,11 +15,12 @@ use Rattle.qn_model.specs.Log.{Line, op_out, ask_place, times_of, disk_of, is_an
 use Rattle.qn_model.specs.Phases.{phase, is_booting}
 use Rattle.qn_model.specs.Licences.{reads_slot, is_clean_slot}
 use Rattle.qn_model.specs.Moments.{Before}
-use Rattle.qn_safety.proofs.Tools.{some_same, none_some, clash, and_left_of, and_right_of, before_tail}
+use Rattle.qn_safety.specs.Earlier.{before_tail}
 use Rattle.qn_model.specs.Moments.{Moment, booted, node}
 use Rattle.qn_safety.specs.Closing.{is_close, asked_close}
 use Rattle.qn_safety.specs.Timed.{IsBetween, HasClosed, IsAdded, CleanMeansClosed, HeadersAgree}
 use Rattle.qn_model.specs.declared.events.Event.{Event}
+use Rattle.qn_model.specs.lemmas.Logs.{ask_place-within}
 use Rattle.qn_model.specs.World.{World, taken, failed}
 use Rattle.qn_model.specs.Steps.{run}
 use Rattle.qn_safety.proofs.Logs.{Made, made_line, ask_line}
@@ -26,25 +30,25 @@ use Rattle.qn_safety.proofs.Runs.{sound, ruled_before}
 use Rattle.qn_safety.proofs.Origins.{added_line}
 use Rattle.qn_safety.proofs.Kept.{Kept}
 use Rattle.qn_safety.proofs.Events.{IsAllowed, allowed_before, stage, moments_grow}
-use Rattle.qn_safety.proofs.Landings.{LandedAt, landed_at, AddedBy, added_by, LineKind, Plain, Taken, Failed, ask_place_inside}
+use Rattle.qn_safety.proofs.Landings.{LandedAt, landed_at, AddedBy, added_by, LineKind, Plain, Taken, Failed}
 
 times_answer : (entry : What) (times : Timing) → times_of entry ≡ Some times → is_answer entry ≡ true
 times_answer (what.Header seen) times e = refl
-times_answer what.Begin times e = none_some times e
-times_answer what.BeginClean times e = none_some times e
+times_answer what.Begin times e = none_is_not_some times e
+times_answer what.BeginClean times e = none_is_not_some times e
 times_answer (what.SlotRead other seen) times e = refl
 times_answer (what.MailChecked seen) times e = refl
 times_answer (what.Claimed ok) times e = refl
 times_answer (what.Cleared ok) times e = refl
 times_answer (what.MailRead seen) times e = refl
 times_answer (what.MailWritten other ok) times e = refl
-times_answer (what.View installed) times e = none_some times e
-times_answer (what.Ask ask) times e = none_some times e
-times_answer (what.Tell tell) times e = none_some times e
-times_answer (what.Device agrees) times e = none_some times e
-times_answer what.Tick times e = none_some times e
-times_answer (what.Stopped ok) times e = none_some times e
-times_answer what.Leave times e = none_some times e
+times_answer (what.View installed) times e = none_is_not_some times e
+times_answer (what.Ask ask) times e = none_is_not_some times e
+times_answer (what.Tell tell) times e = none_is_not_some times e
+times_answer (what.Device agrees) times e = none_is_not_some times e
+times_answer what.Tick times e = none_is_not_some times e
+times_answer (what.Stopped ok) times e = none_is_not_some times e
+times_answer what.Leave times e = none_is_not_some times e
 times_answer (what.Closed ok) times e = refl
 
 failed_times : (op : DiskOp) → times_of (failed op) ≡ None
@@ -60,14 +64,14 @@ failed_times (disk.WriteClose number) = refl
 
 taken_times : (s : Settings) (t : Timing) (j : ℕ) (op : DiskOp) (w : World) (times : Timing) → times_of (taken s t j op w) ≡ Some times → times ≡ t
 unfolding taken
-taken_times s t j disk.ReadHeader w times e = sym (some_same _ _ e)
-taken_times s t j (disk.ReadSlot other) w times e = none_some times e
-taken_times s t j disk.CheckMail w times e = none_some times e
-taken_times s t j (disk.WriteClaim number) w times e = none_some times e
-taken_times s t j disk.WriteClear w times e = none_some times e
-taken_times s t j disk.ReadMail w times e = none_some times e
-taken_times s t j (disk.WriteReset other) w times e = none_some times e
-taken_times s t j (disk.WriteClose number) w times e = none_some times e
+taken_times s t j disk.ReadHeader w times e = sym (same_Some _ _ e)
+taken_times s t j (disk.ReadSlot other) w times e = none_is_not_some times e
+taken_times s t j disk.CheckMail w times e = none_is_not_some times e
+taken_times s t j (disk.WriteClaim number) w times e = none_is_not_some times e
+taken_times s t j disk.WriteClear w times e = none_is_not_some times e
+taken_times s t j disk.ReadMail w times e = none_is_not_some times e
+taken_times s t j (disk.WriteReset other) w times e = none_is_not_some times e
+taken_times s t j (disk.WriteClose number) w times e = none_is_not_some times e
 
 -- every header that is read gives the one timing
 pub headers_agree : {s : Settings} {t : Timing} {events : List Event} → IsAllowed s t events → HeadersAgree s t (run s t events).moments
@@ -77,8 +81,8 @@ headers_agree {s = s} {t = t} {events = events} allowed rank line past before ti
     it = added_by rank line past before allowed added
 
     by_kind : LineKind s t rank line (run s t it.earlier) → times ≡ t
-    by_kind (Plain plain) = clash (is_answer line.what) (times_answer line.what times gives) plain
-    by_kind (Failed op failure) = none_some times (sym (ap times_of failure ∙ failed_times op) ∙ gives)
+    by_kind (Plain plain) = never_both (is_answer line.what) (times_answer line.what times gives) plain
+    by_kind (Failed op failure) = none_is_not_some times (sym (ap times_of failure ∙ failed_times op) ∙ gives)
     by_kind (Taken took) =
         let land = landed_at rank line.what (allowed_before (before_tail it.back) allowed) it.on took in
         taken_times s t rank land.op (run s t land.earlier) times (sym (ap times_of land.value) ∙ gives)
@@ -103,7 +107,7 @@ between_of {s = s} {t = t} j line past before allowed added it land =
     let asked = asked_le j line past before allowed added in
     let place : ask_place (node s j before).log ≡ ask_place (node s j (run s t land.earlier).moments).log =
     ap (λ ms. ask_place (node s j ms).log) (sym it.same) ∙ land.place in
-    let inside = ask_place_inside (node s j (run s t land.earlier).moments).log in
+    let inside = ask_place-within (node s j (run s t land.earlier).moments).log in
     record {
       back = subst (λ ms. Before (run s t land.earlier).moments ms) it.same (moments_grow s t (before_tail land.back));
       same = land.same ∙ ap (λ ms. (node s j ms).boots) it.same;
@@ -113,7 +117,7 @@ between_of {s = s} {t = t} j line past before allowed added it land =
 
 failed_unread : (j : ℕ) (op : DiskOp) → reads_slot is_clean_slot j (failed op) ≡ true → ⊥
 unfolding failed
-failed_unread j (disk.ReadSlot other) e = false≢true (and_right_of (other.0 == j) false e)
+failed_unread j (disk.ReadSlot other) e = false≢true (second_of_both (other.0 == j) false e)
 failed_unread j disk.CheckMail e = false≢true e
 failed_unread j disk.ReadHeader e = false≢true e
 failed_unread j (disk.WriteClaim number) e = false≢true e
@@ -125,7 +129,7 @@ failed_unread j (disk.WriteClose number) e = false≢true e
 taken_clean : (s : Settings) (t : Timing) (i j : ℕ) (op : DiskOp) (w : World) → reads_slot is_clean_slot j (taken s t i op w) ≡ true → (w.slots j).clean ≡ true
 unfolding taken
 taken_clean s t i j (disk.ReadSlot other) w e =
-    subst (λ r. (w.slots r).clean ≡ true) (eqb-true other.0 j (and_left_of (other.0 == j) (w.slots other.0).clean e)) (and_right_of (other.0 == j) (w.slots other.0).clean e)
+    subst (λ r. (w.slots r).clean ≡ true) (eqb-true other.0 j (first_of_both (other.0 == j) (w.slots other.0).clean e)) (second_of_both (other.0 == j) (w.slots other.0).clean e)
 taken_clean s t i j disk.ReadHeader w e = absurd (false≢true e)
 taken_clean s t i j disk.CheckMail w e = absurd (false≢true e)
 taken_clean s t i j (disk.WriteClaim number) w e = absurd (false≢true e)
@@ -155,8 +159,8 @@ clean_closed : {s : Settings} {log : List Line} {took : Option What} {mine : Slo
 clean_closed {s = s} {log = log} {took = took} {mine = mine} kept booted clean = close_asked log (by_test (is_close (op_out log) && is_some took) refl)
   where
     by_test : (b : Bool) → (is_close (op_out log) && is_some took) ≡ b → is_close (op_out log) ≡ true
-    by_test true e = and_left_of (is_close (op_out log)) (is_some took) e
-    by_test false e = clash mine.clean clean (kept.dirty booted e)
+    by_test true e = first_of_both (is_close (op_out log)) (is_some took) e
+    by_test false e = never_both mine.clean clean (kept.dirty booted e)
 
 -- where a read gives a clean slot, the incarnation that was up at its landing had asked for its close
 pub clean_means_closed : {s : Settings} {t : Timing} {events : List Event} → IsAllowed s t events → CleanMeansClosed s (run s t events).moments
@@ -166,7 +170,7 @@ clean_means_closed {s = s} {t = t} {events = events} allowed i j line past befor
     it = added_by i line past before allowed added
 
     by_kind : LineKind s t i line (run s t it.earlier) → (between : List Moment) × IsBetween s i line before between × HasClosed s j between
-    by_kind (Plain plain) = clash (is_answer line.what) (ap is_answer (read_is is_clean_slot j line.what reads).2) plain
+    by_kind (Plain plain) = never_both (is_answer line.what) (ap is_answer (read_is is_clean_slot j line.what reads).2) plain
     by_kind (Failed op failure) = absurd (failed_unread j op (subst (λ w. reads_slot is_clean_slot j w ≡ true) failure reads))
     by_kind (Taken took) =
         let allowed_then = allowed_before (before_tail it.back) allowed in

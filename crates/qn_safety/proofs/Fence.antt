@@ -11,11 +11,14 @@ use Rattle.qn_model.specs.Log.{Line, op_out, ask_place, ask_tick, claimed, claim
 use Rattle.qn_model.specs.Phases.{phase, message_of, in_time, is_booting}
 use Rattle.qn_model.specs.NodeOutputs.{mail_feeds, feeds_on, newest_outs}
 use Rattle.qn_model.specs.Moments.{Before, Itself, Later}
-use Rattle.qn_safety.proofs.Tools.{some_same, none_some, clash, and_left_of, and_right_of, before_then, before_shorter}
+use Rattle.qn_safety.specs.Earlier.{before_then, before_shorter}
 use Rattle.qn_model.specs.Log as LogSpec
 use Rattle.qn_model.specs.Moments.{Moment, Adds, Running, tick_of, has_feed, logged, handed, begin_of, booted, time, node}
 use Rattle.qn_safety.specs.Timed.{IsUp, IsSameBoot, IsRuled, AllRuled, GetsBadMail, IsAdded, IsTimedRun}
 use Rattle.std.proofs.lemmas.List.Elements.{All-head, All-tail}
+use Rattle.std.proofs.lemmas.Option.{same_Some}
+use Rattle.qn_base.specs.lemmas.Options.{none_is_not_some}
+use Rattle.qn_base.specs.lemmas.Bools.{never_both, first_of_both, second_of_both}
 use Rattle.qn_model.specs.Timing.{is_safe, has_periods, outlasts_feeds}
 use Rattle.qn_safety.proofs.Says.{Says}
 use Rattle.qn_safety.proofs.Logs.{Made, OneMore, IsLine, before_outs, made_line, line_says, AnswerOf, answer_of}
@@ -33,8 +36,8 @@ pub added_then : {s : Settings} {i : ℕ} {line : Line} {past : List Line} {befo
 added_then added back = record { entry = added.entry; back = before_then added.back back; gave = added.gave }
 
 no_begin_times : (clean : Bool) (entry : What) (times : Timing) → entry ≡ begin_of clean → times_of entry ≡ Some times → ⊥
-no_begin_times false entry times begins gives = none_some {P = ⊥} times (sym (ap times_of begins) ∙ gives)
-no_begin_times true entry times begins gives = none_some {P = ⊥} times (sym (ap times_of begins) ∙ gives)
+no_begin_times false entry times begins gives = none_is_not_some {P = ⊥} times (sym (ap times_of begins) ∙ gives)
+no_begin_times true entry times begins gives = none_is_not_some {P = ⊥} times (sym (ap times_of begins) ∙ gives)
 
 -- a node that is up works with the timing of the run
 pub timing_up : {s : Settings} {t : Timing} {all : List Moment} (run : IsTimedRun s t all) (i : ℕ) (p : List Moment) → Before p all → IsUp s i p → timing (node s i p).log ≡ t
@@ -95,7 +98,7 @@ module _ {s : Settings} {t : Timing} {all : List Moment} (run : IsTimedRun s t a
   feed_asked_before entry new line past back since same gave feeds = by_order (cases_lt (length (node s j p).log) line.asked)
     where
       by_order : (length (node s j p).log < line.asked) ⊎ (line.asked ≤ length (node s j p).log) → line.asked ≤ length (node s j p).log
-      by_order (inl after) = clash (feeds_on (message_of line.what)) feeds (bad_mail up line past new (record { entry = entry; back = back; gave = gave }) since same after)
+      by_order (inl after) = never_both (feeds_on (message_of line.what)) feeds (bad_mail up line past new (record { entry = entry; back = back; gave = gave }) since same after)
       by_order (inr before) = before
 
   feed_bound : (entry : What) (new : List Moment) (line : Line) (past : List Line) → Before (Adds j entry ∷ new) all → Before p new → IsSameBoot s j p new
@@ -138,10 +141,10 @@ module _ {s : Settings} {t : Timing} {all : List Moment} (run : IsTimedRun s t a
           omega arith
 
       by_reason : (is_booting (phase s past) ≡ true) ⊎ (mail_feeds line.tick past line.what ≡ true) → 99 * time new ≤ 99 * time p + 100 * t.read_limit + 99
-      by_reason (inl boots) = clash (is_booting (phase s (node s j new).log)) (subst (λ log. is_booting (phase s log) ≡ true) parts.behind boots) up_new.booted
+      by_reason (inl boots) = never_both (is_booting (phase s (node s j new).log)) (subst (λ log. is_booting (phase s log) ≡ true) parts.behind boots) up_new.booted
       by_reason (inr mail) =
-          let feeds = and_left_of (feeds_on (message_of line.what)) (in_time line.tick past) mail in
-          let timely = leb-true line.tick (ask_tick past + (timing past).read_limit) (and_right_of (feeds_on (message_of line.what)) (in_time line.tick past) mail) in
+          let feeds = first_of_both (feeds_on (message_of line.what)) (in_time line.tick past) mail in
+          let timely = leb-true line.tick (ask_tick past + (timing past).read_limit) (second_of_both (feeds_on (message_of line.what)) (in_time line.tick past) mail) in
           let answer = answer_of it (mail_is_answer line.what feeds) in
           let asked = asking_tick answer (feed_asked_before entry new line past back since same gave feeds) in
           let tick = answer.asked.tick in
@@ -190,7 +193,7 @@ module _ {s : Settings} {t : Timing} {all : List Moment} (run : IsTimedRun s t a
           → 99 * d ≤ 99 * time p + 100 * t.read_limit + 99
       by_feed true feed d is =
           let bound = feed_bound entry new _ _ back since same log_now (sym (ap (λ log. has_feed (newest_outs log)) log_now) ∙ feed) in
-          let now : time new ≡ d = some_same _ _ (sym (ap (λ b. if b then Some (time new) else (node s j new).decided) feed) ∙ is) in
+          let now : time new ≡ d = same_Some _ _ (sym (ap (λ b. if b then Some (time new) else (node s j new).decided) feed) ∙ is) in
           omega arith
       by_feed false none d is = was.decided d (sym (ap (λ b. if b then Some (time new) else (node s j new).decided) none) ∙ is)
 
@@ -219,5 +222,5 @@ module _ {s : Settings} {t : Timing} {all : List Moment} (run : IsTimedRun s t a
       let spans = span i ruled_now since same_i on_i in
       let fast = spans.fast in
       let forward = spans.forward in
-      let margin = leb-true (101 * (t.read_limit + 1 + t.watchdog + t.feed_delay)) (99 * (t.msgwait - 1)) (and_right_of (has_periods t) (outlasts_feeds t) safe) in
+      let margin = leb-true (101 * (t.read_limit + 1 + t.watchdog + t.feed_delay)) (99 * (t.msgwait - 1)) (second_of_both (has_periods t) (outlasts_feeds t) safe) in
       omega arith

@@ -2,6 +2,8 @@
 use Rattle.std.proofs.Common.{◌≡◌, ℕ, Bool, true, false, List, ◌∷◌, refl, sym, ap, ◌∙◌, subst, arith, ◌&&◌, ◌==◌, ◌⊎◌, inl, inr}
 use Rattle.std.specs.Option.{option_map_or}
 use Rattle.std.proofs.lemmas.Bool.{eqb-true}
+use Rattle.qn_base.specs.lemmas.Bools.{never_both, first_of_both, second_of_both}
+use Rattle.qn_base.specs.lemmas.Elements.{contains}
 use Rattle.qn_model.specs.declared.configuration.Settings.{Settings}
 use Rattle.qn_model.specs.declared.times.Timing.{Timing}
 use Rattle.qn_model.specs.declared.packets.Tell.{Tell}
@@ -11,13 +13,13 @@ use Rattle.qn_model.specs.Holding.{holds}
 use Rattle.qn_model.specs.NodeVotes.{is_present, answers, install}
 use Rattle.qn_model.specs.Licences.{writes_reset}
 use Rattle.qn_model.specs.Moments.{Before, Itself, Later}
-use Rattle.qn_safety.proofs.Tools.{clash, and_left_of, and_right_of, before_then, before_total}
+use Rattle.qn_safety.specs.Earlier.{before_then, before_total}
 use Rattle.qn_model.specs.Moments.{Moment, Adds, node, is_holder}
 use Rattle.qn_safety.specs.Timed.{AllRuled, IsBetween, GetsBadMail, IsAdded, IsTimedRun}
 use Rattle.qn_model.specs.Timing.{is_safe}
 use Rattle.qn_safety.specs.Lemmas.{HasEnded, HasWaited, HasStartedAfter, TellSays}
 use Rattle.qn_safety.proofs.Runs.{ruled_before, newest_rule, earlier_ruled, span}
-use Rattle.qn_safety.proofs.Origins.{added_line, contains}
+use Rattle.qn_safety.proofs.Origins.{added_line}
 use Rattle.qn_safety.proofs.Fence.{fence}
 use Rattle.qn_safety.proofs.Licensed.{added_boots, holder_holds}
 use Rattle.qn_safety.proofs.Tells.{TellTrace, tell_trace}
@@ -93,8 +95,8 @@ tell_says s t moments reader line past before tell run added reads answered = re
     install_of log same e =
         ap install (sym same)
         ∙ eqb-true (install past) tell.install
-        (and_right_of (option_map_or (λ number. number == tell.incarnation) (claimed past) false) (install past == tell.install)
-        (and_left_of (option_map_or (λ number. number == tell.incarnation) (claimed past) false && install past == tell.install) (is_present past tell.view) e))
+        (second_of_both (option_map_or (λ number. number == tell.incarnation) (claimed past) false) (install past == tell.install)
+        (first_of_both (option_map_or (λ number. number == tell.incarnation) (claimed past) false && install past == tell.install) (is_present past tell.view) e))
 
     starts_later : tell.holds ≡ false → (now : List Moment) → Before sent now → Before now moments → is_holder s now j ≡ true → HasStartedAfter s j sent now
     starts_later free now since until holder = by_order (before_total since start.back)
@@ -106,7 +108,7 @@ tell_says s t moments reader line past before tell run added reads answered = re
         idle = subst (λ log. holds log ≡ false) (sym trace.added.gave) (trace.idle free)
 
         never_before : Before start.at sent → ⊥
-        never_before early = clash (holds (node s j sent).log) (holder_holds s sent j (start.held sent early since)) idle
+        never_before early = never_both (holds (node s j sent).log) (holder_holds s sent j (start.held sent early since)) idle
 
         strictly : Before sent start.at → Before sent (Adds j start.added.entry ∷ start.before)
         strictly order = subst (λ ms. Before sent ms) start.is order

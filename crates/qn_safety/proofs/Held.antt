@@ -1,6 +1,6 @@
 -- The leftover writes of a node, and what stays true of a node's seat at each event.
 use Rattle.std.proofs.Common.{◌≡◌, ℕ, suc, zero, ◌≤◌, Bool, true, false, List, [], ◌∷◌, ◌++◌, Some, None, Option, refl, sym, ap, ◌∙◌, subst, arith, not, if◌then◌else◌}
-use Rattle.std.proofs.lemmas.Bool.{false≢true, true≢false}
+use Rattle.std.proofs.lemmas.Bool.{false≢true, true≢false, not-true}
 use Rattle.qn_base.specs.declared.ids.Rank.{Rank}
 use Rattle.qn_model.specs.declared.configuration.Settings.{Settings}
 use Rattle.qn_model.specs.declared.times.Timing.{Timing}
@@ -15,16 +15,18 @@ use Rattle.qn_model.specs.Log.{Line, op_out, is_answer}
 use Rattle.qn_model.specs.Phases.{phase, next_phase, in_time}
 use Rattle.qn_model.specs.NodeVotes.{answers}
 use Rattle.qn_model.specs.Fitting.{answers_op}
-use Rattle.qn_safety.proofs.Tools.{some_same, none_some, not_true}
 use Rattle.qn_model.specs.Moments.{begin_of, is_gone, node}
 use Rattle.qn_model.specs.World.{World, first_world, taken, failed, is_write, given_up, numbered, without}
 use Rattle.std.proofs.Common.{append-nil}
+use Rattle.std.proofs.lemmas.Option.{same_Some}
+use Rattle.qn_base.specs.lemmas.Options.{none_is_not_some}
+use Rattle.qn_model.specs.lemmas.Entries.{begin_answers_none, failed_answers, read_answers_none}
 use Rattle.qn_safety.proofs.Logs.{Made, NoLine, IsLine, made_line}
 use Rattle.qn_safety.proofs.Stays.{op_kept}
-use Rattle.qn_safety.proofs.Outs.{out_closes, answer_fits, read_plain}
+use Rattle.qn_safety.proofs.Outs.{out_closes, answer_fits}
 use Rattle.qn_safety.proofs.Origins.{line_of, line_what}
 use Rattle.qn_safety.proofs.Seats.{Seat, seat_of, entered, fresh, slot_after, Effect, Rests, Enters, Answers, Fails, BootsUp, GoesOff, Lands, LandsLate}
-use Rattle.qn_safety.proofs.Kept.{Kept, first_kept, some_op, kept_enter, kept_reply, kept_land, taken_answers, failed_answers, booted_op}
+use Rattle.qn_safety.proofs.Kept.{Kept, first_kept, some_op, kept_enter, kept_reply, kept_land, taken_answers, booted_op}
 
 abbrev pub is_reset : DiskOp → Bool
 is_reset (disk.WriteReset rank) = true
@@ -97,12 +99,12 @@ slot_keeps mine (disk.WriteReset rank) keeps = omega arith
 -- a leftover lands late
 pub left_late : (mine : Slot) (left : List DiskOp) (number : ℕ) (op : DiskOp) → LeftOk mine left → numbered left number ≡ Some op
     → (mine.incarnation ≤ (slot_after op mine).incarnation) × LeftOk (slot_after op mine) (without left number)
-left_late mine left zero op ok there = none_some op there
-left_late mine [] (suc place) op ok there = none_some op there
-left_late mine (first ∷ []) (suc zero) op ok there = (slot_keeps mine op (subst (λ o. KeepsNumber mine o) (some_same _ _ there) ok), tt)
-left_late mine (first ∷ []) (suc (suc place)) op ok there = none_some op there
+left_late mine left zero op ok there = none_is_not_some op there
+left_late mine [] (suc place) op ok there = none_is_not_some op there
+left_late mine (first ∷ []) (suc zero) op ok there = (slot_keeps mine op (subst (λ o. KeepsNumber mine o) (same_Some _ _ there) ok), tt)
+left_late mine (first ∷ []) (suc (suc place)) op ok there = none_is_not_some op there
 left_late mine (first ∷ next ∷ ops) (suc zero) op ok there =
-    let is : is_reset op ≡ true = ap is_reset (sym (some_same _ _ there)) ∙ ok.0 in
+    let is : is_reset op ≡ true = ap is_reset (sym (same_Some _ _ there)) ∙ ok.0 in
     let same = reset_slot mine op is in
     (slot_keeps mine op (reset_keeps mine op is), subst (λ m. LeftOk m (next ∷ ops)) (sym same) ok.1)
 left_late mine (first ∷ next ∷ ops) (suc (suc place)) op ok there =
@@ -110,16 +112,16 @@ left_late mine (first ∷ next ∷ ops) (suc (suc place)) op ok there =
     (rest.0, left_cons (slot_after op mine) first (without (next ∷ ops) (suc place)) ok.0 rest.1)
 
 pub resets_late : (left : List DiskOp) (number : ℕ) (op : DiskOp) → AllResets left → numbered left number ≡ Some op → (is_reset op ≡ true) × AllResets (without left number)
-resets_late left zero op all there = none_some op there
-resets_late [] (suc place) op all there = none_some op there
-resets_late (first ∷ ops) (suc zero) op all there = (ap is_reset (sym (some_same _ _ there)) ∙ all.0, all.1)
+resets_late left zero op all there = none_is_not_some op there
+resets_late [] (suc place) op all there = none_is_not_some op there
+resets_late (first ∷ ops) (suc zero) op all there = (ap is_reset (sym (same_Some _ _ there)) ∙ all.0, all.1)
 resets_late (first ∷ ops) (suc (suc place)) op all there = let rest = resets_late ops (suc place) op all.1 there in (rest.0, (all.0, rest.1))
 
 -- an operation that is given up keeps the number
 pub keeps_out : {s : Settings} {me : ℕ} {log : List Line} → Made s me log → (mine : Slot) → Kept s log None mine → (op : DiskOp) → op_out log ≡ Some op → KeepsNumber mine op
 keeps_out made mine was (disk.WriteClaim number) out = let waits = was.claim_waits number out refl in omega arith
 keeps_out {s = s} made mine was (disk.WriteClose number) out =
-    let same = some_same _ _ (sym (was.numbered (booted_op made (disk.WriteClose number) out refl)) ∙ out_closes made number out) in omega arith
+    let same = same_Some _ _ (sym (was.numbered (booted_op made (disk.WriteClose number) out refl)) ∙ out_closes made number out) in omega arith
 keeps_out made mine was disk.ReadHeader out = tt
 keeps_out made mine was (disk.ReadSlot rank) out = tt
 keeps_out made mine was disk.CheckMail out = tt
@@ -174,12 +176,12 @@ module _ (s : Settings) (t : Timing) (j : ℕ) (x : Seat) (made : Made s j x.log
   line_from tick entry made' = made_line made'
 
   living_of : (tick : ℕ) (entry : What) → not (is_gone (phase s (line_of s j tick entry x.log ∷ x.log))) ≡ true → is_gone (phase s (line_of s j tick entry x.log ∷ x.log)) ≡ false
-  living_of tick entry e = not_true (is_gone (phase s (line_of s j tick entry x.log ∷ x.log))) e
+  living_of tick entry e = not-true (is_gone (phase s (line_of s j tick entry x.log ∷ x.log))) e
 
   held_enters : (tick : ℕ) (entry : What) → Made s j (line_of s j tick entry x.log ∷ x.log) → x.on ≡ true → is_answer entry ≡ false → Held s (entered s j tick entry x)
   held_enters tick entry made' on plain =
       let it = made_line made' in
-      let no_answer : is_answer (line_of s j tick entry x.log).what ≡ false = ap is_answer (line_what s j tick entry x.log) ∙ read_plain s j x.log entry plain in
+      let no_answer : is_answer (line_of s j tick entry x.log).what ≡ false = ap is_answer (line_what s j tick entry x.log) ∙ read_answers_none s j x.log entry plain in
       record {
         answers = λ on' v e.
             let waits = was.answers on v e in
@@ -201,7 +203,7 @@ module _ (s : Settings) (t : Timing) (j : ℕ) (x : Seat) (made : Made s j x.log
       let fit = answer_what tick entry (was.answers on entry took) in
       let kept = was.kept on in
       record {
-        answers = λ on' v e. none_some v e;
+        answers = λ on' v e. none_is_not_some v e;
         kept = λ on'. kept_reply (made_line made') made x.took x.slot kept fit.0 (living_of tick entry on')
             (λ rank own booting reads. kept.reading rank own booting (took ∙ ap Some (sym fit.1 ∙ reads)))
             (λ number out claims. kept.claim_landed number entry out took);
@@ -215,7 +217,7 @@ module _ (s : Settings) (t : Timing) (j : ℕ) (x : Seat) (made : Made s j x.log
       let fit = answer_what tick (failed op) (subst (λ o. answers_op o (failed op) ≡ true) (sym out) (failed_answers op)) in
       let kept = was.kept on in
       record {
-        answers = λ on' v e. none_some v e;
+        answers = λ on' v e. none_is_not_some v e;
         kept = λ on'. kept_reply (made_line made') made x.took x.slot kept fit.0 (living_of tick (failed op) on')
             (λ rank own booting reads. absurd (failed_read op rank own (sym fit.1 ∙ reads)))
             (λ number o claims. absurd (failed_claim op (sym fit.1 ∙ claims)));
@@ -254,7 +256,7 @@ module _ (s : Settings) (t : Timing) (j : ℕ) (x : Seat) (made : Made s j x.log
 
   held_ends : x.on ≡ true → Held s (record x { on = false; took = None; left = x.left ++ given_up (op_out x.log) x.took })
   held_ends on = record {
-    answers = λ on' v e. none_some v e;
+    answers = λ on' v e. none_is_not_some v e;
     kept = λ on'. absurd (false≢true on');
     resets = λ on'. absurd (false≢true on');
     left_ok = left_given made x.slot x.took (was.kept on) x.left (was.resets on) (op_out x.log) refl;
@@ -263,7 +265,7 @@ module _ (s : Settings) (t : Timing) (j : ℕ) (x : Seat) (made : Made s j x.log
   held_lands : (op : DiskOp) (w : World) → x.on ≡ true → op_out x.log ≡ Some op → x.took ≡ None → w.slots j ≡ x.slot
       → Held s (record x { took = Some (taken s t j op w); slot = slot_after op x.slot })
   held_lands op w on out none own = record {
-    answers = λ on' v e. subst (λ o. answers_op o v ≡ true) (sym out) (subst (λ u. answers_op (Some op) u ≡ true) (some_same _ _ e) (taken_answers s t j op w));
+    answers = λ on' v e. subst (λ o. answers_op o v ≡ true) (sym out) (subst (λ u. answers_op (Some op) u ≡ true) (same_Some _ _ e) (taken_answers s t j op w));
     kept = λ on'. kept_land made x.slot (subst (λ k. Kept s x.log k x.slot) none (was.kept on)) t op w out own;
     resets = λ on'. was.resets on;
     left_ok = resets_ok (slot_after op x.slot) x.left (was.resets on);
@@ -279,15 +281,11 @@ module _ (s : Settings) (t : Timing) (j : ℕ) (x : Seat) (made : Made s j x.log
 
 fresh_held : (s : Settings) (x : Seat) → Held s (fresh x)
 fresh_held s x = record {
-  answers = λ on v e. none_some v e;
+  answers = λ on v e. none_is_not_some v e;
   kept = λ on. first_kept s x.slot;
   resets = λ on. tt;
   left_ok = tt;
 }
-
-pub begin_plain : (clean : Bool) → is_answer (begin_of clean) ≡ false
-begin_plain false = refl
-begin_plain true = refl
 
 -- each event keeps what is true of a seat
 pub held_effect : (s : Settings) (t : Timing) (j : ℕ) (w w' : World) → Effect s t j w w' → Made s j (node s j w.moments).log → Made s j (node s j w'.moments).log
@@ -301,7 +299,7 @@ held_effect s t j w w' (Fails tick op on out e) made made' was =
     subst (λ x. Held s x) (sym e) (held_fails s t j (seat_of s j w) made was tick op (subst (λ l. Made s j l) (ap (λ x. x.log) e) made') on out)
 held_effect s t j w w' (BootsUp tick clean off e) made made' was =
     subst (λ x. Held s x) (sym e)
-    (held_enters s t j (fresh (seat_of s j w)) NoLine (fresh_held s (seat_of s j w)) tick (begin_of clean) (subst (λ l. Made s j l) (ap (λ x. x.log) e) made') refl (begin_plain clean))
+    (held_enters s t j (fresh (seat_of s j w)) NoLine (fresh_held s (seat_of s j w)) tick (begin_of clean) (subst (λ l. Made s j l) (ap (λ x. x.log) e) made') refl (begin_answers_none clean))
 held_effect s t j w w' (GoesOff on e) made made' was = subst (λ x. Held s x) (sym e) (held_ends s t j (seat_of s j w) made was on)
 held_effect s t j w w' (Lands op on out none all e) made made' was = subst (λ x. Held s x) (sym e) (held_lands s t j (seat_of s j w) made was op w on out none refl)
 held_effect s t j w w' (LandsLate number op there e) made made' was = subst (λ x. Held s x) (sym e) (held_late s t j (seat_of s j w) made was number op there)
@@ -309,7 +307,7 @@ held_effect s t j w w' (LandsLate number op there e) made made' was = subst (λ 
 pub first_held : (s : Settings) (j : ℕ) → Held s (seat_of s j first_world)
 unfolding node
 first_held s j = record {
-  answers = λ on v e. none_some v e;
+  answers = λ on v e. none_is_not_some v e;
   kept = λ on. absurd (false≢true on);
   resets = λ on. absurd (false≢true on);
   left_ok = tt;

@@ -12,7 +12,6 @@ use Rattle.qn_model.specs.Log.{incarnation}
 use Rattle.qn_model.specs.Phases.{phase, is_leaving}
 use Rattle.qn_model.specs.Holding.{holds}
 use Rattle.qn_model.specs.Moments.{Before}
-use Rattle.qn_safety.proofs.Tools.{and_left_of}
 use Rattle.qn_model.specs.Moments.{is_holder}
 use Rattle.qn_model.specs.Rules.{passes}
 use Rattle.qn_safety.specs.Closing.{is_close, asked_close}
@@ -27,13 +26,14 @@ use Rattle.std.specs.List.{range_with_len}
 use Rattle.std.proofs.Common.{filter}
 use Rattle.std.proofs.lemmas.Bool.{cases_eq}
 use Rattle.std.proofs.lemmas.Nat.Bits.{bit_at_or, bit_at-zero, bit_at-pow_other, bit_at-lt}
+use Rattle.qn_base.specs.lemmas.Bools.{first_of_both}
+use Rattle.qn_base.specs.lemmas.Elements.{IsIn, First, Behind}
 use Rattle.qn_model.specs.Steps.{AllAllowed, holders}
 use Rattle.qn_safety.specs.Closing.{has_landed_close}
 use Rattle.qn_safety.proofs.Apt.{is_apt, apt}
 use Rattle.qn_safety.proofs.Stays.{close_stays, closed_never}
 use Rattle.qn_safety.proofs.Runs.{sound, span}
 use Rattle.qn_safety.proofs.Numbers.{up_number}
-use Rattle.qn_safety.proofs.Origins.{IsIn, First, Behind}
 use Rattle.qn_safety.proofs.Events.{allowed_of, stage, moments_grow}
 use Rattle.qn_safety.proofs.Rising.{numbers_rise}
 use Rattle.qn_safety.proofs.Holders.{one_holder}
@@ -85,7 +85,7 @@ pub landed_close_leaves : (s : Settings) (t : Timing) (events : List Event) (ran
 landed_close_leaves s t events rank all landed' =
     let here = stage (allowed_of s t events all) in
     close_leaves (phase s (node_at s rank (run s t events)).log) (op_at s rank (run s t events)) (apt ((sound here.ruled rank).made))
-    (and_left_of (is_close (op_at s rank (run s t events))) (is_some ((run s t events).took rank)) landed')
+    (first_of_both (is_close (op_at s rank (run s t events))) (is_some ((run s t events).took rank)) landed')
 
 -- from the asking for its close on an incarnation holds nothing
 pub closed_holds_nothing : (s : Settings) (t : Timing) (events earlier : List Event) (rank : ℕ) → AllAllowed s t events → Before earlier events

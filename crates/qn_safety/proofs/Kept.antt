@@ -2,7 +2,10 @@
 use Rattle.std.proofs.Common.{◌≡◌, ℕ, suc, Bool, true, false, List, [], ◌∷◌, Some, None, Option, refl, sym, ap, ◌∙◌, subst, arith, ◌&&◌, ◌⊎◌, inl, inr, is_some, unwrap_or}
 use Rattle.std.specs.Option.{option_or}
 use Rattle.std.proofs.lemmas.Bool.{false≢true, true≢false, eq-eqb}
+use Rattle.std.proofs.lemmas.Option.{same_Some}
 use Rattle.qn_base.specs.declared.ids.Rank.{Rank}
+use Rattle.qn_base.specs.lemmas.Options.{none_is_not_some, some_is_not_none}
+use Rattle.qn_base.specs.lemmas.Bools.{never_both}
 use Rattle.qn_model.specs.declared.configuration.Settings.{Settings}
 use Rattle.qn_model.specs.declared.times.Timing.{Timing}
 use Rattle.qn_model.specs.declared.disk.Slot.{Slot}
@@ -14,15 +17,15 @@ use Rattle.qn_model.specs.declared.life.Phase.{Phase}
 use Rattle.qn_model.specs.declared.life.Phase.TheVariants.{Booting, Up, Leaving, Dying, Gone}
 use Rattle.qn_model.specs.declared.outputs.DiskOp.{DiskOp}
 use Rattle.qn_model.specs.declared.outputs.DiskOp.TheVariants as disk
+use Rattle.qn_model.specs.lemmas.Entries.{fitting_answers}
 use Rattle.qn_model.specs.Log.{Line, op_out, claimed, claim_of, disk_of, is_answer, number_read, slot_number}
 use Rattle.qn_model.specs.Phases.{phase, in_time, is_booting}
 use Rattle.qn_model.specs.Hearing.{told}
 use Rattle.qn_model.specs.Fitting.{answers_op}
-use Rattle.qn_safety.proofs.Tools.{some_same, none_some, some_none, clash}
 use Rattle.qn_model.specs.Moments.{is_gone, booted}
 use Rattle.qn_safety.specs.Closing.{is_close}
-use Rattle.qn_model.specs.World.{World, taken, failed}
-use Rattle.qn_safety.proofs.Logs.{Made, IsLine, answers_out}
+use Rattle.qn_model.specs.World.{World, taken}
+use Rattle.qn_safety.proofs.Logs.{Made, IsLine}
 use Rattle.qn_safety.proofs.Apt.{is_apt, apt, check_answers, claimed_answers}
 use Rattle.qn_safety.proofs.Stays.{boot_past, op_kept, gives_none}
 use Rattle.qn_safety.proofs.Times.{boot_tick}
@@ -51,11 +54,11 @@ unfolding phase op_out
 first_kept s mine = record {
   dirty = λ booted open'. absurd (true≢false booted);
   numbered = λ booted. absurd (true≢false booted);
-  reading = λ rank own booting e. none_some _ e;
-  checking = λ e. none_some _ e;
-  claim_waits = λ number e none. none_some _ e;
-  claim_landed = λ number v e some. none_some _ e;
-  clearing = λ e. none_some _ e;
+  reading = λ rank own booting e. none_is_not_some _ e;
+  checking = λ e. none_is_not_some _ e;
+  claim_waits = λ number e none. none_is_not_some _ e;
+  claim_landed = λ number v e some. none_is_not_some _ e;
+  clearing = λ e. none_is_not_some _ e;
 }
 
 -- after an entry that answers nothing a node is up only where it was
@@ -66,14 +69,14 @@ booted_back {s = s} {me = me} {line = line} {past = past} it plain booted = by_p
   where
     by_phase : (b : Bool) → is_booting (phase s past) ≡ b → is_booting (phase s past) ≡ false
     by_phase false e = e
-    by_phase true e = clash (is_booting (phase s (line ∷ past))) (boot_tick s me past line.what (in_time line.tick past) plain it.fitting e) booted
+    by_phase true e = never_both (is_booting (phase s (line ∷ past))) (boot_tick s me past line.what (in_time line.tick past) plain it.fitting e) booted
 
 pub booting_back : {s : Settings} {me : ℕ} {line : Line} {past : List Line} → IsLine s me line past → is_booting (phase s (line ∷ past)) ≡ true → is_booting (phase s past) ≡ true
 booting_back {s = s} {line = line} {past = past} it booting = by_phase (is_booting (phase s past)) refl
   where
     by_phase : (b : Bool) → is_booting (phase s past) ≡ b → is_booting (phase s past) ≡ true
     by_phase true e = e
-    by_phase false e = clash (is_booting (phase s (line ∷ past))) booting (boot_past it e)
+    by_phase false e = never_both (is_booting (phase s (line ∷ past))) booting (boot_past it e)
 
 -- the operation out after an entry that answers nothing, where an answer waits
 pub some_op : (op : Option DiskOp) (v : What) → answers_op op v ≡ true → (o : DiskOp) × (op ≡ Some o)
@@ -101,7 +104,7 @@ module _ {s : Settings} {me : ℕ} {line : Line} {past : List Line} (it : IsLine
     where
       check_out : (seen : MailSeen) → line.what ≡ what.MailChecked seen → op_out past ≡ Some disk.CheckMail
       check_out seen reads =
-          check_answers (op_out past) seen (subst (λ entry. answers_op (op_out past) entry ≡ true) reads (answers_out s me past line.what claim.answers it.fitting))
+          check_answers (op_out past) seen (subst (λ entry. answers_op (op_out past) entry ≡ true) reads (fitting_answers s me past line.what claim.answers it.fitting))
 
       by_source : NumberFrom line.what (slot_number past) number → suc mine.incarnation ≡ number
       by_source (BySlot rank own reads next) = let same = told rank own (booting_back it claim.booting) reads in omega arith
@@ -156,22 +159,22 @@ module _ {s : Settings} {me : ℕ} {line : Line} {past : List Line} (it : IsLine
   kept_reply is living told done = record {
     dirty = λ booted open'. (up_now booted).0;
     numbered = λ booted. claimed_same it booted ∙ (up_now booted).1;
-    reading = λ rank own booting e. none_some _ e;
+    reading = λ rank own booting e. none_is_not_some _ e;
     checking = λ e. after_read (given disk.CheckMail e);
     claim_waits = λ number e none. claim_next told number (claim_given it number (given (disk.WriteClaim number) e));
-    claim_landed = λ number v e some. none_some v some;
+    claim_landed = λ number v e some. none_is_not_some v some;
     clearing = λ e. after_claim (given disk.WriteClear e);
   }
     where
       answers : answers_op (op_out past) line.what ≡ true
-      answers = answers_out s me past line.what is it.fitting
+      answers = fitting_answers s me past line.what is it.fitting
 
       given : (op : DiskOp) → op_out (line ∷ past) ≡ Some op → disk_of line.outs ≡ Some op
       given op e = by_cases (out_cases line past op e)
         where
           by_cases : (disk_of line.outs ≡ Some op) ⊎ ((disk_of line.outs ≡ None) × (is_answer line.what ≡ false) × (op_out past ≡ Some op)) → disk_of line.outs ≡ Some op
           by_cases (inl gave) = gave
-          by_cases (inr kept) = clash (is_answer line.what) is kept.1
+          by_cases (inr kept) = never_both (is_answer line.what) is kept.1
 
       up_now : is_booting (phase s (line ∷ past)) ≡ false → (mine.clean ≡ false) × (claimed past ≡ Some mine.incarnation)
       up_now booted = by_phase (is_booting (phase s past)) refl
@@ -204,25 +207,14 @@ taken_answers s t rank disk.ReadMail w = refl
 taken_answers s t rank (disk.WriteReset other) w = eq-eqb other.0 other.0 refl
 taken_answers s t rank (disk.WriteClose number) w = refl
 
-pub failed_answers : (op : DiskOp) → answers_op (Some op) (failed op) ≡ true
-unfolding failed
-failed_answers disk.ReadHeader = refl
-failed_answers (disk.ReadSlot other) = eq-eqb other.0 other.0 refl
-failed_answers disk.CheckMail = refl
-failed_answers (disk.WriteClaim number) = refl
-failed_answers disk.WriteClear = refl
-failed_answers disk.ReadMail = refl
-failed_answers (disk.WriteReset other) = eq-eqb other.0 other.0 refl
-failed_answers (disk.WriteClose number) = refl
-
 -- a write of a boot is out only while the node boots
 pub booting_op : {s : Settings} {me : ℕ} {log : List Line} → Made s me log → (op : DiskOp) → op_out log ≡ Some op → is_apt (Some op) Up ≡ false → is_apt (Some op) Leaving ≡ false → is_booting (phase s log) ≡ true
 booting_op {s = s} {log = log} made op out not_up not_leaving = by_phase (phase s log) (subst (λ o. is_apt o (phase s log) ≡ true) out (apt made))
   where
     by_phase : (p : Phase) → is_apt (Some op) p ≡ true → is_booting p ≡ true
     by_phase Booting e = refl
-    by_phase Up e = clash (is_apt (Some op) Up) e not_up
-    by_phase Leaving e = clash (is_apt (Some op) Leaving) e not_leaving
+    by_phase Up e = never_both (is_apt (Some op) Up) e not_up
+    by_phase Leaving e = never_both (is_apt (Some op) Leaving) e not_leaving
     by_phase Dying e = absurd (false≢true e)
     by_phase Gone e = absurd (false≢true e)
 
@@ -230,7 +222,7 @@ pub booted_op : {s : Settings} {me : ℕ} {log : List Line} → Made s me log �
 booted_op {s = s} {log = log} made op out not_booting = by_phase (phase s log) (subst (λ o. is_apt o (phase s log) ≡ true) out (apt made))
   where
     by_phase : (p : Phase) → is_apt (Some op) p ≡ true → is_booting p ≡ false
-    by_phase Booting e = clash (is_apt (Some op) Booting) e not_booting
+    by_phase Booting e = never_both (is_apt (Some op) Booting) e not_booting
     by_phase Up e = refl
     by_phase Leaving e = refl
     by_phase Dying e = refl
@@ -244,10 +236,10 @@ module _ {s : Settings} {me : ℕ} {log : List Line} (made : Made s me log) (min
   land_plain op v out no_close no_claim told = record {
     dirty = λ booted open'. was.dirty booted (ap (λ o. is_close o && false) out ∙ ap (λ b. b && false) no_close);
     numbered = was.numbered;
-    reading = λ rank own booting e. told rank own booting (some_same _ _ e);
+    reading = λ rank own booting e. told rank own booting (same_Some _ _ e);
     checking = was.checking;
-    claim_waits = λ number e none. some_none v none;
-    claim_landed = λ number u e some. absurd (no_claim number (some_same _ _ (sym out ∙ e)));
+    claim_waits = λ number e none. some_is_not_none v none;
+    claim_landed = λ number u e some. absurd (no_claim number (same_Some _ _ (sym out ∙ e)));
     clearing = was.clearing;
   }
 
@@ -266,13 +258,13 @@ module _ {s : Settings} {me : ℕ} {log : List Line} (made : Made s me log) (min
   kept_land t disk.WriteClear w out own_slot = land_plain disk.WriteClear _ out refl (λ number e. cc) (λ rank own booting e. absurd (cc))
   kept_land t (disk.WriteReset other) w out own_slot = land_plain (disk.WriteReset other) _ out refl (λ number e. cc) (λ rank own booting e. absurd (cc))
   kept_land t (disk.WriteClaim number) w out own_slot = record {
-    dirty = λ booted open'. clash (is_booting (phase s log)) (booting_op made (disk.WriteClaim number) out refl refl) booted;
-    numbered = λ booted. clash (is_booting (phase s log)) (booting_op made (disk.WriteClaim number) out refl refl) booted;
-    reading = λ rank own booting e. claimed_read rank own (some_same _ _ e);
-    checking = λ e. absurd (claim_check (some_same _ _ (sym out ∙ e)));
-    claim_waits = λ n e none. some_none _ none;
-    claim_landed = λ n v e some. (refl, same_number n (some_same _ _ (sym out ∙ e)));
-    clearing = λ e. absurd (claim_clear (some_same _ _ (sym out ∙ e)));
+    dirty = λ booted open'. never_both (is_booting (phase s log)) (booting_op made (disk.WriteClaim number) out refl refl) booted;
+    numbered = λ booted. never_both (is_booting (phase s log)) (booting_op made (disk.WriteClaim number) out refl refl) booted;
+    reading = λ rank own booting e. claimed_read rank own (same_Some _ _ e);
+    checking = λ e. absurd (claim_check (same_Some _ _ (sym out ∙ e)));
+    claim_waits = λ n e none. some_is_not_none _ none;
+    claim_landed = λ n v e some. (refl, same_number n (same_Some _ _ (sym out ∙ e)));
+    clearing = λ e. absurd (claim_clear (same_Some _ _ (sym out ∙ e)));
   }
     where
       claimed_read : (rank : Rank) (own : Slot) → what.Claimed true ≡ what.SlotRead rank (slot.Read own) → own.incarnation ≡ number
@@ -289,11 +281,11 @@ module _ {s : Settings} {me : ℕ} {log : List Line} (made : Made s me log) (min
   kept_land t (disk.WriteClose number) w out own_slot = record {
     dirty = λ booted open'. absurd (true≢false (sym (ap (λ o. is_close o && true) out) ∙ open'));
     numbered = λ booted. out_closes made number out;
-    reading = λ rank own booting e. clash (is_booting (phase s log)) booting (booted_op made (disk.WriteClose number) out refl);
-    checking = λ e. absurd (close_check (some_same _ _ (sym out ∙ e)));
-    claim_waits = λ n e none. absurd (close_claim n (some_same _ _ (sym out ∙ e)));
-    claim_landed = λ n v e some. absurd (close_claim n (some_same _ _ (sym out ∙ e)));
-    clearing = λ e. absurd (close_clear (some_same _ _ (sym out ∙ e)));
+    reading = λ rank own booting e. never_both (is_booting (phase s log)) booting (booted_op made (disk.WriteClose number) out refl);
+    checking = λ e. absurd (close_check (same_Some _ _ (sym out ∙ e)));
+    claim_waits = λ n e none. absurd (close_claim n (same_Some _ _ (sym out ∙ e)));
+    claim_landed = λ n v e some. absurd (close_claim n (same_Some _ _ (sym out ∙ e)));
+    clearing = λ e. absurd (close_clear (same_Some _ _ (sym out ∙ e)));
   }
     where
       close_claim : (n : ℕ) → disk.WriteClose number ≡ disk.WriteClaim n → ⊥

@@ -1,38 +1,30 @@
 -- Where the answer of an operation landed, and how a line of a run came.
-use Rattle.std.proofs.Common.{◌≡◌, ℕ, suc, ◌≤◌, Bool, true, false, List, [], ◌∷◌, length, Some, None, refl, sym, ap, ◌∙◌, subst, arith, if◌then◌else◌, ◌⊎◌, inl, inr, is_some}
+use Rattle.std.proofs.Common.{◌≡◌, ℕ, suc, true, false, List, [], ◌∷◌, length, Some, None, refl, sym, ap, ◌∙◌, subst, arith, ◌⊎◌, inl, inr}
+use Rattle.std.proofs.lemmas.Option.{same_Some}
+use Rattle.qn_base.specs.lemmas.Options.{none_is_not_some}
 use Rattle.qn_model.specs.declared.configuration.Settings.{Settings}
 use Rattle.qn_model.specs.declared.times.Timing.{Timing}
 use Rattle.qn_model.specs.declared.entries.What.{What}
 use Rattle.qn_model.specs.declared.outputs.DiskOp.{DiskOp}
-use Rattle.qn_model.specs.Log.{Line, op_out, ask_place, disk_of, is_answer}
+use Rattle.qn_model.specs.Log.{Line, op_out, ask_place, is_answer}
 use Rattle.qn_model.specs.Fitting.{answers_op, read_as}
 use Rattle.qn_model.specs.Moments.{Before, Itself, Later}
-use Rattle.qn_safety.proofs.Tools.{some_same, none_some}
 use Rattle.qn_model.specs.Moments.{Moment, Adds, node}
 use Rattle.qn_safety.specs.Timed.{IsSameBoot, AllRuled, IsAdded}
 use Rattle.qn_model.specs.declared.events.Event.{Event}
+use Rattle.qn_model.specs.lemmas.Entries.{failed_answers, read_answers_none}
 use Rattle.qn_model.specs.World.{World, taken, failed}
 use Rattle.qn_model.specs.Steps.{landed, run}
 use Rattle.qn_safety.proofs.Logs.{Made, made_line}
 use Rattle.qn_safety.proofs.Stays.{ask_place_kept}
-use Rattle.qn_safety.proofs.Outs.{answer_fits, read_plain}
+use Rattle.qn_safety.proofs.Outs.{answer_fits}
 use Rattle.qn_safety.proofs.Runs.{sound, newest_rule}
 use Rattle.qn_safety.proofs.Origins.{line_of, line_what, added_line, head_same}
 use Rattle.qn_safety.proofs.Licensed.{added_boots}
 use Rattle.qn_safety.proofs.Seats.{seat_of, Effect, Rests, Enters, Answers, Fails, BootsUp, GoesOff, Lands, LandsLate}
-use Rattle.qn_safety.proofs.Kept.{some_op, failed_answers}
+use Rattle.qn_safety.proofs.Kept.{some_op}
 use Rattle.qn_safety.proofs.Held.{Held}
 use Rattle.qn_safety.proofs.Events.{IsAllowed, NoEvent, OneEvent, stage, effect_at, earlier_allowed, grows, newest_state, first_moments, only_nothing}
-
--- the place of the last asking entry lies in the log
-pub ask_place_inside : (log : List Line) → ask_place log ≤ length log
-unfolding ask_place
-ask_place_inside [] = omega arith
-ask_place_inside (line ∷ past) = by_given (is_some (disk_of line.outs)) (ask_place_inside past)
-  where
-    by_given : (b : Bool) → ask_place past ≤ length past → (if b then suc (length past) else ask_place past) ≤ suc (length past)
-    by_given true inside = omega arith
-    by_given false inside = omega arith
 
 -- where the operation of a node that is out landed, and what it took
 pub record LandedAt (s : Settings) (t : Timing) (j : ℕ) (v : What) (events : List Event) : Type 0 where
@@ -78,12 +70,12 @@ landed_step s t j v e events allowed (Enters tick entry on_before plain same) re
     subst (λ l. Made s j l) (ap (λ x. x.log) same) ((sound ((stage allowed).ruled) j).made) in
     landed_later e (ap (λ x. x.boots) same)
     (ap (λ x. ask_place x.log) same
-    ∙ ask_place_kept (made_line made') out.0 out.1 (ap is_answer (line_what s j tick entry (node s j (run s t events).moments).log) ∙ read_plain s j (node s j (run s t events).moments).log entry plain))
+    ∙ ask_place_kept (made_line made') out.0 out.1 (ap is_answer (line_what s j tick entry (node s j (run s t events).moments).log) ∙ read_answers_none s j (node s j (run s t events).moments).log entry plain))
     (rest on_before was_took)
-landed_step s t j v e events allowed (Answers tick entry on_before was_took same) rest on took = none_some v (sym (ap (λ x. x.took) same) ∙ took)
-landed_step s t j v e events allowed (Fails tick op on_before out same) rest on took = none_some v (sym (ap (λ x. x.took) same) ∙ took)
-landed_step s t j v e events allowed (BootsUp tick clean off same) rest on took = none_some v (sym (ap (λ x. x.took) same) ∙ took)
-landed_step s t j v e events allowed (GoesOff on_before same) rest on took = none_some v (sym (ap (λ x. x.took) same) ∙ took)
+landed_step s t j v e events allowed (Answers tick entry on_before was_took same) rest on took = none_is_not_some v (sym (ap (λ x. x.took) same) ∙ took)
+landed_step s t j v e events allowed (Fails tick op on_before out same) rest on took = none_is_not_some v (sym (ap (λ x. x.took) same) ∙ took)
+landed_step s t j v e events allowed (BootsUp tick clean off same) rest on took = none_is_not_some v (sym (ap (λ x. x.took) same) ∙ took)
+landed_step s t j v e events allowed (GoesOff on_before same) rest on took = none_is_not_some v (sym (ap (λ x. x.took) same) ∙ took)
 landed_step s t j v e events allowed (Lands op on_before out none all same) rest on took = record {
   e = e;
   earlier = events;
@@ -92,7 +84,7 @@ landed_step s t j v e events allowed (Lands op on_before out none all same) rest
   on = on_before;
   out = out;
   lands = all;
-  value = some_same _ _ (sym took ∙ ap (λ x. x.took) same);
+  value = same_Some _ _ (sym took ∙ ap (λ x. x.took) same);
   same = sym (ap (λ x. x.boots) same);
   place = ap (λ x. ask_place x.log) same;
 }
@@ -106,7 +98,7 @@ never_took s t j = refl
 -- what the operation out took, it took at its landing
 pub landed_at : {s : Settings} {t : Timing} {events : List Event} (j : ℕ) (v : What) → IsAllowed s t events → (node s j (run s t events).moments).on ≡ true
     → (run s t events).took j ≡ Some v → LandedAt s t j v events
-landed_at {s = s} {t = t} j v NoEvent on took = none_some v (sym (never_took s t j) ∙ took)
+landed_at {s = s} {t = t} j v NoEvent on took = none_is_not_some v (sym (never_took s t j) ∙ took)
 landed_at {s = s} {t = t} j v (OneEvent {e = e} {earlier = earlier} form ok allowed) on took =
     landed_step s t j v e earlier (OneEvent form ok allowed) (effect_at j (OneEvent form ok allowed)) (λ on' took'. landed_at j v allowed on' took') on took
 
@@ -144,7 +136,7 @@ module _ (s : Settings) (t : Timing) (j : ℕ) (entry : What) (line : Line) (pas
       omega arith)
   kind_of adds gave behind made held (Enters tick other on plain same) =
       let is : line ≡ line_of s j tick other (node s j w.moments).log = head_same (sym gave ∙ ap (λ x. x.log) same) in
-      Plain (ap (λ l. is_answer l.what) is ∙ ap is_answer (line_what s j tick other (node s j w.moments).log) ∙ read_plain s j (node s j w.moments).log other plain)
+      Plain (ap (λ l. is_answer l.what) is ∙ ap is_answer (line_what s j tick other (node s j w.moments).log) ∙ read_answers_none s j (node s j w.moments).log other plain)
   kind_of adds gave behind made held (Answers tick other on took same) =
       let is : line ≡ line_of s j tick other (node s j w.moments).log = head_same (sym gave ∙ ap (λ x. x.log) same) in
       let fit = answer_fits s j (node s j w.moments).log other (held.answers on other took) in

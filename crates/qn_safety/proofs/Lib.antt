@@ -1,4 +1,3 @@
-pub mod Tools
 pub mod Says
 pub mod Clear
 pub mod Logs

@@ -1,19 +1,20 @@
 -- What a licence of a start means for the node that was licensed: the incarnation that was up at some moment holds no more.
-use Rattle.std.proofs.Common.{◌≡◌, ℕ, ◌+◌, ◌<◌, ◌≤◌, Bool, true, false, List, ◌∷◌, length, refl, sym, ap, ◌∙◌, subst, arith, ◌&&◌}
-use Rattle.std.proofs.lemmas.Bool.{false≢true}
+use Rattle.std.proofs.Common.{◌≡◌, ℕ, ◌+◌, ◌<◌, ◌≤◌, Bool, true, false, List, ◌∷◌, length, sym, ap, ◌∙◌, subst, arith}
+use Rattle.std.proofs.lemmas.Bool.{false≢true, and_parts}
+use Rattle.qn_base.specs.lemmas.Bools.{never_both}
 use Rattle.qn_model.specs.declared.configuration.Settings.{Settings}
 use Rattle.qn_model.specs.declared.times.Timing.{Timing}
 use Rattle.qn_model.specs.declared.seen.SlotSeen.{SlotSeen}
 use Rattle.qn_model.specs.declared.entries.What.{What}
-use Rattle.qn_model.specs.declared.life.Phase.{Phase}
-use Rattle.qn_model.specs.declared.life.Phase.TheVariants.{Booting, Up, Leaving, Dying, Gone}
+use Rattle.qn_model.specs.lemmas.Phases.{up_booted}
+use Rattle.qn_model.specs.lemmas.Moments.{node_adds}
 use Rattle.qn_model.specs.Log.{Line, op_out, ask_place, ask_tick, claimed, claim_of, incarnation, timing, times_of, no_times, disk_of, has_start, has_stop, is_answer, is_view, view_of}
-use Rattle.qn_model.specs.Phases.{phase, is_booting, is_up}
+use Rattle.qn_model.specs.Phases.{phase}
 use Rattle.qn_model.specs.Holding.{holds}
 use Rattle.qn_model.specs.NodeVotes.{is_in_view}
 use Rattle.qn_model.specs.Licences.{out_time, reads_slot, writes_reset, is_clean_slot}
 use Rattle.qn_model.specs.Moments.{Before}
-use Rattle.qn_safety.proofs.Tools.{clash, before_then, before_tail, before_shorter}
+use Rattle.qn_safety.specs.Earlier.{before_then, before_tail, before_shorter}
 use Rattle.qn_model.specs.Log as LogSpec
 use Rattle.qn_model.specs.Moments.{Moment, begin_of, Adds, tick_of, time, node, is_holder}
 use Rattle.qn_safety.specs.Timed.{IsUp, IsSameBoot, IsBetween, HasClosed, GetsBadMail, IsAdded, IsTimedRun}
@@ -21,7 +22,7 @@ use Rattle.qn_model.specs.Timing.{is_safe}
 use Rattle.qn_safety.proofs.Logs.{Made, made_before}
 use Rattle.qn_safety.proofs.Stays.{boot_past_later, closed_never, close_stays}
 use Rattle.qn_safety.proofs.Rests.{Licence, ByClean, ByReset, FencingAsk, slot_ask, written_ask}
-use Rattle.qn_safety.proofs.Runs.{sound, ruled_before, newest_rule, earlier_ruled, span, added_node}
+use Rattle.qn_safety.proofs.Runs.{sound, ruled_before, newest_rule, earlier_ruled, span}
 use Rattle.qn_safety.proofs.Origins.{Origin, ByEntry, ByBoot, origin, added_line, same_boots}
 use Rattle.qn_safety.proofs.Fence.{added_then, timing_up, fence}
 
@@ -52,24 +53,13 @@ no_begin_write rank false entry begins writes = false≢true (sym (ap (writes_re
 no_begin_write rank true entry begins writes = false≢true (sym (ap (writes_reset rank) begins) ∙ writes)
 
 pub added_boots : (s : Settings) (i : ℕ) (entry : What) (before : List Moment) → (node s i (Adds i entry ∷ before)).boots ≡ (node s i before).boots
-added_boots s i entry before = ap (λ n. n.boots) (added_node s i entry before) ∙ same_boots s i (time before) entry (node s i before)
-
-holder_parts : (on held : Bool) → (on && held) ≡ true → (on ≡ true) × (held ≡ true)
-holder_parts true held e = (refl, e)
-holder_parts false held e = absurd (false≢true e)
+added_boots s i entry before = ap (λ n. n.boots) (node_adds s i entry before) ∙ same_boots s i (time before) entry (node s i before)
 
 pub holder_on : (s : Settings) (moments : List Moment) (i : ℕ) → is_holder s moments i ≡ true → (node s i moments).on ≡ true
-holder_on s moments i e = (holder_parts (node s i moments).on (holds (node s i moments).log) e).0
+holder_on s moments i e = (and_parts (node s i moments).on (holds (node s i moments).log) e).0
 
 pub holder_holds : (s : Settings) (moments : List Moment) (i : ℕ) → is_holder s moments i ≡ true → holds (node s i moments).log ≡ true
-holder_holds s moments i e = (holder_parts (node s i moments).on (holds (node s i moments).log) e).1
-
-pub up_booted : (p : Phase) → is_up p ≡ true → is_booting p ≡ false
-up_booted Up e = refl
-up_booted Booting e = absurd (false≢true e)
-up_booted Leaving e = refl
-up_booted Dying e = refl
-up_booted Gone e = refl
+holder_holds s moments i e = (and_parts (node s i moments).on (holds (node s i moments).log) e).1
 
 module _ {s : Settings} {t : Timing} {all : List Moment} (run : IsTimedRun s t all) (safe : is_safe t ≡ true) (i j : ℕ) (m : List Moment) (back : Before m all)
     (on : (node s i m).on ≡ true) where
@@ -105,7 +95,7 @@ module _ {s : Settings} {t : Timing} {all : List Moment} (run : IsTimedRun s t a
       let ruled_now = ruled_before until run.ruled in
       let spans = span j ruled_now (before_then p_m since) same_j (holder_on s now j holder) in
       let idle = (closed_never ((sound ruled_now j).made) (close_stays spans.grows (closed up))).idle in
-      clash (holds (node s j now).log) (holder_holds s now j holder) idle
+      never_both (holds (node s j now).log) (holder_holds s now j holder) idle
 
   -- an incarnation that gets bad mail does not run any more once msgwait has passed
   bad_mail_no_more : (p : List Moment) → Before p m → IsSameBoot s i p m → GetsBadMail s j p all → tick_of (node s i p).clock + t.msgwait ≤ tick_of (node s i m).clock

@@ -3,6 +3,8 @@ use Rattle.std.proofs.Common.{◌≡◌, ℕ, suc, ◌≤◌, Bool, true, false,
 use Rattle.std.specs.Prelude.{slice_get}
 use Rattle.std.specs.Option.{option_map_or}
 use Rattle.std.proofs.lemmas.Bool.{eqb-true}
+use Rattle.qn_base.specs.lemmas.Options.{value_tested}
+use Rattle.qn_base.specs.lemmas.Bools.{never_both}
 use Rattle.qn_model.specs.declared.configuration.Settings.{Settings}
 use Rattle.qn_model.specs.declared.times.Timing.{Timing}
 use Rattle.qn_model.specs.declared.packets.Packet.{Packet}
@@ -13,6 +15,9 @@ use Rattle.qn_model.specs.declared.entries.What.TheVariants as what
 use Rattle.qn_model.specs.declared.outputs.DiskOp.{DiskOp}
 use Rattle.qn_model.specs.declared.events.Event.{Event}
 use Rattle.qn_model.specs.declared.events.Event.TheVariants as event
+use Rattle.qn_model.specs.lemmas.Rules.{both_allowed}
+use Rattle.qn_model.specs.lemmas.Moments.{node_boots}
+use Rattle.qn_model.specs.lemmas.Entries.{failed_answers}
 use Rattle.qn_model.specs.Log.{Line, claimed, incarnation}
 use Rattle.qn_model.specs.Phases.{phase, is_booting}
 use Rattle.qn_model.specs.Fitting.{answers_op, fits, read_as}
@@ -24,16 +29,14 @@ use Rattle.qn_model.specs.Steps.{AllAllowed, answered, entry_of, fails, happens,
 use Rattle.qn_safety.specs.Clocks.{RunsOn}
 use Rattle.qn_safety.specs.LogMoves.{ComesOf, LogMove, Rests, Enters, Begins, is_boot_of}
 use Rattle.qn_safety.specs.Timed.{AllRuled, IsTimedRun, IsUp}
-use Rattle.qn_safety.proofs.Tools.{clash}
 use Rattle.qn_safety.proofs.Logs.{Made, OneMore, before_outs}
 use Rattle.qn_safety.proofs.Outs.{plain_no_answer}
 use Rattle.qn_safety.proofs.Stays.{boot_past_later}
 use Rattle.qn_safety.proofs.Numbers.{claimed_same, up_number}
-use Rattle.qn_safety.proofs.Runs.{Turn, IsApart, IsPass, IsBoot, IsAdd, IsFeed, IsEnd, turn, booted_node, boots_le, ruled_before, sound, span}
+use Rattle.qn_safety.proofs.Runs.{Turn, IsApart, IsPass, IsBoot, IsAdd, IsFeed, IsEnd, turn, boots_le, ruled_before, sound, span}
 use Rattle.qn_safety.proofs.Origins.{booted_log, get_in, handed_log, line_of, line_tick, line_what, begin_line, same_boots, sent_among, Sending}
-use Rattle.qn_safety.proofs.Seats.{both_allow, seat_of, test_there}
+use Rattle.qn_safety.proofs.Seats.{seat_of}
 use Rattle.qn_safety.proofs.Held.{Held}
-use Rattle.qn_safety.proofs.Kept.{failed_answers}
 use Rattle.qn_safety.proofs.Events.{allowed_of, earlier_allowed, newest_allowed, run_step, stage}
 use Rattle.qn_safety.proofs.Says.{PacketReason}
 
@@ -133,7 +136,7 @@ boot_move s of rank other base clean earlier true own some =
   where
     own_boot : LogMove s rank of earlier (Boots rank base clean ∷ earlier)
     own_boot =
-        let e = booted_node s rank base clean earlier in
+        let e = node_boots s rank base clean earlier in
         Begins (line_of s rank (tick_of base) (begin_of clean) []) some
         (ap (λ n. n.boots) e ∙ booted_count s rank (time earlier) base clean (node s rank earlier))
         (ap (λ n. n.log) e ∙ booted_log s rank (time earlier) base clean (node s rank earlier))
@@ -141,8 +144,8 @@ boot_move s of rank other base clean earlier true own some =
 
 -- an answer of the disk is neither a view nor an answer of the device
 answer_comes : (of : Event) (rank : ℕ) (op : Option DiskOp) (entry : What) → answers_op op entry ≡ true → ComesOf of rank entry
-answer_comes of rank op (what.View installed) e = clash (answers_op op (what.View installed)) e (plain_no_answer op (what.View installed) refl)
-answer_comes of rank op (what.Device agrees) e = clash (answers_op op (what.Device agrees)) e (plain_no_answer op (what.Device agrees) refl)
+answer_comes of rank op (what.View installed) e = never_both (answers_op op (what.View installed)) e (plain_no_answer op (what.View installed) refl)
+answer_comes of rank op (what.Device agrees) e = never_both (answers_op op (what.Device agrees)) e (plain_no_answer op (what.Device agrees) refl)
 answer_comes of rank op what.Begin e = tt
 answer_comes of rank op what.BeginClean e = tt
 answer_comes of rank op (what.Header seen) e = tt
@@ -198,7 +201,7 @@ move_step s t rank (event.Late other number) w ok held ruled = by_op (numbered (
 move_step s t rank (event.Done other) w ok held ruled = by_took (w.took other.0) refl
   where
     on : is_on s other.0 w ≡ true
-    on = (both_allow (is_on s other.0 w) (may_be_done s other.0 w) 3 5 ok).0
+    on = (both_allowed (is_on s other.0 w) (may_be_done s other.0 w) 3 5 ok).0
 
     by_took : (o : Option What) → w.took other.0 ≡ o → LogMove s rank (event.Done other) w.moments (option_map_or (λ entry. answered other.0 entry w) o w).moments
     by_took None e = stays s (event.Done other) rank w.moments refl
@@ -217,8 +220,8 @@ move_step s t rank (event.Device other agrees) w ok held ruled =
     moves s (event.Device other agrees) rank (Adds other.0 (what.Device agrees)) w.moments refl
     (λ own. subst (λ k. event.Device other agrees ≡ event.Device (record { 0 = k }) agrees) own refl)
 move_step s t rank (event.Deliver other number) w ok held ruled =
-    let rules = both_allow (is_on s other.0 w) (may_deliver s other.0 number w) 3 8 ok in
-    let sent = test_there (λ (x : Sent). x.to.0 == other.0) (slice_get (packets s w.moments) number) rules.1 in
+    let rules = both_allowed (is_on s other.0 w) (may_deliver s other.0 number w) 3 8 ok in
+    let sent = value_tested (λ (x : Sent). x.to.0 == other.0) (slice_get (packets s w.moments) number) rules.1 in
     subst (λ o. LogMove s rank (event.Deliver other number) w.moments (option_map_or (λ x. happens (Adds other.0 (entry_of x.packet)) w) o w).moments) (sym sent.1)
     (moves s (event.Deliver other number) rank (Adds other.0 (entry_of sent.0.packet)) w.moments refl
     (λ own. packet_comes {t = t} (event.Deliver other number) rank number sent.0 w.moments ruled sent.1))

@@ -2,15 +2,16 @@
 use Rattle.std.proofs.Common.{◌≡◌, ℕ, suc, ◌≤◌, Bool, true, false, List, [], ◌∷◌, length, Some, None, Option, refl, sym, ap, ◌∙◌, subst, if◌then◌else◌, is_some, All}
 use Rattle.std.specs.Option.{option_or}
 use Rattle.std.proofs.lemmas.Bool.{false≢true}
+use Rattle.qn_base.specs.lemmas.Options.{none_is_not_some}
 use Rattle.qn_model.specs.declared.configuration.Settings.{Settings}
 use Rattle.qn_model.specs.declared.entries.What.{What}
 use Rattle.qn_model.specs.declared.entries.What.TheVariants as what
 use Rattle.qn_model.specs.declared.outputs.DiskOp.{DiskOp}
+use Rattle.qn_model.specs.lemmas.Entries.{fitting_answers}
 use Rattle.qn_model.specs.Log.{Line, op_out, ask_place, ask_tick, now, disk_of, has_start, is_answer}
 use Rattle.qn_model.specs.Fitting.{fits, answers_op}
 use Rattle.qn_model.specs.NodeOutputs.{outs_at, taken_in}
 use Rattle.qn_model.specs.Moments.{Before, Itself, Later}
-use Rattle.qn_safety.proofs.Tools.{none_some}
 use Rattle.qn_safety.proofs.Says.{Says, Reason, StartReason, outs_say, disk_is, start_is}
 
 -- one line of a log, by the lines before it
@@ -92,34 +93,14 @@ asked_here op line past some = record {
 
 pub ask_line : (op : DiskOp) (log : List Line) → op_out log ≡ Some op → AskedBy op log
 unfolding op_out
-ask_line op [] e = none_some op e
+ask_line op [] e = none_is_not_some op e
 ask_line op (line ∷ past) e = by_outs (disk_of line.outs) (is_answer line.what) refl e (λ was. ask_line op past was)
   where
     by_outs : (given : Option DiskOp) (answer : Bool) → disk_of line.outs ≡ given → option_or given (if answer then None else op_out past) ≡ Some op
         → (op_out past ≡ Some op → AskedBy op past) → AskedBy op (line ∷ past)
     by_outs (Some other) answer gave is rest = asked_here op line past (gave ∙ is)
-    by_outs None true gave is rest = none_some op is
+    by_outs None true gave is rest = none_is_not_some op is
     by_outs None false gave is rest = asked_more op line past (rest is) gave
-
--- an answer that fits answers the operation that is out
-pub answers_out : (s : Settings) (me : ℕ) (past : List Line) (entry : What) → is_answer entry ≡ true → fits s me past entry ≡ true → answers_op (op_out past) entry ≡ true
-answers_out s me past (what.Header seen) is fit = fit
-answers_out s me past (what.SlotRead rank seen) is fit = fit
-answers_out s me past (what.MailChecked seen) is fit = fit
-answers_out s me past (what.Claimed ok) is fit = fit
-answers_out s me past (what.Cleared ok) is fit = fit
-answers_out s me past (what.MailRead seen) is fit = fit
-answers_out s me past (what.MailWritten rank ok) is fit = fit
-answers_out s me past (what.Closed ok) is fit = fit
-answers_out s me past what.Begin is fit = absurd (false≢true is)
-answers_out s me past what.BeginClean is fit = absurd (false≢true is)
-answers_out s me past (what.View installed) is fit = absurd (false≢true is)
-answers_out s me past (what.Ask ask) is fit = absurd (false≢true is)
-answers_out s me past (what.Tell tell) is fit = absurd (false≢true is)
-answers_out s me past (what.Device agrees) is fit = absurd (false≢true is)
-answers_out s me past what.Tick is fit = absurd (false≢true is)
-answers_out s me past (what.Stopped ok) is fit = absurd (false≢true is)
-answers_out s me past what.Leave is fit = absurd (false≢true is)
 
 some_out : (op : Option DiskOp) (entry : What) → answers_op op entry ≡ true → (o : DiskOp) × (op ≡ Some o) × (answers_op (Some o) entry ≡ true)
 some_out (Some op) entry e = (op, refl, e)
@@ -135,7 +116,7 @@ pub record AnswerOf (line : Line) (past : List Line) : Type 0 where
 
 pub answer_of : {s : Settings} {me : ℕ} {line : Line} {past : List Line} → IsLine s me line past → is_answer line.what ≡ true → AnswerOf line past
 answer_of {s = s} {me = me} {line = line} {past = past} it is =
-    let some = some_out (op_out past) line.what (answers_out s me past line.what is it.fitting) in
+    let some = some_out (op_out past) line.what (fitting_answers s me past line.what is it.fitting) in
     let asked = ask_line some.0 past some.1 in
     record {
       op = some.0;

@@ -17,7 +17,7 @@ use Rattle.qn_model.specs.NodeVotes.{view}
 use Rattle.qn_model.specs.Licences.{writes_reset}
 use Rattle.qn_model.specs.NodeOutputs.{feeds_on}
 use Rattle.qn_model.specs.Moments.{Before, Itself, Later}
-use Rattle.qn_safety.proofs.Tools.{some_same, none_some, clash, and_left_of, and_right_of, before_length, before_then, before_tail, before_total, before_same}
+use Rattle.qn_safety.specs.Earlier.{before_length, before_then, before_tail, before_total, before_same}
 use Rattle.qn_model.specs.declared.packets.Sent.{Sent}
 use Rattle.qn_model.specs.Moments.{Moment, Adds, node, packets}
 use Rattle.qn_safety.specs.Timed.{IsUp, IsSameBoot, IsBetween, GetsBadMail, WrittenMeansBadMail}
@@ -27,18 +27,24 @@ use Rattle.qn_model.specs.World.{World, put, op_at, mailboxes_with, taken, faile
 use Rattle.qn_model.specs.Rules.{refusal, is_on, may_operate}
 use Rattle.qn_model.specs.Steps.{happens, landed, answered, fails, lands_late, entry_of, step, run}
 use Rattle.std.specs.Prelude.{slice_get}
+use Rattle.std.proofs.lemmas.Option.{same_Some}
+use Rattle.qn_base.specs.lemmas.Options.{none_is_not_some}
+use Rattle.qn_base.specs.lemmas.Bools.{never_both, first_of_both, second_of_both}
+use Rattle.qn_model.specs.lemmas.Rules.{allowed}
+use Rattle.qn_model.specs.lemmas.Moments.{put_same, put_other}
+use Rattle.qn_model.specs.lemmas.Entries.{read_answers_none}
+use Rattle.qn_model.specs.lemmas.Logs.{ask_place-within}
 use Rattle.qn_safety.proofs.Logs.{Made, made_line}
 use Rattle.qn_safety.proofs.Stays.{ask_place_kept}
 use Rattle.qn_safety.proofs.Rests.{write_is}
-use Rattle.qn_safety.proofs.Outs.{read_plain}
 use Rattle.qn_safety.proofs.Runs.{sound, ruled_before, span, same_mid}
 use Rattle.qn_safety.proofs.Origins.{line_of, line_what}
 use Rattle.qn_safety.proofs.Fence.{mail_is_answer, up_later}
-use Rattle.qn_safety.proofs.Seats.{seat_of, put_same, put_other, allows, Effect, Rests, Enters, Answers, Fails, BootsUp, GoesOff, Lands, LandsLate}
+use Rattle.qn_safety.proofs.Seats.{seat_of, Effect, Rests, Enters, Answers, Fails, BootsUp, GoesOff, Lands, LandsLate}
 use Rattle.qn_safety.proofs.Kept.{some_op, booting_op}
 use Rattle.qn_safety.proofs.Held.{Held, resets_late}
 use Rattle.qn_safety.proofs.Events.{IsAllowed, allowed_before, stage, effect_at, earlier_allowed, newest_allowed, moments_grow, run_step}
-use Rattle.qn_safety.proofs.Landings.{LandedAt, landed_at, AddedBy, added_by, LineKind, Plain, Taken, Failed, ask_place_inside}
+use Rattle.qn_safety.proofs.Landings.{LandedAt, landed_at, AddedBy, added_by, LineKind, Plain, Taken, Failed}
 use Rattle.qn_safety.proofs.Facts.{asked_le, between_of}
 
 deadly_same : (a b : Message) → a ≡ b → is_deadly b ≡ true → is_deadly a ≡ true
@@ -69,7 +75,7 @@ module _ (s : Settings) (t : Timing) (j : ℕ) (w : World) (made : Made s j (nod
   no_clear_out : (k : ℕ) (op : DiskOp) → op_at s k w ≡ Some op → k ≡ j → op ≡ disk.WriteClear → ⊥
   no_clear_out k op out same clear =
       let own : op_out (node s j w.moments).log ≡ Some disk.WriteClear = subst (λ r. op_at s r w ≡ Some disk.WriteClear) same (out ∙ ap Some clear) in
-      clash (is_booting (phase s (node s j w.moments).log)) (booting_op made disk.WriteClear own refl refl) booted
+      never_both (is_booting (phase s (node s j w.moments).log)) (booting_op made disk.WriteClear own refl refl) booted
 
   no_clear_left : (k number : ℕ) (op : DiskOp) → numbered (w.left k) number ≡ Some op → k ≡ j → op ≡ disk.WriteClear → ⊥
   no_clear_left k number op there same clear =
@@ -132,7 +138,7 @@ module _ (s : Settings) (t : Timing) (j : ℕ) (w : World) (made : Made s j (nod
   mail_step (event.Unstopped rank) ok = deadly
   mail_step (event.Leave rank) ok = deadly
   mail_step (event.Feed rank) ok = deadly
-  mail_step (event.Operator rank message) ok = deadly_sent rank.0 message (allows (may_operate s rank.0 message w) 10 ok)
+  mail_step (event.Operator rank message) ok = deadly_sent rank.0 message (allowed (may_operate s rank.0 message w) 10 ok)
 
 -- node j after a reset landed at p: its mailbox is deadly, and a read that it asked for later does not feed it
 record BadMail (s : Settings) (t : Timing) (j : ℕ) (p : List Moment) (w : World) : Type 0 where
@@ -166,14 +172,14 @@ module _ {s : Settings} {t : Timing} (j : ℕ) (p : List Moment) where
       subst (λ l. Made s j l) (ap (λ x. x.log) same) ((sound ((stage allowed).ruled) j).made) in
       let place : ask_place (node s j (run s t (e ∷ events)).moments).log ≡ ask_place (node s j (run s t events).moments).log =
       ap (λ x. ask_place x.log) same
-      ∙ ask_place_kept (made_line made') out.0 out.1 (ap is_answer (line_what s j tick entry (node s j (run s t events).moments).log) ∙ read_plain s j (node s j (run s t events).moments).log entry plain) in
+      ∙ ask_place_kept (made_line made') out.0 out.1 (ap is_answer (line_what s j tick entry (node s j (run s t events).moments).log) ∙ read_answers_none s j (node s j (run s t events).moments).log entry plain) in
       was.took v was_took (omega arith)
-  took_step allowed was on (Answers tick entry on_before was_took same) v took after = none_some v (sym (ap (λ x. x.took) same) ∙ took)
-  took_step allowed was on (Fails tick op on_before out same) v took after = none_some v (sym (ap (λ x. x.took) same) ∙ took)
-  took_step allowed was on (BootsUp tick clean off same) v took after = none_some v (sym (ap (λ x. x.took) same) ∙ took)
-  took_step allowed was on (GoesOff on_before same) v took after = none_some v (sym (ap (λ x. x.took) same) ∙ took)
+  took_step allowed was on (Answers tick entry on_before was_took same) v took after = none_is_not_some v (sym (ap (λ x. x.took) same) ∙ took)
+  took_step allowed was on (Fails tick op on_before out same) v took after = none_is_not_some v (sym (ap (λ x. x.took) same) ∙ took)
+  took_step allowed was on (BootsUp tick clean off same) v took after = none_is_not_some v (sym (ap (λ x. x.took) same) ∙ took)
+  took_step allowed was on (GoesOff on_before same) v took after = none_is_not_some v (sym (ap (λ x. x.took) same) ∙ took)
   took_step {events = events} allowed was on (Lands op on_before out none all same) v took after =
-      ap (λ u. feeds_on (message_of u)) (some_same _ _ (sym took ∙ ap (λ x. x.took) same)) ∙ taken_bad s t j op (run s t events) was.deadly
+      ap (λ u. feeds_on (message_of u)) (same_Some _ _ (sym took ∙ ap (λ x. x.took) same)) ∙ taken_bad s t j op (run s t events) was.deadly
 
   bad_mail_step : {e : Event} {events : List Event} → IsAllowed s t (e ∷ events) → IsUp s j (run s t events).moments → (node s j (run s t (e ∷ events)).moments).on ≡ true
       → BadMail s t j p (run s t events) → BadMail s t j p (run s t (e ∷ events))
@@ -194,7 +200,7 @@ module _ {s : Settings} {t : Timing} (j : ℕ) (p : List Moment) where
     took = λ v took after.
         absurd (let place : ask_place (node s j (run s t (e ∷ earlier)).moments).log ≡ ask_place (node s j p).log =
         ap (λ w. ask_place (node s j w.moments).log) lands ∙ ap (λ ms. ask_place (node s j ms).log) (sym is) in
-        let inside = ask_place_inside (node s j p).log in
+        let inside = ask_place-within (node s j p).log in
         omega arith);
   }
     where
@@ -214,7 +220,7 @@ plain_no_mail entry plain = by_test (feeds_on (message_of entry)) refl
   where
     by_test : (b : Bool) → feeds_on (message_of entry) ≡ b → feeds_on (message_of entry) ≡ false
     by_test false e = e
-    by_test true e = clash (is_answer entry) (mail_is_answer entry e) plain
+    by_test true e = never_both (is_answer entry) (mail_is_answer entry e) plain
 
 failed_no_mail : (op : DiskOp) → feeds_on (message_of (failed op)) ≡ false
 unfolding failed
@@ -229,7 +235,7 @@ failed_no_mail (disk.WriteClose number) = refl
 
 failed_unwritten : (j : ℕ) (op : DiskOp) → writes_reset j (failed op) ≡ true → ⊥
 unfolding failed
-failed_unwritten j (disk.WriteReset other) e = false≢true (and_right_of (other.0 == j) false e)
+failed_unwritten j (disk.WriteReset other) e = false≢true (second_of_both (other.0 == j) false e)
 failed_unwritten j disk.ReadHeader e = false≢true e
 failed_unwritten j (disk.ReadSlot other) e = false≢true e
 failed_unwritten j disk.CheckMail e = false≢true e
@@ -240,7 +246,7 @@ failed_unwritten j (disk.WriteClose number) e = false≢true e
 
 taken_reset : (s : Settings) (t : Timing) (i j : ℕ) (op : DiskOp) (w : World) → writes_reset j (taken s t i op w) ≡ true → (other : Rank) × (op ≡ disk.WriteReset other) × (other.0 ≡ j)
 unfolding taken
-taken_reset s t i j (disk.WriteReset other) w e = (other, refl, eqb-true other.0 j (and_left_of (other.0 == j) true e))
+taken_reset s t i j (disk.WriteReset other) w e = (other, refl, eqb-true other.0 j (first_of_both (other.0 == j) true e))
 taken_reset s t i j disk.ReadHeader w e = absurd (false≢true e)
 taken_reset s t i j (disk.ReadSlot other) w e = absurd (false≢true e)
 taken_reset s t i j disk.CheckMail w e = absurd (false≢true e)
@@ -280,7 +286,7 @@ module _ {s : Settings} {t : Timing} {events : List Event} (allowed : IsAllowed 
           let to_p : Before before p = subst (λ ms. Before ms p) it.same (subst (λ ms. Before (run s t it.earlier).moments ms) (ap (λ w. w.moments) lands) (moments_grow s t second)) in
           let equal : before ≡ p = before_same to_p (before_length p_before) in
           let place : ask_place (node s j before).log ≡ ask_place (node s j p).log = ap (λ ms. ask_place (node s j ms).log) equal in
-          let inside = ask_place_inside (node s j p).log in
+          let inside = ask_place-within (node s j p).log in
           omega arith)
 
       by_kind : LineKind s t j line (run s t it.earlier) → feeds_on (message_of line.what) ≡ false
@@ -296,7 +302,7 @@ written_means_bad_mail {s = s} {t = t} {events = events} allowed i j line past b
     it = added_by i line past before allowed added
 
     by_kind : LineKind s t i line (run s t it.earlier) → (between : List Moment) × IsBetween s i line before between × GetsBadMail s j between (run s t events).moments
-    by_kind (Plain plain) = clash (is_answer line.what) (ap is_answer (write_is j line.what writes).1) plain
+    by_kind (Plain plain) = never_both (is_answer line.what) (ap is_answer (write_is j line.what writes).1) plain
     by_kind (Failed op failure) = absurd (failed_unwritten j op (subst (λ w. writes_reset j w ≡ true) failure writes))
     by_kind (Taken took) =
         let land = landed_at i line.what (allowed_before (before_tail it.back) allowed) it.on took in

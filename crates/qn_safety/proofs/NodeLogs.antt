@@ -3,8 +3,11 @@ use Rattle.std.proofs.Common.{◌≡◌, ℕ, ◌-◌, ◌^◌, ◌<◌, Bool, t
 use Rattle.std.specs.List.{range_with_len}
 use Rattle.std.specs.Option.{option_map_or}
 use Rattle.std.proofs.lemmas.Bool.{false≢true, true≢false, ltb-true}
+use Rattle.std.proofs.lemmas.Option.{same_Some}
 use Rattle.qn_base.specs.declared.ids.Rank.{Rank}
 use Rattle.qn_base.specs.declared.ids.View.{View}
+use Rattle.qn_base.specs.lemmas.Options.{none_is_not_some, some_is_not_none}
+use Rattle.qn_base.specs.lemmas.Bools.{never_both}
 use Rattle.qn_model.specs.declared.configuration.Settings.{Settings}
 use Rattle.qn_model.specs.declared.times.Timing.{Timing}
 use Rattle.qn_model.specs.declared.disk.Message.{Message}
@@ -22,6 +25,7 @@ use Rattle.qn_model.specs.declared.outputs.DiskOp.{DiskOp}
 use Rattle.qn_model.specs.declared.outputs.DiskOp.TheVariants as disk
 use Rattle.qn_model.specs.declared.outputs.Out.{Out}
 use Rattle.qn_model.specs.declared.outputs.Out.TheVariants as out
+use Rattle.qn_model.specs.lemmas.Operations.{none_joined, none_when}
 use Rattle.qn_model.specs.Log.{Line, begins_clean, claimed, disk_of, has_start, incarnation, is_answer, number_read, op_out, slot_number}
 use Rattle.qn_model.specs.Phases.{phase, next_phase, boot_phase, mail_phase, boot_halt, header_halt, slot_halt, check_halt, message_of, deadly_of, gives_exit, in_time, is_booting, is_live}
 use Rattle.qn_model.specs.Fitting.{fits}
@@ -32,7 +36,6 @@ use Rattle.qn_model.specs.NodeVotes.{view}
 use Rattle.qn_model.specs.Wanted.{boot_op, wanted_with_delay}
 use Rattle.qn_safety.specs.Closing.{is_close}
 use Rattle.qn_safety.specs.NodeLogs.{IsNodeLog, IsOperation, LogsHold, is_disk_last, is_end}
-use Rattle.qn_safety.proofs.Tools.{some_same, none_some, some_none, clash}
 use Rattle.qn_safety.proofs.Says.{Reason}
 use Rattle.qn_safety.proofs.Logs.{Made, NoLine, OneMore, IsLine, before_outs, line_at, made_line, disk_reason, ask_line}
 use Rattle.qn_safety.proofs.Apt.{is_apt, apt, up_is, boot_step_of, header_answers, check_answers, claimed_answers, cleared_answers, closed_answers}
@@ -45,26 +48,11 @@ use Rattle.qn_safety.proofs.Kept.{booting_back}
 use Rattle.qn_safety.proofs.Facts.{close_asked}
 use Rattle.qn_safety.proofs.Events.{may_of, stage}
 
--- outputs without an operation of the disk, one after the other
-none_both : (front back : List Out) → disk_of front ≡ None → disk_of back ≡ None → disk_of (front ++ back) ≡ None
-none_both [] back f b = b
-none_both (out.Disk op ∷ front) back f b = some_none op f
-none_both (out.Stop ∷ front) back f b = none_both front back f b
-none_both (out.Start ∷ front) back f b = none_both front back f b
-none_both (out.Feed ∷ front) back f b = none_both front back f b
-none_both (out.Send to packet ∷ front) back f b = none_both front back f b
-none_both (out.Disarm ∷ front) back f b = none_both front back f b
-none_both (out.Halt kind ∷ front) back f b = none_both front back f b
-
-none_when : (b : Bool) (o : Out) → disk_of (o ∷ []) ≡ None → disk_of (when b o) ≡ None
-none_when true o e = e
-none_when false o e = refl
-
 -- an operation behind outputs without one is the last
 last_after : (front : List Out) (op : Option DiskOp) → disk_of front ≡ None → is_disk_last (front ++ disk_outs op) ≡ true
 last_after [] None f = refl
 last_after [] (Some op) f = refl
-last_after (out.Disk other ∷ front) op f = some_none other f
+last_after (out.Disk other ∷ front) op f = some_is_not_none other f
 last_after (out.Stop ∷ front) op f = last_after front op f
 last_after (out.Start ∷ front) op f = last_after front op f
 last_after (out.Feed ∷ front) op f = last_after front op f
@@ -90,10 +78,10 @@ module _ (s : Settings) (me : ℕ) (past : List Line) (tick : ℕ) (log : List L
   unfolding acts
   acts_last entry fed =
       last_after (calls ++ replies s me held log entry ++ asks s me log) (wanted_with_delay s me log)
-      (none_both (calls ++ replies s me held log entry) (asks s me log)
-      (none_both calls (replies s me held log entry)
-      (none_both (when (gives_stop s log) out.Stop ++ when (gives_start s me log) out.Start) (when fed out.Feed)
-      (none_both (when (gives_stop s log) out.Stop) (when (gives_start s me log) out.Start)
+      (none_joined (calls ++ replies s me held log entry) (asks s me log)
+      (none_joined calls (replies s me held log entry)
+      (none_joined (when (gives_stop s log) out.Stop ++ when (gives_start s me log) out.Start) (when fed out.Feed)
+      (none_joined (when (gives_stop s log) out.Stop) (when (gives_start s me log) out.Start)
       (none_when (gives_stop s log) out.Stop refl) (none_when (gives_start s me log) out.Start refl))
       (none_when fed out.Feed refl))
       (replies_none held entry))
@@ -137,8 +125,8 @@ boots_by p out op same a up leaving = by_phase p (subst (λ o. is_apt o p ≡ tr
   where
     by_phase : (q : Phase) → is_apt (Some op) q ≡ true → q ≡ Booting
     by_phase Booting e = refl
-    by_phase Up e = clash (is_apt (Some op) Up) e up
-    by_phase Leaving e = clash (is_apt (Some op) Leaving) e leaving
+    by_phase Up e = never_both (is_apt (Some op) Up) e up
+    by_phase Leaving e = never_both (is_apt (Some op) Leaving) e leaving
     by_phase Dying e = absurd (false≢true e)
     by_phase Gone e = absurd (false≢true e)
 
@@ -176,7 +164,7 @@ module _ (s : Settings) (me : ℕ) (past : List Line) (timely : Bool) (a : is_ap
       by_tests false false = before
 
   claim_gone : (ok : Bool) → phase s past ≡ Booting → is_gone (if ok then phase s past else Gone) ≡ true → GoneBy s past (what.Claimed ok)
-  claim_gone true boots gone = clash (is_gone (phase s past)) gone before
+  claim_gone true boots gone = never_both (is_gone (phase s past)) gone before
   claim_gone false boots gone = Halts cause.ClaimFailed (ap is_booting boots) refl refl
 
   clear_gone : (ok : Bool) → phase s past ≡ Booting → is_gone (if ok then Up else Gone) ≡ true → GoneBy s past (what.Cleared ok)
@@ -202,17 +190,17 @@ module _ (s : Settings) (me : ℕ) (past : List Line) (timely : Bool) (a : is_ap
   gone_by (what.Claimed ok) fit gone =
       let op = claimed_answers (op_out past) ok fit in claim_gone ok (boots_in (disk.WriteClaim op.0) op.1 refl refl) gone
   gone_by (what.Cleared ok) fit gone = clear_gone ok (boots_in disk.WriteClear (cleared_answers (op_out past) ok fit) refl refl) gone
-  gone_by (what.MailRead seen) fit gone = clash (is_gone (mail_phase (message_of (what.MailRead seen)) timely (phase s past))) gone (mail_gone (message_of (what.MailRead seen)))
+  gone_by (what.MailRead seen) fit gone = never_both (is_gone (mail_phase (message_of (what.MailRead seen)) timely (phase s past))) gone (mail_gone (message_of (what.MailRead seen)))
   gone_by what.Leave fit gone = absurd (false≢true gone)
   gone_by (what.Closed ok) fit gone =
       let op = closed_answers (op_out past) ok fit in Closes ok op.0 (live_by (phase s past) (op_out past) op.0 op.1 a) refl op.1
-  gone_by (what.MailWritten rank ok) fit gone = clash (is_gone (phase s past)) gone before
-  gone_by (what.View installed) fit gone = clash (is_gone (phase s past)) gone before
-  gone_by (what.Ask ask) fit gone = clash (is_gone (phase s past)) gone before
-  gone_by (what.Tell tell) fit gone = clash (is_gone (phase s past)) gone before
-  gone_by (what.Device agrees) fit gone = clash (is_gone (phase s past)) gone before
-  gone_by what.Tick fit gone = clash (is_gone (phase s past)) gone before
-  gone_by (what.Stopped ok) fit gone = clash (is_gone (phase s past)) gone before
+  gone_by (what.MailWritten rank ok) fit gone = never_both (is_gone (phase s past)) gone before
+  gone_by (what.View installed) fit gone = never_both (is_gone (phase s past)) gone before
+  gone_by (what.Ask ask) fit gone = never_both (is_gone (phase s past)) gone before
+  gone_by (what.Tell tell) fit gone = never_both (is_gone (phase s past)) gone before
+  gone_by (what.Device agrees) fit gone = never_both (is_gone (phase s past)) gone before
+  gone_by what.Tick fit gone = never_both (is_gone (phase s past)) gone before
+  gone_by (what.Stopped ok) fit gone = never_both (is_gone (phase s past)) gone before
 
 gone_line : {s : Settings} {me : ℕ} {line : Line} {past : List Line} → IsLine s me line past → Made s me past → is_gone (phase s past) ≡ false
     → is_gone (phase s (line ∷ past)) ≡ true → GoneBy s past line.what
@@ -257,7 +245,7 @@ boots_idle {s = s} {log = log} made booting = by_held (holds log) refl
     by_held false e = e
     by_held true e =
         let start = start_since log e in
-        clash (is_booting (phase s log)) booting
+        never_both (is_booting (phase s log)) booting
         (boot_past_later made start.back (ap is_booting (up_is (phase s (start.line ∷ start.past)) (start_up (line_at start.back made) start.start))))
 
 gone_over : (p : Phase) → is_gone p ≡ true → is_over p ≡ true
@@ -298,7 +286,7 @@ room_left own None same e = by_test (nat_lt own.incarnation (2 ^ 64 - 1)) refl s
   where
     by_test : (b : Bool) → nat_lt own.incarnation (2 ^ 64 - 1) ≡ b → (if b then None else Some cause.IncarnationSpent) ≡ None → own.incarnation < 2 ^ 64 - 1
     by_test true is none = ltb-true own.incarnation (2 ^ 64 - 1) is
-    by_test false is none = some_none _ none
+    by_test false is none = some_is_not_none _ none
 
 room_read : (own : Slot) (p : Phase) → is_booting (if is_booting p then boot_phase (slot_halt (slot.Read own)) p else p) ≡ true → own.incarnation < 2 ^ 64 - 1
 room_read own Booting e = room_left own (slot_halt (slot.Read own)) refl e
@@ -331,13 +319,13 @@ claim_fits {s = s} {line = line} {past = past} it made number claim = by_source 
 
 claimed_fits : {s : Settings} {me : ℕ} {log : List Line} → Made s me log → (number : ℕ) → claimed log ≡ Some number → number < 2 ^ 64
 unfolding claimed
-claimed_fits NoLine number e = none_some number e
+claimed_fits NoLine number e = none_is_not_some number e
 claimed_fits {s = s} (OneMore {line = line} {past = past} it made) number e = by_cases (claimed_cases it) (λ was. claimed_fits made number was)
   where
     by_cases : (claimed (line ∷ past) ≡ claimed past) ⊎ ((given : ℕ) × (claimed (line ∷ past) ≡ Some given) × ClaimGiven s line past given)
         → (claimed past ≡ Some number → number < 2 ^ 64) → number < 2 ^ 64
     by_cases (inl same) rest = rest (sym same ∙ e)
-    by_cases (inr given) rest = subst (λ n. n < 2 ^ 64) (some_same _ _ (sym given.1 ∙ e)) (claim_fits it made given.0 given.2)
+    by_cases (inr given) rest = subst (λ n. n < 2 ^ 64) (same_Some _ _ (sym given.1 ∙ e)) (claim_fits it made given.0 given.2)
 
 own_fits : {s : Settings} {me : ℕ} {log : List Line} → Made s me log → unwrap_or (incarnation log) 0 < 2 ^ 64
 own_fits NoLine = omega arith
@@ -379,7 +367,7 @@ node_log {s = s} [] made below before = record {
   rests = λ gone. absurd (false≢true gone);
   silent = λ gone. refl;
   kept = λ line past op same. absurd (cc);
-  fits = λ op e. none_some op e;
+  fits = λ op e. none_is_not_some op e;
   number = own_fits made;
 }
 node_log {s = s} {me = me} (line ∷ past) (OneMore it made) below before = record {

@@ -3,6 +3,8 @@ use Rattle.std.proofs.Common.{◌≡◌, ℕ, ◌+◌, Bool, true, false, List, 
 use Rattle.std.specs.Option.{option_or}
 use Rattle.std.proofs.lemmas.Bool.{false≢true, true≢false}
 use Rattle.qn_base.specs.declared.ids.Rank.{Rank}
+use Rattle.qn_base.specs.lemmas.Options.{value_there}
+use Rattle.qn_base.specs.lemmas.Bools.{never_both}
 use Rattle.qn_model.specs.declared.configuration.Settings.{Settings}
 use Rattle.qn_model.specs.declared.disk.Slot.{Slot}
 use Rattle.qn_model.specs.declared.seen.MailSeen.{MailSeen}
@@ -17,7 +19,6 @@ use Rattle.qn_model.specs.declared.outputs.DiskOp.TheVariants as disk
 use Rattle.qn_model.specs.Log.{Line, op_out, claimed, claim_of, incarnation, disk_of, is_answer, number_read, slot_number}
 use Rattle.qn_model.specs.Phases.{phase, next_phase, boot_phase, header_halt, slot_halt, check_halt, in_time, is_booting}
 use Rattle.qn_model.specs.Fitting.{fits}
-use Rattle.qn_safety.proofs.Tools.{clash}
 use Rattle.qn_model.specs.Moments.{is_gone}
 use Rattle.qn_safety.proofs.Says.{Reason}
 use Rattle.qn_safety.proofs.Logs.{Made, NoLine, OneMore, IsLine, before_outs, disk_reason}
@@ -97,10 +98,10 @@ halted_early None = refl
 halted_early (Some cause) = refl
 
 late_clash : (out : Option DiskOp) (op : DiskOp) {P : Type 0} → out ≡ Some op → is_late (Some op) ≡ true → is_late out ≡ false → P
-late_clash out op e late early = clash (is_late out) (ap is_late e ∙ late) early
+late_clash out op e late early = never_both (is_late out) (ap is_late e ∙ late) early
 
 apt_clash : (out : Option DiskOp) (op : DiskOp) {P : Type 0} → out ≡ Some op → is_apt (Some op) Booting ≡ false → is_apt out Booting ≡ true → P
-apt_clash out op e bad good = clash (is_apt out Booting) good (ap (λ o. is_apt o Booting) e ∙ bad)
+apt_clash out op e bad good = never_both (is_apt out Booting) good (ap (λ o. is_apt o Booting) e ∙ bad)
 
 -- an answer before the claim leaves nothing out, and needs no number
 early_answer : (s : Settings) (me : ℕ) (past : List Line) (entry : What) (timely : Bool) → is_answer entry ≡ true → fits s me past entry ≡ true
@@ -157,11 +158,11 @@ numbered_step s me line past it made before needs = by_before (needs_number (op_
     at_boot : is_booting (phase s past) ≡ true → is_late (op_out past) ≡ false → (given : Option DiskOp) (answer : Bool) → disk_of line.outs ≡ given → is_answer line.what ≡ answer
         → needs_number (option_or given (if answer then None else op_out past)) next ≡ true → is_some (option_or (claim_of given) (claimed past)) ≡ true
     at_boot b early None true gave is n =
-        clash (needs_number None next) n
+        never_both (needs_number None next) n
         (ap (λ p. needs_number None (next_phase s line.what (in_time line.tick past) p)) (booting_is (phase s past) b)
         ∙ early_answer s me past line.what (in_time line.tick past) is it.fitting early (subst (λ p. is_apt (op_out past) p ≡ true) (booting_is (phase s past) b) (apt made)))
     at_boot b early None false gave is n =
-        clash (needs_number (op_out past) next) n
+        never_both (needs_number (op_out past) next) n
         (ap (λ p. needs_number (op_out past) p) (booting_is next (boot_tick s me past line.what (in_time line.tick past) is it.fitting b)) ∙ early)
     at_boot b early (Some op) answer gave is n = by_reason (disk_reason it op gave)
       where
@@ -172,7 +173,7 @@ numbered_step s me line past it made before needs = by_before (needs_number (op_
             by_claim : (c : Option ℕ) → is_some c ≡ true → is_some (option_or c (claimed past)) ≡ true
             by_claim (Some number) e = refl
             by_claim None e = absurd (false≢true e)
-        either (inr none) = clash (needs_number (Some op) next) n
+        either (inr none) = never_both (needs_number (Some op) next) n
             (ap (λ p. needs_number (Some op) (next_phase s line.what (in_time line.tick past) p)) (booting_is (phase s past) b) ∙ none)
 
         by_reason : Reason s me past line.what (before_outs line past) op → is_some (option_or (claim_of (Some op)) (claimed past)) ≡ true
@@ -182,7 +183,7 @@ numbered_step s me line past it made before needs = by_before (needs_number (op_
     no_need : ((is_booting (phase s past) ≡ true) × (is_late (op_out past) ≡ false)) ⊎ (phase s past ≡ Gone) → is_some (option_or (claim_of (disk_of line.outs)) (claimed past)) ≡ true
     no_need (inl boots) = at_boot boots.0 boots.1 (disk_of line.outs) (is_answer line.what) refl refl needs
     no_need (inr gone) =
-        clash (needs_number (option_or (disk_of line.outs) (if is_answer line.what then None else op_out past)) next) needs
+        never_both (needs_number (option_or (disk_of line.outs) (if is_answer line.what then None else op_out past)) next) needs
         (ap (λ p. needs_number (option_or (disk_of line.outs) (if is_answer line.what then None else op_out past)) p)
         (gone_next s me past line.what (in_time line.tick past) it.fitting gone (subst (λ p. is_apt (op_out past) p ≡ true) gone (apt made))))
 
@@ -216,7 +217,7 @@ claimed_same {s = s} {me = me} {line = line} {past = past} it booted = by_given 
     by_given (Some disk.ReadMail) e = refl
     by_given (Some (disk.WriteReset rank)) e = refl
     by_given (Some (disk.WriteClose number)) e = refl
-    by_given (Some (disk.WriteClaim number)) e = clash (is_booting (phase s (line ∷ past))) ((claim_given it number e).booting) booted
+    by_given (Some (disk.WriteClaim number)) e = never_both (is_booting (phase s (line ∷ past))) ((claim_given it number e).booting) booted
 
 -- a node that is up has a number
 pub record HasNumber (log : List Line) : Type 0 where
@@ -224,18 +225,14 @@ pub record HasNumber (log : List Line) : Type 0 where
   pub claims : claimed log ≡ Some number
   pub has : incarnation log ≡ Some number
 
-some_value : {A : Type 0} (o : Option A) → is_some o ≡ true → (x : A) × (o ≡ Some x)
-some_value (Some x) e = (x, refl)
-some_value None e = absurd (false≢true e)
-
 booting_first : (s : Settings) → is_booting (phase s []) ≡ true
 unfolding phase
 booting_first s = refl
 
 pub up_number : {s : Settings} {me : ℕ} {log : List Line} → Made s me log → is_booting (phase s log) ≡ false → is_gone (phase s log) ≡ false → HasNumber log
-up_number {s = s} {me = me} NoLine booted living = clash (is_booting (phase s [])) (booting_first s) booted
+up_number {s = s} {me = me} NoLine booted living = never_both (is_booting (phase s [])) (booting_first s) booted
 up_number {s = s} {me = me} (OneMore {line = line} {past = past} it made) booted living =
-    let some = some_value (claimed (line ∷ past)) (numbered s me (line ∷ past) (OneMore it made) (up_needs (op_out (line ∷ past)) (phase s (line ∷ past)) booted living)) in
+    let some = value_there (claimed (line ∷ past)) (numbered s me (line ∷ past) (OneMore it made) (up_needs (op_out (line ∷ past)) (phase s (line ∷ past)) booted living)) in
     record {
       number = some.0;
       claims = some.1;

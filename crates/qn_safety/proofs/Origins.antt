@@ -1,5 +1,5 @@
 -- Where a line of a log was added, and where a packet was sent.
-use Rattle.std.proofs.Common.{◌≡◌, ℕ, suc, zero, Bool, true, false, List, [], ◌∷◌, ◌++◌, Some, refl, sym, ap, ◌∙◌, subst, arith, if◌then◌else◌, ◌⊎◌, inl, inr, All, Contains}
+use Rattle.std.proofs.Common.{◌≡◌, ℕ, suc, zero, Bool, true, false, List, [], ◌∷◌, ◌++◌, Some, refl, sym, ap, ◌∙◌, subst, arith, if◌then◌else◌, ◌⊎◌, inl, inr, All}
 use Rattle.std.proofs.lemmas.Bool.{false≢true}
 use Rattle.qn_base.specs.declared.ids.Rank.{Rank}
 use Rattle.qn_model.specs.declared.configuration.Settings.{Settings}
@@ -16,15 +16,19 @@ use Rattle.qn_model.specs.Phases.{phase, is_booting, is_live}
 use Rattle.qn_model.specs.Fitting.{read_as}
 use Rattle.qn_model.specs.NodeOutputs.{outs_at, taken_in, with_entry, newest_outs}
 use Rattle.qn_model.specs.Moments.{Before, Itself, Later}
-use Rattle.qn_safety.proofs.Tools.{some_same, none_some, before_length}
+use Rattle.qn_safety.specs.Earlier.{before_length}
 use Rattle.qn_model.specs.declared.packets.Sent.{Sent}
 use Rattle.qn_model.specs.Moments.{Moment, Passes, Boots, Adds, Feeds, Ends, Running, tick_of, logged, handed, begin_of, booted, time, node, given_out, packets, packets_of}
 use Rattle.qn_safety.specs.Timed.{IsUp, IsSameBoot, IsSentTo, AllRuled, IsAdded}
 use Rattle.std.specs.Prelude.{slice_get}
 use Rattle.std.proofs.lemmas.List.Elements.{All-head, All-tail}
+use Rattle.std.proofs.lemmas.Option.{same_Some}
+use Rattle.qn_base.specs.lemmas.Options.{none_is_not_some}
+use Rattle.qn_base.specs.lemmas.Elements.{IsIn, First, Behind}
+use Rattle.qn_model.specs.lemmas.Moments.{never_logged, node_adds, node_boots}
 use Rattle.qn_safety.proofs.Says.{Says, PacketReason}
 use Rattle.qn_safety.proofs.Logs.{Made, before_outs, made_line, line_says}
-use Rattle.qn_safety.proofs.Runs.{Turn, IsApart, IsPass, IsBoot, IsAdd, IsFeed, IsEnd, turn, added_node, booted_node, sound, newest_rule, earlier_ruled}
+use Rattle.qn_safety.proofs.Runs.{Turn, IsApart, IsPass, IsBoot, IsAdd, IsFeed, IsEnd, turn, sound, newest_rule, earlier_ruled}
 
 -- where a line of a log comes from: it was added at a moment of the same boot, or began the boot
 pub data Origin (s : Settings) (i : ℕ) (line : Line) (past : List Line) (moments : List Moment) : Type 0 where
@@ -111,10 +115,6 @@ origin_turn s i line past earlier moment (IsAdd entry e at) rest back =
     at_entry (inl same) = ByEntry earlier (record { entry = entry; back = Itself; gave = log_now ∙ sym same }) refl
     at_entry (inr more) = origin_later s i line past moment earlier (ap (λ n. n.boots) e ∙ same_boots s i (time earlier) entry (node s i earlier)) (rest more)
 
-never_logged : (s : Settings) (i : ℕ) → (node s i []).log ≡ []
-unfolding node
-never_logged s i = refl
-
 -- each line of a log has an origin
 pub origin : (s : Settings) (i : ℕ) (line : Line) (past : List Line) (moments : List Moment) → Before (line ∷ past) (node s i moments).log → Origin s i line past moments
 origin s i line past [] back = none_before (subst (λ log. Before (line ∷ past) log) (never_logged s i) back)
@@ -130,7 +130,7 @@ pub added_line : (s : Settings) (i : ℕ) (entry : What) (line : Line) (past : L
     → (node s i (Adds i entry ∷ before)).log ≡ line ∷ past → AddedLine s i entry line past before
 added_line s i entry line past before gave =
     let same : line ∷ past ≡ line_of s i (tick_of (node s i before).clock) entry (node s i before).log ∷ (node s i before).log =
-    sym gave ∙ ap (λ n. n.log) (added_node s i entry before) ∙ handed_log s i (time before) entry (node s i before) in
+    sym gave ∙ ap (λ n. n.log) (node_adds s i entry before) ∙ handed_log s i (time before) entry (node s i before) in
     record {
       reads = ap (λ l. l.what) (head_same same) ∙ line_what s i (tick_of (node s i before).clock) entry (node s i before).log
           ∙ ap (λ p. read_as s i p entry) (sym (tail_same same));
@@ -138,18 +138,9 @@ added_line s i entry line past before gave =
       at = ap (λ l. l.tick) (head_same same) ∙ line_tick s i (tick_of (node s i before).clock) entry (node s i before).log;
     }
 
--- an element of a list
-pub data IsIn {A : Type 0} (x : A) : List A → Type 0 where
-  First : {xs : List A} → IsIn x (x ∷ xs)
-  Behind : (y : A) {xs : List A} → IsIn x xs → IsIn x (y ∷ xs)
-
-pub contains : {A : Type 0} {x : A} {xs : List A} → IsIn x xs → Contains xs x
-contains First = (0, omega arith, refl)
-contains (Behind y there) = let rest = contains there in (suc rest.0, omega (arith, rest.1), rest.2)
-
 pub get_in : {A : Type 0} (xs : List A) (n : ℕ) (x : A) → slice_get xs n ≡ Some x → IsIn x xs
-get_in [] n x e = none_some x e
-get_in (y ∷ ys) zero x e = subst (λ z. IsIn z (y ∷ ys)) (some_same _ _ e) First
+get_in [] n x e = none_is_not_some x e
+get_in (y ∷ ys) zero x e = subst (λ z. IsIn z (y ∷ ys)) (same_Some _ _ e) First
 get_in (y ∷ ys) (suc n) x e = Behind y (get_in ys n x e)
 
 in_either : {A : Type 0} (x : A) (xs ys : List A) → IsIn x (xs ++ ys) → IsIn x xs ⊎ IsIn x ys
@@ -270,7 +261,7 @@ boot_sends_none : {P : Type 0} (s : Settings) (k base : ℕ) (clean : Bool) (sen
     → (node s k (Boots k base clean ∷ earlier)).log ≡ line ∷ past → PacketReason s k past (before_outs line past) line.what sent.to sent.packet → P
 boot_sends_none s k base clean sent earlier line past gave why =
     let same : line ∷ past ≡ line_of s k (tick_of base) (begin_of clean) [] ∷ [] =
-    sym gave ∙ ap (λ n. n.log) (booted_node s k base clean earlier) ∙ booted_log s k (time earlier) base clean (node s k earlier) in
+    sym gave ∙ ap (λ n. n.log) (node_boots s k base clean earlier) ∙ booted_log s k (time earlier) base clean (node s k earlier) in
     absurd (not_live_first s past (tail_same same) (packet_live s k past (before_outs line past) line.what sent.to sent.packet why))
 
 sent_given : {s : Settings} {t : Timing} (sent : Sent) (moment : Moment) (earlier : List Moment) → AllRuled s t (moment ∷ earlier)

@@ -3,6 +3,8 @@ use Rattle.std.proofs.Common.{◌≡◌, ℕ, Bool, true, false, List, [], ◌�
 use Rattle.std.specs.Option.{option_or}
 use Rattle.std.proofs.lemmas.Bool.{false≢true, true≢false}
 use Rattle.qn_base.specs.declared.ids.Rank.{Rank}
+use Rattle.qn_base.specs.lemmas.Options.{none_is_not_some}
+use Rattle.qn_base.specs.lemmas.Bools.{never_both}
 use Rattle.qn_model.specs.declared.configuration.Settings.{Settings}
 use Rattle.qn_model.specs.declared.entries.What.{What}
 use Rattle.qn_model.specs.declared.entries.What.TheVariants as what
@@ -17,7 +19,6 @@ use Rattle.qn_model.specs.Log.{Line, op_out, claimed, claim_of, disk_of, is_answ
 use Rattle.qn_model.specs.Phases.{phase, next_phase, boot_phase, header_halt, slot_halt, check_halt, in_time, is_booting, is_up}
 use Rattle.qn_model.specs.NodeVotes.{answers}
 use Rattle.qn_model.specs.Fitting.{fits, read_as, answers_op, is_closed}
-use Rattle.qn_safety.proofs.Tools.{none_some, clash}
 use Rattle.qn_model.specs.Moments.{is_gone}
 use Rattle.qn_safety.specs.Closing.{is_close}
 use Rattle.qn_safety.proofs.Says.{Reason}
@@ -36,7 +37,7 @@ out_cases line past op e = by_given (disk_of line.outs) (is_answer line.what) re
     by_given : (given : Option DiskOp) (answer : Bool) → disk_of line.outs ≡ given → is_answer line.what ≡ answer → option_or given (if answer then None else op_out past) ≡ Some op
         → (disk_of line.outs ≡ Some op) ⊎ ((disk_of line.outs ≡ None) × (is_answer line.what ≡ false) × (op_out past ≡ Some op))
     by_given (Some other) answer gave is same = inl (gave ∙ same)
-    by_given None true gave is none = none_some op none
+    by_given None true gave is none = none_is_not_some op none
     by_given None false gave is was = inr (gave, is, was)
 
 claimed_none : (line : Line) (past : List Line) → claim_of (disk_of line.outs) ≡ None → claimed (line ∷ past) ≡ claimed past
@@ -66,7 +67,7 @@ claimed_cases {s = s} {line = line} {past = past} it = by_given (disk_of line.ou
 
 -- the claim that is out carries the claimed number
 pub out_claims : {s : Settings} {me : ℕ} {log : List Line} → Made s me log → (number : ℕ) → op_out log ≡ Some (disk.WriteClaim number) → claimed log ≡ Some number
-out_claims NoLine number e = none_some _ (sym (nothing_out) ∙ e)
+out_claims NoLine number e = none_is_not_some _ (sym (nothing_out) ∙ e)
   where
     nothing_out : op_out [] ≡ None
     nothing_out = unfold op_out in refl
@@ -95,7 +96,7 @@ close_state {s = s} {me = me} {line = line} {past = past} it number gave = by_re
     by_reason (inr lives) = lives.state.2
 
 pub out_closes : {s : Settings} {me : ℕ} {log : List Line} → Made s me log → (number : ℕ) → op_out log ≡ Some (disk.WriteClose number) → claimed log ≡ Some number
-out_closes NoLine number e = none_some _ (sym (nothing_out) ∙ e)
+out_closes NoLine number e = none_is_not_some _ (sym (nothing_out) ∙ e)
   where
     nothing_out : op_out [] ≡ None
     nothing_out = unfold op_out in refl
@@ -118,7 +119,7 @@ own_slot_out {s = s} {me = me} {log = log} made rank out booting = by_reason (di
 
     by_reason : Reason s me asked.past asked.line.what (before_outs asked.line asked.past) (disk.ReadSlot rank) → me ≡ rank.0
     by_reason (inl boots) = own_read s me asked.line.what (disk.ReadSlot rank) _ rank (boot_step_of s me _ asked.line.what (disk.ReadSlot rank) false boots.goes_on boots.next) refl
-    by_reason (inr lives) = clash (is_booting (phase s log)) booting
+    by_reason (inr lives) = never_both (is_booting (phase s log)) booting
         (boot_past_later made asked.back (up_booted (phase s (asked.line ∷ asked.past)) (subst (λ p. is_up p ≡ true) (same_phase s asked.line asked.past) lives.state.0)))
 
 -- a step of the boot that asks for the clear answers the claim
@@ -212,14 +213,7 @@ answer_fits s me past entry e = by_answer (is_answer entry) refl
   where
     by_answer : (b : Bool) → is_answer entry ≡ b → (is_answer entry ≡ true) × (read_as s me past entry ≡ entry)
     by_answer true is = (is, ap (λ b. if b then entry else what.Tick) (fits_out s me past entry is e))
-    by_answer false is = clash (answers_op (op_out past) entry) e (plain_no_answer (op_out past) entry is)
-
-pub read_plain : (s : Settings) (me : ℕ) (past : List Line) (entry : What) → is_answer entry ≡ false → is_answer (read_as s me past entry) ≡ false
-read_plain s me past entry is = by_fit (fits s me past entry)
-  where
-    by_fit : (b : Bool) → is_answer (if b then entry else what.Tick) ≡ false
-    by_fit true = is
-    by_fit false = refl
+    by_answer false is = never_both (answers_op (op_out past) entry) e (plain_no_answer (op_out past) entry is)
 
 -- the answer of a close ends the node
 close_answer : (op : Option DiskOp) (entry : What) → is_close op ≡ true → answers_op op entry ≡ true → is_closed entry ≡ true
@@ -245,10 +239,10 @@ no_close_out s line past answers living = by_close (is_close (op_out past)) refl
   where
     by_close : (b : Bool) → is_close (op_out past) ≡ b → is_close (op_out past) ≡ false
     by_close false e = e
-    by_close true e = clash (is_gone (phase s (line ∷ past))) (closed_gone s line.what (in_time line.tick past) (phase s past) (close_answer (op_out past) line.what e answers)) living
+    by_close true e = never_both (is_gone (phase s (line ∷ past))) (closed_gone s line.what (in_time line.tick past) (phase s past) (close_answer (op_out past) line.what e answers)) living
 
 not_apt : (out : Option DiskOp) (op : DiskOp) {P : Type 0} → is_apt out Booting ≡ true → out ≡ Some op → is_apt (Some op) Booting ≡ false → P
-not_apt out op a e bad = clash (is_apt out Booting) a (ap (λ o. is_apt o Booting) e ∙ bad)
+not_apt out op a e bad = never_both (is_apt out Booting) a (ap (λ o. is_apt o Booting) e ∙ bad)
 
 halted_up : (halted : Option BootCause) {P : Type 0} → is_booting (boot_phase halted Booting) ≡ false → is_gone (boot_phase halted Booting) ≡ false → P
 halted_up None b g = absurd (true≢false b)

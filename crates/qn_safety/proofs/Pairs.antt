@@ -1,6 +1,6 @@
 -- Two nodes never hold the resource at the same moment of a timed run.
-use Rattle.std.proofs.Common.{◌≡◌, ℕ, ◌<◌, ◌≤◌, Bool, true, false, List, [], ◌∷◌, length, refl, sym, ◌∙◌, subst, arith, ◌&&◌, not, ◌⊎◌, inl, inr}
-use Rattle.std.proofs.lemmas.Bool.{false≢true}
+use Rattle.std.proofs.Common.{◌≡◌, ℕ, ◌<◌, ◌≤◌, Bool, true, false, List, [], ◌∷◌, length, refl, sym, ◌∙◌, subst, arith, not, ◌⊎◌, inl, inr}
+use Rattle.std.proofs.lemmas.Bool.{false≢true, and_from}
 use Rattle.qn_model.specs.declared.configuration.Settings.{Settings}
 use Rattle.qn_model.specs.declared.times.Timing.{Timing}
 use Rattle.qn_model.specs.Log.{Line, has_start}
@@ -10,10 +10,12 @@ use Rattle.qn_model.specs.NodeVotes.{is_in_view}
 use Rattle.qn_model.specs.Hearing.{told}
 use Rattle.qn_model.specs.Licences.{out_time}
 use Rattle.qn_model.specs.Moments.{Before, Itself}
-use Rattle.qn_safety.proofs.Tools.{clash, before_then, before_total}
+use Rattle.qn_safety.specs.Earlier.{before_then, before_total}
 use Rattle.qn_model.specs.Moments.{Moment, Adds, node, is_holder}
 use Rattle.qn_safety.specs.Timed.{IsAdded, IsUp, IsSameBoot, AllRuled, IsTimedRun}
 use Rattle.std.proofs.lemmas.Bool.{cases_eq}
+use Rattle.qn_base.specs.lemmas.Bools.{never_both}
+use Rattle.qn_model.specs.lemmas.Phases.{up_booted}
 use Rattle.qn_model.specs.Timing.{is_safe}
 use Rattle.qn_safety.proofs.Logs.{IsLine, line_at, start_reason}
 use Rattle.qn_safety.proofs.Stays.{StartedAt, start_since}
@@ -21,7 +23,7 @@ use Rattle.qn_safety.proofs.Rests.{StartFacts, start_facts, TellFound, stays_out
 use Rattle.qn_safety.proofs.Runs.{sound, ruled_before, span, same_mid}
 use Rattle.qn_safety.proofs.Origins.{Origin, ByEntry, ByBoot, origin}
 use Rattle.qn_safety.proofs.Fence.{up_later}
-use Rattle.qn_safety.proofs.Licensed.{Licensed, licensed, holder_on, holder_holds, up_booted}
+use Rattle.qn_safety.proofs.Licensed.{Licensed, licensed, holder_on, holder_holds}
 use Rattle.qn_safety.proofs.Tells.{Traced, traced}
 
 -- the moment at which node i started what it holds at the present moment
@@ -39,10 +41,6 @@ pub record Started (s : Settings) (i : ℕ) (now : List Moment) : Type 0 where
   pub starts : has_start line.outs ≡ true
   pub facts : StartFacts s i line past
   pub held : (mid : List Moment) → Before at mid → Before mid now → is_holder s mid i ≡ true
-
-and_both : (a b : Bool) → a ≡ true → b ≡ true → (a && b) ≡ true
-and_both true b p q = q
-and_both false b p q = absurd (false≢true p)
 
 module _ {s : Settings} {t : Timing} {all : List Moment} (run : IsTimedRun s t all) where
   no_begin_start : (i : ℕ) (line : Line) (past : List Line) → IsLine s i line past → has_start line.outs ≡ true → past ≡ [] → ⊥
@@ -88,7 +86,7 @@ module _ {s : Settings} {t : Timing} {all : List Moment} (run : IsTimedRun s t a
                 let mids = same_mid s i since to_now same in
                 let later = span i ruled_now to_now mids.1 on in
                 let earlier = span i (ruled_before to_now ruled_now) since mids.0 later.on in
-                and_both (node s i mid).on (holds (node s i mid).log) later.on
+                and_from (node s i mid).on (holds (node s i mid).log) later.on
                 (start.held (node s i mid).log (subst (λ log. Before log (node s i mid).log) added.gave earlier.grows) later.grows);
           }
 
@@ -182,7 +180,7 @@ module _ {s : Settings} {t : Timing} {all : List Moment} (run : IsTimedRun s t a
           by_order : Before told.asked lic.p ⊎ Before lic.p told.asked → ⊥
           by_order (inl early) = was_not_up_later told.asked early told.up (told.same ∙ first_same)
           by_order (inr late) =
-              clash (is_in_view (told.line ∷ told.past) i) told.sees
+              never_both (is_in_view (told.line ∷ told.past) i) told.sees
               (subst (λ log. is_in_view log i ≡ false) told.gave
               (outside_at j i lic.p told.sent second.at lic.asking lic.older ruled_second (before_then late told.asked_back) (before_then told.back order) lic.same second.up.on
               lic.asked lic.outside lic.since))
@@ -202,7 +200,7 @@ module _ {s : Settings} {t : Timing} {all : List Moment} (run : IsTimedRun s t a
           by_order : Before told.sent first.at ⊎ Before first.at told.sent → Before told.sent first.at
           by_order (inl early) = early
           by_order (inr late) =
-              clash (holds (told.line ∷ told.past))
+              never_both (holds (told.line ∷ told.past))
               (subst (λ log. holds log ≡ true) told.gave (holder_holds s told.sent i (first.held told.sent late (before_then told.back second.back)))) told.idle
 
       inside_outside : Licensed s i j first.at all → ⊥
@@ -210,7 +208,7 @@ module _ {s : Settings} {t : Timing} {all : List Moment} (run : IsTimedRun s t a
         where
           by_order : Before lic.p told.sent ⊎ Before told.sent lic.p → ⊥
           by_order (inl early) =
-              clash (is_in_view (told.line ∷ told.past) j) told.sees
+              never_both (is_in_view (told.line ∷ told.past) j) told.sees
               (subst (λ log. is_in_view log j ≡ false) told.gave
               (outside_at i j lic.p told.sent first.at lic.asking lic.older (ruled_before first_all run.ruled) early told_before lic.same first.up.on lic.asked lic.outside lic.since))
           by_order (inr late) =

@@ -9,6 +9,7 @@ use Rattle.qn_model.specs.declared.events.Event.TheVariants as event
 use Rattle.qn_model.specs.declared.outputs.DiskOp.{DiskOp}
 use Rattle.qn_model.specs.declared.outputs.DiskOp.TheVariants as disk
 use Rattle.qn_model.specs.declared.times.Timing.{Timing}
+use Rattle.qn_model.specs.lemmas.Moments.{put_same}
 use Rattle.qn_model.specs.Log.{ask_place}
 use Rattle.qn_model.specs.Moments.{Before, Itself, Moment, node}
 use Rattle.qn_model.specs.Steps.{AllAllowed, landed, run, step}
@@ -16,9 +17,8 @@ use Rattle.qn_model.specs.Timing.{is_safe}
 use Rattle.qn_model.specs.World.{World, op_at, taken}
 use Rattle.qn_safety.specs.Landing.{HasPassed, LandsReset}
 use Rattle.qn_safety.specs.Lemmas.{HasEnded}
-use Rattle.qn_safety.proofs.Tools.{before_tail}
+use Rattle.qn_safety.specs.Earlier.{before_tail}
 use Rattle.qn_safety.proofs.Runs.{span}
-use Rattle.qn_safety.proofs.Seats.{put_same}
 use Rattle.qn_safety.proofs.Events.{allowed_of, moments_grow, run_step, stage}
 use Rattle.qn_safety.proofs.Landings.{LandedAt}
 use Rattle.qn_safety.proofs.Fence.{fence}

@@ -2,9 +2,12 @@
 use Rattle.std.proofs.Common.{◌≡◌, ℕ, suc, ◌+◌, ◌<◌, ◌≤◌, Bool, true, false, List, [], ◌∷◌, length, Some, None, Option, refl, sym, ap, ◌∙◌, subst, arith, ◌&&◌, ◌||◌, ◌==◌, not, if◌then◌else◌, inl, inr, nat_le, nat_lt}
 use Rattle.std.specs.Option.{option_or, option_map_or}
 use Rattle.std.proofs.lemmas.Bool.{false≢true, eqb-true, ltb-true, leb-true}
+use Rattle.std.proofs.lemmas.Option.{same_Some}
 use Rattle.qn_base.specs.declared.ids.Rank.{Rank}
 use Rattle.qn_base.specs.declared.ids.View.{View}
 use Rattle.qn_base.specs.Members.{is_member}
+use Rattle.qn_base.specs.lemmas.Options.{none_is_not_some}
+use Rattle.qn_base.specs.lemmas.Bools.{first_of_both, second_of_both}
 use Rattle.qn_model.specs.declared.configuration.Settings.{Settings}
 use Rattle.qn_model.specs.declared.seen.SlotSeen.{SlotSeen}
 use Rattle.qn_model.specs.declared.packets.Tell.{Tell}
@@ -13,6 +16,7 @@ use Rattle.qn_model.specs.declared.entries.What.TheVariants as what
 use Rattle.qn_model.specs.declared.life.Phase.{Phase}
 use Rattle.qn_model.specs.declared.outputs.DiskOp.{DiskOp}
 use Rattle.qn_model.specs.declared.outputs.DiskOp.TheVariants as disk
+use Rattle.qn_model.specs.lemmas.Logs.{out_time-within}
 use Rattle.qn_model.specs.Log.{Line, timing, has_start, is_answer, is_view, view_of}
 use Rattle.qn_model.specs.Phases.{phase, is_up}
 use Rattle.qn_model.specs.Holding.{holds}
@@ -22,27 +26,17 @@ use Rattle.qn_model.specs.Licences.{out_time, starts_out_time, slot_read_since, 
 use Rattle.qn_model.specs.Wanted.{rank_of}
 use Rattle.qn_model.specs.Fitting.{answers_op}
 use Rattle.qn_model.specs.Moments.{Before, Itself, Later}
-use Rattle.qn_safety.proofs.Tools.{some_same, none_some, and_left_of, and_right_of, before_length}
+use Rattle.qn_safety.specs.Earlier.{before_length}
 use Rattle.qn_safety.proofs.Says.{Reason}
 use Rattle.qn_safety.proofs.Clear.{why_clear}
 use Rattle.qn_safety.proofs.Logs.{Made, IsLine, before_outs, made_line, made_tail, line_at, disk_reason, start_reason, AnswerOf, answer_of}
 use Rattle.qn_safety.proofs.Apt.{slot_answers, reset_answers, BootStep, BeginStep, HeaderStep, SlotStep, CleanSlotStep, CheckStep, ClaimStep, ClearStep, boot_step_of}
 
--- the out-time of a rank begins inside the log
-pub out_time_inside : (rank : ℕ) (log : List Line) → out_time rank log ≤ length log
-unfolding out_time
-out_time_inside rank [] = omega arith
-out_time_inside rank (line ∷ past) = by_start (starts_out_time rank line.what) (out_time_inside rank past)
-  where
-    by_start : (b : Bool) → out_time rank past ≤ length past → (if b then suc (length past) else out_time rank past) ≤ suc (length past)
-    by_start true inside = omega arith
-    by_start false inside = omega arith
-
 -- and only moves on
 pub out_time_grows : (rank : ℕ) {old new : List Line} → Before old new → out_time rank old ≤ out_time rank new
 unfolding out_time
 out_time_grows rank Itself = omega arith
-out_time_grows rank {old = old} (Later newest {new = new} more) = by_start (starts_out_time rank newest.what) (out_time_grows rank more) (out_time_inside rank old) (before_length more)
+out_time_grows rank {old = old} (Later newest {new = new} more) = by_start (starts_out_time rank newest.what) (out_time_grows rank more) (out_time-within rank old) (before_length more)
   where
     by_start : (b : Bool) → out_time rank old ≤ out_time rank new → out_time rank old ≤ length old → length old ≤ length new
         → out_time rank old ≤ (if b then suc (length new) else out_time rank new)
@@ -101,8 +95,8 @@ read_found place test rank (line ∷ past) e = by_here (nat_lt place line.asked 
       line = line;
       past = past;
       back = Itself;
-      behind = ltb-true place line.asked (and_left_of (nat_lt place line.asked) (reads_slot test rank line.what) is);
-      reads = and_right_of (nat_lt place line.asked) (reads_slot test rank line.what) is;
+      behind = ltb-true place line.asked (first_of_both (nat_lt place line.asked) (reads_slot test rank line.what) is);
+      reads = second_of_both (nat_lt place line.asked) (reads_slot test rank line.what) is;
     }
     by_here false is or rest = let was = rest or in record { line = was.line; past = was.past; back = Later line was.back; behind = was.behind; reads = was.reads }
 
@@ -117,7 +111,7 @@ pub record ResetDone (rank place tick : ℕ) (log : List Line) : Type 0 where
 
 pub reset_found : (place rank tick : ℕ) (log : List Line) → reset_since place rank log ≡ Some tick → ResetDone rank place tick log
 unfolding reset_since
-reset_found place rank tick [] e = none_some tick e
+reset_found place rank tick [] e = none_is_not_some tick e
 reset_found place rank tick (line ∷ past) e = by_here (nat_lt place line.asked && writes_reset rank line.what) refl e (λ was. reset_found place rank tick past was)
   where
     by_here : (b : Bool) → (nat_lt place line.asked && writes_reset rank line.what) ≡ b → (if b then Some line.tick else reset_since place rank past) ≡ Some tick
@@ -126,9 +120,9 @@ reset_found place rank tick (line ∷ past) e = by_here (nat_lt place line.asked
       line = line;
       past = past;
       back = Itself;
-      behind = ltb-true place line.asked (and_left_of (nat_lt place line.asked) (writes_reset rank line.what) is);
-      writes = and_right_of (nat_lt place line.asked) (writes_reset rank line.what) is;
-      at = some_same _ _ found;
+      behind = ltb-true place line.asked (first_of_both (nat_lt place line.asked) (writes_reset rank line.what) is);
+      writes = second_of_both (nat_lt place line.asked) (writes_reset rank line.what) is;
+      at = same_Some _ _ found;
     }
     by_here false is found rest = let was = rest found in record { line = was.line; past = was.past; back = Later line was.back; behind = was.behind; writes = was.writes; at = was.at }
 
@@ -162,7 +156,7 @@ pub read_is : (test : SlotSeen → Bool) (rank : ℕ) (entry : What) → reads_s
 read_is test rank what.Begin e = absurd (false≢true e)
 read_is test rank what.BeginClean e = absurd (false≢true e)
 read_is test rank (what.Header seen) e = absurd (false≢true e)
-read_is test rank (what.SlotRead other seen) e = (other, seen, refl, eqb-true other.0 rank (and_left_of (other.0 == rank) (test seen) e), and_right_of (other.0 == rank) (test seen) e)
+read_is test rank (what.SlotRead other seen) e = (other, seen, refl, eqb-true other.0 rank (first_of_both (other.0 == rank) (test seen) e), second_of_both (other.0 == rank) (test seen) e)
 read_is test rank (what.MailChecked seen) e = absurd (false≢true e)
 read_is test rank (what.Claimed ok) e = absurd (false≢true e)
 read_is test rank (what.Cleared ok) e = absurd (false≢true e)
@@ -186,8 +180,8 @@ write_is rank (what.MailChecked seen) e = absurd (false≢true e)
 write_is rank (what.Claimed ok) e = absurd (false≢true e)
 write_is rank (what.Cleared ok) e = absurd (false≢true e)
 write_is rank (what.MailRead seen) e = absurd (false≢true e)
-write_is rank (what.MailWritten other true) e = (other, refl, eqb-true other.0 rank (and_left_of (other.0 == rank) true e))
-write_is rank (what.MailWritten other false) e = absurd (false≢true (and_right_of (other.0 == rank) false e))
+write_is rank (what.MailWritten other true) e = (other, refl, eqb-true other.0 rank (first_of_both (other.0 == rank) true e))
+write_is rank (what.MailWritten other false) e = absurd (false≢true (second_of_both (other.0 == rank) false e))
 write_is rank (what.View installed) e = absurd (false≢true e)
 write_is rank (what.Ask ask) e = absurd (false≢true e)
 write_is rank (what.Tell tell) e = absurd (false≢true e)
@@ -267,7 +261,7 @@ slot_ask {s = s} {me = me} {line = line} {past = past} made test rank differs re
     let read = read_is test rank line.what reads in
     let answer = answer_of (made_line made) (ap is_answer read.2) in
     let op = slot_answers (Some answer.op) read.0 read.1 (subst (λ w. answers_op (Some answer.op) w ≡ true) read.2 answer.answer) in
-    read_by (made_tail made) rank answer op.0 (op.2 ∙ read.3) differs (some_same _ _ op.1)
+    read_by (made_tail made) rank answer op.0 (op.2 ∙ read.3) differs (same_Some _ _ op.1)
 
 pub written_ask : {s : Settings} {me : ℕ} {line : Line} {past : List Line} → Made s me (line ∷ past) → (rank : ℕ)
     → writes_reset rank line.what ≡ true → FencingAsk s rank line past
@@ -275,7 +269,7 @@ written_ask {s = s} {me = me} {line = line} {past = past} made rank writes =
     let wrote = write_is rank line.what writes in
     let answer = answer_of (made_line made) (ap is_answer wrote.1) in
     let op = reset_answers (Some answer.op) wrote.0 true (subst (λ w. answers_op (Some answer.op) w ≡ true) wrote.1 answer.answer) in
-    write_by (made_tail made) rank answer op.0 (op.2 ∙ wrote.2) (some_same _ _ op.1)
+    write_by (made_tail made) rank answer op.0 (op.2 ∙ wrote.2) (same_Some _ _ op.1)
 
 -- a Tell that a node counts: it answers, and passes a test
 pub record TellFound (test : Tell → Bool) (rank : ℕ) (log : List Line) : Type 0 where
@@ -302,12 +296,12 @@ tell_is test rank past (what.MailWritten other ok) e = absurd (false≢true e)
 tell_is test rank past (what.View installed) e = absurd (false≢true e)
 tell_is test rank past (what.Ask ask) e = absurd (false≢true e)
 tell_is test rank past (what.Tell tell) e =
-    let both = and_left_of (tell.from.0 == rank && answers past tell) (test tell) e in (
+    let both = first_of_both (tell.from.0 == rank && answers past tell) (test tell) e in (
       tell,
       refl,
-      eqb-true tell.from.0 rank (and_left_of (tell.from.0 == rank) (answers past tell) both),
-      and_right_of (tell.from.0 == rank) (answers past tell) both,
-      and_right_of (tell.from.0 == rank && answers past tell) (test tell) e,
+      eqb-true tell.from.0 rank (first_of_both (tell.from.0 == rank) (answers past tell) both),
+      second_of_both (tell.from.0 == rank) (answers past tell) both,
+      second_of_both (tell.from.0 == rank && answers past tell) (test tell) e,
     )
 tell_is test rank past (what.Device agrees) e = absurd (false≢true e)
 tell_is test rank past what.Tick e = absurd (false≢true e)
@@ -326,7 +320,7 @@ heard test rank (line ∷ past) e = by_here (tells test rank past line.what) ref
         let it = tell_is test rank past line.what is in
         record { line = line; past = past; tell = it.0; back = Itself; reads = it.1; sender = it.2; answers = it.3; passes = it.4 }
     by_here false is or rest =
-        let was = rest (and_right_of (not (is_view line.what)) (told test rank past) or) in
+        let was = rest (second_of_both (not (is_view line.what)) (told test rank past) or) in
         record { line = was.line; past = was.past; tell = was.tell; back = Later line was.back; reads = was.reads; sender = was.sender; answers = was.answers; passes = was.passes }
 
 -- what a start of a line rests on, read off the log with that line

@@ -1,7 +1,10 @@
 -- The numbers of the incarnations of one node rise.
 use Rattle.std.proofs.Common.{◌≡◌, ℕ, ◌<◌, ◌≤◌, true, false, List, [], ◌∷◌, Some, None, refl, sym, ap, ◌∙◌, subst, arith, ◌⊎◌, inl, inr}
 use Rattle.std.proofs.lemmas.Bool.{false≢true}
+use Rattle.std.proofs.lemmas.Option.{same_Some}
 use Rattle.qn_base.specs.declared.ids.Rank.{Rank}
+use Rattle.qn_base.specs.lemmas.Options.{none_is_not_some}
+use Rattle.qn_base.specs.lemmas.Bools.{never_both}
 use Rattle.qn_model.specs.declared.configuration.Settings.{Settings}
 use Rattle.qn_model.specs.declared.times.Timing.{Timing}
 use Rattle.qn_model.specs.declared.disk.Slot.{Slot}
@@ -13,20 +16,21 @@ use Rattle.qn_model.specs.Log.{Line, claimed, incarnation, is_answer}
 use Rattle.qn_model.specs.Phases.{phase, is_booting}
 use Rattle.qn_model.specs.Fitting.{answers_op}
 use Rattle.qn_model.specs.Moments.{Before}
-use Rattle.qn_safety.proofs.Tools.{some_same, none_some, clash, before_total}
+use Rattle.qn_safety.specs.Earlier.{before_total}
 use Rattle.qn_model.specs.Moments.{Moment, begin_of, node}
 use Rattle.qn_safety.specs.Timed.{IsUp, AllRuled, NumbersRise}
 use Rattle.qn_model.specs.declared.events.Event.{Event}
+use Rattle.qn_model.specs.lemmas.Entries.{begin_answers_none, failed_answers, read_answers_none}
 use Rattle.qn_model.specs.World.{World, failed}
 use Rattle.qn_model.specs.Steps.{run}
 use Rattle.qn_safety.proofs.Logs.{Made, IsLine, made_line}
-use Rattle.qn_safety.proofs.Outs.{answer_fits, read_plain, claimed_cases}
+use Rattle.qn_safety.proofs.Outs.{answer_fits, claimed_cases}
 use Rattle.qn_safety.proofs.Numbers.{up_number, ClaimGiven}
 use Rattle.qn_safety.proofs.Runs.{sound, ruled_before, boots_le}
 use Rattle.qn_safety.proofs.Origins.{line_of, line_what}
 use Rattle.qn_safety.proofs.Seats.{seat_of, slot_after, Effect, Rests, Enters, Answers, Fails, BootsUp, GoesOff, Lands, LandsLate}
-use Rattle.qn_safety.proofs.Kept.{Kept, claim_next, failed_answers}
-use Rattle.qn_safety.proofs.Held.{Held, begin_plain, left_late, keeps_out, slot_keeps}
+use Rattle.qn_safety.proofs.Kept.{Kept, claim_next}
+use Rattle.qn_safety.proofs.Held.{Held, left_late, keeps_out, slot_keeps}
 use Rattle.qn_safety.proofs.Events.{IsAllowed, NoEvent, OneEvent, allowed_before, stage, effect_at, earlier_allowed, grows, newest_state, first_moments, only_nothing, AtEvents, at_events}
 
 -- the number in a slot never falls
@@ -60,13 +64,13 @@ up_in_slot {s = s} {t = t} {events = events} j number allowed up has =
     let state = sound here.ruled j in
     let named = up_number state.made up.booted (state.living up.on) in
     let numbered' = ((here.held j).kept up.on).numbered up.booted in
-    some_same _ _ (sym has ∙ named.has ∙ sym named.claims ∙ numbered')
+    same_Some _ _ (sym has ∙ named.has ∙ sym named.claims ∙ numbered')
 
 -- the number of an incarnation that was up is at most that in the slot
 pub number_above : {s : Settings} {t : Timing} {events : List Event} (j number : ℕ) (p : List Moment) → IsAllowed s t events → Before p (run s t events).moments → IsUp s j p
     → incarnation (node s j p).log ≡ Some number → number ≤ ((run s t events).slots j).incarnation
 number_above {s = s} {t = t} j number p NoEvent back up has =
-    clash (node s j p).on up.on (ap (λ ms. (node s j ms).on) (only_nothing (subst (λ ms. Before p ms) (first_moments s t) back)) ∙ never_on s j)
+    never_both (node s j p).on up.on (ap (λ ms. (node s j ms).on) (only_nothing (subst (λ ms. Before p ms) (first_moments s t) back)) ∙ never_on s j)
 number_above {s = s} {t = t} j number p (OneEvent {e = e} {earlier = earlier} form ok allowed) back up has =
     by_growth (grows s t e earlier) (λ more. number_above j number p allowed more up has)
   where
@@ -166,7 +170,7 @@ module _ {s : Settings} {t : Timing} (j number later_number : ℕ) (p : List Mom
 
       by_claim : (claimed (line ∷ log) ≡ claimed log) ⊎ ((n : ℕ) × (claimed (line ∷ log) ≡ Some n) × ClaimGiven s line log n) → number < later_number
       by_claim (inl kept) = rest on_before (sym kept ∙ sym (ap (λ x. claimed x.log) same) ∙ claims) (let q = ap (λ x. x.boots) same in omega arith)
-      by_claim (inr claim) = clash (is_answer line.what) claim.2.answers (ap is_answer (line_what s j tick entry log) ∙ read_plain s j log entry plain)
+      by_claim (inr claim) = never_both (is_answer line.what) claim.2.answers (ap is_answer (line_what s j tick entry log) ∙ read_answers_none s j log entry plain)
   claim_rises {e = e} {earlier = earlier} allowed back less on claims (Fails tick op on_before out same) rest =
       by_claim (claimed_cases it)
     where
@@ -185,7 +189,7 @@ module _ {s : Settings} {t : Timing} (j number later_number : ℕ) (p : List Mom
           let fit = answer_fits s j log (failed op) (subst (λ o. answers_op o (failed op) ≡ true) (sym out) (failed_answers op)) in
           claim_above (earlier_allowed allowed) back on_before it
           (λ rank own booting reads. absurd (failed_own op rank own (sym (line_what s j tick (failed op) log ∙ fit.1) ∙ reads)))
-          claim.0 claim.2 (some_same _ _ (sym claim.1 ∙ sym (ap (λ x. claimed x.log) same) ∙ claims))
+          claim.0 claim.2 (same_Some _ _ (sym claim.1 ∙ sym (ap (λ x. claimed x.log) same) ∙ claims))
   claim_rises {e = e} {earlier = earlier} allowed back less on claims (Answers tick entry on_before took same) rest =
       by_claim (claimed_cases it)
     where
@@ -205,7 +209,7 @@ module _ {s : Settings} {t : Timing} (j number later_number : ℕ) (p : List Mom
           let fit = answer_fits s j log entry (held.answers on_before entry took) in
           claim_above (earlier_allowed allowed) back on_before it
           (λ rank own booting reads. (held.kept on_before).reading rank own booting (took ∙ ap Some (sym (line_what s j tick entry log ∙ fit.1) ∙ reads)))
-          claim.0 claim.2 (some_same _ _ (sym claim.1 ∙ sym (ap (λ x. claimed x.log) same) ∙ claims))
+          claim.0 claim.2 (same_Some _ _ (sym claim.1 ∙ sym (ap (λ x. claimed x.log) same) ∙ claims))
   claim_rises {e = e} {earlier = earlier} allowed back less on claims (BootsUp tick clean off same) rest =
       by_claim (claimed_cases it)
     where
@@ -216,15 +220,15 @@ module _ {s : Settings} {t : Timing} (j number later_number : ℕ) (p : List Mom
       it = made_line (subst (λ l. Made s j l) (ap (λ x. x.log) same) ((sound ((stage allowed).ruled) j).made))
 
       by_claim : (claimed (line ∷ []) ≡ claimed []) ⊎ ((n : ℕ) × (claimed (line ∷ []) ≡ Some n) × ClaimGiven s line [] n) → number < later_number
-      by_claim (inl kept) = none_some later_number (sym (kept ∙ nothing_claimed) ∙ sym (ap (λ x. claimed x.log) same) ∙ claims)
+      by_claim (inl kept) = none_is_not_some later_number (sym (kept ∙ nothing_claimed) ∙ sym (ap (λ x. claimed x.log) same) ∙ claims)
       by_claim (inr claim) =
-          clash (is_answer line.what) claim.2.answers (ap is_answer (line_what s j tick (begin_of clean) []) ∙ read_plain s j [] (begin_of clean) (begin_plain clean))
+          never_both (is_answer line.what) claim.2.answers (ap is_answer (line_what s j tick (begin_of clean) []) ∙ read_answers_none s j [] (begin_of clean) (begin_answers_none clean))
 
   -- a number that is claimed is above those of all incarnations that were up before
   rises : {events : List Event} → IsAllowed s t events → Before p (run s t events).moments → (node s j p).boots < (node s j (run s t events).moments).boots
       → (node s j (run s t events).moments).on ≡ true → claimed (node s j (run s t events).moments).log ≡ Some later_number → number < later_number
   rises NoEvent back less on claims =
-      clash (node s j (run s t []).moments).on on (ap (λ ms. (node s j ms).on) (first_moments s t) ∙ never_on s j)
+      never_both (node s j (run s t []).moments).on on (ap (λ ms. (node s j ms).on) (first_moments s t) ∙ never_on s j)
   rises (OneEvent {e = e} {earlier = earlier} form ok allowed) back less on claims =
       claim_rises (OneEvent form ok allowed) (earlier_boot s t e earlier j p back less) less on claims (effect_at j (OneEvent form ok allowed))
       (λ on' claims' less'. rises allowed (earlier_boot s t e earlier j p back less) less' on' claims')

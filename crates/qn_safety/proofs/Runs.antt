@@ -1,17 +1,20 @@
 -- What a moment is to one node, what stays true of a node over the moments, and how its clock runs.
-use Rattle.std.proofs.Common.{◌≡◌, ℕ, suc, ◌+◌, ◌-◌, ◌*◌, ◌<◌, ◌≤◌, Bool, true, false, List, [], ◌∷◌, length, Some, None, Option, refl, sym, ap, ◌∙◌, subst, arith, ◌&&◌, ◌==◌, if◌then◌else◌, nat_le}
-use Rattle.std.proofs.lemmas.Bool.{false≢true, eqb-true, eq-eqb, leb-true}
+use Rattle.std.proofs.Common.{◌≡◌, ℕ, suc, ◌+◌, ◌-◌, ◌*◌, ◌<◌, ◌≤◌, Bool, true, false, List, [], ◌∷◌, length, Some, None, refl, sym, ap, ◌∙◌, subst, arith, ◌&&◌, ◌==◌, if◌then◌else◌, nat_le}
+use Rattle.std.proofs.lemmas.Bool.{false≢true, eqb-true, leb-true, not-true}
 use Rattle.qn_base.specs.declared.ids.Rank.{Rank}
+use Rattle.qn_base.specs.lemmas.Options.{found_within, none_is_not_some}
+use Rattle.qn_base.specs.lemmas.Bools.{first_of_both, second_of_both}
 use Rattle.qn_model.specs.declared.configuration.Settings.{Settings}
 use Rattle.qn_model.specs.declared.times.Timing.{Timing}
 use Rattle.qn_model.specs.declared.entries.What.{What}
 use Rattle.qn_model.specs.declared.entries.What.TheVariants as what
+use Rattle.qn_model.specs.lemmas.Entries.{read_fits}
+use Rattle.qn_model.specs.lemmas.Moments.{node_adds, node_boots, node_feeds, node_ends, clock_handed}
 use Rattle.qn_model.specs.Log.{Line, op_out, ask_place, ask_tick, claimed, claim_of, incarnation, timing, times_of, no_times, disk_of, has_start, has_stop, is_answer, is_view, view_of}
 use Rattle.qn_model.specs.Phases.{phase}
-use Rattle.qn_model.specs.Fitting.{fits, read_as}
 use Rattle.qn_model.specs.NodeOutputs.{with_entry, newest_outs}
 use Rattle.qn_model.specs.Moments.{Before, Itself, Later}
-use Rattle.qn_safety.proofs.Tools.{some_same, none_some, and_left_of, and_right_of, not_true, before_then}
+use Rattle.qn_safety.specs.Earlier.{before_then}
 use Rattle.qn_model.specs.Log as LogSpec
 use Rattle.qn_model.specs.Moments.{Moment, Passes, Boots, Adds, Feeds, Ends, Running, tick_of, is_gone, has_feed, advance_of, advanced, logged, handed, begin_of, booted, time, node}
 use Rattle.qn_model.specs.Rules.{passes, is_within_bounds, outlives}
@@ -31,25 +34,6 @@ pub data Turn (s : Settings) (i : ℕ) (earlier : List Moment) : Moment → Type
       → time (Feeds i ∷ earlier) ≡ time earlier → Turn s i earlier (Feeds i)
   IsEnd : node s i (Ends i ∷ earlier) ≡ record (node s i earlier) { on = false }
       → time (Ends i ∷ earlier) ≡ time earlier → Turn s i earlier (Ends i)
-
-own_test : (i : ℕ) → (i == i) ≡ true
-own_test i = eq-eqb i i refl
-
-pub added_node : (s : Settings) (i : ℕ) (entry : What) (earlier : List Moment) → node s i (Adds i entry ∷ earlier) ≡ handed s i (time earlier) entry (node s i earlier)
-unfolding node
-added_node s i entry earlier = ap (λ b. if b then handed s i (time earlier) entry (node s i earlier) else node s i earlier) (own_test i)
-
-pub booted_node : (s : Settings) (i base : ℕ) (clean : Bool) (earlier : List Moment) → node s i (Boots i base clean ∷ earlier) ≡ booted s i (time earlier) base clean (node s i earlier)
-unfolding node
-booted_node s i base clean earlier = ap (λ b. if b then booted s i (time earlier) base clean (node s i earlier) else node s i earlier) (own_test i)
-
-fed_node : (s : Settings) (i : ℕ) (earlier : List Moment) → node s i (Feeds i ∷ earlier) ≡ record (node s i earlier) { fed = time earlier }
-unfolding node
-fed_node s i earlier = ap (λ b. if b then record (node s i earlier) { fed = time earlier } else node s i earlier) (own_test i)
-
-ended_node : (s : Settings) (i : ℕ) (earlier : List Moment) → node s i (Ends i ∷ earlier) ≡ record (node s i earlier) { on = false }
-unfolding node
-ended_node s i earlier = ap (λ b. if b then record (node s i earlier) { on = false } else node s i earlier) (own_test i)
 
 boots_apart : (s : Settings) (i other base : ℕ) (clean : Bool) (earlier : List Moment) → (other == i) ≡ false → node s i (Boots other base clean ∷ earlier) ≡ node s i earlier
 unfolding node
@@ -73,31 +57,23 @@ turn s i earlier (Passes dt clocks) = IsPass dt clocks (unfold node in refl) ref
 turn s i earlier (Boots other base clean) = by_owner (other == i) refl
   where
     by_owner : (b : Bool) → (other == i) ≡ b → Turn s i earlier (Boots other base clean)
-    by_owner true e = subst (λ k. Turn s i earlier (Boots k base clean)) (sym (eqb-true other i e)) (IsBoot base clean (booted_node s i base clean earlier) refl)
+    by_owner true e = subst (λ k. Turn s i earlier (Boots k base clean)) (sym (eqb-true other i e)) (IsBoot base clean (node_boots s i base clean earlier) refl)
     by_owner false e = IsApart (Boots other base clean) (boots_apart s i other base clean earlier e) refl
 turn s i earlier (Adds other entry) = by_owner (other == i) refl
   where
     by_owner : (b : Bool) → (other == i) ≡ b → Turn s i earlier (Adds other entry)
-    by_owner true e = subst (λ k. Turn s i earlier (Adds k entry)) (sym (eqb-true other i e)) (IsAdd entry (added_node s i entry earlier) refl)
+    by_owner true e = subst (λ k. Turn s i earlier (Adds k entry)) (sym (eqb-true other i e)) (IsAdd entry (node_adds s i entry earlier) refl)
     by_owner false e = IsApart (Adds other entry) (adds_apart s i other entry earlier e) refl
 turn s i earlier (Feeds other) = by_owner (other == i) refl
   where
     by_owner : (b : Bool) → (other == i) ≡ b → Turn s i earlier (Feeds other)
-    by_owner true e = subst (λ k. Turn s i earlier (Feeds k)) (sym (eqb-true other i e)) (IsFeed (fed_node s i earlier) refl)
+    by_owner true e = subst (λ k. Turn s i earlier (Feeds k)) (sym (eqb-true other i e)) (IsFeed (node_feeds s i earlier) refl)
     by_owner false e = IsApart (Feeds other) (feeds_apart s i other earlier e) refl
 turn s i earlier (Ends other) = by_owner (other == i) refl
   where
     by_owner : (b : Bool) → (other == i) ≡ b → Turn s i earlier (Ends other)
-    by_owner true e = subst (λ k. Turn s i earlier (Ends k)) (sym (eqb-true other i e)) (IsEnd (ended_node s i earlier) refl)
+    by_owner true e = subst (λ k. Turn s i earlier (Ends k)) (sym (eqb-true other i e)) (IsEnd (node_ends s i earlier) refl)
     by_owner false e = IsApart (Ends other) (ends_apart s i other earlier e) refl
-
--- an entry as it is read fits
-pub read_fits : (s : Settings) (me : ℕ) (past : List Line) (entry : What) → fits s me past (read_as s me past entry) ≡ true
-read_fits s me past entry = by_test (fits s me past entry) refl
-  where
-    by_test : (b : Bool) → fits s me past entry ≡ b → fits s me past (if b then entry else what.Tick) ≡ true
-    by_test true e = e
-    by_test false e = refl
 
 pub made_entry : (s : Settings) (me : ℕ) (past : List Line) (tick : ℕ) (entry : What) → Made s me past → LogSpec.now past ≤ tick
     → Made s me (with_entry s me past (record { tick = tick; what = entry }))
@@ -120,10 +96,6 @@ pub record IsSound (s : Settings) (t : Timing) (i now : ℕ) (n : Running) : Typ
   pub decided_before : (at : ℕ) → n.decided ≡ Some at → at ≤ now
   pub alive : n.on ≡ true → 99 * now ≤ 99 * n.fed + 100 * t.watchdog
 
-sound_decided : (b : Bool) (now at : ℕ) (before : Option ℕ) → (before ≡ Some at → at ≤ now) → (if b then Some now else before) ≡ Some at → at ≤ now
-sound_decided true now at before was e = let same : now ≡ at = some_same _ _ e in omega arith
-sound_decided false now at before was e = was e
-
 pub sound_handed : (s : Settings) (t : Timing) (i now : ℕ) (entry : What) (n : Running) → IsSound s t i now n → n.on ≡ true → IsSound s t i now (handed s i now entry n)
 unfolding handed logged
 sound_handed s t i now entry n was on =
@@ -132,10 +104,10 @@ sound_handed s t i now entry n was on =
       made = made_entry s i n.log (tick_of n.clock) entry was.made was.order;
       order = tick_order;
       known = λ e. was.known on;
-      living = λ e. not_true (is_gone (phase s log)) e;
+      living = λ e. not-true (is_gone (phase s log)) e;
       going = went_on;
       fed_before = was.fed_before;
-      decided_before = λ at e. sound_decided (has_feed (newest_outs log)) now at n.decided (was.decided_before at) e;
+      decided_before = λ at e. found_within (has_feed (newest_outs log)) now at n.decided (was.decided_before at) e;
       alive = λ e. was.alive on;
     }
   where
@@ -154,7 +126,7 @@ fresh_sound s t i now base boots known = record {
   living = λ e. refl;
   going = refl;
   fed_before = omega arith;
-  decided_before = λ at e. none_some at e;
+  decided_before = λ at e. none_is_not_some at e;
   alive = λ e. omega arith;
 }
 
@@ -162,10 +134,10 @@ pass_parts : (t : Timing) (dt advance now : ℕ) (n : Running) → n.on ≡ true
     → (99 * dt ≤ advance) × (advance ≤ 101 * dt) × (99 * (now + dt) ≤ 99 * n.fed + 100 * t.watchdog)
 pass_parts t dt advance now n on e =
     let both : (is_within_bounds dt advance && outlives t (now + dt) n.fed) ≡ true = sym (ap (λ b. if b then is_within_bounds dt advance && outlives t (now + dt) n.fed else true) on) ∙ e in
-    let bounds = and_left_of (is_within_bounds dt advance) (outlives t (now + dt) n.fed) both in
-    let low = leb-true (99 * dt) advance (and_left_of (nat_le (99 * dt) advance) (nat_le advance (101 * dt)) bounds) in
-    let high = leb-true advance (101 * dt) (and_right_of (nat_le (99 * dt) advance) (nat_le advance (101 * dt)) bounds) in
-    let lives = leb-true (99 * (now + dt - n.fed)) (100 * t.watchdog) (and_right_of (is_within_bounds dt advance) (outlives t (now + dt) n.fed) both) in
+    let bounds = first_of_both (is_within_bounds dt advance) (outlives t (now + dt) n.fed) both in
+    let low = leb-true (99 * dt) advance (first_of_both (nat_le (99 * dt) advance) (nat_le advance (101 * dt)) bounds) in
+    let high = leb-true advance (101 * dt) (second_of_both (nat_le (99 * dt) advance) (nat_le advance (101 * dt)) bounds) in
+    let lives = leb-true (99 * (now + dt - n.fed)) (100 * t.watchdog) (second_of_both (is_within_bounds dt advance) (outlives t (now + dt) n.fed) both) in
     (low, high, omega arith)
 
 sound_advanced : (s : Settings) (t : Timing) (i now dt advance : ℕ) (n : Running) → IsSound s t i now n → (n.on ≡ true → passes t dt advance now n ≡ true)
@@ -240,7 +212,7 @@ never_sound s t i = record {
   living = λ e. absurd (false≢true e);
   going = refl;
   fed_before = omega arith;
-  decided_before = λ at e. none_some at e;
+  decided_before = λ at e. none_is_not_some at e;
   alive = λ e. absurd (false≢true e);
 }
 
@@ -299,10 +271,6 @@ handed_grows : (s : Settings) (i now : ℕ) (entry : What) (n : Running) → Bef
 unfolding handed logged with_entry
 handed_grows s i now entry n = Later _ Itself
 
-handed_clock : (s : Settings) (i now : ℕ) (entry : What) (n : Running) → (handed s i now entry n).clock ≡ n.clock
-unfolding handed logged
-handed_clock s i now entry n = refl
-
 still : (s : Settings) (i : ℕ) (earlier : List Moment) (moment : Moment) → (node s i earlier).on ≡ true → Before (node s i earlier).log (node s i (moment ∷ earlier)).log
     → (node s i (moment ∷ earlier)).clock ≡ (node s i earlier).clock → time (moment ∷ earlier) ≡ time earlier → OneStep s i earlier moment
 still s i earlier moment on grows clock at = record { on = on; grows = grows; slow = omega arith; fast = omega arith; forward = omega arith }
@@ -330,7 +298,7 @@ one_step s t i earlier moment (IsBoot base clean e at) rule sound_now same on =
     absurd (let p = ap (λ n. n.boots) e ∙ booted_boots s i (time earlier) base clean (node s i earlier) in omega arith)
 one_step s t i earlier moment (IsAdd entry e at) rule sound_now same on =
     still s i earlier moment rule.0 (subst (λ n. Before (node s i earlier).log n.log) (sym e) (handed_grows s i (time earlier) entry (node s i earlier)))
-    (ap (λ n. n.clock) e ∙ handed_clock s i (time earlier) entry (node s i earlier)) at
+    (ap (λ n. n.clock) e ∙ clock_handed s i (time earlier) entry (node s i earlier)) at
 one_step s t i earlier moment (IsFeed e at) rule sound_now same on =
     still s i earlier moment rule.on (subst (λ n. Before (node s i earlier).log n.log) (sym e) Itself) (ap (λ n. n.clock) e) at
 one_step s t i earlier moment (IsEnd e at) rule sound_now same on = absurd (false≢true (sym (ap (λ n. n.on) e) ∙ on))

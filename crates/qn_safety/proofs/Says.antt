@@ -4,9 +4,12 @@ use Rattle.std.specs.Prelude.{option_and_then}
 use Rattle.std.specs.Option.{option_or, option_map, option_map_or}
 use Rattle.std.proofs.lemmas.List.Elements.{All-nil, All-cons, All-append, All-head, All-tail, All-map}
 use Rattle.std.proofs.lemmas.Bool.{false≢true}
+use Rattle.std.proofs.lemmas.Option.{same_Some}
 use Rattle.qn_base.specs.declared.ids.Rank.{Rank}
 use Rattle.qn_base.specs.declared.ids.View.{View}
 use Rattle.qn_base.specs.Members.{is_member}
+use Rattle.qn_base.specs.lemmas.Bools.{first_fails, first_of_three_fails, first_of_both, second_of_both}
+use Rattle.qn_base.specs.lemmas.Options.{none_is_not_some}
 use Rattle.qn_model.specs.declared.configuration.Settings.{Settings}
 use Rattle.qn_model.specs.declared.disk.Message.{Message}
 use Rattle.qn_model.specs.declared.packets.Ask.{Ask}
@@ -29,8 +32,7 @@ use Rattle.qn_model.specs.NodeVotes.{install, view, is_in_view, is_present, rele
 use Rattle.qn_model.specs.Unmet.{unmet, is_clear, is_chosen}
 use Rattle.qn_model.specs.Wanted.{wanted_with_delay, fencing_op_with_delay, is_delay_over, to_read, to_reset, to_reset_now, boot_op, close_op, rank_of, is_mail_due, may_fence}
 use Rattle.qn_model.specs.NodeOutputs.{acts, outs_at, live_outs, boot_outs, boot_step_outs, is_boot_step, is_begin, disk_outs, when, replies, reply, asks_under, ask_to, is_asking, gives_stop, gives_start, mail_feeds}
-use Rattle.qn_safety.specs.LeastRanks.{least_bound, least_passes}
-use Rattle.qn_safety.proofs.Tools.{some_same, none_some, and_left_of, and_right_of, not_true}
+use Rattle.qn_model.specs.lemmas.LeastRanks.{least_bound, least_passes}
 
 -- an operation of the boot: the entry is a step of the boot that goes on
 pub record BootReason (s : Settings) (me : ℕ) (past log : List Line) (entry : What) (op : DiskOp) : Type 0 where
@@ -98,27 +100,20 @@ Says s me past tick entry log out.Feed = (is_booting (phase s past) ≡ true) �
 Says s me past tick entry log (out.Send to sent) = PacketReason s me past log entry to sent
 Says s me past tick entry log output = Unit {0}
 
--- the two parts of a test that fails the one way
-outside_first : (inside other : Bool) → (not inside && other) ≡ true → inside ≡ false
-outside_first inside other e = not_true inside (and_left_of (not inside) other e)
-
-outside_of_three : (inside b c : Bool) → (not inside && b && c) ≡ true → inside ≡ false
-outside_of_three inside b c e = outside_first inside b (and_left_of (not inside && b) c e)
-
 to_read_outside : (s : Settings) (log : List Line) (rank : ℕ) → to_read s log ≡ Some rank → (is_in_view log rank ≡ false) × (rank < length s.nodes)
-to_read_outside s log rank e = (outside_first _ _ (least_passes _ 0 _ rank e), (let under = least_bound (length s.nodes) 0 _ rank e in omega arith))
+to_read_outside s log rank e = (first_fails _ _ (least_passes _ 0 _ rank e), (let under = least_bound (length s.nodes) 0 _ rank e in omega arith))
 
 to_reset_outside : (s : Settings) (log : List Line) (rank : ℕ) → to_reset s log ≡ Some rank → (is_in_view log rank ≡ false) × (rank < length s.nodes)
-to_reset_outside s log rank e = (outside_of_three _ _ _ (least_passes _ 0 _ rank e), (let under = least_bound (length s.nodes) 0 _ rank e in omega arith))
+to_reset_outside s log rank e = (first_of_three_fails _ _ _ (least_passes _ 0 _ rank e), (let under = least_bound (length s.nodes) 0 _ rank e in omega arith))
 
 -- the node that is reset now is the one to reset
 now_or_later : (reset : Option ℕ) (over : ℕ → Bool) (rank : ℕ) → option_and_then (λ r. if over r then Some r else None) reset ≡ Some rank → reset ≡ Some rank
-now_or_later None over rank e = none_some rank e
+now_or_later None over rank e = none_is_not_some rank e
 now_or_later (Some other) over rank e = by_delay (over other) e
   where
     by_delay : (b : Bool) → (if b then Some other else None) ≡ Some rank → Some other ≡ Some rank
     by_delay true is = is
-    by_delay false is = none_some rank is
+    by_delay false is = none_is_not_some rank is
 
 to_reset_now_outside : (s : Settings) (log : List Line) (rank : ℕ) → to_reset_now s log ≡ Some rank → (is_in_view log rank ≡ false) × (rank < length s.nodes)
 to_reset_now_outside s log rank e = to_reset_outside s log rank (now_or_later (to_reset s log) (is_delay_over s log) rank e)
@@ -129,28 +124,28 @@ fencing_state : (s : Settings) (log : List Line) (read reset : Option ℕ) (op :
     → ((rank : ℕ) → reset ≡ Some rank → (is_in_view log rank ≡ false) × (rank < length s.nodes))
     → option_or (option_map (λ rank. disk.ReadSlot (rank_of rank)) read) (option_map (λ rank. disk.WriteReset (rank_of rank)) reset) ≡ Some op
     → LiveState s log op
-fencing_state s log (Some rank) reset op up p q e = subst (λ o. LiveState s log o) (some_same _ _ e) (up, (p rank refl).0, (p rank refl).1)
-fencing_state s log None (Some rank) op up p q e = subst (λ o. LiveState s log o) (some_same _ _ e) (up, (q rank refl).0, (q rank refl).1)
-fencing_state s log None None op up p q e = none_some op e
+fencing_state s log (Some rank) reset op up p q e = subst (λ o. LiveState s log o) (same_Some _ _ e) (up, (p rank refl).0, (p rank refl).1)
+fencing_state s log None (Some rank) op up p q e = subst (λ o. LiveState s log o) (same_Some _ _ e) (up, (q rank refl).0, (q rank refl).1)
+fencing_state s log None None op up p q e = none_is_not_some op e
 
 close_state : (s : Settings) (log : List Line) (number : Option ℕ) (op : DiskOp)
     → incarnation log ≡ number → is_leaving (phase s log) ≡ true → holds log ≡ false
     → option_map (λ n. disk.WriteClose n) number ≡ Some op → LiveState s log op
-close_state s log None op n leaving held e = none_some op e
-close_state s log (Some number) op n leaving held e = subst (λ o. LiveState s log o) (some_same _ _ e) (leaving, held, n)
+close_state s log None op n leaving held e = none_is_not_some op e
+close_state s log (Some number) op n leaving held e = subst (λ o. LiveState s log o) (same_Some _ _ e) (leaving, held, n)
 
 wanted_cases : (s : Settings) (log : List Line) (op : DiskOp) (before : Option DiskOp) (due leaving held fence : Bool) (fencing closing : Option DiskOp)
     → (leaving ≡ true → held ≡ false → closing ≡ Some op → LiveState s log op)
     → (fence ≡ true → fencing ≡ Some op → LiveState s log op)
     → (if is_some before then None else (if due then Some disk.ReadMail else (if leaving && not held then closing else (if fence then fencing else None)))) ≡ Some op
     → (before ≡ None) × LiveState s log op
-wanted_cases s log op (Some other) due leaving held fence fencing closing p q e = none_some op e
-wanted_cases s log op None true leaving held fence fencing closing p q e = (refl, subst (λ o. LiveState s log o) (some_same _ _ e) tt)
+wanted_cases s log op (Some other) due leaving held fence fencing closing p q e = none_is_not_some op e
+wanted_cases s log op None true leaving held fence fencing closing p q e = (refl, subst (λ o. LiveState s log o) (same_Some _ _ e) tt)
 wanted_cases s log op None false true false fence fencing closing p q e = (refl, p refl refl e)
 wanted_cases s log op None false true true true fencing closing p q e = (refl, q refl e)
-wanted_cases s log op None false true true false fencing closing p q e = none_some op e
+wanted_cases s log op None false true true false fencing closing p q e = none_is_not_some op e
 wanted_cases s log op None false false held true fencing closing p q e = (refl, q refl e)
-wanted_cases s log op None false false held false fencing closing p q e = none_some op e
+wanted_cases s log op None false false held false fencing closing p q e = none_is_not_some op e
 
 -- what a node that takes part wants next, it wants for a reason
 pub wanted_by : (s : Settings) (me : ℕ) (log : List Line) (op : DiskOp) → wanted_with_delay s me log ≡ Some op → (op_out log ≡ None) × LiveState s log op
@@ -159,7 +154,7 @@ wanted_by s me log op e =
     wanted_cases s log op (op_out log) (is_mail_due log) (is_leaving (phase s log)) (holds log) (may_fence s me log) (fencing_op_with_delay s log) (close_op log)
     (λ leaving held closing. close_state s log (incarnation log) op refl leaving held closing)
     (λ fence fencing. fencing_state s log (to_read s log) (to_reset_now s log) op
-    (and_left_of (is_up (phase s log)) (quorate_with_tie s log (now log)) (and_left_of _ (is_chosen s me log) fence))
+    (first_of_both (is_up (phase s log)) (quorate_with_tie s log (now log)) (first_of_both _ (is_chosen s me log) fence))
     (to_read_outside s log) (to_reset_now_outside s log) fencing)
     e
 
@@ -196,8 +191,8 @@ module _ (s : Settings) (me : ℕ) (past : List Line) (tick : ℕ) (entry : What
     incarnation = refl;
     number_of_view = refl;
     same_view = refl;
-    present = and_left_of _ _ present;
-    member = and_right_of (is_present log ask.view) _ present;
+    present = first_of_both _ _ present;
+    member = second_of_both (is_present log ask.view) _ present;
     held = refl;
     release = refl;
   })
@@ -295,8 +290,8 @@ module _ (s : Settings) (me : ℕ) (past : List Line) (tick : ℕ) (entry : What
 
 -- the disk operation among outputs is one of them
 pub disk_is : (P : Out → Type 0) (outs : List Out) (op : DiskOp) → All P outs → disk_of outs ≡ Some op → P (out.Disk op)
-disk_is P [] op p e = none_some op e
-disk_is P (out.Disk other ∷ outs) op p e = subst (λ o. P (out.Disk o)) (some_same _ _ e) (All-head P (out.Disk other) outs p)
+disk_is P [] op p e = none_is_not_some op e
+disk_is P (out.Disk other ∷ outs) op p e = subst (λ o. P (out.Disk o)) (same_Some _ _ e) (All-head P (out.Disk other) outs p)
 disk_is P (out.Stop ∷ outs) op p e = disk_is P outs op (All-tail P out.Stop outs p) e
 disk_is P (out.Start ∷ outs) op p e = disk_is P outs op (All-tail P out.Start outs p) e
 disk_is P (out.Feed ∷ outs) op p e = disk_is P outs op (All-tail P out.Feed outs p) e

@@ -1,13 +1,12 @@
 -- What an event of the world is to one node: its log, what its operation took at its landing, its leftovers and its slot.
 use Rattle.std.proofs.Common.{◌≡◌, ℕ, suc, Bool, true, false, List, [], ◌∷◌, ◌++◌, Some, None, Option, refl, sym, ap, ◌∙◌, subst, ◌==◌, not, if◌then◌else◌, is_some}
 use Rattle.std.specs.Option.{option_or, option_map_or}
-use Rattle.std.proofs.lemmas.Bool.{false≢true, eqb-true, eq-eqb}
+use Rattle.std.proofs.lemmas.Bool.{false≢true, eqb-true, not-true}
 use Rattle.qn_base.specs.declared.ids.Rank.{Rank}
 use Rattle.qn_base.specs.Members.{is_member}
 use Rattle.qn_model.specs.declared.configuration.Settings.{Settings}
 use Rattle.qn_model.specs.declared.times.Timing.{Timing}
 use Rattle.qn_model.specs.declared.disk.Slot.{Slot}
-use Rattle.qn_model.specs.declared.packets.Packet.{Packet}
 use Rattle.qn_model.specs.declared.packets.Packet.TheVariants as packet
 use Rattle.qn_model.specs.declared.entries.What.{What}
 use Rattle.qn_model.specs.declared.entries.What.TheVariants as what
@@ -17,9 +16,8 @@ use Rattle.qn_model.specs.Log.{Line, op_out, is_answer}
 use Rattle.qn_model.specs.Phases.{phase}
 use Rattle.qn_model.specs.NodeVotes.{view}
 use Rattle.qn_model.specs.NodeOutputs.{with_entry}
-use Rattle.qn_safety.proofs.Tools.{some_none, and_left_of, and_right_of, not_true}
 use Rattle.qn_model.specs.declared.packets.Sent.{Sent}
-use Rattle.qn_model.specs.Moments.{Moment, Passes, Boots, Adds, Feeds, Ends, Running, tick_of, is_gone, logged, handed, begin_of, booted, time, node, packets}
+use Rattle.qn_model.specs.Moments.{Passes, Adds, Feeds, Ends, Running, tick_of, is_gone, logged, handed, begin_of, booted, time, node, packets}
 use Rattle.qn_model.specs.declared.events.Event.{Event}
 use Rattle.qn_model.specs.declared.events.Event.TheVariants as event
 use Rattle.qn_model.specs.World.{World, put, op_at, slots_with, taken, failed, given_up, leftover_at, numbered, without}
@@ -27,7 +25,11 @@ use Rattle.qn_model.specs.Rules.{refusal, unless, is_on, may_land, may_be_done, 
 use Rattle.qn_model.specs.Steps as Steps
 use Rattle.qn_model.specs.Steps.{happens, written, landed, answered, gives_up, fails, lands_late, entry_of, step, run}
 use Rattle.std.specs.Prelude.{slice_get}
-use Rattle.qn_safety.proofs.Runs.{added_node, booted_node}
+use Rattle.qn_base.specs.lemmas.Options.{value_there, value_tested, some_is_not_none}
+use Rattle.qn_base.specs.lemmas.Bools.{first_of_both, second_of_both}
+use Rattle.qn_model.specs.lemmas.Entries.{packet_answers_none}
+use Rattle.qn_model.specs.lemmas.Rules.{allowed, both_allowed}
+use Rattle.qn_model.specs.lemmas.Moments.{node_adds, node_boots, put_same, put_other, adds_apart, boots_apart, ends_apart, node_ends}
 use Rattle.qn_safety.proofs.Origins.{line_of}
 
 -- the part of the world that is one node's
@@ -76,15 +78,6 @@ pub data Effect (s : Settings) (t : Timing) (j : ℕ) (w w' : World) : Type 0 wh
   LandsLate : (number : ℕ) (op : DiskOp) → numbered (w.left j) number ≡ Some op
       → seat_of s j w' ≡ record (seat_of s j w) { left = without (w.left j) number; slot = slot_after op (w.slots j) } → Effect s t j w w'
 
-own_test : (i : ℕ) → (i == i) ≡ true
-own_test i = eq-eqb i i refl
-
-pub put_same : {A : Type 0} (f : ℕ → A) (r : ℕ) (v : A) → put f r v r ≡ v
-put_same f r v = ap (λ b. if b then v else f r) (own_test r)
-
-pub put_other : {A : Type 0} (f : ℕ → A) (r j : ℕ) (v : A) → (r == j) ≡ false → put f r v j ≡ f j
-put_other f r j v e = ap (λ b. if b then v else f j) e
-
 slots_own : (j : ℕ) (op : DiskOp) (slots : ℕ → Slot) → slots_with j op slots j ≡ slot_after op (slots j)
 slots_own j (disk.WriteClaim number) slots = put_same slots j (record { incarnation = number; clean = false })
 slots_own j (disk.WriteClose number) slots = put_same slots j (record { incarnation = number; clean = true })
@@ -119,23 +112,6 @@ booted_seat : (s : Settings) (j now base : ℕ) (clean : Bool) (n : Running) (to
 unfolding booted handed logged with_entry line_of
 booted_seat s j now base clean n took left slot = refl
 
--- the node of another rank does not change
-node_apart_adds : (s : Settings) (r j : ℕ) (entry : What) (ms : List Moment) → (r == j) ≡ false → node s j (Adds r entry ∷ ms) ≡ node s j ms
-unfolding node
-node_apart_adds s r j entry ms e = ap (λ b. if b then handed s j (time ms) entry (node s j ms) else node s j ms) e
-
-node_apart_boots : (s : Settings) (r j base : ℕ) (clean : Bool) (ms : List Moment) → (r == j) ≡ false → node s j (Boots r base clean ∷ ms) ≡ node s j ms
-unfolding node
-node_apart_boots s r j base clean ms e = ap (λ b. if b then booted s j (time ms) base clean (node s j ms) else node s j ms) e
-
-node_apart_ends : (s : Settings) (r j : ℕ) (ms : List Moment) → (r == j) ≡ false → node s j (Ends r ∷ ms) ≡ node s j ms
-unfolding node
-node_apart_ends s r j ms e = ap (λ b. if b then record (node s j ms) { on = false } else node s j ms) e
-
-node_own_ends : (s : Settings) (j : ℕ) (ms : List Moment) → node s j (Ends j ∷ ms) ≡ record (node s j ms) { on = false }
-unfolding node
-node_own_ends s j ms = ap (λ b. if b then record (node s j ms) { on = false } else node s j ms) (own_test j)
-
 seat_passes : (s : Settings) (j dt : ℕ) (clocks : List (Rank × ℕ)) (w : World) → seat_of s j (happens (Passes dt clocks) w) ≡ seat_of s j w
 unfolding node
 seat_passes s j dt clocks w = refl
@@ -155,22 +131,22 @@ module _ (s : Settings) (t : Timing) where
     where
       own : Effect s t r w (happens (Adds r entry) w)
       own = Enters (tick_of (node s r w.moments).clock) entry on plain
-          (seat_same _ _ _ _ _ _ _ _ (added_node s r entry w.moments) refl refl refl ∙ handed_seat s r (time w.moments) entry (node s r w.moments) (w.took r) (w.left r) (w.slots r))
+          (seat_same _ _ _ _ _ _ _ _ (node_adds s r entry w.moments) refl refl refl ∙ handed_seat s r (time w.moments) entry (node s r w.moments) (w.took r) (w.left r) (w.slots r))
 
       by_owner : (b : Bool) → (r == j) ≡ b → Effect s t j w (happens (Adds r entry) w)
       by_owner true e = subst (λ k. Effect s t k w (happens (Adds r entry) w)) (eqb-true r j e) own
-      by_owner false e = Rests (seat_same _ _ _ _ _ _ _ _ (node_apart_adds s r j entry w.moments e) refl refl refl)
+      by_owner false e = Rests (seat_same _ _ _ _ _ _ _ _ (adds_apart s r j entry w.moments e) refl refl refl)
 
   pub effect_answers : (r j : ℕ) (entry : What) (w : World) → (node s r w.moments).on ≡ true → w.took r ≡ Some entry → Effect s t j w (answered r entry w)
   effect_answers r j entry w on took = by_owner (r == j) refl
     where
       own : Effect s t r w (answered r entry w)
       own = Answers (tick_of (node s r w.moments).clock) entry on took
-          (seat_same _ _ _ _ _ _ _ _ (added_node s r entry w.moments) (put_same w.took r None) refl refl ∙ handed_seat s r (time w.moments) entry (node s r w.moments) None (w.left r) (w.slots r))
+          (seat_same _ _ _ _ _ _ _ _ (node_adds s r entry w.moments) (put_same w.took r None) refl refl ∙ handed_seat s r (time w.moments) entry (node s r w.moments) None (w.left r) (w.slots r))
 
       by_owner : (b : Bool) → (r == j) ≡ b → Effect s t j w (answered r entry w)
       by_owner true e = subst (λ k. Effect s t k w (answered r entry w)) (eqb-true r j e) own
-      by_owner false e = Rests (seat_same _ _ _ _ _ _ _ _ (node_apart_adds s r j entry w.moments e) (put_other w.took r j None e) refl refl)
+      by_owner false e = Rests (seat_same _ _ _ _ _ _ _ _ (adds_apart s r j entry w.moments e) (put_other w.took r j None e) refl refl)
 
   pub effect_fails : (r j : ℕ) (op : DiskOp) (w : World) → (node s r w.moments).on ≡ true → op_out (node s r w.moments).log ≡ Some op → Effect s t j w (fails s r op w)
   effect_fails r j op w on out = by_owner (r == j) refl
@@ -180,35 +156,35 @@ module _ (s : Settings) (t : Timing) where
 
       own : Effect s t r w (fails s r op w)
       own = Fails (tick_of (node s r w.moments).clock) op on out
-          (seat_same _ _ _ _ _ _ _ _ (added_node s r (failed op) w.moments) (put_same w.took r None) left_own refl
+          (seat_same _ _ _ _ _ _ _ _ (node_adds s r (failed op) w.moments) (put_same w.took r None) left_own refl
           ∙ handed_seat s r (time w.moments) (failed op) (node s r w.moments) None (w.left r ++ given_up (Some op) (w.took r)) (w.slots r))
 
       by_owner : (b : Bool) → (r == j) ≡ b → Effect s t j w (fails s r op w)
       by_owner true e = subst (λ k. Effect s t k w (fails s r op w)) (eqb-true r j e) own
-      by_owner false e = Rests (seat_same _ _ _ _ _ _ _ _ (node_apart_adds s r j (failed op) w.moments e) (put_other w.took r j None e) (put_other w.left r j (w.left r ++ leftover_at s r w) e) refl)
+      by_owner false e = Rests (seat_same _ _ _ _ _ _ _ _ (adds_apart s r j (failed op) w.moments e) (put_other w.took r j None e) (put_other w.left r j (w.left r ++ leftover_at s r w) e) refl)
 
   pub effect_boots : (r j base : ℕ) (clean : Bool) (w : World) → (node s r w.moments).on ≡ false → Effect s t j w (Steps.boots r base clean w)
   effect_boots r j base clean w off = by_owner (r == j) refl
     where
       own : Effect s t r w (Steps.boots r base clean w)
       own = BootsUp (tick_of base) clean off
-          (seat_same _ _ _ _ _ _ _ _ (booted_node s r base clean w.moments) (put_same w.took r None) (put_same w.left r []) refl
+          (seat_same _ _ _ _ _ _ _ _ (node_boots s r base clean w.moments) (put_same w.took r None) (put_same w.left r []) refl
           ∙ booted_seat s r (time w.moments) base clean (node s r w.moments) (w.took r) (w.left r) (w.slots r))
 
       by_owner : (b : Bool) → (r == j) ≡ b → Effect s t j w (Steps.boots r base clean w)
       by_owner true e = subst (λ k. Effect s t k w (Steps.boots r base clean w)) (eqb-true r j e) own
-      by_owner false e = Rests (seat_same _ _ _ _ _ _ _ _ (node_apart_boots s r j base clean w.moments e) (put_other w.took r j None e) (put_other w.left r j [] e) refl)
+      by_owner false e = Rests (seat_same _ _ _ _ _ _ _ _ (boots_apart s r j base clean w.moments e) (put_other w.took r j None e) (put_other w.left r j [] e) refl)
 
   pub effect_ends : (r j : ℕ) (w : World) → (node s r w.moments).on ≡ true → Effect s t j w (happens (Ends r) (gives_up s r w))
   effect_ends r j w on = by_owner (r == j) refl
     where
       own : Effect s t r w (happens (Ends r) (gives_up s r w))
       own = GoesOff on
-          (seat_same _ _ _ _ _ _ _ _ (node_own_ends s r w.moments) (put_same w.took r None) (put_same w.left r (w.left r ++ leftover_at s r w)) refl)
+          (seat_same _ _ _ _ _ _ _ _ (node_ends s r w.moments) (put_same w.took r None) (put_same w.left r (w.left r ++ leftover_at s r w)) refl)
 
       by_owner : (b : Bool) → (r == j) ≡ b → Effect s t j w (happens (Ends r) (gives_up s r w))
       by_owner true e = subst (λ k. Effect s t k w (happens (Ends r) (gives_up s r w))) (eqb-true r j e) own
-      by_owner false e = Rests (seat_same _ _ _ _ _ _ _ _ (node_apart_ends s r j w.moments e) (put_other w.took r j None e) (put_other w.left r j (w.left r ++ leftover_at s r w) e) refl)
+      by_owner false e = Rests (seat_same _ _ _ _ _ _ _ _ (ends_apart s r j w.moments e) (put_other w.took r j None e) (put_other w.left r j (w.left r ++ leftover_at s r w) e) refl)
 
   pub effect_lands : (r j : ℕ) (op : DiskOp) (w : World) → (node s r w.moments).on ≡ true → op_out (node s r w.moments).log ≡ Some op → w.took r ≡ None → Effect s t j w (landed s t r op w)
   effect_lands r j op w on out none = by_owner (r == j) refl
@@ -232,73 +208,47 @@ module _ (s : Settings) (t : Timing) where
       by_owner true e = subst (λ k. Effect s t k w (lands_late r number op w)) (eqb-true r j e) own
       by_owner false e = Rests (seat_same (node s j w.moments) (node s j w.moments) (w.took j) (w.took j) _ _ _ _ refl refl (put_other w.left r j (without (w.left r) number) e) (slots_other r j op w.slots e))
 
--- a rule that does not refuse
-pub allows : (b : Bool) (rule : ℕ) → unless b rule ≡ None → b ≡ true
-allows true rule e = refl
-allows false rule e = some_none rule e
-
-pub both_allow : (a b : Bool) (first second : ℕ) → option_or (unless a first) (unless b second) ≡ None → (a ≡ true) × (b ≡ true)
-both_allow true b first second e = (refl, allows b second e)
-both_allow false b first second e = some_none first e
-
 pub running_allows : (a : Bool) (first : ℕ) → option_or (unless a first) None ≡ None → a ≡ true
 running_allows true first e = refl
-running_allows false first e = some_none first e
-
--- the entries of packets are no answers
-packet_plain : (content : Packet) → is_answer (entry_of content) ≡ false
-packet_plain (packet.Ask ask) = refl
-packet_plain (packet.Tell tell) = refl
-packet_plain (packet.Hello from) = refl
-packet_plain (packet.Announce from seen) = refl
-packet_plain (packet.Vote agrees) = refl
-
--- where an option is there
-pub is_there : {A : Type 0} (o : Option A) → is_some o ≡ true → (x : A) × (o ≡ Some x)
-is_there (Some x) e = (x, refl)
-is_there None e = absurd (false≢true e)
+running_allows false first e = some_is_not_none first e
 
 not_there : {A : Type 0} (o : Option A) → not (is_some o) ≡ true → o ≡ None
 not_there None e = refl
 not_there (Some x) e = absurd (false≢true e)
 
-pub test_there : {A : Type 0} (test : A → Bool) (o : Option A) → option_map_or test o false ≡ true → (x : A) × (o ≡ Some x) × (test x ≡ true)
-test_there test (Some x) e = (x, refl, e)
-test_there test None e = absurd (false≢true e)
-
 -- what each event that is allowed is to the seat of each node
 pub effect : (s : Settings) (t : Timing) (j : ℕ) (e : Event) (w : World) → refusal s t e w ≡ None → Effect s t j w (step s t e w)
 unfolding refusal step
 effect s t j (event.Pass dt clocks) w ok = Rests (seat_passes s j dt clocks w)
-effect s t j (event.Boot rank base) w ok = effect_boots s t rank.0 j base false w (not_true (is_on s rank.0 w) (allows (not (is_on s rank.0 w)) 2 ok))
-effect s t j (event.BootClean rank base) w ok = effect_boots s t rank.0 j base true w (not_true (is_on s rank.0 w) (allows (not (is_on s rank.0 w)) 2 ok))
+effect s t j (event.Boot rank base) w ok = effect_boots s t rank.0 j base false w (not-true (is_on s rank.0 w) (allowed (not (is_on s rank.0 w)) 2 ok))
+effect s t j (event.BootClean rank base) w ok = effect_boots s t rank.0 j base true w (not-true (is_on s rank.0 w) (allowed (not (is_on s rank.0 w)) 2 ok))
 effect s t j (event.Crash rank) w ok = effect_ends s t rank.0 j w (running_allows (is_on s rank.0 w) 3 ok)
 effect s t j (event.Land rank) w ok =
-    let rules = both_allow (is_on s rank.0 w) (may_land s rank.0 w) 3 4 ok in
-    let out = is_there (op_at s rank.0 w) (and_left_of (is_some (op_at s rank.0 w)) (not (is_some (w.took rank.0))) rules.1) in
-    let none = not_there (w.took rank.0) (and_right_of (is_some (op_at s rank.0 w)) (not (is_some (w.took rank.0))) rules.1) in
+    let rules = both_allowed (is_on s rank.0 w) (may_land s rank.0 w) 3 4 ok in
+    let out = value_there (op_at s rank.0 w) (first_of_both (is_some (op_at s rank.0 w)) (not (is_some (w.took rank.0))) rules.1) in
+    let none = not_there (w.took rank.0) (second_of_both (is_some (op_at s rank.0 w)) (not (is_some (w.took rank.0))) rules.1) in
     subst (λ o. Effect s t j w (option_map_or (λ op. landed s t rank.0 op w) o w)) (sym out.1) (effect_lands s t rank.0 j out.0 w rules.0 out.1 none)
 effect s t j (event.Done rank) w ok =
-    let rules = both_allow (is_on s rank.0 w) (may_be_done s rank.0 w) 3 5 ok in
-    let took = is_there (w.took rank.0) (and_right_of (is_some (op_at s rank.0 w)) (is_some (w.took rank.0)) rules.1) in
+    let rules = both_allowed (is_on s rank.0 w) (may_be_done s rank.0 w) 3 5 ok in
+    let took = value_there (w.took rank.0) (second_of_both (is_some (op_at s rank.0 w)) (is_some (w.took rank.0)) rules.1) in
     subst (λ o. Effect s t j w (option_map_or (λ entry. answered rank.0 entry w) o w)) (sym took.1) (effect_answers s t rank.0 j took.0 w rules.0 took.1)
 effect s t j (event.Fail rank) w ok =
-    let rules = both_allow (is_on s rank.0 w) (may_fail s rank.0 w) 3 5 ok in
-    let out = is_there (op_at s rank.0 w) rules.1 in
+    let rules = both_allowed (is_on s rank.0 w) (may_fail s rank.0 w) 3 5 ok in
+    let out = value_there (op_at s rank.0 w) rules.1 in
     subst (λ o. Effect s t j w (option_map_or (λ op. fails s rank.0 op w) o w)) (sym out.1) (effect_fails s t rank.0 j out.0 w rules.0 out.1)
 effect s t j (event.Late rank number) w ok =
-    let there = is_there (numbered (w.left rank.0) number) (allows (may_be_late rank.0 number w) 6 ok) in
+    let there = value_there (numbered (w.left rank.0) number) (allowed (may_be_late rank.0 number w) 6 ok) in
     subst (λ o. Effect s t j w (option_map_or (λ op. lands_late rank.0 number op w) o w)) (sym there.1) (effect_late s t rank.0 j number there.0 w there.1)
-effect s t j (event.View rank view) w ok = effect_enters s t rank.0 j (what.View view) w ((both_allow (is_on s rank.0 w) (is_member view.members rank.0) 3 7 ok).0) refl
+effect s t j (event.View rank view) w ok = effect_enters s t rank.0 j (what.View view) w ((both_allowed (is_on s rank.0 w) (is_member view.members rank.0) 3 7 ok).0) refl
 effect s t j (event.Deliver rank number) w ok =
-    let rules = both_allow (is_on s rank.0 w) (may_deliver s rank.0 number w) 3 8 ok in
-    let sent = test_there (λ (x : Sent). x.to.0 == rank.0) (slice_get (packets s w.moments) number) rules.1 in
+    let rules = both_allowed (is_on s rank.0 w) (may_deliver s rank.0 number w) 3 8 ok in
+    let sent = value_tested (λ (x : Sent). x.to.0 == rank.0) (slice_get (packets s w.moments) number) rules.1 in
     subst (λ o. Effect s t j w (option_map_or (λ x. happens (Adds rank.0 (entry_of x.packet)) w) o w)) (sym sent.1)
-    (effect_enters s t rank.0 j (entry_of sent.0.packet) w rules.0 (packet_plain sent.0.packet))
+    (effect_enters s t rank.0 j (entry_of sent.0.packet) w rules.0 (packet_answers_none sent.0.packet))
 effect s t j (event.Device rank agrees) w ok = effect_enters s t rank.0 j (what.Device agrees) w (running_allows (is_on s rank.0 w) 3 ok) refl
 effect s t j (event.Tick rank) w ok = effect_enters s t rank.0 j what.Tick w (running_allows (is_on s rank.0 w) 3 ok) refl
-effect s t j (event.Stopped rank) w ok = effect_enters s t rank.0 j (what.Stopped true) w ((both_allow (is_on s rank.0 w) (may_be_stopped s rank.0 w) 3 5 ok).0) refl
-effect s t j (event.Unstopped rank) w ok = effect_enters s t rank.0 j (what.Stopped false) w ((both_allow (is_on s rank.0 w) (may_be_stopped s rank.0 w) 3 5 ok).0) refl
+effect s t j (event.Stopped rank) w ok = effect_enters s t rank.0 j (what.Stopped true) w ((both_allowed (is_on s rank.0 w) (may_be_stopped s rank.0 w) 3 5 ok).0) refl
+effect s t j (event.Unstopped rank) w ok = effect_enters s t rank.0 j (what.Stopped false) w ((both_allowed (is_on s rank.0 w) (may_be_stopped s rank.0 w) 3 5 ok).0) refl
 effect s t j (event.Leave rank) w ok = effect_enters s t rank.0 j what.Leave w (running_allows (is_on s rank.0 w) 3 ok) refl
 effect s t j (event.Feed rank) w ok = Rests (seat_feeds s j rank.0 w)
 effect s t j (event.Operator rank message) w ok = Rests refl

@@ -2,6 +2,8 @@
 use Rattle.std.proofs.Common.{◌≡◌, ℕ, suc, Bool, true, false, List, [], ◌∷◌, length, Some, None, Option, refl, sym, ap, ◌∙◌, subst, ◌&&◌, ◌||◌, not, if◌then◌else◌, ◌⊎◌, inl, inr, is_some}
 use Rattle.std.specs.Option.{option_or}
 use Rattle.std.proofs.lemmas.Bool.{false≢true, true≢false}
+use Rattle.qn_base.specs.lemmas.Options.{some_is_not_none}
+use Rattle.qn_base.specs.lemmas.Bools.{never_both, first_of_both}
 use Rattle.qn_model.specs.declared.configuration.Settings.{Settings}
 use Rattle.qn_model.specs.declared.disk.Message.{Message}
 use Rattle.qn_model.specs.declared.entries.What.{What}
@@ -16,7 +18,7 @@ use Rattle.qn_model.specs.Phases.{phase, next_phase, boot_phase, mail_phase, hea
 use Rattle.qn_model.specs.Holding.{holds, is_stopped}
 use Rattle.qn_model.specs.Fitting.{fits}
 use Rattle.qn_model.specs.Moments.{Before, Itself, Later}
-use Rattle.qn_safety.proofs.Tools.{some_none, clash, and_left_of, before_length, before_same}
+use Rattle.qn_safety.specs.Earlier.{before_length, before_same}
 use Rattle.qn_safety.specs.Closing.{is_close, asked_close}
 use Rattle.qn_safety.proofs.Says.{Reason}
 use Rattle.qn_safety.proofs.Clear.{why_clear}
@@ -57,7 +59,7 @@ gives_none {line = line} {past = past} it op out is = by_given (disk_of line.out
     by_given None e = e
     by_given (Some other) e =
         let silent = silent_while_out it other e in
-        some_none op (sym out ∙ sym (ap (λ b. if b then None else op_out past) is) ∙ silent)
+        some_is_not_none op (sym out ∙ sym (ap (λ b. if b then None else op_out past) is) ∙ silent)
 
 pub op_kept : {s : Settings} {me : ℕ} {line : Line} {past : List Line} → IsLine s me line past → (op : DiskOp) → op_out past ≡ Some op → is_answer line.what ≡ false
     → op_out (line ∷ past) ≡ Some op
@@ -206,7 +208,7 @@ no_start_over {s = s} {line = line} {past = past} it over = by_start (has_start 
   where
     by_start : (b : Bool) → has_start line.outs ≡ b → has_start line.outs ≡ false
     by_start false e = e
-    by_start true e = clash (is_up (phase s (line ∷ past))) (start_up it e) (up_not_over (phase s (line ∷ past)) over)
+    by_start true e = never_both (is_up (phase s (line ∷ past))) (start_up it e) (up_not_over (phase s (line ∷ past)) over)
 
 -- from the asking for the close on nothing is held, and the node never is up again
 pub record IsClosing (s : Settings) (log : List Line) : Type 0 where
@@ -324,4 +326,4 @@ start_since (line ∷ past) e = by_start (has_start line.outs) refl e (λ was. s
       where
         start_holds : has_start line.outs ≡ true → holds (line ∷ past) ≡ true
         start_holds s = ap (λ b. b || (holds past && not (is_stopped line.what))) s
-    by_start false is held rest = later (rest (and_left_of (holds past) (not (is_stopped line.what)) held)) (ap (λ b. b || (holds past && not (is_stopped line.what))) is ∙ held)
+    by_start false is held rest = later (rest (first_of_both (holds past) (not (is_stopped line.what)) held)) (ap (λ b. b || (holds past && not (is_stopped line.what))) is ∙ held)

@@ -1,7 +1,7 @@
 -- The Tell lemma: what a Tell that a node counts says of the node that sent it.
-use Rattle.std.proofs.Common.{◌≡◌, ℕ, ◌<◌, Bool, true, false, List, ◌∷◌, Some, None, Option, refl, sym, ap, ◌∙◌, subst, arith, ◌&&◌, ◌||◌, ◌==◌, not, if◌then◌else◌, ◌⊎◌, inl, inr}
-use Rattle.std.specs.Option.{option_or, option_map, option_map_or}
-use Rattle.std.proofs.lemmas.Bool.{false≢true, true≢false, cases_order, eqb-true}
+use Rattle.std.proofs.Common.{◌≡◌, ℕ, Bool, true, false, List, ◌∷◌, Some, None, Option, refl, sym, ap, ◌∙◌, subst, ◌&&◌, ◌||◌, ◌==◌, not, if◌then◌else◌}
+use Rattle.std.specs.Option.{option_map_or}
+use Rattle.std.proofs.lemmas.Bool.{false≢true, eqb-true, or_from, not-true}
 use Rattle.qn_base.specs.declared.ids.Rank.{Rank}
 use Rattle.qn_base.specs.declared.ids.View.{View}
 use Rattle.qn_base.specs.Members.{is_member}
@@ -16,24 +16,28 @@ use Rattle.qn_model.specs.declared.entries.What.{What}
 use Rattle.qn_model.specs.declared.entries.What.TheVariants as what
 use Rattle.qn_model.specs.declared.life.Phase.{Phase}
 use Rattle.qn_model.specs.declared.life.Phase.TheVariants.{Booting, Up, Leaving, Dying, Gone}
-use Rattle.qn_model.specs.Log.{Line, claimed, incarnation, has_start}
+use Rattle.qn_model.specs.Log.{Line, claimed, has_start}
 use Rattle.qn_model.specs.Phases.{phase, is_booting, is_live}
 use Rattle.qn_model.specs.Holding.{holds, is_stopped}
 use Rattle.qn_model.specs.NodeVotes.{view, is_in_view, is_present, answers, install}
 use Rattle.qn_model.specs.Fitting.{fits, read_as, is_for}
 use Rattle.qn_model.specs.NodeOutputs.{gives_start}
 use Rattle.qn_model.specs.Moments.{Before, Itself, Later}
-use Rattle.qn_safety.proofs.Tools.{some_same, clash, and_left_of, and_right_of, not_true, before_then, before_tail}
+use Rattle.qn_safety.specs.Earlier.{before_then, before_tail}
 use Rattle.qn_model.specs.declared.packets.Sent.{Sent}
 use Rattle.qn_model.specs.Moments.{Moment, begin_of, Adds, node}
 use Rattle.qn_safety.specs.Timed.{IsAdded, IsUp, IsSameBoot, IsSentTo, WasSent, AllRuled, IsTimedRun}
 use Rattle.std.proofs.Common.{unwrap_or}
+use Rattle.std.proofs.lemmas.Option.{same_Some}
+use Rattle.qn_safety.specs.Boots.{one_boot}
+use Rattle.qn_base.specs.lemmas.Bools.{first_of_neither, second_of_neither, never_both, first_of_both, second_of_both}
+use Rattle.qn_base.specs.lemmas.Elements.{IsIn}
 use Rattle.qn_model.specs.NodeVotes.{is_same_view}
 use Rattle.qn_safety.proofs.Says.{PacketReason, TellReason, AskReason}
 use Rattle.qn_safety.proofs.Logs.{Made, IsLine, before_outs, made_line, start_reason}
 use Rattle.qn_safety.proofs.Rests.{TellFound, same_view_at}
 use Rattle.qn_safety.proofs.Runs.{sound, ruled_before, newest_rule}
-use Rattle.qn_safety.proofs.Origins.{IsIn, Origin, ByEntry, ByBoot, origin, AddedLine, added_line, Sending, sent_at}
+use Rattle.qn_safety.proofs.Origins.{Origin, ByEntry, ByBoot, origin, AddedLine, added_line, Sending, sent_at}
 use Rattle.qn_safety.proofs.Numbers.{up_number}
 use Rattle.qn_safety.proofs.Fence.{added_then}
 use Rattle.qn_safety.proofs.Licensed.{added_boots}
@@ -78,28 +82,16 @@ number_of_test (Some n) number e = ap Some (eqb-true n number e)
 answers_number : (past : List Line) (tell : Tell) → answers past tell ≡ true → claimed past ≡ Some tell.incarnation
 answers_number past tell e =
     number_of_test (claimed past) tell.incarnation
-    (and_left_of (option_map_or (λ number. number == tell.incarnation) (claimed past) false) (install past == tell.install)
-    (and_left_of (option_map_or (λ number. number == tell.incarnation) (claimed past) false && install past == tell.install) (is_present past tell.view) e))
+    (first_of_both (option_map_or (λ number. number == tell.incarnation) (claimed past) false) (install past == tell.install)
+    (first_of_both (option_map_or (λ number. number == tell.incarnation) (claimed past) false && install past == tell.install) (is_present past tell.view) e))
 
 -- a rank that is in a view that is the present one is in the present one
 member_of_present : (found : Option View) (asked : View) (rank : ℕ) → option_map_or (λ own. is_same_view own asked) found false ≡ true → is_member asked.members rank ≡ true
     → option_map_or (λ view. is_member view.members rank) found false ≡ true
 member_of_present None asked rank e member = absurd (false≢true e)
 member_of_present (Some own) asked rank e member =
-    let same : own.members.0 ≡ asked.members.0 = eqb-true own.members.0 asked.members.0 (and_right_of (own.id == asked.id) (own.members.0 == asked.members.0) e) in
+    let same : own.members.0 ≡ asked.members.0 = eqb-true own.members.0 asked.members.0 (second_of_both (own.id == asked.id) (own.members.0 == asked.members.0) e) in
     subst (λ mask. (Rattle.std.specs.Int.bit_at mask rank == 1) ≡ true) (sym same) member
-
-or_false_left : (a b : Bool) → (a || b) ≡ false → a ≡ false
-or_false_left false b e = refl
-or_false_left true b e = absurd (true≢false e)
-
-or_false_right : (a b : Bool) → (a || b) ≡ false → b ≡ false
-or_false_right false b e = e
-or_false_right true b e = absurd (true≢false e)
-
-idle_line : (start before : Bool) → start ≡ false → before ≡ false → (start || before) ≡ false
-idle_line false before s e = e
-idle_line true before s e = s
 
 -- a line whose Tell says not holding leaves the node not holding
 tell_idle : {s : Settings} {me : ℕ} {line : Line} {past : List Line} → IsLine s me line past → (gives_start s me (before_outs line past) || holds (before_outs line past)) ≡ false
@@ -109,18 +101,8 @@ tell_idle {s = s} {me = me} {line = line} {past = past} it none =
     by_start (has_start line.outs) refl
   where
     by_start : (b : Bool) → has_start line.outs ≡ b → (has_start line.outs || (holds past && not (is_stopped line.what))) ≡ false
-    by_start true e = clash (gives_start s me (before_outs line past)) ((start_reason it e).clear) (or_false_left (gives_start s me (before_outs line past)) _ none)
-    by_start false e = idle_line (has_start line.outs) (holds past && not (is_stopped line.what)) e (or_false_right (gives_start s me (before_outs line past)) _ none)
-
--- two moments at which a rank is up with one number are of one boot
-pub one_boot : {s : Settings} {t : Timing} {all : List Moment} (run : IsTimedRun s t all) (i number : ℕ) (p q : List Moment) → Before p all → Before q all → IsUp s i p → IsUp s i q
-    → incarnation (node s i p).log ≡ Some number → incarnation (node s i q).log ≡ Some number → IsSameBoot s i p q
-one_boot {s = s} run i number p q p_all q_all up_p up_q has_p has_q = by_order (cases_order (node s i p).boots (node s i q).boots)
-  where
-    by_order : ((node s i p).boots ≡ (node s i q).boots) ⊎ (((node s i p).boots < (node s i q).boots) ⊎ ((node s i q).boots < (node s i p).boots)) → (node s i p).boots ≡ (node s i q).boots
-    by_order (inl same) = same
-    by_order (inr (inl less)) = absurd (let rise = run.rise i number number p q p_all q_all up_p up_q less has_p has_q in omega arith)
-    by_order (inr (inr more)) = absurd (let rise = run.rise i number number q p q_all p_all up_q up_p more has_q has_p in omega arith)
+    by_start true e = never_both (gives_start s me (before_outs line past)) ((start_reason it e).clear) (first_of_neither (gives_start s me (before_outs line past)) _ none)
+    by_start false e = or_from (has_start line.outs) (holds past && not (is_stopped line.what)) e (second_of_neither (gives_start s me (before_outs line past)) _ none)
 
 -- What a Tell that answers its reader i, and was sent by j, says of j and of the Ask that it answers. `heard_at` is right
 -- before the Tell was read.
@@ -194,7 +176,7 @@ module _ {s : Settings} {t : Timing} {all : List Moment} (run : IsTimedRun s t a
           let heard_has = up_number heard_state.made up_heard.booted (heard_state.living up_heard.on) in
           let own_log : asking.past ≡ (node s i asking.before).log = asking.behind ∙ ap (λ r. (node s r asking.before).log) own in
           let number : why.ask.incarnation ≡ has.number = reason.number ∙ ap (λ log. unwrap_or (claimed log) 0) own_log ∙ ap (λ o. unwrap_or o 0) has.claims in
-          let heard_number : tell.incarnation ≡ heard_has.number = some_same _ _ (sym claims ∙ heard_has.claims) in
+          let heard_number : tell.incarnation ≡ heard_has.number = same_Some _ _ (sym claims ∙ heard_has.claims) in
           let numbers : heard_has.number ≡ has.number = sym heard_number ∙ why.incarnation ∙ number in
           one_boot run i has.number asking.before heard_at asking_all heard_all up_asking up_heard has.has (heard_has.has ∙ ap Some numbers)
 
@@ -249,7 +231,7 @@ module _ {s : Settings} {t : Timing} {all : List Moment} (run : IsTimedRun s t a
       let it : IsLine s i line past = made_line (subst (λ log. Made s i log) added.gave ((sound ruled_add i).made)) in
       let entry : added.entry ≡ what.Tell tell = read_tell s i past added.entry tell (sym parts.reads ∙ reads) in
       let fit : fits s i past (what.Tell tell) ≡ true = subst (λ w. fits s i past w ≡ true) reads it.fitting in
-      let live : is_live (phase s past) ≡ true = and_left_of (is_live (phase s past)) (is_for s i tell.from tell.to) fit in
+      let live : is_live (phase s past) ≡ true = first_of_both (is_live (phase s past)) (is_for s i tell.from tell.to) fit in
       let booted : is_booting (phase s (node s i before).log) ≡ false = subst (λ log. is_booting (phase s log) ≡ false) parts.behind (live_booted (phase s past) live) in
       let claims : claimed (node s i before).log ≡ Some tell.incarnation = subst (λ log. claimed log ≡ Some tell.incarnation) parts.behind (answers_number past tell answered) in
       let told_sent : IsSentTo s i (packet.Tell tell) before = subst (λ w. WasSent s i w before) entry rule.1 in
@@ -263,7 +245,7 @@ module _ {s : Settings} {t : Timing} {all : List Moment} (run : IsTimedRun s t a
     line = trace.line;
     past = trace.past;
     gave = trace.added.gave;
-    idle = trace.idle (not_true tell.holds free);
+    idle = trace.idle (not-true tell.holds free);
     sees = trace.sees;
     asked = trace.asked;
     asked_back = before_then (before_tail trace.ask_added.back) (Later (Adds tell.from.0 trace.added.entry) Itself);

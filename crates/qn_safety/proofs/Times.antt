@@ -2,6 +2,9 @@
 use Rattle.std.proofs.Common.{◌≡◌, ℕ, suc, zero, ◌+◌, ◌-◌, ◌*◌, ◌/◌, ◌<◌, ◌≤◌, Bool, true, false, List, [], ◌∷◌, ◌++◌, length, Some, None, Option, refl, sym, ap, ◌∙◌, subst, arith, cond, ◌&&◌, ◌||◌, ◌==◌, not, if◌then◌else◌, ◌⊎◌, inl, inr, is_some, is_none, All, nat_le, nat_lt}
 use Rattle.std.specs.Option.{option_or}
 use Rattle.std.proofs.lemmas.Bool.{false≢true, true≢false}
+use Rattle.std.proofs.lemmas.Option.{same_Some}
+use Rattle.qn_base.specs.lemmas.Options.{none_is_not_some, some_is_not_none}
+use Rattle.qn_base.specs.lemmas.Bools.{never_both, first_of_both}
 use Rattle.qn_model.specs.declared.configuration.Settings.{Settings}
 use Rattle.qn_model.specs.declared.times.Timing.{Timing}
 use Rattle.qn_model.specs.declared.seen.HeaderSeen.TheVariants as header
@@ -15,7 +18,6 @@ use Rattle.qn_model.specs.Log.{Line, op_out, timing, times_of, disk_of, is_answe
 use Rattle.qn_model.specs.Phases.{phase, next_phase, in_time, is_booting, is_live, is_up}
 use Rattle.qn_model.specs.Fitting.{fits, answers_op, is_own_view, is_for}
 use Rattle.qn_model.specs.Moments.{Before, Itself, Later}
-use Rattle.qn_safety.proofs.Tools.{some_same, none_some, some_none, clash, and_left_of}
 use Rattle.qn_safety.proofs.Says.{Reason}
 use Rattle.qn_safety.proofs.Logs.{Made, NoLine, OneMore, IsLine, before_outs, disk_reason}
 use Rattle.qn_safety.proofs.Apt.{is_apt, apt, BootStep, BeginStep, HeaderStep, SlotStep, CleanSlotStep, CheckStep, ClaimStep, ClearStep, boot_step_of, booting_is, slot_answers, check_answers, claimed_answers, cleared_answers, mail_answers, reset_answers}
@@ -51,13 +53,13 @@ blank_out (Some (disk.WriteReset rank)) p b e = absurd (false≢true (ap (λ q. 
 blank_out (Some (disk.WriteClose number)) p b e = absurd (false≢true (ap (λ q. is_blank (Some (disk.WriteClose number)) q) (sym (booting_is p b)) ∙ e))
 
 not_header : (out : Option DiskOp) (op : DiskOp) → out ≡ Some op → ((op ≡ disk.ReadHeader) → ⊥) → (out ≡ None) ⊎ (out ≡ Some disk.ReadHeader) → ⊥
-not_header out op is differs (inl none) = none_some {P = ⊥} op (sym none ∙ is)
-not_header out op is differs (inr some) = differs (some_same _ _ (sym is ∙ some))
+not_header out op is differs (inl none) = none_is_not_some {P = ⊥} op (sym none ∙ is)
+not_header out op is differs (inr some) = differs (same_Some _ _ (sym is ∙ some))
 
 -- while blank and booting, the only answer is that of the header, and it gave none
 blank_answer : (s : Settings) (me : ℕ) (past : List Line) (entry : What) (timely : Bool) → is_answer entry ≡ true → fits s me past entry ≡ true
     → (op_out past ≡ None) ⊎ (op_out past ≡ Some disk.ReadHeader) → times_of entry ≡ None → next_phase s entry timely (phase s past) ≡ Gone
-blank_answer s me past (what.Header (header.Read nodes times)) timely is fit out none = some_none times none
+blank_answer s me past (what.Header (header.Read nodes times)) timely is fit out none = some_is_not_none times none
 blank_answer s me past (what.Header header.NotImage) timely is fit out none = refl
 blank_answer s me past (what.Header header.Failed) timely is fit out none = refl
 blank_answer s me past (what.SlotRead other seen) timely is fit out none = let op = slot_answers (op_out past) other seen fit in absurd (not_header (op_out past) (disk.ReadSlot op.0) op.1 (λ e. cc) out)
@@ -91,9 +93,9 @@ boot_tick s me past what.BeginClean timely is fit b = refl
 boot_tick s me past what.Tick timely is fit b = b
 boot_tick s me past (what.Stopped ok) timely is fit b = b
 boot_tick s me past what.Leave timely is fit b = absurd (not_up_booting (phase s past) b fit)
-boot_tick s me past (what.View installed) timely is fit b = absurd (not_live_up (phase s past) b (and_left_of (is_live (phase s past)) (is_own_view s me installed) fit))
-boot_tick s me past (what.Ask ask) timely is fit b = absurd (not_live_up (phase s past) b (and_left_of (is_live (phase s past)) (is_for s me ask.from ask.to) fit))
-boot_tick s me past (what.Tell tell) timely is fit b = absurd (not_live_up (phase s past) b (and_left_of (is_live (phase s past)) (is_for s me tell.from tell.to) fit))
+boot_tick s me past (what.View installed) timely is fit b = absurd (not_live_up (phase s past) b (first_of_both (is_live (phase s past)) (is_own_view s me installed) fit))
+boot_tick s me past (what.Ask ask) timely is fit b = absurd (not_live_up (phase s past) b (first_of_both (is_live (phase s past)) (is_for s me ask.from ask.to) fit))
+boot_tick s me past (what.Tell tell) timely is fit b = absurd (not_live_up (phase s past) b (first_of_both (is_live (phase s past)) (is_for s me tell.from tell.to) fit))
 boot_tick s me past (what.Device agrees) timely is fit b = absurd (not_live_up (phase s past) b fit)
 boot_tick s me past (what.Header seen) timely is fit b = absurd (true≢false is)
 boot_tick s me past (what.SlotRead other seen) timely is fit b = absurd (true≢false is)
@@ -131,13 +133,13 @@ gone_next s me (line ∷ past) (what.View installed) timely fit gone a = gone
 gone_next s me (line ∷ past) (what.Ask ask) timely fit gone a = gone
 gone_next s me (line ∷ past) (what.Tell tell) timely fit gone a = gone
 gone_next s me (line ∷ past) (what.Device agrees) timely fit gone a = gone
-gone_next s me (line ∷ past) (what.Header seen) timely fit gone a = clash (answers_op (op_out (line ∷ past)) (what.Header seen)) fit (gone_answers (op_out (line ∷ past)) (what.Header seen) a)
-gone_next s me (line ∷ past) (what.SlotRead other seen) timely fit gone a = clash (answers_op (op_out (line ∷ past)) (what.SlotRead other seen)) fit (gone_answers (op_out (line ∷ past)) (what.SlotRead other seen) a)
-gone_next s me (line ∷ past) (what.MailChecked seen) timely fit gone a = clash (answers_op (op_out (line ∷ past)) (what.MailChecked seen)) fit (gone_answers (op_out (line ∷ past)) (what.MailChecked seen) a)
-gone_next s me (line ∷ past) (what.Claimed ok) timely fit gone a = clash (answers_op (op_out (line ∷ past)) (what.Claimed ok)) fit (gone_answers (op_out (line ∷ past)) (what.Claimed ok) a)
-gone_next s me (line ∷ past) (what.Cleared ok) timely fit gone a = clash (answers_op (op_out (line ∷ past)) (what.Cleared ok)) fit (gone_answers (op_out (line ∷ past)) (what.Cleared ok) a)
-gone_next s me (line ∷ past) (what.MailRead seen) timely fit gone a = clash (answers_op (op_out (line ∷ past)) (what.MailRead seen)) fit (gone_answers (op_out (line ∷ past)) (what.MailRead seen) a)
-gone_next s me (line ∷ past) (what.MailWritten other ok) timely fit gone a = clash (answers_op (op_out (line ∷ past)) (what.MailWritten other ok)) fit (gone_answers (op_out (line ∷ past)) (what.MailWritten other ok) a)
+gone_next s me (line ∷ past) (what.Header seen) timely fit gone a = never_both (answers_op (op_out (line ∷ past)) (what.Header seen)) fit (gone_answers (op_out (line ∷ past)) (what.Header seen) a)
+gone_next s me (line ∷ past) (what.SlotRead other seen) timely fit gone a = never_both (answers_op (op_out (line ∷ past)) (what.SlotRead other seen)) fit (gone_answers (op_out (line ∷ past)) (what.SlotRead other seen) a)
+gone_next s me (line ∷ past) (what.MailChecked seen) timely fit gone a = never_both (answers_op (op_out (line ∷ past)) (what.MailChecked seen)) fit (gone_answers (op_out (line ∷ past)) (what.MailChecked seen) a)
+gone_next s me (line ∷ past) (what.Claimed ok) timely fit gone a = never_both (answers_op (op_out (line ∷ past)) (what.Claimed ok)) fit (gone_answers (op_out (line ∷ past)) (what.Claimed ok) a)
+gone_next s me (line ∷ past) (what.Cleared ok) timely fit gone a = never_both (answers_op (op_out (line ∷ past)) (what.Cleared ok)) fit (gone_answers (op_out (line ∷ past)) (what.Cleared ok) a)
+gone_next s me (line ∷ past) (what.MailRead seen) timely fit gone a = never_both (answers_op (op_out (line ∷ past)) (what.MailRead seen)) fit (gone_answers (op_out (line ∷ past)) (what.MailRead seen) a)
+gone_next s me (line ∷ past) (what.MailWritten other ok) timely fit gone a = never_both (answers_op (op_out (line ∷ past)) (what.MailWritten other ok)) fit (gone_answers (op_out (line ∷ past)) (what.MailWritten other ok) a)
 gone_next s me (line ∷ past) (what.Closed ok) timely fit gone a = refl
 
 blank_gone : (out : Option DiskOp) (p : Phase) → p ≡ Gone → is_blank out p ≡ true
@@ -232,7 +234,7 @@ unfolding timing
 times_step s me t line past it made here before open' = by_times (times_of line.what) refl
   where
     by_blank : times_of line.what ≡ None → (b : Bool) → is_blank (op_out past) (phase s past) ≡ b → timing past ≡ t
-    by_blank none true e = clash (is_blank (op_out (line ∷ past)) (phase s (line ∷ past))) (blank_on s me line past it made none e) open'
+    by_blank none true e = never_both (is_blank (op_out (line ∷ past)) (phase s (line ∷ past))) (blank_on s me line past it made none e) open'
     by_blank none false e = before e
 
     by_times : (found : Option Timing) → times_of line.what ≡ found → Rattle.std.proofs.Common.unwrap_or found (timing past) ≡ t
@@ -251,8 +253,8 @@ known_phase : (out : Option DiskOp) (p : Phase) → is_booting p ≡ false → R
 known_phase out p b g = by_test (is_blank out p) refl
   where
     no_way : (is_booting p ≡ true) ⊎ (p ≡ Gone) → is_blank out p ≡ false
-    no_way (inl boots) = clash (is_booting p) boots b
-    no_way (inr gone) = clash (Rattle.qn_model.specs.Moments.is_gone p) (ap Rattle.qn_model.specs.Moments.is_gone gone) g
+    no_way (inl boots) = never_both (is_booting p) boots b
+    no_way (inr gone) = never_both (Rattle.qn_model.specs.Moments.is_gone p) (ap Rattle.qn_model.specs.Moments.is_gone gone) g
 
     by_test : (t : Bool) → is_blank out p ≡ t → is_blank out p ≡ false
     by_test false e = e

@@ -1,7 +1,9 @@
 -- What the parts of an operation on three images answer together.
 use Rattle.std.proofs.Common.{◌≡◌, ℕ, ◌≤◌, Bool, true, false, List, [], ◌∷◌, ◌++◌, Some, refl, sym, ap, ◌∙◌, subst, arith, ◌==◌, ◌&&◌, ◌||◌, not, nat_lt, unwrap_or, if◌then◌else◌, ◌⊎◌, inl, inr}
-use Rattle.std.proofs.lemmas.Bool.{false≢true, eqb-true, eq-eqb, ltb-true, ltb-false}
+use Rattle.std.proofs.lemmas.Bool.{false≢true, eqb-true, ltb-true, ltb-false}
 use Rattle.qn_base.specs.declared.ids.Rank.{Rank}
+use Rattle.qn_base.specs.lemmas.Bools.{first_of_both, second_of_both}
+use Rattle.qn_base.specs.lemmas.Elements.{IsIn, First, Behind}
 use Rattle.qn_model.specs.declared.disk.Message.{Message}
 use Rattle.qn_model.specs.declared.disk.Slot.{Slot}
 use Rattle.qn_model.specs.declared.seen.SlotSeen.TheVariants as slot
@@ -10,16 +12,12 @@ use Rattle.qn_model.specs.declared.entries.What.{What}
 use Rattle.qn_model.specs.declared.entries.What.TheVariants as what
 use Rattle.qn_model.specs.declared.outputs.DiskOp.{DiskOp}
 use Rattle.qn_model.specs.declared.outputs.DiskOp.TheVariants as disk
-use Rattle.qn_model.specs.Fitting.{answers_op}
 use Rattle.qn_model.specs.Licences.{writes_reset}
 use Rattle.qn_model.specs.Sectors.{is_deadly}
 use Rattle.qn_model.specs.World.{failed}
 use Rattle.qn_safety.specs.declared.part.Part.{Part}
 use Rattle.qn_safety.specs.declared.part.Part.TheVariants.{Pending, Landed, Failed}
 use Rattle.qn_safety.specs.TripleWorld.{needs_good, counted, counting, slots_among, is_above, highest, slot_among, messages_among, first_deadly, harmless, message_among, together, answer_among, answer_of}
-use Rattle.qn_safety.proofs.Tools.{and_left_of, and_right_of}
-use Rattle.qn_safety.proofs.Origins.{IsIn, First, Behind}
-use Rattle.qn_safety.proofs.Kept.{failed_answers}
 use Rattle.qn_safety.proofs.TripleSets.{TwoOf, OneTwo, OneThree, TwoThree, none_in, first_or, in_either, only_in, in_left, in_right}
 
 -- whether a part counts, by the list of its value
@@ -119,24 +117,6 @@ answer_is op parts good = by_values (counting op parts good) refl
     by_values (first ∷ second ∷ more) e =
         TwoCount first (subst (λ l. IsIn first l) (sym e) First) (two_count op parts good first second more e) (ap (λ l. together op first l) (sym e))
 
-together_answers : (op : DiskOp) (first : What) (values : List What) → answers_op (Some op) (together op first values) ≡ true
-together_answers disk.ReadHeader first values = refl
-together_answers (disk.ReadSlot other) first values = eq-eqb other.0 other.0 refl
-together_answers disk.CheckMail first values = refl
-together_answers (disk.WriteClaim number) first values = refl
-together_answers disk.WriteClear first values = refl
-together_answers disk.ReadMail first values = refl
-together_answers (disk.WriteReset other) first values = eq-eqb other.0 other.0 refl
-together_answers (disk.WriteClose number) first values = refl
-
--- the answer answers the operation
-pub answer_answers : (op : DiskOp) (parts : ℕ → Part) (good : ℕ → Bool) → answers_op (Some op) (answer_of op parts good) ≡ true
-answer_answers op parts good = by_answer (answer_is op parts good)
-  where
-    by_answer : AnswerIs op parts good (answer_of op parts good) → answers_op (Some op) (answer_of op parts good) ≡ true
-    by_answer (FewCount e) = ap (λ v. answers_op (Some op) v) e ∙ failed_answers op
-    by_answer (TwoCount first there two e) = ap (λ v. answers_op (Some op) v) e ∙ together_answers op first (counting op parts good)
-
 -- the slots among values
 behind_slot : (v : What) (values : List What) (found : Slot) → IsIn found (slots_among values) → IsIn found (slots_among (v ∷ values))
 behind_slot (what.SlotRead other (slot.Read first)) values found there = Behind first there
@@ -174,7 +154,7 @@ above_le one other e = by_less (nat_lt other.incarnation one.incarnation) refl e
     by_less : (b : Bool) → nat_lt other.incarnation one.incarnation ≡ b → (b || (one.incarnation == other.incarnation && one.clean && not other.clean)) ≡ true → other.incarnation ≤ one.incarnation
     by_less true less e = let p = ltb-true other.incarnation one.incarnation less in omega arith
     by_less false less e =
-        let p = eqb-true one.incarnation other.incarnation (and_left_of (one.incarnation == other.incarnation) one.clean (and_left_of (one.incarnation == other.incarnation && one.clean) (not other.clean) e)) in omega arith
+        let p = eqb-true one.incarnation other.incarnation (first_of_both (one.incarnation == other.incarnation) one.clean (first_of_both (one.incarnation == other.incarnation && one.clean) (not other.clean) e)) in omega arith
 
 not_above_le : (one other : Slot) → is_above one other ≡ false → one.incarnation ≤ other.incarnation
 not_above_le one other e = by_less (nat_lt other.incarnation one.incarnation) refl e
@@ -261,7 +241,7 @@ deadly_told m found there deadly = deadly_first m found (harmless found) there d
 -- a reset that was written has two parts that count
 failed_unwritten : (j : ℕ) (op : DiskOp) → writes_reset j (failed op) ≡ true → ⊥
 unfolding failed
-failed_unwritten j (disk.WriteReset other) e = false≢true (and_right_of (other.0 == j) false e)
+failed_unwritten j (disk.WriteReset other) e = false≢true (second_of_both (other.0 == j) false e)
 failed_unwritten j disk.ReadHeader e = false≢true e
 failed_unwritten j (disk.ReadSlot other) e = false≢true e
 failed_unwritten j disk.CheckMail e = false≢true e
@@ -277,7 +257,7 @@ pub record ResetOf (op : DiskOp) (j : ℕ) : Type 0 where
   pub own : other.0 ≡ j
 
 together_resets : (j : ℕ) (op : DiskOp) (first : What) (values : List What) → writes_reset j (together op first values) ≡ true → ResetOf op j
-together_resets j (disk.WriteReset other) first values e = record { other = other; is = refl; own = eqb-true other.0 j (and_left_of (other.0 == j) true e) }
+together_resets j (disk.WriteReset other) first values e = record { other = other; is = refl; own = eqb-true other.0 j (first_of_both (other.0 == j) true e) }
 together_resets j disk.ReadHeader first values e = absurd (false≢true e)
 together_resets j (disk.ReadSlot other) first values e = absurd (false≢true e)
 together_resets j disk.CheckMail first values e = absurd (false≢true e)

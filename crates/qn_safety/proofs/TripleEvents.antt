@@ -1,11 +1,14 @@
 -- The events of the world of three images and the moments of its run: the moments obey the rules, and each of them comes of an
 -- event.
-use Rattle.std.proofs.Common.{◌≡◌, ℕ, suc, zero, ◌+◌, ◌<◌, ◌≤◌, Bool, true, List, [], ◌∷◌, length, Some, None, Option, refl, sym, ◌∙◌, subst, arith, ◌==◌, not, ◌⊎◌, inl, inr, nat_le}
+use Rattle.std.proofs.Common.{◌≡◌, ℕ, ◌+◌, ◌<◌, ◌≤◌, Bool, true, List, [], ◌∷◌, length, Some, None, Option, refl, sym, ◌∙◌, subst, arith, ◌==◌, not, ◌⊎◌, inl, inr, nat_le}
 use Rattle.std.specs.Option.{option_map_or}
 use Rattle.std.specs.Prelude.{slice_get}
-use Rattle.std.specs.List.{list_all, range_with_len}
-use Rattle.std.proofs.lemmas.Bool.{cases_order, eqb-true, ltb-true, leb-true}
+use Rattle.std.specs.List.{list_all}
+use Rattle.std.proofs.lemmas.Bool.{cases_order, eqb-true, ltb-true, leb-true, not-true}
 use Rattle.qn_base.specs.Members.{is_member}
+use Rattle.qn_base.specs.lemmas.Options.{value_tested}
+use Rattle.qn_base.specs.lemmas.Bools.{never_both, first_of_both, second_of_both}
+use Rattle.qn_base.specs.lemmas.Ranges.{each_in_range}
 use Rattle.qn_model.specs.declared.configuration.Settings.{Settings}
 use Rattle.qn_model.specs.declared.times.Timing.{Timing}
 use Rattle.qn_model.specs.declared.packets.Packet.{Packet}
@@ -15,6 +18,7 @@ use Rattle.qn_model.specs.declared.entries.What.{What}
 use Rattle.qn_model.specs.declared.entries.What.TheVariants as what
 use Rattle.qn_model.specs.declared.events.Event.TheVariants as event
 use Rattle.qn_model.specs.declared.outputs.DiskOp.{DiskOp}
+use Rattle.qn_model.specs.lemmas.Rules.{allowed, both_allowed}
 use Rattle.qn_model.specs.Log.{incarnation}
 use Rattle.qn_model.specs.Fitting.{answers_op}
 use Rattle.qn_model.specs.Moments.{Before, Itself, Later, Moment, Adds, advance_of, time, node, packets}
@@ -23,16 +27,16 @@ use Rattle.qn_model.specs.Rules.{passes, is_well_formed, refusal, is_on, may_pas
 use Rattle.qn_model.specs.Steps.{happens, entry_of, step}
 use Rattle.qn_safety.specs.declared.triple_event.TripleEvent.{TripleEvent}
 use Rattle.qn_safety.specs.declared.triple_event.TripleEvent.TheVariants as triple
+use Rattle.qn_safety.specs.Answers.{answer_answers}
 use Rattle.qn_safety.specs.Timed.{IsUp, WasSent, AllRuled, NoMoment, OneRuled, NumbersRise}
 use Rattle.qn_safety.specs.TripleWorld.{TripleWorld, nodes_of, op_of, answer_of}
 use Rattle.qn_safety.specs.TripleRules.{is_well_formed_triple, refusal_triple, may_be_done_triple}
 use Rattle.qn_safety.specs.TripleSteps.{landed_on, failed_on, done_triple, lands_late_on, step_triple, run_triple, AllAllowedTriple}
-use Rattle.qn_safety.proofs.Tools.{clash, and_left_of, and_right_of, not_true, before_total}
+use Rattle.qn_safety.specs.Earlier.{before_total}
 use Rattle.qn_safety.proofs.Outs.{plain_no_answer}
 use Rattle.qn_safety.proofs.Runs.{boots_le}
-use Rattle.qn_safety.proofs.Seats.{allows, both_allow, running_allows, test_there}
+use Rattle.qn_safety.proofs.Seats.{running_allows}
 use Rattle.qn_safety.proofs.Events.{newest_state, only_nothing}
-use Rattle.qn_safety.proofs.TripleAnswers.{answer_answers}
 use Rattle.qn_safety.proofs.TripleSeats.{Effect, effect}
 use Rattle.qn_safety.proofs.TripleRising.{Height, Growth, height_step, first_height, up_top}
 
@@ -50,24 +54,10 @@ pub allowed_before : {s : Settings} {t : Timing} {old new : List TripleEvent} �
 allowed_before Itself allowed = allowed
 allowed_before (Later newest more) (OneEvent form ok allowed) = allowed_before more allowed
 
-in_range_at : (test : ℕ → Bool) (from k : ℕ) → test from ≡ true → (from < k → test k ≡ true) → from ≤ k → test k ≡ true
-in_range_at test from k here later above = by_order (cases_order from k)
-  where
-    by_order : (from ≡ k) ⊎ ((from < k) ⊎ (k < from)) → test k ≡ true
-    by_order (inl same) = subst (λ n. test n ≡ true) same here
-    by_order (inr (inl past)) = later past
-    by_order (inr (inr behind)) = absurd (omega arith)
-
-in_range : (test : ℕ → Bool) (count from k : ℕ) → list_all test (range_with_len from count) ≡ true → from ≤ k → k < from + count → test k ≡ true
-in_range test zero from k all above below = absurd (omega arith)
-in_range test (suc count) from k all above below =
-    in_range_at test from k (and_left_of (test from) (list_all test (range_with_len (from + 1) count)) all)
-    (λ past. in_range test count (from + 1) k (and_right_of (test from) (list_all test (range_with_len (from + 1) count)) all) (omega arith) (omega arith)) above
-
 -- an answer of the disk is no packet
 answer_unsent : (s : Settings) (r : ℕ) (op : Option DiskOp) (entry : What) (ms : List Moment) → answers_op op entry ≡ true → WasSent s r entry ms
-answer_unsent s r op (what.Ask ask) ms e = clash (answers_op op (what.Ask ask)) e (plain_no_answer op (what.Ask ask) refl)
-answer_unsent s r op (what.Tell tell) ms e = clash (answers_op op (what.Tell tell)) e (plain_no_answer op (what.Tell tell) refl)
+answer_unsent s r op (what.Ask ask) ms e = never_both (answers_op op (what.Ask ask)) e (plain_no_answer op (what.Ask ask) refl)
+answer_unsent s r op (what.Tell tell) ms e = never_both (answers_op op (what.Tell tell)) e (plain_no_answer op (what.Tell tell) refl)
 answer_unsent s r op what.Begin ms e = tt
 answer_unsent s r op what.BeginClean ms e = tt
 answer_unsent s r op (what.Header seen) ms e = tt
@@ -100,13 +90,13 @@ ruled_step : (s : Settings) (t : Timing) (e : TripleEvent) (w : TripleWorld) →
     → AllRuled s t w.moments → AllRuled s t (step_triple s t e w).moments
 unfolding is_well_formed_triple refusal_triple step_triple is_well_formed refusal step
 ruled_step s t (triple.One (event.Pass dt clocks)) w form ok ruled =
-    let may = allows (may_pass s t dt clocks (nodes_of w)) 1 ok in
-    OneRuled (λ rank below. in_range (λ r. passes t dt (advance_of dt clocks r) (time w.moments) (node s r w.moments)) (length s.nodes) 0 rank
-    (and_right_of (list_all (λ clock. is_on s clock.0.0 (nodes_of w)) clocks) _ may) (omega arith) (omega arith)) ruled
+    let may = allowed (may_pass s t dt clocks (nodes_of w)) 1 ok in
+    OneRuled (λ rank below. each_in_range (λ r. passes t dt (advance_of dt clocks r) (time w.moments) (node s r w.moments)) (length s.nodes) 0 rank
+    (second_of_both (list_all (λ clock. is_on s clock.0.0 (nodes_of w)) clocks) _ may) (omega arith) (omega arith)) ruled
 ruled_step s t (triple.One (event.Boot rank base)) w form ok ruled =
-    OneRuled (not_true (is_on s rank.0 (nodes_of w)) (allows (not (is_on s rank.0 (nodes_of w))) 2 ok), ltb-true rank.0 (length s.nodes) (and_left_of (is_configured s rank.0) (nat_le base 1000000000000000) form)) ruled
+    OneRuled (not-true (is_on s rank.0 (nodes_of w)) (allowed (not (is_on s rank.0 (nodes_of w))) 2 ok), ltb-true rank.0 (length s.nodes) (first_of_both (is_configured s rank.0) (nat_le base 1000000000000000) form)) ruled
 ruled_step s t (triple.One (event.BootClean rank base)) w form ok ruled =
-    OneRuled (not_true (is_on s rank.0 (nodes_of w)) (allows (not (is_on s rank.0 (nodes_of w))) 2 ok), ltb-true rank.0 (length s.nodes) (and_left_of (is_configured s rank.0) (nat_le base 1000000000000000) form)) ruled
+    OneRuled (not-true (is_on s rank.0 (nodes_of w)) (allowed (not (is_on s rank.0 (nodes_of w))) 2 ok), ltb-true rank.0 (length s.nodes) (first_of_both (is_configured s rank.0) (nat_le base 1000000000000000) form)) ruled
 ruled_step s t (triple.One (event.Crash rank)) w form ok ruled = OneRuled (running_allows (is_on s rank.0 (nodes_of w)) 3 ok) ruled
 ruled_step s t (triple.One (event.Land rank)) w form ok ruled = ruled
 ruled_step s t (triple.One (event.Fail rank)) w form ok ruled = ruled
@@ -118,23 +108,23 @@ ruled_step s t (triple.One (event.Done rank)) w form ok ruled = by_op (op_of s r
     by_op None = ruled
     by_op (Some op) =
         OneRuled (
-          (both_allow (is_on s rank.0 (nodes_of w)) (may_be_done_triple s rank.0 w) 3 5 ok).0,
+          (both_allowed (is_on s rank.0 (nodes_of w)) (may_be_done_triple s rank.0 w) 3 5 ok).0,
           answer_unsent s rank.0 (Some op) (answer_of op (w.parts rank.0) (w.good rank.0)) w.moments (answer_answers op (w.parts rank.0) (w.good rank.0)),
         ) ruled
-ruled_step s t (triple.One (event.View rank view)) w form ok ruled = OneRuled ((both_allow (is_on s rank.0 (nodes_of w)) (is_member view.members rank.0) 3 7 ok).0, tt) ruled
+ruled_step s t (triple.One (event.View rank view)) w form ok ruled = OneRuled ((both_allowed (is_on s rank.0 (nodes_of w)) (is_member view.members rank.0) 3 7 ok).0, tt) ruled
 ruled_step s t (triple.One (event.Deliver rank number)) w form ok ruled =
-    let rules = both_allow (is_on s rank.0 (nodes_of w)) (may_deliver s rank.0 number (nodes_of w)) 3 8 ok in
-    let sent = test_there (λ (x : Sent). x.to.0 == rank.0) (slice_get (packets s w.moments) number) rules.1 in
+    let rules = both_allowed (is_on s rank.0 (nodes_of w)) (may_deliver s rank.0 number (nodes_of w)) 3 8 ok in
+    let sent = value_tested (λ (x : Sent). x.to.0 == rank.0) (slice_get (packets s w.moments) number) rules.1 in
     subst (λ o. AllRuled s t (option_map_or (λ x. happens (Adds rank.0 (entry_of x.packet)) (nodes_of w)) o (nodes_of w)).moments) (sym sent.1)
     (OneRuled (rules.0, packet_sent s rank.0 number sent.0 w.moments sent.1 sent.2) ruled)
 ruled_step s t (triple.One (event.Device rank agrees)) w form ok ruled = OneRuled (running_allows (is_on s rank.0 (nodes_of w)) 3 ok, tt) ruled
 ruled_step s t (triple.One (event.Tick rank)) w form ok ruled = OneRuled (running_allows (is_on s rank.0 (nodes_of w)) 3 ok, tt) ruled
-ruled_step s t (triple.One (event.Stopped rank)) w form ok ruled = OneRuled ((both_allow (is_on s rank.0 (nodes_of w)) (may_be_stopped s rank.0 (nodes_of w)) 3 5 ok).0, tt) ruled
-ruled_step s t (triple.One (event.Unstopped rank)) w form ok ruled = OneRuled ((both_allow (is_on s rank.0 (nodes_of w)) (may_be_stopped s rank.0 (nodes_of w)) 3 5 ok).0, tt) ruled
+ruled_step s t (triple.One (event.Stopped rank)) w form ok ruled = OneRuled ((both_allowed (is_on s rank.0 (nodes_of w)) (may_be_stopped s rank.0 (nodes_of w)) 3 5 ok).0, tt) ruled
+ruled_step s t (triple.One (event.Unstopped rank)) w form ok ruled = OneRuled ((both_allowed (is_on s rank.0 (nodes_of w)) (may_be_stopped s rank.0 (nodes_of w)) 3 5 ok).0, tt) ruled
 ruled_step s t (triple.One (event.Leave rank)) w form ok ruled = OneRuled (running_allows (is_on s rank.0 (nodes_of w)) 3 ok, tt) ruled
 ruled_step s t (triple.One (event.Feed rank)) w form ok ruled =
-    let rules = both_allow (is_on s rank.0 (nodes_of w)) (may_feed s t rank.0 (nodes_of w)) 3 9 ok in
-    let fed = test_there (λ decided. nat_le (time w.moments) (decided + t.feed_delay)) (node s rank.0 w.moments).decided rules.1 in
+    let rules = both_allowed (is_on s rank.0 (nodes_of w)) (may_feed s t rank.0 (nodes_of w)) 3 9 ok in
+    let fed = value_tested (λ decided. nat_le (time w.moments) (decided + t.feed_delay)) (node s rank.0 w.moments).decided rules.1 in
     OneRuled (record { on = rules.0; at = fed.0; decided = fed.1; in_time = leb-true (time w.moments) (fed.0 + t.feed_delay) fed.2 }) ruled
 ruled_step s t (triple.LandOn rank k) w form ok ruled = by_op (op_of s rank.0 w)
   where

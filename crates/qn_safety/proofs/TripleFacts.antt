@@ -1,7 +1,11 @@
 -- Two of the four facts of the disk hold of every run of three images: headers agree, and clean means closed.
 use Rattle.std.proofs.Common.{◌≡◌, ℕ, ◌<◌, Bool, true, false, List, ◌∷◌, Some, None, Option, refl, sym, ap, ◌∙◌, subst, arith, ◌==◌, ◌⊎◌, inl, inr}
 use Rattle.std.proofs.lemmas.Bool.{false≢true, eqb-true}
+use Rattle.std.proofs.lemmas.Option.{same_Some}
 use Rattle.qn_base.specs.declared.ids.Rank.{Rank}
+use Rattle.qn_base.specs.lemmas.Options.{none_is_not_some}
+use Rattle.qn_base.specs.lemmas.Bools.{never_both, first_of_both, second_of_both}
+use Rattle.qn_base.specs.lemmas.Elements.{IsIn}
 use Rattle.qn_model.specs.declared.configuration.Settings.{Settings}
 use Rattle.qn_model.specs.declared.times.Timing.{Timing}
 use Rattle.qn_model.specs.declared.disk.Slot.{Slot}
@@ -21,12 +25,11 @@ use Rattle.qn_safety.specs.Timed.{IsUp, IsBetween, HasClosed, CleanMeansClosed, 
 use Rattle.qn_safety.specs.declared.part.Part.TheVariants.{Landed}
 use Rattle.qn_safety.specs.TripleWorld.{TripleWorld, image_of, op_of, counting, header_of, together, answer_of}
 use Rattle.qn_safety.specs.TripleSteps.{run_triple}
-use Rattle.qn_safety.proofs.Tools.{some_same, none_some, clash, and_left_of, and_right_of, before_tail}
+use Rattle.qn_safety.specs.Earlier.{before_tail}
 use Rattle.qn_safety.proofs.Logs.{Made, made_line}
 use Rattle.qn_safety.proofs.Rests.{read_is}
 use Rattle.qn_safety.proofs.Runs.{sound}
 use Rattle.qn_safety.proofs.Numbers.{claimed_same}
-use Rattle.qn_safety.proofs.Origins.{IsIn}
 use Rattle.qn_safety.proofs.Kept.{booting_op}
 use Rattle.qn_safety.proofs.TripleSets.{TwoOf, meet, map_two, numbered_in}
 use Rattle.qn_safety.proofs.TripleAnswers.{CountsAt, AnswerIs, FewCount, TwoCount, answer_is, counted_at, SlotTold, slot_told, slot_in, slot_from}
@@ -39,21 +42,21 @@ use Rattle.qn_safety.proofs.TripleLandings.{LineKind, Plain, Told, AddedBy, adde
 
 times_answer : (entry : What) (times : Timing) → times_of entry ≡ Some times → is_answer entry ≡ true
 times_answer (what.Header seen) times e = refl
-times_answer what.Begin times e = none_some times e
-times_answer what.BeginClean times e = none_some times e
+times_answer what.Begin times e = none_is_not_some times e
+times_answer what.BeginClean times e = none_is_not_some times e
 times_answer (what.SlotRead other seen) times e = refl
 times_answer (what.MailChecked seen) times e = refl
 times_answer (what.Claimed ok) times e = refl
 times_answer (what.Cleared ok) times e = refl
 times_answer (what.MailRead seen) times e = refl
 times_answer (what.MailWritten other ok) times e = refl
-times_answer (what.View installed) times e = none_some times e
-times_answer (what.Ask ask) times e = none_some times e
-times_answer (what.Tell tell) times e = none_some times e
-times_answer (what.Device agrees) times e = none_some times e
-times_answer what.Tick times e = none_some times e
-times_answer (what.Stopped ok) times e = none_some times e
-times_answer what.Leave times e = none_some times e
+times_answer (what.View installed) times e = none_is_not_some times e
+times_answer (what.Ask ask) times e = none_is_not_some times e
+times_answer (what.Tell tell) times e = none_is_not_some times e
+times_answer (what.Device agrees) times e = none_is_not_some times e
+times_answer what.Tick times e = none_is_not_some times e
+times_answer (what.Stopped ok) times e = none_is_not_some times e
+times_answer what.Leave times e = none_is_not_some times e
 times_answer (what.Closed ok) times e = refl
 
 failed_times : (op : DiskOp) → times_of (failed op) ≡ None
@@ -69,18 +72,18 @@ failed_times (disk.WriteClose number) = refl
 
 header_times : (s : Settings) (t : Timing) (j : ℕ) (w : World) (times : Timing) → times_of (what.Header (header_of (taken s t j disk.ReadHeader w))) ≡ Some times → times ≡ t
 unfolding taken
-header_times s t j w times e = sym (some_same _ _ e)
+header_times s t j w times e = sym (same_Some _ _ e)
 
 together_times : (op : DiskOp) (first : What) (values : List What) (times : Timing) → times_of (together op first values) ≡ Some times
     → (op ≡ disk.ReadHeader) × (times_of (what.Header (header_of first)) ≡ Some times)
 together_times disk.ReadHeader first values times e = (refl, e)
-together_times (disk.ReadSlot other) first values times e = none_some times e
-together_times disk.CheckMail first values times e = none_some times e
-together_times (disk.WriteClaim number) first values times e = none_some times e
-together_times disk.WriteClear first values times e = none_some times e
-together_times disk.ReadMail first values times e = none_some times e
-together_times (disk.WriteReset other) first values times e = none_some times e
-together_times (disk.WriteClose number) first values times e = none_some times e
+together_times (disk.ReadSlot other) first values times e = none_is_not_some times e
+together_times disk.CheckMail first values times e = none_is_not_some times e
+together_times (disk.WriteClaim number) first values times e = none_is_not_some times e
+together_times disk.WriteClear first values times e = none_is_not_some times e
+together_times disk.ReadMail first values times e = none_is_not_some times e
+together_times (disk.WriteReset other) first values times e = none_is_not_some times e
+together_times (disk.WriteClose number) first values times e = none_is_not_some times e
 
 -- every header that is read gives the one timing
 pub headers_agree : {s : Settings} {t : Timing} {events : List TripleEvent} → IsAllowed s t events → HeadersAgree s t (run_triple s t events).moments
@@ -98,16 +101,16 @@ headers_agree {s = s} {t = t} {events = events} allowed rank line past before ti
     by_answer : (op : DiskOp) → op_of s rank (run_triple s t it.earlier) ≡ Some op
         → AnswerIs op ((run_triple s t it.earlier).parts rank) ((run_triple s t it.earlier).good rank) (answer_of op ((run_triple s t it.earlier).parts rank) ((run_triple s t it.earlier).good rank))
         → times_of (answer_of op ((run_triple s t it.earlier).parts rank) ((run_triple s t it.earlier).good rank)) ≡ Some times → times ≡ t
-    by_answer op out (FewCount e) gives' = none_some times (sym (ap times_of e ∙ failed_times op) ∙ gives')
+    by_answer op out (FewCount e) gives' = none_is_not_some times (sym (ap times_of e ∙ failed_times op) ∙ gives')
     by_answer op out (TwoCount first there two e) gives' =
         let header = together_times op first (counting op ((run_triple s t it.earlier).parts rank) ((run_triple s t it.earlier).good rank)) times (sym (ap times_of e) ∙ gives') in
         let at = counted_at op ((run_triple s t it.earlier).parts rank) ((run_triple s t it.earlier).good rank) first there in
         let took = kept.took at.0 first at.1 in
-        let same : took.op ≡ disk.ReadHeader = some_same _ _ (sym took.is ∙ out) ∙ header.0 in
+        let same : took.op ≡ disk.ReadHeader = same_Some _ _ (sym took.is ∙ out) ∙ header.0 in
         header_times s t rank took.at times (sym (ap (λ v. times_of (what.Header (header_of v))) (took.same ∙ ap (λ o. taken s t rank o took.at) same)) ∙ header.1)
 
     by_kind : LineKind s rank line (run_triple s t it.earlier) → times ≡ t
-    by_kind (Plain plain) = clash (is_answer line.what) (times_answer line.what times gives) plain
+    by_kind (Plain plain) = never_both (is_answer line.what) (times_answer line.what times gives) plain
     by_kind (Told op out reads) = by_answer op out (answer_is op ((run_triple s t it.earlier).parts rank) ((run_triple s t it.earlier).good rank)) (sym (ap times_of reads) ∙ gives)
 
 -- a node is up, and has not asked for its close
@@ -119,8 +122,8 @@ closed_or_open : (s : Settings) (j : ℕ) (p : List Moment) → HasClosed s j p 
 closed_or_open s j p = by_tests (node s j p).on (is_booting (phase s (node s j p).log)) (asked_close (node s j p).log) refl refl refl
   where
     by_tests : (a b c : Bool) → (node s j p).on ≡ a → is_booting (phase s (node s j p).log) ≡ b → asked_close (node s j p).log ≡ c → HasClosed s j p ⊎ IsOpen s j p
-    by_tests false b c off e f = inl (λ up. clash (node s j p).on up.on off)
-    by_tests true true c on booting f = inl (λ up. clash (is_booting (phase s (node s j p).log)) booting up.booted)
+    by_tests false b c off e f = inl (λ up. never_both (node s j p).on up.on off)
+    by_tests true true c on booting f = inl (λ up. never_both (is_booting (phase s (node s j p).log)) booting up.booted)
     by_tests true false true on booted asked = inl (λ up. asked)
     by_tests true false false on booted open' = inr (record { up = record { on = on; booted = booted }; open' = open' })
 
@@ -132,7 +135,7 @@ claimed_kept {s = s} {j = j} {w = w} (Enters tick entry on plain e) made' up up'
     ap (λ x. claimed x.log) e ∙ claimed_same (made_line (subst (λ l. Made s j l) (ap (λ x. x.log) e) made')) (ap (λ l. is_booting (phase s l)) (sym (ap (λ x. x.log) e)) ∙ up'.booted)
 claimed_kept {s = s} {j = j} {w = w} (Answers tick op on out e) made' up up' =
     ap (λ x. claimed x.log) e ∙ claimed_same (made_line (subst (λ l. Made s j l) (ap (λ x. x.log) e) made')) (ap (λ l. is_booting (phase s l)) (sym (ap (λ x. x.log) e)) ∙ up'.booted)
-claimed_kept {s = s} {j = j} {w = w} (BootsUp tick clean off e) made' up up' = clash (node s j w.moments).on up.on off
+claimed_kept {s = s} {j = j} {w = w} (BootsUp tick clean off e) made' up up' = never_both (node s j w.moments).on up.on off
 claimed_kept (GoesOff on e) made' up up' = absurd (false≢true (sym (ap (λ x. x.on) e) ∙ up'.on))
 claimed_kept (LandsOn k op on out pending all e) made' up up' = ap (λ x. claimed x.log) e
 claimed_kept (FailsOn k op on out e) made' up up' = ap (λ x. claimed x.log) e
@@ -149,13 +152,13 @@ dirty_kept (GoesOff on e) made kept is has k was = ap (λ x. x.slots k) e ∙ wa
 dirty_kept (FailsOn n op on out e) made kept is has k was = ap (λ x. x.slots k) e ∙ was
 dirty_kept {s = s} {j = j} {number = number} {w = w} (LandsOn n op on out pending all e) made kept is has k was =
     ap (λ x. x.slots k) e ∙ slot_case (λ c. c ≡ dirty number) n op (w.slots j) k
-    (λ m same. clash (is_booting (phase s (node s j w.moments).log)) (booting_op made (disk.WriteClaim m) (out ∙ ap Some same) refl refl) is.up.booted)
-    (λ m same. clash (asked_close (node s j w.moments).log) (close_asked (node s j w.moments).log m (out ∙ ap Some same)) is.open') was
+    (λ m same. never_both (is_booting (phase s (node s j w.moments).log)) (booting_op made (disk.WriteClaim m) (out ∙ ap Some same) refl refl) is.up.booted)
+    (λ m same. never_both (asked_close (node s j w.moments).log) (close_asked (node s j w.moments).log m (out ∙ ap Some same)) is.open') was
 dirty_kept {s = s} {j = j} {number = number} {w = w} (LateOn n place op there e) made kept is has k was =
     let own = kept.own n op (numbered_in (w.left j n) place op there) in
     ap (λ x. x.slots k) e ∙ slot_case (λ c. c ≡ dirty number) n op (w.slots j) k
-    (λ m same. ap dirty (some_same _ _ (sym (subst (λ o. IsOwn s (seat_of s j w) n o) same own) ∙ has)))
-    (λ m same. clash (asked_close (node s j w.moments).log) (subst (λ o. IsOwn s (seat_of s j w) n o) same own) is.open') was
+    (λ m same. ap dirty (same_Some _ _ (sym (subst (λ o. IsOwn s (seat_of s j w) n o) same own) ∙ has)))
+    (λ m same. never_both (asked_close (node s j w.moments).log) (subst (λ o. IsOwn s (seat_of s j w) n o) same own) is.open') was
 
 -- a read of the slot of node j
 pub record ReadsOf (j : ℕ) (out : Option DiskOp) : Type 0 where
@@ -178,7 +181,7 @@ record ReadOpen (s : Settings) (i j : ℕ) (w : TripleWorld) : Type 0 where
 -- what was just read of the slot is what it has
 just_read : (s : Settings) (t : Timing) (i j : ℕ) (w : TripleWorld) (k : ℕ) (op : DiskOp) (rank : Rank) (own : Slot) → ReadsOf j (op_of s i w) → op_of s i w ≡ Some op
     → what.SlotRead rank (slot.Read own) ≡ taken s t i op (image_of k w) → own ≡ w.slots j k
-just_read s t i j w k op rank own about out is = slot_of (is ∙ ap (λ o. taken s t i o (image_of k w)) (some_same _ _ (sym out ∙ about.is))) ∙ ap (λ r. w.slots r k) about.own
+just_read s t i j w k op rank own about out is = slot_of (is ∙ ap (λ o. taken s t i o (image_of k w)) (same_Some _ _ (sym out ∙ about.is))) ∙ ap (λ r. w.slots r k) about.own
   where
     same_slot : what.SlotRead rank (slot.Read own) ≡ what.SlotRead about.rank (slot.Read (w.slots about.rank.0 k)) → own ≡ w.slots about.rank.0 k
     same_slot e = cc
@@ -228,7 +231,7 @@ module _ {s : Settings} {t : Timing} (i j : ℕ) where
           let same = just_read s t i j (run_triple s t earlier) k op rank own about out read in
           let standing = (height.held.kept is.up.on).standing is.up.booted in
           let low = standing.below is.open' k (ap (λ (c : Slot). c.clean) (sym same) ∙ clean) in
-          let equal : height.top ≡ was.number = some_same _ _ (sym standing.claims ∙ was.claims) in
+          let equal : height.top ≡ was.number = same_Some _ _ (sym standing.claims ∙ was.claims) in
           let q = ap (λ (c : Slot). c.incarnation) same in
           omega arith
 
@@ -243,7 +246,7 @@ module _ {s : Settings} {t : Timing} (i j : ℕ) where
       read_of : (k : ℕ) (value : What) → w.parts i k ≡ Landed value → (read : Slot) × (value ≡ what.SlotRead rank (slot.Read read))
       read_of k value landed =
           let took = kept.took k value landed in
-          let same : took.op ≡ disk.ReadSlot rank = some_same _ _ (sym took.is ∙ out) ∙ found.is in
+          let same : took.op ≡ disk.ReadSlot rank = same_Some _ _ (sym took.is ∙ out) ∙ found.is in
           (took.at.slots rank.0, took.same ∙ ap (λ o. taken s t i o took.at) same ∙ read_slot took.at)
         where
           read_slot : (v : World) → taken s t i (disk.ReadSlot rank) v ≡ what.SlotRead rank (slot.Read (v.slots rank.0))
@@ -264,9 +267,9 @@ module _ {s : Settings} {t : Timing} (i j : ℕ) where
           absurd (omega arith)
 
 clean_read : (j : ℕ) (entry : What) → reads_slot is_clean_slot j entry ≡ true → (rank : Rank) × (own : Slot) × (entry ≡ what.SlotRead rank (slot.Read own)) × (rank.0 ≡ j) × (own.clean ≡ true)
-clean_read j (what.SlotRead rank (slot.Read own)) e = (rank, own, refl, eqb-true rank.0 j (and_left_of (rank.0 == j) own.clean e), and_right_of (rank.0 == j) own.clean e)
-clean_read j (what.SlotRead rank slot.Damaged) e = absurd (false≢true (and_right_of (rank.0 == j) false e))
-clean_read j (what.SlotRead rank slot.Failed) e = absurd (false≢true (and_right_of (rank.0 == j) false e))
+clean_read j (what.SlotRead rank (slot.Read own)) e = (rank, own, refl, eqb-true rank.0 j (first_of_both (rank.0 == j) own.clean e), second_of_both (rank.0 == j) own.clean e)
+clean_read j (what.SlotRead rank slot.Damaged) e = absurd (false≢true (second_of_both (rank.0 == j) false e))
+clean_read j (what.SlotRead rank slot.Failed) e = absurd (false≢true (second_of_both (rank.0 == j) false e))
 clean_read j entry e = absurd (false≢true e)
 
 -- where a read gives a clean slot, at some moment of the read no incarnation was up that had not asked for its close
@@ -285,7 +288,7 @@ clean_means_closed {s = s} {t = t} {events = events} allowed i j line past befor
         (at.at, between_of i line past before allowed added at, at.gone)
 
     by_kind : LineKind s i line (run_triple s t it.earlier) → (between : List Moment) × IsBetween s i line before between × HasClosed s j between
-    by_kind (Plain plain) = clash (is_answer line.what) (ap is_answer (read_is is_clean_slot j line.what reads).2) plain
+    by_kind (Plain plain) = never_both (is_answer line.what) (ap is_answer (read_is is_clean_slot j line.what reads).2) plain
     by_kind (Told op out told) =
         let clean = clean_read j line.what reads in
         let answer = sym told ∙ clean.2 in

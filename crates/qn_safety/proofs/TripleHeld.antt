@@ -1,7 +1,11 @@
 -- What stays true of a node on three images at each event, and how the number of its last incarnation rises.
 use Rattle.std.proofs.Common.{◌≡◌, ℕ, ◌<◌, ◌≤◌, Bool, true, false, List, [], ◌∷◌, ◌++◌, Some, None, Option, refl, sym, ap, ◌∙◌, subst, arith, ◌⊎◌, inl, inr, unwrap_or}
-use Rattle.std.proofs.lemmas.Bool.{false≢true, true≢false}
+use Rattle.std.proofs.lemmas.Bool.{false≢true, true≢false, not-true}
+use Rattle.std.proofs.lemmas.Option.{same_Some}
 use Rattle.qn_base.specs.declared.ids.Rank.{Rank}
+use Rattle.qn_base.specs.lemmas.Options.{none_is_not_some}
+use Rattle.qn_base.specs.lemmas.Bools.{never_both}
+use Rattle.qn_base.specs.lemmas.Elements.{IsIn}
 use Rattle.qn_model.specs.declared.configuration.Settings.{Settings}
 use Rattle.qn_model.specs.declared.times.Timing.{Timing}
 use Rattle.qn_model.specs.declared.disk.Slot.{Slot}
@@ -11,24 +15,24 @@ use Rattle.qn_model.specs.declared.entries.What.{What}
 use Rattle.qn_model.specs.declared.entries.What.TheVariants as what
 use Rattle.qn_model.specs.declared.outputs.DiskOp.{DiskOp}
 use Rattle.qn_model.specs.declared.outputs.DiskOp.TheVariants as disk
+use Rattle.qn_model.specs.lemmas.Moments.{put_same}
+use Rattle.qn_model.specs.lemmas.Entries.{begin_answers_none, read_answers_none}
 use Rattle.qn_model.specs.Log.{Line, op_out, claimed, disk_of, is_answer, slot_number, number_read}
 use Rattle.qn_model.specs.Phases.{phase, next_phase, in_time, is_booting}
 use Rattle.qn_model.specs.Fitting.{answers_op}
 use Rattle.qn_model.specs.Moments.{begin_of, is_gone, node}
 use Rattle.qn_model.specs.World.{World, put, taken, numbered, without}
 use Rattle.qn_safety.specs.declared.part.Part.TheVariants.{Pending, Landed}
+use Rattle.qn_safety.specs.Answers.{answer_answers}
 use Rattle.qn_safety.specs.TripleWorld.{TripleWorld, all_pending, first_triple, image_of, leaves_over, has_landed, counting, answer_of, good_after}
-use Rattle.qn_safety.proofs.Tools.{some_same, none_some, clash, not_true}
 use Rattle.qn_safety.proofs.Logs.{Made, NoLine, IsLine, made_line}
 use Rattle.qn_safety.proofs.Apt.{claimed_answers, check_answers}
 use Rattle.qn_safety.proofs.Numbers.{NumberFrom, BySlot, ByCheck, ClaimGiven, claim_given, claimed_same}
-use Rattle.qn_safety.proofs.Outs.{answer_fits, read_plain, claimed_cases, out_claims, own_slot_out, clear_given, check_given, claimed_by_clear, comes_up}
-use Rattle.qn_safety.proofs.Origins.{IsIn, line_of, line_what}
+use Rattle.qn_safety.proofs.Outs.{answer_fits, claimed_cases, out_claims, own_slot_out, clear_given, check_given, claimed_by_clear, comes_up}
+use Rattle.qn_safety.proofs.Origins.{line_of, line_what}
 use Rattle.qn_safety.proofs.Kept.{booting_op}
-use Rattle.qn_safety.proofs.Held.{begin_plain}
-use Rattle.qn_safety.proofs.Seats.{put_same}
 use Rattle.qn_safety.proofs.TripleSets.{TwoOf, OneTwo, meet, map_two, put_case, none_in, numbered_in, without_in, in_either}
-use Rattle.qn_safety.proofs.TripleAnswers.{CountsAt, SlotTold, answer_answers, slot_told, slot_in, claimed_two, cleared_two}
+use Rattle.qn_safety.proofs.TripleAnswers.{CountsAt, SlotTold, slot_told, slot_in, claimed_two, cleared_two}
 use Rattle.qn_safety.proofs.TripleSeats.{TripleSeat, seat_of, entered, answered, fresh, gone_off, slots_after, part_failed, late, Effect, Rests, Enters, Answers, BootsUp, GoesOff, LandsOn, FailsOn, LateOn}
 use Rattle.qn_safety.proofs.TripleLogs.{booted_back, booting_back, close_asked, closing_booted, open_before, asked_on, given_out, cleared_is, claim_first}
 use Rattle.qn_safety.proofs.TripleKept.{dirty, IsRead, Clearing, IsOwn, KeepsTop, Kept, fresh_read, not_landed, kept_enter, above_after, clean_after, kept_written, kept_landed, leaves_is, kept_failed, keeps_out}
@@ -86,7 +90,7 @@ module _ {s : Settings} {t : Timing} {j top : ℕ} (x : TripleSeat) {line : Line
       is_slot : (k : ℕ) (value : What) → x.parts k ≡ Landed value → (read : Slot) × (value ≡ what.SlotRead rank (slot.Read read))
       is_slot k value landed =
           let took = kept.took k value landed in
-          let same : took.op ≡ disk.ReadSlot rank = some_same _ _ (sym took.is ∙ out) ∙ found.is in
+          let same : took.op ≡ disk.ReadSlot rank = same_Some _ _ (sym took.is ∙ out) ∙ found.is in
           ((took.at).slots rank.0, took.same ∙ ap (λ o. taken s t j o took.at) same ∙ read_slot took.at)
         where
           read_slot : (w : World) → taken s t j (disk.ReadSlot rank) w ≡ what.SlotRead rank (slot.Read (w.slots rank.0))
@@ -123,12 +127,12 @@ module _ {s : Settings} {t : Timing} {j top : ℕ} (x : TripleSeat) {line : Line
       where
         by_claim : (claimed (line ∷ x.log) ≡ claimed x.log) ⊎ ((n : ℕ) × (claimed (line ∷ x.log) ≡ Some n) × ClaimGiven s line x.log n) → claimed (line ∷ x.log) ≡ Some number
         by_claim (inl same) = same ∙ own
-        by_claim (inr claim) = none_some number (sym (claim_first it made claim.0 claim.2) ∙ own)
+        by_claim (inr claim) = none_is_not_some number (sym (claim_first it made claim.0 claim.2) ∙ own)
     own_booting k (disk.WriteClose number) own = asked_on line x.log own
     own_booting k disk.WriteClear own =
-        let clear : op ≡ disk.WriteClear = some_same _ _ (sym out ∙ own.out was_booting) in
+        let clear : op ≡ disk.WriteClear = same_Some _ _ (sym out ∙ own.out was_booting) in
         let cleared = cleared_is line.what (subst (λ o. answers_op (Some o) line.what ≡ true) clear answers) in
-        clash (is_booting (phase s (line ∷ x.log))) booting (cleared_phase s line x.log cleared.0 cleared.1)
+        never_both (is_booting (phase s (line ∷ x.log))) booting (cleared_phase s line x.log cleared.0 cleared.1)
     own_booting k disk.ReadHeader own = tt
     own_booting k (disk.ReadSlot rank) own = tt
     own_booting k disk.CheckMail own = tt
@@ -158,7 +162,7 @@ module _ {s : Settings} {t : Timing} {j top : ℕ} (x : TripleSeat) {line : Line
           omega arith;
       claiming = λ number e. record { above = claim_next number (claim_given it number (given (disk.WriteClaim number) e)); stands = λ k value landed. not_landed value landed };
       clearing = λ e. clear_asked (given disk.WriteClear e);
-      standing = λ booted. clash (is_booting (phase s (line ∷ x.log))) booting booted;
+      standing = λ booted. never_both (is_booting (phase s (line ∷ x.log))) booting booted;
       own = λ k o there. own_booting k o (kept.own k o there);
     }
 
@@ -181,8 +185,8 @@ module _ {s : Settings} {t : Timing} {j top : ℕ} (x : TripleSeat) {line : Line
     own_up k (disk.WriteClaim number) own = claimed_same it booted ∙ own
     own_up k (disk.WriteClose number) own = asked_on line x.log own
     own_up k disk.WriteClear own = record {
-      out = λ booting. clash (is_booting (phase s (line ∷ x.log))) booting booted;
-      part = λ booting. clash (is_booting (phase s (line ∷ x.log))) booting booted;
+      out = λ booting. never_both (is_booting (phase s (line ∷ x.log))) booting booted;
+      part = λ booting. never_both (is_booting (phase s (line ∷ x.log))) booting booted;
       bad = λ b. same_good op not_clear k ∙ own.bad was_booted;
     }
     own_up k disk.ReadHeader own = tt
@@ -197,9 +201,9 @@ module _ {s : Settings} {t : Timing} {j top : ℕ} (x : TripleSeat) {line : Line
     kept_up : Kept s t j top (with_answer x line op now_on)
     kept_up = record {
       took = λ k value e. not_landed value e;
-      reading = λ booting. clash (is_booting (phase s (line ∷ x.log))) booting booted;
-      checking = λ e. clash (is_booting (phase s x.log)) ((check_given it (given disk.CheckMail e)).booting) was_booted;
-      claiming = λ number e. clash (is_booting (phase s (line ∷ x.log))) ((claim_given it number (given (disk.WriteClaim number) e)).booting) booted;
+      reading = λ booting. never_both (is_booting (phase s (line ∷ x.log))) booting booted;
+      checking = λ e. never_both (is_booting (phase s x.log)) ((check_given it (given disk.CheckMail e)).booting) was_booted;
+      claiming = λ number e. never_both (is_booting (phase s (line ∷ x.log))) ((claim_given it number (given (disk.WriteClaim number) e)).booting) booted;
       clearing = λ e.
           let claims = clear_given it (given disk.WriteClear e) in
           let claim = claimed_answers (Some op) true (subst (λ v. answers_op (Some op) v ≡ true) claims answers) in
@@ -221,7 +225,7 @@ module _ {s : Settings} {t : Timing} {j top : ℕ} (x : TripleSeat) {line : Line
     clear_out = comes_up it made is was_booting booted living
 
     clear_is : op ≡ disk.WriteClear
-    clear_is = some_same _ _ (sym out ∙ clear_out)
+    clear_is = same_Some _ _ (sym out ∙ clear_out)
 
     before : Clearing top x
     before = kept.clearing clear_out
@@ -231,7 +235,7 @@ module _ {s : Settings} {t : Timing} {j top : ℕ} (x : TripleSeat) {line : Line
       where
         by_ok : (ok : Bool) × (line.what ≡ what.Cleared ok) → line.what ≡ what.Cleared true
         by_ok (true, e) = e
-        by_ok (false, e) = clash (is_gone (phase s (line ∷ x.log))) (ap is_gone (phase_after s line x.log (what.Cleared false) e)) living
+        by_ok (false, e) = never_both (is_gone (phase s (line ∷ x.log))) (ap is_gone (phase_after s line x.log (what.Cleared false) e)) living
 
     good_is : (k : ℕ) → good_after op x.parts x.good k ≡ has_landed (x.parts k)
     good_is k = ap (λ o. good_after o x.parts x.good k) clear_is
@@ -243,8 +247,8 @@ module _ {s : Settings} {t : Timing} {j top : ℕ} (x : TripleSeat) {line : Line
     own_risen k (disk.WriteClaim number) own = claimed_same it booted ∙ own
     own_risen k (disk.WriteClose number) own = asked_on line x.log own
     own_risen k disk.WriteClear own = record {
-      out = λ booting. clash (is_booting (phase s (line ∷ x.log))) booting booted;
-      part = λ booting. clash (is_booting (phase s (line ∷ x.log))) booting booted;
+      out = λ booting. never_both (is_booting (phase s (line ∷ x.log))) booting booted;
+      part = λ booting. never_both (is_booting (phase s (line ∷ x.log))) booting booted;
       bad = λ b. good_is k ∙ ap has_landed (own.part was_booting);
     }
     own_risen k disk.ReadHeader own = tt
@@ -262,9 +266,9 @@ module _ {s : Settings} {t : Timing} {j top : ℕ} (x : TripleSeat) {line : Line
     kept_risen : Kept s t j before.number (with_answer x line op now_on)
     kept_risen = record {
       took = λ k value e. not_landed value e;
-      reading = λ booting. clash (is_booting (phase s (line ∷ x.log))) booting booted;
+      reading = λ booting. never_both (is_booting (phase s (line ∷ x.log))) booting booted;
       checking = λ e. let check = check_given it (given disk.CheckMail e) in absurd (not_read check.rank check.own check.reads);
-      claiming = λ number e. clash (is_booting (phase s (line ∷ x.log))) ((claim_given it number (given (disk.WriteClaim number) e)).booting) booted;
+      claiming = λ number e. never_both (is_booting (phase s (line ∷ x.log))) ((claim_given it number (given (disk.WriteClaim number) e)).booting) booted;
       clearing = λ e. absurd (not_claimed (clear_given it (given disk.WriteClear e)));
       standing = λ b. record {
         claims = claimed_same it booted ∙ before.claims;
@@ -276,8 +280,8 @@ module _ {s : Settings} {t : Timing} {j top : ℕ} (x : TripleSeat) {line : Line
     }
 
     left_risen : (o : DiskOp) (k : ℕ) → IsOwn s x k o → KeepsTop before.number o
-    left_risen (disk.WriteClaim number) k own = let q : before.number ≡ number = some_same _ _ (sym before.claims ∙ own) in omega arith
-    left_risen (disk.WriteClose number) k own = clash (is_booting (phase s x.log)) was_booting (closing_booted made own)
+    left_risen (disk.WriteClaim number) k own = let q : before.number ≡ number = same_Some _ _ (sym before.claims ∙ own) in omega arith
+    left_risen (disk.WriteClose number) k own = never_both (is_booting (phase s x.log)) was_booting (closing_booted made own)
     left_risen disk.WriteClear k own = tt
     left_risen disk.ReadHeader k own = tt
     left_risen (disk.ReadSlot rank) k own = tt
@@ -291,7 +295,7 @@ module _ {s : Settings} {t : Timing} {j top : ℕ} (x : TripleSeat) {line : Line
     now = top;
     order = omega arith;
     held = record { kept = λ o. kept_booting booting; left = was.left; two = was.two; clean = was.clean };
-    rises = λ o booted. clash (is_booting (phase s (line ∷ x.log))) booting booted;
+    rises = λ o booted. never_both (is_booting (phase s (line ∷ x.log))) booting booted;
   }
   next_answer living false false booted was_booted = record {
     now = top;
@@ -305,8 +309,8 @@ module _ {s : Settings} {t : Timing} {j top : ℕ} (x : TripleSeat) {line : Line
       by_on false off = record {
         now = top;
         order = omega arith;
-        held = record { kept = λ o. clash now_on o off; left = was.left; two = was.two; clean = was.clean };
-        rises = λ o b. clash now_on o off;
+        held = record { kept = λ o. never_both now_on o off; left = was.left; two = was.two; clean = was.clean };
+        rises = λ o b. never_both now_on o off;
       }
       by_on true o = rise (living o)
         where
@@ -335,16 +339,16 @@ unfolding op_out phase
 kept_fresh x two = record {
   took = λ k value e. not_landed value e;
   reading = λ booting. fresh_read two;
-  checking = λ e. none_some _ e;
-  claiming = λ number e. none_some _ e;
-  clearing = λ e. none_some _ e;
+  checking = λ e. none_is_not_some _ e;
+  claiming = λ number e. none_is_not_some _ e;
+  clearing = λ e. none_is_not_some _ e;
   standing = λ booted. absurd (true≢false booted);
   own = λ k op there. none_in there;
 }
 
 module _ (s : Settings) (t : Timing) (j top : ℕ) (x : TripleSeat) (made : Made s j x.log) (was : Held s t j top x) where
   line_plain : (tick : ℕ) (entry : What) (past : List Line) → is_answer entry ≡ false → is_answer (line_of s j tick entry past).what ≡ false
-  line_plain tick entry past plain = ap is_answer (line_what s j tick entry past) ∙ read_plain s j past entry plain
+  line_plain tick entry past plain = ap is_answer (line_what s j tick entry past) ∙ read_answers_none s j past entry plain
 
   next_enters : (tick : ℕ) (entry : What) → Made s j (line_of s j tick entry x.log ∷ x.log) → x.on ≡ true → is_answer entry ≡ false → Next s t j top x (entered s j tick entry x)
   next_enters tick entry made' on plain =
@@ -355,19 +359,19 @@ module _ (s : Settings) (t : Timing) (j top : ℕ) (x : TripleSeat) (made : Made
   next_answers tick op made' on out =
       let answers = subst (λ o. answers_op o (answer_of op x.parts x.good) ≡ true) (sym out) (answer_answers op x.parts x.good) in
       let reads = line_what s j tick (answer_of op x.parts x.good) x.log ∙ (answer_fits s j x.log (answer_of op x.parts x.good) answers).1 in
-      next_answer x (made_line made') made was on op out reads _ (λ o. not_true (is_gone (phase s (line_of s j tick (answer_of op x.parts x.good) x.log ∷ x.log))) o) _ _ refl refl
+      next_answer x (made_line made') made was on op out reads _ (λ o. not-true (is_gone (phase s (line_of s j tick (answer_of op x.parts x.good) x.log ∷ x.log))) o) _ _ refl refl
 
   next_boots : (tick : ℕ) (clean : Bool) → Made s j (line_of s j tick (begin_of clean) [] ∷ []) → Next s t j top x (entered s j tick (begin_of clean) (fresh x))
   next_boots tick clean made' = record {
     now = top;
     order = omega arith;
     held = record {
-      kept = λ on'. kept_enter (fresh x) (made_line made') NoLine (kept_fresh x was.two) (line_plain tick (begin_of clean) [] (begin_plain clean)) _;
+      kept = λ on'. kept_enter (fresh x) (made_line made') NoLine (kept_fresh x was.two) (line_plain tick (begin_of clean) [] (begin_answers_none clean)) _;
       left = λ k op there. none_in there;
       two = was.two;
       clean = was.clean;
     };
-    rises = λ on' booted. never (booted_back (made_line made') (line_plain tick (begin_of clean) [] (begin_plain clean)) booted);
+    rises = λ on' booted. never (booted_back (made_line made') (line_plain tick (begin_of clean) [] (begin_answers_none clean)) booted);
   }
     where
       never : {P : Type 0} → is_booting (phase s []) ≡ false → P
@@ -414,7 +418,7 @@ module _ (s : Settings) (t : Timing) (j top : ℕ) (x : TripleSeat) (made : Made
       let written = kept_written x made (was.kept on) k op keeps (λ number is. out_claims made number (out ∙ ap Some is)) (λ number is. close_asked x.log number (out ∙ ap Some is)) in
       stays (record {
         kept = λ o. kept_landed (record x { slots = slots_after k op x.slots }) written k (taken s t j op w) pending (record { op = op; is = out; at = w; same = refl })
-            (λ booting rank own e. read_there k op w out mine booting rank own e) (λ number e. claim_there k op number (some_same _ _ (sym out ∙ e)));
+            (λ booting rank own e. read_there k op w out mine booting rank own e) (λ number e. claim_there k op number (same_Some _ _ (sym out ∙ e)));
         left = was.left;
         two = map_two (λ i above. above_after k op x.slots keeps i above) was.two;
         clean = clean_after k op x.slots keeps was.clean;

@@ -1,7 +1,10 @@
 -- What is always true of the slots of a node on three images, of the parts of its operation and of its leftovers.
 use Rattle.std.proofs.Common.{◌≡◌, ℕ, ◌<◌, ◌≤◌, Bool, true, false, [], ◌∷◌, ◌++◌, Some, None, Option, refl, sym, ap, ◌∙◌, subst, arith, if◌then◌else◌, ◌⊎◌, inl, inr}
 use Rattle.std.proofs.lemmas.Bool.{false≢true, true≢false}
+use Rattle.std.proofs.lemmas.Option.{same_Some}
 use Rattle.qn_base.specs.declared.ids.Rank.{Rank}
+use Rattle.qn_base.specs.lemmas.Bools.{never_both}
+use Rattle.qn_base.specs.lemmas.Elements.{IsIn}
 use Rattle.qn_model.specs.declared.configuration.Settings.{Settings}
 use Rattle.qn_model.specs.declared.times.Timing.{Timing}
 use Rattle.qn_model.specs.declared.disk.Slot.{Slot}
@@ -10,6 +13,7 @@ use Rattle.qn_model.specs.declared.entries.What.{What}
 use Rattle.qn_model.specs.declared.entries.What.TheVariants as what
 use Rattle.qn_model.specs.declared.outputs.DiskOp.{DiskOp}
 use Rattle.qn_model.specs.declared.outputs.DiskOp.TheVariants as disk
+use Rattle.qn_model.specs.lemmas.Moments.{put_same}
 use Rattle.qn_model.specs.Log.{Line, op_out, claimed, disk_of, is_answer, slot_number}
 use Rattle.qn_model.specs.Phases.{phase, is_booting}
 use Rattle.qn_model.specs.World.{World, put, taken, is_write}
@@ -17,14 +21,11 @@ use Rattle.qn_safety.specs.Closing.{asked_close}
 use Rattle.qn_safety.specs.declared.part.Part.{Part}
 use Rattle.qn_safety.specs.declared.part.Part.TheVariants.{Pending, Landed, Failed}
 use Rattle.qn_safety.specs.TripleWorld.{all_pending, leaves_over}
-use Rattle.qn_safety.proofs.Tools.{some_same, clash}
 use Rattle.qn_safety.proofs.Logs.{Made, IsLine}
 use Rattle.qn_safety.proofs.Stays.{op_kept}
 use Rattle.qn_safety.proofs.Numbers.{claim_given, number_kept}
 use Rattle.qn_safety.proofs.Outs.{out_cases, out_claims, out_closes, clear_given, check_given}
-use Rattle.qn_safety.proofs.Origins.{IsIn}
 use Rattle.qn_safety.proofs.Kept.{booting_op, booted_op}
-use Rattle.qn_safety.proofs.Seats.{put_same}
 use Rattle.qn_safety.proofs.TripleSets.{TwoOf, map_two, put_case, none_in, only_in, in_either}
 use Rattle.qn_safety.proofs.TripleSeats.{TripleSeat, slots_after, part_failed}
 use Rattle.qn_safety.proofs.TripleLogs.{booted_back, booting_back, plain_claimed, plain_number, close_asked, closing_booted, open_before, asked_on}
@@ -203,7 +204,7 @@ module _ {top : ℕ} (k : ℕ) (op : DiskOp) (slots : ℕ → Slot) (keeps : Kee
 module _ {s : Settings} {t : Timing} {j top : ℕ} (x : TripleSeat) (made : Made s j x.log) (kept : Kept s t j top x) (k : ℕ) (op : DiskOp) (keeps : KeepsTop top op)
     (claims : (number : ℕ) → op ≡ disk.WriteClaim number → claimed x.log ≡ Some number) (closes : (number : ℕ) → op ≡ disk.WriteClose number → asked_close x.log ≡ true) where
   closed_booted : {P : Type 0} (number : ℕ) → op ≡ disk.WriteClose number → is_booting (phase s x.log) ≡ true → P
-  closed_booted number is booting = clash (is_booting (phase s x.log)) booting (closing_booted made (closes number is))
+  closed_booted number is booting = never_both (is_booting (phase s x.log)) booting (closing_booted made (closes number is))
 
   own_written : (i : ℕ) (o : DiskOp) → IsOwn s x i o → IsOwn s (record x { slots = slots_after k op x.slots }) i o
   own_written i (disk.WriteClaim number) was = was
@@ -218,14 +219,14 @@ module _ {s : Settings} {t : Timing} {j top : ℕ} (x : TripleSeat) (made : Made
   -- a slot that has the claimed number and is dirty stays so
   dirty_after : (i number : ℕ) → claimed x.log ≡ Some number → (asked_close x.log ≡ false) → x.slots i ≡ dirty number → slots_after k op x.slots i ≡ dirty number
   dirty_after i number has open' was =
-      slot_case (λ c. c ≡ dirty number) k op x.slots i (λ n is. ap dirty (some_same _ _ (sym (claims n is) ∙ has))) (λ n is. clash (asked_close x.log) (closes n is) open') was
+      slot_case (λ c. c ≡ dirty number) k op x.slots i (λ n is. ap dirty (same_Some _ _ (sym (claims n is) ∙ has))) (λ n is. never_both (asked_close x.log) (closes n is) open') was
 
   booting_open : is_booting (phase s x.log) ≡ true → asked_close x.log ≡ false
   booting_open booting = by_asked (asked_close x.log) refl
     where
       by_asked : (b : Bool) → asked_close x.log ≡ b → asked_close x.log ≡ false
       by_asked false e = e
-      by_asked true e = clash (is_booting (phase s x.log)) booting (closing_booted made e)
+      by_asked true e = never_both (is_booting (phase s x.log)) booting (closing_booted made e)
 
   pub kept_written : Kept s t j top (record x { slots = slots_after k op x.slots })
   kept_written = record {
@@ -252,7 +253,7 @@ module _ {s : Settings} {t : Timing} {j top : ℕ} (x : TripleSeat) (made : Made
           claims = was.claims;
           good = was.good;
           two = λ open'. map_two (λ i stands. dirty_after i top was.claims open' stands) (was.two open');
-          below = λ open' i. slot_case (λ c. c.clean ≡ true → c.incarnation < top) k op x.slots i (λ n is e. absurd (false≢true e)) (λ n is. clash (asked_close x.log) (closes n is) open') (was.below open' i);
+          below = λ open' i. slot_case (λ c. c.clean ≡ true → c.incarnation < top) k op x.slots i (λ n is e. absurd (false≢true e)) (λ n is. never_both (asked_close x.log) (closes n is) open') (was.below open' i);
         };
     own = λ i o there. own_written i o (kept.own i o there);
   }
@@ -333,7 +334,7 @@ module _ {s : Settings} {t : Timing} {j top : ℕ} (x : TripleSeat) (made : Made
   own_given disk.WriteClear i out' same = record {
     out = λ booting. out';
     part = λ booting. failed_there same;
-    bad = λ booted. clash (is_booting (phase s x.log)) (booting_op made disk.WriteClear out' refl refl) booted;
+    bad = λ booted. never_both (is_booting (phase s x.log)) (booting_op made disk.WriteClear out' refl refl) booted;
   }
     where
       failed_there : k ≡ i → put x.parts k Failed i ≡ Failed
@@ -369,7 +370,7 @@ module _ {s : Settings} {t : Timing} {j top : ℕ} (x : TripleSeat) (made : Made
 pub keeps_out : {s : Settings} {t : Timing} {j top : ℕ} (x : TripleSeat) → Made s j x.log → Kept s t j top x → (op : DiskOp) → op_out x.log ≡ Some op → KeepsTop top op
 keeps_out x made kept (disk.WriteClaim number) out = let above = (kept.claiming number out).above in omega arith
 keeps_out {s = s} x made kept (disk.WriteClose number) out =
-    some_same _ _ (sym (out_closes made number out) ∙ (kept.standing (booted_op made (disk.WriteClose number) out refl)).claims)
+    same_Some _ _ (sym (out_closes made number out) ∙ (kept.standing (booted_op made (disk.WriteClose number) out refl)).claims)
 keeps_out x made kept disk.ReadHeader out = tt
 keeps_out x made kept (disk.ReadSlot rank) out = tt
 keeps_out x made kept disk.CheckMail out = tt

@@ -1,10 +1,14 @@
 -- How a line of a run of three images came, and what is carried along while an operation is out.
 use Rattle.std.proofs.Common.{◌≡◌, ℕ, suc, ◌≤◌, Bool, true, false, List, [], ◌∷◌, length, Some, None, Option, refl, sym, ap, ◌∙◌, subst, arith, if◌then◌else◌, ◌⊎◌, inl, inr}
 use Rattle.std.proofs.lemmas.Bool.{false≢true}
+use Rattle.qn_base.specs.lemmas.Options.{none_is_not_some}
+use Rattle.qn_base.specs.lemmas.Bools.{never_both}
 use Rattle.qn_model.specs.declared.configuration.Settings.{Settings}
 use Rattle.qn_model.specs.declared.times.Timing.{Timing}
 use Rattle.qn_model.specs.declared.entries.What.{What}
 use Rattle.qn_model.specs.declared.outputs.DiskOp.{DiskOp}
+use Rattle.qn_model.specs.lemmas.Entries.{read_answers_none}
+use Rattle.qn_model.specs.lemmas.Logs.{ask_place-within}
 use Rattle.qn_model.specs.Log.{Line, op_out, ask_place, is_answer}
 use Rattle.qn_model.specs.Fitting.{answers_op}
 use Rattle.qn_model.specs.Moments.{Before, Itself, Later, Moment, Adds, node}
@@ -12,19 +16,18 @@ use Rattle.qn_model.specs.World.{taken}
 use Rattle.qn_safety.specs.declared.triple_event.TripleEvent.{TripleEvent}
 use Rattle.qn_safety.specs.Timed.{IsSameBoot, IsBetween, AllRuled, IsAdded}
 use Rattle.qn_safety.specs.declared.part.Part.TheVariants.{Landed, Failed}
+use Rattle.qn_safety.specs.Answers.{answer_answers}
 use Rattle.qn_safety.specs.TripleWorld.{TripleWorld, image_of, op_of, answer_of}
 use Rattle.qn_safety.specs.TripleSteps.{landed_on, run_triple}
-use Rattle.qn_safety.proofs.Tools.{none_some, clash, before_then}
+use Rattle.qn_safety.specs.Earlier.{before_then}
 use Rattle.qn_safety.proofs.Logs.{Made, made_line}
 use Rattle.qn_safety.proofs.Stays.{op_kept, ask_place_kept}
-use Rattle.qn_safety.proofs.Outs.{answer_fits, read_plain}
+use Rattle.qn_safety.proofs.Outs.{answer_fits}
 use Rattle.qn_safety.proofs.Runs.{sound, ruled_before, newest_rule}
 use Rattle.qn_safety.proofs.Origins.{line_of, line_what, added_line, head_same}
 use Rattle.qn_safety.proofs.Licensed.{added_boots}
 use Rattle.qn_safety.proofs.Events.{newest_state, only_nothing}
-use Rattle.qn_safety.proofs.Landings.{ask_place_inside}
 use Rattle.qn_safety.proofs.TripleSets.{put_case}
-use Rattle.qn_safety.proofs.TripleAnswers.{answer_answers}
 use Rattle.qn_safety.proofs.TripleSeats.{seat_of, Effect, Rests, Enters, Answers, BootsUp, GoesOff, LandsOn, FailsOn, LateOn}
 use Rattle.qn_safety.proofs.TripleKept.{Kept, not_landed, failed_not_landed}
 use Rattle.qn_safety.proofs.TripleEvents.{IsAllowed, NoEvent, OneEvent, stage, effect_at, earlier_allowed, grows, first_moments, moments_grow}
@@ -59,7 +62,7 @@ module _ (s : Settings) (t : Timing) (j : ℕ) (entry : What) (line : Line) (pas
       omega arith)
   kind_of adds gave behind (Enters tick other on plain same) =
       let is : line ≡ line_of s j tick other (node s j w.moments).log = head_same (sym gave ∙ ap (λ x. x.log) same) in
-      Plain (ap (λ l. is_answer l.what) is ∙ ap is_answer (line_what s j tick other (node s j w.moments).log) ∙ read_plain s j (node s j w.moments).log other plain)
+      Plain (ap (λ l. is_answer l.what) is ∙ ap is_answer (line_what s j tick other (node s j w.moments).log) ∙ read_answers_none s j (node s j w.moments).log other plain)
   kind_of adds gave behind (Answers tick op on out same) =
       let answer : What = answer_of op (w.parts j) (w.good j) in
       let is : line ≡ line_of s j tick (answer_of op (w.parts j) (w.good j)) (node s j w.moments).log = head_same (sym gave ∙ ap (λ x. x.log) same) in
@@ -131,7 +134,7 @@ pub record Seen (s : Settings) (i : ℕ) (Gone : List Moment → Type 0) (now : 
   pub gone : Gone at
 
 pub seen_now : {s : Settings} {i : ℕ} {Gone : List Moment → Type 0} (now : List Moment) → (node s i now).on ≡ true → Gone now → Seen s i Gone now
-seen_now {s = s} {i = i} now on gone = record { at = now; back = Itself; same = refl; on = on; place = ask_place_inside (node s i now).log; gone = gone }
+seen_now {s = s} {i = i} now on gone = record { at = now; back = Itself; same = refl; on = on; place = ask_place-within (node s i now).log; gone = gone }
 
 -- a seen moment lies between the asking for an answer and the answer
 pub between_of : {s : Settings} {t : Timing} {Gone : List Moment → Type 0} {events : List TripleEvent} (j : ℕ) (line : Line) (past : List Line) (before : List Moment) → IsAllowed s t events
@@ -146,7 +149,7 @@ pub between_here : {s : Settings} {t : Timing} {events : List TripleEvent} (j : 
     → IsAdded s j line past before (run_triple s t events).moments → (node s j before).on ≡ true → IsBetween s j line before before
 between_here {s = s} j line past before allowed added on =
     let asked = asked_le j line past before allowed added in
-    let inside = ask_place_inside (node s j before).log in
+    let inside = ask_place-within (node s j before).log in
     record { back = Itself; same = refl; on = on; since = omega arith }
 
 -- a part that has landed had done so, or it lands with the event
@@ -188,7 +191,7 @@ carry {s = s} {t = t} {e = e} {earlier = earlier} i allowed on (Enters tick entr
     made' = subst (λ l. Made s i l) (ap (λ x. x.log) same) ((sound ((stage allowed).ruled) i).made)
 
     no_answer : is_answer (line_of s i tick entry log).what ≡ false
-    no_answer = ap is_answer (line_what s i tick entry log) ∙ read_plain s i log entry plain
+    no_answer = ap is_answer (line_what s i tick entry log) ∙ read_answers_none s i log entry plain
 
     by_out : (o : Option DiskOp) → op_of s i (run_triple s t earlier) ≡ o
         → Carried s t i (run_triple s t earlier) (run_triple s t (e ∷ earlier)) ⊎ ((k : ℕ) (value : What) → (run_triple s t (e ∷ earlier)).parts i k ≡ Landed value → ⊥)
@@ -199,7 +202,7 @@ carry {s = s} {t = t} {e = e} {earlier = earlier} i allowed on (Enters tick entr
       out = ap (λ x. op_out x.log) same ∙ op_kept (made_line made') op out no_answer ∙ sym out;
       parts = λ k value landed. WasThere (sym (ap (λ x. x.parts k) same) ∙ landed);
     })
-    by_out None out = inr (λ k value landed. let was = kept.took k value (sym (ap (λ x. x.parts k) same) ∙ landed) in none_some was.op (sym out ∙ was.is))
+    by_out None out = inr (λ k value landed. let was = kept.took k value (sym (ap (λ x. x.parts k) same) ∙ landed) in none_is_not_some was.op (sym out ∙ was.is))
 carry i allowed on (Answers tick op on_before out same) = inr (λ k value landed. not_landed value (sym (ap (λ x. x.parts k) same) ∙ landed))
 carry i allowed on (BootsUp tick clean off same) = inr (λ k value landed. not_landed value (sym (ap (λ x. x.parts k) same) ∙ landed))
 carry i allowed on (GoesOff on_before same) = absurd (false≢true (sym (ap (λ x. x.on) same) ∙ on))
@@ -250,7 +253,7 @@ module _ {s : Settings} {t : Timing} (i : ℕ) (About : Option DiskOp → Type 0
 
   pub watch : {events : List TripleEvent} → IsAllowed s t events → (node s i (run_triple s t events).moments).on ≡ true → About (op_of s i (run_triple s t events))
       → Seen s i Gone (run_triple s t events).moments ⊎ Follows (run_triple s t events)
-  watch NoEvent on about = clash (node s i (run_triple s t []).moments).on on (ap (λ ms. (node s i ms).on) (first_moments s t) ∙ never_on)
+  watch NoEvent on about = never_both (node s i (run_triple s t []).moments).on on (ap (λ ms. (node s i ms).on) (first_moments s t) ∙ never_on)
     where
       never_on : (node s i []).on ≡ false
       never_on = unfold node in refl

@@ -2,6 +2,7 @@
 use Rattle.std.proofs.Common.{◌≡◌, ℕ, Bool, true, false, List, [], ◌∷◌, Some, None, Option, refl, sym, ap, ◌∙◌, subst, if◌then◌else◌, ◌||◌, ◌⊎◌, inl, inr}
 use Rattle.std.specs.Option.{option_or}
 use Rattle.std.proofs.lemmas.Bool.{false≢true, true≢false, or_parts}
+use Rattle.std.proofs.lemmas.Option.{same_Some}
 use Rattle.qn_model.specs.declared.configuration.Settings.{Settings}
 use Rattle.qn_model.specs.declared.entries.What.{What}
 use Rattle.qn_model.specs.declared.entries.What.TheVariants as what
@@ -10,14 +11,17 @@ use Rattle.qn_model.specs.declared.life.Phase.TheVariants.{Booting, Up, Leaving,
 use Rattle.qn_model.specs.declared.outputs.DiskOp.{DiskOp}
 use Rattle.qn_model.specs.declared.outputs.DiskOp.TheVariants as disk
 use Rattle.qn_base.specs.declared.ids.Rank.{Rank}
+use Rattle.qn_base.specs.lemmas.Options.{none_is_not_some}
+use Rattle.qn_base.specs.lemmas.Bools.{never_both}
+use Rattle.qn_model.specs.lemmas.Logs.{op_out-newest}
+use Rattle.qn_model.specs.lemmas.Entries.{fitting_answers}
 use Rattle.qn_model.specs.Log.{Line, op_out, begins_clean, claimed, claim_of, disk_of, is_answer, number_read, slot_number}
 use Rattle.qn_model.specs.Phases.{phase, next_phase, in_time, is_booting, is_live, deadly_of, message_of}
 use Rattle.qn_model.specs.Fitting.{answers_op, is_claimed, is_cleared}
 use Rattle.qn_model.specs.NodeOutputs.{outs_at, taken_in, boot_outs, live_outs, mail_feeds}
 use Rattle.qn_model.specs.Moments.{Itself, Later}
 use Rattle.qn_safety.specs.Closing.{is_close, asked_close}
-use Rattle.qn_safety.proofs.Tools.{none_some, some_same, clash}
-use Rattle.qn_safety.proofs.Logs.{Made, NoLine, OneMore, IsLine, answers_out, ask_line}
+use Rattle.qn_safety.proofs.Logs.{Made, NoLine, OneMore, IsLine, ask_line}
 use Rattle.qn_safety.proofs.Apt.{slot_answers, check_answers}
 use Rattle.qn_safety.proofs.Stays.{boot_past, op_kept, is_over, closed_never, close_stays}
 use Rattle.qn_safety.proofs.Times.{boot_tick}
@@ -31,14 +35,14 @@ booted_back {s = s} {me = me} {line = line} {past = past} it plain booted = by_p
   where
     by_phase : (b : Bool) → is_booting (phase s past) ≡ b → is_booting (phase s past) ≡ false
     by_phase false e = e
-    by_phase true e = clash (is_booting (phase s (line ∷ past))) (boot_tick s me past line.what (in_time line.tick past) plain it.fitting e) booted
+    by_phase true e = never_both (is_booting (phase s (line ∷ past))) (boot_tick s me past line.what (in_time line.tick past) plain it.fitting e) booted
 
 pub booting_back : {s : Settings} {me : ℕ} {line : Line} {past : List Line} → IsLine s me line past → is_booting (phase s (line ∷ past)) ≡ true → is_booting (phase s past) ≡ true
 booting_back {s = s} {line = line} {past = past} it booting = by_phase (is_booting (phase s past)) refl
   where
     by_phase : (b : Bool) → is_booting (phase s past) ≡ b → is_booting (phase s past) ≡ true
     by_phase true e = e
-    by_phase false e = clash (is_booting (phase s (line ∷ past))) booting (boot_past it e)
+    by_phase false e = never_both (is_booting (phase s (line ∷ past))) booting (boot_past it e)
 
 -- an entry that answers nothing claims nothing
 pub plain_claimed : {s : Settings} {me : ℕ} {line : Line} {past : List Line} → IsLine s me line past → is_answer line.what ≡ false → claimed (line ∷ past) ≡ claimed past
@@ -46,7 +50,7 @@ plain_claimed {s = s} {line = line} {past = past} it plain = by_cases (claimed_c
   where
     by_cases : (claimed (line ∷ past) ≡ claimed past) ⊎ ((number : ℕ) × (claimed (line ∷ past) ≡ Some number) × ClaimGiven s line past number) → claimed (line ∷ past) ≡ claimed past
     by_cases (inl same) = same
-    by_cases (inr claim) = clash (is_answer line.what) claim.2.answers plain
+    by_cases (inr claim) = never_both (is_answer line.what) claim.2.answers plain
 
 pub plain_number : (entry : What) → is_answer entry ≡ false → number_read entry ≡ None
 plain_number (what.SlotRead rank seen) is = absurd (true≢false is)
@@ -86,7 +90,7 @@ given_out line past op is out = by_given (disk_of line.outs) (is_answer line.wha
   where
     by_given : (given : Option DiskOp) (answer : Bool) → disk_of line.outs ≡ given → answer ≡ true → option_or given (if answer then None else op_out past) ≡ Some op → disk_of line.outs ≡ Some op
     by_given (Some other) answer gave is' same = gave ∙ same
-    by_given None true gave is' none = none_some op none
+    by_given None true gave is' none = none_is_not_some op none
     by_given None false gave is' was = absurd (false≢true is')
 
 -- the claim is out, or the clear behind it
@@ -119,18 +123,14 @@ phase_of : (s : Settings) (line : Line) (past : List Line) (entry : What) → li
 unfolding phase
 phase_of s line past entry reads = ap (λ e. next_phase s e (in_time line.tick past) (phase s past)) reads
 
-out_now : (line : Line) (past : List Line) (op : DiskOp) → disk_of line.outs ≡ Some op → op_out (line ∷ past) ≡ Some op
-unfolding op_out
-out_now line past op gave = ap (λ o. option_or o (if is_answer line.what then None else op_out past)) gave
-
 module _ {s : Settings} {me : ℕ} {line : Line} {past : List Line} (it : IsLine s me line past) (booting : is_booting (phase s (line ∷ past)) ≡ true) where
   claim_answered : (ok : Bool) → line.what ≡ what.Claimed ok → LateOut (line ∷ past)
-  claim_answered true reads = ClearOut (out_now line past disk.WriteClear (clear_comes it (booting_back it booting) reads))
-  claim_answered false reads = clash (is_booting (phase s (line ∷ past))) booting (ap is_booting (phase_of s line past (what.Claimed false) reads))
+  claim_answered true reads = ClearOut (op_out-newest line past disk.WriteClear (clear_comes it (booting_back it booting) reads))
+  claim_answered false reads = never_both (is_booting (phase s (line ∷ past))) booting (ap is_booting (phase_of s line past (what.Claimed false) reads))
 
   clear_answered : (ok : Bool) → line.what ≡ what.Cleared ok → LateOut (line ∷ past)
-  clear_answered true reads = clash (is_booting (phase s (line ∷ past))) booting (ap is_booting (phase_of s line past (what.Cleared true) reads))
-  clear_answered false reads = clash (is_booting (phase s (line ∷ past))) booting (ap is_booting (phase_of s line past (what.Cleared false) reads))
+  clear_answered true reads = never_both (is_booting (phase s (line ∷ past))) booting (ap is_booting (phase_of s line past (what.Cleared true) reads))
+  clear_answered false reads = never_both (is_booting (phase s (line ∷ past))) booting (ap is_booting (phase_of s line past (what.Cleared false) reads))
 
   late_step : LateOut past → LateOut (line ∷ past)
   late_step was = by_answer (is_answer line.what) refl was
@@ -139,9 +139,9 @@ module _ {s : Settings} {me : ℕ} {line : Line} {past : List Line} (it : IsLine
       by_answer false plain (ClaimOut number out) = ClaimOut number (op_kept it (disk.WriteClaim number) out plain)
       by_answer false plain (ClearOut out) = ClearOut (op_kept it disk.WriteClear out plain)
       by_answer true is (ClaimOut number out) =
-          let reads = claimed_is line.what (subst (λ o. answers_op o line.what ≡ true) out (answers_out s me past line.what is it.fitting)) in claim_answered reads.0 reads.1
+          let reads = claimed_is line.what (subst (λ o. answers_op o line.what ≡ true) out (fitting_answers s me past line.what is it.fitting)) in claim_answered reads.0 reads.1
       by_answer true is (ClearOut out) =
-          let reads = cleared_is line.what (subst (λ o. answers_op o line.what ≡ true) out (answers_out s me past line.what is it.fitting)) in clear_answered reads.0 reads.1
+          let reads = cleared_is line.what (subst (λ o. answers_op o line.what ≡ true) out (fitting_answers s me past line.what is it.fitting)) in clear_answered reads.0 reads.1
 
 nothing_claimed : claimed [] ≡ None
 unfolding claimed
@@ -149,7 +149,7 @@ nothing_claimed = refl
 
 claimed_here : (line : Line) (past : List Line) (number : ℕ) (op : DiskOp) → disk_of line.outs ≡ Some op → claimed (line ∷ past) ≡ Some number → LateOut (line ∷ past) ⊎ (claimed past ≡ Some number)
 unfolding claimed
-claimed_here line past number (disk.WriteClaim n) gave claims = inl (ClaimOut n (out_now line past (disk.WriteClaim n) gave))
+claimed_here line past number (disk.WriteClaim n) gave claims = inl (ClaimOut n (op_out-newest line past (disk.WriteClaim n) gave))
 claimed_here line past number disk.ReadHeader gave claims = inr (ap (λ o. option_or (claim_of o) (claimed past)) (sym gave) ∙ claims)
 claimed_here line past number (disk.ReadSlot rank) gave claims = inr (ap (λ o. option_or (claim_of o) (claimed past)) (sym gave) ∙ claims)
 claimed_here line past number disk.CheckMail gave claims = inr (ap (λ o. option_or (claim_of o) (claimed past)) (sym gave) ∙ claims)
@@ -170,7 +170,7 @@ claimed_line line past number claims = by_given (disk_of line.outs) refl
 
 -- while a node boots that has claimed a number, the claim or the clear is out
 pub claim_late : {s : Settings} {me : ℕ} {log : List Line} → Made s me log → is_booting (phase s log) ≡ true → (number : ℕ) → claimed log ≡ Some number → LateOut log
-claim_late NoLine booting number claims = none_some number (sym nothing_claimed ∙ claims)
+claim_late NoLine booting number claims = none_is_not_some number (sym nothing_claimed ∙ claims)
 claim_late {s = s} (OneMore {line = line} {past = past} it made) booting number claims =
     by_line (claimed_line line past number claims) (λ was. claim_late made (booting_back it booting) number was)
   where
@@ -183,7 +183,7 @@ pub claim_first : {s : Settings} {me : ℕ} {line : Line} {past : List Line} →
 claim_first {s = s} {me = me} {line = line} {past = past} it made number claim = by_claimed (claimed past) refl
   where
     answers : answers_op (op_out past) line.what ≡ true
-    answers = answers_out s me past line.what claim.answers it.fitting
+    answers = fitting_answers s me past line.what claim.answers it.fitting
 
     early : (op_out past ≡ Some disk.CheckMail) ⊎ ((rank : Rank) × (op_out past ≡ Some (disk.ReadSlot rank)))
     early = by_from claim.from
@@ -195,10 +195,10 @@ claim_first {s = s} {me = me} {line = line} {past = past} it made number claim =
         by_from (ByCheck seen reads next) = inl (check_answers (op_out past) seen (subst (λ e. answers_op (op_out past) e ≡ true) reads answers))
 
     no_late : LateOut past → (op_out past ≡ Some disk.CheckMail) ⊎ ((rank : Rank) × (op_out past ≡ Some (disk.ReadSlot rank))) → ⊥
-    no_late (ClaimOut n out) (inl check) = let q = some_same _ _ (sym out ∙ check) in cc
-    no_late (ClaimOut n out) (inr read) = let q = some_same _ _ (sym out ∙ read.1) in cc
-    no_late (ClearOut out) (inl check) = let q = some_same _ _ (sym out ∙ check) in cc
-    no_late (ClearOut out) (inr read) = let q = some_same _ _ (sym out ∙ read.1) in cc
+    no_late (ClaimOut n out) (inl check) = let q = same_Some _ _ (sym out ∙ check) in cc
+    no_late (ClaimOut n out) (inr read) = let q = same_Some _ _ (sym out ∙ read.1) in cc
+    no_late (ClearOut out) (inl check) = let q = same_Some _ _ (sym out ∙ check) in cc
+    no_late (ClearOut out) (inr read) = let q = same_Some _ _ (sym out ∙ read.1) in cc
 
     by_claimed : (c : Option ℕ) → claimed past ≡ c → claimed past ≡ None
     by_claimed None e = e

@@ -2,7 +2,10 @@
 use Rattle.std.proofs.Common.{◌≡◌, ℕ, ◌<◌, Bool, true, false, List, ◌∷◌, length, Some, None, Option, refl, sym, ap, ◌∙◌, subst, arith, ◌||◌, not, ◌⊎◌, inl, inr}
 use Rattle.std.specs.Option.{option_map_or}
 use Rattle.std.proofs.lemmas.Bool.{false≢true}
+use Rattle.std.proofs.lemmas.Option.{same_Some}
 use Rattle.qn_base.specs.declared.ids.Rank.{Rank}
+use Rattle.qn_base.specs.lemmas.Bools.{never_both}
+use Rattle.qn_base.specs.lemmas.Elements.{IsIn}
 use Rattle.qn_model.specs.declared.configuration.Settings.{Settings}
 use Rattle.qn_model.specs.declared.times.Timing.{Timing}
 use Rattle.qn_model.specs.declared.disk.Message.{Message}
@@ -14,6 +17,9 @@ use Rattle.qn_model.specs.declared.events.Event.{Event}
 use Rattle.qn_model.specs.declared.events.Event.TheVariants as event
 use Rattle.qn_model.specs.declared.outputs.DiskOp.{DiskOp}
 use Rattle.qn_model.specs.declared.outputs.DiskOp.TheVariants as disk
+use Rattle.qn_model.specs.lemmas.Rules.{allowed}
+use Rattle.qn_model.specs.lemmas.Moments.{put_same}
+use Rattle.qn_model.specs.lemmas.Logs.{ask_place-within}
 use Rattle.qn_model.specs.Log.{ask_place, is_answer}
 use Rattle.qn_model.specs.Phases.{phase, message_of, is_booting}
 use Rattle.qn_model.specs.Sectors.{is_deadly}
@@ -30,15 +36,12 @@ use Rattle.qn_safety.specs.declared.part.Part.TheVariants.{Landed}
 use Rattle.qn_safety.specs.TripleWorld.{TripleWorld, put_on, image_of, op_of, counting, needs_good, message_among, messages_among, together, answer_of, good_after, mailboxes_on}
 use Rattle.qn_safety.specs.TripleRules.{refusal_triple}
 use Rattle.qn_safety.specs.TripleSteps.{landed_on, failed_on, done_triple, lands_late_on, step_of_one, step_triple, run_triple}
-use Rattle.qn_safety.proofs.Tools.{some_same, clash, before_length, before_tail, before_total, before_same}
+use Rattle.qn_safety.specs.Earlier.{before_length, before_tail, before_total, before_same}
 use Rattle.qn_safety.proofs.Logs.{Made}
 use Rattle.qn_safety.proofs.Rests.{write_is}
 use Rattle.qn_safety.proofs.Runs.{sound, ruled_before, span, same_mid}
-use Rattle.qn_safety.proofs.Origins.{IsIn}
 use Rattle.qn_safety.proofs.Fence.{mail_is_answer, up_later}
-use Rattle.qn_safety.proofs.Seats.{put_same, allows}
 use Rattle.qn_safety.proofs.Kept.{booting_op}
-use Rattle.qn_safety.proofs.Landings.{ask_place_inside}
 use Rattle.qn_safety.proofs.TripleSets.{TwoOf, meet, put_case, numbered_in}
 use Rattle.qn_safety.proofs.TripleAnswers.{CountsAt, AnswerIs, FewCount, TwoCount, answer_is, written_answer, mail_in, deadly_told}
 use Rattle.qn_safety.proofs.TripleSeats.{seat_of, Effect, Rests, Enters, Answers, BootsUp, GoesOff, LandsOn, FailsOn, LateOn}
@@ -68,14 +71,14 @@ module _ (s : Settings) (t : Timing) (j k top : ℕ) (w : TripleWorld) (made : M
   no_clear_out : (r : ℕ) (op : DiskOp) → op_of s r w ≡ Some op → r ≡ j → op ≡ disk.WriteClear → ⊥
   no_clear_out r op out same clear =
       let own : op_of s j w ≡ Some disk.WriteClear = subst (λ q. op_of s q w ≡ Some disk.WriteClear) same (out ∙ ap Some clear) in
-      clash (is_booting (phase s (node s j w.moments).log)) (booting_op made disk.WriteClear own refl refl) up.booted
+      never_both (is_booting (phase s (node s j w.moments).log)) (booting_op made disk.WriteClear own refl refl) up.booted
 
   -- a clear that is left over is on no good image
   no_clear_left : (r n number : ℕ) (op : DiskOp) → numbered (w.left r n) number ≡ Some op → r ≡ j → n ≡ k → op ≡ disk.WriteClear → ⊥
   no_clear_left r n number op there same here clear =
       let own : numbered (w.left j k) number ≡ Some disk.WriteClear = subst (λ q. numbered (w.left q k) number ≡ Some disk.WriteClear) same
       (subst (λ m. numbered (w.left r m) number ≡ Some disk.WriteClear) here (there ∙ ap Some clear)) in
-      clash (w.good j k) good ((kept.own k disk.WriteClear (numbered_in (w.left j k) number disk.WriteClear own)).bad up.booted)
+      never_both (w.good j k) good ((kept.own k disk.WriteClear (numbered_in (w.left j k) number disk.WriteClear own)).bad up.booted)
 
   by_rule : (a b c : Bool) → (a || not b || not c) ≡ true → b ≡ true → c ≡ true → a ≡ true
   by_rule true b c may holds runs = refl
@@ -135,7 +138,7 @@ module _ (s : Settings) (t : Timing) (j k top : ℕ) (w : TripleWorld) (made : M
       by_op : (o : Option DiskOp) → numbered (w.left rank.0 n) number ≡ o → is_deadly ((option_map_or (λ op. lands_late_on rank.0 n number op w) o w).mailboxes j k) ≡ true
       by_op None e = deadly
       by_op (Some op) e = deadly_on rank.0 n j k op w.mailboxes (no_clear_left rank.0 n number op e) deadly
-  mail_step (triple.OperatorOn rank n sent) ok = deadly_sent rank.0 n sent (allows (may_operate s rank.0 sent (image_of n w)) 10 ok)
+  mail_step (triple.OperatorOn rank n sent) ok = deadly_sent rank.0 n sent (allowed (may_operate s rank.0 sent (image_of n w)) 10 ok)
 
 -- the good images of a node that is up stay
 same_good : (op : DiskOp) (parts : ℕ → Part) (good : ℕ → Bool) (k : ℕ) → (op ≡ disk.WriteClear → ⊥) → good_after op parts good k ≡ good k
@@ -153,8 +156,8 @@ good_kept (Rests e) made up k = ap (λ x. x.good k) e
 good_kept (Enters tick entry on plain e) made up k = ap (λ x. x.good k) e
 good_kept {s = s} {j = j} {w = w} (Answers tick op on out e) made up k =
     ap (λ x. x.good k) e
-    ∙ same_good op (w.parts j) (w.good j) k (λ same. clash (is_booting (phase s (node s j w.moments).log)) (booting_op made disk.WriteClear (out ∙ ap Some same) refl refl) up.booted)
-good_kept {s = s} {j = j} {w = w} (BootsUp tick clean off e) made up k = clash (node s j w.moments).on up.on off
+    ∙ same_good op (w.parts j) (w.good j) k (λ same. never_both (is_booting (phase s (node s j w.moments).log)) (booting_op made disk.WriteClear (out ∙ ap Some same) refl refl) up.booted)
+good_kept {s = s} {j = j} {w = w} (BootsUp tick clean off e) made up k = never_both (node s j w.moments).on up.on off
 good_kept (GoesOff on e) made up k = ap (λ x. x.good k) e
 good_kept (LandsOn n op on out pending all e) made up k = ap (λ x. x.good k) e
 good_kept (FailsOn n op on out e) made up k = ap (λ x. x.good k) e
@@ -217,7 +220,7 @@ module _ {s : Settings} {t : Timing} (j : ℕ) (There : ℕ → Type 0) (p : Lis
     deadly = deadly;
     took = λ k found there good landed late.
         absurd (let place : ask_place (node s j (run_triple s t old).moments).log ≡ ask_place (node s j p).log = ap (λ ms. ask_place (node s j ms).log) (sym is) in
-        let inside = ask_place_inside (node s j p).log in
+        let inside = ask_place-within (node s j p).log in
         omega arith);
   }
   bad_mail_on {old = old} (Later newest {new = new} more) allowed is up deadly same on =
@@ -234,7 +237,7 @@ plain_no_mail entry plain = by_test (feeds_on (message_of entry)) refl
   where
     by_test : (b : Bool) → feeds_on (message_of entry) ≡ b → feeds_on (message_of entry) ≡ false
     by_test false e = e
-    by_test true e = clash (is_answer entry) (mail_is_answer entry e) plain
+    by_test true e = never_both (is_answer entry) (mail_is_answer entry e) plain
 
 failed_no_mail : (op : DiskOp) → feeds_on (message_of (failed op)) ≡ false
 unfolding failed
@@ -265,7 +268,7 @@ answer_no_feed {s = s} {t = t} {j = j} {There = There} w op kept out two bad lat
     deadly_value : op ≡ disk.ReadMail → (k : ℕ) × There k × CountsAt op (w.parts j) (w.good j) k → is_deadly (message_among (messages_among (counting op (w.parts j) (w.good j)))) ≡ true
     deadly_value is (k, there, counts) =
         let took = kept.took k counts.value counts.landed in
-        let same : took.op ≡ disk.ReadMail = some_same _ _ (sym took.is ∙ out) ∙ is in
+        let same : took.op ≡ disk.ReadMail = same_Some _ _ (sym took.is ∙ out) ∙ is in
         let read : counts.value ≡ what.MailRead (mail.Read (took.at.mailboxes j)) = took.same ∙ ap (λ o. taken s t j o took.at) same ∙ read_mail took.at in
         let deadly = bad.took k (took.at.mailboxes j) there (counts.fine (ap needs_good is)) (counts.landed ∙ ap Landed read) late in
         deadly_told (took.at.mailboxes j) _ (mail_in (took.at.mailboxes j) (counting op (w.parts j) (w.good j)) (subst (λ v. IsIn v (counting op (w.parts j) (w.good j))) read counts.told)) deadly
@@ -307,7 +310,7 @@ module _ {s : Settings} {t : Timing} {events : List TripleEvent} (allowed : IsAl
           let to_p : Before before (run_triple s t since).moments = subst (λ ms. Before ms (run_triple s t since).moments) it.same (moments_grow s t second) in
           let equal : before ≡ (run_triple s t since).moments = before_same to_p (before_length p_before) in
           let place : ask_place (node s j before).log ≡ ask_place (node s j (run_triple s t since).moments).log = ap (λ ms. ask_place (node s j ms).log) equal in
-          let inside = ask_place_inside (node s j (run_triple s t since).moments).log in
+          let inside = ask_place-within (node s j (run_triple s t since).moments).log in
           omega arith)
 
       by_kind : LineKind s j line (run_triple s t it.earlier) → feeds_on (message_of line.what) ≡ false
@@ -319,8 +322,8 @@ up_or_not : (s : Settings) (j : ℕ) (p : List Moment) → (IsUp s j p → ⊥) 
 up_or_not s j p = by_tests (node s j p).on (is_booting (phase s (node s j p).log)) refl refl
   where
     by_tests : (a b : Bool) → (node s j p).on ≡ a → is_booting (phase s (node s j p).log) ≡ b → (IsUp s j p → ⊥) ⊎ IsUp s j p
-    by_tests false b off e = inl (λ up. clash (node s j p).on up.on off)
-    by_tests true true on booting = inl (λ up. clash (is_booting (phase s (node s j p).log)) booting up.booted)
+    by_tests false b off e = inl (λ up. never_both (node s j p).on up.on off)
+    by_tests true true on booting = inl (λ up. never_both (is_booting (phase s (node s j p).log)) booting up.booted)
     by_tests true false on booted = inr (record { on = on; booted = booted })
 
 -- a reset of node j
@@ -345,7 +348,7 @@ module _ {s : Settings} {t : Timing} (i j : ℕ) where
       by_part : PartCase s t i (run_triple s t earlier) (run_triple s t (e ∷ earlier)) k value → is_deadly ((run_triple s t (e ∷ earlier)).mailboxes j k) ≡ true
       by_part (WasThere before) = deadly_after j allowed up k good (was k value before (good_before j allowed up k good))
       by_part (JustLanded op out all is) =
-          ap is_deadly (ap (λ w. w.mailboxes j k) all ∙ ap (λ o. mailboxes_on i k o (run_triple s t earlier).mailboxes j k) (some_same _ _ (sym out ∙ about.is))
+          ap is_deadly (ap (λ w. w.mailboxes j k) all ∙ ap (λ o. mailboxes_on i k o (run_triple s t earlier).mailboxes j k) (same_Some _ _ (sym out ∙ about.is))
           ∙ ap (λ r. put_on (run_triple s t earlier).mailboxes r k message.Reset j k) about.own
           ∙ ap (λ (f : ℕ → Message). f k) (put_same (run_triple s t earlier).mailboxes j (put ((run_triple s t earlier).mailboxes j) k message.Reset))
           ∙ put_same ((run_triple s t earlier).mailboxes j) k message.Reset)
@@ -361,7 +364,7 @@ written_means_bad_mail {s = s} {t = t} {events = events} allowed i j line past b
     allowed_then = allowed_before (before_tail it.back) allowed
 
     by_kind : LineKind s i line (run_triple s t it.earlier) → (between : List Moment) × IsBetween s i line before between × GetsBadMail s j between (run_triple s t events).moments
-    by_kind (Plain plain) = clash (is_answer line.what) (ap is_answer (write_is j line.what writes).1) plain
+    by_kind (Plain plain) = never_both (is_answer line.what) (ap is_answer (write_is j line.what writes).1) plain
     by_kind (Told op out told) =
         let answer = written_answer j op ((run_triple s t it.earlier).parts i) ((run_triple s t it.earlier).good i) (subst (λ v. writes_reset j v ≡ true) told writes) in
         by_watch (watch i (ResetsNode j) (λ p. IsUp s j p → ⊥) (IsUp s j) (ResetThere i j) (up_or_not s j) (reset_starts i j) (reset_goes_on i j) allowed_then it.on

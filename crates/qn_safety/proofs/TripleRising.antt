@@ -1,5 +1,7 @@
 -- The numbers of the incarnations of one node on three images rise: what one event does to the number of the last one.
 use Rattle.std.proofs.Common.{◌≡◌, ℕ, ◌<◌, ◌≤◌, true, false, List, [], ◌∷◌, Some, refl, sym, ap, ◌∙◌, subst, arith, ◌⊎◌, inl, inr}
+use Rattle.std.proofs.lemmas.Option.{same_Some}
+use Rattle.qn_base.specs.lemmas.Bools.{never_both}
 use Rattle.qn_model.specs.declared.configuration.Settings.{Settings}
 use Rattle.qn_model.specs.declared.times.Timing.{Timing}
 use Rattle.qn_model.specs.Log.{incarnation}
@@ -7,7 +9,6 @@ use Rattle.qn_model.specs.Phases.{phase, is_booting}
 use Rattle.qn_model.specs.Moments.{Before, Moment, node}
 use Rattle.qn_safety.specs.Timed.{IsUp, AllRuled}
 use Rattle.qn_safety.specs.TripleWorld.{TripleWorld, first_triple}
-use Rattle.qn_safety.proofs.Tools.{some_same, clash}
 use Rattle.qn_safety.proofs.Runs.{sound}
 use Rattle.qn_safety.proofs.Numbers.{up_number}
 use Rattle.qn_safety.proofs.Events.{newest_state, only_nothing}
@@ -31,7 +32,7 @@ same_boots : {s : Settings} {t : Timing} {j : ℕ} {w w' : TripleWorld} → Effe
 same_boots (Rests e) on = ap (λ x. x.boots) e
 same_boots (Enters tick entry o plain e) on = ap (λ x. x.boots) e
 same_boots (Answers tick op o out e) on = ap (λ x. x.boots) e
-same_boots {s = s} {j = j} {w = w} (BootsUp tick clean off e) on = clash (node s j w.moments).on on off
+same_boots {s = s} {j = j} {w = w} (BootsUp tick clean off e) on = never_both (node s j w.moments).on on off
 same_boots (GoesOff o e) on = ap (λ x. x.boots) e
 same_boots (LandsOn k op o out pending all e) on = ap (λ x. x.boots) e
 same_boots (FailsOn k op o out e) on = ap (λ x. x.boots) e
@@ -44,7 +45,7 @@ up_top {j = j} w ruled held up number has =
     let state = sound ruled j in
     let named = up_number state.made up.booted (state.living up.on) in
     let claims = ((held.kept up.on).standing up.booted).claims in
-    some_same _ _ (sym has ∙ named.has ∙ sym named.claims ∙ claims)
+    same_Some _ _ (sym has ∙ named.has ∙ sym named.claims ∙ claims)
 
 module _ {s : Settings} {t : Timing} (j : ℕ) (w w' : TripleWorld) (ruled : AllRuled s t w.moments) (ruled' : AllRuled s t w'.moments) (growth : Growth w.moments w'.moments)
     (effect : Effect s t j w w') (was : Height s t j w) where
@@ -94,6 +95,6 @@ pub first_height : (s : Settings) (t : Timing) (j : ℕ) → Height s t j first_
 first_height s t j = record {
   top = 0;
   held = first_held s t j;
-  past = λ number p back up has. clash (node s j p).on up.on (ap (λ ms. (node s j ms).on) (only_nothing back) ∙ never_on s j);
-  fresh = λ up number p back up' less has. clash (node s j p).on up'.on (ap (λ ms. (node s j ms).on) (only_nothing back) ∙ never_on s j);
+  past = λ number p back up has. never_both (node s j p).on up.on (ap (λ ms. (node s j ms).on) (only_nothing back) ∙ never_on s j);
+  fresh = λ up number p back up' less has. never_both (node s j p).on up'.on (ap (λ ms. (node s j ms).on) (only_nothing back) ∙ never_on s j);
 }

@@ -13,21 +13,11 @@ use Rattle.qn_model.specs.declared.life.Why.{Why}
 use Rattle.qn_model.specs.declared.life.Why.TheVariants as why
 use Rattle.qn_model.specs.declared.events.Event.TheVariants as event
 use Rattle.qn_model.specs.declared.reports.Report.{Report}
-use Rattle.qn_model.specs.Log.{op_out, ask_place, ask_tick, begins_clean, claimed, slot_number, timing}
-use Rattle.qn_model.specs.NodeVotes.{view, install, votes}
-use Rattle.qn_model.specs.Votes.{answer_at, present_view, view_tick, is_released, expected_votes, device_yes}
-use Rattle.qn_model.specs.Phases.{phase}
-use Rattle.qn_model.specs.Holding.{holds, stop_due, may_stop}
-use Rattle.qn_model.specs.Hearing.{told}
-use Rattle.qn_model.specs.Licences.{out_time, slot_read_since, reset_since}
+use Rattle.qn_model.specs.lemmas.WorldSteps.{world_steps}
+use Rattle.qn_model.specs.lemmas.TwoNodes.{two_nodes}
+use Rattle.qn_model.specs.NodeVotes.{votes}
 use Rattle.qn_model.specs.Timing.{usual_times}
-use Rattle.qn_model.specs.Unmet.{least_from, unmet}
-use Rattle.qn_model.specs.Wanted.{mail_tick, wanted_with_delay}
-use Rattle.qn_model.specs.NodeOutputs.{moment, acts, outs_at, with_entry}
-use Rattle.qn_model.specs.Moments.{logged, handed, booted, time, node, given_out, packets}
-use Rattle.qn_model.specs.World.{taken, failed}
-use Rattle.qn_model.specs.Rules.{is_well_formed, refusal}
-use Rattle.qn_model.specs.Steps.{step, report}
+use Rattle.qn_model.specs.Steps.{report}
 use Rattle.qn_safety.specs.declared.triple_event.TripleEvent.{TripleEvent}
 use Rattle.qn_safety.specs.declared.triple_event.TripleEvent.TheVariants as triple
 use Rattle.qn_safety.specs.TripleWorld.{TripleWorld, first_triple, answer_of}
@@ -45,20 +35,6 @@ one_node =
       window = 10000;
       device = None;
       expected = 1;
-      tie = None;
-    }
-
--- two nodes of one vote each with two_node and without wait_for_all, with ids 1 and 2
-abbrev two_nodes : Settings
-two_nodes =
-    record {
-      nodes = record { id = record { 0 = 1 }; votes = 1; fence_delay = 0 } ∷ record { id = record { 0 = 2 }; votes = 1; fence_delay = 0 } ∷ [];
-      two_node = true;
-      wait_for_all = false;
-      last_man_standing = false;
-      window = 10000;
-      device = None;
-      expected = 2;
       tie = None;
     }
 
@@ -93,7 +69,8 @@ run_on s w (event ∷ later) = run_on s (step_triple s usual_times event w) late
 unfoldable refused_by : Settings → TripleWorld → List TripleEvent → TripleEvent → Option ℕ
 refused_by s w [] last = if is_well_formed_triple s last then refusal_triple s usual_times last w else Some 0
 refused_by s w (event ∷ later) last =
-    if is_well_formed_triple s event && is_none (refusal_triple s usual_times event w) then refused_by s (step_triple s usual_times event w) later last
+    if is_well_formed_triple s event && is_none (refusal_triple s usual_times event w)
+    then refused_by s (step_triple s usual_times event w) later last
     else Some 0
 
 -- what a last event reports, after others
@@ -112,86 +89,101 @@ says outs holders quorate votes condition =
       why = condition;
     }
 
+-- what the rows compute with
+triple_steps : Bool
+unfolding world_steps report answer_of is_well_formed_triple refusal_triple step_triple report_triple run_on refused_by
+triple_steps = true
+
 -- row A: a node boots with its third image lost, and starts
 abbrev up_without_three : List TripleEvent
 up_without_three = boot first ∷ two_of_three first ++ two_of_three first ++ two_of_three first ++ two_of_three first
 
-row_a_reads : reported one_node (boot first ∷ two_of_three first ++ two_of_three first ++ two_of_three first ++ triple.LandOn first 1 ∷ triple.LandOn first 2 ∷ triple.FailOn first 3 ∷ []) (done first)
+row_a_reads : reported one_node
+    (boot first ∷ two_of_three first ++ two_of_three first ++ two_of_three first
+    ++ triple.LandOn first 1 ∷ triple.LandOn first 2 ∷ triple.FailOn first 3 ∷ []) (done first)
     ≡ says (out.Feed ∷ out.Disk disk.ReadMail ∷ []) 0 false 0 why.NoView
-unfolding op_out ask_place ask_tick claimed timing begins_clean slot_number view install votes answer_at present_view view_tick is_released expected_votes device_yes phase holds stop_due may_stop told out_time slot_read_since reset_since least_from unmet mail_tick wanted_with_delay moment acts outs_at with_entry logged handed booted time node given_out packets taken failed is_well_formed refusal step report answer_of is_well_formed_triple refusal_triple step_triple report_triple run_on
+unfolding triple_steps
 row_a_reads = refl
 
 row_a_starts : reported one_node up_without_three (view_of first 1) ≡ says (out.Start ∷ []) 1 true 1 why.Holding
-unfolding op_out ask_place ask_tick claimed timing begins_clean slot_number view install votes answer_at present_view view_tick is_released expected_votes device_yes phase holds stop_due may_stop told out_time slot_read_since reset_since least_from unmet mail_tick wanted_with_delay moment acts outs_at with_entry logged handed booted time node given_out packets taken failed is_well_formed refusal step report answer_of is_well_formed_triple refusal_triple step_triple report_triple run_on
+unfolding triple_steps
 row_a_starts = refl
 
--- row B: the clear that failed on the third image lands there late, and the read fails on the second: no feed comes out, also
--- where the read lands on the third image, which is not a good one
+-- row B: the clear that failed on the third image lands there late, and the read fails on the second: no feed comes
+-- out, also where the read lands on the third image, which is not a good one
 abbrev one_good : List TripleEvent
-one_good = up_without_three ++ view_of first 1 ∷ triple.LateOn first 3 2 ∷ triple.LandOn first 1 ∷ triple.FailOn first 2 ∷ []
+one_good =
+    up_without_three ++ view_of first 1 ∷ triple.LateOn first 3 2 ∷ triple.LandOn first 1 ∷ triple.FailOn first 2 ∷ []
 
 row_b_fails : reported one_node (one_good ++ triple.FailOn first 3 ∷ []) (done first) ≡ says [] 1 true 1 why.Holding
-unfolding op_out ask_place ask_tick claimed timing begins_clean slot_number view install votes answer_at present_view view_tick is_released expected_votes device_yes phase holds stop_due may_stop told out_time slot_read_since reset_since least_from unmet mail_tick wanted_with_delay moment acts outs_at with_entry logged handed booted time node given_out packets taken failed is_well_formed refusal step report answer_of is_well_formed_triple refusal_triple step_triple report_triple run_on
+unfolding triple_steps
 row_b_fails = refl
 
 row_b_lands : reported one_node (one_good ++ triple.LandOn first 3 ∷ []) (done first) ≡ says [] 1 true 1 why.Holding
-unfolding op_out ask_place ask_tick claimed timing begins_clean slot_number view install votes answer_at present_view view_tick is_released expected_votes device_yes phase holds stop_due may_stop told out_time slot_read_since reset_since least_from unmet mail_tick wanted_with_delay moment acts outs_at with_entry logged handed booted time node given_out packets taken failed is_well_formed refusal step report answer_of is_well_formed_triple refusal_triple step_triple report_triple run_on
+unfolding triple_steps
 row_b_lands = refl
 
 row_b_is_allowed : refused_by one_node first_triple (one_good ++ triple.LandOn first 3 ∷ []) (done first) ≡ None
-unfolding op_out ask_place ask_tick claimed timing begins_clean slot_number view install votes answer_at present_view view_tick is_released expected_votes device_yes phase holds stop_due may_stop told out_time slot_read_since reset_since least_from unmet mail_tick wanted_with_delay moment acts outs_at with_entry logged handed booted time node given_out packets taken failed is_well_formed refusal step report answer_of is_well_formed_triple refusal_triple step_triple report_triple refused_by
+unfolding triple_steps
 row_b_is_allowed = refl
 
 -- row C: the header is read on one image alone
-row_c : reported one_node (boot first ∷ triple.LandOn first 1 ∷ triple.FailOn first 2 ∷ triple.FailOn first 3 ∷ []) (done first)
+row_c : reported one_node (boot first ∷ triple.LandOn first 1 ∷ triple.FailOn first 2 ∷ triple.FailOn first 3 ∷ [])
+    (done first)
     ≡ says (out.Halt (halt.Boot cause.ReadFailed) ∷ []) 0 false 0 why.Down
-unfolding op_out ask_place ask_tick claimed timing begins_clean slot_number view install votes answer_at present_view view_tick is_released expected_votes device_yes phase holds stop_due may_stop told out_time slot_read_since reset_since least_from unmet mail_tick wanted_with_delay moment acts outs_at with_entry logged handed booted time node given_out packets taken failed is_well_formed refusal step report answer_of is_well_formed_triple refusal_triple step_triple report_triple run_on
+unfolding triple_steps
 row_c = refl
 
 -- what names no image is refused, an answer waits for each part, and rule 3 comes first but for a late write
 no_image_named : refused_by one_node first_triple (boot first ∷ []) (triple.One (event.Land first)) ≡ Some 4
-unfolding op_out ask_place ask_tick claimed timing begins_clean slot_number view install votes answer_at present_view view_tick is_released expected_votes device_yes phase holds stop_due may_stop told out_time slot_read_since reset_since least_from unmet mail_tick wanted_with_delay moment acts outs_at with_entry logged handed booted time node given_out packets taken failed is_well_formed refusal step report answer_of is_well_formed_triple refusal_triple step_triple report_triple refused_by
+unfolding triple_steps
 no_image_named = refl
 
 no_image_failed : refused_by one_node first_triple (boot first ∷ []) (triple.One (event.Fail first)) ≡ Some 5
-unfolding op_out ask_place ask_tick claimed timing begins_clean slot_number view install votes answer_at present_view view_tick is_released expected_votes device_yes phase holds stop_due may_stop told out_time slot_read_since reset_since least_from unmet mail_tick wanted_with_delay moment acts outs_at with_entry logged handed booted time node given_out packets taken failed is_well_formed refusal step report answer_of is_well_formed_triple refusal_triple step_triple report_triple refused_by
+unfolding triple_steps
 no_image_failed = refl
 
 off_comes_first : refused_by one_node first_triple [] (triple.One (event.Land first)) ≡ Some 3
-unfolding op_out ask_place ask_tick claimed timing begins_clean slot_number view install votes answer_at present_view view_tick is_released expected_votes device_yes phase holds stop_due may_stop told out_time slot_read_since reset_since least_from unmet mail_tick wanted_with_delay moment acts outs_at with_entry logged handed booted time node given_out packets taken failed is_well_formed refusal step report answer_of is_well_formed_triple refusal_triple step_triple report_triple refused_by
+unfolding triple_steps
 off_comes_first = refl
 
 late_off : refused_by one_node first_triple [] (triple.One (event.Late first 1)) ≡ Some 6
-unfolding op_out ask_place ask_tick claimed timing begins_clean slot_number view install votes answer_at present_view view_tick is_released expected_votes device_yes phase holds stop_due may_stop told out_time slot_read_since reset_since least_from unmet mail_tick wanted_with_delay moment acts outs_at with_entry logged handed booted time node given_out packets taken failed is_well_formed refusal step report answer_of is_well_formed_triple refusal_triple step_triple report_triple refused_by
+unfolding triple_steps
 late_off = refl
 
 operator_unnamed : refused_by one_node first_triple [] (triple.One (event.Operator first message.Reset)) ≡ Some 10
-unfolding op_out ask_place ask_tick claimed timing begins_clean slot_number view install votes answer_at present_view view_tick is_released expected_votes device_yes phase holds stop_due may_stop told out_time slot_read_since reset_since least_from unmet mail_tick wanted_with_delay moment acts outs_at with_entry logged handed booted time node given_out packets taken failed is_well_formed refusal step report answer_of is_well_formed_triple refusal_triple step_triple report_triple refused_by
+unfolding triple_steps
 operator_unnamed = refl
 
 lands_once : refused_by one_node first_triple (boot first ∷ triple.LandOn first 1 ∷ []) (triple.LandOn first 1) ≡ Some 4
-unfolding op_out ask_place ask_tick claimed timing begins_clean slot_number view install votes answer_at present_view view_tick is_released expected_votes device_yes phase holds stop_due may_stop told out_time slot_read_since reset_since least_from unmet mail_tick wanted_with_delay moment acts outs_at with_entry logged handed booted time node given_out packets taken failed is_well_formed refusal step report answer_of is_well_formed_triple refusal_triple step_triple report_triple refused_by
+unfolding triple_steps
 lands_once = refl
 
-fails_after_it_landed : refused_by one_node first_triple (boot first ∷ triple.LandOn first 1 ∷ triple.FailOn first 1 ∷ []) (triple.FailOn first 1) ≡ Some 5
-unfolding op_out ask_place ask_tick claimed timing begins_clean slot_number view install votes answer_at present_view view_tick is_released expected_votes device_yes phase holds stop_due may_stop told out_time slot_read_since reset_since least_from unmet mail_tick wanted_with_delay moment acts outs_at with_entry logged handed booted time node given_out packets taken failed is_well_formed refusal step report answer_of is_well_formed_triple refusal_triple step_triple report_triple refused_by
+fails_after_it_landed : refused_by one_node first_triple
+    (boot first ∷ triple.LandOn first 1 ∷ triple.FailOn first 1 ∷ []) (triple.FailOn first 1) ≡ Some 5
+unfolding triple_steps
 fails_after_it_landed = refl
 
-waits_for_each_part : refused_by one_node first_triple (boot first ∷ triple.LandOn first 1 ∷ triple.LandOn first 2 ∷ []) (done first) ≡ Some 5
-unfolding op_out ask_place ask_tick claimed timing begins_clean slot_number view install votes answer_at present_view view_tick is_released expected_votes device_yes phase holds stop_due may_stop told out_time slot_read_since reset_since least_from unmet mail_tick wanted_with_delay moment acts outs_at with_entry logged handed booted time node given_out packets taken failed is_well_formed refusal step report answer_of is_well_formed_triple refusal_triple step_triple report_triple refused_by
+waits_for_each_part : refused_by one_node first_triple
+    (boot first ∷ triple.LandOn first 1 ∷ triple.LandOn first 2 ∷ []) (done first) ≡ Some 5
+unfolding triple_steps
 waits_for_each_part = refl
 
-operator_spares_a_reset : refused_by one_node first_triple (up_without_three ++ triple.OperatorOn first 2 message.Reset ∷ []) (triple.OperatorOn first 2 message.Empty) ≡ Some 10
-unfolding op_out ask_place ask_tick claimed timing begins_clean slot_number view install votes answer_at present_view view_tick is_released expected_votes device_yes phase holds stop_due may_stop told out_time slot_read_since reset_since least_from unmet mail_tick wanted_with_delay moment acts outs_at with_entry logged handed booted time node given_out packets taken failed is_well_formed refusal step report answer_of is_well_formed_triple refusal_triple step_triple report_triple refused_by
+operator_spares_a_reset : refused_by one_node first_triple
+    (up_without_three ++ triple.OperatorOn first 2 message.Reset ∷ []) (triple.OperatorOn first 2 message.Empty)
+    ≡ Some 10
+unfolding triple_steps
 operator_spares_a_reset = refl
 
--- A node still feeds after its reset was answered as written: the reset landed on the first image before the clear of the
--- node's boot, and on the second one after it, where that clear failed. The node came up after the reset had landed on the
--- first image, so it starts only with a licence for the writer or a word of it.
+-- A node still feeds after its reset was answered as written: the reset landed on the first image before the clear of
+-- the node's boot, and on the second one after it, where that clear failed. The node came up after the reset had
+-- landed on the first image, so it starts only with a licence for the writer or a word of it.
 abbrev reset_is_out : List TripleEvent
 reset_is_out =
-    boot second ∷ all_three second ++ all_three second ++ all_three second ++ all_three second ++ boot first ∷ all_three first ++ all_three first
-    ++ all_three first ++ all_three first ++ view_of first 1 ∷ all_three first ++ triple.LandOn first 1 ∷ triple.LandOn first 2 ∷ triple.LandOn first 3 ∷ []
+    boot second ∷ all_three second ++ all_three second ++ all_three second ++ all_three second
+    ++ boot first ∷ all_three first ++ all_three first
+    ++ all_three first ++ all_three first ++ view_of first 1 ∷ all_three first
+    ++ triple.LandOn first 1 ∷ triple.LandOn first 2 ∷ triple.LandOn first 3 ∷ []
 
 abbrev clear_is_out : List TripleEvent
 clear_is_out =
@@ -200,43 +192,46 @@ clear_is_out =
 
 abbrev clear_is_done : List TripleEvent
 clear_is_done =
-    clear_is_out ++ done second ∷ triple.LandOn first 1 ∷ triple.LandOn second 1 ∷ triple.FailOn second 2 ∷ triple.LandOn second 3 ∷ []
+    clear_is_out ++ done second ∷ triple.LandOn first 1 ∷ triple.LandOn second 1 ∷ triple.FailOn second 2
+    ∷ triple.LandOn second 3 ∷ []
 
 abbrev reset_is_written : List TripleEvent
 reset_is_written = clear_is_done ++ done second ∷ triple.LandOn first 2 ∷ triple.FailOn first 3 ∷ []
 
 abbrev mail_is_read : List TripleEvent
-mail_is_read = reset_is_written ++ done first ∷ triple.LandOn second 1 ∷ triple.LandOn second 2 ∷ triple.LandOn second 3 ∷ []
+mail_is_read =
+    reset_is_written ++ done first ∷ triple.LandOn second 1 ∷ triple.LandOn second 2 ∷ triple.LandOn second 3 ∷ []
 
 abbrev mail_is_read_again : List TripleEvent
 mail_is_read_again =
-    mail_is_read ++ done second ∷ triple.One (event.Feed second) ∷ triple.One (event.Pass 1000 []) ∷ triple.One (event.Tick second)
+    mail_is_read ++ done second ∷ triple.One (event.Feed second) ∷ triple.One (event.Pass 1000 [])
+    ∷ triple.One (event.Tick second)
     ∷ triple.LandOn second 1 ∷ triple.LandOn second 2 ∷ triple.LandOn second 3 ∷ []
 
 asks_for_the_reset : (reported two_nodes reset_is_out (done first)).outs ≡ out.Disk (disk.WriteReset second) ∷ []
-unfolding op_out ask_place ask_tick claimed timing begins_clean slot_number view install votes answer_at present_view view_tick is_released expected_votes device_yes phase holds stop_due may_stop told out_time slot_read_since reset_since least_from unmet mail_tick wanted_with_delay moment acts outs_at with_entry logged handed booted time node given_out packets taken failed is_well_formed refusal step report answer_of is_well_formed_triple refusal_triple step_triple report_triple run_on
+unfolding triple_steps
 asks_for_the_reset = refl
 
 asks_for_the_clear : (reported two_nodes clear_is_out (done second)).outs ≡ out.Feed ∷ out.Disk disk.WriteClear ∷ []
-unfolding op_out ask_place ask_tick claimed timing begins_clean slot_number view install votes answer_at present_view view_tick is_released expected_votes device_yes phase holds stop_due may_stop told out_time slot_read_since reset_since least_from unmet mail_tick wanted_with_delay moment acts outs_at with_entry logged handed booted time node given_out packets taken failed is_well_formed refusal step report answer_of is_well_formed_triple refusal_triple step_triple report_triple run_on
+unfolding triple_steps
 asks_for_the_clear = refl
 
 comes_up : (reported two_nodes clear_is_done (done second)).outs ≡ out.Feed ∷ out.Disk disk.ReadMail ∷ []
-unfolding op_out ask_place ask_tick claimed timing begins_clean slot_number view install votes answer_at present_view view_tick is_released expected_votes device_yes phase holds stop_due may_stop told out_time slot_read_since reset_since least_from unmet mail_tick wanted_with_delay moment acts outs_at with_entry logged handed booted time node given_out packets taken failed is_well_formed refusal step report answer_of is_well_formed_triple refusal_triple step_triple report_triple run_on
+unfolding triple_steps
 comes_up = refl
 
 reset_written : (reported two_nodes reset_is_written (done first)).why ≡ why.Unfenced (record { 0 = 2 }) true 10000
-unfolding op_out ask_place ask_tick claimed timing begins_clean slot_number view install votes answer_at present_view view_tick is_released expected_votes device_yes phase holds stop_due may_stop told out_time slot_read_since reset_since least_from unmet mail_tick wanted_with_delay moment acts outs_at with_entry logged handed booted time node given_out packets taken failed is_well_formed refusal step report answer_of is_well_formed_triple refusal_triple step_triple report_triple run_on
+unfolding triple_steps
 reset_written = refl
 
 feeds_on : (reported two_nodes mail_is_read (done second)).outs ≡ out.Feed ∷ []
-unfolding op_out ask_place ask_tick claimed timing begins_clean slot_number view install votes answer_at present_view view_tick is_released expected_votes device_yes phase holds stop_due may_stop told out_time slot_read_since reset_since least_from unmet mail_tick wanted_with_delay moment acts outs_at with_entry logged handed booted time node given_out packets taken failed is_well_formed refusal step report answer_of is_well_formed_triple refusal_triple step_triple report_triple run_on
+unfolding triple_steps
 feeds_on = refl
 
 feeds_again : (reported two_nodes mail_is_read_again (done second)).outs ≡ out.Feed ∷ []
-unfolding op_out ask_place ask_tick claimed timing begins_clean slot_number view install votes answer_at present_view view_tick is_released expected_votes device_yes phase holds stop_due may_stop told out_time slot_read_since reset_since least_from unmet mail_tick wanted_with_delay moment acts outs_at with_entry logged handed booted time node given_out packets taken failed is_well_formed refusal step report answer_of is_well_formed_triple refusal_triple step_triple report_triple run_on
+unfolding triple_steps
 feeds_again = refl
 
 feeding_is_allowed : refused_by two_nodes first_triple mail_is_read_again (done second) ≡ None
-unfolding op_out ask_place ask_tick claimed timing begins_clean slot_number view install votes answer_at present_view view_tick is_released expected_votes device_yes phase holds stop_due may_stop told out_time slot_read_since reset_since least_from unmet mail_tick wanted_with_delay moment acts outs_at with_entry logged handed booted time node given_out packets taken failed is_well_formed refusal step report answer_of is_well_formed_triple refusal_triple step_triple report_triple refused_by
+unfolding triple_steps
 feeding_is_allowed = refl

@@ -3,13 +3,14 @@
 use Rattle.std.proofs.Common.{◌≡◌, ℕ, suc, Bool, true, false, List, [], ◌∷◌, ◌++◌, Some, None, refl, sym, ap, ◌∙◌, subst, ◌==◌, not, if◌then◌else◌, is_some}
 use Rattle.std.specs.Option.{option_map_or}
 use Rattle.std.specs.Prelude.{slice_get}
-use Rattle.std.proofs.lemmas.Bool.{false≢true, eqb-true, eq-eqb}
+use Rattle.std.proofs.lemmas.Bool.{false≢true, eqb-true, not-true}
 use Rattle.qn_base.specs.declared.ids.Rank.{Rank}
 use Rattle.qn_base.specs.Members.{is_member}
+use Rattle.qn_base.specs.lemmas.Options.{value_there, value_tested}
+use Rattle.qn_base.specs.lemmas.Bools.{first_of_both, second_of_both}
 use Rattle.qn_model.specs.declared.configuration.Settings.{Settings}
 use Rattle.qn_model.specs.declared.times.Timing.{Timing}
 use Rattle.qn_model.specs.declared.disk.Slot.{Slot}
-use Rattle.qn_model.specs.declared.packets.Packet.{Packet}
 use Rattle.qn_model.specs.declared.packets.Packet.TheVariants as packet
 use Rattle.qn_model.specs.declared.packets.Sent.{Sent}
 use Rattle.qn_model.specs.declared.entries.What.{What}
@@ -17,10 +18,13 @@ use Rattle.qn_model.specs.declared.entries.What.TheVariants as what
 use Rattle.qn_model.specs.declared.events.Event.TheVariants as event
 use Rattle.qn_model.specs.declared.outputs.DiskOp.{DiskOp}
 use Rattle.qn_model.specs.declared.outputs.DiskOp.TheVariants as disk
+use Rattle.qn_model.specs.lemmas.Entries.{packet_answers_none}
+use Rattle.qn_model.specs.lemmas.Rules.{allowed, both_allowed}
+use Rattle.qn_model.specs.lemmas.Moments.{node_adds, node_boots, put_same, put_other, adds_apart, boots_apart, ends_apart, node_ends}
 use Rattle.qn_model.specs.Log.{Line, op_out, is_answer}
 use Rattle.qn_model.specs.Phases.{phase}
 use Rattle.qn_model.specs.NodeOutputs.{with_entry}
-use Rattle.qn_model.specs.Moments.{Moment, Passes, Boots, Adds, Feeds, Ends, Running, tick_of, is_gone, logged, handed, begin_of, booted, time, node, packets}
+use Rattle.qn_model.specs.Moments.{Passes, Adds, Feeds, Running, tick_of, is_gone, logged, handed, begin_of, booted, time, node, packets}
 use Rattle.qn_model.specs.World.{put, taken, numbered, without}
 use Rattle.qn_model.specs.Rules.{refusal, is_on, may_be_stopped, may_be_late, may_deliver}
 use Rattle.qn_model.specs.Steps.{happens, entry_of, step}
@@ -31,10 +35,8 @@ use Rattle.qn_safety.specs.declared.part.Part.TheVariants.{Pending, Landed, Fail
 use Rattle.qn_safety.specs.TripleWorld.{TripleWorld, all_pending, all_good, none_left, image_of, nodes_of, op_of, is_pending, has_failed, leaves_over, answer_of, good_after, slots_on}
 use Rattle.qn_safety.specs.TripleRules.{refusal_triple, may_land_on, may_fail_on, may_be_done_triple, none_pending}
 use Rattle.qn_safety.specs.TripleSteps.{happens_triple, landed_on, failed_on, done_triple, ends_triple, boots_triple, lands_late_on, step_triple}
-use Rattle.qn_safety.proofs.Tools.{and_left_of, and_right_of, not_true}
-use Rattle.qn_safety.proofs.Runs.{added_node, booted_node}
 use Rattle.qn_safety.proofs.Origins.{line_of}
-use Rattle.qn_safety.proofs.Seats.{put_same, put_other, allows, both_allow, running_allows, is_there, test_there}
+use Rattle.qn_safety.proofs.Seats.{running_allows}
 
 -- the part of the world that is one node's; the last four by image
 pub record TripleSeat : Type 0 where
@@ -96,9 +98,6 @@ pub data Effect (s : Settings) (t : Timing) (j : ℕ) (w w' : TripleWorld) : Typ
   FailsOn : (k : ℕ) (op : DiskOp) → (node s j w.moments).on ≡ true → op_of s j w ≡ Some op → seat_of s j w' ≡ part_failed k op (seat_of s j w) → Effect s t j w w'
   LateOn : (k number : ℕ) (op : DiskOp) → numbered (w.left j k) number ≡ Some op → seat_of s j w' ≡ late k number op (seat_of s j w) → Effect s t j w w'
 
-own_test : (i : ℕ) → (i == i) ≡ true
-own_test i = eq-eqb i i refl
-
 slots_own : (j k : ℕ) (op : DiskOp) (slots : ℕ → ℕ → Slot) → slots_on j k op slots j ≡ slots_after k op (slots j)
 slots_own j k (disk.WriteClaim number) slots = put_same slots j (put (slots j) k (record { incarnation = number; clean = false }))
 slots_own j k (disk.WriteClose number) slots = put_same slots j (put (slots j) k (record { incarnation = number; clean = true }))
@@ -133,23 +132,6 @@ booted_seat : (s : Settings) (j now base : ℕ) (clean : Bool) (n : Running) (p 
 unfolding booted handed logged with_entry line_of
 booted_seat s j now base clean n p l g c = refl
 
--- the node of another rank does not change
-node_apart_adds : (s : Settings) (r j : ℕ) (entry : What) (ms : List Moment) → (r == j) ≡ false → node s j (Adds r entry ∷ ms) ≡ node s j ms
-unfolding node
-node_apart_adds s r j entry ms e = ap (λ b. if b then handed s j (time ms) entry (node s j ms) else node s j ms) e
-
-node_apart_boots : (s : Settings) (r j base : ℕ) (clean : Bool) (ms : List Moment) → (r == j) ≡ false → node s j (Boots r base clean ∷ ms) ≡ node s j ms
-unfolding node
-node_apart_boots s r j base clean ms e = ap (λ b. if b then booted s j (time ms) base clean (node s j ms) else node s j ms) e
-
-node_apart_ends : (s : Settings) (r j : ℕ) (ms : List Moment) → (r == j) ≡ false → node s j (Ends r ∷ ms) ≡ node s j ms
-unfolding node
-node_apart_ends s r j ms e = ap (λ b. if b then record (node s j ms) { on = false } else node s j ms) e
-
-node_own_ends : (s : Settings) (j : ℕ) (ms : List Moment) → node s j (Ends j ∷ ms) ≡ record (node s j ms) { on = false }
-unfolding node
-node_own_ends s j ms = ap (λ b. if b then record (node s j ms) { on = false } else node s j ms) (own_test j)
-
 seat_passes : (s : Settings) (j dt : ℕ) (clocks : List (Rank × ℕ)) (w : TripleWorld) → seat_of s j (happens_triple (Passes dt clocks) w) ≡ seat_of s j w
 unfolding node
 seat_passes s j dt clocks w = refl
@@ -169,12 +151,12 @@ module _ (s : Settings) (t : Timing) where
     where
       own : Effect s t r w (happens_triple (Adds r entry) w)
       own = Enters (tick_of (node s r w.moments).clock) entry on plain
-          (seat_same _ _ _ _ _ _ _ _ _ _ (added_node s r entry w.moments) refl refl refl refl
+          (seat_same _ _ _ _ _ _ _ _ _ _ (node_adds s r entry w.moments) refl refl refl refl
           ∙ handed_seat s r (time w.moments) entry (node s r w.moments) (w.parts r) (w.left r) (w.good r) (w.slots r))
 
       by_owner : (b : Bool) → (r == j) ≡ b → Effect s t j w (happens_triple (Adds r entry) w)
       by_owner true e = subst (λ k. Effect s t k w (happens_triple (Adds r entry) w)) (eqb-true r j e) own
-      by_owner false e = Rests (seat_same _ _ _ _ _ _ _ _ _ _ (node_apart_adds s r j entry w.moments e) refl refl refl refl)
+      by_owner false e = Rests (seat_same _ _ _ _ _ _ _ _ _ _ (adds_apart s r j entry w.moments e) refl refl refl refl)
 
   effect_done : (r j : ℕ) (op : DiskOp) (w : TripleWorld) → (node s r w.moments).on ≡ true → op_of s r w ≡ Some op → Effect s t j w (done_triple r op w)
   effect_done r j op w on out = by_owner (r == j) refl
@@ -184,13 +166,13 @@ module _ (s : Settings) (t : Timing) where
 
       own : Effect s t r w (done_triple r op w)
       own = Answers (tick_of (node s r w.moments).clock) op on out
-          (seat_same _ _ _ _ _ _ _ _ _ _ (added_node s r entry w.moments) (put_same w.parts r all_pending) refl (put_same w.good r (good_after op (w.parts r) (w.good r))) refl
+          (seat_same _ _ _ _ _ _ _ _ _ _ (node_adds s r entry w.moments) (put_same w.parts r all_pending) refl (put_same w.good r (good_after op (w.parts r) (w.good r))) refl
           ∙ ap (λ (x : TripleSeat). record x { parts = all_pending; good = good_after op (w.parts r) (w.good r) })
           (handed_seat s r (time w.moments) entry (node s r w.moments) (w.parts r) (w.left r) (w.good r) (w.slots r)))
 
       by_owner : (b : Bool) → (r == j) ≡ b → Effect s t j w (done_triple r op w)
       by_owner true e = subst (λ k. Effect s t k w (done_triple r op w)) (eqb-true r j e) own
-      by_owner false e = Rests (seat_same _ _ _ _ _ _ _ _ _ _ (node_apart_adds s r j entry w.moments e) (put_other w.parts r j all_pending e) refl
+      by_owner false e = Rests (seat_same _ _ _ _ _ _ _ _ _ _ (adds_apart s r j entry w.moments e) (put_other w.parts r j all_pending e) refl
           (put_other w.good r j (good_after op (w.parts r) (w.good r)) e) refl)
 
   effect_boots : (r j base : ℕ) (clean : Bool) (w : TripleWorld) → (node s r w.moments).on ≡ false → Effect s t j w (boots_triple r base clean w)
@@ -198,12 +180,12 @@ module _ (s : Settings) (t : Timing) where
     where
       own : Effect s t r w (boots_triple r base clean w)
       own = BootsUp (tick_of base) clean off
-          (seat_same _ _ _ _ _ _ _ _ _ _ (booted_node s r base clean w.moments) (put_same w.parts r all_pending) (put_same w.left r none_left) (put_same w.good r all_good) refl
+          (seat_same _ _ _ _ _ _ _ _ _ _ (node_boots s r base clean w.moments) (put_same w.parts r all_pending) (put_same w.left r none_left) (put_same w.good r all_good) refl
           ∙ booted_seat s r (time w.moments) base clean (node s r w.moments) (w.parts r) (w.left r) (w.good r) (w.slots r))
 
       by_owner : (b : Bool) → (r == j) ≡ b → Effect s t j w (boots_triple r base clean w)
       by_owner true e = subst (λ k. Effect s t k w (boots_triple r base clean w)) (eqb-true r j e) own
-      by_owner false e = Rests (seat_same _ _ _ _ _ _ _ _ _ _ (node_apart_boots s r j base clean w.moments e) (put_other w.parts r j all_pending e)
+      by_owner false e = Rests (seat_same _ _ _ _ _ _ _ _ _ _ (boots_apart s r j base clean w.moments e) (put_other w.parts r j all_pending e)
           (put_other w.left r j none_left e) (put_other w.good r j all_good e) refl)
 
   effect_ends : (r j : ℕ) (w : TripleWorld) → (node s r w.moments).on ≡ true → Effect s t j w (ends_triple s r w)
@@ -214,11 +196,11 @@ module _ (s : Settings) (t : Timing) where
 
       own : Effect s t r w (ends_triple s r w)
       own = GoesOff on
-          (seat_same _ _ _ _ _ _ _ _ _ _ (node_own_ends s r w.moments) (put_same w.parts r all_pending) (put_same w.left r (λ image. w.left r image ++ leaves_over (op_of s r w) (w.parts r image))) refl refl)
+          (seat_same _ _ _ _ _ _ _ _ _ _ (node_ends s r w.moments) (put_same w.parts r all_pending) (put_same w.left r (λ image. w.left r image ++ leaves_over (op_of s r w) (w.parts r image))) refl refl)
 
       by_owner : (b : Bool) → (r == j) ≡ b → Effect s t j w (ends_triple s r w)
       by_owner true e = subst (λ k. Effect s t k w (ends_triple s r w)) (eqb-true r j e) own
-      by_owner false e = Rests (seat_same _ _ _ _ _ _ _ _ _ _ (node_apart_ends s r j w.moments e) (put_other w.parts r j all_pending e)
+      by_owner false e = Rests (seat_same _ _ _ _ _ _ _ _ _ _ (ends_apart s r j w.moments e) (put_other w.parts r j all_pending e)
           (put_other w.left r j (λ image. w.left r image ++ leaves_over (op_of s r w) (w.parts r image)) e) refl refl)
 
   effect_lands : (r j k : ℕ) (op : DiskOp) (w : TripleWorld) → (node s r w.moments).on ≡ true → op_of s r w ≡ Some op → w.parts r k ≡ Pending → Effect s t j w (landed_on s t r k op w)
@@ -258,14 +240,6 @@ module _ (s : Settings) (t : Timing) where
       by_owner false e = Rests (seat_same (node s j w.moments) (node s j w.moments) (w.parts j) (w.parts j) _ _ _ _ _ _ refl refl
           (put_other w.left r j (put (w.left r) k (without (w.left r k) number)) e) refl (slots_other r j k op w.slots e))
 
--- the entries of packets are no answers
-packet_plain : (content : Packet) → is_answer (entry_of content) ≡ false
-packet_plain (packet.Ask ask) = refl
-packet_plain (packet.Tell tell) = refl
-packet_plain (packet.Hello from) = refl
-packet_plain (packet.Announce from seen) = refl
-packet_plain (packet.Vote agrees) = refl
-
 pending_is : (part : Part) → is_pending part ≡ true → part ≡ Pending
 pending_is Pending e = refl
 pending_is (Landed value) e = absurd (false≢true e)
@@ -275,39 +249,39 @@ pending_is Failed e = absurd (false≢true e)
 pub effect : (s : Settings) (t : Timing) (j : ℕ) (e : TripleEvent) (w : TripleWorld) → refusal_triple s t e w ≡ None → Effect s t j w (step_triple s t e w)
 unfolding refusal_triple step_triple refusal step
 effect s t j (triple.One (event.Pass dt clocks)) w ok = Rests (seat_passes s j dt clocks w)
-effect s t j (triple.One (event.Boot rank base)) w ok = effect_boots s t rank.0 j base false w (not_true (is_on s rank.0 (nodes_of w)) (allows (not (is_on s rank.0 (nodes_of w))) 2 ok))
-effect s t j (triple.One (event.BootClean rank base)) w ok = effect_boots s t rank.0 j base true w (not_true (is_on s rank.0 (nodes_of w)) (allows (not (is_on s rank.0 (nodes_of w))) 2 ok))
+effect s t j (triple.One (event.Boot rank base)) w ok = effect_boots s t rank.0 j base false w (not-true (is_on s rank.0 (nodes_of w)) (allowed (not (is_on s rank.0 (nodes_of w))) 2 ok))
+effect s t j (triple.One (event.BootClean rank base)) w ok = effect_boots s t rank.0 j base true w (not-true (is_on s rank.0 (nodes_of w)) (allowed (not (is_on s rank.0 (nodes_of w))) 2 ok))
 effect s t j (triple.One (event.Crash rank)) w ok = effect_ends s t rank.0 j w (running_allows (is_on s rank.0 (nodes_of w)) 3 ok)
 effect s t j (triple.One (event.Land rank)) w ok = Rests refl
 effect s t j (triple.One (event.Fail rank)) w ok = Rests refl
 effect s t j (triple.One (event.Late rank number)) w ok = Rests refl
 effect s t j (triple.One (event.Operator rank message)) w ok = Rests refl
 effect s t j (triple.One (event.Done rank)) w ok =
-    let rules = both_allow (is_on s rank.0 (nodes_of w)) (may_be_done_triple s rank.0 w) 3 5 ok in
-    let out = is_there (op_of s rank.0 w) (and_left_of (is_some (op_of s rank.0 w)) (none_pending (λ image. is_pending (w.parts rank.0 image))) rules.1) in
+    let rules = both_allowed (is_on s rank.0 (nodes_of w)) (may_be_done_triple s rank.0 w) 3 5 ok in
+    let out = value_there (op_of s rank.0 w) (first_of_both (is_some (op_of s rank.0 w)) (none_pending (λ image. is_pending (w.parts rank.0 image))) rules.1) in
     subst (λ o. Effect s t j w (option_map_or (λ op. done_triple rank.0 op w) o w)) (sym out.1) (effect_done s t rank.0 j out.0 w rules.0 out.1)
-effect s t j (triple.One (event.View rank view)) w ok = effect_enters s t rank.0 j (what.View view) w ((both_allow (is_on s rank.0 (nodes_of w)) (is_member view.members rank.0) 3 7 ok).0) refl
+effect s t j (triple.One (event.View rank view)) w ok = effect_enters s t rank.0 j (what.View view) w ((both_allowed (is_on s rank.0 (nodes_of w)) (is_member view.members rank.0) 3 7 ok).0) refl
 effect s t j (triple.One (event.Deliver rank number)) w ok =
-    let rules = both_allow (is_on s rank.0 (nodes_of w)) (may_deliver s rank.0 number (nodes_of w)) 3 8 ok in
-    let sent = test_there (λ (x : Sent). x.to.0 == rank.0) (slice_get (packets s w.moments) number) rules.1 in
+    let rules = both_allowed (is_on s rank.0 (nodes_of w)) (may_deliver s rank.0 number (nodes_of w)) 3 8 ok in
+    let sent = value_tested (λ (x : Sent). x.to.0 == rank.0) (slice_get (packets s w.moments) number) rules.1 in
     subst (λ o. Effect s t j w (record w { moments = (option_map_or (λ x. happens (Adds rank.0 (entry_of x.packet)) (nodes_of w)) o (nodes_of w)).moments })) (sym sent.1)
-    (effect_enters s t rank.0 j (entry_of sent.0.packet) w rules.0 (packet_plain sent.0.packet))
+    (effect_enters s t rank.0 j (entry_of sent.0.packet) w rules.0 (packet_answers_none sent.0.packet))
 effect s t j (triple.One (event.Device rank agrees)) w ok = effect_enters s t rank.0 j (what.Device agrees) w (running_allows (is_on s rank.0 (nodes_of w)) 3 ok) refl
 effect s t j (triple.One (event.Tick rank)) w ok = effect_enters s t rank.0 j what.Tick w (running_allows (is_on s rank.0 (nodes_of w)) 3 ok) refl
-effect s t j (triple.One (event.Stopped rank)) w ok = effect_enters s t rank.0 j (what.Stopped true) w ((both_allow (is_on s rank.0 (nodes_of w)) (may_be_stopped s rank.0 (nodes_of w)) 3 5 ok).0) refl
-effect s t j (triple.One (event.Unstopped rank)) w ok = effect_enters s t rank.0 j (what.Stopped false) w ((both_allow (is_on s rank.0 (nodes_of w)) (may_be_stopped s rank.0 (nodes_of w)) 3 5 ok).0) refl
+effect s t j (triple.One (event.Stopped rank)) w ok = effect_enters s t rank.0 j (what.Stopped true) w ((both_allowed (is_on s rank.0 (nodes_of w)) (may_be_stopped s rank.0 (nodes_of w)) 3 5 ok).0) refl
+effect s t j (triple.One (event.Unstopped rank)) w ok = effect_enters s t rank.0 j (what.Stopped false) w ((both_allowed (is_on s rank.0 (nodes_of w)) (may_be_stopped s rank.0 (nodes_of w)) 3 5 ok).0) refl
 effect s t j (triple.One (event.Leave rank)) w ok = effect_enters s t rank.0 j what.Leave w (running_allows (is_on s rank.0 (nodes_of w)) 3 ok) refl
 effect s t j (triple.One (event.Feed rank)) w ok = Rests (seat_feeds s j rank.0 w)
 effect s t j (triple.LandOn rank k) w ok =
-    let rules = both_allow (is_on s rank.0 (nodes_of w)) (may_land_on s rank.0 k w) 3 4 ok in
-    let out = is_there (op_of s rank.0 w) (and_left_of (is_some (op_of s rank.0 w)) (is_pending (w.parts rank.0 k)) rules.1) in
-    let pending = pending_is (w.parts rank.0 k) (and_right_of (is_some (op_of s rank.0 w)) (is_pending (w.parts rank.0 k)) rules.1) in
+    let rules = both_allowed (is_on s rank.0 (nodes_of w)) (may_land_on s rank.0 k w) 3 4 ok in
+    let out = value_there (op_of s rank.0 w) (first_of_both (is_some (op_of s rank.0 w)) (is_pending (w.parts rank.0 k)) rules.1) in
+    let pending = pending_is (w.parts rank.0 k) (second_of_both (is_some (op_of s rank.0 w)) (is_pending (w.parts rank.0 k)) rules.1) in
     subst (λ o. Effect s t j w (option_map_or (λ op. landed_on s t rank.0 k op w) o w)) (sym out.1) (effect_lands s t rank.0 j k out.0 w rules.0 out.1 pending)
 effect s t j (triple.FailOn rank k) w ok =
-    let rules = both_allow (is_on s rank.0 (nodes_of w)) (may_fail_on s rank.0 k w) 3 5 ok in
-    let out = is_there (op_of s rank.0 w) (and_left_of (is_some (op_of s rank.0 w)) (not (has_failed (w.parts rank.0 k))) rules.1) in
+    let rules = both_allowed (is_on s rank.0 (nodes_of w)) (may_fail_on s rank.0 k w) 3 5 ok in
+    let out = value_there (op_of s rank.0 w) (first_of_both (is_some (op_of s rank.0 w)) (not (has_failed (w.parts rank.0 k))) rules.1) in
     subst (λ o. Effect s t j w (option_map_or (λ op. failed_on rank.0 k op w) o w)) (sym out.1) (effect_failed s t rank.0 j k out.0 w rules.0 out.1)
 effect s t j (triple.LateOn rank k number) w ok =
-    let there = is_there (numbered (w.left rank.0 k) number) (allows (may_be_late rank.0 number (image_of k w)) 6 ok) in
+    let there = value_there (numbered (w.left rank.0 k) number) (allowed (may_be_late rank.0 number (image_of k w)) 6 ok) in
     subst (λ o. Effect s t j w (option_map_or (λ op. lands_late_on rank.0 k number op w) o w)) (sym there.1) (effect_late s t rank.0 j k number there.0 w there.1)
 effect s t j (triple.OperatorOn rank k message) w ok = Rests refl

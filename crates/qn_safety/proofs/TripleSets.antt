@@ -2,9 +2,10 @@
 use Rattle.std.proofs.Common.{◌≡◌, ℕ, suc, zero, Bool, true, false, List, [], ◌∷◌, ◌++◌, Some, refl, subst, ◌==◌, if◌then◌else◌, ◌⊎◌, inl, inr}
 use Rattle.std.proofs.lemmas.Bool.{eqb-true}
 use Rattle.std.specs.Prelude.{slice_get}
+use Rattle.std.proofs.lemmas.Option.{same_Some}
+use Rattle.qn_base.specs.lemmas.Options.{none_is_not_some}
+use Rattle.qn_base.specs.lemmas.Elements.{IsIn, First, Behind}
 use Rattle.qn_model.specs.World.{put, numbered, without}
-use Rattle.qn_safety.proofs.Tools.{some_same, none_some}
-use Rattle.qn_safety.proofs.Origins.{IsIn, First, Behind}
 
 -- a property of two of the three images
 pub data TwoOf (P : ℕ → Type 0) : Type 0 where
@@ -45,12 +46,12 @@ first_or First = inl refl
 first_or (Behind y more) = inr more
 
 pub get_in : {A : Type 0} (xs : List A) (n : ℕ) (x : A) → slice_get xs n ≡ Some x → IsIn x xs
-get_in [] n x e = none_some x e
-get_in (y ∷ ys) zero x e = subst (λ z. IsIn z (y ∷ ys)) (some_same _ _ e) First
+get_in [] n x e = none_is_not_some x e
+get_in (y ∷ ys) zero x e = subst (λ z. IsIn z (y ∷ ys)) (same_Some _ _ e) First
 get_in (y ∷ ys) (suc n) x e = Behind y (get_in ys n x e)
 
 pub numbered_in : {A : Type 0} (xs : List A) (number : ℕ) (x : A) → numbered xs number ≡ Some x → IsIn x xs
-numbered_in xs zero x e = none_some x e
+numbered_in xs zero x e = none_is_not_some x e
 numbered_in xs (suc place) x e = get_in xs place x e
 
 pub without_in : {A : Type 0} {x : A} (xs : List A) (number : ℕ) → IsIn x (without xs number) → IsIn x xs

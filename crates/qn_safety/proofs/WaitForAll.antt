@@ -1,7 +1,7 @@
 -- With wait_for_all on nothing is released before some node saw a view of all nodes.
 use Rattle.std.proofs.Common.{◌≡◌, ℕ, suc, zero, ◌≤◌, Bool, true, false, List, [], ◌∷◌, length, Some, None, Option, refl, sym, ap, ◌∙◌, subst, arith, ◌&&◌, ◌||◌, not, if◌then◌else◌, is_some, nat_le}
 use Rattle.std.specs.Option.{option_map_or}
-use Rattle.std.proofs.lemmas.Bool.{false≢true}
+use Rattle.std.proofs.lemmas.Bool.{false≢true, not-true}
 use Rattle.qn_base.specs.declared.ids.Rank.{Rank}
 use Rattle.qn_base.specs.declared.ids.View.{View}
 use Rattle.qn_model.specs.declared.configuration.Settings.{Settings}
@@ -16,7 +16,7 @@ use Rattle.qn_model.specs.Log.{Line}
 use Rattle.qn_model.specs.NodeVotes.{view, answers, released, quorate, quorate_with_tie}
 use Rattle.qn_model.specs.Fitting.{fits, read_as, answers_op}
 use Rattle.qn_model.specs.Moments.{Before, Itself, Later}
-use Rattle.qn_safety.proofs.Tools.{clash, and_left_of, and_right_of, not_true, before_length, before_then, before_tail}
+use Rattle.qn_safety.specs.Earlier.{before_length, before_then, before_tail}
 use Rattle.qn_model.specs.declared.packets.Sent.{Sent}
 use Rattle.qn_model.specs.Moments.{Moment, begin_of, Adds, node, packets}
 use Rattle.qn_safety.specs.Timed.{IsSentTo, WasSent, AllRuled, IsAdded}
@@ -26,7 +26,10 @@ use Rattle.qn_model.specs.World.{World, op_at, failed, numbered}
 use Rattle.qn_model.specs.Rules.{refusal, is_on, may_be_done}
 use Rattle.qn_model.specs.Steps.{happens, landed, answered, fails, lands_late, entry_of, step, run}
 use Rattle.std.specs.Prelude.{slice_get}
+use Rattle.qn_base.specs.lemmas.Bools.{never_both, first_of_both, second_of_both}
 use Rattle.qn_model.specs.declared.votes.VoteWhat.TheVariants as vote
+use Rattle.qn_model.specs.lemmas.Rules.{both_allowed}
+use Rattle.qn_model.specs.lemmas.Entries.{failed_answers}
 use Rattle.qn_model.specs.Tie.{breaks_tie}
 use Rattle.qn_model.specs.Votes.{is_released, releases, are_all_in, quorum_of, expected_votes, counted_votes, present_view}
 use Rattle.qn_model.specs.NodeVotes.{votes, vote_of}
@@ -39,8 +42,6 @@ use Rattle.qn_safety.proofs.Origins.{Origin, ByEntry, ByBoot, origin, AddedLine,
 use Rattle.qn_safety.proofs.Outs.{plain_no_answer}
 use Rattle.qn_safety.proofs.Fence.{added_then}
 use Rattle.qn_safety.proofs.Tells.{read_tell}
-use Rattle.qn_safety.proofs.Seats.{both_allow}
-use Rattle.qn_safety.proofs.Kept.{failed_answers}
 use Rattle.qn_safety.proofs.Landings.{AddedBy, added_by}
 use Rattle.qn_safety.proofs.Events.{IsAllowed, OneEvent, allowed_of, allowed_before, stage, run_step}
 
@@ -59,7 +60,7 @@ release_here s line past (what.View seen) reads e = ByView line past seen Itself
 release_here s line past (what.Tell tell) reads e = by_test (answers past tell && tell.released) refl e
   where
     by_test : (b : Bool) → (answers past tell && tell.released) ≡ b → releases s (if b then vote.Released else vote.Tick) ≡ true → Release s (line ∷ past)
-    by_test true both r = ByTell line past tell Itself reads (and_right_of (answers past tell) tell.released both)
+    by_test true both r = ByTell line past tell Itself reads (second_of_both (answers past tell) tell.released both)
     by_test false both r = absurd (false≢true r)
 release_here s line past what.Begin reads e = absurd (false≢true e)
 release_here s line past what.BeginClean reads e = absurd (false≢true e)
@@ -79,7 +80,7 @@ release_here s line past (what.Closed ok) reads e = absurd (false≢true e)
 
 pub release_of : (s : Settings) (log : List Line) → s.wait_for_all ≡ true → released s log ≡ true → Release s log
 unfolding is_released votes
-release_of s [] waits e = clash s.wait_for_all waits (not_true s.wait_for_all e)
+release_of s [] waits e = never_both s.wait_for_all waits (not-true s.wait_for_all e)
 release_of s (line ∷ past) waits e = by_here (releases s (vote_of past line.what)) refl e (λ was. release_of s past waits was)
   where
     by_here : (b : Bool) → releases s (vote_of past line.what) ≡ b → (b || is_released s (votes past)) ≡ true → (is_released s (votes past) ≡ true → Release s past) → Release s (line ∷ past)
@@ -173,8 +174,8 @@ released_saw_all {s = s} {t = t} {moments = moments} ruled i waits e = saw_all s
 -- what is quorate by the votes is released, and so is what the breaker lets be quorate
 counted_released : (s : Settings) (log : List Line) (tick : ℕ) → quorate s log tick ≡ true → released s log ≡ true
 counted_released s log tick e =
-    and_right_of (is_some (present_view (votes log))) (is_released s (votes log))
-    (and_left_of (is_some (present_view (votes log)) && is_released s (votes log)) (nat_le (quorum_of s (expected_votes s (votes log))) (counted_votes s (votes log) tick)) e)
+    second_of_both (is_some (present_view (votes log))) (is_released s (votes log))
+    (first_of_both (is_some (present_view (votes log)) && is_released s (votes log)) (nat_le (quorum_of s (expected_votes s (votes log))) (counted_votes s (votes log) tick)) e)
 
 either_released : (counted free breaks : Bool) → (counted ≡ true → free ≡ true) → (counted || (free && breaks)) ≡ true → free ≡ true
 either_released true free breaks by_votes e = by_votes refl
@@ -198,7 +199,7 @@ not_grown : {P : Type 0} (k : ℕ) (entry : What) (ms : List Moment) → ms ≡ 
 not_grown k entry ms e = absurd (let q : length ms ≡ suc (length ms) = ap length e in omega arith)
 
 no_view_answer : (op : Option DiskOp) (entry : What) (seen : View) → answers_op op entry ≡ true → entry ≡ what.View seen → ⊥
-no_view_answer op entry seen answers e = clash (answers_op op (what.View seen)) (subst (λ w. answers_op op w ≡ true) e answers) (plain_no_answer op (what.View seen) refl)
+no_view_answer op entry seen answers e = never_both (answers_op op (what.View seen)) (subst (λ w. answers_op op w ≡ true) e answers) (plain_no_answer op (what.View seen) refl)
 
 no_view_packet : (content : Packet) (seen : View) → entry_of content ≡ what.View seen → ⊥
 no_view_packet (packet.Ask ask) seen e = cc
@@ -228,7 +229,7 @@ module _ (s : Settings) (t : Timing) (w : World) (k : ℕ) (seen : View) (answer
       by_took : (o : Option What) → w.took rank.0 ≡ o → (option_map_or (λ entry. answered rank.0 entry w) o w).moments ≡ Adds k (what.View seen) ∷ w.moments → ViewStep (event.Done rank)
       by_took None took e = not_grown k (what.View seen) w.moments e
       by_took (Some entry) took e =
-          absurd (no_view_answer (op_at s rank.0 w) entry seen (answers rank.0 entry ((both_allow (is_on s rank.0 w) (may_be_done s rank.0 w) 3 5 ok).0) took) (same_entry e))
+          absurd (no_view_answer (op_at s rank.0 w) entry seen (answers rank.0 entry ((both_allowed (is_on s rank.0 w) (may_be_done s rank.0 w) 3 5 ok).0) took) (same_entry e))
   view_step (event.Fail rank) ok e = by_op (op_at s rank.0 w) e
     where
       by_op : (o : Option DiskOp) → (option_map_or (λ op. fails s rank.0 op w) o w).moments ≡ Adds k (what.View seen) ∷ w.moments → ViewStep (event.Fail rank)

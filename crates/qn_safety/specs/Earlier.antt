@@ -1,6 +1,6 @@
 -- Of two states of a list that only grows, which is the earlier one. Lemmas for the proofs of this crate and of those above.
 -- This project's profile.
-use Rattle.std.proofs.Common.{◌≡◌, ◌≤◌, List, ◌∷◌, length, refl, sym, subst, arith, ◌⊎◌, inl, inr}
+use Rattle.std.proofs.Common.{◌≡◌, ◌≤◌, List, [], ◌∷◌, ◌++◌, length, refl, sym, subst, arith, ◌⊎◌, inl, inr}
 use Rattle.qn_model.specs.Moments.{Before, Itself, Later}
 
 -- a list grows by what is put before it
@@ -32,3 +32,8 @@ pub before_shorter : {A : Type 0} {a b c : List A} → Before a c → Before b c
 before_shorter {a = a} Itself second long = subst (λ x. Before a x) (sym (before_same second long)) Itself
 before_shorter (Later newest first) Itself long = Later newest first
 before_shorter (Later newest first) (Later other second) long = before_shorter first second long
+
+-- what newer items are put before is earlier
+pub before_joined : {A : Type 0} (newer older : List A) → Before older (newer ++ older)
+before_joined [] older = Itself
+before_joined (newest ∷ newer) older = Later newest (before_joined newer older)

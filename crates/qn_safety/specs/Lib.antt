@@ -1,5 +1,5 @@
+pub mod Answers
 pub mod Earlier
-pub mod LeastRanks
 pub mod Clocks
 pub mod Closing
 pub mod Timed
@@ -15,4 +15,5 @@ pub mod TripleSteps
 pub mod TriplePremises
 pub mod TripleReported
 pub mod AnyNumbers
+pub mod Boots
 pub mod NodeLogs

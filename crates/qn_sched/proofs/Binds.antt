@@ -10,16 +10,3 @@ bind-same (Err fault) f g same = refl
 pub bind-ok : {A B C : Type 0} (r : Result A LineFault) (f : A → B) (g : B → Result C LineFault) → ((r >>= (λ x. Ok (f x))) >>= g) ≡ (r >>= (λ x. g (f x)))
 bind-ok (Ok x) f g = refl
 bind-ok (Err fault) f g = refl
-
--- a step that gave a value was taken at a value
-pub bind_ok : {A B : Type 0} (r : Result A LineFault) (next : A → Result B LineFault) (b : B) → (r >>= next) ≡ Ok b
-    → (a : A) × (r ≡ Ok a) × (next a ≡ Ok b)
-bind_ok (Ok a) next b is = (a, refl, is)
-bind_ok (Err fault) next b is = cc
-
-abbrev pub good : {A : Type 0} → A → Result A LineFault
-good a = Ok a
-
--- equal results have equal values
-pub same_ok : {A : Type 0} (a b : A) → good a ≡ good b → a ≡ b
-same_ok a b same = cc

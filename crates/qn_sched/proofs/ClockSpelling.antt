@@ -7,10 +7,10 @@ use Rattle.std.proofs.lemmas.Bool.Decides.{nat_tests}
 use Rattle.std.proofs.lemmas.List.Splits.{slice_split_at, join_with_byte-slice_split}
 use Rattle.qn_base.specs.declared.ids.Rank.{Rank}
 use Rattle.qn_model.specs.declared.line_fault.LineFault.TheVariants.{BadCount}
+use Rattle.qn_model.specs.lemmas.Lines.{bind_ok, good, same_ok}
 use Rattle.qn_model.specs.Lines.{is_ascending, number_between, parts}
 use Rattle.qn_sched.specs.EventLines.{clock_word, id_word}
 use Rattle.qn_sched.specs.EventReading.{clock_at, clock_of, clock_of_parts, clocks_of, each_clock, rank_of}
-use Rattle.qn_sched.proofs.Binds.{bind_ok, good, same_ok}
 use Rattle.qn_sched.proofs.ClocksListed.{clock_of-cut}
 use Rattle.qn_sched.proofs.RankSpelling.{AreIds, rank_of-id, rank_of-ok}
 use Rattle.qn_sched.specs.WrittenNumbers.{decimal_without, number_between-decimal, number_between-ok}

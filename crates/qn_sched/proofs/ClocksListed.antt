@@ -3,6 +3,7 @@ use Rattle.std.proofs.Common.{◌≡◌, ◌+◌, ◌<◌, ℕ, Bool, true, fals
 use Rattle.std.proofs.lemmas.Bool.Decides.{nat_tests}
 use Rattle.std.proofs.lemmas.List.Splits.{join_with_byte-slice_split}
 use Rattle.std.specs.List.{join_with_byte}
+use Rattle.std.proofs.Math.Bool.{and-true}
 use Rattle.qn_base.specs.declared.ids.Rank.{Rank}
 use Rattle.qn_model.specs.declared.line_fault.LineFault.{LineFault}
 use Rattle.qn_model.specs.declared.line_fault.LineFault.TheVariants.{BadCount, BadNumber}
@@ -72,15 +73,11 @@ by_tests false above list clock clocks = refl
 listed-more : (list : ClockList) (clock : Rank × ℕ) (clocks : List (Rank × ℕ)) → listed (with_clock list clock) clocks ≡ listed list (clock ∷ clocks)
 listed-more list clock clocks = by_tests list.is_sound (nat_le list.next clock.0.0) list clock clocks
 
-and_true : (b : Bool) → (b && true) ≡ b
-and_true true = refl
-and_true false = refl
-
 -- the words that are left, judged one by one
 with_clocks-is : (ids : List ℕ) (list : ClockList) (words : List (List ℕ)) → with_clocks ids list words ≡ (each_clock ids words >>= (λ clocks. listed list clocks))
 unfolding each_clock finished
 with_clocks-is ids list [] =
-    ap (λ b. cond b (Ok list.clocks) (Err BadCount)) (sym (and_true list.is_sound))
+    ap (λ b. cond b (Ok list.clocks) (Err BadCount)) (sym (and-true list.is_sound))
     ∙ ap (λ clocks. cond (list.is_sound && true) (Ok clocks) (Err BadCount)) (sym (append-nil list.clocks))
 with_clocks-is ids list (word ∷ words) =
     elim (clock_of ids word) as (λ found. (found >>= (λ clock. with_clocks ids (with_clock list clock) words))

@@ -16,6 +16,7 @@ use Rattle.qn_model.specs.declared.events.Event.TheVariants as event
 use Rattle.qn_model.specs.declared.disk.Message.{Message}
 use Rattle.qn_model.specs.declared.disk.Message.TheVariants.{Empty, Test, Reset, Off, Exit, Crashdump}
 use Rattle.qn_model.specs.declared.line_fault.LineFault.TheVariants.{TooLong, UnknownWord}
+use Rattle.qn_model.specs.lemmas.Lines.{bind_ok, good, same_ok, two_words-ok}
 use Rattle.qn_model.specs.Lines.{◌>>=◌, is_ascending, members_of, number_between, two_words, words_of}
 use Rattle.qn_model.specs.Messages.{operator_word}
 use Rattle.qn_model.specs.Rules.{is_between, is_configured, is_well_formed}
@@ -24,11 +25,11 @@ use Rattle.qn_sched.specs.declared.event_name.EventName.{EventName}
 use Rattle.qn_sched.specs.declared.event_name.EventName.TheVariants.{Pass, Boot, BootClean, Late, View, Deliver, Device, Operator, OfNode}
 use Rattle.qn_sched.specs.declared.event_name.NodeEvent.{NodeEvent}
 use Rattle.qn_sched.specs.declared.event_name.NodeEvent.TheVariants.{Crash, Land, Done, Fail, Tick, Stopped, Unstopped, Leave, Feed}
+use Rattle.qn_sched.specs.lemmas.Words.{one_word-ok}
 use Rattle.qn_sched.specs.EventLines.{clock_word, event_line, event_words, id_word}
 use Rattle.qn_sched.specs.EventNames.{event_at, event_name, event_names, event_word, node_event_word}
 use Rattle.qn_sched.specs.EventReading.{boot_clean_of, boot_of, clocks_of, deliver_of, device_of, event_named, event_of, event_of_words, late_of, message_worded, messages, node_event_of, numbered_of, operator_of, pass_of, rank_of, view_of, yes_or_no}
 use Rattle.qn_sched.specs.Words.{one_word, three_words}
-use Rattle.qn_sched.proofs.Binds.{bind_ok, good, same_ok}
 use Rattle.qn_sched.proofs.ClockSpelling.{clocks_of-ok, clocks_of-words, is_clock, ranks_of}
 use Rattle.qn_sched.proofs.LineWords.{line_plain}
 use Rattle.qn_sched.proofs.MemberSpelling.{members_of-ok, members_of-word}
@@ -79,18 +80,6 @@ ok_or-name None name is = cc
 ok_or-name (Some n) name is = cc
 
 -- ---- the words after it
-
-one_word-ok : (words : List (List ℕ)) (word : List ℕ) → one_word words ≡ Ok word → words ≡ word ∷ []
-one_word-ok [] word is = cc
-one_word-ok (first ∷ []) word is = cc
-one_word-ok (first ∷ second ∷ words) word is = cc
-
-two_words-ok : (words : List (List ℕ)) (pair : List ℕ × List ℕ) → two_words words ≡ Ok pair → words ≡ pair.0 ∷ pair.1 ∷ []
-two_words-ok [] pair is = cc
-two_words-ok (first ∷ []) pair is = cc
-two_words-ok (first ∷ second ∷ []) pair is =
-    subst (λ (p : List ℕ × List ℕ). first ∷ second ∷ [] ≡ p.0 ∷ p.1 ∷ []) (same_ok (first, second) pair is) refl
-two_words-ok (first ∷ second ∷ third ∷ words) pair is = cc
 
 three_words-ok : (words : List (List ℕ)) (three : List ℕ × List ℕ × List ℕ) → three_words words ≡ Ok three → words ≡ three.0 ∷ three.1 ∷ three.2 ∷ []
 three_words-ok [] three is = cc

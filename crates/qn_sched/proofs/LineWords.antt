@@ -1,15 +1,15 @@
 -- The words of an event's line: none has a blank, and together they fit a line.
-use Rattle.std.proofs.Common.{◌≡◌, ◌+◌, ◌-◌, ◌*◌, ◌^◌, ◌<◌, ◌≤◌, ◌==◌, ℕ, zero, suc, Bool, true, false, ◌&&◌, not, cond, List, [], ◌∷◌, map, length, nat_le, nat_lt, slice_index, refl, sym, ap, ◌∙◌, subst, arith, inl, lit<}
+use Rattle.std.proofs.Common.{◌≡◌, ◌+◌, ◌-◌, ◌*◌, ◌^◌, ◌<◌, ◌≤◌, ◌==◌, ℕ, zero, suc, Bool, true, false, ◌&&◌, not, cond, List, [], ◌∷◌, map, length, nat_le, nat_lt, slice_index, refl, sym, ap, ◌∙◌, subst, arith, inl}
 use Rattle.std.specs.Prelude.{All, codes, decimal}
 use Rattle.std.specs.List.{join_with_byte, list_all}
 use Rattle.std.proofs.lemmas.Bool.{and_parts, leb-true, ltb-true}
-use Rattle.std.proofs.lemmas.Fmt.{length-decimal-le}
 use Rattle.std.proofs.lemmas.List.{length-append, length-map}
 use Rattle.std.proofs.lemmas.List.Elements.{All-append, All-cons}
 use Rattle.qn_base.specs.declared.ids.Mask.{Mask}
 use Rattle.qn_base.specs.declared.ids.Rank.{Rank}
 use Rattle.qn_base.specs.Members.{is_member}
 use Rattle.qn_base.specs.Text.{yes_no}
+use Rattle.qn_base.specs.lemmas.Decimals.{length-decimal}
 use Rattle.qn_model.specs.declared.configuration.Settings.{Settings}
 use Rattle.qn_model.specs.declared.events.Event.{Event}
 use Rattle.qn_model.specs.declared.events.Event.TheVariants as event
@@ -88,9 +88,6 @@ length-join byte most word words short =
     let whole = ap length (join-behind byte word words) ∙ length-append word (behind byte words) in
     let rest = length-behind byte most words short in
     omega (arith, whole, rest)
-
-length-decimal : (n : ℕ) → n < 2 ^ 64 → length (decimal n) ≤ 20
-length-decimal n fits = length-decimal-le 20 n (lit< tt) (omega arith) fits
 
 words_short : (ids : List ℕ) → AreIds ids → (ranks : List ℕ) → AreShort 20 (words_at ids ranks)
 words_short ids known [] = tt

@@ -1,6 +1,7 @@
 -- A list of members that is judged part by part is judged as the definition says.
 use Rattle.std.proofs.Common.{◌≡◌, ◌^◌, ℕ, Bool, true, false, ◌&&◌, cond, List, [], ◌∷◌, Option, None, Some, Result, Ok, Err, map, filter, fold, bit_or, slice_index, refl, sym, ap, ◌∙◌}
 use Rattle.std.specs.List.{list_all}
+use Rattle.std.proofs.Math.Bool.{and-true, and-false}
 use Rattle.qn_base.specs.declared.ids.Mask.{Mask}
 use Rattle.qn_model.specs.declared.line_fault.LineFault.{LineFault}
 use Rattle.qn_model.specs.declared.line_fault.LineFault.TheVariants.{BadView}
@@ -28,14 +29,6 @@ ascends_from-none : (ids : List ℕ) → is_ascending ids ≡ ascends_from None 
 ascends_from-none [] = refl
 ascends_from-none (id ∷ ids) = ascends_from-first id ids
 
-and_true : (b : Bool) → (b && true) ≡ b
-and_true true = refl
-and_true false = refl
-
-and_false : (b : Bool) → (b && false) ≡ false
-and_false true = refl
-and_false false = refl
-
 regroup : (sound above filled rest : Bool) → ((sound && above) && (filled && rest)) ≡ (sound && (filled && (above && rest)))
 regroup false above filled rest = refl
 regroup true true filled rest = refl
@@ -45,7 +38,7 @@ regroup true false false rest = refl
 listed-empty : (ids : List ℕ) (list : MemberList) (words : List (List ℕ)) (ranks : List ℕ)
     → listed ids (record { ranks = list.ranks; last = list.last; is_sound = false }) words ranks ≡ listed ids list ([] ∷ words) ranks
 listed-empty ids list words ranks =
-    ap (λ b. cond b (Ok (record { 0 = fold (λ mask rank. bit_or mask (2 ^ rank)) list.ranks ranks })) (Err BadView)) (sym (and_false list.is_sound))
+    ap (λ b. cond b (Ok (record { 0 = fold (λ mask rank. bit_or mask (2 ^ rank)) list.ranks ranks })) (Err BadView)) (sym (and-false list.is_sound))
 
 listed-more : (ids : List ℕ) (list : MemberList) (byte : ℕ) (bytes : List ℕ) (words : List (List ℕ)) (rank : ℕ) (ranks : List ℕ)
     → listed ids (with_rank list rank (slice_index ids rank)) words ranks ≡ listed ids list ((byte ∷ bytes) ∷ words) (rank ∷ ranks)
@@ -59,7 +52,7 @@ with_parts-is : (ids : List ℕ) (list : MemberList) (words : List (List ℕ))
     → with_parts ids list words ≡ (known_ranks ids (filter is_filled words) >>= (λ ranks. listed ids list words ranks))
 unfolding known_ranks with_part finished
 with_parts-is ids list [] =
-    ap (λ b. cond b (Ok (record { 0 = list.ranks })) (Err BadView)) (sym (and_true list.is_sound))
+    ap (λ b. cond b (Ok (record { 0 = list.ranks })) (Err BadView)) (sym (and-true list.is_sound))
 with_parts-is ids list ([] ∷ words) =
     with_parts-is ids (record { ranks = list.ranks; last = list.last; is_sound = false }) words
     ∙ bind-same (known_ranks ids (filter is_filled words)) _ _ (listed-empty ids list words)

@@ -9,13 +9,15 @@ use Rattle.std.proofs.lemmas.List.Splits.{join_with_byte-slice_split}
 use lib.Bits.{or_lt}
 use Rattle.std.proofs.Math.Pow.{pow-lt}
 use Rattle.std.proofs.lemmas.Fmt.{decimal_nonempty}
-use Rattle.std.proofs.lemmas.Nat.Bits.{bit_at-lt, bit_at_or, bit_at-pow_same, bit_at-pow_other, bit_at-zero, bit_at_above, same_from_bits}
+use Rattle.std.proofs.lemmas.Nat.Bits.{bit_at_or, bit_at-pow_same, bit_at-pow_other, bit_at-zero, bit_at_above, same_from_bits}
+use Rattle.std.proofs.Math.Bool.{or_assoc}
 use Rattle.qn_base.specs.declared.ids.Mask.{Mask}
 use Rattle.qn_base.specs.Members.{is_member}
+use Rattle.qn_base.specs.lemmas.Masks.{bit_cases}
 use Rattle.qn_model.specs.declared.line_fault.LineFault.TheVariants.{BadView}
+use Rattle.qn_model.specs.lemmas.Lines.{bind_ok, good, same_ok}
 use Rattle.qn_model.specs.Lines.{is_ascending, is_filled, known_rank, known_ranks, mask_of, members_of, parts}
 use Rattle.qn_sched.specs.EventLines.{ids_from, joined, member_word}
-use Rattle.qn_sched.proofs.Binds.{bind_ok, good, same_ok}
 use Rattle.qn_sched.proofs.PartsLemmas.{AreWithout, parts-joined, parts-some}
 use Rattle.qn_sched.specs.WrittenNumbers.{decimal_without}
 use Rattle.qn_sched.proofs.RankSpelling.{AreIds, id_lt, known_rank-id, known_rank-ok}
@@ -43,12 +45,6 @@ ids_from-ranks all members rank (id ∷ ids) same =
 
 -- ---- a set as a list of ranks
 
--- a bit is 0 or 1
-bit_cases : (n i : ℕ) → (bit_at n i ≡ 0) ⊎ (bit_at n i ≡ 1)
-bit_cases n i =
-    let below = bit_at-lt n i in
-    let z : (bit_at n i ≡ 0) ⊎ (bit_at n i ≡ 1) = grind (arith, nat_tests) in z
-
 either_bit : (x y : ℕ) → (x ≡ 0) ⊎ (x ≡ 1) → (y ≡ 0) ⊎ (y ≡ 1) → (max x y == 1) ≡ (x == 1 || y == 1)
 either_bit x y (inl p) (inl q) = rw (p, q)
 either_bit x y (inl p) (inr q) = rw (p, q)
@@ -71,10 +67,6 @@ set_bit a rank j =
 or_false : (b : Bool) → b ≡ (b || false)
 or_false true = refl
 or_false false = refl
-
-or_assoc : (a b c : Bool) → ((a || b) || c) ≡ (a || (b || c))
-or_assoc true b c = refl
-or_assoc false b c = refl
 
 folded : (start : ℕ) (ranks : List ℕ) (j : ℕ)
     → (bit_at (fold (λ mask rank. bit_or mask (2 ^ rank)) start ranks) j == 1) ≡ (bit_at start j == 1 || list_any (λ rank. rank == j) ranks)

@@ -1,12 +1,12 @@
 -- A word is accepted as the id of a node exactly where it is that id in decimal digits.
-use Rattle.std.proofs.Common.{◌≡◌, ◌-◌, ◌^◌, ◌<◌, ◌≤◌, ◌==◌, ℕ, Bool, cond, List, Option, Some, None, Ok, length, slice_index, refl, sym, ap, ◌∙◌, subst, ◌⊎◌, inl, inr, arith, eq-eqb, ne_eqb, nat_lt, position, lt-ltb}
-use Rattle.std.specs.Prelude.{All, decimal}
+use Rattle.std.proofs.Common.{◌≡◌, ◌-◌, ◌^◌, ◌<◌, ◌==◌, ℕ, Bool, cond, List, Option, Some, None, Ok, length, slice_index, refl, sym, ap, ◌∙◌, subst, arith, eq-eqb, ne_eqb, nat_lt, position, lt-ltb}
+use Rattle.std.specs.Prelude.{decimal}
 use Rattle.std.specs.Option.{ok_or}
 use Rattle.std.specs.List.{position_or_len}
 use Rattle.std.specs.List.Sorted.{IsStrictlyIncreasing}
 use Rattle.std.proofs.lemmas.Bool.Decides.{Decides-eqb}
 use Rattle.std.proofs.lemmas.Bool.{cases_lt}
-use Rattle.std.proofs.lemmas.List.{get_or-map, get_or_past, length-map}
+use Rattle.std.proofs.lemmas.List.{length-map}
 use Rattle.std.proofs.lemmas.List.Kept.{AllPairs-from_increasing}
 use Rattle.std.proofs.lemmas.List.Quantifiers.{position-Some}
 use Rattle.std.proofs.lemmas.List.Sums.{position_or_len_is}
@@ -15,10 +15,11 @@ use Rattle.qn_model.specs.declared.configuration.Settings.{Settings}
 use Rattle.qn_model.specs.declared.nodelist.NodeEntry.{NodeEntry}
 use Rattle.qn_model.specs.Settings.{ids, IsValid}
 use Rattle.qn_model.specs.declared.line_fault.LineFault.TheVariants.{UnknownNode}
+use Rattle.qn_model.specs.lemmas.Ids.{id_fits}
+use Rattle.qn_model.specs.lemmas.Lines.{bind_ok, same_ok}
 use Rattle.qn_model.specs.Lines.{known_rank, number_between}
 use Rattle.qn_sched.specs.EventLines.{id_word}
 use Rattle.qn_sched.specs.EventReading.{rank_of}
-use Rattle.qn_sched.proofs.Binds.{bind_ok, same_ok}
 use Rattle.qn_sched.specs.WrittenNumbers.{number_between-decimal, number_between-ok}
 
 -- the ids of nodes: they ascend, and fit 64 bits
@@ -76,16 +77,6 @@ rank_of-ok ids word rank is =
 pub rank_of-id : (ids : List ℕ) → AreIds ids → (rank : Rank) → rank.0 < length ids → rank_of ids (id_word ids rank) ≡ Ok rank
 unfolding rank_of
 rank_of-id ids known rank inside = rw (known_rank-id ids known rank.0 inside) refl
-
-id_fits : (nodes : List NodeEntry) → All (λ n. n.id.0 ≤ 4294967295) nodes → (k : ℕ) → (k < length nodes) ⊎ (length nodes ≤ k) → slice_index (ids nodes) k < 2 ^ 64
-id_fits nodes fit k (inl inside) =
-    let none : NodeEntry = record { id = record { 0 = 0 }; votes = 0; fence_delay = 0 } in
-    let below = fit k none inside in
-    let same = get_or-map (λ (n : NodeEntry). n.id.0) nodes k none 0 inside in
-    omega (arith, below, same)
-id_fits nodes fit k (inr outside) =
-    let past = get_or_past (ids nodes) k 0 (let same = length-map nodes (λ (n : NodeEntry). n.id.0) in omega (arith, same)) in
-    omega (arith, past)
 
 -- the ids of valid settings
 pub valid_ids : (s : Settings) → IsValid s → AreIds (ids s.nodes)

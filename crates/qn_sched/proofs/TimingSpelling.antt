@@ -12,10 +12,10 @@ use Rattle.std.proofs.lemmas.Slice.Eq.{bytes_eq-Decides}
 use Rattle.qn_model.specs.declared.line_fault.LineFault.{LineFault}
 use Rattle.qn_model.specs.declared.line_fault.LineFault.TheVariants.{UnknownWord, BadCount, TooLong}
 use Rattle.qn_model.specs.declared.times.Timing.{Timing}
+use Rattle.qn_model.specs.lemmas.Lines.{bind_ok}
 use Rattle.qn_model.specs.Lines.{words_of}
 use Rattle.qn_model.specs.Timing.{is_period, has_periods}
 use Rattle.qn_sched.specs.TimingLine.{time_of, times_of, times_of_words, timing_line, timing_of, timing_of_words}
-use Rattle.qn_sched.proofs.Binds.{bind_ok}
 use Rattle.qn_sched.specs.WrittenNumbers.{number_between-ok, number_between-decimal, decimal_blankless}
 
 ok_same : {A : Type 0} (a b : A) (x y : Result A LineFault) → x ≡ Ok a → y ≡ Ok b → x ≡ y → a ≡ b

@@ -10,3 +10,4 @@ pub mod TimingLine
 pub mod TraceLines
 pub mod Words
 pub mod WrittenNumbers
+pub mod lemmas

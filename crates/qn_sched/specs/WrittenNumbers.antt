@@ -1,5 +1,5 @@
 -- A number is accepted exactly where it is written as `decimal` writes it.
-use Rattle.std.proofs.Common.{◌≡◌, ℕ, ◌^◌, ◌<◌, ◌≤◌, Bool, true, false, ◌&&◌, ◌||◌, ◌==◌, List, [], ◌∷◌, length, get_or, Option, None, Some, Result, Ok, Err, refl, sym, ap, ◌∙◌, arith, nat_lt, nat_le, cond, lit<, zero, suc, ◌⊎◌, inl, inr}
+use Rattle.std.proofs.Common.{◌≡◌, ℕ, ◌^◌, ◌<◌, ◌≤◌, Bool, true, false, ◌&&◌, ◌||◌, ◌==◌, List, [], ◌∷◌, length, get_or, Option, None, Some, Result, Ok, Err, refl, sym, ap, ◌∙◌, arith, nat_lt, nat_le, cond, zero, suc, ◌⊎◌, inl, inr}
 use Rattle.std.specs.Prelude.{decimal}
 use Rattle.std.specs.Option.{ok_or}
 use Rattle.std.specs.Str.{all_ascii_digits}
@@ -7,30 +7,15 @@ use Rattle.std.specs.Str.Parse.{digits_value}
 use Rattle.std.proofs.lemmas.Bool.{leb-true, ltb-true, ltb-false, eqb-false, and_parts, or_parts, ne_eqb}
 use Rattle.std.proofs.lemmas.List.{get_or_default}
 use Rattle.std.proofs.lemmas.Bool.Decides.{nat_tests}
-use Rattle.std.proofs.lemmas.Fmt.{digits_decimal, digits_value-decimal, decimal_nonempty, length-decimal-le, first_decimal, decimal_digit, decimal-digits_value}
+use Rattle.std.proofs.lemmas.Fmt.{digits_decimal, first_decimal, decimal_digit, decimal-digits_value}
 use Rattle.std.specs.Prelude.{All}
 use Rattle.std.specs.Int.{IsInRange}
-use Rattle.std.proofs.lemmas.Str.Parse.{IsNumeralModel, numerals_by_value, tells_all_ascii_digits, tells_by_index}
+use Rattle.std.proofs.lemmas.Str.Parse.{numerals_by_value, tells_by_index}
 use Rattle.qn_base.specs.Decimal.{is_decimal, number_of}
+use Rattle.qn_base.specs.lemmas.Decimals.{numerals, number_of-decimal}
 use Rattle.qn_model.specs.declared.line_fault.LineFault.{LineFault}
 use Rattle.qn_model.specs.declared.line_fault.LineFault.TheVariants.{BadNumber}
 use Rattle.qn_model.specs.Lines.{◌>>=◌, has_leading_zero, number_between}
-
--- the digits' own words are std's
-numerals : IsNumeralModel (λ ds. all_ascii_digits ds ≡ true) (digits_value 10)
-numerals = numerals_by_value (λ ds. all_ascii_digits ds ≡ true) tells_all_ascii_digits
-
--- what is written is a number
-number_of-decimal : (n : ℕ) → n < 2 ^ 64 → number_of (decimal n) ≡ Some n
-number_of-decimal n small =
-    let long : 0 < length (decimal n) = decimal_nonempty n small in
-    let short : length (decimal n) ≤ 20 = length-decimal-le 20 n (lit< tt) (omega arith) small in
-    let digits : all_ascii_digits (decimal n) ≡ true = digits_decimal numerals n small in
-    let value : digits_value 10 (decimal n) ≡ n = digits_value-decimal numerals n small in
-    let low : nat_le 1 (length (decimal n)) ≡ true = grind (arith, nat_tests) in
-    let high : nat_le (length (decimal n)) 20 ≡ true = grind (arith, nat_tests) in
-    let fits : nat_lt n (2 ^ 64) ≡ true = grind (arith, nat_tests) in
-    rw (low, high, digits, value, fits) refl
 
 -- a text whose first byte is no zero has no leading zero
 no_leading_zero : (word : List ℕ) → 48 < get_or word 0 0 → has_leading_zero word ≡ false

@@ -1,10 +1,11 @@
 -- Bytes are opened exactly where they are a spelling.
-use Rattle.std.proofs.Common.{◌≡◌, ◌<◌, ◌≤◌, ◌^◌, ◌-◌, ◌+◌, ℕ, Bool, true, false, ◌&&◌, nat_le, List, ◌++◌, length, drop, take, Option, Some, None, IfSome, IfNone, option_map, if◌then◌else◌, refl, sym, ap, ◌∙◌, arith}
+use Rattle.std.proofs.Common.{◌≡◌, ◌<◌, ◌≤◌, ◌^◌, ◌-◌, ◌+◌, ℕ, Bool, true, false, List, ◌++◌, length, drop, take, Option, Some, None, IfSome, IfNone, option_map, if◌then◌else◌, refl, sym, ap, ◌∙◌, arith}
 use Rattle.std.specs.Int.{bytes_high_first}
-use Rattle.std.proofs.lemmas.Bool.Decides.{nat_tests}
 use Rattle.std.proofs.lemmas.Slice.Eq.{bytes_eq-Decides}
 use Rattle.std.proofs.lemmas.List.{length-append, length-drop, length-take}
 use Rattle.std.proofs.Math.Seq.{take-append_seam, drop-append_seam}
+use Rattle.std.proofs.lemmas.Bool.{and_parts, and_from, cond-true, leb-true, le-leb}
+use Rattle.std.proofs.lemmas.Option.{cond_some}
 use Rattle.byteorder.specs.Numbers.{big_number-reads_back}
 use Rattle.sha2.proofs.Facts256.{length-sha256}
 use Rattle.qn_mac.specs.Hmac.{hmac}
@@ -13,21 +14,8 @@ use Rattle.qn_seal.specs.declared.seals.Seal.{Seal}
 use Rattle.qn_seal.specs.Seals.{head_bytes, sealed, IsSeal, Spells}
 use Rattle.qn_seal.specs.Opening.{opened, seal_at, inner_at}
 
-and_both : (first second : Bool) → (first && second) ≡ true → (first ≡ true) × (second ≡ true)
-and_both true second holds = (refl, holds)
-and_both false second holds = cc
-
-both_hold : (first second : Bool) → first ≡ true → second ≡ true → (first && second) ≡ true
-both_hold first second one other = rw (one, other) refl
-
 same_seal : (first second : Seal) → first.from ≡ second.from → first.to ≡ second.to → first.boot ≡ second.boot → first.number ≡ second.number → first ≡ second
 same_seal first second from to boot number = rw (from, to, boot, number) refl
-
-tested : (n m : ℕ) → nat_le n m ≡ true → n ≤ m
-tested n m is = grind (arith, nat_tests)
-
-test_holds : (n m : ℕ) → n ≤ m → nat_le n m ≡ true
-test_holds n m is = grind (arith, nat_tests)
 
 -- the fields of a head are read back
 seal_back : (key : ℕ) (seal : Seal) (inner tag : List ℕ) → seal.boot < 2 ^ 64 → seal.number < 2 ^ 64 → seal_at ((head_bytes key seal ++ inner) ++ tag) ≡ seal
@@ -58,22 +46,15 @@ inner_sizes bytes long short =
     let size : length (inner_at bytes) ≡ length bytes - 54 = grind (arith, length-drop 22 (take (length bytes - 32) bytes), length-take (length bytes - 32) bytes) in
     (rw size (omega arith), rw size (omega arith))
 
-when_true : {A : Type 0} (test : Bool) (found : A) → test ≡ true → (if test then Some found else None) ≡ Some found
-when_true test found holds = rw holds refl
-
-when_some : {A : Type 0} (test : Bool) (p found : A) → (if test then Some p else None) ≡ Some found → (test ≡ true) × (found ≡ p)
-when_some true p found is = (refl, cc)
-when_some false p found is = cc
-
 opened_spells : (key : Key) (text bytes : List ℕ) (seal : Seal) (inner : List ℕ) → opened key text bytes ≡ Some (seal, inner) → Spells key text bytes seal inner
 unfolding opened
 opened_spells key text bytes seal inner is =
-    let found = when_some _ (seal_at bytes, inner_at bytes) (seal, inner) is in
-    let tests = and_both _ _ found.0 in
-    let bounds = and_both _ _ tests.0 in
-    let same_seal : seal ≡ seal_at bytes = ap (λ p. p.0) found.1 in
-    let same_inner : inner ≡ inner_at bytes = ap (λ p. p.1) found.1 in
-    let sizes = inner_sizes bytes (tested _ _ bounds.0) (tested _ _ bounds.1) in
+    let found = cond_some _ (seal_at bytes, inner_at bytes) (seal, inner) is in
+    let tests = and_parts _ _ found.0 in
+    let bounds = and_parts _ _ tests.0 in
+    let same_seal : seal ≡ seal_at bytes = ap (λ p. p.0) (sym found.1) in
+    let same_inner : inner ≡ inner_at bytes = ap (λ p. p.1) (sym found.1) in
+    let sizes = inner_sizes bytes (leb-true _ _ bounds.0) (leb-true _ _ bounds.1) in
     record {
       long = rw same_inner sizes.0;
       short = rw same_inner sizes.1;
@@ -84,7 +65,7 @@ opens_where : (key : Key) (text bytes : List ℕ) (seal : Seal) (inner : List �
 unfolding opened
 opens_where key text bytes seal inner is is_seal is_inner long short =
     let same : sealed key text (seal_at bytes) (inner_at bytes) ≡ bytes = rw (is_seal, is_inner) (sym is) in
-    when_true _ (seal_at bytes, inner_at bytes) (both_hold _ _ (both_hold _ _ (test_holds _ _ long) (test_holds _ _ short)) ((bytes_eq-Decides _ _).1 same)) ∙ rw (is_seal, is_inner) refl
+    cond-true _ (Some (seal_at bytes, inner_at bytes)) None (and_from _ _ (and_from _ _ (le-leb _ _ long) (le-leb _ _ short)) ((bytes_eq-Decides _ _).1 same)) ∙ rw (is_seal, is_inner) refl
 
 spelling_opens : (key : Key) (text : List ℕ) (seal : Seal) (inner : List ℕ) → 4 ≤ length inner → length inner ≤ 74 → seal.boot < 2 ^ 64 → seal.number < 2 ^ 64 → opened key text (sealed key text seal inner) ≡ Some (seal, inner)
 spelling_opens key text seal inner long short boot number =

@@ -4,12 +4,13 @@ use Rattle.std.specs.Str.{bytes_eq}
 use Rattle.std.specs.Int.{bytes_high_first}
 use Rattle.std.proofs.lemmas.Bool.Decides.{nat_tests}
 use Rattle.std.proofs.lemmas.Slice.Eq.{bytes_eq-Decides}
+use Rattle.std.proofs.lemmas.Bool.{and_parts, and_from}
 use Rattle.byteorder.specs.Numbers.{big_number-reads_back}
+use Rattle.qn_base.specs.lemmas.Options.{some_if_true, true_if_some}
 use Rattle.qn_model.specs.declared.times.Timing.{Timing}
 use Rattle.qn_model.specs.Sectors.{header_bytes_in, zeros}
 use Rattle.qn_model.specs.Timing.{has_periods, is_period}
 use Rattle.qn_sector.specs.Reading.{SpellsHeader, nodes_at, timing_at, is_header, header_in}
-use Rattle.qn_sector.proofs.Choices.{when_both, when_some, and_both}
 
 -- each time of a header fits its eight bytes
 record Fit (t : Timing) : Type 0 where
@@ -24,10 +25,10 @@ period_fits time is = grind (arith, nat_tests)
 
 times_fit : (t : Timing) → has_periods t ≡ true → Fit t
 times_fit t are =
-    let four = and_both _ _ are in
-    let three = and_both _ _ four.0 in
-    let two = and_both _ _ three.0 in
-    let one = and_both _ _ two.0 in
+    let four = and_parts _ _ are in
+    let three = and_parts _ _ four.0 in
+    let two = and_parts _ _ three.0 in
+    let one = and_parts _ _ two.0 in
     record {
       watchdog = period_fits t.watchdog one.0;
       msgwait = period_fits t.msgwait one.1;
@@ -65,7 +66,7 @@ judged version sector nodes t =
 
 judged-spelling : (version : ℕ) (sector : List ℕ) (nodes : ℕ) (t : Timing) → is_header nodes t ≡ true → sector ≡ header_bytes_in version nodes t → judged version sector nodes t ≡ Some (nodes, t)
 judged-spelling version sector nodes t in_range spelled =
-    when_both _ _ (nodes, t) in_range ((bytes_eq-Decides _ _).1 (sym spelled))
+    some_if_true _ (nodes, t) (and_from _ _ in_range ((bytes_eq-Decides _ _).1 (sym spelled)))
 
 header_in-read : (version : ℕ) (sector : List ℕ) (nodes : ℕ) (t : Timing) → nodes_at sector ≡ nodes → timing_at sector ≡ t → header_in version sector ≡ judged version sector nodes t
 unfolding header_in
@@ -84,13 +85,13 @@ header_in-spelling version sector nodes t spells =
 pub header_in-spells : (version : ℕ) (sector : List ℕ) (nodes : ℕ) (t : Timing) → header_in version sector ≡ Some (nodes, t) → SpellsHeader version sector nodes t
 unfolding header_in
 header_in-spells version sector nodes t is =
-    let found = when_some _ _ (nodes, t) is in
-    let tests = and_both _ _ found.0 in
+    let found = true_if_some _ _ (nodes, t) is in
+    let tests = and_parts _ _ found.0 in
     let same_nodes : nodes ≡ nodes_at sector = ap (λ h. h.0) found.1 in
     let same_times : t ≡ timing_at sector = ap (λ h. h.1) found.1 in
     let ranges : is_header nodes t ≡ true = rw (same_nodes, same_times) tests.0 in
-    let of_header = and_both _ _ ranges in
-    let of_nodes = and_both _ _ of_header.0 in
+    let of_header = and_parts _ _ ranges in
+    let of_nodes = and_parts _ _ of_header.0 in
     record {
       some_nodes = at_least nodes of_nodes.0;
       few_nodes = at_most nodes of_nodes.1;

@@ -1,4 +1,3 @@
-pub mod Choices
 pub mod HeaderSpelling
 pub mod MailSpelling
 pub mod SlotSpelling

@@ -4,13 +4,13 @@ use Rattle.std.specs.Int.{bytes_high_first}
 use Rattle.std.specs.Str.{bytes_eq}
 use Rattle.std.proofs.lemmas.Slice.Eq.{bytes_eq-Decides}
 use Rattle.byteorder.specs.Numbers.{big_number-reads_back}
+use Rattle.qn_base.specs.lemmas.Options.{some_if_true, true_if_some}
 use Rattle.qn_model.specs.declared.disk.Message.{Message}
 use Rattle.qn_model.specs.declared.disk.Message.TheVariants.{Empty, Test, Reset, Off, Exit, Crashdump}
 use Rattle.qn_model.specs.declared.mailbox.Mail.{Mail}
 use Rattle.qn_model.specs.declared.mailbox.Sender.{Sender}
 use Rattle.qn_model.specs.Sectors.{IsSender, anonymous, mail_bytes, mail_bytes_1, message_code, zeros}
 use Rattle.qn_sector.specs.Reading.{SpellsMail, if_spelled, mail_of, mail_of_1, message_of, nobodys, sender_at}
-use Rattle.qn_sector.proofs.Choices.{when_true, when_some}
 
 -- a message is read from its byte
 message_of-message_code : (message : Message) → message_of (message_code message) ≡ Some message
@@ -43,7 +43,7 @@ code_at-mail_bytes mail = refl
 -- what a sector is read as, once these fields were taken from it
 judged : (sector : List ℕ) (mail : Mail) (read : Option Message) (by : Option Sender) → read ≡ Some mail.message → by ≡ mail.by → sector ≡ mail_bytes mail → option_and_then (λ message. if_spelled sector (record { message = message; by = by })) read ≡ Some mail
 judged sector mail read by same_message same_by spelled =
-    rw (same_message, same_by) (when_true (bytes_eq (mail_bytes mail) sector) mail ((bytes_eq-Decides (mail_bytes mail) sector).1 (sym spelled)))
+    rw (same_message, same_by) (some_if_true (bytes_eq (mail_bytes mail) sector) mail ((bytes_eq-Decides (mail_bytes mail) sector).1 (sym spelled)))
 
 -- a spelling is read as what it spells
 pub mail_of-spelling : (sector : List ℕ) (mail : Mail) → SpellsMail sector mail → mail_of sector ≡ Some mail
@@ -60,7 +60,7 @@ mail_of-spelling sector mail spells =
 spelled_mail : (sector : List ℕ) (by : Option Sender) (read : Option Message) (mail : Mail) → option_and_then (λ message. if_spelled sector (record { message = message; by = by })) read ≡ Some mail → sector ≡ mail_bytes mail
 spelled_mail sector by None mail is = cc
 spelled_mail sector by (Some message) mail is =
-    let found = when_some _ (record { message = message; by = by }) mail is in
+    let found = true_if_some _ (record { message = message; by = by }) mail is in
     rw found.1 (sym ((bytes_eq-Decides _ _).0 found.0))
 
 -- what is read as a mailbox is its spelling

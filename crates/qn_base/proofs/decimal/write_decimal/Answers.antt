@@ -1,8 +1,8 @@
 use Rattle.std.proofs.Common.{◌≡◌, ap, ◌∙◌, arith}
 use Rattle.std.specs.Prelude.{decimal}
 use Rattle.qn_base.specs.Decimal.{number_of}
-use Rattle.qn_base.proofs.Digits.{number_of-decimal}
 use Rattle.qn_base.proofs.decimal.write_decimal.Goals as goal
+use Rattle.qn_base.specs.lemmas.Decimals.{number_of-decimal}
 
 pub returns-clause-reads_back : goal.returns-clause-reads_back
 returns-clause-reads_back c =

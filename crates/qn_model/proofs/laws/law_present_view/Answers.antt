@@ -1,4 +1,4 @@
-use Rattle.qn_model.proofs.VoteLists.{present_view-votes}
+use Rattle.qn_model.specs.lemmas.VoteLists.{present_view-votes}
 use Rattle.qn_model.proofs.laws.law_present_view.Goals as goal
 
 pub returns : goal.returns

@@ -11,7 +11,8 @@ passes_here test from found later true passed rest is = subst (λ n. test n ≡ 
 passes_here test from found later false passed rest is = rest is
 
 -- the least number that passes a test passes it
-pub least_passes : (count from : ℕ) (test : ℕ → Bool) (found : ℕ) → least_from count from test ≡ Some found → test found ≡ true
+pub least_passes : (count from : ℕ) (test : ℕ → Bool) (found : ℕ) → least_from count from test ≡ Some found
+    → test found ≡ true
 unfolding least_from
 least_passes zero from test found e = absurd (none-some found e)
 least_passes (suc count) from test found e =
@@ -31,12 +32,14 @@ least_none (suc count) from test e j above below =
     let parts = none_here test from (least_from count (from + 1) test) (test from) refl e in
     at_or_behind (cases_order from j) parts.0 (λ past. least_none count (from + 1) test parts.1 j (omega arith) (omega arith))
   where
-    at_or_behind : (from ≡ j) ⊎ ((from < j) ⊎ (j < from)) → test from ≡ false → (from < j → test j ≡ false) → test j ≡ false
+    at_or_behind : (from ≡ j) ⊎ ((from < j) ⊎ (j < from)) → test from ≡ false → (from < j → test j ≡ false)
+        → test j ≡ false
     at_or_behind (inl same) here rest = subst (λ n. test n ≡ false) same here
     at_or_behind (inr (inl past)) here rest = rest past
     at_or_behind (inr (inr behind)) here rest = absurd (omega arith)
 
-least_at : (test : ℕ → Bool) (from found j : ℕ) (later : Option ℕ) (b : Bool) → test from ≡ b → cond b (Some from) later ≡ Some found
+least_at : (test : ℕ → Bool) (from found j : ℕ) (later : Option ℕ) (b : Bool) → test from ≡ b
+    → cond b (Some from) later ≡ Some found
     → from ≤ j → j < found → (from < j → later ≡ Some found → test j ≡ false) → test j ≡ false
 least_at test from found j later true passed e above below rest =
     let same : from ≡ found = same_Some _ _ e in absurd (omega arith)
@@ -62,7 +65,8 @@ bound_here from found below later true under e rest = let same : from ≡ found 
 bound_here from found below later false under e rest = rest e
 
 -- it is among the numbers that were tried
-pub least_bound : (count from : ℕ) (test : ℕ → Bool) (found : ℕ) → least_from count from test ≡ Some found → found < from + count
+pub least_bound : (count from : ℕ) (test : ℕ → Bool) (found : ℕ) → least_from count from test ≡ Some found
+    → found < from + count
 unfolding least_from
 least_bound zero from test found e = absurd (none-some found e)
 least_bound (suc count) from test found e =
