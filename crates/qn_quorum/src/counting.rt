@@ -161,9 +161,11 @@ impl Quorum {
     fn is_last_man(&self, present: Present, now: u64) -> bool
         ensures { result ≡ is_last_man self.now present now }
     {
+        if !self.settings.last_man_standing {
+            return false;
+        }
         let votes = self.settings.nodes.votes_among(present.members);
-        self.settings.last_man_standing
-            && present.window_end.is_reached(now)
+        present.window_end.is_reached(now)
             && self.released
             && votes >= self.settings.quorum(self.expected)
             && votes < self.expected
