@@ -2,8 +2,8 @@
 ghost use Rattle.std.specs.Prelude.{◌≡◌, ◌≤◌, ◌+◌, ◌++◌, [], length, decimal};
 ghost use Rattle.qn_base.specs.Text.{yes_no};
 
-use crate::decimal::write_decimal;
 use arrayvec::ArrayVec;
+use itoa::Buffer;
 use std::marker::Model;
 
 /// `yes` or `no`.
@@ -29,9 +29,12 @@ pub fn add_number<const N: usize>(into: &mut ArrayVec<u8, N>, number: u64)
     ensures text { into.new.items ≡ into.old.items ++ decimal number }
     ensures len { length into.new.items ≤ length into.old.items + 20 }
 {
-    let mut digits = ArrayVec::new();
-    write_decimal(number, &mut digits);
-    let _ = into.try_extend_from_slice(digits.as_slice());
+    if number < 10 {
+        into.push(b'0' + number as u8);
+    } else {
+        let mut digits = Buffer::new();
+        add(into, digits.format(number).as_bytes());
+    }
 }
 
 /// A text of at most 256 bytes while it is put together, without memory of its own.

@@ -1,6 +1,6 @@
 -- The Asks to the members of a mask, one rank after the other.
-use Rattle.std.proofs.Common.{◌≡◌, ℕ, suc, zero, ◌+◌, Bool, true, false, List, [], ◌∷◌, ◌++◌, map, Option, None, Some, refl, sym, ap, ◌∙◌, append_assoc, arith}
-use Rattle.std.specs.Prelude.{if◌then◌else◌, filter}
+use Rattle.std.proofs.Common.{◌≡◌, ◌<◌, ℕ, suc, zero, ◌+◌, Bool, true, false, List, [], ◌∷◌, ◌++◌, map, Option, None, Some, refl, sym, ap, ◌∙◌, append_assoc, arith}
+use Rattle.std.specs.Prelude.{IfNone, filter, if◌then◌else◌, is_some}
 use Rattle.std.specs.Option.{option_map, option_map_or}
 use Rattle.std.specs.List.{range_with_len}
 use Rattle.qn_base.specs.declared.ids.View.{View}
@@ -58,6 +58,19 @@ asks_step f test count present start before after was is =
     ∙ (append_assoc start (option_map_or (λ view. map (f view) (filter test (range_with_len 0 count))) present []) (option_map_or (λ view. if test count then f view count ∷ [] else []) present [])
     ∙ ap (λ more. start ++ more) (asks_more f test count present)))
 
+-- nobody is asked
+picked_none : (f : ℕ → Out) (test : ℕ → Bool) (from count : ℕ) → ((rank : ℕ) → rank < from + count → test rank ≡ false)
+    → map f (filter test (range_with_len from count)) ≡ []
+picked_none f test from zero none = refl
+picked_none f test from (suc count) none =
+    let here : test from ≡ false = none from (omega arith) in
+    rw here (picked_none f test (from + 1) count (λ rank low. none rank (omega arith)))
+
+pub asks_nobody : (f : View → ℕ → Out) (test : ℕ → Bool) (count : ℕ) (present : Option View) → ((rank : ℕ) → rank < count → test rank ≡ false)
+    → option_map_or (λ view. map (f view) (filter test (range_with_len 0 count))) present [] ≡ []
+asks_nobody f test count None none = refl
+asks_nobody f test count (Some view) none = picked_none (f view) test 0 count (λ rank low. none rank (omega arith))
+
 -- the Ask to a rank that is asked
 pub ask_here : (f : View → Out) (sent : Out) (present : Option View) → Some sent ≡ option_map f present → option_map_or (λ view. f view ∷ []) present [] ≡ sent ∷ []
 ask_here f sent None is = absurd (cc)
@@ -75,3 +88,7 @@ unasked f (Some view) = refl
 pub none_of : {A : Type 0} (o : Option A) → ((a : A) → o ≡ Some a → ⊥) → o ≡ None
 none_of None never = refl
 none_of (Some a) never = absurd (never a refl)
+
+pub if_none : {A : Type 0} (o : Option A) (P : Type 0) → is_some o ≡ false → IfNone o P → P
+if_none None P is h = h
+if_none (Some a) P is h = absurd (cc)

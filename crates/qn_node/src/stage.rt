@@ -72,6 +72,30 @@ impl Stage {
             }
             return;
         }
+        self.step_quiet(own, tally, entry, outs);
+    }
+
+    /// The same, of a node that takes no part.
+    fn step_quiet(&mut self, own: &Own, tally: &mut Tally, entry: Entry, outs: &mut Outs)
+        requires quiet { takes_part self.old ≡ false }
+        requires few_counted { tally.old.installs < u64.MAX }
+        requires empty { outs.old ≡ [] }
+        ensures few { installs_in self.new ≡ 0 }
+        ensures few_counted { tally.new.installs ≤ tally.old.installs + 1 }
+        ensures counts { (log : List Line)
+            → StageFor self.old own.now.settings own.now.me.0 log
+            → TallyFor tally.old own.now.settings (votes log)
+            → TallyFor tally.new own.now.settings
+            (votes (with_entry own.now.settings own.now.me.0 log entry)) }
+        ensures stands { (log : List Line)
+            → StageFor self.old own.now.settings own.now.me.0 log
+            → IsAskedInside log
+            → StageFor self.new own.now.settings own.now.me.0
+            (with_entry own.now.settings own.now.me.0 log entry) }
+        ensures outs { (log : List Line)
+            → StageFor self.old own.now.settings own.now.me.0 log
+            → outs.new ≡ newest_outs (with_entry own.now.settings own.now.me.0 log entry) }
+    {
         tally.count(own, entry.tick, VoteWhat::Tick);
         let quiet = mem::replace(self, Stage::Idle);
         *self = quiet.next(own, entry, outs);

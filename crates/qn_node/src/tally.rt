@@ -83,9 +83,8 @@ impl Tally {
             → result ≡ answer_with_tie_at own.now.settings past tick }
     {
         let count = self.quorum.answer(tick);
-        let decides = self.breaks_tie(own, count.expected);
         Answer {
-            quorate: count.quorate || count.released && decides,
+            quorate: count.quorate || count.released && self.breaks_tie(own, count.expected),
             ..count
         }
     }

@@ -11,11 +11,11 @@ use Rattle.qn_model.specs.Votes.{answer_at, counted_votes, device_yes, expected_
 use Rattle.qn_quorum.specs.declared.deadlines.Deadline.{Deadline}
 use Rattle.qn_quorum.specs.declared.counting.Present.{Present}
 use Rattle.qn_quorum.specs.declared.counting.Quorum.{Quorum}
-use Rattle.qn_quorum.specs.Agreed.{agreed_until, votes_until}
-use Rattle.qn_quorum.specs.Counting.{agreed_votes, count_at, counted, is_last_man, present_votes, with_agreed, with_device, with_last_man, with_view}
+use Rattle.qn_quorum.specs.Agreed.{agreed_until}
+use Rattle.qn_quorum.specs.Counting.{count_at, counted, is_last_man, votes_at, votes_of_device as device_votes, with_agreed, with_device, with_last_man, with_view}
 use Rattle.qn_quorum.specs.Deadline.{deadline_at}
 use Rattle.qn_quorum.specs.Quorum.{QuorumFor, present_of}
-use Rattle.qn_quorum.proofs.Spans.{reached, votes_until-agreed}
+use Rattle.qn_quorum.proofs.Spans.{reached, with_agreed_votes}
 
 -- a count has taken an entry in, and last man standing is still to be asked
 record Taken (q : Quorum) (s : Settings) (entry : VoteEntry) (past : List VoteEntry) : Type 0 where
@@ -26,7 +26,7 @@ record Taken (q : Quorum) (s : Settings) (entry : VoteEntry) (past : List VoteEn
 
 -- what is kept of a view
 abbrev kept_of : Settings → ℕ → Option Deadline → View → Present
-kept_of s since until view = record { members = view.members; window_end = deadline_at (since + s.window); agreed_until = until }
+kept_of s since until view = record { votes = votes_among s.nodes view.members; votes_with_device = votes_among s.nodes view.members + device_votes s; window_end = deadline_at (since + s.window); agreed_until = until }
 
 -- no view, no last man
 no_last_man : (on timely released enough fewer : Bool) (before : ℕ)
@@ -42,7 +42,7 @@ with_view_there false = refl
 last_man : (q : Quorum) (s : Settings) (view : Option View) (since : ℕ) (until : Option Deadline) (released : Bool) (before now : ℕ)
     → now < 2 ^ 64
     → q.settings ≡ s → q.released ≡ released → q.expected ≡ before
-    → option_map_or (λ p. if is_last_man q p now then present_votes q.settings p else q.expected) (option_map (kept_of s since until) view) q.expected
+    → option_map_or (λ p. if is_last_man q p now then p.votes else q.expected) (option_map (kept_of s since until) view) q.expected
     ≡ (let votes = option_map_or (λ v. votes_among s.nodes v.members) view 0 in
     if s.last_man_standing && is_some view && nat_le (since + s.window) now && released && nat_le (quorum_of s before) votes && nat_lt votes before then votes else before)
 last_man q s None since until released before now small settings free expects =
@@ -58,7 +58,7 @@ asked q s entry past small taken = record {
   has_settings = taken.has_settings;
   has_present = taken.has_present;
   has_expected =
-      ap (λ present. option_map_or (λ p. if is_last_man q p entry.tick then present_votes q.settings p else q.expected) present q.expected) taken.has_present
+      ap (λ present. option_map_or (λ p. if is_last_man q p entry.tick then p.votes else q.expected) present q.expected) taken.has_present
       ∙ last_man q s (present_view (entry ∷ past)) (view_tick (entry ∷ past)) (agreed_until s.device (device_yes (entry ∷ past))) (is_released s (entry ∷ past)) (raised s entry.what (expected_votes s past)) entry.tick small taken.has_settings taken.has_released taken.has_expected;
   has_released = taken.has_released;
 }
@@ -120,20 +120,13 @@ tick_stands q s tick past small stands =
       has_released = stands.has_released;
     })
 
--- the device's votes, over a device that may not be there
-agreed_same : (device : Option Device) (since : Option ℕ) (now : ℕ) → now < 2 ^ 64
-    → option_map_or (λ d. votes_until d (agreed_until device since) now) device 0
-    ≡ option_map_or (λ d. votes_of_device d since now) device 0
-agreed_same None since now small = refl
-agreed_same (Some device) since now small = votes_until-agreed device since now small
-
 -- the votes that count, over a view that may not be there
-counted_same : (q : Quorum) (s : Settings) (view : Option View) (since : ℕ) (agreed : Option ℕ) (now : ℕ) → now < 2 ^ 64
-    → q.settings ≡ s
-    → option_map_or (λ p. present_votes q.settings p + agreed_votes q.settings p now) (option_map (kept_of s since (agreed_until s.device agreed)) view) 0
+counted_same : (s : Settings) (view : Option View) (since : ℕ) (agreed : Option ℕ) (now : ℕ) → now < 2 ^ 64
+    → option_map_or (votes_at now) (option_map (kept_of s since (agreed_until s.device agreed)) view) 0
     ≡ (if is_some view then option_map_or (λ v. votes_among s.nodes v.members) view 0 + (if s.last_man_standing then 0 else option_map_or (λ d. votes_of_device d agreed now) s.device 0) else 0)
-counted_same q s None since agreed now small settings = refl
-counted_same q s (Some view) since agreed now small settings = rw (settings, agreed_same s.device agreed now small)
+counted_same s None since agreed now small = refl
+counted_same s (Some view) since agreed now small =
+    with_agreed_votes s.last_man_standing s.device agreed (votes_among s.nodes view.members) now small
 
 is_some-kept : (s : Settings) (since : ℕ) (until : Option Deadline) (view : Option View)
     → is_some (option_map (kept_of s since until) view) ≡ is_some view
@@ -148,6 +141,6 @@ count_stands q s votes now small stands =
     let until = agreed_until s.device (device_yes votes) in
     let some : is_some q.present ≡ is_some (present_view votes) = ap is_some stands.has_present ∙ is_some-kept s (view_tick votes) until (present_view votes) in
     let sum : counted q now ≡ counted_votes s votes now =
-    ap (λ present. option_map_or (λ p. present_votes q.settings p + agreed_votes q.settings p now) present 0) stands.has_present
-    ∙ counted_same q s (present_view votes) (view_tick votes) (device_yes votes) now small stands.has_settings in
+    ap (λ present. option_map_or (votes_at now) present 0) stands.has_present
+    ∙ counted_same s (present_view votes) (view_tick votes) (device_yes votes) now small in
     cc

@@ -1,5 +1,5 @@
 -- What each entry does to a count, and what a count answers, by what it keeps.
-use Rattle.std.specs.Prelude.{ℕ, Bool, Option, None, Some, ◌+◌, ◌&&◌, ◌||◌, max, nat_le, nat_lt, is_some, if◌then◌else◌}
+use Rattle.std.specs.Prelude.{ℕ, Bool, true, Option, None, Some, ◌+◌, ◌&&◌, ◌||◌, max, nat_le, nat_lt, is_some, if◌then◌else◌}
 use Rattle.std.specs.Option.{option_map, option_map_or}
 use Rattle.qn_base.specs.declared.ids.View.{View}
 use Rattle.qn_model.specs.declared.configuration.Settings.{Settings}
@@ -8,12 +8,12 @@ use Rattle.qn_model.specs.Votes.{are_all_in, quorum_of, votes_among}
 use Rattle.qn_quorum.specs.declared.counting.Present.{Present}
 use Rattle.qn_quorum.specs.declared.counting.Quorum.{Quorum}
 use Rattle.qn_quorum.specs.declared.deadlines.Deadline.{Deadline}
-use Rattle.qn_quorum.specs.Agreed.{agreed_until, votes_until}
+use Rattle.qn_quorum.specs.Agreed.{agreed_until}
 use Rattle.qn_quorum.specs.Deadline.{deadline_at, is_reached}
 
--- the votes of the present view
-abbrev pub present_votes : Settings → Present → ℕ
-present_votes s p = votes_among s.nodes p.members
+-- the device's votes, by the settings: with last man standing they count for nothing (this project's profile)
+abbrev pub votes_of_device : Settings → ℕ
+votes_of_device s = if s.last_man_standing then 0 else option_map_or (λ device. device.votes) s.device 0
 
 -- a count after a view, before last man standing is asked
 abbrev pub with_view : ℕ → View → Quorum → Quorum
@@ -21,7 +21,8 @@ with_view tick view q =
     record {
       settings = q.settings;
       present = Some (record {
-        members = view.members;
+        votes = votes_among q.settings.nodes view.members;
+        votes_with_device = votes_among q.settings.nodes view.members + votes_of_device q.settings;
         window_end = deadline_at (tick + q.settings.window);
         agreed_until = None;
       });
@@ -42,21 +43,21 @@ with_device tick agrees q =
 -- whether last man standing makes the present view's votes the expected ones
 abbrev pub is_last_man : Quorum → Present → ℕ → Bool
 is_last_man q p now =
-    q.settings.last_man_standing && is_reached p.window_end now && q.released && nat_le (quorum_of q.settings q.expected) (present_votes q.settings p) && nat_lt (present_votes q.settings p) q.expected
+    q.settings.last_man_standing && is_reached p.window_end now && q.released && nat_le (quorum_of q.settings q.expected) p.votes && nat_lt p.votes q.expected
 
 -- a count after last man standing was asked
 abbrev pub with_last_man : ℕ → Quorum → Quorum
 with_last_man now q =
-    record q { expected = option_map_or (λ p. if is_last_man q p now then present_votes q.settings p else q.expected) q.present q.expected }
+    record q { expected = option_map_or (λ p. if is_last_man q p now then p.votes else q.expected) q.present q.expected }
 
--- the device's votes under the present view at a tick
-abbrev pub agreed_votes : Settings → Present → ℕ → ℕ
-agreed_votes s p now =
-    if s.last_man_standing then 0 else option_map_or (λ device. votes_until device p.agreed_until now) s.device 0
+-- the votes of the present view that count at a tick: the device's too, until the end of its yes
+abbrev pub votes_at : ℕ → Present → ℕ
+votes_at now p =
+    if option_map_or (λ end. is_reached end now) p.agreed_until true then p.votes else p.votes_with_device
 
 -- the votes that count at a tick
 abbrev pub counted : Quorum → ℕ → ℕ
-counted q now = option_map_or (λ p. present_votes q.settings p + agreed_votes q.settings p now) q.present 0
+counted q now = option_map_or (votes_at now) q.present 0
 
 -- the answer at a tick
 abbrev pub count_at : Quorum → ℕ → Answer

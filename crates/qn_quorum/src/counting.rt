@@ -1,9 +1,8 @@
 //! The count of votes and the entries that change it.
 ghost use Rattle.std.specs.Prelude.{◌≡◌, ◌≤◌};
-ghost use Rattle.qn_quorum.specs.Agreed.{votes_until};
 
 use crate::deadlines::Deadline;
-use qn_base::{Mask, View};
+use qn_base::View;
 use qn_model::{Answer, Device, Settings};
 
 /// The count of votes of one node: what its entries so far come to. Ticks are milliseconds of the node's
@@ -16,13 +15,29 @@ pub struct Quorum {
     released: bool,
 }
 
-/// The present view: its members, the end of the window of last man standing, and until when the
-/// device's standing yes counts.
+/// What is kept of the present view: the votes of its members, and with those of the device; the end of the
+/// window of last man standing, and until when the device's standing yes counts.
 #[derive(Clone, Copy)]
 struct Present {
-    members: Mask,
+    votes: u64,
+    votes_with_device: u64,
     window_end: Deadline,
     agreed_until: Option<Deadline>,
+}
+
+impl Present {
+    ghost use Rattle.std.specs.Prelude.{◌≡◌};
+    ghost use Rattle.qn_quorum.specs.Counting.{votes_at};
+
+    /// The votes that count at a tick: the device's too, as long as its yes counts.
+    fn votes_at(self, now: u64) -> u64
+        ensures { result ≡ votes_at now self }
+    {
+        match self.agreed_until {
+            Some(until) if !until.is_reached(now) => self.votes_with_device,
+            _ => self.votes,
+        }
+    }
 }
 
 impl Quorum {
@@ -32,7 +47,7 @@ impl Quorum {
     ghost use Rattle.qn_model.specs.declared.votes.VoteWhat.{VoteWhat};
     ghost use Rattle.qn_model.specs.Votes.{answer_at};
     ghost use Rattle.qn_quorum.specs.Agreed.{agreed_until};
-    ghost use Rattle.qn_quorum.specs.Counting.{agreed_votes, count_at, counted, is_last_man, with_device, with_last_man, with_view};
+    ghost use Rattle.qn_quorum.specs.Counting.{count_at, counted, is_last_man, votes_of_device, with_device, with_last_man, with_view};
     ghost use Rattle.qn_quorum.specs.Quorum.{QuorumFor};
 
     /// The count of a node that has just booted, under these settings.
@@ -118,7 +133,8 @@ impl Quorum {
         let votes = self.settings.nodes.votes_among(view.members);
         let all = self.settings.nodes.are_all_in(view.members);
         self.present = Some(Present {
-            members: view.members,
+            votes,
+            votes_with_device: votes + self.votes_of_device(),
             window_end: Deadline::after(tick, self.settings.window),
             agreed_until: None,
         });
@@ -153,7 +169,7 @@ impl Quorum {
         if let Some(present) = self.present
             && self.is_last_man(present, now)
         {
-            self.expected = self.settings.nodes.votes_among(present.members);
+            self.expected = present.votes;
         }
     }
 
@@ -161,7 +177,7 @@ impl Quorum {
     fn is_last_man(&self, present: Present, now: u64) -> bool
         ensures { result ≡ is_last_man self.now present now }
     {
-        let votes = self.settings.nodes.votes_among(present.members);
+        let votes = present.votes;
         self.settings.last_man_standing
             && present.window_end.is_reached(now)
             && self.released
@@ -187,34 +203,26 @@ impl Quorum {
         ensures { result ≡ counted self.now now }
     {
         match self.present {
-            Some(present) => {
-                self.settings.nodes.votes_among(present.members) + self.agreed_votes(present, now)
-            }
+            Some(present) => present.votes_at(now),
             None => 0,
         }
     }
 
     /// The device's votes: with last man standing they count for nothing (this project's profile).
-    fn agreed_votes(&self, present: Present, now: u64) -> u64
-        ensures sum { result ≡ agreed_votes self.now.settings present now }
+    fn votes_of_device(&self) -> u64
+        ensures sum { result ≡ votes_of_device self.now.settings }
         ensures fits { result ≤ 4294967295 }
     {
         match self.settings.device {
-            Some(device) if !self.settings.last_man_standing => {
-                votes_until(device, present.agreed_until, now)
-            }
+            Some(device) if !self.settings.last_man_standing => votes_of(device),
             _ => 0,
         }
     }
 }
 
-/// The device's votes, as long as its yes counts.
-fn votes_until(device: Device, agreed_until: Option<Deadline>, now: u64) -> u64
-    ensures sum { result ≡ votes_until device agreed_until now }
+fn votes_of(device: Device) -> u64
+    ensures votes { result ≡ device.votes }
     ensures fits { result ≤ 4294967295 }
 {
-    match agreed_until {
-        Some(until) if !until.is_reached(now) => u64::from(device.votes),
-        _ => 0,
-    }
+    u64::from(device.votes)
 }

@@ -1,5 +1,6 @@
 -- Words joined by a byte, written one after another.
-use Rattle.std.proofs.Common.{◌≡◌, ◌+◌, ◌<◌, ◌≤◌, ℕ, true, false, cond, List, [], ◌∷◌, ◌++◌, length, map, take, drop, get_or, sym, ap, ◌∙◌, append_assoc, append-nil}
+use Rattle.std.proofs.Common.{◌≡◌, ◌+◌, ◌<◌, ◌≤◌, ℕ, true, false, cond, List, [], ◌∷◌, ◌++◌, length, map, take, drop, get_or, Option, None, Some, refl, sym, ap, ◌∙◌, append_assoc, append-nil, arith}
+use Rattle.std.specs.Prelude.{IfNone, is_some}
 use Rattle.std.specs.List.{join_with_byte}
 use Rattle.std.proofs.lemmas.List.{map-append, take_all, take_more, at_drop_more}
 use Rattle.qn_base.specs.declared.ids.Mask.{Mask}
@@ -49,6 +50,27 @@ module _ {X : Type 0} (byte : ℕ) (f : X → List ℕ) (xs : List X) where
       ∙ ap (λ ys. (old ++ first) ++ behind byte (map f ys)) (take_all i xs past)
       ∙ append_assoc old first (behind byte (map f xs))
       ∙ ap (λ rest. old ++ rest) (sym (join-behind byte first (map f xs)))
+
+-- two texts were added, each of two parts
+pub added_both : (start first second third fourth middle end : List ℕ) → middle ≡ start ++ (first ++ second) → end ≡ middle ++ (third ++ fourth)
+    → end ≡ start ++ (((first ++ second) ++ third) ++ fourth)
+added_both start first second third fourth middle end one other =
+    other
+    ∙ ap (λ text. text ++ (third ++ fourth)) one
+    ∙ append_assoc start (first ++ second) (third ++ fourth)
+    ∙ ap (λ text. start ++ text) (sym (append_assoc (first ++ second) third fourth))
+
+-- no node is a member
+pub ids_from-none : (rank : ℕ) (all : List ℕ) (members : Mask) → ((j : ℕ) → j < rank + length all → is_member members j ≡ false)
+    → ids_from rank all members ≡ []
+ids_from-none rank [] members none = refl
+ids_from-none rank (id ∷ all) members none =
+    let here : is_member members rank ≡ false = none rank (omega arith) in
+    rw here (ids_from-none (rank + 1) all members (λ j low. none j (omega arith)))
+
+pub if_none : {A : Type 0} (o : Option A) (P : Type 0) → is_some o ≡ false → IfNone o P → P
+if_none None P is h = h
+if_none (Some a) P is h = absurd (cc)
 
 -- the ids of the members from this rank on
 abbrev pub left_ids : ℕ → Mask → List NodeEntry → List ℕ

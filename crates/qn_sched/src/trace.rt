@@ -1,5 +1,7 @@
 //! Writes the trace line of a report, and the condition that blocks a start.
 ghost use Rattle.std.specs.Prelude.{◌≡◌, ◌≤◌, ◌+◌, ◌*◌, ◌++◌, [], None, Some, length, map, codes, decimal};
+ghost use Rattle.qn_base.specs.Text.{yes_no};
+ghost use Rattle.qn_model.specs.declared.life.Why.{Why};
 ghost use Rattle.qn_model.specs.Messages.{message_name};
 ghost use Rattle.qn_model.specs.Settings.{ids};
 ghost use Rattle.qn_sched.specs.EventLines.{id_word};
@@ -7,7 +9,7 @@ ghost use Rattle.qn_sched.specs.TraceLines.{answer_text, cause_number, disk_word
 
 use crate::text::{add_id, add_joined, member_ids};
 use arrayvec::ArrayVec;
-use qn_base::{Mask, NodeId, Rank, ShortText, add, add_number, yes_no};
+use qn_base::{Mask, NodeId, Rank, ShortText, add, add_number};
 use qn_model::{
     Answer, BootCause, DiskOp, HaltKind, Message, Nodes, Out, Outs, Packet, Report, Settings, Why,
 };
@@ -18,52 +20,49 @@ pub fn write_why(why: &Why, into: &mut ArrayVec<u8, 64>)
     ensures { into.new.items ≡ why_text why.now }
 {
     into.clear();
+    add_why(into, why);
+}
+
+/// Adds the first condition that blocks a start, at the end of a list that has room for 64 bytes.
+fn add_why<const N: usize>(into: &mut ArrayVec<u8, N>, why: &Why)
+    requires { length into.old.items + 64 ≤ N }
+    ensures text { into.new.items ≡ into.old.items ++ why_text why.now }
+    ensures len { length into.new.items ≤ length into.old.items + 64 }
+{
     match *why {
         Why::Down => add(into, b"down"),
         Why::Holding => add(into, b"holding"),
         Why::NoView => add(into, b"no-view"),
         Why::WaitForAll => add(into, b"wait-for-all"),
         Why::NotQuorate { votes, quorum } => add_not_quorate(into, votes, quorum),
-        Why::NotChosen { id } => add_named(into, b"not-chosen:", id),
-        Why::HeldBy { id } => add_named(into, b"held-by:", id),
-        Why::Unheard { id } => add_named(into, b"unheard:", id),
+        Why::NotChosen { id } => add_numbered(into, b"not-chosen:", u64::from(id.0)),
+        Why::HeldBy { id } => add_numbered(into, b"held-by:", u64::from(id.0)),
+        Why::Unheard { id } => add_numbered(into, b"unheard:", u64::from(id.0)),
         Why::Unfenced { id, written, left } => add_unfenced(into, id, written, left),
         Why::Clear => add(into, b"clear"),
     }
 }
 
 /// Adds a count that is too low.
-fn add_not_quorate(into: &mut ArrayVec<u8, 64>, votes: u64, quorum: u64)
-    requires { into.old.items ≡ [] }
-    ensures { into.new.items
-        ≡ codes "not-quorate:" ++ decimal votes ++ codes "/" ++ decimal quorum }
+fn add_not_quorate<const N: usize>(into: &mut ArrayVec<u8, N>, votes: u64, quorum: u64)
+    requires { length into.old.items + 64 ≤ N }
+    ensures text { into.new.items ≡ into.old.items
+        ++ (codes "not-quorate:" ++ decimal votes ++ codes "/" ++ decimal quorum) }
+    ensures len { length into.new.items ≤ length into.old.items + 64 }
 {
-    add(into, b"not-quorate:");
-    add_number(into, votes);
-    add(into, b"/");
-    add_number(into, quorum);
-}
-
-/// Adds a word and the id of a node.
-fn add_named(into: &mut ArrayVec<u8, 64>, word: &[u8], id: NodeId)
-    requires empty { into.old.items ≡ [] }
-    requires short { length word.now ≤ 20 }
-    ensures text { into.new.items ≡ word.now ++ decimal id.0 }
-    ensures len { length into.new.items ≤ length word.now + 20 }
-{
-    add(into, word);
-    add_number(into, u64::from(id.0));
+    add_numbered(into, b"not-quorate:", votes);
+    add_numbered(into, b"/", quorum);
 }
 
 /// Adds a node that is neither cleanly stopped nor fenced.
-fn add_unfenced(into: &mut ArrayVec<u8, 64>, id: NodeId, written: bool, left: u64)
-    requires { into.old.items ≡ [] }
-    ensures { into.new.items ≡ why_text (Why.Unfenced id written left) }
+fn add_unfenced<const N: usize>(into: &mut ArrayVec<u8, N>, id: NodeId, written: bool, left: u64)
+    requires { length into.old.items + 64 ≤ N }
+    ensures text { into.new.items ≡ into.old.items ++ why_text (Why.Unfenced id written left) }
+    ensures len { length into.new.items ≤ length into.old.items + 64 }
 {
-    add_named(into, b"unfenced:", id);
+    add_numbered(into, b"unfenced:", u64::from(id.0));
     if written {
-        add(into, b":");
-        add_number(into, left);
+        add_numbered(into, b":", left);
     } else {
         add(into, b":unwritten");
     }
@@ -180,12 +179,20 @@ fn add_answer<const N: usize>(into: &mut ArrayVec<u8, N>, answer: &Answer)
     ensures text { into.new.items ≡ into.old.items ++ answer_text answer.now }
     ensures len { length into.new.items ≤ length into.old.items + 60 }
 {
-    add(into, b" quorate=");
-    add(into, yes_no(answer.quorate));
-    add(into, b" ");
-    add_number(into, answer.votes);
-    add(into, b"/");
-    add_number(into, answer.quorum);
+    add_numbered(into, quorate_text(answer.quorate), answer.votes);
+    add_numbered(into, b"/", answer.quorum);
+}
+
+/// What stands before the votes of a node: whether it is quorate.
+fn quorate_text(quorate: bool) -> &'static [u8]
+    ensures text { result.now ≡ codes " quorate=" ++ yes_no quorate ++ codes " " }
+    ensures len { length result.now ≤ 13 }
+{
+    if quorate {
+        b" quorate=yes "
+    } else {
+        b" quorate=no "
+    }
 }
 
 /// The count of a node, as a trace, a status and the line of a running node print it, after what stands before it.
@@ -200,19 +207,21 @@ pub fn answer_text(answer: &Answer) -> ShortText
     text
 }
 
-/// Adds the first condition that blocks a start.
-fn add_why(into: &mut ArrayVec<u8, 4096>, why: &Why)
-    requires { length into.old.items ≤ 4000 }
-    ensures text { into.new.items ≡ into.old.items ++ why_text why.now }
-    ensures len { length into.new.items ≤ length into.old.items + 64 }
-{
-    let mut text = ArrayVec::new();
-    write_why(why, &mut text);
-    add(into, text.as_slice());
-}
-
 /// Adds the ids of the nodes that hold the resource, or a dash.
 fn add_holders(into: &mut ArrayVec<u8, 4096>, nodes: &Nodes, holders: Mask)
+    requires { length into.old.items ≤ 3000 }
+    ensures text { into.new.items ≡ into.old.items ++ holders_text (ids nodes.now) holders }
+    ensures len { length into.new.items ≤ length into.old.items + 21 * 32 }
+{
+    if holders.first(nodes.len() as u8).is_none() {
+        add(into, b"-");
+    } else {
+        add_holder_ids(into, nodes, holders);
+    }
+}
+
+/// Adds the ids of the nodes that hold the resource, or a dash, by a list of them.
+fn add_holder_ids(into: &mut ArrayVec<u8, 4096>, nodes: &Nodes, holders: Mask)
     requires { length into.old.items ≤ 3000 }
     ensures text { into.new.items ≡ into.old.items ++ holders_text (ids nodes.now) holders }
     ensures len { length into.new.items ≤ length into.old.items + 21 * 32 }
@@ -312,8 +321,8 @@ fn add_at(into: &mut ArrayVec<u8, 4096>, word: &[u8], nodes: &Nodes, rank: Rank)
 }
 
 /// Adds a word and a number.
-fn add_numbered(into: &mut ArrayVec<u8, 4096>, word: &[u8], number: u64)
-    requires { length into.old.items + length word.now ≤ 4010 }
+fn add_numbered<const N: usize>(into: &mut ArrayVec<u8, N>, word: &[u8], number: u64)
+    requires { length into.old.items + (length word.now + 20) ≤ N }
     ensures text { into.new.items ≡ into.old.items ++ (word.now ++ decimal number) }
     ensures len { length into.new.items ≤ length into.old.items + length word.now + 20 }
 {

@@ -300,6 +300,9 @@ impl Live {
             → outs.new ≡ outs.old ++ asks own.now.settings me (line ∷ log) }
     {
         qn_heard::law_asks_by_members();
+        if asked.first(own.count()).is_none() {
+            return;
+        }
         for rank in 0..own.count() {
             self.ask_one(Rank(rank), asked, outs);
         }

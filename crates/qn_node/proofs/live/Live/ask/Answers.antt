@@ -1,11 +1,11 @@
-use Rattle.std.proofs.Common.{◌≡◌, ◌≤◌, ◌++◌, ◌∷◌, [], length, map, ap, sym, ◌∙◌, arith}
-use Rattle.std.specs.Prelude.{filter}
+use Rattle.std.proofs.Common.{◌≡◌, ◌≤◌, ◌++◌, ◌∷◌, [], length, map, ap, sym, ◌∙◌, append-nil, arith}
+use Rattle.std.specs.Prelude.{filter, not}
 use Rattle.std.specs.List.{range_with_len}
 use Rattle.std.specs.Option.{option_map_or}
 use Rattle.qn_base.specs.Members.{is_member}
 use Rattle.qn_model.specs.NodeOutputs.{ask_to}
 use Rattle.qn_model.specs.NodeVotes.{view}
-use Rattle.qn_node.proofs.Asking.{asks_step}
+use Rattle.qn_node.proofs.Asking.{asks_nobody, asks_step, if_none}
 use Rattle.qn_node.proofs.live.Live.ask.Goals as goal
 
 pub loop-rank-preserved : goal.loop-rank-preserved
@@ -26,3 +26,13 @@ returns-clause-value c = λ me log line h none members.
     c.loop-rank.invariant.asks s me log line h none
     ∙ (ap (λ n. c.args.outs.now ++ option_map_or (λ present. map (ask_to me (line ∷ log) present) (filter (is_member c.args.asked) (range_with_len 0 n))) (view (line ∷ log)) []) all
     ∙ ap (λ more. c.args.outs.now ++ more) (sym (c.law_asks_by_members.ensures s me (line ∷ log) c.args.asked few members)))
+
+pub returns-then-is_none-clause-value : goal.returns-then-is_none-clause-value
+returns-then-is_none-clause-value c = λ me log line h none members.
+    let s = c.args.own.now.settings in
+    let outs = c.args.outs.now in
+    let few : length s.nodes ≤ 32 = omega arith in
+    let count : c.count.result ≡ length s.nodes = c.count.ensures.value in
+    let nobody = if_none c.first.result _ (c.is_none.ensures ∙ ap not c.if-is_none.true) c.first.ensures.none in
+    let sent = asks_nobody (ask_to me (line ∷ log)) (is_member c.args.asked) (length s.nodes) (view (line ∷ log)) (λ rank low. nobody rank (omega arith)) in
+    sym (ap (λ more. outs ++ more) (c.law_asks_by_members.ensures s me (line ∷ log) c.args.asked few members ∙ sent) ∙ append-nil outs)

@@ -1,29 +1,5 @@
-use Rattle.std.proofs.Common.{sym, subst, ◌∙◌, ap}
-use Rattle.qn_model.specs.NodeVotes.{votes}
-use Rattle.qn_model.specs.NodeOutputs.{with_entry}
-use Rattle.qn_node.specs.Stage.{StageFor, takes_part}
-use Rattle.qn_node.proofs.Stages.{no_part_at, quiet_at, quiet_counted}
+use Rattle.qn_node.proofs.Stages.{no_part_at}
 use Rattle.qn_node.proofs.stage.Stage.step.Goals as goal
 
-pub next-requires : goal.next-requires
-next-requires c =
-    record { quiet = ap takes_part c.replace-quiet.ensures.value ∙ no_part_at c.args.self.now c.in_default.not-Live; empty = c.requires.empty }
-
-pub returns-clause-counts : goal.returns-clause-counts
-unfolding with_entry
-returns-clause-counts c = λ log h counts.
-    let s = c.args.own.now.settings in
-    let me = c.args.own.now.me.0 in
-    quiet_counted c.count.new.self s me log c.args.entry.tick c.args.entry.what (c.count.ensures.stands (votes log) counts) (quiet_at c.args.self.now s me log h c.in_default.not-Live)
-
-pub returns-clause-stands : goal.returns-clause-stands
-unfolding with_entry
-returns-clause-stands c = λ log h counts inside before.
-    let at = subst (λ stage. StageFor stage c.args.own.now.settings c.args.own.now.me.0 log) (sym c.replace-quiet.ensures.value) h in
-    c.next.ensures.stands log at inside
-
-pub returns-clause-outs : goal.returns-clause-outs
-unfolding with_entry
-returns-clause-outs c = λ log h counts before.
-    let at = subst (λ stage. StageFor stage c.args.own.now.settings c.args.own.now.me.0 log) (sym c.replace-quiet.ensures.value) h in
-    c.next.ensures.outs log at
+pub step_quiet-requires-clause-quiet : goal.step_quiet-requires-clause-quiet
+step_quiet-requires-clause-quiet c = no_part_at c.args.self.now c.in_default.not-Live

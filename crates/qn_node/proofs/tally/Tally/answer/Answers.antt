@@ -1,4 +1,4 @@
-use Rattle.std.proofs.Common.{◌≡◌, ℕ, Bool, List, ◌∙◌, ◌&&◌, ◌||◌, ap, sym}
+use Rattle.std.proofs.Common.{◌≡◌, ℕ, Bool, List, ◌∙◌, ◌&&◌, ◌||◌, ap, refl, sym}
 use Rattle.qn_model.specs.declared.configuration.Settings.{Settings}
 use Rattle.qn_model.specs.declared.votes.Answer.{Answer}
 use Rattle.qn_model.specs.declared.votes.VoteEntry.{VoteEntry}
@@ -23,25 +23,25 @@ pub returns-then-count : goal.returns-then-count
 returns-then-count c = λ past h.
     let s = c.args.own.now.settings in
     let count = c.answer-count.result in
-    let decides = c.breaks_tie-decides.result in
+    let decides = breaks_tie s past in
     let is = c.answer-count.ensures s past h.counts in
     let value = ap (λ b. b || (count.released && decides)) c.if-count.true in
-    with_breaker s past c.args.tick count decides _ is (c.breaks_tie-decides.ensures past h (expected_of s past c.args.tick count is)) (c.if-count.true ∙ sym value)
+    with_breaker s past c.args.tick count decides _ is refl (c.if-count.true ∙ sym value)
 
 pub returns-then-count-2 : goal.returns-then-count-2
 returns-then-count-2 c = λ past h.
     let s = c.args.own.now.settings in
     let count = c.answer-count.result in
-    let decides = c.breaks_tie-decides.result in
+    let decides = c.breaks_tie.result in
     let is = c.answer-count.ensures s past h.counts in
     let value = ap (λ b. b || (count.released && decides)) c.if-count.false ∙ ap (λ b. b && decides) c.if-count-2.true in
-    with_breaker s past c.args.tick count decides _ is (c.breaks_tie-decides.ensures past h (expected_of s past c.args.tick count is)) (sym value)
+    with_breaker s past c.args.tick count decides _ is (c.breaks_tie.ensures past h (expected_of s past c.args.tick count is)) (sym value)
 
 pub returns-else-count-2 : goal.returns-else-count-2
 returns-else-count-2 c = λ past h.
     let s = c.args.own.now.settings in
     let count = c.answer-count.result in
-    let decides = c.breaks_tie-decides.result in
+    let decides = breaks_tie s past in
     let is = c.answer-count.ensures s past h.counts in
     let value = ap (λ b. b || (count.released && decides)) c.if-count.false ∙ ap (λ b. b && decides) c.if-count-2.false in
-    with_breaker s past c.args.tick count decides _ is (c.breaks_tie-decides.ensures past h (expected_of s past c.args.tick count is)) (c.if-count-2.false ∙ sym value)
+    with_breaker s past c.args.tick count decides _ is refl (c.if-count-2.false ∙ sym value)
