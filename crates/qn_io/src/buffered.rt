@@ -145,20 +145,6 @@ impl Pieces {
         self.from += count;
     }
 
-    /// Empties `line` and moves the first line that waits into it. Its `\n` is taken too and left out, and
-    /// nothing is read.
-    pub fn take_line(&mut self, line: &mut ArrayVec<u8, LINE>)
-        requires { HasLineFeed self.old }
-        ensures takes { self.old ≡ line.new.items ++ 10 ∷ self.new }
-        ensures unended { HasNoLineFeed line.new.items }
-        ensures within { length self.new ≤ PIECE }
-    {
-        line.clear();
-        let count = length_before_end(self.waiting());
-        self.move_front(count, line);
-        self.take_first();
-    }
-
     /// Reads the next piece, where no byte is left of the last one.
     pub(crate) fn refill<I: Source>(&mut self, source: &mut I) -> Refill
         requires { length self.old ≡ 0 }

@@ -5,14 +5,15 @@ ghost use Rattle.qn_io.specs.Outside.{HasRisen};
 use arrayvec::ArrayVec;
 use qn_base::{MOST_LINE_BYTES, NoMemory};
 use qn_io::{PIECE, Pieces, Source};
-use qn_model::{LineFault, Refused, Settings};
+use qn_model::{LineFault, Refused};
 use qn_sched::ReplayEnd;
 use std::alloc::Global;
 
 /// A world that takes the lines of a schedule as events, and the head of such a schedule.
 ///
 /// `world` says what the world is in the definitions, of which `World` is a world, and `replay` what a replay of its schedules
-/// answers. `IsGood` is what is known of a head that was read, and a lease is judged only where `Leased` holds.
+/// answers. `IsGood` is what is known of a head that was read, and a lease is judged only where `Leased` holds. The laws:
+/// an input of which nothing was read leaves the head open, and the end of a head fits the way in which its input ended.
 pub(crate) trait TakesEvents: Drop {
     ghost use Rattle.std.specs.Prelude.{◌≡◌, ◌<◌, ◌≤◌, ◌+◌, ℕ, List, [], true, None, Err, IfErr, IfOk, OnErr, OnOk, length};
     ghost use Rattle.qn_base.specs.declared.limits.TheConstants.{LATEST_TIME};

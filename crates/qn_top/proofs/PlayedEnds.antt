@@ -12,7 +12,7 @@ use Rattle.qn_replay.specs.Replay.{replay_of}
 use Rattle.qn_sched.specs.declared.replay_end.ReplayEnd.{ReplayEnd}
 use Rattle.qn_sched.specs.declared.replay_end.ReplayEnd.TheVariants as end
 use Rattle.qn_commands.specs.declared.status.Status.{Status}
-use Rattle.qn_commands.specs.declared.status.Status.TheVariants.{Done, BadConf, BadSchedule, NotAllowed, ReadFault, WriteFault, UnsafeTiming, UnsafeLease, NoMemory}
+use Rattle.qn_commands.specs.declared.status.Status.TheVariants.{Done, BadConf, BadSchedule, NotAllowed, ReadFault, UnsafeTiming, UnsafeLease, NoMemory}
 use Rattle.qn_commands.specs.declared.fault.Fault.TheVariants as fault
 use Rattle.qn_commands.specs.Endings.{AnswersWhole, Cut, Refuses, Whole}
 use Rattle.qn_commands.specs.Faults.{conf_status}

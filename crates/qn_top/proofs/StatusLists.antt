@@ -1,5 +1,5 @@
 -- Lists of statuses, and what is a status of one of them.
-use Rattle.std.proofs.Common.{◌≡◌, ◌≢◌, ◌==◌, ◌⊎◌, inl, inr, ℕ, Bool, false, true, cond, List, [], ◌∷◌, refl, sym, ◌∙◌, subst}
+use Rattle.std.proofs.Common.{◌≡◌, ◌≢◌, ◌==◌, ◌⊎◌, inl, inr, ℕ, Bool, false, true, cond, List, [], ◌∷◌, refl, sym, ◌∙◌}
 use Rattle.std.proofs.lemmas.Bool.{eqb-false, eqb-true, false≢true}
 use Rattle.qn_commands.specs.declared.status.Status.{Status}
 use Rattle.qn_commands.specs.Statuses.{IsOneOf, code_of}
