@@ -97,13 +97,12 @@ fn is_written(why: Why) -> bool
     }
 }
 
-/// Whether a rank is outside the present view, where there is one.
-#[tactic(auto, using(std::proofs::lemmas::Nat::Bits::bit_at_above))]
+/// Whether a rank, which is below 32, is outside the present view, where there is one.
 pub fn is_outside(present: Option<(u64, View)>, rank: Rank) -> bool
     ensures { result ≡ is_outside present rank.0 }
 {
     match present {
-        Some((_, view)) => rank.0 >= 32 || !view.members.contains(rank),
+        Some((_, view)) => rank.0 < 32 && !view.members.contains(rank),
         None => false,
     }
 }
