@@ -75,7 +75,7 @@ module _ {X : Type 0} (word : Event → Option X) where
       (λ installed. then_some (not (installs before.view == installed.0)) (event.View installed.1 after.answer))
       after.view
       (λ installed.
-        silent_when word (not (installs before.view == installed.0)) (event.View installed.1 after.answer) (h installed.1 after.answer))
+      silent_when word (not (installs before.view == installed.0)) (event.View installed.1 after.answer) (h installed.1 after.answer))
 
   silent_release : word event.Released ≡ None → (before after : Standing) → says word (release_told before after) ≡ []
   silent_release h before after =

@@ -1,5 +1,5 @@
 //! What an event is told by: what changed, and what an output says.
-ghost use Rattle.std.specs.Prelude.{◌≡◌, ◌<◌};
+ghost use Rattle.std.specs.Prelude.{◌≡◌};
 ghost use Rattle.qn_notice.specs.Events.{change, condition_number, halt_of, installs, is_outside, is_same_condition, is_same_phase, is_written, named, phase_number, reset_of};
 
 use qn_base::{Rank, View};

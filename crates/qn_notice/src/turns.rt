@@ -1,7 +1,7 @@
 //! The events of an entry.
-ghost use Rattle.std.specs.Prelude.{◌≡◌, ◌≤◌, ◌<◌, ◌+◌, ◌++◌, length, option_to_list};
+ghost use Rattle.std.specs.Prelude.{◌≡◌, ◌≤◌, ◌<◌, ◌+◌, ◌++◌, option_to_list};
 ghost use Rattle.arrayvec.specs.ArrayVec.{array_vec_len};
-ghost use Rattle.qn_notice.specs.Events.{came, events, fence_asked, halt_of, halt_told, hold_told, is_same_condition, is_same_phase, phase_told, quorum_told, release_told, view_told, why_told};
+ghost use Rattle.qn_notice.specs.Events.{came, events, fence_asked, halt_told, hold_told, phase_told, quorum_told, release_told, view_told, why_told};
 
 use crate::comparing::{
     change, halt_of, installs, is_outside, is_same_condition, is_same_phase, reset_of,
