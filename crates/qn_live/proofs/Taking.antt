@@ -8,7 +8,7 @@ use Rattle.qn_model.specs.Log.{Line}
 use Rattle.qn_model.specs.NodeOutputs.{newest_outs, with_entry}
 use Rattle.qn_node.specs.declared.node.Node.{Node}
 use Rattle.qn_live.specs.declared.run.NodeRun.{NodeRun}
-use Rattle.qn_live.specs.Machine.{KeepsEntry, Stands, StandsFor, TookIn, last_entry}
+use Rattle.qn_live.specs.Machine.{KeepsEntry, StandsFor, TookIn, last_entry}
 
 -- what keeps the entry of a run keeps that it was taken in
 pub took_on :
