@@ -33,8 +33,9 @@ pub(crate) fn line_of(at: Moment, nodes: &Nodes, msgwait: u64, event: &Event) ->
             add_members(&mut line, nodes, view.members);
             add_answer(&mut line, &answer);
         }
-        Event::QuorumWon { answer } | Event::QuorumLost { answer } =>
-            add_answer(&mut line, &answer),
+        Event::QuorumWon { answer } | Event::QuorumLost { answer } => add_answer(
+            &mut line, &answer,
+        ),
         Event::Why { why } => add_why(&mut line, &why),
         Event::FenceAsked { of } => line.number(b"of", id_of(nodes, of)),
         Event::FenceWritten { of, ok } => {
@@ -46,15 +47,11 @@ pub(crate) fn line_of(at: Moment, nodes: &Nodes, msgwait: u64, event: &Event) ->
             line.number(b"of", id_of(nodes, of));
             line.word(b"by", b"clean-slot", 10);
         }
-        Event::StartAnswered { ok }
-        | Event::StopAnswered { ok }
-        | Event::DisarmAnswered { ok } => line.truth(b"ok", ok),
+        Event::StartAnswered { ok } | Event::StopAnswered { ok } | Event::DisarmAnswered { ok } =>
+            line.truth(b"ok", ok),
         Event::Halt { kind } => add_cause(&mut line, kind),
-        Event::Released
-        | Event::StartAsked
-        | Event::StopAsked
-        | Event::HoldWon
-        | Event::HoldLost => {}
+        Event::Released | Event::StartAsked | Event::StopAsked | Event::HoldWon | Event::HoldLost =>
+            {}
     }
     line
 }
@@ -98,9 +95,8 @@ fn level_of(event: &Event) -> u8 {
         Event::QuorumLost { .. } | Event::FenceAsked { .. } => WARNING,
         Event::Why { .. } | Event::Licence { .. } => INFORMATION,
         Event::FenceWritten { ok, .. } => if ok { WARNING } else { ERROR },
-        Event::StartAnswered { ok }
-        | Event::StopAnswered { ok }
-        | Event::DisarmAnswered { ok } => if ok { NOTICE } else { ERROR },
+        Event::StartAnswered { ok } | Event::StopAnswered { ok } | Event::DisarmAnswered { ok } =>
+            if ok { NOTICE } else { ERROR },
         Event::Halt { .. } => ERROR,
     }
 }

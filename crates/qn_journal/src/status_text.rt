@@ -135,8 +135,11 @@ fn add_tick_to_why(text: &mut Text, shown: &Shown<'_>) {
     text.number(shown.counts.unwritten);
     text.add(b",\"view\":");
     match shown.standing.view {
-        Some((_, view)) if !matches!(shown.standing.phase, Phase::Gone) =>
-            add_view(text, shown.nodes, view),
+        Some((_, view)) if !matches!(shown.standing.phase, Phase::Gone) => add_view(
+            text,
+            shown.nodes,
+            view,
+        ),
         _ => text.add(b"null"),
     }
     text.add(b",\"votes\":");
