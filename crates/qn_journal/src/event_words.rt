@@ -107,11 +107,19 @@ pub(crate) fn id_of(nodes: &Nodes, rank: Rank) -> u64 {
     node.map_or(0, |node| u64::from(node.id.0))
 }
 
+/// Whether the node of that place is one of the members.
+pub(crate) fn is_in(members: Mask, place: usize) -> bool {
+    match u8::try_from(place) {
+        Ok(rank) => members.has(Rank(rank)),
+        Err(_) => false,
+    }
+}
+
 /// Adds the ids of the members, with a comma between each two.
 fn add_members(line: &mut EventLine, nodes: &Nodes, members: Mask) {
     let mut list = ArrayVec::<u8, 512>::new();
     for (rank, node) in nodes.as_slice().iter().enumerate() {
-        if members.contains(Rank(rank as u8)) {
+        if is_in(members, rank) {
             let mut digits = ArrayVec::new();
             write_decimal(u64::from(node.id.0), &mut digits);
             if !list.is_empty() {
