@@ -1,11 +1,11 @@
 //! The disk operations of a node on one image: the call of each, and what its answer is to the node. How a node on three images does
 //! each of them with the sectors of all three stands in qn_live3.
-ghost use Rattle.std.specs.Prelude.{◌≡◌, ◌≤◌, ◌<◌, length, if◌then◌else◌};
+ghost use Rattle.std.specs.Prelude.{◌≡◌, ◌≤◌, ◌<◌, false, length, if◌then◌else◌};
 ghost use Rattle.qn_model.specs.Settings.{IsValid};
 ghost use Rattle.qn_model.specs.Unmet.{id_of};
 ghost use Rattle.qn_model.specs.World.{failed};
 ghost use Rattle.qn_node.specs.Outputs.{IsNodeOutput};
-ghost use Rattle.qn_live.specs.Asking.{IsServed, IsWithin, question_of};
+ghost use Rattle.qn_live.specs.Asking.{IsServed, IsWithin, is_look, question_of};
 ghost use Rattle.qn_live.specs.Performing.{disk_call, done, header_seen, mail_seen, reset_by, slot_seen, write_mail, write_slot};
 
 use crate::asked::{Asked, Room};
@@ -25,6 +25,7 @@ pub fn ask(settings: &Settings, me: Rank, incarnation: u64, op: DiskOp, room: &m
     ensures asked { question_of result room.new ≡ disk_call settings.now me.0 incarnation op }
     ensures within { IsWithin result }
     ensures served { IsServed result }
+    ensures looks { is_look result ≡ false }
 {
     match op {
         DiskOp::ReadHeader => Asked::Read { sector: 0 },
@@ -54,6 +55,7 @@ fn ask_slot(settings: &Settings, me: Rank, incarnation: u64, clean: bool, room: 
         ≡ write_slot settings.now me.0 (record { incarnation = incarnation; clean = clean }) }
     ensures within { IsWithin result }
     ensures served { IsServed result }
+    ensures looks { is_look result ≡ false }
 {
     let slot = Slot { incarnation, clean };
     put_slot(id_of(settings, me), &slot, &mut room.sector);
@@ -71,6 +73,7 @@ fn ask_reset(settings: &Settings, me: Rank, incarnation: u64, rank: Rank, room: 
         ≡ write_mail rank.0 (reset_by settings.now me.0 incarnation) }
     ensures within { IsWithin result }
     ensures served { IsServed result }
+    ensures looks { is_look result ≡ false }
 {
     let by = Some(Sender {
         id: id_of(settings, me),

@@ -1,10 +1,10 @@
 //! The outputs of an entry as calls, and what their answers give the node.
-ghost use Rattle.std.specs.Prelude.{◌≡◌, ◌<◌, ℕ, length};
+ghost use Rattle.std.specs.Prelude.{◌≡◌, ◌<◌, ℕ, false, length};
 ghost use Rattle.qn_base.specs.declared.calls.Call.{Call};
 ghost use Rattle.qn_base.specs.Calls.{blank};
 ghost use Rattle.qn_model.specs.Settings.{IsValid};
 ghost use Rattle.qn_node.specs.Outputs.{IsNodeOutput};
-ghost use Rattle.qn_live.specs.Asking.{IsServed, IsWithin, question_of, Tells};
+ghost use Rattle.qn_live.specs.Asking.{IsServed, IsWithin, is_look, question_of, Tells};
 ghost use Rattle.qn_live.specs.Machine.{operation_in};
 ghost use Rattle.qn_live.specs.Performing.{end_after, end_in, halt_code, is_clean_close, out_call, waits_after};
 
@@ -25,6 +25,7 @@ pub fn ask(settings: &Settings, me: Rank, incarnation: u64, out: Out, room: &mut
     ensures asked { question_of result room.new ≡ out_call settings.now me.0 incarnation out }
     ensures within { IsWithin result }
     ensures served { IsServed result }
+    ensures looks { is_look result ≡ false }
 {
     match out {
         Out::Stop => Asked::Stop,

@@ -189,6 +189,7 @@ impl NodeRun {
             ≡ out_call self.now.settings self.now.me.0 (own_number log) out }
         ensures within { IsWithin result }
         ensures served { IsServed result }
+        ensures looks { is_look result ≡ false }
     {
         let incarnation = self.node.incarnation().unwrap_or(0);
         outputs::ask(

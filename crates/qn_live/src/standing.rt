@@ -5,7 +5,7 @@ use qn_node::Node;
 
 /// Where a running node stands after its last entry. The votes and the condition are those at the tick of that entry. A
 /// node that has ended keeps those of its last entry.
-#[derive(Clone, Copy, PartialEq, Eq)]
+#[derive(Clone, Copy)]
 pub struct Standing {
     pub phase: Phase,
     /// Whether the node holds the resource: from the entry that starts it on, before its start was answered.

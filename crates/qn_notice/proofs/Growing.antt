@@ -1,15 +1,14 @@
 -- A journal over one more entry, and what it says of resets.
-use Rattle.std.proofs.Common.{◌≡◌, refl, sym, ap, ◌∙◌, ℕ, Bool, List, [], ◌∷◌, ◌++◌, Option, None, Some, append_assoc, append_nil}
-use Rattle.std.specs.Prelude.{filter_map, option_to_list}
+use Rattle.std.proofs.Common.{◌≡◌, refl, sym, ap, ◌∙◌, ℕ, List, [], ◌∷◌, ◌++◌, Option, None, Some, append_assoc}
+use Rattle.std.specs.Prelude.{option_to_list}
 use Rattle.std.specs.List.{cons_option}
+use Rattle.std.proofs.lemmas.List.{append-nil}
 use Rattle.std.proofs.lemmas.List.Elements.{filter_map-append}
-use Rattle.qn_base.specs.declared.ids.Rank.{Rank}
 use Rattle.qn_model.specs.declared.configuration.Settings.{Settings}
 use Rattle.qn_model.specs.declared.entries.Entry.{Entry}
 use Rattle.qn_model.specs.Log.{Line}
 use Rattle.qn_model.specs.NodeOutputs.{log_from, newest_outs, with_entry}
 use Rattle.qn_live.specs.Standings.{standing}
-use Rattle.qn_notice.specs.declared.kinds.Event.{Event}
 use Rattle.qn_notice.specs.Journal.{journal_from, told}
 use Rattle.qn_notice.specs.Laws.{reset_answer, reset_answers, reset_in, resets_in}
 use Rattle.qn_notice.proofs.Words.{reset_once}
@@ -18,7 +17,7 @@ pub journal_grows :
     (s : Settings) (me : ℕ) (past : List Line) (history : List Entry) (entry : Entry)
     → journal_from s me past (history ++ entry ∷ []) ≡ journal_from s me past history ++ told s me (log_from s me past history) entry
 unfolding journal_from log_from
-journal_grows s me past [] entry = append_nil (told s me past entry)
+journal_grows s me past [] entry = append-nil (told s me past entry)
 journal_grows s me past (first ∷ history) entry =
     ap (λ later. told s me past first ++ later) (journal_grows s me (with_entry s me past first) history entry)
     ∙ sym (append_assoc (told s me past first) (journal_from s me (with_entry s me past first) history) (told s me (log_from s me (with_entry s me past first) history) entry))

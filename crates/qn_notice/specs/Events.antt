@@ -6,7 +6,7 @@
 -- What an agent or the watchdog answers is in Answers. The rest wants bytes, a clock or a device, and is no part of this: the
 -- opening, the sender of a message and a mailbox that cannot be read, feeds that failed, packets that were refused, nodes that
 -- are heard or silent, lines that were dropped, and the end.
-use Rattle.std.specs.Prelude.{ℕ, Bool, true, false, not, ◌&&◌, ◌==◌, ◌++◌, List, [], ◌∷◌, Option, None, Some, option_and_then, option_map, option_to_list, if◌then◌else◌}
+use Rattle.std.specs.Prelude.{ℕ, Bool, true, false, not, ◌&&◌, ◌==◌, nat_lt, ◌++◌, List, [], ◌∷◌, Option, None, Some, option_and_then, option_map, option_to_list, if◌then◌else◌}
 use Rattle.std.specs.Bool.{beq, then_some}
 use Rattle.std.specs.Option.{option_map_or}
 use Rattle.qn_base.specs.declared.ids.Rank.{Rank}
@@ -84,9 +84,9 @@ abbrev pub is_same_condition : Why → Why → Bool
 is_same_condition first second =
     condition_number first == condition_number second && named first == named second && beq (is_written first) (is_written second)
 
--- a rank is outside the present view, where there is one
+-- a rank, which is below 32, is outside the present view, where there is one
 abbrev pub is_outside : Option (ℕ × View) → ℕ → Bool
-is_outside present rank = option_map_or (λ installed. not (is_member installed.1.members rank)) present false
+is_outside present rank = option_map_or (λ installed. nat_lt rank 32 && not (is_member installed.1.members rank)) present false
 
 -- the install number of the present view, 0 without a view
 abbrev pub installs : Option (ℕ × View) → ℕ

@@ -1,5 +1,5 @@
 //! What an event is told by: what changed, and what an output says.
-ghost use Rattle.std.specs.Prelude.{◌≡◌, ◌<◌};
+ghost use Rattle.std.specs.Prelude.{◌≡◌};
 ghost use Rattle.qn_notice.specs.Events.{change, condition_number, halt_of, installs, is_outside, is_same_condition, is_same_phase, is_written, named, phase_number, reset_of};
 
 use qn_base::{Rank, View};
@@ -97,13 +97,12 @@ fn is_written(why: Why) -> bool
     }
 }
 
-/// Whether a rank is outside the present view, where there is one.
+/// Whether a rank, which is below 32, is outside the present view, where there is one.
 pub fn is_outside(present: Option<(u64, View)>, rank: Rank) -> bool
-    requires { rank.0 < 32 }
     ensures { result ≡ is_outside present rank.0 }
 {
     match present {
-        Some((_, view)) => !view.members.contains(rank),
+        Some((_, view)) => rank.0 < 32 && !view.members.contains(rank),
         None => false,
     }
 }

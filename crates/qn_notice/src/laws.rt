@@ -6,7 +6,7 @@ ghost use Rattle.qn_model.specs.declared.entries.What.{What};
 ghost use Rattle.qn_model.specs.declared.outputs.Out.{Out};
 ghost use Rattle.qn_model.specs.Holding.{holds};
 ghost use Rattle.qn_model.specs.Log.{now};
-ghost use Rattle.qn_model.specs.NodeOutputs.{answer_of, log_of};
+ghost use Rattle.qn_model.specs.NodeOutputs.{log_of};
 ghost use Rattle.qn_model.specs.NodeVotes.{answer_with_tie};
 ghost use Rattle.qn_live.specs.declared.standing.Standing.{Standing};
 ghost use Rattle.qn_notice.specs.Events.{change, events};

@@ -17,4 +17,4 @@ pub use answers::answered;
 pub use kinds::Event;
 pub use laws::{law_fence_told, law_hold_told, law_journal_grows, law_quorum_told};
 pub use observer::Observer;
-pub use turns::{Events, events};
+pub use turns::{EventList, events};

@@ -4,7 +4,7 @@ ghost use Rattle.qn_notice.specs.Observing.{takes};
 
 use crate::answers::answered;
 use crate::kinds::Event;
-use crate::turns::{Events, events};
+use crate::turns::{EventList, events};
 use arrayvec::ArrayVec;
 use qn_live::{Asked, Given, NodeRun, Standing};
 
@@ -35,7 +35,7 @@ impl Observer {
 
     /// The events of a call that the run made and whose answer it has taken: of a look at the clock the events of the entry
     /// that was taken in then, else the event of the answer.
-    pub fn made(&mut self, asked: Asked, given: Given, run: &NodeRun) -> Events
+    pub fn made(&mut self, asked: Asked, given: Given, run: &NodeRun) -> EventList
         ensures told { (log : List Line)
             → takes asked given run.now ≡ true
             → IsUpTo self.old run.now.settings run.now.me.0 log
@@ -60,7 +60,7 @@ impl Observer {
     }
 
     /// The events of the entry that the run took in.
-    fn took(&mut self, run: &NodeRun) -> Events
+    fn took(&mut self, run: &NodeRun) -> EventList
         ensures told { (log : List Line) (tick : ℕ)
             → IsUpTo self.old run.now.settings run.now.me.0 log
             → TookIn run.now log tick
@@ -100,7 +100,7 @@ fn takes(asked: Asked, given: Given, run: &NodeRun) -> bool
     matches!(asked, Asked::Now) && given.tick == run.tick()
 }
 
-fn only(event: Event) -> Events
+fn only(event: Event) -> EventList
     ensures { result.items ≡ event ∷ [] }
 {
     let mut all = ArrayVec::new();

@@ -1,7 +1,7 @@
 //! The events of an entry.
-ghost use Rattle.std.specs.Prelude.{◌≡◌, ◌≤◌, ◌<◌, ◌+◌, ◌++◌, length, option_to_list};
+ghost use Rattle.std.specs.Prelude.{◌≡◌, ◌≤◌, ◌<◌, ◌+◌, ◌++◌, option_to_list};
 ghost use Rattle.arrayvec.specs.ArrayVec.{array_vec_len};
-ghost use Rattle.qn_notice.specs.Events.{came, events, fence_asked, halt_of, halt_told, hold_told, is_same_condition, is_same_phase, phase_told, quorum_told, release_told, view_told, why_told};
+ghost use Rattle.qn_notice.specs.Events.{came, events, fence_asked, halt_told, hold_told, phase_told, quorum_told, release_told, view_told, why_told};
 
 use crate::comparing::{
     change, halt_of, installs, is_outside, is_same_condition, is_same_phase, reset_of,
@@ -12,10 +12,11 @@ use qn_live::Standing;
 use qn_model::{Outs, SlotSeen, What};
 
 /// The events of one entry, in order.
-pub type Events = ArrayVec<Event, 11>;
+pub type EventList = ArrayVec<Event, 11>;
 
 /// The events of an entry: where the node stands before it and after it, the entry, and its outputs.
-pub fn events(before: &Standing, after: &Standing, entry: What, outs: &Outs) -> Events
+#[tactic(auto, unfolding(crate::specs::Events::events))]
+pub fn events(before: &Standing, after: &Standing, entry: What, outs: &Outs) -> EventList
     ensures { result.items ≡ events before.now after.now entry outs.now }
 {
     let mut all = ArrayVec::new();
@@ -33,7 +34,7 @@ pub fn events(before: &Standing, after: &Standing, entry: What, outs: &Outs) -> 
     all
 }
 
-fn add(all: &mut Events, event: Option<Event>)
+fn add(all: &mut EventList, event: Option<Event>)
     requires { array_vec_len all.old < 11 }
     ensures items { all.new.items ≡ all.old.items ++ option_to_list event }
     ensures len { array_vec_len all.new ≤ array_vec_len all.old + 1 }

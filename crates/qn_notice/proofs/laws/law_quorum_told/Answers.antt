@@ -1,11 +1,10 @@
-use Rattle.std.proofs.Common.{◌≡◌, refl, ap, subst, ℕ, Bool, false, ◌||◌, ◌&&◌, List, [], Option, None, Some}
+use Rattle.std.proofs.Common.{◌≡◌, refl, subst, ℕ, Bool, true, false, ◌&&◌, ◌==◌, ◌*◌, [], Option, None, Some}
 use Rattle.std.specs.Option.{option_map_or}
-use Rattle.qn_base.specs.declared.ids.Rank.{Rank}
 use Rattle.qn_model.specs.declared.configuration.Settings.{Settings}
 use Rattle.qn_model.specs.NodeOutputs.{log_of}
 use Rattle.qn_model.specs.NodeVotes.{votes}
 use Rattle.qn_model.specs.Tie.{tie_node}
-use Rattle.qn_model.specs.Votes.{answer_at}
+use Rattle.qn_model.specs.Votes.{expected_votes, is_released, present_view, view_votes}
 use Rattle.qn_live.specs.Standings.{standing}
 use Rattle.qn_notice.specs.Laws.{LeadsTo, quorum_in, quorums_in}
 use Rattle.qn_notice.specs.Journal.{journal_of}
@@ -16,14 +15,24 @@ use Rattle.qn_notice.proofs.laws.law_quorum_told.Goals as goal
 pub returns-clause-once : goal.returns-clause-once
 returns-clause-once c = λ before after entry outs. quorum_once before after entry outs
 
+never : {A : Type 0} (o : Option A) → option_map_or (λ (x : A). false) o false ≡ false
+never None = refl
+never (Some x) = refl
+
+and_never : (first second : Bool) → second ≡ false → (first && second) ≡ false
+and_never true second h = h
+and_never false second h = refl
+
 -- no node is quorate before its first entry
 first_not_quorate : (s : Settings) (me : ℕ) → (standing s me []).answer.quorate ≡ false
-unfolding votes answer_at
-first_not_quorate s me = ?
+unfolding votes present_view
+first_not_quorate s me =
+    and_never (is_released s []) _
+    (and_never (2 * view_votes s [] == expected_votes s []) _ (never (tie_node s [])))
 
 pub returns-clause-journal : goal.returns-clause-journal
 returns-clause-journal c = λ s me history.
     subst
-    (λ first. LeadsTo first (quorums_in (journal_of s me history)) (standing s me (log_of s me history)).answer.quorate)
+    (λ (first : Bool). LeadsTo first (quorums_in (journal_of s me history)) (standing s me (log_of s me history)).answer.quorate)
     (first_not_quorate s me)
     (journal_leads (λ stood. stood.answer.quorate) quorum_in quorum_once s me [] history)
