@@ -1,6 +1,7 @@
-"""What nodes say of themselves. The journal of a node is, line by line, what a second reader works out from the record of the same run: of three nodes
-through a boot, a take-over, a message of each kind, a stop that fails and an exit. A journal keeps its grammar whatever a path holds. Nobody waits for standard error: whatever becomes of
-it, the record of the node is a whole run, and the lines that were lost are counted. The status file has each state of a node by its schema."""
+"""What nodes say of themselves. The journal of a node is, line by line, what a second reader works out from the record of the same run: of nodes
+through a boot, a take-over, a cut, a message of each kind, a stop that fails and an exit. A journal keeps its grammar whatever a path holds. Nobody
+waits for standard error: whatever becomes of it, the record of the node is a whole run, and the lines that were lost are counted. The status file has
+each state of a node by its schema."""
 import fcntl
 import json
 import os
@@ -10,6 +11,7 @@ import subprocess
 
 TOP = pathlib.Path(os.environ["TOP"])
 
+from cuts import CutCluster, Relay
 from live import PLAIN, QUORUMD, WARNINGS, Agent, Cluster, Wrong, event_of, same, try_all, wait_for
 from told import said_in, told_of
 
@@ -23,25 +25,26 @@ LINE = re.compile(r'quorumd: node=\d+ tick=\d+ time=\d+\.\d{3} level=[3-6] event
 PIPE = 32768  # bytes of a small pipe
 
 
-class RecordedCluster(Cluster):
+class Records:
     """Nodes with a record of their calls."""
 
     COMMAND = "node-logged"
 
     def judged(self, node, more=()):
-        """Whether the record of a node is a run, and its journal what a second reader makes of it."""
+        """What a second reader makes of the record of a node, and its journal."""
         record, journal = node.answer.read_text(), node.log.read_text()
-        lines = record[:record.rfind("\n") + 1].splitlines()
+        record = record[:record.rfind("\n") + 1]
+        lines = record.splitlines()
         if re.match("turns |left |fault ", lines[-1]):
             lines.pop()
         self.audited(node, lines, more)
         for line in journal.splitlines():
             if line.startswith("quorumd: node=") and not (LINE.fullmatch(line) and len(line.encode()) < 512):
                 raise Wrong("no line of a journal: %r" % line)
-        return told_of(record[:record.rfind("\n") + 1], self.ids, node.ident), said_in(journal)
+        return told_of(record, self.ids, node.ident), said_in(journal)
 
     def audited(self, node, lines, more=()):
-        """A record is a run, or the beginning of one."""
+        """What `audit` says of the record of a node, which is a run or the beginning of one."""
         text = (self.folder / "conf").read_text() + "----\n" + "".join(line + "\n" for line in lines)
         words = ["--id", str(node.ident), "--turns", node.words["turns"], *more]
         done = subprocess.run([QUORUMD, "audit", *words], input=text, stdout=subprocess.PIPE, text=True, check=False)
@@ -49,9 +52,15 @@ class RecordedCluster(Cluster):
             raise Wrong("the record of node %d: %s" % (node.ident, done.stdout))
         return done.stdout
 
-    def __init__(self, name, ids=(1, 2, 3), **given):
+
+class RecordedCluster(Records, Cluster):
+    def __init__(self, name, ids=(1, 2, 3)):
         self.ids = tuple(ids)
-        super().__init__(name, ids=ids, **given)
+        super().__init__(name, ids=ids)
+
+
+class CutRecords(Records, CutCluster):
+    ids = (1, 2, 3)
 
 
 def tells_the_same(cluster, *nodes, more=()):
@@ -62,7 +71,8 @@ def tells_the_same(cluster, *nodes, more=()):
 
 
 def take_over():
-    """The holder is sent a test and is then paused, so that another one resets it and starts; it wakes and reads who did it. The rest leaves, and one is turned off."""
+    """The holder is sent a test and is then paused, so that another one resets it and starts; it wakes and reads who did it. Then one is turned off,
+    and the last one leaves."""
     cluster = RecordedCluster("taken", ids=(1, 2, 3))
     nodes = [cluster.node(ident) for ident in (1, 2, 3)]
     nodes[0].waits_for("start: ok")
@@ -110,6 +120,20 @@ def failed_stop():
     same("the stops", [event["ok"] for event in node.events("stop")], ["no", "yes"])
     lines = node.log.read_text().splitlines()
     same("other lines than of the journal and of the agent", [line for line in lines if not event_of(line) and "socket" not in line and not line.endswith(WARNINGS)], [])
+
+
+def cut_off():
+    """A node of three to which no packet comes, and from which none goes: it is reset, and reads by whom."""
+    cluster = CutRecords("cut-off", 3, Relay()).start(0)
+    cluster.cut(cluster.of(3))
+    same("node 3", cluster.nodes[2].end()[0], 13)
+    for ident in 1, 2:
+        cluster.message(ident, "exit")
+    for node in cluster.nodes[:2]:
+        same("node %d" % node.ident, node.end()[0], 0)
+    tells_the_same(cluster, *cluster.nodes)
+    same("who was lost", {event["id"] for event in cluster.nodes[2].events("peer-lost")}, {"1", "2"})
+    same("who reset node 3", [event["by"] for event in cluster.nodes[2].events("mail")], ["1"])
 
 
 def killed():
@@ -299,4 +323,4 @@ def limited_size():
     same("its last line", [event_of(line)["ok"] for line in done.stderr.splitlines() if event_of(line)], ["no"])
 
 
-try_all(take_over, other_messages, failed_stop, killed, full_pipe, gone_reader, closed_errors, full_disk, levels, statuses, states, unwritten_status, limited_size)
+try_all(take_over, cut_off, other_messages, failed_stop, killed, full_pipe, gone_reader, closed_errors, full_disk, levels, statuses, states, unwritten_status, limited_size)

@@ -33,8 +33,9 @@ pub(crate) fn line_of(at: Moment, nodes: &Nodes, msgwait: u64, event: &Event) ->
             add_members(&mut line, nodes, view.members);
             add_answer(&mut line, &answer);
         }
-        Event::QuorumWon { answer } | Event::QuorumLost { answer } =>
-            add_answer(&mut line, &answer),
+        Event::QuorumWon { answer } | Event::QuorumLost { answer } => add_answer(
+            &mut line, &answer,
+        ),
         Event::Why { why } => add_why(&mut line, &why),
         Event::FenceAsked { of } => line.number(b"of", id_of(nodes, of)),
         Event::FenceWritten { of, ok } => {
@@ -46,15 +47,11 @@ pub(crate) fn line_of(at: Moment, nodes: &Nodes, msgwait: u64, event: &Event) ->
             line.number(b"of", id_of(nodes, of));
             line.word(b"by", b"clean-slot", 10);
         }
-        Event::StartAnswered { ok }
-        | Event::StopAnswered { ok }
-        | Event::DisarmAnswered { ok } => line.truth(b"ok", ok),
+        Event::StartAnswered { ok } | Event::StopAnswered { ok } | Event::DisarmAnswered { ok } =>
+            line.truth(b"ok", ok),
         Event::Halt { kind } => add_cause(&mut line, kind),
-        Event::Released
-        | Event::StartAsked
-        | Event::StopAsked
-        | Event::HoldWon
-        | Event::HoldLost => {}
+        Event::Released | Event::StartAsked | Event::StopAsked | Event::HoldWon | Event::HoldLost =>
+            {}
     }
     line
 }
@@ -98,9 +95,8 @@ fn level_of(event: &Event) -> u8 {
         Event::QuorumLost { .. } | Event::FenceAsked { .. } => WARNING,
         Event::Why { .. } | Event::Licence { .. } => INFORMATION,
         Event::FenceWritten { ok, .. } => if ok { WARNING } else { ERROR },
-        Event::StartAnswered { ok }
-        | Event::StopAnswered { ok }
-        | Event::DisarmAnswered { ok } => if ok { NOTICE } else { ERROR },
+        Event::StartAnswered { ok } | Event::StopAnswered { ok } | Event::DisarmAnswered { ok } =>
+            if ok { NOTICE } else { ERROR },
         Event::Halt { .. } => ERROR,
     }
 }
@@ -111,11 +107,19 @@ pub(crate) fn id_of(nodes: &Nodes, rank: Rank) -> u64 {
     node.map_or(0, |node| u64::from(node.id.0))
 }
 
+/// Whether the node of that place is one of the members.
+pub(crate) fn is_in(members: Mask, place: usize) -> bool {
+    match u8::try_from(place) {
+        Ok(rank) => members.has(Rank(rank)),
+        Err(_) => false,
+    }
+}
+
 /// Adds the ids of the members, with a comma between each two.
 fn add_members(line: &mut EventLine, nodes: &Nodes, members: Mask) {
     let mut list = ArrayVec::<u8, 512>::new();
     for (rank, node) in nodes.as_slice().iter().enumerate() {
-        if members.contains(Rank(rank as u8)) {
+        if is_in(members, rank) {
             let mut digits = ArrayVec::new();
             write_decimal(u64::from(node.id.0), &mut digits);
             if !list.is_empty() {

@@ -90,10 +90,11 @@ impl<'a, R: Files<File = File> + Clock + Eprint> Journal<'a, R> {
     /// A turn began at that tick, with what it was handed.
     fn turn(&mut self, tick: u64, run: &NodeRun) {
         self.turns = self.turns.saturating_add(1);
-        match run.entry() {
-            What::Header(HeaderSeen::Read { timing, .. }) => self.msgwait = timing.msgwait,
-            What::MailChecked(seen) | What::MailRead(seen) => self.take_mail(seen, tick),
-            _ => {}
+        if let What::Header(HeaderSeen::Read { timing, .. }) = run.entry() {
+            self.msgwait = timing.msgwait;
+        }
+        if let Some(seen) = mail_in(run.entry()) {
+            self.take_mail(seen, tick);
         }
         self.greet(tick, run);
         self.miss(tick, run);
@@ -139,7 +140,9 @@ impl<'a, R: Files<File = File> + Clock + Eprint> Journal<'a, R> {
     fn hear(&mut self, bytes: &[u8]) {
         match get_packet(bytes) {
             Some(Packet::Hello { from }) => self.greeted = Some(from),
-            Some(Packet::Ask(_) | Packet::Tell(_) | Packet::Announce { .. } | Packet::Vote { .. }) => {}
+            Some(
+                Packet::Ask(_) | Packet::Tell(_) | Packet::Announce { .. } | Packet::Vote { .. },
+            ) => {}
             None => self.refused.count(),
         }
     }
@@ -171,7 +174,11 @@ impl<'a, R: Files<File = File> + Clock + Eprint> Journal<'a, R> {
 
     /// Tells of another message in the mailbox.
     fn tell_mail(&mut self, mail: &Mail) {
-        let level = if mail.message.is_deadly() { ERROR } else { NOTICE };
+        let level = if mail.message.is_deadly() {
+            ERROR
+        } else {
+            NOTICE
+        };
         let mut line = self.line(level, b"mail");
         let name = mail.message.name().as_bytes();
         line.word(b"message", name, name.len());
@@ -265,22 +272,44 @@ fn shown_standing(run: &NodeRun) -> Standing {
     }
 }
 
+/// What of its mailbox a node was handed by an entry.
+fn mail_in(entry: What) -> Option<MailSeen> {
+    match entry {
+        What::MailChecked(seen) | What::MailRead(seen) => Some(seen),
+        What::Begin
+        | What::BeginClean
+        | What::Header(_)
+        | What::SlotRead(..)
+        | What::Claimed(_)
+        | What::Cleared(_)
+        | What::MailWritten(..)
+        | What::View(_)
+        | What::Ask(_)
+        | What::Tell(_)
+        | What::Device(_)
+        | What::Tick
+        | What::Stopped(_)
+        | What::Leave
+        | What::Closed(_) => None,
+    }
+}
+
 impl<'a, R: Files<File = File> + Clock + Eprint> Notices for Journal<'a, R> {
     fn made(&mut self, asked: Asked, given: Given, room: &Room, run: &NodeRun)
         requires { FitsPacket given.got }
     {
-        let is_turn = matches!(asked, Asked::Now);
+        let is_turn = matches!(asked, Asked::Now) && given.tick == run.tick();
         if is_turn {
             self.turn(given.tick, run);
         }
         for event in &self.observer.made(asked, given, run) {
             self.tell(event, run);
         }
+        if is_turn {
+            self.tell_seldom(given.tick);
+            self.refresh(given.tick, run);
+        }
         match asked {
-            Asked::Now => {
-                self.tell_seldom(given.tick);
-                self.refresh(given.tick, run);
-            }
             Asked::Receive => if let Got::Packet(count) = given.got {
                 self.hear(&room.packet[..count]);
             },
@@ -290,7 +319,8 @@ impl<'a, R: Files<File = File> + Clock + Eprint> Notices for Journal<'a, R> {
             Asked::Feed => if !given.ok {
                 self.late.count();
             },
-            Asked::Write { .. }
+            Asked::Now
+            | Asked::Write { .. }
             | Asked::Start
             | Asked::Stop
             | Asked::Send { .. }

@@ -80,7 +80,9 @@ impl Mailbox {
     /// The message with its sender, where a sector names one.
     fn named(&self, message: Message) -> Mail {
         for came in &self.came {
-            if let Some(mail) = came && mail.message == message {
+            if let Some(mail) = came
+                && mail.message == message
+            {
                 return *mail;
             }
         }

@@ -25,7 +25,9 @@ impl Seldom {
 
     /// How often it happened since it was told last, where it is to be told at that tick.
     pub(crate) fn due(&mut self, tick: u64) -> Option<u64> {
-        let is_early = self.told.is_some_and(|told| tick < told.saturating_add(BETWEEN));
+        let is_early = self
+            .told
+            .is_some_and(|told| tick < told.saturating_add(BETWEEN));
         if self.untold == 0 || is_early {
             return None;
         }

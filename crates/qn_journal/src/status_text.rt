@@ -1,5 +1,5 @@
 //! The status of a running node as one object of JSON, with its keys in alphabetical order.
-use crate::event_words::id_of;
+use crate::event_words::{id_of, is_in};
 use crate::mail::{MailState, Mailbox};
 use crate::peers::Peers;
 use crate::text::Text;
@@ -135,8 +135,11 @@ fn add_tick_to_why(text: &mut Text, shown: &Shown<'_>) {
     text.number(shown.counts.unwritten);
     text.add(b",\"view\":");
     match shown.standing.view {
-        Some((_, view)) if !matches!(shown.standing.phase, Phase::Gone) =>
-            add_view(text, shown.nodes, view),
+        Some((_, view)) if !matches!(shown.standing.phase, Phase::Gone) => add_view(
+            text,
+            shown.nodes,
+            view,
+        ),
         _ => text.add(b"null"),
     }
     text.add(b",\"votes\":");
@@ -161,7 +164,7 @@ fn add_view(text: &mut Text, nodes: &Nodes, view: View) {
     text.add(b",\"members\":[");
     let mut is_first = true;
     for (rank, node) in nodes.as_slice().iter().enumerate() {
-        if view.members.contains(Rank(rank as u8)) {
+        if is_in(view.members, rank) {
             if !is_first {
                 text.add(b",");
             }

@@ -30,7 +30,11 @@ impl Text {
 
     /// `true` or `false`.
     pub(crate) fn truth(&mut self, truth: bool) {
-        self.add(if truth { b"true".as_slice() } else { b"false".as_slice() });
+        self.add(if truth {
+            b"true".as_slice()
+        } else {
+            b"false".as_slice()
+        });
     }
 
     /// The number, or `null`.
