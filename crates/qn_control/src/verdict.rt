@@ -1,6 +1,7 @@
 //! What the status files of a cluster come to.
 ghost use Rattle.std.specs.Prelude.{◌≡◌};
-ghost use Rattle.qn_control.specs.Verdicts.{holders, is_here, is_holder, is_live, is_owner_elsewhere, is_view_here, is_well, judge};
+ghost use Rattle.std.specs.List.{list_all, list_any};
+ghost use Rattle.qn_control.specs.Verdicts.{holders, is_here, is_holder, is_live, is_owner_elsewhere, is_view_here, is_well, judge, of_live, with_holder, without_holder};
 
 use crate::node_file::NodeFile;
 use qn_base::NodeId;
@@ -59,23 +60,61 @@ impl Verdict {
 pub fn judge(now: u64, files: &[NodeFile]) -> Verdict
     ensures { result ≡ judge now files.now }
 {
-    if !files.iter().any(|file| is_live(now, file)) {
-        return Verdict::Unknown;
+    if has_live(now, files) {
+        of_live(now, files)
+    } else {
+        Verdict::Unknown
     }
+}
+
+/// What files come to of which one is live.
+fn of_live(now: u64, files: &[NodeFile]) -> Verdict
+    ensures { result ≡ of_live now files.now }
+{
     let holders = holders(now, files);
     if holders > 1 {
         Verdict::NoOwner
     } else if holders == 0 {
-        if is_owner_elsewhere(now, files) {
-            Verdict::Degraded
-        } else {
-            Verdict::NoOwner
-        }
-    } else if files.iter().all(|file| is_well(now, file)) {
+        without_holder(now, files)
+    } else {
+        with_holder(now, files)
+    }
+}
+
+/// The same where no live node holds.
+fn without_holder(now: u64, files: &[NodeFile]) -> Verdict
+    ensures { result ≡ without_holder now files.now }
+{
+    if is_owner_elsewhere(now, files) {
+        Verdict::Degraded
+    } else {
+        Verdict::NoOwner
+    }
+}
+
+/// The same where one live node holds.
+fn with_holder(now: u64, files: &[NodeFile]) -> Verdict
+    ensures { result ≡ with_holder now files.now }
+{
+    if are_well(now, files) {
         Verdict::Healthy
     } else {
         Verdict::Degraded
     }
+}
+
+/// Whether a file is live.
+fn has_live(now: u64, files: &[NodeFile]) -> bool
+    ensures { result ≡ list_any (is_live now) files.now }
+{
+    files.iter().any(|file| is_live(now, file))
+}
+
+/// Whether nothing is wrong with any node.
+fn are_well(now: u64, files: &[NodeFile]) -> bool
+    ensures { result ≡ list_all (is_well now) files.now }
+{
+    files.iter().all(|file| is_well(now, file))
 }
 
 /// Whether the file says what is so now.
