@@ -10,7 +10,7 @@ use Rattle.qn_world.proofs.state.State.pending_at.Goals as goal
 pub returns : goal.returns
 returns c d is =
     let waits = of_same_nodes (λ n moments. c.waiting-waiting.result ≡ waiting_of (node n.settings c.args.i.0 moments)) (ap cluster_of c.self.view_is)
-        c.waiting-waiting.ensures d.moments is.cluster in
+    c.waiting-waiting.ensures d.moments is.cluster in
     pending-parts c.args.self.now.settings c.args.i.0 d c.waiting-waiting.result c.took-took.result c.is_some.result c.has_landed.result
     waits (took_same c.args.self.now c.args.i.0 c.took-took.result c.requires.few c.took-took.ensures d is)
     c.is_some.ensures c.has_landed.ensures
