@@ -71,6 +71,23 @@ prove() {
         mkdir -p "$folder/out" && mv -f -- "$1/crates/$name/out/$name" "$built"
 }
 
+# copies what rt ci says to the file $1, and says on a terminal how many crates are done, of the $2 that are needed
+watched() {
+    local line count=0
+    while IFS= read -r line; do
+        printf '%s\n' "$line"
+        case $line in
+            "rt: "*" proved" | "rt: "*" is kept: "*)
+                count=$((count + 1))
+                [ -t 2 ] && printf '\r%s: %d of %d crates proved' "$name" "$count" "$2" >&2
+                ;;
+        esac
+    done >"$1"
+    if [ -t 2 ] && [ "$count" != 0 ]; then
+        printf '\n' >&2
+    fi
+}
+
 # proves and builds the program; what was said of it is shown where that fails
 build() {
     local room
@@ -84,7 +101,7 @@ build() {
     fi
     room=$(mktemp -d) || exit 1
     trap 'rm -rf -- "$room"' EXIT
-    if ! prove "$room/repository" </dev/null >"$room/log" 2>&1; then
+    if ! (set -o pipefail && prove "$room/repository" </dev/null 2>&1 | watched "$room/log" "$(needed | wc -l)"); then
         cat "$room/log" >&2
         exit 1
     fi

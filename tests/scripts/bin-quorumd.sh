@@ -56,6 +56,7 @@ sleep "${SECONDS_OF_RT:-0}"
 [ -n "$PROGRAM" ] || { echo 'not proved'; exit 1; }
 mkdir -p crates/quorumd/out
 cp "$PROGRAM" crates/quorumd/out/quorumd
+printf 'rt: low is kept: an earlier run proved it\nrt: low: trying its must-fail edits (1)\nrt: quorumd proved\n'
 RT
 chmod +x rt-bin/rt
 export CALLS=$here/calls PATH=$here/rt-bin:$PATH PROGRAM=$QUORUMD
@@ -82,6 +83,10 @@ grep -q '^quorumd: a source has changed' errors
 same "$(wc -l < calls)" 3
 called new/bin/quorumd
 sleep 0.1
+touch new/crates/quorumd/src/main.rt
+script -qec 'new/bin/quorumd --build-only' said < /dev/null > errors
+tr '\r' '\n' < errors | grep -E 'crates proved' > counts
+same "$(tr '\n' ' ' < counts)" 'quorumd: 1 of 2 crates proved quorumd: 2 of 2 crates proved '
 touch new/crates/quorumd/src/main.rt
 status=0
 PROGRAM='' new/bin/quorumd help > said 2> errors || status=$?
