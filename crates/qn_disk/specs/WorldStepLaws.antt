@@ -5,7 +5,7 @@ use Rattle.qn_base.specs.declared.ids.Mask.{Mask}
 use Rattle.qn_base.specs.declared.limits.TheConstants.{LATEST_TIME}
 use Rattle.qn_base.specs.Members.{is_member}
 use Rattle.qn_cluster.specs.Nodes.{Nodes}
-use Rattle.qn_cluster.specs.Standing.{HasRoom}
+use Rattle.qn_cluster.specs.Standing.{ClusterFor, HasRoom}
 use Rattle.qn_cluster.specs.StandingLaws.{spent, spent_room, spent_stands}
 use Rattle.qn_cluster.specs.Stepping.{SameFrame as SameNodes}
 use Rattle.qn_disk.specs.WorldKinds.{IsLawful, WorldKind}
@@ -13,8 +13,14 @@ use Rattle.qn_disk.specs.WorldSteps.{Applied, HoldsOnce, IsAllowed, IsFormed, Is
 use Rattle.qn_model.specs.declared.outputs.Out.{Out}
 use Rattle.qn_model.specs.declared.reports.Refused.TheVariants as refused
 use Rattle.qn_model.specs.declared.reports.Report.{Report}
+use Rattle.qn_model.specs.Moments.{Moment}
 use Rattle.qn_model.specs.Steps.{holders, outs_after, report}
 use Rattle.qn_node.specs.Outputs.{IsNodeOutput}
+
+-- what is told of nodes holds of the same nodes elsewhere
+pub of_same_nodes : {first second : Nodes} (Told : Nodes → List Moment → Type 0) → first ≡ second
+    → ((moments : List Moment) → ClusterFor first moments → Told first moments) → (moments : List Moment) → ClusterFor second moments → Told second moments
+of_same_nodes Told same told = subst (λ nodes. (moments : List Moment) → ClusterFor nodes moments → Told nodes moments) same told
 
 back_again : (n : ℕ) → 0 < n → (n - 1) + 1 ≡ n
 back_again n some = omega arith
@@ -120,7 +126,8 @@ module _ {Kept World Event : Type 0} (kind : WorldKind Kept World Event) where
           λ d is.
           says (after_event kind k event d) (made_stands d is)
           (made_gives d is ∙ sym (ap (λ s. outs_after s (kind.as_one event) (kind.nodes_of (after_event kind k event d))) made_settings))
-          ∙ ap (λ s. report s (kind.as_one event) (kind.nodes_of (after_event kind k event d))) made_settings in
+          ∙ ap (λ s. kind.report s event (after_event kind k event d)) made_settings in
+          let exact = reports standing.0 standing.1 ∙ lawful.reported (kind.nodes k).settings event (after_event kind k event standing.0) in
           record {
             settings = made_settings;
             timing = made_less.frame.timing ∙ less_timing k;
@@ -130,7 +137,7 @@ module _ {Kept World Event : Type 0} (kind : WorldKind Kept World Event) where
             reports = reports;
             outs =
                 subst (All (IsNodeOutput (kind.nodes k).settings))
-                (made_gives standing.0 standing.1 ∙ sym (ap (λ r. r.outs) (reports standing.0 standing.1))) made_ranks;
+                (made_gives standing.0 standing.1 ∙ sym (ap (λ r. r.outs) exact)) made_ranks;
           }
 
     pub starved : (k mid back new : Kept) (event : Event) → 0 < (kind.nodes k).steps → mid ≡ one_less k
@@ -188,7 +195,7 @@ module _ {Kept World Event : Type 0} (kind : WorldKind Kept World Event) where
       one_holder once i j first second =
           let d = kind.run (kind.nodes k).settings (kind.timing k) reached.events in
           let same : r.holders ≡ holders (kind.nodes k).settings (kind.nodes_of (kind.run (kind.nodes k).settings (kind.timing k) (event ∷ reached.events))) =
-          ap (λ r. r.holders) (made.reports d reached.stands) ∙ ap (λ after. holders (kind.nodes k).settings (kind.nodes_of after)) (sym after_more) in
+          ap (λ r. r.holders) (made.reports d reached.stands ∙ lawful.reported (kind.nodes k).settings event (after_event kind k event d)) ∙ ap (λ after. holders (kind.nodes k).settings (kind.nodes_of after)) (sym after_more) in
           once (kind.nodes k).settings (kind.timing k) (event ∷ reached.events) i j (lawful.safe k d reached.stands) allowed_more
           (subst (λ mask. IsTrue (is_member mask i)) same first) (subst (λ mask. IsTrue (is_member mask j)) same second)
 
@@ -201,6 +208,11 @@ module _ {Kept World Event : Type 0} (kind : WorldKind Kept World Event) where
         once (kind.nodes k).settings (kind.timing k) reached.events i j (lawful.safe k d reached.stands) reached.allowed
         (subst (λ mask. IsTrue (is_member mask i)) (exact d reached.stands) first) (subst (λ mask. IsTrue (is_member mask j)) (exact d reached.stands) second)
 
-    -- no event led to a world that stands for the one after no events
-    pub none_reached : (k : Kept) → kind.StandsFor k (kind.run (kind.nodes k).settings (kind.timing k) []) → IsReached kind k
-    none_reached k is = record { events = []; allowed = lawful.none_allowed (kind.nodes k).settings (kind.timing k); stands = is }
+    -- no event led to a world that stands for the first one
+    pub none_reached : (k : Kept) → kind.StandsFor k kind.first → IsReached kind k
+    none_reached k is =
+        record {
+          events = [];
+          allowed = lawful.none_allowed (kind.nodes k).settings (kind.timing k);
+          stands = subst (kind.StandsFor k) (sym (lawful.begins (kind.nodes k).settings (kind.timing k))) is;
+        }

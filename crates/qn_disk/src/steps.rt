@@ -1,13 +1,29 @@
 //! How a world of nodes and their disk takes an event, whatever the disk is.
 use crate::has_nodes::HasNodes;
 use qn_base::NoMemory;
-use qn_model::{Outs, Refused, Report, Rule};
+use qn_model::{Outs, Refused, Report, Rule, Settings, Timing};
+use std::alloc::Global;
 
 /// A world that takes events: a rule refuses an event, else the world makes its step and reports it.
 pub trait Steps: HasNodes {
-    ghost use Rattle.std.specs.Prelude.{◌≡◌, ◌<◌, ◌≤◌, [], None, Some, IfErr, MatchResult, OnErr, OnOk};
+    ghost use Rattle.std.specs.Prelude.{◌≡◌, ◌<◌, ◌≤◌, [], true, None, Some, IfErr, IfOk, MatchResult, OnErr, OnOk};
     ghost use Rattle.qn_base.specs.declared.limits.TheConstants.{LATEST_TIME};
-    ghost use Rattle.qn_disk.specs.WorldSteps.{Applied, IsFormed, IsReady, IsStanding, OutOfMemory, Refuses, Stepped, outs_of, report_of, rule_of};
+    ghost use Rattle.qn_model.specs.Settings.{IsValid};
+    ghost use Rattle.qn_model.specs.Timing.{is_safe};
+    ghost use Rattle.qn_disk.specs.WorldSteps.{Applied, HoldsOnce, IsFormed, IsReady, IsStanding, OutOfMemory, Refuses, Stepped, outs_of, report_of, rule_of};
+
+    /// What is kept of the first world.
+    fn first(alloc: Global, settings: Settings, timing: Timing) -> Result<Self, NoMemory>
+        requires valid { IsValid settings }
+        requires safe { is_safe timing ≡ true }
+        ensures first { IfOk result (λ w. Self.kind.StandsFor w Self.kind.first) }
+        ensures settings { IfOk result (λ w. (Self.kind.nodes w).settings ≡ settings) }
+        ensures timing { IfOk result (λ w. Self.kind.timing w ≡ timing) }
+        ensures steps { IfOk result (λ w. (Self.kind.nodes w).steps ≡ u64.MAX) };
+
+    /// The law that at most one node holds in each world that allowed events lead to.
+    fn law_one_holds()
+        ensures { HoldsOnce Self.kind };
 
     /// The number of the rule that refuses an event: the first, where several do.
     fn refusal(&self, event: &Self::Event) -> Option<u8>

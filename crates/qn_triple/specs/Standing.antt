@@ -12,8 +12,8 @@ use Rattle.qn_parts.specs.Parts.{is_good_on, part_on}
 use Rattle.qn_safety.specs.declared.part.Part.{Part}
 use Rattle.qn_safety.specs.declared.triple_event.TripleEvent.{TripleEvent}
 use Rattle.qn_safety.specs.TripleRules.{is_image, is_well_formed_triple, refusal_triple}
-use Rattle.qn_safety.specs.TripleSteps.{AllAllowedTriple, as_one, run_triple, step_triple}
-use Rattle.qn_safety.specs.TripleWorld.{TripleWorld, nodes_of}
+use Rattle.qn_safety.specs.TripleSteps.{AllAllowedTriple, as_one, report_triple, run_triple, step_triple}
+use Rattle.qn_safety.specs.TripleWorld.{TripleWorld, first_triple, nodes_of}
 use Rattle.qn_triple.specs.Memory.{needs_memory}
 use Rattle.qn_triple.specs.Whole.{Whole, cluster_of}
 
@@ -55,9 +55,11 @@ three_images =
       StandsFor = TripleFor;
       nodes_of = nodes_of;
       as_one = as_one;
+      first = first_triple;
       is_well_formed = is_well_formed_triple;
       refusal = refusal_triple;
       step = step_triple;
+      report = report_triple;
       needs_memory = needs_memory;
       run = run_triple;
       AllAllowed = AllAllowedTriple;
@@ -66,7 +68,3 @@ three_images =
 -- the world stands for one of the definitions
 abbrev pub IsStanding : Whole → Type 0
 IsStanding = worlds.IsStanding three_images
-
--- a list of events, each well formed and allowed in its turn, led to this world
-abbrev pub IsReached : Whole → Type 0
-IsReached = worlds.IsReached three_images

@@ -8,7 +8,7 @@ use std::marker::Model;
 
 /// What a world keeps: its nodes, the parts of the operation of each and its good images, by rank, and the three images.
 #[derive(Drop)]
-pub(crate) struct State {
+pub struct State {
     pub(crate) cluster: Cluster,
     pub(crate) timing: Timing,
     pub(crate) parts: Vec<[Part; 3]>,

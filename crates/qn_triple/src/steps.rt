@@ -1,13 +1,47 @@
-//! The step of each event of three images.
+//! The first world of three images, and the step of each event.
+ghost use Rattle.std.specs.Prelude.{◌≡◌, IfOk, replicate};
+
 use crate::disk::{is_left_over, only_on};
 use crate::state::State;
 use qn_base::{NoMemory, Rank};
-use qn_disk::{HasNodes, Steps};
-use qn_model::{Event, Message, Outs, Report};
+use qn_cluster::Cluster;
+use qn_disk::{HasNodes, Leftovers, Sectors, Steps};
+use qn_model::{Event, Message, Outs, Report, Settings, Timing};
 use qn_parts::Part;
-use qn_safety::TripleEvent;
+use qn_safety::{TripleEvent, law_triple_no_two_holders};
+use std::alloc::Global;
+
+/// A list of so many equal items.
+fn filled<T: Copy + Drop>(alloc: Global, count: usize, item: T) -> Result<Vec<T>, NoMemory>
+    ensures { IfOk result (λ v. v.items ≡ replicate count item) }
+{
+    let mut items = Vec::new(alloc);
+    match items.resize(count, item) {
+        Ok(()) => Ok(items),
+        Err(_) => Err(NoMemory),
+    }
+}
 
 impl Steps for State {
+    fn first(alloc: Global, settings: Settings, timing: Timing) -> Result<State, NoMemory> {
+        let cluster = Cluster::new(alloc, settings)?;
+        let parts = filled(alloc, 32, [Part::Pending; 3])?;
+        let good = filled(alloc, 32, [true; 3])?;
+        let sectors = filled(alloc, 3, Sectors::new())?;
+        Ok(State {
+            cluster,
+            timing,
+            parts,
+            good,
+            sectors,
+            left: Leftovers::new(alloc),
+        })
+    }
+
+    fn law_one_holds() {
+        law_triple_no_two_holders();
+    }
+
     fn refusal(&self, event: &TripleEvent) -> Option<u8> {
         match event {
             TripleEvent::One(event) => self.refuses_one(event),

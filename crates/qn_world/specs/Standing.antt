@@ -10,8 +10,8 @@ use Rattle.qn_model.specs.declared.outputs.DiskOp.{DiskOp}
 use Rattle.qn_model.specs.Timing.{is_safe}
 use Rattle.qn_model.specs.Fitting.{answers_op}
 use Rattle.qn_model.specs.Rules.{is_on, is_well_formed, refusal}
-use Rattle.qn_model.specs.World.{World, op_at}
-use Rattle.qn_model.specs.Steps.{AllAllowed, run, step}
+use Rattle.qn_model.specs.World.{World, first_world, op_at}
+use Rattle.qn_model.specs.Steps.{AllAllowed, report, run, step}
 use Rattle.qn_world.specs.Memory.{needs_memory}
 use Rattle.qn_world.specs.Whole.{Whole, cluster_of}
 
@@ -39,9 +39,11 @@ one_image =
       StandsFor = WorldFor;
       nodes_of = λ d. d;
       as_one = λ event. event;
+      first = first_world;
       is_well_formed = is_well_formed;
       refusal = refusal;
       step = step;
+      report = report;
       needs_memory = needs_memory;
       run = run;
       AllAllowed = AllAllowed;
@@ -50,7 +52,3 @@ one_image =
 -- the world stands for one of the definitions
 abbrev pub IsStanding : Whole → Type 0
 IsStanding = worlds.IsStanding one_image
-
--- a list of events, each well formed and allowed in its turn, led to this world
-abbrev pub IsReached : Whole → Type 0
-IsReached = worlds.IsReached one_image

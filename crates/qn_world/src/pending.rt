@@ -29,12 +29,12 @@ impl State {
     ghost use Rattle.qn_world.specs.Standing.{WorldFor};
 
     /// What is pending at the node of a rank.
-    pub(crate) fn pending(&self, i: Rank) -> Pending
+    pub(crate) fn pending_at(&self, i: Rank) -> Pending
         requires within { i.0 < length self.now.seats }
         requires few { i.0 < 32 }
         ensures { (d : World) → WorldFor self.now d → result ≡ pending_of self.now.settings i.0 d }
     {
-        let waiting = self.waiting(i);
+        let waiting = self.cluster.waiting(i);
         let took = self.took(i);
         Pending {
             running: waiting.running,

@@ -7,7 +7,7 @@ use std::marker::Model;
 
 /// What a world keeps: its nodes, what the operation of each took, and the image that they share.
 #[derive(Drop)]
-pub(crate) struct State {
+pub struct State {
     pub(crate) cluster: Cluster,
     pub(crate) timing: Timing,
     pub(crate) took: [Option<What>; 32],

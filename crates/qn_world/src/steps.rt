@@ -4,8 +4,13 @@ ghost use Rattle.qn_model.specs.World.{failed};
 
 use crate::state::State;
 use qn_base::{NoMemory, Rank};
-use qn_disk::{HasNodes, Steps};
-use qn_model::{DiskOp, Event, HeaderSeen, MailSeen, Message, Outs, Report, SlotSeen, What};
+use qn_cluster::Cluster;
+use qn_disk::{HasNodes, Leftovers, Sectors, Steps};
+use qn_model::{
+    DiskOp, Event, HeaderSeen, MailSeen, Message, Outs, Report, Settings, SlotSeen, Timing, What,
+};
+use qn_safety::law_no_two_holders;
+use std::alloc::Global;
 
 /// The entry of an operation that failed.
 #[tactic(auto, unfolding(qn_model::specs::World::failed))]
@@ -25,6 +30,21 @@ fn failed(op: DiskOp) -> What
 }
 
 impl Steps for State {
+    fn first(alloc: Global, settings: Settings, timing: Timing) -> Result<State, NoMemory> {
+        let cluster = Cluster::new(alloc, settings)?;
+        Ok(State {
+            cluster,
+            timing,
+            took: [None; 32],
+            sectors: Sectors::new(),
+            left: Leftovers::new(alloc),
+        })
+    }
+
+    fn law_one_holds() {
+        law_no_two_holders();
+    }
+
     fn refusal(&self, event: &Event) -> Option<u8> {
         match event {
             Event::Land(i) => self.refuses_land(*i),
