@@ -7,6 +7,7 @@ use Rattle.qn_base.specs.declared.ids.Mask.{Mask}
 use Rattle.qn_base.specs.declared.ids.Rank.{Rank}
 use Rattle.qn_base.specs.declared.ids.View.{View}
 use Rattle.qn_base.specs.Members.{is_member}
+use Rattle.qn_base.specs.lemmas.Ranges.{filter_same}
 use Rattle.qn_model.specs.declared.configuration.Settings.{Settings}
 use Rattle.qn_model.specs.declared.outputs.Out.TheVariants as out
 use Rattle.qn_model.specs.declared.packets.Packet.TheVariants as packet
@@ -106,15 +107,6 @@ ask_sent heard me log line to present h none is =
     ∙ (ap (λ n. Some (out.Send to (packet.Ask (record { from = rank_of me; to = to; incarnation = unwrap_or (incarnation (line ∷ log)) 0; install = n; view = present })))) (sym h.installed)
     ∙ ap (option_map (λ present. ask_to me (line ∷ log) present to.0)) (sym there)))
 
--- tests that agree on a run of numbers keep the same of them
-filter-same : (first second : ℕ → Bool) (from count : ℕ) → ((j : ℕ) → from ≤ j → j < from + count → first j ≡ second j)
-    → filter first (range_with_len from count) ≡ filter second (range_with_len from count)
-filter-same first second from zero same = refl
-filter-same first second from (suc count) same =
-    let here : first from ≡ second from = same from (omega arith) (omega arith) in
-    let rest = filter-same first second (from + 1) count (λ j above below. same j (omega arith) (omega arith)) in
-    rw (here, rest)
-
 filter-none : (from count : ℕ) → filter (λ j. false) (range_with_len from count) ≡ []
 filter-none from zero = refl
 filter-none from (suc count) = filter-none (from + 1) count
@@ -128,10 +120,10 @@ asks_where : (s : Settings) (me : ℕ) (log : List Line) (mask : Mask) (due : Bo
 asks_where s me log mask true few same None = refl
 asks_where s me log mask false few same None = refl
 asks_where s me log mask true few same (Some present) =
-    ap (map (ask_to me log present)) (sym (filter-same (is_member mask) (is_asked s me log) 0 (length s.nodes) (λ j above below. same j (omega arith))))
+    ap (map (ask_to me log present)) (sym (filter_same (is_member mask) (is_asked s me log) 0 (length s.nodes) (λ j above below. same j (omega arith))))
 asks_where s me log mask false few same (Some present) =
     ap (map (ask_to me log present))
-    (sym (filter-same (is_member mask) (λ j. false) 0 (length s.nodes) (λ j above below. same j (omega arith)) ∙ filter-none 0 (length s.nodes)))
+    (sym (filter_same (is_member mask) (λ j. false) 0 (length s.nodes) (λ j above below. same j (omega arith)) ∙ filter-none 0 (length s.nodes)))
 
 pub asks_by_members : (s : Settings) (me : ℕ) (log : List Line) (mask : Mask) → length s.nodes ≤ 32
     → ((rank : ℕ) → rank < 32 → is_member mask rank ≡ (is_asking s log && is_asked s me log rank))

@@ -1,11 +1,13 @@
 -- What a listener stands for, line by line.
-use Rattle.std.proofs.Common.{◌≡◌, ℕ, suc, ◌+◌, ◌^◌, ◌<◌, ◌≤◌, Bool, true, false, List, [], ◌∷◌, length, Some, None, refl, cond, ◌&&◌, ◌||◌, not, if◌then◌else◌, sym, ◌∙◌, ap, arith}
+use Rattle.std.proofs.Common.{◌≡◌, ℕ, suc, ◌+◌, ◌^◌, ◌<◌, ◌≤◌, Bool, true, false, List, [], ◌∷◌, Some, None, refl, cond, ◌&&◌, ◌||◌, not, if◌then◌else◌, sym, ◌∙◌, ap, arith}
 use Rattle.std.specs.Prelude.{Option, SomeIff, unwrap_or, ◌==◌, nat_le, nat_lt, is_some}
 use Rattle.std.specs.Option.{option_or, option_map_or}
-use Rattle.std.proofs.lemmas.Nat.Bits.{bit_at-zero}
 use Rattle.std.proofs.lemmas.Bool.Decides.{nat_tests}
+use Rattle.std.proofs.lemmas.Bool.{and_right}
+use Rattle.std.proofs.Math.Bool.{and-true}
 use Rattle.qn_base.specs.declared.ids.View.{View}
 use Rattle.qn_base.specs.Members.{is_member}
+use Rattle.qn_base.specs.lemmas.Masks.{empty_has_none}
 use Rattle.qn_model.specs.declared.configuration.Settings.{Settings}
 use Rattle.qn_model.specs.declared.packets.Tell.{Tell}
 use Rattle.qn_model.specs.declared.entries.What.{What}
@@ -21,28 +23,9 @@ use Rattle.qn_model.specs.NodeOutputs.{is_asking, is_moment, moment}
 use Rattle.qn_heard.specs.declared.listener.Heard.{Heard}
 use Rattle.qn_heard.specs.Heard.{HeardFor, HeardBefore, Hears, as_tick, bears_on_hearing, due_after, is_due, is_told}
 
--- the empty mask has no member
-pub none_member : (rank : ℕ) → is_member (record { 0 = 0 }) rank ≡ false
-none_member rank = ap (λ bit. bit == 1) (bit_at-zero rank)
-
-and_false : (b : Bool) → (b && false) ≡ false
-and_false true = refl
-and_false false = refl
-
 middle_false : (a b c : Bool) → b ≡ false → (a && b && c) ≡ false
 middle_false true b c e = rw e
 middle_false false b c e = refl
-
-last_false : (a b : Bool) → b ≡ false → (a && b) ≡ false
-last_false a b e = rw e (and_false a)
-
-and_true : (b : Bool) → (b && true) ≡ b
-and_true true = refl
-and_true false = refl
-
-or_false : (b : Bool) → (b || false) ≡ b
-or_false true = refl
-or_false false = refl
 
 -- ---- before the first view
 
@@ -67,14 +50,14 @@ no_tell : (test : Tell → Bool) (rank : ℕ) (past : List Line) (tell : Option 
 no_tell test rank past None e = refl
 no_tell test rank past (Some tell) e =
     let absent : is_present past tell.view ≡ false = ap (λ own. option_map_or (λ own. is_same_view own tell.view) own false) e in
-    middle_false _ (answers past tell) _ (last_false _ (is_present past tell.view) absent)
+    middle_false _ (answers past tell) _ (and_right _ (is_present past tell.view) absent)
 
 pub told-none : (test : Tell → Bool) (rank : ℕ) (log : List Line) → view log ≡ None → told test rank log ≡ false
 unfolding told
 told-none test rank [] e = refl
 told-none test rank (line ∷ past) e =
     let parts = view_none line past e in
-    rw (no_tell test rank past (tell_of line.what) parts.1) (last_false _ (told test rank past) (told-none test rank past parts.1))
+    rw (no_tell test rank past (tell_of line.what) parts.1) (and_right _ (told test rank past) (told-none test rank past parts.1))
 
 pub moment-none : (s : Settings) (log : List Line) → view log ≡ None → moment s log ≡ None
 unfolding moment
@@ -84,7 +67,7 @@ moment-none s (line ∷ past) e =
     let before = moment-none s past parts.1 in
     let no_view : is_view line.what ≡ false = ap is_some parts.0 in
     let none : is_moment (timing past).loop_ms line.tick line.what (moment s past) ≡ false = rw (no_view, before) in
-    ap (λ yes. cond yes (Some line.tick) (moment s past)) (last_false _ _ none) ∙ before
+    ap (λ yes. cond yes (Some line.tick) (moment s past)) (and_right _ _ none) ∙ before
 
 -- ---- one line more
 
@@ -259,7 +242,7 @@ heard_tell heard after s me log line tell h is no_claim rest tolds frees =
     ∙ sym (told-tell (λ tell. not tell.holds) rank log line tell is)))
     (λ rank below. tolds rank below
     ∙ (ap (λ b. (tell.from.0 == rank && answers log tell) || b) (h.hears.tolds rank below)
-    ∙ (ap (λ b. b || is_told log rank) (sym (and_true (tell.from.0 == rank && answers log tell)))
+    ∙ (ap (λ b. b || is_told log rank) (sym (and-true (tell.from.0 == rank && answers log tell)))
     ∙ sym (told-tell (λ tell. true) rank log line tell is)))) in
     asks_same heard after s me log line h hears (ap (λ x. x.next_ask) rest) (ap (λ x. x.loop_ms) rest) (ap is_view is) (ap ends_no_boot is)
 
@@ -288,8 +271,8 @@ heard_view heard s me log line installed tick h at is no_claim = record {
     loops = ap (λ w. (unwrap_or (times_of w) (timing log)).loop_ms) is ∙ h.hears.loops;
     views = ap (λ w. option_or (view_of w) (view log)) is;
     installed = ap (λ w. if is_view w then suc (install log) else install log) is ∙ (ap suc h.hears.installed ∙ omega arith);
-    frees = λ rank below. none_member rank ∙ sym (told-view (λ tell. not tell.holds) rank log line installed is);
-    tolds = λ rank below. none_member rank ∙ sym (told-view (λ tell. true) rank log line installed is);
+    frees = λ rank below. empty_has_none rank ∙ sym (told-view (λ tell. not tell.holds) rank log line installed is);
+    tolds = λ rank below. empty_has_none rank ∙ sym (told-view (λ tell. true) rank log line installed is);
   };
   moments = λ up fits. nat_le_same line.tick tick at ∙ sym (asking-view s log line installed is up);
   later = λ up none. absurd (let z : true ≡ false = sym (asking-view s log line installed is up) ∙ none in cc);
@@ -324,13 +307,3 @@ heard_asked heard s me log tick due next h at fits was reached some = record {
       let last : moment s log ≡ Some tick = moment-asking s log asked ∙ ap Some at in
       as_tick-some (tick + heard.loop_ms) next some ∙ ap (due_after heard.loop_ms) (sym last);
 }
-
--- each View is a line
-few_more : (b : Bool) (count length : ℕ) → count ≤ length → (if b then suc count else count) ≤ suc length
-few_more true count length few = omega arith
-few_more false count length few = omega arith
-
-pub install-few : (log : List Line) → install log ≤ length log
-unfolding install
-install-few [] = omega arith
-install-few (line ∷ past) = few_more (is_view line.what) (install past) (length past) (install-few past)

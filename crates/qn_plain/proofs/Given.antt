@@ -1,10 +1,11 @@
 -- What comes out of an entry, by what is kept, is what comes out of it by the log.
-use Rattle.std.proofs.Common.{◌≡◌, ℕ, zero, suc, ◌+◌, ◌<◌, ◌≤◌, Bool, true, false, List, [], ◌++◌, length, Option, None, Some, refl, ap, sym, ◌∙◌, arith}
+use Rattle.std.proofs.Common.{◌≡◌, ℕ, ◌+◌, ◌<◌, Bool, true, false, List, [], ◌++◌, length, Option, None, Some, refl, ap, sym, ◌∙◌, arith}
 use Rattle.std.specs.Prelude.{◌&&◌, ◌||◌, ◌==◌, not, if◌then◌else◌, nat_le, is_some, option_and_then, unwrap_or, map, filter}
 use Rattle.std.specs.Option.{option_map, option_map_or, option_or}
 use Rattle.std.specs.List.{range_with_len}
 use Rattle.qn_base.specs.declared.ids.Rank.{Rank}
 use Rattle.qn_base.specs.declared.ids.View.{View}
+use Rattle.qn_base.specs.lemmas.Ranges.{filter_same}
 use Rattle.qn_model.specs.declared.configuration.Settings.{Settings}
 use Rattle.qn_model.specs.declared.disk.Message.{Message}
 use Rattle.qn_model.specs.declared.entries.What.{What}
@@ -54,14 +55,6 @@ kept-rank_of (Some rank) first second same = kept_if (first rank) (second rank) 
 is_rank-rank_of : (me : ℕ) (found : Option ℕ) → is_rank me (option_map rank_of found) ≡ option_map_or (λ rank. rank == me) found false
 is_rank-rank_of me None = refl
 is_rank-rank_of me (Some rank) = refl
-
-filter-same : (first second : ℕ → Bool) (from count : ℕ) → ((j : ℕ) → from ≤ j → j < from + count → first j ≡ second j)
-    → filter first (range_with_len from count) ≡ filter second (range_with_len from count)
-filter-same first second from zero same = refl
-filter-same first second from (suc count) same =
-    let here : first from ≡ second from = same from (omega arith) (omega arith) in
-    let rest = filter-same first second (from + 1) count (λ j above below. same j (omega arith) (omega arith)) in
-    rw (here, rest)
 
 -- the Ask to a rank, by the incarnation that was claimed and the install number
 abbrev ask_by : ℕ → Option ℕ → ℕ → View → ℕ → Out
@@ -149,7 +142,7 @@ module _ (s : Settings) (past : Past) (log : List Line) (h : PastFor s past log)
       ap (λ l. map (ask_by me l.claimed past.installs present) ranks) h.lives
       ∙ (ap (λ claim. map (ask_by me claim past.installs present) ranks) (sym t.claims)
       ∙ (ap (λ count. map (ask_by me (incarnation log) count present) ranks) h.installed
-      ∙ ap (map (ask_to me log present)) (filter-same (is_asked_of me past) (is_asked s me log) 0 (length s.nodes) (λ j above below. let few = h.few in asked_past j (omega arith)))))
+      ∙ ap (map (ask_to me log present)) (filter_same (is_asked_of me past) (is_asked s me log) 0 (length s.nodes) (λ j above below. let few = h.few in asked_past j (omega arith)))))
 
   asks_past : asks_at_entry s me past ≡ asks s me log
   asks_past =

@@ -1,26 +1,19 @@
 -- A history, entry by entry.
-use Rattle.std.proofs.Common.{◌≡◌, ℕ, suc, ◌+◌, ◌<◌, ◌≤◌, List, [], ◌∷◌, ◌++◌, length, take, get_or, refl, ap, ◌∙◌, arith}
+use Rattle.std.proofs.Common.{◌≡◌, ℕ, suc, ◌+◌, ◌<◌, ◌≤◌, List, [], ◌∷◌, length, take, get_or, refl, ap, ◌∙◌, arith}
 use Rattle.std.proofs.lemmas.List.{length-take-le, take_more}
 use Rattle.qn_model.specs.declared.configuration.Settings.{Settings}
 use Rattle.qn_model.specs.declared.entries.Entry.{Entry}
-use Rattle.std.specs.Prelude.{Bool, true, false, if◌then◌else◌}
-use Rattle.qn_model.specs.Log.{Line, is_view}
-use Rattle.qn_model.specs.NodeVotes.{install}
+use Rattle.qn_model.specs.lemmas.Logs.{log_from-more, install-within}
+use Rattle.qn_model.specs.Log.{Line}
 use Rattle.qn_plain.specs.declared.past.Past.{Past}
 use Rattle.qn_plain.specs.Past.{PastFor}
 use Rattle.qn_model.specs.NodeOutputs.{log_from, log_of, with_entry}
-
-log_from-append : (s : Settings) (me : ℕ) (past : List Line) (history : List Entry) (entry : Entry)
-    → log_from s me past (history ++ entry ∷ []) ≡ with_entry s me (log_from s me past history) entry
-unfolding log_from
-log_from-append s me past [] entry = refl
-log_from-append s me past (first ∷ history) entry = log_from-append s me (with_entry s me past first) history entry
 
 -- the log of one entry more
 pub log_of-more : (s : Settings) (me : ℕ) (history : List Entry) (i : ℕ) (d : Entry) → i < length history
     → log_of s me (take (i + 1) history) ≡ with_entry s me (log_of s me (take i history)) (get_or history i d)
 log_of-more s me history i d here =
-    ap (log_of s me) (take_more history i d here) ∙ log_from-append s me [] (take i history) (get_or history i d)
+    ap (log_of s me) (take_more history i d here) ∙ log_from-more s me [] (take i history) (get_or history i d)
 
 with_entry-length : (s : Settings) (me : ℕ) (past : List Line) (entry : Entry) → length (with_entry s me past entry) ≡ suc (length past)
 unfolding with_entry
@@ -42,20 +35,10 @@ log_of-length s me history i below =
 pub place_after : (s : Settings) (me : ℕ) (history : List Entry) (i : ℕ) → i ≤ length history → i + 1 ≡ suc (length (log_of s me (take i history)))
 place_after s me history i below = let is = log_of-length s me history i below in omega arith
 
--- each view that was installed is an entry
-few_more : (b : Bool) (count length : ℕ) → count ≤ length → (if b then suc count else count) ≤ suc length
-few_more true count length few = omega arith
-few_more false count length few = omega arith
-
-install-few : (log : List Line) → install log ≤ length log
-unfolding install
-install-few [] = omega arith
-install-few (line ∷ past) = few_more (is_view line.what) (install past) (length past) (install-few past)
-
 pub installs_by : (s : Settings) (me : ℕ) (history : List Entry) (i : ℕ) (past : Past) → i ≤ length history
     → PastFor s past (log_of s me (take i history)) → past.installs ≤ i
 installs_by s me history i past below h =
-    let few = install-few (log_of s me (take i history)) in
+    let few = install-within (log_of s me (take i history)) in
     let all = log_of-length s me history i below in
     let count = h.installed in
     omega arith

@@ -1,20 +1,18 @@
 -- One entry more, of what a history says of the node itself and of its votes.
-use Rattle.std.proofs.Common.{◌≡◌, ℕ, suc, ◌+◌, Bool, true, false, List, [], ◌∷◌, length, Option, refl, ap, sym, ◌∙◌, arith}
-use Rattle.std.specs.Prelude.{◌&&◌, if◌then◌else◌}
-use Rattle.std.specs.Option.{option_or, option_map_or}
-use Rattle.qn_base.specs.declared.ids.View.{View}
+use Rattle.std.proofs.Common.{◌≡◌, ℕ, suc, ◌+◌, Bool, true, false, List, [], ◌∷◌, length, refl, arith}
+use Rattle.std.specs.Prelude.{if◌then◌else◌}
+use Rattle.std.specs.Option.{option_map_or}
 use Rattle.qn_model.specs.declared.configuration.Settings.{Settings}
 use Rattle.qn_model.specs.declared.entries.What.{What}
 use Rattle.qn_model.specs.declared.entries.What.TheVariants as what
 use Rattle.qn_model.specs.declared.outputs.Out.{Out}
 use Rattle.qn_model.specs.declared.votes.VoteWhat.TheVariants as vote
-use Rattle.qn_model.specs.Log.{Line, ask_place, ask_tick, begins_clean, claimed, is_answer, is_view, op_out, slot_number, timing, view_of}
+use Rattle.qn_model.specs.Log.{Line, ask_place, ask_tick, begins_clean, claimed, is_answer, is_view, op_out, slot_number, timing}
 use Rattle.qn_model.specs.Phases.{phase}
 use Rattle.qn_model.specs.Holding.{holds, may_stop, stop_due}
 use Rattle.qn_model.specs.Hearing.{tell_of}
 use Rattle.qn_model.specs.Wanted.{mail_tick}
-use Rattle.qn_model.specs.Votes.{present_view, newer_view}
-use Rattle.qn_model.specs.NodeVotes.{answers, install, view, vote_of, votes}
+use Rattle.qn_model.specs.NodeVotes.{answers, install, vote_of}
 use Rattle.qn_model.specs.NodeOutputs.{moment, taken_in}
 use Rattle.qn_plain.specs.declared.life.Stopping.{Stopping}
 use Rattle.qn_plain.specs.Life.{life_given, life_of, life_taken, stopping, stops_again}
@@ -48,30 +46,6 @@ stops_again-stopping wait tick (line ∷ past) =
     let before = stops_again-stopping wait tick past in
     simp (stops_if, before)
 
--- the present view of the vote list is that of the log
-view_said : (w : What) (said : Bool) (before : Option View) → newer_view (vote_said said w) before ≡ option_or (view_of w) before
-view_said what.Begin said before = refl
-view_said what.BeginClean said before = refl
-view_said (what.Header seen) said before = refl
-view_said (what.SlotRead rank seen) said before = refl
-view_said (what.MailChecked seen) said before = refl
-view_said (what.Claimed ok) said before = refl
-view_said (what.Cleared ok) said before = refl
-view_said (what.MailRead seen) said before = refl
-view_said (what.MailWritten rank ok) said before = refl
-view_said (what.View shown) said before = refl
-view_said (what.Ask ask) said before = refl
-view_said (what.Tell tell) said before = view_told (said && tell.released) before
-  where
-    view_told : (b : Bool) (before : Option View) → newer_view (if b then vote.Released else vote.Tick) before ≡ before
-    view_told true before = refl
-    view_told false before = refl
-view_said (what.Device agrees) said before = refl
-view_said what.Tick said before = refl
-view_said (what.Stopped ok) said before = refl
-view_said what.Leave said before = refl
-view_said (what.Closed ok) said before = refl
-
 -- an entry says the same to the count of votes
 pub vote_said-vote_of : (log : List Line) (w : What) → vote_said (option_map_or (answers log) (tell_of w) false) w ≡ vote_of log w
 vote_said-vote_of log what.Begin = refl
@@ -91,14 +65,6 @@ vote_said-vote_of log what.Tick = refl
 vote_said-vote_of log (what.Stopped ok) = refl
 vote_said-vote_of log what.Leave = refl
 vote_said-vote_of log (what.Closed ok) = refl
-
-pub present_view-votes : (log : List Line) → present_view (votes log) ≡ view log
-unfolding present_view votes view
-present_view-votes [] = refl
-present_view-votes (line ∷ past) =
-    ap (λ w. newer_view w (present_view (votes past))) (sym (vote_said-vote_of past line.what))
-    ∙ (view_said line.what _ (present_view (votes past))
-    ∙ ap (option_or (view_of line.what)) (present_view-votes past))
 
 -- each view that was installed is a line
 few_more : (b : Bool) (count : ℕ) → (if b then suc count else count) ≡ (if b then count + 1 else count)

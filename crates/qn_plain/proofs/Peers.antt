@@ -1,12 +1,14 @@
 -- One entry more, of what a history says of each rank.
-use Rattle.std.proofs.Common.{◌≡◌, ◌≢◌, ℕ, zero, suc, ◌+◌, ◌<◌, ◌≤◌, Bool, true, false, List, [], ◌∷◌, length, Option, None, Some, refl, ap, sym, ◌∙◌, arith, set, get_or-set_other, get_or-set_same, below_more, subst}
+use Rattle.std.proofs.Common.{◌≡◌, ◌≢◌, ℕ, zero, suc, ◌+◌, ◌<◌, ◌≤◌, Bool, true, false, List, [], length, Option, None, Some, refl, ap, sym, ◌∙◌, arith, set, get_or-set_other, get_or-set_same, below_more, subst}
 use Rattle.std.specs.Prelude.{◌&&◌, ◌||◌, ◌==◌, not, max, if◌then◌else◌, nat_lt, is_some, replicate}
 use Rattle.std.specs.Option.{option_map_or}
 use Rattle.std.proofs.lemmas.Bool.Decides.{nat_tests}
+use Rattle.std.proofs.Math.Bool.{and-false}
 use Rattle.qn_model.specs.declared.packets.Tell.{Tell}
 use Rattle.qn_model.specs.declared.entries.What.{What}
 use Rattle.qn_model.specs.declared.entries.What.TheVariants as what
 use Rattle.qn_model.specs.declared.outputs.Out.{Out}
+use Rattle.qn_model.specs.lemmas.Logs.{ask_place-within}
 use Rattle.qn_model.specs.Log.{Line, ask_place, disk_of, is_answer, is_view}
 use Rattle.qn_model.specs.Hearing.{tell_of, tells, told}
 use Rattle.qn_model.specs.Licences.{is_clean_slot, is_seen_slot, out_time, reads_slot, reset_since, slot_read_since, writes_reset}
@@ -72,13 +74,9 @@ later_of true second place before asked p q = let z : nat_lt place (max before a
 later_of false true place before asked p q = let z : nat_lt place (max before asked) ≡ true = grind (arith, nat_tests) in sym z
 later_of false false place before asked p q = let z : nat_lt place (max before asked) ≡ false = grind (arith, nat_tests) in sym z
 
-and_false : (b : Bool) → (b && false) ≡ false
-and_false true = refl
-and_false false = refl
-
 later : (b : Bool) (place before asked : ℕ) → ((nat_lt place asked && b) || nat_lt place before) ≡ nat_lt place (later_if b before asked)
 later true place before asked = later_of (nat_lt place asked) (nat_lt place before) place before asked refl refl
-later false place before asked = ap (λ b. b || nat_lt place before) (and_false (nat_lt place asked))
+later false place before asked = ap (λ b. b || nat_lt place before) (and-false (nat_lt place asked))
 
 -- a reset after another
 reset_first : (b : Bool) (place asked before tick earlier : ℕ) → nat_lt place asked ≡ b → before ≤ asked
@@ -92,7 +90,7 @@ reset_later : (b : Bool) (place asked before tick earlier : ℕ) → (b ≡ true
     ≡ (if nat_lt place (if b then asked else before) then Some (if b then tick else earlier) else None)
 reset_later true place asked before tick earlier order = reset_first (nat_lt place asked) place asked before tick earlier refl (order refl)
 reset_later false place asked before tick earlier order =
-    ap (λ b. if b then Some tick else (if nat_lt place before then Some earlier else None)) (and_false (nat_lt place asked))
+    ap (λ b. if b then Some tick else (if nat_lt place before then Some earlier else None)) (and-false (nat_lt place asked))
 
 writes_answer : (rank : ℕ) (w : What) → writes_reset rank w ≡ true → is_answer w ≡ true
 writes_answer rank (what.MailWritten other ok) e = refl
@@ -102,11 +100,6 @@ writes_answer rank w e = absurd (cc)
 place_more : (b : Bool) (before count : ℕ) → before ≤ count → (if b then suc count else before) ≤ suc count
 place_more true before count h = omega arith
 place_more false before count h = omega arith
-
-pub ask_place-few : (log : List Line) → ask_place log ≤ length log
-unfolding ask_place
-ask_place-few [] = omega arith
-ask_place-few (line ∷ past) = place_more (is_some (disk_of line.outs)) (ask_place past) (length past) (ask_place-few past)
 
 -- a Tell counts by whether it answers
 told_so : (said test : Tell → Bool) (rank : ℕ) (tell : Option Tell)
@@ -169,7 +162,7 @@ peer_given peer log rank tick w outs h = record {
   cleans = h.cleans;
   seens = h.seens;
   resets = h.resets;
-  behind = place_later (is_some (disk_of outs)) (ask_place log) (length log) peer.reset_asked (ask_place-few log) h.behind;
+  behind = place_later (is_some (disk_of outs)) (ask_place log) (length log) peer.reset_asked (ask_place-within log) h.behind;
   frees = h.frees;
   tolds = h.tolds;
 }

@@ -8,6 +8,7 @@ use Rattle.qn_model.specs.declared.packets.Tell.{Tell}
 use Rattle.qn_model.specs.declared.entries.What.{What}
 use Rattle.qn_model.specs.declared.entries.What.TheVariants as what
 use Rattle.qn_model.specs.declared.outputs.Out.{Out}
+use Rattle.qn_model.specs.lemmas.VoteLists.{present_view-votes}
 use Rattle.qn_model.specs.Log.{Line, claimed, is_view, slot_number}
 use Rattle.qn_model.specs.Phases.{is_live, is_up}
 use Rattle.qn_model.specs.Fitting.{answers_op, fits, is_first, is_for, is_own_view, read_as}
@@ -22,7 +23,7 @@ use Rattle.qn_plain.specs.Peer.{PeerFor, peer_after, peer_at}
 use Rattle.qn_plain.specs.Tally.{tally_after, tally_of}
 use Rattle.qn_plain.proofs.Claimable.{claimable_taken}
 use Rattle.qn_plain.proofs.EntryByEntry.{tally_of-cons}
-use Rattle.qn_plain.proofs.Lives.{install-next, life_given-life_of, life_taken-life_of, present_view-votes, vote_said-vote_of, with_outs}
+use Rattle.qn_plain.proofs.Lives.{install-next, life_given-life_of, life_taken-life_of, vote_said-vote_of, with_outs}
 use Rattle.qn_plain.proofs.Peers.{peer_given, peer_taken, read_after}
 
 option_map_or-same : (first second : Tell → Bool) (tell : Option Tell) → ((t : Tell) → first t ≡ second t)

@@ -1,6 +1,7 @@
 -- One entry more, as a whole, and the whole history.
-use Rattle.std.proofs.Common.{◌≡◌, ℕ, suc, ◌-◌, ◌^◌, ◌<◌, ◌≤◌, Bool, true, false, List, length, ap, sym, ◌∙◌, subst}
-use Rattle.std.specs.Prelude.{IsTrue, if◌then◌else◌}
+use Rattle.std.proofs.Common.{◌≡◌, ℕ, suc, ◌-◌, ◌^◌, ◌<◌, ◌≤◌, Bool, List, length, ap, sym, ◌∙◌, subst}
+use Rattle.std.specs.Prelude.{IsTrue}
+use Rattle.qn_base.specs.lemmas.Numbers.{either_within}
 use Rattle.qn_model.specs.declared.configuration.Settings.{Settings}
 use Rattle.qn_model.specs.declared.entries.Entry.{Entry}
 use Rattle.qn_model.specs.declared.entries.What.{What}
@@ -59,13 +60,8 @@ adds s me old mid new log place entry w reading timely outs here read known in_t
       given = subst (λ v. outs ≡ newest_outs (with_read s me log entry.tick v)) is added.given;
     }
 
--- no reset was written after a tick
-later_by : (b : Bool) (first second tick : ℕ) → first ≤ tick → second ≤ tick → (if b then first else second) ≤ tick
-later_by true first second tick p q = p
-later_by false first second tick p q = q
-
 pub resets_more : (s : Settings) (reading : Reading) (old new : Past) (tick : ℕ) → TakesIn s reading old new → reading.tick ≤ tick
     → ResetsBy old tick → ResetsBy new tick
 resets_more s reading old new tick takes late h = λ rank below.
     subst (λ p. p.reset_tick ≤ tick) (sym (takes.each rank below))
-    (later_by (writes_reset rank reading.what) reading.tick (peer_at old.peers rank).reset_tick tick late (h rank below))
+    (either_within (writes_reset rank reading.what) reading.tick (peer_at old.peers rank).reset_tick tick late (h rank below))

@@ -1,9 +1,10 @@
 -- The fields of a well formed packet are read back from its bytes.
-use Rattle.std.proofs.Common.{◌≡◌, ◌<◌, ◌^◌, ℕ, Bool, true, false, ◌&&◌, ◌==◌, ◌+◌, ◌%◌, nat_lt, nat_le, slice_index, cond, List, [], ◌∷◌, ◌++◌, Some, refl, ap, arith}
+use Rattle.std.proofs.Common.{◌≡◌, ◌^◌, ℕ, Bool, true, false, ◌==◌, ◌+◌, ◌%◌, nat_le, slice_index, cond, List, [], ◌∷◌, ◌++◌, Some, refl, ap}
 use Rattle.std.specs.Int.{bytes_high_first}
-use Rattle.std.proofs.lemmas.Bool.Decides.{nat_tests}
+use Rattle.std.proofs.lemmas.Bool.{and_parts, ltb-true}
 use Rattle.byteorder.specs.Numbers.{big_number-reads_back}
 use Rattle.qn_base.specs.declared.ids.View.{View}
+use Rattle.qn_base.specs.lemmas.Bools.{cond_is_one}
 use Rattle.qn_model.specs.declared.packets.Ask.{Ask}
 use Rattle.qn_model.specs.declared.packets.Tell.{Tell}
 use Rattle.qn_model.specs.declared.packets.Packet.{Packet}
@@ -11,22 +12,14 @@ use Rattle.qn_model.specs.declared.packets.Packet.TheVariants as packet
 use Rattle.qn_wire.specs.Packets.{packet_bytes, head_bytes, view_bytes, ask_fields, as_ask, is_ask, is_view, is_well_formed}
 use Rattle.qn_wire.specs.Reading.{fields_of, ask_at, tell_at, view_at}
 
--- both tests hold where their conjunction does
-pub and_both : (first second : Bool) → (first && second) ≡ true → (first ≡ true) × (second ≡ true)
-and_both true second holds = (refl, holds)
-and_both false second holds = cc
-
-below : (n m : ℕ) → nat_lt n m ≡ true → n < m
-below n m is = grind (arith, nat_tests)
-
 same_view : (first second : View) → first.id ≡ second.id → first.members.0 ≡ second.members.0 → first ≡ second
 same_view first second same_id same_members = rw (same_id, same_members) refl
 
 view_at-view_bytes : (view : View) (rest : List ℕ) → is_view view ≡ true → view_at 0 (view_bytes view ++ rest) ≡ view
 view_at-view_bytes view rest is =
-    let tests = and_both _ _ is in
-    let id_fits = below view.id (2 ^ 64) (and_both _ _ tests.0).0 in
-    let members_fit = below view.members.0 (2 ^ 32) tests.1 in
+    let tests = and_parts _ _ is in
+    let id_fits = ltb-true view.id (2 ^ 64) (and_parts _ _ tests.0).0 in
+    let members_fit = ltb-true view.members.0 (2 ^ 32) tests.1 in
     same_view (view_at 0 (view_bytes view ++ rest)) view
     (big_number-reads_back 8 view.id (bytes_high_first 4 view.members.0 ++ rest) id_fits)
     (big_number-reads_back 4 view.members.0 rest members_fit)
@@ -36,12 +29,12 @@ same_ask first second from to incarnation install view = rw (from, to, incarnati
 
 ask_at-ask_fields : (kind : ℕ) (ask : Ask) (rest : List ℕ) → is_ask ask ≡ true → ask_at (head_bytes kind ++ ask_fields ask ++ rest) ≡ ask
 ask_at-ask_fields kind ask rest is =
-    let four = and_both _ _ is in
-    let three = and_both _ _ four.0 in
-    let two = and_both _ _ three.0 in
+    let four = and_parts _ _ is in
+    let three = and_parts _ _ four.0 in
+    let two = and_parts _ _ three.0 in
     same_ask (ask_at (head_bytes kind ++ ask_fields ask ++ rest)) ask refl refl
-    (big_number-reads_back 8 ask.incarnation (bytes_high_first 8 ask.install ++ view_bytes ask.view ++ rest) (below ask.incarnation (2 ^ 64) two.1))
-    (big_number-reads_back 8 ask.install (view_bytes ask.view ++ rest) (below ask.install (2 ^ 64) three.1))
+    (big_number-reads_back 8 ask.incarnation (bytes_high_first 8 ask.install ++ view_bytes ask.view ++ rest) (ltb-true ask.incarnation (2 ^ 64) two.1))
+    (big_number-reads_back 8 ask.install (view_bytes ask.view ++ rest) (ltb-true ask.install (2 ^ 64) three.1))
     (view_at-view_bytes ask.view rest four.1)
 
 -- the byte of a Tell, of its two truths
@@ -72,15 +65,11 @@ tell_at-tell_bytes tell is =
     (holds_back tell.holds tell.released)
     (released_back tell.holds tell.released)
 
-truth_back : (truth : Bool) → (cond truth 1 0 == 1) ≡ truth
-truth_back true = refl
-truth_back false = refl
-
 pub fields_of-packet_bytes : (p : Packet) → is_well_formed p ≡ true → fields_of (slice_index (packet_bytes p) 2) (packet_bytes p) ≡ Some p
 unfolding packet_bytes
 fields_of-packet_bytes (packet.Ask ask) is = ap (λ x. Some (packet.Ask x)) (ask_at-ask_fields 1 ask [] is)
 fields_of-packet_bytes (packet.Tell tell) is = ap (λ x. Some (packet.Tell x)) (tell_at-tell_bytes tell is)
 fields_of-packet_bytes (packet.Hello from) is = refl
 fields_of-packet_bytes (packet.Announce from view) is =
-    ap (λ x. Some (packet.Announce from x)) (view_at-view_bytes view [] (and_both _ _ is).1)
-fields_of-packet_bytes (packet.Vote agrees) is = ap (λ x. Some (packet.Vote x)) (truth_back agrees)
+    ap (λ x. Some (packet.Announce from x)) (view_at-view_bytes view [] (and_parts _ _ is).1)
+fields_of-packet_bytes (packet.Vote agrees) is = ap (λ x. Some (packet.Vote x)) (cond_is_one agrees)

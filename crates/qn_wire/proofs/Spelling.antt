@@ -2,34 +2,26 @@
 use Rattle.std.proofs.Common.{◌≡◌, Bool, true, false, ◌&&◌, List, ℕ, Option, None, Some, IfSome, IfNone, option_and_then, if◌then◌else◌, slice_index, refl, sym, ap, ◌∙◌}
 use Rattle.std.specs.Str.{bytes_eq}
 use Rattle.std.proofs.lemmas.Slice.Eq.{bytes_eq-Decides}
+use Rattle.std.proofs.lemmas.Bool.{and_parts, and_from}
+use Rattle.qn_base.specs.lemmas.Options.{some_if_true, true_if_some}
 use Rattle.qn_model.specs.declared.packets.Packet.{Packet}
 use Rattle.qn_wire.specs.Packets.{packet_bytes, is_well_formed, Spells}
 use Rattle.qn_wire.specs.Reading.{packet_of, fields_of}
-use Rattle.qn_wire.proofs.FieldsBack.{and_both, fields_of-packet_bytes}
+use Rattle.qn_wire.proofs.FieldsBack.{fields_of-packet_bytes}
 
 -- what is taken from bytes counts only where it is well formed and they are its spelling
 abbrev judged : List ℕ → Packet → Option Packet
 judged bytes p = if is_well_formed p && bytes_eq (packet_bytes p) bytes then Some p else None
 
-when_true : (test : Bool) (p : Packet) → test ≡ true → (if test then Some p else None) ≡ Some p
-when_true test p holds = rw holds refl
-
-when_some : (test : Bool) (p found : Packet) → (if test then Some p else None) ≡ Some found → (test ≡ true) × (found ≡ p)
-when_some true p found is = (refl, cc)
-when_some false p found is = cc
-
-both_hold : (first second : Bool) → first ≡ true → second ≡ true → (first && second) ≡ true
-both_hold first second one other = rw (one, other) refl
-
 judged-spelling : (bytes : List ℕ) (p : Packet) → Spells bytes p → judged bytes p ≡ Some p
 judged-spelling bytes p spells =
-    when_true _ p (both_hold _ _ spells.well_formed ((bytes_eq-Decides _ _).1 (sym spells.spelling)))
+    some_if_true _ p (and_from _ _ spells.well_formed ((bytes_eq-Decides _ _).1 (sym spells.spelling)))
 
 judged-spells : (bytes : List ℕ) (read : Option Packet) (p : Packet) → option_and_then (judged bytes) read ≡ Some p → Spells bytes p
 judged-spells bytes None p is = cc
 judged-spells bytes (Some read) p is =
-    let found = when_some _ read p is in
-    let tests = and_both _ _ found.0 in
+    let found = true_if_some _ read p is in
+    let tests = and_parts _ _ found.0 in
     record {
       well_formed = rw found.1 tests.0;
       spelling = rw found.1 (sym ((bytes_eq-Decides _ _).0 tests.1));
