@@ -204,7 +204,7 @@ impl Cluster {
             → ClusterFor self.now moments
             → IfSome result (λ sent. sent.to.0 < length self.now.settings.nodes) }
     {
-        self.packets.get(number as usize).copied()
+        self.packets.get(number as usize)
     }
 
     /// Fills in what is reported of an event once its step is made, beside the outputs that it gave.

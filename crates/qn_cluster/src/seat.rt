@@ -1,12 +1,14 @@
 //! One configured node of the cluster, running or off.
-ghost use Rattle.std.specs.Prelude.{◌≡◌, ◌<◌, ◌≤◌, ◌+◌, ◌++◌, vec_capacity, vec_len};
+ghost use Rattle.std.specs.Prelude.{◌≡◌, ◌<◌, ◌++◌};
 ghost use Rattle.qn_model.specs.Moments.{packets_of};
 ghost use Rattle.qn_node.specs.Node.{steps_of};
+ghost use Rattle.qn_cluster.specs.Packets.{HasRoomFor, sents};
 ghost use Rattle.qn_cluster.specs.Seats.{HandedSeat};
 
 use crate::outputs::{MOST_OUTPUTS, is_gone, send_all};
+use crate::packets::Packets;
 use qn_base::Rank;
-use qn_model::{DiskOp, Entry, Outs, Phase, Sent, Settings, What};
+use qn_model::{DiskOp, Entry, Outs, Phase, Settings, What};
 use qn_node::Node;
 
 /// A node of the cluster, running or off.
@@ -146,15 +148,15 @@ impl Seat {
 /// which have room for it.
 pub(crate) fn hand_with_room(
     seat: &mut Seat,
-    packets: &mut Vec<Sent>,
+    packets: &mut Packets,
     time: u64,
     what: What,
     outs: &mut Outs,
 )
     requires steps { 0 < steps_of seat.old.node }
-    requires room { vec_len packets.old + MOST_OUTPUTS ≤ vec_capacity packets.old }
+    requires room { HasRoomFor MOST_OUTPUTS packets.old }
     ensures hands { HandedSeat seat.old seat.new time what outs.new }
-    ensures sends { packets.new.items ≡ packets.old.items ++ packets_of outs.new }
+    ensures sends { sents packets.new ≡ sents packets.old ++ packets_of outs.new }
 {
     seat.hand(time, what, outs);
     send_all(packets, outs.as_slice());
