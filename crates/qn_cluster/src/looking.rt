@@ -28,7 +28,7 @@ impl Seat {
             → SeatFor self.now s me node
             → result ≡ (node.on && holds node.log) }
     {
-        self.on && self.node.holds()
+        self.on && self.held
     }
 
     /// The count of votes at the node's present tick; that of the empty history where it is off.

@@ -15,6 +15,7 @@ use qn_node::Node;
 #[derive(Drop)]
 pub(crate) struct Seat {
     pub(crate) on: bool,
+    pub(crate) held: bool,
     pub(crate) node: Node,
     pub(crate) clock: u64,
     pub(crate) fed: u64,
@@ -41,6 +42,7 @@ impl Seat {
     {
         Seat {
             on: false,
+            held: false,
             node: Node::new(settings, me),
             clock: 0,
             fed: 0,
@@ -72,6 +74,7 @@ impl Seat {
     {
         *self = Seat {
             on: true,
+            held: false,
             node: Node::new(settings, me),
             clock: base,
             fed: time,
@@ -90,6 +93,7 @@ impl Seat {
         let tick = self.tick();
         self.node.step(Entry { tick, what }, outs);
         let gone = is_gone(self.node.phase());
+        self.held = self.node.holds();
         self.note(gone, time, what, outs);
     }
 
@@ -115,6 +119,7 @@ impl Seat {
     {
         Seat {
             on: self.on,
+            held: self.held,
             node: self.node.copy(),
             clock: self.clock,
             fed: self.fed,
