@@ -5,6 +5,7 @@ pub mod Lists
 pub mod Looks
 pub mod NodeEvents
 pub mod OutputSteps
+pub mod PacketsKept
 pub mod PassSteps
 pub mod RuleSteps
 pub mod SeatSteps

@@ -154,7 +154,7 @@ fed_seat w d i seat is here =
     record {
       runs = own.runs;
       running = λ on. let r = own.running on in
-          record { stands = r.stands; clocks = r.clocks; feeds = is.times; decisions = r.decisions; ops = r.ops; stops = r.stops; ticks = r.ticks };
+          record { stands = r.stands; clocks = r.clocks; feeds = is.times; decisions = r.decisions; ops = r.ops; stops = r.stops; ticks = r.ticks; holds = r.holds };
     }
 
 pub feed_stepped : (w new : Nodes) (i : ℕ) (seat : Seat) → slice_get w.seats i ≡ Some seat
@@ -223,6 +223,7 @@ passed_seat seat s me n advance own =
             ops = r.ops;
             stops = r.stops;
             ticks = subst (λ c. now n.log ≤ tick_of c) (sym ahead) (omega arith);
+            holds = r.holds;
           };
     }
 

@@ -9,7 +9,7 @@ use Rattle.qn_model.specs.declared.entries.What.TheVariants as what
 use Rattle.qn_model.specs.declared.outputs.Out.{Out}
 use Rattle.qn_model.specs.Log.{Line, disk_of, has_stop, is_answer, now, op_out}
 use Rattle.qn_model.specs.Phases.{phase}
-use Rattle.qn_model.specs.Holding.{answers_stop, stop_due}
+use Rattle.qn_model.specs.Holding.{answers_stop, holds, stop_due}
 use Rattle.qn_model.specs.Fitting.{answers_op, fits, read_as}
 use Rattle.qn_model.specs.NodeOutputs.{newest_outs, with_entry}
 use Rattle.qn_model.specs.Moments.{Running, begin_of, booted, handed, has_feed, is_gone, logged, never_booted, tick_of}
@@ -98,7 +98,7 @@ abbrev pub entry_at : ℕ → What → Entry
 entry_at clock w = record { tick = tick_of clock; what = w }
 
 -- the seat after an entry
-pub seat_handed : (old new : Seat) (s : Settings) (me time : ℕ) (w : What) (node : Running) (outs : List Out)
+pub seat_handed : (old new : Seat) (s : Settings) (me time : ℕ) (w : What) (held : Bool) (node : Running) (outs : List Out)
     → SeatFor old s me node → node.on ≡ true → IsDue node w
     → NodeFor new.node s me (with_entry s me node.log (entry_at node.clock w))
     → outs ≡ newest_outs (with_entry s me node.log (entry_at node.clock w))
@@ -108,10 +108,12 @@ pub seat_handed : (old new : Seat) (s : Settings) (me time : ℕ) (w : What) (no
       decided = (if has_feed outs then Some time else old.decided);
       op = op_with w outs old.op;
       stop_due = stop_with w outs old.stop_due;
+      held = held;
     }
+    → held ≡ holds (with_entry s me node.log (entry_at node.clock w))
     → SeatFor new s me (handed s me time w node)
 unfolding handed logged with_entry
-seat_handed old new s me time w node outs is on due stands same e =
+seat_handed old new s me time w held node outs is on due stands same e holding =
     let before = is.running on in
     let clocks : new.clock ≡ node.clock = ap (λ seat. seat.clock) e ∙ before.clocks in
     record {
@@ -124,6 +126,7 @@ seat_handed old new s me time w node outs is on due stands same e =
         ops = ap (λ seat. seat.op) e ∙ (ap (λ outs. op_with w outs old.op) same ∙ (ap (λ op. op_with w (newest_outs (with_entry s me node.log (entry_at node.clock w))) op) before.ops ∙ op_entry s me node.log (entry_at node.clock w) due));
         stops = ap (λ seat. seat.stop_due) e ∙ (ap (λ outs. stop_with w outs old.stop_due) same ∙ (ap (λ stop. stop_with w (newest_outs (with_entry s me node.log (entry_at node.clock w))) stop) before.stops ∙ stop_entry s me node.log (entry_at node.clock w)));
         ticks = omega arith;
+        holds = ap (λ seat. seat.held) e ∙ holding;
       };
     }
 
@@ -151,21 +154,23 @@ hand_outs old s me time tick w node outs is on ticks gives =
 
 -- the seat after an entry, by what the calls of the code promise
 pub hand_seat : (old : Seat) (stepped : Node) (new : Seat) (s : Settings) (me time tick : ℕ) (w : What) (node : Running) (outs : List Out)
-    (p : Phase) (gone : Bool)
+    (p : Phase) (gone held : Bool)
     → SeatFor old s me node → node.on ≡ true → IsDue node w → tick ≡ tick_of old.clock
     → StepStands old.node stepped (record { tick = tick; what = w })
     → StepGives old.node outs (record { tick = tick; what = w })
     → ((s : Settings) (me : ℕ) (log : List Line) → NodeFor stepped s me log → p ≡ phase s log)
     → gone ≡ is_gone p
+    → ((s : Settings) (me : ℕ) (log : List Line) → NodeFor stepped s me log → held ≡ holds log)
     → new ≡ record old {
       node = stepped;
       on = not gone;
       decided = (if has_feed outs then Some time else old.decided);
       op = op_with w outs old.op;
       stop_due = stop_with w outs old.stop_due;
+      held = held;
     }
     → SeatFor new s me (handed s me time w node)
-hand_seat old stepped new s me time tick w node outs p gone is on due ticks stands gives phases gones e =
+hand_seat old stepped new s me time tick w node outs p gone held is on due ticks stands gives phases gones holding e =
     let before = is.running on in
     let order = in_order node.log tick old.clock node.clock ticks before.clocks before.ticks in
     let after : NodeFor stepped s me (with_entry s me node.log (entry_at node.clock w)) =
@@ -173,7 +178,7 @@ hand_seat old stepped new s me time tick w node outs p gone is on due ticks stan
     (stands s me node.log before.stands order) in
     let node_is : new.node ≡ stepped = ap (λ seat. seat.node) e in
     let gone_is : gone ≡ is_gone (phase s (with_entry s me node.log (entry_at node.clock w))) = gones ∙ ap is_gone (phases s me _ after) in
-    seat_handed old new s me time w node outs is on due
+    seat_handed old new s me time w held node outs is on due
     (subst (λ n. NodeFor n s me (with_entry s me node.log (entry_at node.clock w))) (sym node_is) after)
     (hand_outs old s me time tick w node outs is on ticks gives)
     (let f : record old {
@@ -182,25 +187,28 @@ hand_seat old stepped new s me time tick w node outs p gone is on due ticks stan
       decided = (if has_feed outs then Some time else old.decided);
       op = op_with w outs old.op;
       stop_due = stop_with w outs old.stop_due;
+      held = held;
     } ≡ record old {
       node = new.node;
       on = not (is_gone (phase s (with_entry s me node.log (entry_at node.clock w))));
       decided = (if has_feed outs then Some time else old.decided);
       op = op_with w outs old.op;
       stop_due = stop_with w outs old.stop_due;
+      held = held;
     } = cc in e ∙ f)
+    (holding s me _ after)
 
 -- a node that has just booted, before its first entry
 abbrev pub fresh : ℕ → ℕ → Running → Running
 fresh time base node = record { on = true; boots = suc node.boots; log = []; clock = base; fed = time; decided = None }
 
 abbrev pub fresh_of : Node → ℕ → ℕ → Seat
-fresh_of n time base = record { on = true; node = n; clock = base; fed = time; decided = None; op = None; stop_due = false }
+fresh_of n time base = record { on = true; node = n; clock = base; fed = time; decided = None; op = None; stop_due = false; held = false }
 
 -- the seat of a node that has just booted
 pub fresh_seat : (n : Node) (s : Settings) (me time base : ℕ) (node : Running) → NodeFor n s me []
     → SeatFor (fresh_of n time base) s me (fresh time base node)
-unfolding op_out stop_due
+unfolding op_out stop_due holds
 fresh_seat n s me time base node stands =
     record {
       runs = refl;
@@ -212,6 +220,7 @@ fresh_seat n s me time base node stands =
         ops = refl;
         stops = refl;
         ticks = omega arith;
+        holds = refl;
       };
     }
 
@@ -264,5 +273,6 @@ copy_seat seat n stands s me node is =
         ops = before.ops;
         stops = before.stops;
         ticks = before.ticks;
+        holds = before.holds;
       };
     }

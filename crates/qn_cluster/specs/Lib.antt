@@ -1,7 +1,9 @@
 pub mod EventRanks
 pub mod Events
+pub mod Kept
 pub mod Nodes
 pub mod Outputs
+pub mod Packets
 pub mod Seats
 pub mod Seen
 pub mod Standing

@@ -4,7 +4,7 @@ use Rattle.qn_model.specs.declared.configuration.Settings.{Settings}
 use Rattle.qn_model.specs.declared.entries.What.{What}
 use Rattle.qn_model.specs.Log.{is_answer, now, op_out}
 use Rattle.qn_model.specs.Fitting.{answers_op}
-use Rattle.qn_model.specs.Holding.{stop_due}
+use Rattle.qn_model.specs.Holding.{holds, stop_due}
 use Rattle.qn_model.specs.Moments.{Running, begin_of, booted, handed, tick_of}
 use Rattle.qn_model.specs.declared.outputs.Out.{Out}
 use Rattle.qn_model.specs.NodeOutputs.{newest_outs}
@@ -22,6 +22,7 @@ pub record RunsFor (seat : Seat) (s : Settings) (me : ℕ) (node : Running) : Ty
   pub ops : seat.op ≡ op_out node.log
   pub stops : seat.stop_due ≡ stop_due node.log
   pub ticks : now node.log ≤ tick_of node.clock
+  pub holds : seat.held ≡ holds node.log
 
 -- a seat stands for a node, running or off
 pub record SeatFor (seat : Seat) (s : Settings) (me : ℕ) (node : Running) : Type 0 where

@@ -1,8 +1,9 @@
 //! What a cluster keeps, and the small changes of it.
 use crate::clocks::advance_all;
+use crate::packets::Packets;
 use crate::seat::Seat;
 use qn_base::Rank;
-use qn_model::{Clocks, Outs, Sent, Settings, What};
+use qn_model::{Clocks, Outs, Settings, What};
 use std::marker::Model;
 
 /// The nodes of a cluster in true time, a seat for each by rank, and the packets that were sent.
@@ -11,12 +12,13 @@ pub struct Cluster {
     pub(crate) settings: Settings,
     pub(crate) time: u64,
     pub(crate) seats: Vec<Seat>,
-    pub(crate) packets: Vec<Sent>,
+    pub(crate) packets: Packets,
     pub(crate) steps: u64,
 }
 
 impl Model for Cluster {
     ghost use Rattle.qn_cluster.specs.Nodes.{Nodes};
+    ghost use Rattle.qn_cluster.specs.Packets.{sents};
 
     ghost Value = { Nodes };
 
@@ -24,7 +26,7 @@ impl Model for Cluster {
       settings = c.settings;
       time = c.time;
       seats = c.seats.items;
-      packets = c.packets.items;
+      packets = sents c.packets;
       steps = c.steps;
     } };
 }

@@ -4,6 +4,7 @@ ghost use Rattle.qn_cluster.specs.declared.seat.Seat.{Seat};
 ghost use Rattle.qn_cluster.specs.Seats.{IsFresh};
 
 use crate::cluster::Cluster;
+use crate::packets::Packets;
 use crate::seat::Seat;
 use qn_base::{NoMemory, Rank};
 use qn_model::Settings;
@@ -45,7 +46,7 @@ impl Cluster {
             settings,
             time: 0,
             seats,
-            packets: Vec::new(alloc),
+            packets: Packets::new(alloc),
             steps: u64::MAX,
         })
     }

@@ -2,6 +2,8 @@
 //!
 //! Promises: a `Cluster` stands for the nodes of the definitions after a list of moments (`specs/Standing`).
 //! Each call that changes it is one moment more, or has no memory for what a node sends and changes nothing.
+//! Every packet that was sent is kept, since a later event may deliver it: in 16 bytes, beside a heading for what the
+//! packets of one entry have in common.
 //! What a node asks of the disk is what it waits for: the worlds above this crate keep the disk, and hand the
 //! node its answer. The calls `refuses_..` are the rules that look at nodes alone.
 #![tactic(auto)]
@@ -12,8 +14,10 @@ mod entries;
 mod events;
 mod first;
 mod hands;
+mod kept;
 mod looking;
 mod outputs;
+mod packets;
 mod rules;
 mod seat;
 mod waiting;

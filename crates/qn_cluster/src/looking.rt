@@ -28,7 +28,7 @@ impl Seat {
             → SeatFor self.now s me node
             → result ≡ (node.on && holds node.log) }
     {
-        self.on && self.node.holds()
+        self.on && self.held
     }
 
     /// The count of votes at the node's present tick; that of the empty history where it is off.
@@ -204,7 +204,7 @@ impl Cluster {
             → ClusterFor self.now moments
             → IfSome result (λ sent. sent.to.0 < length self.now.settings.nodes) }
     {
-        self.packets.get(number as usize).copied()
+        self.packets.get(number as usize)
     }
 
     /// Fills in what is reported of an event once its step is made, beside the outputs that it gave.

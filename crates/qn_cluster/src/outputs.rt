@@ -1,17 +1,19 @@
 //! What the outputs of a node are to the cluster: packets that are sent, and its end.
-ghost use Rattle.std.specs.Prelude.{◌≡◌, ◌≤◌, ◌<◌, ◌+◌, ◌++◌, ◌↔◌, [], IsFalse, length, option_to_list, vec_capacity, vec_len};
+ghost use Rattle.std.specs.Prelude.{◌≡◌, ◌+◌, ◌++◌, ◌↔◌, [], ℕ, IsFalse, length, option_to_list};
 ghost use Rattle.qn_model.specs.Moments.{is_gone, packets_of};
 ghost use Rattle.qn_cluster.specs.Outputs.{packet_in};
+ghost use Rattle.qn_cluster.specs.Packets.{HasRoomFor, sents};
 
+use crate::packets::Packets;
 use qn_model::{Out, Phase, Sent};
 
 /// The most outputs of one entry, and so the most packets that one sends.
 pub(crate) const MOST_OUTPUTS: usize = 40;
 
 /// Adds the packets among the outputs, in order, to a list that has room for them.
-pub(crate) fn send_all(packets: &mut Vec<Sent>, outs: &[Out])
-    requires { vec_len packets.old + length outs.now ≤ vec_capacity packets.old }
-    ensures { packets.new.items ≡ packets.old.items ++ packets_of outs.now }
+pub(crate) fn send_all(packets: &mut Packets, outs: &[Out])
+    requires { HasRoomFor (length outs.now) packets.old }
+    ensures { sents packets.new ≡ sents packets.old ++ packets_of outs.now }
 {
     for out in outs {
         send(packets, *out);
@@ -19,11 +21,10 @@ pub(crate) fn send_all(packets: &mut Vec<Sent>, outs: &[Out])
 }
 
 /// Adds the packet that an output sends, if it sends one, to a list that has room for it.
-fn send(packets: &mut Vec<Sent>, out: Out)
-    requires { vec_len packets.old < vec_capacity packets.old }
-    ensures items { packets.new.items ≡ packets.old.items ++ option_to_list (packet_in out) }
-    ensures len { vec_len packets.new ≤ vec_len packets.old + 1 }
-    ensures capacity { vec_capacity packets.new ≡ vec_capacity packets.old }
+fn send(packets: &mut Packets, out: Out)
+    requires { HasRoomFor 1 packets.old }
+    ensures items { sents packets.new ≡ sents packets.old ++ option_to_list (packet_in out) }
+    ensures room { (n : ℕ) → HasRoomFor (n + 1) packets.old → HasRoomFor n packets.new }
 {
     if let Some(sent) = packet_in(out) {
         packets.push_reserved(sent);

@@ -1,18 +1,21 @@
 //! One configured node of the cluster, running or off.
-ghost use Rattle.std.specs.Prelude.{◌≡◌, ◌<◌, ◌≤◌, ◌+◌, ◌++◌, vec_capacity, vec_len};
+ghost use Rattle.std.specs.Prelude.{◌≡◌, ◌<◌, ◌++◌};
 ghost use Rattle.qn_model.specs.Moments.{packets_of};
 ghost use Rattle.qn_node.specs.Node.{steps_of};
+ghost use Rattle.qn_cluster.specs.Packets.{HasRoomFor, sents};
 ghost use Rattle.qn_cluster.specs.Seats.{HandedSeat};
 
 use crate::outputs::{MOST_OUTPUTS, is_gone, send_all};
+use crate::packets::Packets;
 use qn_base::Rank;
-use qn_model::{DiskOp, Entry, Outs, Phase, Sent, Settings, What};
+use qn_model::{DiskOp, Entry, Outs, Phase, Settings, What};
 use qn_node::Node;
 
 /// A node of the cluster, running or off.
 #[derive(Drop)]
 pub(crate) struct Seat {
     pub(crate) on: bool,
+    pub(crate) held: bool,
     pub(crate) node: Node,
     pub(crate) clock: u64,
     pub(crate) fed: u64,
@@ -39,6 +42,7 @@ impl Seat {
     {
         Seat {
             on: false,
+            held: false,
             node: Node::new(settings, me),
             clock: 0,
             fed: 0,
@@ -70,6 +74,7 @@ impl Seat {
     {
         *self = Seat {
             on: true,
+            held: false,
             node: Node::new(settings, me),
             clock: base,
             fed: time,
@@ -88,6 +93,7 @@ impl Seat {
         let tick = self.tick();
         self.node.step(Entry { tick, what }, outs);
         let gone = is_gone(self.node.phase());
+        self.held = self.node.holds();
         self.note(gone, time, what, outs);
     }
 
@@ -113,6 +119,7 @@ impl Seat {
     {
         Seat {
             on: self.on,
+            held: self.held,
             node: self.node.copy(),
             clock: self.clock,
             fed: self.fed,
@@ -146,15 +153,15 @@ impl Seat {
 /// which have room for it.
 pub(crate) fn hand_with_room(
     seat: &mut Seat,
-    packets: &mut Vec<Sent>,
+    packets: &mut Packets,
     time: u64,
     what: What,
     outs: &mut Outs,
 )
     requires steps { 0 < steps_of seat.old.node }
-    requires room { vec_len packets.old + MOST_OUTPUTS ≤ vec_capacity packets.old }
+    requires room { HasRoomFor MOST_OUTPUTS packets.old }
     ensures hands { HandedSeat seat.old seat.new time what outs.new }
-    ensures sends { packets.new.items ≡ packets.old.items ++ packets_of outs.new }
+    ensures sends { sents packets.new ≡ sents packets.old ++ packets_of outs.new }
 {
     seat.hand(time, what, outs);
     send_all(packets, outs.as_slice());

@@ -1,9 +1,10 @@
-use Rattle.std.proofs.Common.{◌≡◌, ◌≤◌, ◌+◌, ◌++◌, length, take, vec_capacity, vec_len}
+use Rattle.std.proofs.Common.{◌≡◌, ℕ, ◌+◌, ◌++◌, length, take}
 use Rattle.qn_model.specs.Moments.{packets_of}
+use Rattle.qn_cluster.specs.Packets.{HasRoomFor, sents}
 use Rattle.qn_cluster.proofs.outputs.send_all.Given as goal
 
 -- what was sent so far, and room for the rest
 abbrev pub invariant-loop-out : goal.invariant-loop-out
 invariant-loop-out l =
-    (l.packets.items ≡ l.fn.packets.items ++ packets_of (take l.out-index l.outs))
-    × (vec_len l.packets + length l.outs ≤ vec_capacity l.packets + l.out-index)
+    (sents l.packets ≡ sents l.fn.packets ++ packets_of (take l.out-index l.outs))
+    × ((left : ℕ) → left + l.out-index ≡ length l.outs → HasRoomFor left l.packets)

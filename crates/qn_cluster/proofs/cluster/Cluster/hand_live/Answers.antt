@@ -17,7 +17,7 @@ returns-clause-ok c =
     (subst (λ seat. HandedSeat seat new c.self.inside.time c.args.what outs)
     (c.index_mut-seat.ensures.value
     ∙ read_at c.self.inside.seats.items c.args.self.now.seats c.from.result c.args.i.0 there.0 _ (ap (λ w. w.seats) c.self.view_is) c.from.ensures there.1) c.hand_with_room.ensures.hands) in
-    let sent = c.hand_with_room.ensures.sends ∙ ap (λ items. items ++ packets_of outs) c.reserve.ensures.items in
+    let sent = c.hand_with_room.ensures.sends ∙ ap (λ items. items ++ packets_of outs) c.reserve.ensures.same in
     handed_world c.args.self.now _ c.args.i.0 there.0 new c.args.what outs there.1 c.requires.room hands
     (ap (λ packets. record {
       settings = c.self.inside.settings;

@@ -12,8 +12,8 @@ returns c =
       op = ap (λ seat. seat.op) c.note.ensures;
       stands = λ s me node is on due.
           hand_seat c.args.self.now c.step.new.self c.note.new.self s me c.args.time c.tick-tick.result c.args.what node c.step.new.outs c.phase.result
-          c.is_gone-gone.result is on due c.tick-tick.ensures c.step.ensures.stands c.step.ensures.outs c.phase.ensures.exact c.is_gone-gone.ensures
-          (let h = c.note.ensures in cc);
+          c.is_gone-gone.result c.holds-self.result is on due c.tick-tick.ensures c.step.ensures.stands c.step.ensures.outs c.phase.ensures.exact c.is_gone-gone.ensures
+          c.holds-self.ensures (let h = c.note.ensures in cc);
       gives = λ s me node is on.
           hand_outs c.args.self.now s me c.args.time c.tick-tick.result c.args.what node c.step.new.outs is on c.tick-tick.ensures c.step.ensures.outs;
       ranks = λ s me node is on.
