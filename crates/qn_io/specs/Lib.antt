@@ -1,5 +1,6 @@
 pub mod Admission
 pub mod Answered
+pub mod Exchanges
 pub mod Halts
 pub mod Lines
 pub mod Memory

@@ -3,9 +3,9 @@
 //! Promises: nothing. What it says stands on `qn_control`; a text is judged by `settings_of_text`, as `quorumd` judges it.
 #![tactic(auto)]
 
-mod files;
 mod images;
 mod input;
+mod open_image;
 mod table;
 mod texts;
 mod trouble;
@@ -15,7 +15,7 @@ use qn_usage::{has_word, help_text, refusal_of, value_of, version_text};
 use std::env;
 use std::fs::File;
 use std::io::ErrorKind;
-use std::net::Net;
+use std::net::{Net, TcpStream};
 use std::process::ExitCode;
 use std::rt::{Env, Files};
 use std::time::Clock;
@@ -60,7 +60,9 @@ fn main(rt: HostRuntime) -> ExitCode {
 }
 
 /// Runs the command that the words are.
-fn run<R: Files<File = File> + Net + Clock + Print + Eprint + Input + AllocGlobal>(
+fn run<
+    R: Files<File = File> + Net<Stream = TcpStream> + Clock + Print + Eprint + Input + AllocGlobal,
+>(
     rt: &R,
     words: &[String],
 ) -> Result<u8, Trouble> {
