@@ -122,7 +122,7 @@ def setup():
     def sets_up(image, *words):
         words = [TOP / "packaging" / "quorumd-setup", CONF, "--id", "2", "--image", image, *words]
         done = subprocess.run(words, stdin=subprocess.DEVNULL, capture_output=True, check=False, env=environment)
-        return done.returncode, (done.stdout + done.stderr).decode().splitlines()[-1]
+        return done.returncode, (done.stdout or done.stderr).decode().splitlines()[-1]
 
     images = [BlockServer(room / "server").word()] + (["etcd:%s/setup" % HOST] if HOST else [])
     done = "node 2 of %s is set up: systemctl enable --now quorumd@2.service" % CONF

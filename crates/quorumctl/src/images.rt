@@ -32,11 +32,7 @@ const LOOK: u64 = 100;
 /// `check`: what is wrong with an image, and whether it fits the settings on standard input, where there are any.
 pub fn check<
     R: Files<File = File> + Net<Stream = TcpStream> + Clock + Input + Print + Eprint + AllocGlobal,
->(
-    rt: &R,
-    path: &str,
-    is_json: bool,
-) -> Result<u8, Trouble> {
+>(rt: &R, path: &str, is_json: bool) -> Result<u8, Trouble> {
     let text = read_input(rt)?;
     if text.is_empty() {
         return check_by(rt, path, is_json, None);
@@ -48,9 +44,7 @@ pub fn check<
 }
 
 /// Says what is wrong with an image, by the settings where there are any.
-fn check_by<
-    R: Files<File = File> + Net<Stream = TcpStream> + Clock + Print + Eprint + AllocGlobal,
->(
+fn check_by<R: Files<File = File> + Net<Stream = TcpStream> + Clock + Print + Eprint + AllocGlobal>(
     rt: &R,
     path: &str,
     is_json: bool,
@@ -95,9 +89,7 @@ fn check_text(alloc: Global, seen: &ImageSeen, is_json: bool) -> Result<String, 
 }
 
 /// `list`: the nodes of an image. Of a file that is none it says so: in a line, and with `--json` on standard error.
-pub fn list<
-    R: Files<File = File> + Net<Stream = TcpStream> + Clock + Print + Eprint + AllocGlobal,
->(
+pub fn list<R: Files<File = File> + Net<Stream = TcpStream> + Clock + Print + Eprint + AllocGlobal>(
     rt: &R,
     path: &str,
     is_json: bool,
@@ -166,9 +158,7 @@ enum Outcome {
 }
 
 /// `wait`: returns when the message to a node was read, or msgwait has passed.
-pub fn wait<
-    R: Files<File = File> + Net<Stream = TcpStream> + Clock + Print + Eprint + AllocGlobal,
->(
+pub fn wait<R: Files<File = File> + Net<Stream = TcpStream> + Clock + Print + Eprint + AllocGlobal>(
     rt: &R,
     path: &str,
     options: &[String],
@@ -243,11 +233,7 @@ fn timing_of<S: Sectors>(alloc: Global, image: &mut S) -> Result<Option<Timing>,
 }
 
 /// What became of the message to a node, by a look at the image.
-fn outcome_at<S: Sectors>(
-    alloc: Global,
-    image: &mut S,
-    id: NodeId,
-) -> Result<Outcome, AllocError> {
+fn outcome_at<S: Sectors>(alloc: Global, image: &mut S, id: NodeId) -> Result<Outcome, AllocError> {
     let seen = look_at_image(alloc, image, None)?;
     Ok(outcome_of(&seen, id))
 }

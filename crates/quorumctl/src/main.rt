@@ -62,10 +62,7 @@ fn main(rt: HostRuntime) -> ExitCode {
 /// Runs the command that the words are.
 fn run<
     R: Files<File = File> + Net<Stream = TcpStream> + Clock + Print + Eprint + Input + AllocGlobal,
->(
-    rt: &R,
-    words: &[String],
-) -> Result<u8, Trouble> {
+>(rt: &R, words: &[String]) -> Result<u8, Trouble> {
     let [name, options @ ..] = words else {
         return Ok(USAGE);
     };

@@ -19,10 +19,10 @@ pub struct OpenImage<
     reader: ImageReader<'r, R>,
 }
 
-impl<
+impl<'r, R: Files<File = File> + Net<Stream = TcpStream> + Clock + Eprint + AllocGlobal> OpenImage<
     'r,
-    R: Files<File = File> + Net<Stream = TcpStream> + Clock + Eprint + AllocGlobal,
-> OpenImage<'r, R> {
+    R,
+> {
     /// Opens the image of that word for reading alone, which makes none.
     pub fn open(rt: &'r R, word: &str) -> io::Result<OpenImage<'r, R>> {
         let reader = ImageReader::open(rt, word)?;
@@ -30,10 +30,8 @@ impl<
     }
 }
 
-impl<
-    'r,
-    R: Files<File = File> + Net<Stream = TcpStream> + Clock + Eprint + AllocGlobal,
-> Sectors for OpenImage<'r, R> {
+impl<'r, R: Files<File = File> + Net<Stream = TcpStream> + Clock + Eprint + AllocGlobal> Sectors
+    for OpenImage<'r, R> {
     fn sector(&mut self, number: u32) -> Option<[u8; 512]> {
         if number >= SECTORS {
             return None;

@@ -24,7 +24,7 @@ pub returns-then-head-ne-OK-clause-unanswered : goal.returns-then-head-ne-OK-cla
 returns-then-head-ne-OK-clause-unanswered g c =
     let bytes = c.read_answer.new.answer.items in
     is_none _ _ bytes c.in_ok-head.ensures.taken
-        (λ body. other_code_is_no_answer bytes body c.in_ok-head.head c.in_ok-head.ensures.whole.begins c.if-head-ne-OK.true)
+    (λ body. other_code_is_no_answer bytes body c.in_ok-head.head c.in_ok-head.ensures.whole.begins c.if-head-ne-OK.true)
 
 pub returns-in-Err-clause-unsent : goal.returns-in-Err-clause-unsent
 returns-in-Err-clause-unsent g c = all_sent _ _ c.args.request.now c.in_ok-write_whole.ensures.whole
@@ -38,5 +38,5 @@ returns-in-Err-clause-unanswered g c =
       bytes = bytes;
       takes = c.in_ok-head.ensures.taken;
       none = λ body short text answer.
-        c.in-Err.ensures.cases.0 (subst IsUtf8 (sym (back ∙ one_body bytes body head c.in_ok-head.ensures.whole.begins answer)) text);
+          c.in-Err.ensures.cases.0 (subst IsUtf8 (sym (back ∙ one_body bytes body head c.in_ok-head.ensures.whole.begins answer)) text);
     }

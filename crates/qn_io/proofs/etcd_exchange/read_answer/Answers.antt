@@ -31,17 +31,17 @@ returns-then-is_err-clause-none g c =
       bytes = old ++ new;
       takes = Consumes-trans _ _ _ old new c.parts.invariant.0 c.in_ok-more.ensures.consumes.0;
       none = λ body short text answer.
-        let front = ap length c.split_at.ensures.front in
-        let fits : array_vec_len c.parts.answer + length c.split_at.result.0.now ≤ 8192 = omega (arith, front, length-append old new, short) in
-        ok_is_no_err c.try_extend_from_slice.result (sym c.is_err.ensures.value ∙ c.if-is_err.true) (c.try_extend_from_slice.ensures.variant.1 fits);
+          let front = ap length c.split_at.ensures.front in
+          let fits : array_vec_len c.parts.answer + length c.split_at.result.0.now ≤ 8192 = omega (arith, front, length-append old new, short) in
+          ok_is_no_err c.try_extend_from_slice.result (sym c.is_err.ensures.value ∙ c.if-is_err.true) (c.try_extend_from_slice.ensures.variant.1 fits);
     }
 
 pub returns-then-body-head-clause-none : goal.returns-then-body-head-clause-none
 returns-then-body-head-clause-none g c =
     let bytes = c.try_extend_from_slice.new.self.items in
     let grows : bytes ≡ c.parts.answer.items ++ take c.in_ok-more.more c.read_again.new.into =
-        ok_holds c.try_extend_from_slice.result (sym c.is_err.ensures.value ∙ c.if-is_err.false) c.try_extend_from_slice.ensures.ok
-        ∙ ap (λ l. c.parts.answer.items ++ l) c.split_at.ensures.front in
+    ok_holds c.try_extend_from_slice.result (sym c.is_err.ensures.value ∙ c.if-is_err.false) c.try_extend_from_slice.ensures.ok
+    ∙ ap (λ l. c.parts.answer.items ++ l) c.split_at.ensures.front in
     let takes = takes_more _ _ _ c.parts.answer.items _ bytes c.parts.invariant.0 c.in_ok-more.ensures.consumes.0 grows in
     let head = c.in-Some.head in
     let begins : IsHeadOf bytes head = subst (λ l. IsHeadOf l head) c.as_slice.ensures.value (rw c.in-Some.is at c.in-Ok.ensures.said) in
@@ -53,8 +53,8 @@ pub returns-in-Err-clause-none : goal.returns-in-Err-clause-none
 returns-in-Err-clause-none g c =
     let bytes = c.try_extend_from_slice.new.self.items in
     let grows : bytes ≡ c.parts.answer.items ++ take c.in_ok-more.more c.read_again.new.into =
-        ok_holds c.try_extend_from_slice.result (sym c.is_err.ensures.value ∙ c.if-is_err.false) c.try_extend_from_slice.ensures.ok
-        ∙ ap (λ l. c.parts.answer.items ++ l) c.split_at.ensures.front in
+    ok_holds c.try_extend_from_slice.result (sym c.is_err.ensures.value ∙ c.if-is_err.false) c.try_extend_from_slice.ensures.ok
+    ∙ ap (λ l. c.parts.answer.items ++ l) c.split_at.ensures.front in
     let takes = takes_more _ _ _ c.parts.answer.items _ bytes c.parts.invariant.0 c.in_ok-more.ensures.consumes.0 grows in
     let never : NeverBegins bytes = subst NeverBegins c.as_slice.ensures.value c.in-Err.ensures.strange.1 in
     is_none _ _ bytes takes (λ body. strange_is_no_answer bytes body never)
@@ -63,8 +63,8 @@ pub parts-preserved-in_default : goal.parts-preserved-in_default
 parts-preserved-in_default g c =
     let bytes = c.try_extend_from_slice.new.self.items in
     let grows : bytes ≡ c.parts.answer.items ++ take c.in_ok-more.more c.read_again.new.into =
-        ok_holds c.try_extend_from_slice.result (sym c.is_err.ensures.value ∙ c.if-is_err.false) c.try_extend_from_slice.ensures.ok
-        ∙ ap (λ l. c.parts.answer.items ++ l) c.split_at.ensures.front in
+    ok_holds c.try_extend_from_slice.result (sym c.is_err.ensures.value ∙ c.if-is_err.false) c.try_extend_from_slice.ensures.ok
+    ∙ ap (λ l. c.parts.answer.items ++ l) c.split_at.ensures.front in
     let takes = takes_more _ _ _ c.parts.answer.items _ bytes c.parts.invariant.0 c.in_ok-more.ensures.consumes.0 grows in
     let early : MayBegin bytes = subst MayBegin c.as_slice.ensures.value (rw c.in_default.is at c.in-Ok.ensures.unfinished) in
     (takes, λ body. open_is_no_answer bytes body early)
@@ -73,8 +73,8 @@ pub parts-preserved : goal.parts-preserved
 parts-preserved g c =
     let bytes = c.try_extend_from_slice.new.self.items in
     let grows : bytes ≡ c.parts.answer.items ++ take c.in_ok-more.more c.read_again.new.into =
-        ok_holds c.try_extend_from_slice.result (sym c.is_err.ensures.value ∙ c.if-is_err.false) c.try_extend_from_slice.ensures.ok
-        ∙ ap (λ l. c.parts.answer.items ++ l) c.split_at.ensures.front in
+    ok_holds c.try_extend_from_slice.result (sym c.is_err.ensures.value ∙ c.if-is_err.false) c.try_extend_from_slice.ensures.ok
+    ∙ ap (λ l. c.parts.answer.items ++ l) c.split_at.ensures.front in
     let takes = takes_more _ _ _ c.parts.answer.items _ bytes c.parts.invariant.0 c.in_ok-more.ensures.consumes.0 grows in
     let head = c.in-Some.head in
     let begins : IsHeadOf bytes head = subst (λ l. IsHeadOf l head) c.as_slice.ensures.value (rw c.in-Some.is at c.in-Ok.ensures.said) in
