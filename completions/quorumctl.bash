@@ -25,7 +25,12 @@ _quorumctl() {
         return
     fi
     case ${COMP_WORDS[COMP_CWORD - 1]} in
-    --image | '<' | '>')
+    --image)
+        mapfile -t COMPREPLY < <(compgen -f -W 'nbd: etcd:' -- "$word")
+        compopt -o filenames -o default -o nospace 2> /dev/null || true
+        return
+        ;;
+    '<' | '>')
         mapfile -t COMPREPLY < <(compgen -f -- "$word")
         compopt -o filenames -o default 2> /dev/null || true
         return

@@ -45,7 +45,11 @@ _quorumd_value() {
     --timing) _quorumd_offer 5000,10000,1000,2000,1000 ;;
     --start-mode) _quorumd_offer 0 1 ;;
     --images) _quorumd_offer 1 3 ;;
-    --image | --watchdog | --resource) _quorumd_files ;;
+    --image)
+        _quorumd_files
+        _quorumd_offer nbd: etcd:
+        ;;
+    --watchdog | --resource) _quorumd_files ;;
     esac
 }
 

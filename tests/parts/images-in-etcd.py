@@ -11,7 +11,7 @@ import threading
 import time
 
 from etcd import Crooked, Keys, servers, text
-from live import QUORUMD, Cluster, free_ports, same, try_all, wait_for
+from live import QUORUMD, Cluster, Wrong, free_ports, same, try_all, wait_for
 
 HOST = servers()[0].host
 TOP = os.environ["TOP"]
@@ -103,8 +103,49 @@ def rows():
     played("create", [(first, PUT % (7, 7)), (written("p/0001", slot, own), NOT)], 8, "fault EnvFault\n")
 
 
+def heads():
+    """Answers as RFC 9112 has them, and such as are none."""
+    header = struct.pack(">8sHHI5Q", b"QNSBD001", 2, 1, 0, 5000, 10000, 1000, 2000, 1000).ljust(512, b"\0")
+    body = (RANGE % (b64("p/0000"), b64(header))).encode()
+    size, field = len(body), b"Content-Length: %d\r\n" % len(body)
+    end = b"\r\n" + body
+    rows = [
+        (True, b"HTTP/1.1 200 OK\r\n" + field + end),
+        (True, b"HTTP/1.0 200 OK\r\n" + field + end),
+        (True, b"HTTP/1.1 200 \r\n" + field + end),  # a reason phrase may be left out
+        (True, b"HTTP/1.1 200 OK\r\ncONTENT-lENGTH:%d \t\r\n" % size + end),  # names of fields have no case, and white space may stand round a value
+        (True, b"\r\nHTTP/1.1 200 OK\r\n" + field + end),  # an empty line before it is passed over
+        (True, b"HTTP/1.1 200 OK\r\n" + b"".join(b"X-%d: y\r\n" % each for each in range(31)) + field + end),
+        (False, b"HTTP/1.1 200 OK\r\n" + b"".join(b"X-%d: y\r\n" % each for each in range(32)) + field + end),
+        (False, b"HTTP/1.1 200 OK\r\n" + end),
+        (False, b"HTTP/1.1 200 OK\r\nTransfer-Encoding: chunked\r\n\r\n%x\r\n%s\r\n0\r\n\r\n" % (size, body)),
+        (False, b"HTTP/1.1 200 OK\r\nContent-Length: -1\r\n" + end),
+        (False, b"HTTP/1.1 200 OK\r\nContent-Length: 0x%x\r\n" % size + end),
+        (False, b"HTTP/1.1 200 OK\r\nContent Length: %d\r\n" % size + end),
+        (False, b"HTTP/1.1 200 OK\r\n" + field + end + b"x"),
+        (False, (b"HTTP/1.1 200 OK\r\n" + field + end) * 2),
+        (False, b"HTTP/1.1 200 OK\r\n" + field + end[:-1]),
+        (False, b"HTTP/1.1 200 OK\r\nContent-Length: %d\r\n" % (size + 1) + end),
+        (False, b"HTTP/1.1 100 Continue\r\n\r\nHTTP/1.1 200 OK\r\n" + field + end),
+        (False, b"HTTP/1.1 201 Created\r\n" + field + end),
+        (False, b"HTTP/1.1 400 Bad Request\r\n" + field + end),
+        (False, b"HTTP/1.1 503 Service Unavailable\r\n" + field + end),
+        (False, b"HTTP/2 200\r\n" + field + end),
+        (False, b"HTTP/1.1 20 OK\r\n" + field + end),
+        (False, b"HTTP/1.1 200 OK\r\n" + b"Content-Length: 1\r\n\r\n\xff"),
+        (False, body),
+        (False, b""),
+    ]
+    for is_taken, answer in rows:
+        said = (0, "version 2\nnodes 1\nwatchdog 5000\nmsgwait 10000\nloop 1000\nread_limit 2000\nfeed_delay 1000\nsafe yes\n")
+        try:
+            played("dump", [(ranged("p/0000"), answer)], *(said if is_taken else (8, "fault EnvFault\n")))
+        except Wrong as wrong:
+            raise Wrong("%r: %s" % (answer[:80], wrong)) from wrong
+
+
 def played(command, steps, status, said):
-    """A command before a server that wants these requests and gives these answers."""
+    """A command before a server that wants these requests, each over a connection of its own, and gives these answers: bodies, or bytes whole."""
     asked = []
     listener = socket.socket()
     listener.bind(("127.0.0.1", 0))
@@ -112,12 +153,16 @@ def played(command, steps, status, said):
     host = "127.0.0.1:%d" % listener.getsockname()[1]
 
     def serve():
-        connection, _ = listener.accept()
-        stream = connection.makefile("rb")
         for body, answer in steps:
-            wanted = "POST /v3/kv/txn HTTP/1.1\r\nHost: %s\r\nContent-Type: application/json\r\nContent-Length: %d\r\n\r\n%s" % (host, len(body), body)
-            asked.append((stream.read(len(wanted)).decode(), wanted))
-            connection.sendall(b"HTTP/1.1 200 OK\r\nContent-Type: application/json\r\nContent-Length: %d\r\n\r\n%s" % (len(answer), answer.encode()))
+            wanted = "POST /v3/kv/txn HTTP/1.1\r\nHost: %s\r\nConnection: close\r\nContent-Type: application/json\r\nContent-Length: %d\r\n\r\n%s" % (host, len(body), body)
+            got = b""
+            while not got:  # at its opening nothing is asked
+                connection, _ = listener.accept()
+                got = connection.makefile("rb").read(len(wanted))
+            asked.append((got.decode(), wanted))
+            whole = answer if isinstance(answer, bytes) else b"HTTP/1.1 200 OK\r\nContent-Type: application/json\r\nContent-Length: %d\r\n\r\n%s" % (len(answer), answer.encode())
+            connection.sendall(whole)
+            connection.close()
 
     threading.Thread(target=serve, daemon=True).start()
     with open(TOP + "/examples/one-node.conf") as conf:
@@ -277,4 +322,4 @@ def each_request_fails():
             each.result()
 
 
-try_all(rows, words_that_are_none, prefix_in_use, one_node, late_write, second_start, another_machine, two_nodes, three_images, each_request_fails)
+try_all(rows, heads, words_that_are_none, prefix_in_use, one_node, late_write, second_start, another_machine, two_nodes, three_images, each_request_fails)

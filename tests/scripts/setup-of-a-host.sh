@@ -29,7 +29,7 @@ setup() {
 written() {
     (cd etc && find . -type f | sort | xargs)
 }
-usage='usage: quorumd-setup CONF --image PATH[,PATH,PATH] [--key FILE] [--id N] [--watchdog DEVICE] [--port Q] [--create]'
+usage='usage: quorumd-setup CONF --image IMAGE[,IMAGE,IMAGE] [--key FILE] [--id N] [--watchdog DEVICE] [--port Q] [--create]'
 disk=$PWD/disk
 
 # words
@@ -37,7 +37,7 @@ setup 2 "$usage"
 same "$(head -n 1 said)" 'quorumd-setup: no corosync.conf'
 for words in three.conf '--image /d' 'three.conf --image' 'three.conf --image d' 'three.conf --image /d,/e' 'three.conf --image /d,/e,/f,/g' 'three.conf --image /d,,/f' \
     'three.conf --image /d --id 0' 'three.conf --image /d --id x' 'three.conf --image /d --id 99999999999' 'three.conf --image /d --port 80' \
-    'three.conf --image /d --watchdog dog' 'three.conf --image /d;e' 'three.conf --image /d other' 'three.conf --image /d --id'; do
+    'three.conf --image /d --watchdog dog' 'three.conf --image /d;e' 'three.conf --image nbd:' 'three.conf --image /d,nbd:x,e' 'three.conf --image ftp:x' 'three.conf --image /d --watchdog nbd:x' 'three.conf --image /d other' 'three.conf --image /d --id'; do
     # shellcheck disable=SC2086
     setup 2 "$usage" $words
 done

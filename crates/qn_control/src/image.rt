@@ -14,10 +14,10 @@ use std::alloc::{AllocError, Global};
 /// The sectors of an image.
 pub trait Sectors {
     /// The bytes of the sector, where it can be read; zeros behind the end.
-    fn sector(&self, number: u32) -> Option<[u8; 512]>;
+    fn sector(&mut self, number: u32) -> Option<[u8; 512]>;
 
-    /// How many bytes there are.
-    fn length(&self) -> u64;
+    /// How many bytes stand behind so many sectors.
+    fn bytes_behind(&self, sectors: u64) -> u64;
 }
 
 /// What an image says of a node, as far as its sectors can be read and are what they should be.
@@ -39,7 +39,7 @@ pub struct ImageSeen {
 /// Reads each sector of an image, also behind one that is bad, and compares it with the settings where there are any.
 pub fn look_at_image<S: Sectors>(
     alloc: Global,
-    sectors: &S,
+    sectors: &mut S,
     settings: Option<&Settings>,
 ) -> Result<ImageSeen, AllocError> {
     let mut seen = ImageSeen {
@@ -57,7 +57,7 @@ pub fn look_at_image<S: Sectors>(
     Ok(seen)
 }
 
-fn look_at_header<S: Sectors>(sectors: &S, seen: &mut ImageSeen) -> Result<(), AllocError> {
+fn look_at_header<S: Sectors>(sectors: &mut S, seen: &mut ImageSeen) -> Result<(), AllocError> {
     let Some(sector) = sectors.sector(0) else {
         seen.findings.push(Finding::Unreadable { sector: 0 })?;
         return Ok(());
@@ -90,7 +90,7 @@ fn look_at_times(timing: &Timing, seen: &mut ImageSeen) -> Result<(), AllocError
 
 /// Reads the slots and the mailboxes of all ranks, and what stands behind them.
 fn look_at_nodes<S: Sectors>(
-    sectors: &S,
+    sectors: &mut S,
     version: u16,
     nodes: u32,
     seen: &mut ImageSeen,
@@ -99,12 +99,12 @@ fn look_at_nodes<S: Sectors>(
         look_at_node(sectors, version, Rank(rank as u8), seen)?;
     }
     look_at_ids(seen)?;
-    look_at_end(version, nodes, sectors.length(), seen)
+    look_at_end(sectors, version, nodes, seen)
 }
 
 /// Reads the slot and the mailbox of a rank.
 fn look_at_node<S: Sectors>(
-    sectors: &S,
+    sectors: &mut S,
     version: u16,
     rank: Rank,
     seen: &mut ImageSeen,
@@ -132,7 +132,7 @@ fn look_at_node<S: Sectors>(
 
 /// Reads the mailbox of a rank.
 fn look_at_mail<S: Sectors>(
-    sectors: &S,
+    sectors: &mut S,
     version: u16,
     rank: Rank,
     seen: &mut ImageSeen,
@@ -176,22 +176,20 @@ fn look_at_ids(seen: &mut ImageSeen) -> Result<(), AllocError> {
 }
 
 /// Behind the last mailbox nothing stands but the room of further ones.
-fn look_at_end(
+fn look_at_end<S: Sectors>(
+    sectors: &S,
     version: u16,
     nodes: u32,
-    length: u64,
     seen: &mut ImageSeen,
 ) -> Result<(), AllocError> {
-    let sectors = if version == 1 {
+    let count = if version == 1 {
         u64::from(nodes).saturating_mul(2).saturating_add(1)
     } else {
         u64::from(nodes).saturating_add(512)
     };
-    let end = sectors.saturating_mul(512);
-    if length > end {
-        seen.findings.push(Finding::Tail {
-            bytes: length.saturating_sub(end),
-        })?;
+    let bytes = sectors.bytes_behind(count);
+    if bytes > 0 {
+        seen.findings.push(Finding::Tail { bytes })?;
     }
     Ok(())
 }

@@ -54,8 +54,8 @@ open_text prefix rank revision token =
 abbrev pub release_text : List ℕ → ℕ → List ℕ → List ℕ
 release_text prefix rank token = put_transaction (Holds (writer_key prefix rank) token) (writer_key prefix rank) (codes "free")
 
--- a request whole, as it is sent (RFC 9112)
+-- a request whole, as it is sent (RFC 9112): the connection ends with the answer
 abbrev pub post_text : List ℕ → List ℕ → List ℕ
 post_text host body =
-    codes "POST /v3/kv/txn HTTP/1.1\r\nHost: " ++ host ++ codes "\r\nContent-Type: application/json\r\nContent-Length: "
+    codes "POST /v3/kv/txn HTTP/1.1\r\nHost: " ++ host ++ codes "\r\nConnection: close\r\nContent-Type: application/json\r\nContent-Length: "
     ++ decimal (length body) ++ codes "\r\n\r\n" ++ body

@@ -1,9 +1,8 @@
 //! The heads of answers.
-ghost use Rattle.std.specs.Prelude.{◌≡◌, ◌≤◌, Some, All, IfOk, IfSome, IfNone, codes, length, map};
+ghost use Rattle.std.specs.Prelude.{◌≡◌, ◌≤◌, Some, All, IfOk, IfErr, IfSome, IfNone, codes, length, map};
 ghost use Rattle.std.specs.Str.{str_eq_ignore_ascii_case};
-ghost use Rattle.httparse.specs.Grammar.{HasNoResponse};
 ghost use Rattle.httparse.specs.Spans.{IsHeaderWithin, header_bytes};
-ghost use Rattle.qn_etcd.specs.Heads.{IsHeadOf, length_in};
+ghost use Rattle.qn_etcd.specs.Heads.{IsHeadOf, MayBegin, NeverBegins, length_in};
 
 use crate::answers::AnswerFault;
 use httparse::Status;
@@ -24,12 +23,14 @@ pub struct Head {
     pub length: u64,
 }
 
-/// What the head at the front of these bytes says; None where more has to come. A head that does not say how long its body is, as one of a
-/// body in pieces, is not taken.
+/// What the head at the front of these bytes says; None where more has to come. It is strange where no head can come, where it has more than 32
+/// fields, and where it does not say how long its body is, as that of a body in pieces.
 pub fn head_of(bytes: &[u8]) -> Result<Option<Head>, AnswerFault>
     ensures within { IfOk result (λ found. IfSome found (λ head. head.body ≤ length bytes.now)) }
     ensures said { IfOk result (λ found. IfSome found (IsHeadOf bytes.now)) }
-    ensures unfinished { IfOk result (λ found. IfNone found (HasNoResponse bytes.now)) }
+    ensures unfinished { IfOk result (λ found. IfNone found (MayBegin bytes.now)) }
+    ensures strange { IfErr result
+        (λ fault. (fault ≡ AnswerFault.Strange) × NeverBegins bytes.now) }
 {
     let mut fields = [EMPTY_HEADER_SPAN; FIELDS];
     match parse_response(bytes, &mut fields) {

@@ -97,13 +97,13 @@ pub fn release_request(alloc: Global, prefix: &[u8], boot: &Boot) -> Result<Stri
     Ok(text)
 }
 
-/// A request whole, as it is sent to a host.
+/// A request whole, as it is sent to a host over a connection of its own, which ends with the answer.
 pub fn post(alloc: Global, host: &str, body: &str) -> Result<String, AllocError>
     ensures { IfOk result (λ text. string_bytes text ≡ post_text host.now body.now) }
 {
     let mut text = String::from_str(alloc, "POST /v3/kv/txn HTTP/1.1\r\nHost: ")?;
     text.push_str(host)?;
-    text.push_str("\r\nContent-Type: application/json\r\nContent-Length: ")?;
+    text.push_str("\r\nConnection: close\r\nContent-Type: application/json\r\nContent-Length: ")?;
     add_number(&mut text, body.len() as u64)?;
     text.push_str("\r\n\r\n")?;
     text.push_str(body)?;

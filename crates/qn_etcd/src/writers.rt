@@ -1,5 +1,5 @@
 //! Who reads and writes an image.
-ghost use Rattle.std.specs.Prelude.{◌≡◌, ◌≤◌, IfSome, length};
+ghost use Rattle.std.specs.Prelude.{◌≡◌, ◌<◌, ◌≤◌, IfNone, IfSome, length};
 ghost use Rattle.qn_etcd.specs.Answers.{said_by};
 ghost use Rattle.qn_etcd.specs.Openings.{is_of_machine, opening};
 ghost use Rattle.qn_etcd.specs.Writers.{token_text};
@@ -46,10 +46,12 @@ impl Writer {
     }
 }
 
-/// The token of a start of a node: of which machine, in which boot of that machine, and which start. None where that is too long.
+/// The token of a start of a node: of which machine, in which boot of that machine, and which start. None where that is longer than 128 bytes.
 #[tactic(auto, unfolding(crate::specs::Writers::token_text))]
 pub fn token_of(machine: &[u8], boot: &[u8], start: &[u8]) -> Option<Token>
-    ensures { IfSome result (λ token. token.items ≡ token_text machine.now boot.now start.now) }
+    ensures token { IfSome result
+        (λ token. token.items ≡ token_text machine.now boot.now start.now) }
+    ensures long { IfNone result (TOKEN < length (token_text machine.now boot.now start.now)) }
 {
     let mut token = Token::new();
     token.try_extend_from_slice(machine).ok()?;

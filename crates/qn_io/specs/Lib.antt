@@ -2,6 +2,7 @@ pub mod Admission
 pub mod Answered
 pub mod EventLines
 pub mod EventTexts
+pub mod Exchanges
 pub mod Halts
 pub mod Lines
 pub mod Memory

@@ -38,25 +38,6 @@ impl Connection {
         }
     }
 
-    /// Whether nothing came over it that was not asked for, and its server has not closed it.
-    pub(crate) fn is_quiet(&self) -> io::Result<bool> {
-        let mut byte = [0];
-        self.set_nonblocking(true)?;
-        let came = match self {
-            Connection::Tcp(stream) => read_again(&mut &*stream, &mut byte),
-            Connection::Unix(stream) => read_again(&mut &*stream, &mut byte),
-        };
-        self.set_nonblocking(false)?;
-        Ok(matches!(came, Err(error) if error.kind() == ErrorKind::WouldBlock))
-    }
-
-    fn set_nonblocking(&self, is_nonblocking: bool) -> io::Result<()> {
-        match self {
-            Connection::Tcp(stream) => stream.set_nonblocking(is_nonblocking),
-            Connection::Unix(stream) => stream.set_nonblocking(is_nonblocking),
-        }
-    }
-
     /// The connection up to that moment.
     pub(crate) fn until<'a, C: Clock>(&'a self, clock: &'a C, end: Deadline) -> Timed<'a, C> {
         Timed {

@@ -3,13 +3,13 @@ ghost use Rattle.std.specs.Prelude.{◌<◌};
 
 use crate::calls::SECTOR;
 use crate::connection::Connection;
-use crate::deadline::Deadline;
 use crate::etcd_exchange::{ANSWER, exchange, strange};
 use crate::etcd_word::EtcdAt;
 use crate::image::Opener;
 use crate::image_word::ServerAt;
+use crate::server_times::ServerTimes;
 use crate::start_ids::StartIds;
-use arrayvec::ArrayString;
+use arrayvec::{ArrayString, ArrayVec};
 use qn_base::Rank;
 use qn_etcd::{
     AnswerFault, Boot, Entry, MOST_PREFIX, ReadAnswer, WriteAnswer, Writer, holder_request,
@@ -21,13 +21,7 @@ use std::fs::File;
 use std::io::{self, ErrorKind};
 use std::net::{Net, SocketAddr, TcpStream};
 use std::rt::Files;
-use std::time::{Clock, Duration};
-
-/// How long a call of a node may take, and how long after a failed one no connection is tried, in milliseconds.
-const NODE_LIMIT: u64 = 1000;
-
-/// How long a call of a command may take.
-const COMMAND_LIMIT: u64 = 10_000;
+use std::time::Clock;
 
 /// The most bytes of the word of an image in a cluster.
 const WORD: usize = 256;
@@ -35,7 +29,8 @@ const WORD: usize = 256;
 /// The most bytes of an address and a port as they stand in it.
 const HOST: usize = 128;
 
-/// An image in an etcd cluster, over one connection to a member of it, which is made anew where it failed.
+/// An image in an etcd cluster. Each request goes to a member over a connection of its own, so that what came of an earlier request is never
+/// taken for the answer.
 #[derive(Drop)]
 pub(crate) struct EtcdImage {
     alloc: Global,
@@ -44,33 +39,31 @@ pub(crate) struct EtcdImage {
     host: ArrayString<HOST>,
     prefix: ArrayString<MOST_PREFIX>,
     writer: Writer,
-    /// How long a call may take, in milliseconds.
-    limit: u64,
-    connection: Option<Connection>,
-    /// Up to this moment of the monotonic clock no connection is tried.
-    rests_until: Duration,
+    times: ServerTimes,
 }
 
 impl EtcdImage {
     ghost use Rattle.std.specs.Prelude.{◌<◌};
 
-    /// Connects to the member of that word.
+    /// Sees that the member of that word takes a connection.
     pub(crate) fn open<R: Net<Stream = TcpStream> + Clock + AllocGlobal>(
         rt: &R,
         word: &str,
         at: &EtcdAt<'_>,
         opener: Opener,
     ) -> io::Result<EtcdImage> {
-        let mut image = EtcdImage::closed(rt.alloc(), word, at)?;
-        if opener != Opener::Command {
-            image.limit = NODE_LIMIT;
-        }
-        let end = Deadline::after(rt, image.limit)?;
-        image.connection = Some(Connection::open(rt, ServerAt::Tcp(at.address), end)?);
+        let image = EtcdImage::unasked(rt.alloc(), word, at, opener)?;
+        let end = image.times.end(rt)?;
+        let _connection = Connection::open(rt, ServerAt::Tcp(at.address), end)?;
         Ok(image)
     }
 
-    fn closed(alloc: Global, word: &str, at: &EtcdAt<'_>) -> io::Result<EtcdImage> {
+    fn unasked(
+        alloc: Global,
+        word: &str,
+        at: &EtcdAt<'_>,
+        opener: Opener,
+    ) -> io::Result<EtcdImage> {
         let mut image = EtcdImage {
             alloc,
             word: ArrayString::new(),
@@ -78,9 +71,7 @@ impl EtcdImage {
             host: ArrayString::new(),
             prefix: ArrayString::new(),
             writer: Writer::Command(None),
-            limit: COMMAND_LIMIT,
-            connection: None,
-            rests_until: Duration::ZERO,
+            times: ServerTimes::of(opener),
         };
         let fits = image.word.try_push_str(word).is_ok()
             && image.host.try_push_str(at.host).is_ok()
@@ -225,11 +216,11 @@ impl EtcdImage {
         key: &[u8],
         body: Result<String, AllocError>,
     ) -> io::Result<ReadAnswer> {
-        let mut answer = [0; ANSWER];
+        let mut answer = ArrayVec::new();
         let alloc = self.alloc;
         let text = self.ask(rt, body, &mut answer)?;
         let said = read_answer(alloc, key, text).map_err(no_answer);
-        self.judge(rt, said)
+        self.times.noted(rt, said)
     }
 
     fn ask_write<R: Net<Stream = TcpStream> + Clock>(
@@ -237,75 +228,39 @@ impl EtcdImage {
         rt: &R,
         body: Result<String, AllocError>,
     ) -> io::Result<WriteAnswer> {
-        let mut answer = [0; ANSWER];
+        let mut answer = ArrayVec::new();
         let alloc = self.alloc;
         let text = self.ask(rt, body, &mut answer)?;
         let said = write_answer(alloc, text).map_err(no_answer);
-        self.judge(rt, said)
+        self.times.noted(rt, said)
     }
 
-    /// Sends a request over the connection and gives the body of the answer. The connection is kept where that was one.
+    /// Sends a request and gives the body of the answer.
     fn ask<'a, R: Net<Stream = TcpStream> + Clock>(
         &mut self,
         rt: &R,
         body: Result<String, AllocError>,
-        answer: &'a mut [u8; ANSWER],
+        answer: &'a mut ArrayVec<u8, ANSWER>,
     ) -> io::Result<&'a str> {
         let body = body.map_err(no_memory)?;
         let request = post(self.alloc, self.host.as_str(), body.as_str()).map_err(no_memory)?;
-        let end = Deadline::after(rt, self.limit)?;
-        let connection = self.ready(rt, end)?;
-        let mut stream = connection.until(rt, end);
-        match exchange(request.as_str().as_bytes(), &mut stream, answer) {
-            Ok(text) => {
-                self.connection = Some(connection);
-                Ok(text)
-            }
-            Err(error) => {
-                self.rest(rt)?;
-                Err(error)
-            }
-        }
+        self.times.check_rest(rt)?;
+        let done = self.ask_anew(rt, request.as_str().as_bytes(), answer);
+        self.times.noted(rt, done)
     }
 
-    /// Drops the connection where what came over it was no answer.
-    fn judge<R: Clock, T: Drop>(&mut self, rt: &R, said: io::Result<T>) -> io::Result<T> {
-        if said.is_err() {
-            self.connection = None;
-            self.rest(rt)?;
-        }
-        said
-    }
-
-    /// The connection, which is made anew where the last one failed or ended; after a failure not sooner than a second.
-    fn ready<R: Net<Stream = TcpStream> + Clock>(
-        &mut self,
+    /// Sends a request over a connection of its own and gives the body of the answer.
+    fn ask_anew<'a, R: Net<Stream = TcpStream> + Clock>(
+        &self,
         rt: &R,
-        end: Deadline,
-    ) -> io::Result<Connection> {
-        if let Some(connection) = self.connection.take() {
-            if connection.is_quiet()? {
-                return Ok(connection);
-            }
-        }
-        if rt.monotonic()? < self.rests_until {
-            return Err(io::Error::new(
-                ErrorKind::NotConnected,
-                "the cluster failed less than a second ago",
-            ));
-        }
-        let made = Connection::open(rt, ServerAt::Tcp(self.address), end);
-        if made.is_err() {
-            self.rest(rt)?;
-        }
-        made
-    }
-
-    /// Tries no connection for a second.
-    fn rest<R: Clock>(&mut self, rt: &R) -> io::Result<()> {
-        let now = rt.monotonic()?;
-        self.rests_until = now.saturating_add(Duration::from_millis(NODE_LIMIT));
-        Ok(())
+        request: &[u8],
+        answer: &'a mut ArrayVec<u8, ANSWER>,
+    ) -> io::Result<&'a str> {
+        let end = self.times.end(rt)?;
+        let connection = Connection::open(rt, ServerAt::Tcp(self.address), end)?;
+        let mut writer = connection.until(rt, end);
+        let mut reader = connection.until(rt, end);
+        exchange(request, &mut writer, &mut reader, answer)
     }
 }
 

@@ -3,7 +3,7 @@
 use crate::calls::SECTOR;
 use crate::etcd_image::EtcdImage;
 use crate::image_file::ImageFile;
-use crate::image_word::{ImageWord, Place};
+use crate::image_word::{ImageWord, Place, Stride};
 use crate::named_file::Absent;
 use crate::nbd_image::NbdImage;
 use qn_base::Rank;
@@ -18,6 +18,8 @@ use std::time::Clock;
 pub(crate) enum Opener {
     /// A command, which perhaps only reads: an image that cannot be written is opened too, and a write to it fails.
     Command,
+    /// A program that only reads, and opens a file for nothing else.
+    Reader,
     /// The node of that rank.
     Node(Rank),
 }
@@ -69,6 +71,23 @@ impl Image {
         match self {
             Image::File(image) => image.is_made(),
             Image::Block(_) | Image::Cluster(_) => false,
+        }
+    }
+
+    /// How many bytes its file has; None where it lies on a server.
+    pub(crate) fn length(&self) -> io::Result<Option<u64>> {
+        match self {
+            Image::File(image) => Ok(Some(image.length()?)),
+            Image::Block(_) | Image::Cluster(_) => Ok(None),
+        }
+    }
+
+    /// How far apart its sectors stand. The keys of a cluster have no places.
+    pub(crate) fn stride(&self) -> Stride {
+        match self {
+            Image::File(image) => image.stride(),
+            Image::Block(image) => image.stride(),
+            Image::Cluster(_) => Stride::Short,
         }
     }
 

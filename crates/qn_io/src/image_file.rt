@@ -40,7 +40,8 @@ impl Identity {
 
 impl ImageFile {
     /// Opens the file of that path under a shared lock, and makes it where it is absent and that is wanted. A command also opens a file
-    /// that can only be read; a write to it then fails as its opening did. A block device is refused.
+    /// that can only be read; a write to it then fails as its opening did. A program that only reads opens it for nothing else. A block
+    /// device is refused.
     pub(crate) fn open<R: Files<File = File>>(
         rt: &R,
         path: &str,
@@ -68,6 +69,16 @@ impl ImageFile {
     /// The path that it was opened by.
     pub(crate) fn path(&self) -> &str {
         self.opened.path()
+    }
+
+    /// How many bytes the file has.
+    pub(crate) fn length(&self) -> io::Result<u64> {
+        Ok(self.opened.file.metadata()?.len())
+    }
+
+    /// How far apart its sectors stand.
+    pub(crate) fn stride(&self) -> Stride {
+        self.stride
     }
 
     /// Takes the exclusive lock, and keeps it while the image is open. Where another program has the image
@@ -144,6 +155,9 @@ fn refuse_block_device<R: Files<File = File>>(rt: &R, path: &str) -> io::Result<
     }
 }
 
+/// The system's number of a write to a file that can only be read (EROFS).
+const READ_ONLY: i32 = 30;
+
 /// Opens the file for reading and writing; or, where that is refused to a command, for reading alone, with the number of the refusal.
 fn open_writable<R: Files<File = File>>(
     rt: &R,
@@ -151,6 +165,9 @@ fn open_writable<R: Files<File = File>>(
     opener: Opener,
     absent: Absent,
 ) -> io::Result<(NamedFile, Option<i32>)> {
+    if opener == Opener::Reader {
+        return Ok((NamedFile::open_to_read(rt, path)?, Some(READ_ONLY)));
+    }
     let error = match NamedFile::open(rt, path, absent) {
         Ok(opened) => return Ok((opened, None)),
         Err(error) => error,

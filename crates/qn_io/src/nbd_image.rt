@@ -8,6 +8,7 @@ use crate::connection::Connection;
 use crate::deadline::Deadline;
 use crate::image::Opener;
 use crate::image_word::{ImageWord, MOST_PLACE, Place, Stride};
+use crate::server_times::ServerTimes;
 use arrayvec::{ArrayString, ArrayVec};
 use qn_nbd::{
     ANSWER, Answer, Command, Export, GREETING, MOST_NAME, REPLY, Reply, Unfit, answer_to,
@@ -15,13 +16,7 @@ use qn_nbd::{
 };
 use std::io::{self, ErrorKind, Read, Write};
 use std::net::{Net, TcpStream};
-use std::time::{Clock, Duration};
-
-/// How long a call of a node may take, and how long after a failed one no connection is tried, in milliseconds.
-const NODE_LIMIT: u64 = 1000;
-
-/// How long a call of a command may take, for which nobody waits, in milliseconds.
-const COMMAND_LIMIT: u64 = 10_000;
+use std::time::Clock;
 
 /// How many sectors an export has room for.
 const ROOM: u64 = 1024;
@@ -40,14 +35,11 @@ const WORD: usize = 512;
 pub(crate) struct NbdImage {
     word: ArrayString<WORD>,
     stride: Stride,
-    /// How long a call may take, in milliseconds.
-    limit: u64,
+    times: ServerTimes,
     is_read_only: bool,
     connection: Option<Connection>,
     /// The number of the last request, over all connections.
     number: u64,
-    /// Up to this moment of the monotonic clock no connection is tried.
-    rests_until: Duration,
 }
 
 impl NbdImage {
@@ -65,21 +57,22 @@ impl NbdImage {
         let mut image = NbdImage {
             word: kept,
             stride,
-            limit: match opener {
-                Opener::Command => COMMAND_LIMIT,
-                Opener::Node(_) => NODE_LIMIT,
-            },
+            times: ServerTimes::of(opener),
             is_read_only: false,
             connection: None,
             number: 0,
-            rests_until: Duration::ZERO,
         };
-        let end = Deadline::after(rt, image.limit)?;
+        let end = image.times.end(rt)?;
         image.connection = Some(image.connect(rt, end)?);
-        if image.is_read_only && opener != Opener::Command {
-            return Err(read_only());
+        match opener {
+            Opener::Node(_) if image.is_read_only => Err(read_only()),
+            Opener::Node(_) | Opener::Command | Opener::Reader => Ok(image),
         }
-        Ok(image)
+    }
+
+    /// How far apart its sectors stand.
+    pub(crate) fn stride(&self) -> Stride {
+        self.stride
     }
 
     /// The word that it was opened by.
@@ -95,7 +88,7 @@ impl NbdImage {
         into: &mut [u8; SECTOR],
     ) -> io::Result<()> {
         let mut place = [0; MOST_PLACE];
-        let end = Deadline::after(rt, self.limit)?;
+        let end = self.times.end(rt)?;
         let connection = self.ready(rt, end)?;
         let done = self.read_place(rt, &connection, end, sector, &mut place);
         self.keep(rt, connection, done)?;
@@ -115,7 +108,7 @@ impl NbdImage {
         }
         let mut place = [0; MOST_PLACE];
         place[..SECTOR].copy_from_slice(from);
-        let end = Deadline::after(rt, self.limit)?;
+        let end = self.times.end(rt)?;
         let connection = self.ready(rt, end)?;
         let done = self.write_place(rt, &connection, end, sector, &place);
         self.keep(rt, connection, done)
@@ -130,17 +123,9 @@ impl NbdImage {
         if let Some(connection) = self.connection.take() {
             return Ok(connection);
         }
-        if rt.monotonic()? < self.rests_until {
-            return Err(io::Error::new(
-                ErrorKind::NotConnected,
-                "the server failed less than a second ago",
-            ));
-        }
+        self.times.check_rest(rt)?;
         let made = self.connect(rt, end);
-        if made.is_err() {
-            self.rest(rt)?;
-        }
-        made
+        self.times.noted(rt, made)
     }
 
     /// Keeps the connection where the server answered, also that it failed; else drops it, and tries none for a second.
@@ -150,31 +135,13 @@ impl NbdImage {
         connection: Connection,
         done: io::Result<Answer>,
     ) -> io::Result<()> {
-        match done {
-            Ok(Answer::Done) => {
-                self.connection = Some(connection);
-                Ok(())
-            }
-            Ok(Answer::Failed) => {
-                self.connection = Some(connection);
-                Err(wrong("the server could not do it"))
-            }
-            Ok(Answer::Strange) => {
-                self.rest(rt)?;
-                Err(wrong("not the answer to what was asked"))
-            }
-            Err(error) => {
-                self.rest(rt)?;
-                Err(error)
-            }
+        let is_done = self.times.noted(rt, done.and_then(is_done))?;
+        self.connection = Some(connection);
+        if is_done {
+            Ok(())
+        } else {
+            Err(wrong("the server could not do it"))
         }
-    }
-
-    /// Tries no connection for a second.
-    fn rest<R: Clock>(&mut self, rt: &R) -> io::Result<()> {
-        let now = rt.monotonic()?;
-        self.rests_until = now.saturating_add(Duration::from_millis(NODE_LIMIT));
-        Ok(())
     }
 
     /// Reads the place of a sector over the connection.
@@ -247,6 +214,15 @@ impl NbdImage {
         }
         self.is_read_only = export.is_read_only();
         Ok(connection)
+    }
+}
+
+/// Whether a server did what it was asked for; it fails where that is no answer to it.
+fn is_done(answer: Answer) -> io::Result<bool> {
+    match answer {
+        Answer::Done => Ok(true),
+        Answer::Failed => Ok(false),
+        Answer::Strange => Err(wrong("not the answer to what was asked")),
     }
 }
 

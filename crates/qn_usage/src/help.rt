@@ -4,7 +4,13 @@ use crate::synopsis::Synopsis;
 use std::alloc::{AllocError, Global};
 use std::fmt::Write;
 
-/// What `--help` writes: what the program is, two lines a command, and the words that may stand before each command, where it has some.
+/// What an image may be, wherever a command takes one.
+const IMAGE: &str =
+    "an image is a file's PATH, nbd:HOST:PORT, nbd:HOST:PORT/NAME or nbd:unix:PATH, each perhaps with @4096 after it, \
+                     or etcd:HOST:PORT/PREFIX";
+
+/// What `--help` writes: what the program is, two lines a command, what an image may be, and the words that may stand before each command,
+/// where it has some.
 pub fn help_text(
     alloc: Global,
     program: &str,
@@ -28,6 +34,7 @@ fn add_help(
     for command in commands {
         add_command(text, program, command)?;
     }
+    write!(text, "\n{IMAGE}\n")?;
     if !before.is_empty() {
         write!(text, "\n{program} {before} COMMAND ..\n")?;
     }

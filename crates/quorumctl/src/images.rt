@@ -1,18 +1,19 @@
-//! The commands on an image. They open it for reading, and make nothing.
-use crate::files::ImageFile;
+//! The commands on an image, wherever it lies. They open it for reading, and make nothing.
 use crate::input::read_input;
+use crate::open_image::OpenImage;
 use crate::texts::say_fault;
 use crate::trouble::{Trouble, say};
 use qn_base::{NodeId, read_decimal};
 use qn_control::{
-    Finding, ImageSeen, NodeSeen, check_json, finding_lines, list_json, look_at_image, node_lines,
+    Finding, ImageSeen, NodeSeen, Sectors, check_json, finding_lines, list_json, look_at_image,
+    node_lines,
 };
 use qn_model::{Mail, Message, Settings, Slot, Timing};
 use qn_settings::settings_of_text;
 use qn_usage::value_of;
 use std::alloc::{AllocError, Global};
 use std::fs::File;
-use std::net::{Ipv4Addr, Net, UdpSocket};
+use std::net::{Ipv4Addr, Net, TcpStream, UdpSocket};
 use std::rt::Files;
 use std::time::{Clock, Duration};
 
@@ -29,11 +30,9 @@ const UNKNOWN_NODE: u8 = 16;
 const LOOK: u64 = 100;
 
 /// `check`: what is wrong with an image, and whether it fits the settings on standard input, where there are any.
-pub fn check<R: Files<File = File> + Input + Print + Eprint + AllocGlobal>(
-    rt: &R,
-    path: &str,
-    is_json: bool,
-) -> Result<u8, Trouble> {
+pub fn check<
+    R: Files<File = File> + Net<Stream = TcpStream> + Clock + Input + Print + Eprint + AllocGlobal,
+>(rt: &R, path: &str, is_json: bool) -> Result<u8, Trouble> {
     let text = read_input(rt)?;
     if text.is_empty() {
         return check_by(rt, path, is_json, None);
@@ -45,14 +44,14 @@ pub fn check<R: Files<File = File> + Input + Print + Eprint + AllocGlobal>(
 }
 
 /// Says what is wrong with an image, by the settings where there are any.
-fn check_by<R: Files<File = File> + Print + AllocGlobal>(
+fn check_by<R: Files<File = File> + Net<Stream = TcpStream> + Clock + Print + Eprint + AllocGlobal>(
     rt: &R,
     path: &str,
     is_json: bool,
     settings: Option<&Settings>,
 ) -> Result<u8, Trouble> {
-    let file = ImageFile::open(rt, path).map_err(Trouble::System)?;
-    let seen = look_at_image(rt.alloc(), &file, settings)?;
+    let mut image = OpenImage::open(rt, path).map_err(Trouble::System)?;
+    let seen = look_at_image(rt.alloc(), &mut image, settings)?;
     say(rt, check_text(rt.alloc(), &seen, is_json)?.as_str())?;
     Ok(status_of(seen.findings.as_slice()))
 }
@@ -90,7 +89,7 @@ fn check_text(alloc: Global, seen: &ImageSeen, is_json: bool) -> Result<String, 
 }
 
 /// `list`: the nodes of an image. Of a file that is none it says so: in a line, and with `--json` on standard error.
-pub fn list<R: Files<File = File> + Print + Eprint + AllocGlobal>(
+pub fn list<R: Files<File = File> + Net<Stream = TcpStream> + Clock + Print + Eprint + AllocGlobal>(
     rt: &R,
     path: &str,
     is_json: bool,
@@ -109,9 +108,12 @@ pub fn list<R: Files<File = File> + Print + Eprint + AllocGlobal>(
 }
 
 /// Looks at an image without settings.
-pub fn look<R: Files<File = File> + AllocGlobal>(rt: &R, path: &str) -> Result<ImageSeen, Trouble> {
-    let file = ImageFile::open(rt, path).map_err(Trouble::System)?;
-    Ok(look_at_image(rt.alloc(), &file, None)?)
+pub fn look<R: Files<File = File> + Net<Stream = TcpStream> + Clock + AllocGlobal>(
+    rt: &R,
+    path: &str,
+) -> Result<ImageSeen, Trouble> {
+    let mut image = OpenImage::open(rt, path).map_err(Trouble::System)?;
+    Ok(look_at_image(rt.alloc(), &mut image, None)?)
 }
 
 /// Says in a line why a file is no image.
@@ -164,14 +166,14 @@ enum Outcome {
 }
 
 /// `wait`: returns when the message to a node was read, or msgwait has passed.
-pub fn wait<R: Files<File = File> + Net + Clock + Print + AllocGlobal>(
+pub fn wait<R: Files<File = File> + Net<Stream = TcpStream> + Clock + Print + Eprint + AllocGlobal>(
     rt: &R,
     path: &str,
     options: &[String],
 ) -> Result<u8, Trouble> {
     let id = id_of(options);
-    let file = ImageFile::open(rt, path).map_err(Trouble::System)?;
-    let Some(timing) = timing_of(rt.alloc(), &file)? else {
+    let mut image = OpenImage::open(rt, path).map_err(Trouble::System)?;
+    let Some(timing) = timing_of(rt.alloc(), &mut image)? else {
         return say_outcome(rt, &Outcome::NotImage, false);
     };
     let begin = rt.monotonic().map_err(Trouble::System)?;
@@ -179,7 +181,7 @@ pub fn wait<R: Files<File = File> + Net + Clock + Print + AllocGlobal>(
     let mut was_exit = false;
     for _ in 0..u64::MAX {
         let is_over = rt.monotonic().map_err(Trouble::System)? >= end;
-        let outcome = outcome_at(rt.alloc(), &file, id)?;
+        let outcome = outcome_at(rt.alloc(), &mut image, id)?;
         if is_over || !outcome.may_change() {
             return say_outcome(rt, &outcome, was_exit);
         }
@@ -230,8 +232,8 @@ impl Outcome {
 }
 
 /// The times of an image; None where sector 0 is no header.
-fn timing_of(alloc: Global, file: &ImageFile) -> Result<Option<Timing>, AllocError> {
-    let seen = look_at_image(alloc, file, None)?;
+fn timing_of<S: Sectors>(alloc: Global, image: &mut S) -> Result<Option<Timing>, AllocError> {
+    let seen = look_at_image(alloc, image, None)?;
     Ok(match seen.header {
         Some((_, _, timing)) => Some(timing),
         None => None,
@@ -239,8 +241,8 @@ fn timing_of(alloc: Global, file: &ImageFile) -> Result<Option<Timing>, AllocErr
 }
 
 /// What became of the message to a node, by a look at the image.
-fn outcome_at(alloc: Global, file: &ImageFile, id: NodeId) -> Result<Outcome, AllocError> {
-    let seen = look_at_image(alloc, file, None)?;
+fn outcome_at<S: Sectors>(alloc: Global, image: &mut S, id: NodeId) -> Result<Outcome, AllocError> {
+    let seen = look_at_image(alloc, image, None)?;
     Ok(outcome_of(&seen, id))
 }
 

@@ -9,6 +9,7 @@ mod images;
 mod input;
 mod journals;
 mod members;
+mod open_image;
 mod status_file;
 mod table;
 mod texts;
@@ -22,7 +23,7 @@ use qn_usage::{has_word, help_text, refusal_of, value_of, version_text};
 use std::env;
 use std::fs::File;
 use std::io::ErrorKind;
-use std::net::Net;
+use std::net::{Net, TcpStream};
 use std::process::ExitCode;
 use std::rt::{Env, Files};
 use std::time::Clock;
@@ -75,10 +76,9 @@ fn usage_status(words: &[String]) -> u8 {
 }
 
 /// Runs the command that the words are.
-fn run<R: Files<File = File> + Net + Clock + Print + Eprint + Input + AllocGlobal>(
-    rt: &R,
-    words: &[String],
-) -> Result<u8, Trouble> {
+fn run<
+    R: Files<File = File> + Net<Stream = TcpStream> + Clock + Print + Eprint + Input + AllocGlobal,
+>(rt: &R, words: &[String]) -> Result<u8, Trouble> {
     let [name, options @ ..] = words else {
         return Ok(USAGE);
     };
