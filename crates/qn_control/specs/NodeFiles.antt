@@ -1,8 +1,7 @@
 -- What the status file of one node says, and when it says nothing of now. This project's profile.
-use Rattle.std.specs.Prelude.{ℕ, Bool, true, false, ◌+◌, ◌-◌, ◌*◌, ◌==◌, ◌&&◌, ◌||◌, List, [], Option, Some, None, is_some, if◌then◌else◌, nat_lt}
+use Rattle.std.specs.Prelude.{ℕ, Bool, true, false, ◌+◌, ◌-◌, ◌*◌, ◌==◌, ◌||◌, List, [], Option, Some, None, is_some, if◌then◌else◌, nat_lt}
 use Rattle.std.specs.List.{list_any, list_all}
 use Rattle.qn_base.specs.declared.ids.NodeId.{NodeId}
-use Rattle.qn_model.specs.declared.disk.Message.{Message}
 use Rattle.qn_model.specs.declared.disk.Message.TheVariants.{Empty, Test, Reset, Off, Exit, Crashdump}
 use Rattle.qn_control.specs.declared.node_file.MailOfFile.{MailOfFile}
 use Rattle.qn_control.specs.declared.node_file.MailOfFile.TheVariants.{Holds, Damaged, Failed, Unread}
