@@ -1,12 +1,13 @@
 use Rattle.std.proofs.Common.{◌++◌, List, ℕ, Option, arith, ap, subst, sym, refl, ◌∙◌}
 use Rattle.std.specs.Io.KnownBytes.{prepend_known}
+use Rattle.qn_base.specs.Rising.{HasRisen-within}
 use Rattle.qn_io.specs.NextLines.{text_of}
 use Rattle.qn_io.specs.Outside.{HasRisen}
 use Rattle.qn_io.specs.Writes.{AppendsFront}
 use Rattle.qn_play.specs.RunLaws.{runs_complete}
 use Rattle.qn_play.specs.Runs.{Finishes}
 use Rattle.qn_play.specs.Writing.{GivesOut}
-use Rattle.qn_play.specs.Steps.{risen_within, stops_wider}
+use Rattle.qn_play.specs.Steps.{stops_wider}
 use Rattle.qn_play.proofs.Running.{IsRunning, begins, drained_passed, failed_passed, finishes, goes_at, reads_passed, stops_here, takes_on, unwritten, unwritten_at, within_passed, writes_on}
 use Rattle.qn_play.proofs.run.play.Goals as goal
 
@@ -27,7 +28,7 @@ lines-init g c =
 pub returns-in_default-clause-runs : goal.returns-in_default-clause-runs
 returns-in_default-clause-runs g c =
     unwritten c.lines.invariant.running c.next.new.self.pieces c.next.ensures.within (sym c.in_default.ensures.kept)
-    (risen_within _ _ _ _ c.lines.invariant.sink c.next.ensures.sink_faults (omega arith) c.in_default.ensures.write_failed)
+    (HasRisen-within _ _ _ _ c.lines.invariant.sink c.next.ensures.sink_faults (omega arith) c.in_default.ensures.write_failed)
     c.in_default.ensures.prefix
 
 pub returns-in-Err-clause-runs : goal.returns-in-Err-clause-runs
@@ -42,8 +43,8 @@ returns-in-Err-clause-runs g c =
     finishes (writes_on run c.in-Ok.ensures.given)
     pieces c.in-Err.end c.finish.result (within_passed next found.pieces pieces c.pass_over.ensures.passed c.next.ensures.within)
     (c.in-Err.ensures.kept c.args.world.now run.after.earlier run.after.stands)
-    (λ rose. risen_within _ _ _ _ (omega (arith, sink, wrote)) c.finish.ensures.never_falls (omega arith) rose)
-    (stops_wider (λ fails. (fails.0, risen_within _ _ _ _ c.lines.invariant.source c.next.ensures.source_faults (omega arith) fails.1))
+    (λ rose. HasRisen-within _ _ _ _ (omega (arith, sink, wrote)) c.finish.ensures.never_falls (omega arith) rose)
+    (stops_wider (λ fails. (fails.0, HasRisen-within _ _ _ _ c.lines.invariant.source c.next.ensures.source_faults (omega arith) fails.1))
     (stops_here run c.lines.invariant.head c.read.result c.text.result.now c.text.ensures.value c.in-Ok.ensures.unended c.text.ensures.fits
     pieces (g.I.Source.left c.next.new.input) c.in-Err.end
     (reads_passed next c.read.result c.read.ensures found.pieces pieces c.pass_over.ensures.passed
@@ -101,6 +102,6 @@ returns-in_default-put-clause-runs g c =
     (reads_passed next c.read.result c.read.ensures found.pieces pieces c.pass_over.ensures.passed
     (prepend_known c.lines.lines.pieces (g.I.Source.left c.lines.input)) (g.I.Source.left c.next.new.input) (text_of next found.pieces found.line.items) c.in-Ok.ensures.reads)
     (c.in_default-judged.ensures.text c.args.world.now))
-    (risen_within _ _ _ _ (omega (arith, sink, wrote)) c.put.ensures.never_falls (omega arith) c.in_default-put.ensures.cause)
+    (HasRisen-within _ _ _ _ (omega (arith, sink, wrote)) c.put.ensures.never_falls (omega arith) c.in_default-put.ensures.cause)
     (subst (λ (t : List ℕ). AppendsFront (g.O.Sink.written c.next.new.out) (g.O.Sink.written c.put.new.out) (found.output ++ t)) c.as_slice.ensures.value
     (subst (λ (w : List ℕ). AppendsFront (g.O.Sink.written c.next.new.out) (g.O.Sink.written c.put.new.out) (w ++ c.as_slice.result.now)) c.pass_over.ensures.output c.in_default-put.ensures.prefix))

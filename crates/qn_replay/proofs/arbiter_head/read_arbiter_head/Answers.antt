@@ -1,7 +1,7 @@
 use Rattle.std.proofs.Common.{arith, refl, sym}
 use Rattle.std.proofs.lemmas.Result.{err_from_is_err_and}
+use Rattle.qn_base.specs.Rising.{HasRisen-within}
 use Rattle.qn_head.specs.PartLaws.{refuses_wider}
-use Rattle.qn_play.specs.Steps.{risen_within}
 use Rattle.qn_replay.proofs.HeadSteps.{gives_lease, lease_is_safe, refuses_head, refuses_lease, refuses_line}
 use Rattle.qn_replay.proofs.arbiter_head.read_arbiter_head.Goals as goal
 
@@ -16,7 +16,7 @@ returns-in_err-read_head_line-clause-end g c =
     rw (exit.1, exit.2)
     (refuses_line c.in_ok-head.head c.in_ok-head.ensures.head
     (refuses_wider
-    (λ fails. (fails.0, risen_within _ _ _ _ (omega (arith, c.in_ok-head.ensures.never_falls)) (omega (arith, c.in_err-read_head_line.ensures.never_falls)) (omega arith) fails.1))
+    (λ fails. (fails.0, HasRisen-within _ _ _ _ (omega (arith, c.in_ok-head.ensures.never_falls)) (omega (arith, c.in_err-read_head_line.ensures.never_falls)) (omega arith) fails.1))
     c.in_err-read_head_line.ensures.end))
 
 pub returns-in_err-lease-clause-end : goal.returns-in_err-lease-clause-end

@@ -1,10 +1,10 @@
 use Rattle.std.proofs.Common.{◌<◌, arith, Bool, None, ap, refl, subst, sym, IfErr, Result, ◌∙◌}
 use Rattle.std.proofs.lemmas.Result.{err_from_is_err_and}
+use Rattle.qn_base.specs.Rising.{HasRisen-within}
 use Rattle.qn_head.specs.ReplayLaws.{stops_in_head, stops_without_world}
 use Rattle.qn_head.specs.Replays.{WantsMemory, answer_of}
 use Rattle.qn_io.specs.Outside.{HasRisen}
 use Rattle.qn_play.specs.Runs.{Runs}
-use Rattle.qn_play.specs.Steps.{risen_within}
 use Rattle.qn_sched.specs.declared.replay_end.ReplayEnd.{ReplayEnd}
 use Rattle.qn_world.specs.Whole.{Whole}
 use Rattle.qn_replay.specs.EventWorlds.{traced_if, untraced}
@@ -60,7 +60,7 @@ run_of g c =
     })
     c.new-pieces.result c.in_ok-head.head.lines c.new-pieces.ensures refl c.in_ok-head.ensures.head
     (place_after c.new-playback.result c.play-end.new.world)
-    (λ rose. risen_within _ _ _ _ c.read_head.ensures.never_falls c.play-end.ensures.source_faults (omega arith) rose) c.play-end.ensures.runs
+    (λ rose. HasRisen-within _ _ _ _ c.read_head.ensures.never_falls c.play-end.ensures.source_faults (omega arith) rose) c.play-end.ensures.runs
 
 pub returns-clause-reaches : goal.returns-clause-reaches
 returns-clause-reaches g c =

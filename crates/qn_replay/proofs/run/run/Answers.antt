@@ -1,6 +1,6 @@
 use Rattle.std.proofs.Common.{Bool, ap, sym, subst, ◌∙◌, arith}
+use Rattle.qn_base.specs.Rising.{HasRisen-within}
 use Rattle.qn_head.specs.ReplayLaws.{ends_in_head, not_begun, stops_in_head, stops_without_world}
-use Rattle.qn_play.specs.Steps.{risen_within}
 use Rattle.qn_replay.specs.EventWorlds.{traced_if}
 use Rattle.qn_replay.proofs.Playbacks.{runs_on}
 use Rattle.qn_replay.proofs.run.run.Goals as goal
@@ -40,4 +40,4 @@ returns-clause-replays g c =
       lines = made.head ∙ c.lines-lines.ensures.value;
     })
     c.new-pieces.result c.lines-lines.result c.new-pieces.ensures c.lines-lines.ensures.value c.in-Ok-read_head.ensures.head (λ earlier played. tt)
-    (λ rose. risen_within _ _ _ _ c.read_head.ensures.never_falls c.play.ensures.source_faults (omega arith) rose) c.play.ensures.runs
+    (λ rose. HasRisen-within _ _ _ _ c.read_head.ensures.never_falls c.play.ensures.source_faults (omega arith) rose) c.play.ensures.runs
