@@ -4,13 +4,15 @@ use Rattle.std.specs.Prelude.{slice_get, slice_set, nat_le, nat_lt, not, ◌==�
 use Rattle.std.specs.List.{list_all, range_with_len}
 use Rattle.std.specs.Option.{option_map, option_map_or}
 use Rattle.std.proofs.lemmas.Bool.Decides.{nat_tests}
+use Rattle.std.proofs.lemmas.Bool.{eqb-true}
+use Rattle.qn_base.specs.lemmas.Lists.{get_set_same, get_set_other}
 use Rattle.qn_lease.specs.declared.polls.Poll.{Poll}
 use Rattle.qn_lease.specs.Arbiter.{HeardPoll, Memory, do_meet, gives_yes, is_newest, is_vote_left, last_yes, with_poll}
 use Rattle.qn_lease.specs.Arbiter as lease
 use Rattle.qn_arbiter.specs.declared.arbiter.Arbiter.{Arbiter}
 use Rattle.qn_arbiter.specs.declared.arbiter.Installed.{Installed}
 use Rattle.qn_arbiter.specs.Arbiter.{ArbiterFor, installed_in, is_allowed_by, is_before, later_of, leaves_vote, leaves_vote_at, newest_of, remembered_of, with_answer, with_heard, yes_in, yes_leaves}
-use Rattle.qn_arbiter.proofs.Places.{get_set_other, get_set_same, list_all_same}
+use Rattle.qn_arbiter.proofs.Places.{list_all_same}
 
 -- ---- the greatest pair
 
@@ -91,9 +93,6 @@ unfolding newest_of
 of_another memory tick poll true rank e = rw e
 of_another memory tick poll false rank e = rw e
 
-rank_of_same : (i j : ℕ) → (i == j) ≡ true → i ≡ j
-rank_of_same i j e = grind (arith, nat_tests)
-
 length_set : {A : Type 0} (items : List A) (i : ℕ) (item : A) → length (slice_set items i item) ≡ length items
 length_set items i item = search rules
 
@@ -117,7 +116,7 @@ remembers arbiter new memory tick poll agrees h within gives is =
         ≡ Some (remembered_of rank (with_poll tick poll memory).heard)
     by_rank rank below true e =
         subst (λ i. slice_get (slice_set arbiter.ranks poll.from.0 (with_heard (remembered_of poll.from.0 memory.heard) tick poll (gives_yes memory tick poll))) i
-        ≡ Some (remembered_of i (with_poll tick poll memory).heard)) (rank_of_same poll.from.0 rank e)
+        ≡ Some (remembered_of i (with_poll tick poll memory).heard)) (eqb-true poll.from.0 rank e)
         (get_set_same arbiter.ranks poll.from.0 _ (let n = h.count in omega arith)
         ∙ ap Some (of_the_same memory tick poll (gives_yes memory tick poll) (poll.from.0 == poll.from.0) poll.from.0 refl (eq-eqb poll.from.0 poll.from.0 refl)))
     by_rank rank below false e =

@@ -1,20 +1,22 @@
 -- A line beside an arbiter is accepted exactly where it is the line of a well formed event.
-use Rattle.std.proofs.Common.{◌≡◌, ◌-◌, ◌^◌, ◌<◌, ◌≤◌, ◌↔◌, ◌==◌, ℕ, Bool, true, false, cond, List, [], ◌∷◌, ◌++◌, Option, Some, None, Ok, Err, find, map, length, nat_le, nat_lt, refl, sym, ap, ◌∙◌, subst, arith, lt-ltb, le-ltb, lit<}
+use Rattle.std.proofs.Common.{◌≡◌, ◌-◌, ◌^◌, ◌<◌, ◌≤◌, ◌↔◌, ◌==◌, ℕ, Bool, true, false, cond, List, [], ◌∷◌, ◌++◌, Option, Some, None, Ok, Err, find, map, length, nat_le, nat_lt, refl, sym, ap, ◌∙◌, subst, arith, lt-ltb, le-ltb}
 use Rattle.std.specs.Prelude.{IsTrue, codes, decimal}
 use Rattle.std.specs.List.{join_with_byte}
 use Rattle.std.specs.Option.{option_map_or, ok_or}
 use Rattle.std.specs.Str.{bytes_eq}
 use Rattle.std.proofs.lemmas.Bool.{and_parts, leb-true, ltb-true, ltb-false, cond-false}
 use Rattle.std.proofs.lemmas.Bool.Decides.{nat_tests}
-use Rattle.std.proofs.lemmas.Fmt.{length-decimal-le}
 use Rattle.std.proofs.lemmas.List.{length-append}
 use Rattle.std.proofs.lemmas.List.Splits.{join_with_byte-slice_split, slice_split_at, slice_split_none}
 use Rattle.std.proofs.lemmas.Slice.Eq.{bytes_eq-Decides}
+use Rattle.qn_sched.specs.lemmas.Words.{one_word-ok}
 use Rattle.qn_base.specs.declared.ids.Rank.{Rank}
+use Rattle.qn_base.specs.lemmas.Decimals.{length-decimal}
 use Rattle.qn_model.specs.declared.configuration.Settings.{Settings}
 use Rattle.qn_model.specs.declared.events.Event.{Event}
 use Rattle.qn_model.specs.declared.events.Event.TheVariants as event
 use Rattle.qn_model.specs.declared.line_fault.LineFault.TheVariants.{TooLong, UnknownWord}
+use Rattle.qn_model.specs.lemmas.Lines.{bind_ok, same_ok}
 use Rattle.qn_model.specs.Lines.{◌>>=◌, number_between, words_of}
 use Rattle.qn_model.specs.Rules.{is_configured, is_well_formed}
 use Rattle.qn_model.specs.Settings.{IsValid, ids}
@@ -32,8 +34,7 @@ use Rattle.qn_arbiter_sched.specs.EventNames.{arbiter_name, arbiter_names, arbit
 use Rattle.qn_arbiter_sched.specs.EventReading.{arbiter_boot_of, arbiter_event_named, arbiter_event_of, arbiter_event_of_words, event_alone_of, hear_of, pass_with_of, poll_of, reply_of}
 use Rattle.qn_sched.specs.WrittenNumbers.{decimal_blankless, number_between-decimal, number_between-ok}
 use Rattle.qn_arbiter_sched.proofs.PassLength.{length_pass}
-use Rattle.qn_arbiter_sched.proofs.Steps.{bind_ok, same_ok}
-use Rattle.qn_arbiter_sched.proofs.WordsOfLines.{AreBlankless, one_word_ok, some_word, words_blankless, words_joined}
+use Rattle.qn_arbiter_sched.proofs.WordsOfLines.{AreBlankless, some_word, words_blankless, words_joined}
 
 -- what the crate below says of the line of an event
 abbrev pub LinesAreSpelled : Type 0
@@ -146,9 +147,6 @@ pass_is all_ids (first ∷ words) e is =
 abbrev some_line : List ℕ → Option (List ℕ)
 some_line line = Some line
 
-length-decimal : (n : ℕ) → n < 2 ^ 64 → length (decimal n) ≤ 20
-length-decimal n fits = length-decimal-le 20 n (lit< tt) (omega arith) fits
-
 module _ (spelled : LinesAreSpelled) (s : Settings) (valid : IsValid s) where
   abbrev all_ids : List ℕ
   all_ids = ids s.nodes
@@ -198,7 +196,7 @@ module _ (spelled : LinesAreSpelled) (s : Settings) (valid : IsValid s) where
       let base = bind_ok (number_between 0 1000000000000000 word.0) _ e word.2 in
       let number = number_between-ok 0 1000000000000000 word.0 base.0 base.1 in
       let below = number.below in
-      let words_are = one_word_ok words word.0 word.1 ∙ ap (λ w. w ∷ []) number.word_is in
+      let words_are = one_word-ok words word.0 word.1 ∙ ap (λ w. w ∷ []) number.word_is in
       subst (λ (x : ArbiterEvent). Says (codes "arbiter-boot" ∷ words) x) (same_ok (beside.ArbiterBoot base.0) e base.2)
       (record {
         line_is = ap (λ ws. Some (join_with_byte 32 (codes "arbiter-boot" ∷ ws))) (sym words_are);
@@ -223,7 +221,7 @@ module _ (spelled : LinesAreSpelled) (s : Settings) (valid : IsValid s) where
   poll_ok words e blankless short is =
       let word = bind_ok (one_word words) _ e is in
       let rank = bind_ok (rank_of all_ids word.0) _ e word.2 in
-      let words_are = one_word_ok words word.0 word.1 in
+      let words_are = one_word-ok words word.0 word.1 in
       let plain = subst AreBlankless words_are blankless in
       let fits = subst (λ (ws : List (List ℕ)). length (join_with_byte 32 (codes "poll" ∷ ws)) ≤ 4096) words_are short in
       let read = tick_whole all_ids word.0 rank.0 (omega (arith, fits)) (words_joined word.0 [] plain) rank.1 in
@@ -238,7 +236,7 @@ module _ (spelled : LinesAreSpelled) (s : Settings) (valid : IsValid s) where
       let read = bind_ok (number_between 0 (2 ^ 64 - 1) word.0) _ e word.2 in
       let number = number_between-ok 0 (2 ^ 64 - 1) word.0 read.0 read.1 in
       let below = number.below in
-      let words_are = one_word_ok words word.0 word.1 ∙ ap (λ w. w ∷ []) number.word_is in
+      let words_are = one_word-ok words word.0 word.1 ∙ ap (λ w. w ∷ []) number.word_is in
       subst (λ (x : ArbiterEvent). Says (codes "hear" ∷ words) x) (same_ok (beside.Hear read.0) e read.2)
       (record {
         line_is = ap (λ ws. Some (join_with_byte 32 (codes "hear" ∷ ws))) (sym words_are);
@@ -252,7 +250,7 @@ module _ (spelled : LinesAreSpelled) (s : Settings) (valid : IsValid s) where
       let read = bind_ok (number_between 0 (2 ^ 64 - 1) word.0) _ e word.2 in
       let number = number_between-ok 0 (2 ^ 64 - 1) word.0 read.0 read.1 in
       let below = number.below in
-      let words_are = one_word_ok words word.0 word.1 ∙ ap (λ w. w ∷ []) number.word_is in
+      let words_are = one_word-ok words word.0 word.1 ∙ ap (λ w. w ∷ []) number.word_is in
       subst (λ (x : ArbiterEvent). Says (codes "reply" ∷ words) x) (same_ok (beside.Reply read.0) e read.2)
       (record {
         line_is = ap (λ ws. Some (join_with_byte 32 (codes "reply" ∷ ws))) (sym words_are);

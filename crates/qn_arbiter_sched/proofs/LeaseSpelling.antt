@@ -12,12 +12,12 @@ use Rattle.std.proofs.lemmas.Slice.Eq.{bytes_eq-Decides}
 use Rattle.qn_lease.specs.declared.lease.Lease.{Lease}
 use Rattle.qn_lease.specs.Lease.{is_in_range}
 use Rattle.qn_model.specs.declared.line_fault.LineFault.TheVariants.{TooLong, UnknownWord}
+use Rattle.qn_model.specs.lemmas.Lines.{bind_ok, same_ok, two_words-ok}
 use Rattle.qn_model.specs.Lines.{number_between, two_words, words_of}
 use Rattle.qn_model.specs.Rules.{is_between}
 use Rattle.qn_arbiter_sched.specs.LeaseLine.{lease_line, lease_of, lease_of_words, times_of_words}
 use Rattle.qn_sched.specs.WrittenNumbers.{decimal_blankless, number_between-decimal, number_between-ok}
-use Rattle.qn_arbiter_sched.proofs.Steps.{bind_ok, same_ok}
-use Rattle.qn_arbiter_sched.proofs.WordsOfLines.{two_words_ok, words_joined}
+use Rattle.qn_arbiter_sched.proofs.WordsOfLines.{words_joined}
 
 -- the words of a lease line after its first
 abbrev words_of_times : Lease → List (List ℕ)
@@ -42,7 +42,7 @@ times_ok words times is =
     let same : Lease = record { limit = first.0; lease = second.0 } in
     subst (λ (t : Lease). AreTimes words t) (same_ok same times second.2)
     (record {
-      words_are = two_words_ok words pair.0 pair.1 ∙ ap (λ w. w ∷ pair.0.1 ∷ []) limit.word_is ∙ ap (λ w. decimal first.0 ∷ w ∷ []) lease.word_is;
+      words_are = two_words-ok words pair.0 pair.1 ∙ ap (λ w. w ∷ pair.0.1 ∷ []) limit.word_is ∙ ap (λ w. decimal first.0 ∷ w ∷ []) lease.word_is;
       in_range =
           ap (λ b. b && is_between 1 36000000 second.0) (between 1 3600000 first.0 limit.above limit.below)
           ∙ between 1 36000000 second.0 lease.above lease.below;

@@ -1,14 +1,14 @@
 -- The words of a pass after its first fit a line together.
-use Rattle.std.proofs.Common.{◌≡◌, ◌+◌, ◌^◌, ◌<◌, ◌≤◌, ℕ, true, ◌&&◌, List, [], ◌∷◌, map, length, nat_le, nat_lt, slice_index, ◌⊎◌, inl, inr, arith, lit<}
-use Rattle.std.specs.Prelude.{All, decimal}
+use Rattle.std.proofs.Common.{◌≡◌, ◌+◌, ◌<◌, ◌≤◌, ℕ, true, ◌&&◌, List, [], ◌∷◌, map, length, nat_le, nat_lt, slice_index, arith}
+use Rattle.std.specs.Prelude.{decimal}
 use Rattle.std.specs.List.{join_with_byte, list_all}
 use Rattle.std.proofs.lemmas.Bool.{and_parts, cases_lt, leb-true, ltb-true}
-use Rattle.std.proofs.lemmas.Fmt.{length-decimal-le}
-use Rattle.std.proofs.lemmas.List.{get_or-map, get_or_past, length-append, length-map}
+use Rattle.std.proofs.lemmas.List.{length-append, length-map}
 use Rattle.qn_base.specs.declared.ids.Rank.{Rank}
+use Rattle.qn_base.specs.lemmas.Decimals.{length-decimal}
 use Rattle.qn_model.specs.declared.configuration.Settings.{Settings}
 use Rattle.qn_model.specs.declared.events.Event.TheVariants.{Pass}
-use Rattle.qn_model.specs.declared.nodelist.NodeEntry.{NodeEntry}
+use Rattle.qn_model.specs.lemmas.Ids.{id_fits}
 use Rattle.qn_model.specs.Lines.{is_ascending}
 use Rattle.qn_model.specs.Rules.{is_between, is_clock, is_configured, is_well_formed}
 use Rattle.qn_model.specs.Settings.{IsValid, ids}
@@ -17,19 +17,6 @@ use Rattle.qn_arbiter_sched.proofs.WordsOfLines.{AreShort, length_joined}
 
 abbrev ranks_of : List (Rank × ℕ) → List ℕ
 ranks_of clocks = map (λ (clock : Rank × ℕ). clock.0.0) clocks
-
-id_fits : (nodes : List NodeEntry) → All (λ n. n.id.0 ≤ 4294967295) nodes → (k : ℕ) → (k < length nodes) ⊎ (length nodes ≤ k) → slice_index (ids nodes) k < 2 ^ 64
-id_fits nodes fit k (inl inside) =
-    let none : NodeEntry = record { id = record { 0 = 0 }; votes = 0; fence_delay = 0 } in
-    let below = fit k none inside in
-    let same = get_or-map (λ (n : NodeEntry). n.id.0) nodes k none 0 inside in
-    omega (arith, below, same)
-id_fits nodes fit k (inr outside) =
-    let past = get_or_past (ids nodes) k 0 (let same = length-map nodes (λ (n : NodeEntry). n.id.0) in omega (arith, same)) in
-    omega (arith, past)
-
-length-decimal : (n : ℕ) → n < 2 ^ 64 → length (decimal n) ≤ 20
-length-decimal n fits = length-decimal-le 20 n (lit< tt) (omega arith) fits
 
 -- ranks below a number that ascend are fewer
 few_ranks : (s : Settings) (clock : Rank × ℕ) (clocks : List (Rank × ℕ)) → is_ascending (ranks_of (clock ∷ clocks)) ≡ true → list_all (is_clock s) (clock ∷ clocks) ≡ true

@@ -1,13 +1,11 @@
 -- The words of a line, and lines that are joined of words.
-use Rattle.std.proofs.Common.{◌≡◌, ◌*◌, ◌<◌, ◌≤◌, ◌==◌, ℕ, Bool, true, false, cond, List, [], ◌∷◌, length, Ok, refl, ap, ◌∙◌, subst, arith}
+use Rattle.std.proofs.Common.{◌≡◌, ◌*◌, ◌<◌, ◌≤◌, ◌==◌, ℕ, Bool, true, false, cond, List, [], ◌∷◌, length, refl, ap, ◌∙◌, arith}
 use Rattle.std.specs.Prelude.{All}
 use Rattle.std.specs.List.{join_with_byte, onto_first}
 use Rattle.std.proofs.lemmas.List.{length-append}
 use Rattle.std.proofs.lemmas.List.Elements.{All-cons}
 use Rattle.std.proofs.lemmas.List.Splits.{slice_split_at, slice_split_none, length-slice_split}
-use Rattle.qn_model.specs.Lines.{two_words, words_of}
-use Rattle.qn_sched.specs.Words.{one_word}
-use Rattle.qn_arbiter_sched.proofs.Steps.{same_ok}
+use Rattle.qn_model.specs.Lines.{words_of}
 
 -- words without a blank
 abbrev pub AreBlankless : List (List ℕ) → Type 0
@@ -51,16 +49,3 @@ length_joined (word ∷ next ∷ words) short =
     let one = short.0 in
     let whole = length-append word (32 ∷ join_with_byte 32 (next ∷ words)) in
     omega (arith, whole, later, one)
-
--- one word, and two
-pub one_word_ok : (words : List (List ℕ)) (word : List ℕ) → one_word words ≡ Ok word → words ≡ word ∷ []
-one_word_ok [] word is = cc
-one_word_ok (first ∷ []) word is = cc
-one_word_ok (first ∷ second ∷ words) word is = cc
-
-pub two_words_ok : (words : List (List ℕ)) (pair : List ℕ × List ℕ) → two_words words ≡ Ok pair → words ≡ pair.0 ∷ pair.1 ∷ []
-two_words_ok [] pair is = cc
-two_words_ok (first ∷ []) pair is = cc
-two_words_ok (first ∷ second ∷ []) pair is =
-    subst (λ (p : List ℕ × List ℕ). first ∷ second ∷ [] ≡ p.0 ∷ p.1 ∷ []) (same_ok (first, second) pair is) refl
-two_words_ok (first ∷ second ∷ third ∷ words) pair is = cc

@@ -6,7 +6,7 @@ use Rattle.std.specs.Bool.{then_some}
 use Rattle.std.specs.List.{AllByRecursion, IsDistinct, list_any, slice_split}
 use Rattle.std.specs.Option.{option_map_or}
 use Rattle.std.specs.Str.{bytes_eq}
-use Rattle.std.proofs.lemmas.Bool.{false≢true}
+use Rattle.std.proofs.lemmas.Bool.{false≢true, or_right, or_from}
 use Rattle.std.proofs.lemmas.List.{append-nil, drop_all, get_or-reverse, length-map, length-reverse, take_all}
 use Rattle.std.proofs.Math.Seq.{drop-cons, take-suc}
 use Rattle.std.proofs.lemmas.List.Elements.{All-cons, All-head, All-tail}
@@ -78,21 +78,13 @@ read_on-named :
 read_on-named nodes order part parts rank some is =
     read_on-word nodes order part parts some ∙ ap (after_word nodes order parts) is ∙ named_next order rank (all_named nodes (filter is_word parts))
 
-or_yes : (a b : Bool) → b ≡ true → (a || b) ≡ true
-or_yes true b e = refl
-or_yes false b e = e
-
 or_no : (a b : Bool) → (a || b) ≡ false → (a ≡ false) × (b ≡ false)
 or_no true b e = cc
 or_no false b e = (refl, e)
 
-or_both : (a b : Bool) → a ≡ false → b ≡ false → (a || b) ≡ false
-or_both true b e f = cc
-or_both false b e f = f
-
 any_here : (test : Rank → Bool) (before : List Rank) (rank : Rank) (after : List Rank) → test rank ≡ true → list_any test (before ++ rank ∷ after) ≡ true
 any_here test [] rank after e = ap (λ b. b || list_any test after) e
-any_here test (first ∷ before) rank after e = or_yes (test first) _ (any_here test before rank after e)
+any_here test (first ∷ before) rank after e = or_right (test first) _ (any_here test before rank after e)
 
 twice_by :
     (here : Bool) (first rank : Rank) (before after : List Rank)
@@ -102,7 +94,7 @@ twice_by :
     → (list_any (λ other. first.0 == other.0) (before ++ rank ∷ after) || has_twice (before ++ rank ∷ after)) ≡ true
 twice_by true first rank before after is e later =
     ap (λ b. b || has_twice (before ++ rank ∷ after)) (any_here (λ other. first.0 == other.0) before rank after (sym is))
-twice_by false first rank before after is e later = or_yes (list_any (λ other. first.0 == other.0) (before ++ rank ∷ after)) _ (later e)
+twice_by false first rank before after is e later = or_right (list_any (λ other. first.0 == other.0) (before ++ rank ∷ after)) _ (later e)
 
 twice : (before : List Rank) (rank : Rank) (after : List Rank) → list_any (λ other. other.0 == rank.0) before ≡ true → has_twice (before ++ rank ∷ after) ≡ true
 twice [] rank after e = absurd (false≢true e)
@@ -181,9 +173,9 @@ after_all nodes order parts k whole all so_far once =
     ∙ so_far
 
 any_push : (test : Rank → Bool) (ranks : List Rank) (rank : Rank) → list_any test ranks ≡ false → test rank ≡ false → list_any test (ranks ++ rank ∷ []) ≡ false
-any_push test [] rank e apart = or_both (test rank) false apart refl
+any_push test [] rank e apart = or_from (test rank) false apart refl
 any_push test (first ∷ ranks) rank e apart =
-    let parts = or_no (test first) (list_any test ranks) e in or_both _ _ parts.0 (any_push test ranks rank parts.1 apart)
+    let parts = or_no (test first) (list_any test ranks) e in or_from _ _ parts.0 (any_push test ranks rank parts.1 apart)
 
 -- a node that does not stand yet leaves none twice
 pub has_twice-push :
@@ -193,7 +185,7 @@ has_twice-push [] rank once apart = refl
 has_twice-push (first ∷ order) rank once apart =
     let once_parts = or_no (list_any (λ other. first.0 == other.0) order) (has_twice order) once
     in let parts = or_no (first.0 == rank.0) (list_any (λ other. other.0 == rank.0) order) apart
-    in or_both _ _ (any_push (λ other. first.0 == other.0) order rank once_parts.0 parts.0) (has_twice-push order rank once_parts.1 parts.1)
+    in or_from _ _ (any_push (λ other. first.0 == other.0) order rank once_parts.0 parts.0) (has_twice-push order rank once_parts.1 parts.1)
 
 all_apart : (id : ℕ) (ranks : List Rank) → list_any (λ other. id == other.0) ranks ≡ false → AllByRecursion (λ other. eqb id other ≡ false) (map (λ (r : Rank). r.0) ranks)
 all_apart id [] e = tt

@@ -3,7 +3,7 @@ use Rattle.std.proofs.Common.{◌≡◌, ℕ, ◌≤◌, ◌==◌, not, cond, �
 use Rattle.std.specs.Prelude.{All, IsTrue, IsNone, IsSome, IfSome, nat_lt, option_map, is_some, find, unwrap_or}
 use Rattle.std.specs.Option.{option_map_or}
 use Rattle.std.specs.List.{list_all, position_from}
-use Rattle.std.proofs.lemmas.Bool.{false≢true}
+use Rattle.std.proofs.lemmas.Bool.{false≢true, and_parts}
 use Rattle.std.proofs.lemmas.List.{length-map}
 use Rattle.std.proofs.lemmas.List.Elements.{All-cons}
 use borrow.Author.Tests.{ltb-false, eqb-false, eqb-true}
@@ -49,14 +49,10 @@ neither true true e is = absurd (false≢true (sym e))
 neither true false e is = refl
 neither false b e is = absurd (false≢true is)
 
-and_true : (a b : Bool) → (a && b) ≡ true → (a ≡ true) × (b ≡ true)
-and_true true b e = (refl, e)
-and_true false b e = absurd (false≢true e)
-
 one_vote_each : (nodes : List NodeEntry) → list_all has_one_vote nodes ≡ true → All (λ n. n.votes ≡ 1) nodes
 one_vote_each [] e = λ k d within. absurd (omega arith)
 one_vote_each (node ∷ nodes) e =
-    let parts = and_true (has_one_vote node) _ e
+    let parts = and_parts (has_one_vote node) _ e
     in All-cons (λ n. n.votes ≡ 1) node nodes (eqb-true node.votes 1 parts.0) (one_vote_each nodes parts.1)
 
 not_found : (b : Bool) (node : NodeEntry) (rest : Option NodeEntry) → cond (not b) (Some node) rest ≡ None → (b ≡ true) × (rest ≡ None)

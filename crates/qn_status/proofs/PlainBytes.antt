@@ -1,8 +1,8 @@
 -- Conditions stand between quotes as they are, and are UTF-8.
-use Rattle.std.proofs.Common.{◌≡◌, ℕ, zero, suc, ◌+◌, ◌/◌, ◌%◌, ◌<◌, ◌≤◌, Bool, true, false, cond, ◌&&◌, ◌==◌, not, List, [], ◌∷◌, ◌++◌, refl, sym, ap₂, ◌∙◌, arith, nat_le, nat_lt, codes, decimal}
+use Rattle.std.proofs.Common.{◌≡◌, ℕ, zero, suc, ◌+◌, ◌/◌, ◌%◌, ◌<◌, ◌≤◌, Bool, true, false, cond, ◌&&◌, ◌==◌, not, List, [], ◌∷◌, ◌++◌, refl, ap₂, ◌∙◌, arith, nat_le, nat_lt, codes, decimal}
 use Rattle.std.specs.Str.{IsAscii}
 use Rattle.std.specs.Fmt.{digits, digits_onto, digit_glyph}
-use Rattle.std.proofs.lemmas.Bool.{and_parts, leb-true}
+use Rattle.std.proofs.lemmas.Bool.{and_parts, leb-true, not-true}
 use Rattle.std.proofs.lemmas.Bool.Decides.{nat_tests}
 use Rattle.std.proofs.lemmas.List.Folds.{list_all-append}
 use Rattle.std.proofs.lemmas.Str.Ascii.{IsAscii-cons, IsAscii-nil}
@@ -63,15 +63,11 @@ record Bounds (b : ℕ) : Type 0 where
   high : b ≤ 122
   other : (b == 92) ≡ false
 
-not_true : (b : Bool) → not b ≡ true → b ≡ false
-not_true false is = refl
-not_true true is = sym is
-
 bounds_of : (b : ℕ) → is_plain b ≡ true → Bounds b
 bounds_of b plain =
     let outer = and_parts (nat_le 45 b && nat_le b 122) (not (b == 92)) plain in
     let inner = and_parts (nat_le 45 b) (nat_le b 122) outer.0 in
-    record { low = leb-true 45 b inner.0; high = leb-true b 122 inner.1; other = not_true (b == 92) outer.1 }
+    record { low = leb-true 45 b inner.0; high = leb-true b 122 inner.1; other = not-true (b == 92) outer.1 }
 
 escape_plain_byte : (b : ℕ) → is_plain b ≡ true → escape_byte b ≡ b ∷ []
 unfolding escape_byte

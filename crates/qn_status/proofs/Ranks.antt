@@ -1,10 +1,7 @@
 -- The nodes of a world, rank by rank.
-use Rattle.std.proofs.Common.{◌≡◌, ℕ, zero, suc, ◌+◌, List, [], ◌∷◌, ◌++◌, Some, sym, ap, ap₂, ◌∙◌, arith, add-one, add-zero, map}
-use Rattle.std.specs.Prelude.{slice_get}
+use Rattle.std.proofs.Common.{◌≡◌, ℕ, zero, suc, ◌+◌, List, [], ◌∷◌, ◌++◌, sym, ap, ap₂, ◌∙◌, arith, add-one, add-zero, map}
 use Rattle.std.specs.List.{range_with_len}
 use Rattle.std.proofs.lemmas.List.{map-append}
-use Rattle.qn_model.specs.declared.nodelist.NodeEntry.{NodeEntry}
-use Rattle.qn_model.specs.Unmet.{id_from}
 use Rattle.qn_status.specs.declared.node_state.NodeState.{NodeState}
 
 -- one rank more
@@ -24,9 +21,3 @@ states_more f items new count node before node_is new_is =
     new_is ∙ ap₂ (λ xs n. xs ++ n ∷ []) before node_is
     ∙ sym (ap (λ n. map f (range_with_len 0 n)) (add-one count) ∙ ap (λ xs. map f xs) (range_suc 0 count)
     ∙ map-append f (range_with_len 0 count) ((0 + count) ∷ []) ∙ ap (λ n. map f (range_with_len 0 count) ++ f n ∷ []) (zero_plus count))
-
--- the id of the entry of a rank
-pub id_at : (nodes : List NodeEntry) (rank : ℕ) (entry : NodeEntry) → slice_get nodes rank ≡ Some entry → entry.id ≡ id_from nodes rank
-id_at [] rank entry found = cc
-id_at (node ∷ nodes) zero entry found = let same : node ≡ entry = cc in ap (λ n. n.id) (sym same)
-id_at (node ∷ nodes) (suc rank) entry found = id_at nodes rank entry found

@@ -6,6 +6,7 @@ use Rattle.std.proofs.lemmas.Bool.{leb-true, eqb-true, false≢true, true≢fals
 use Rattle.qn_base.specs.declared.ids.Rank.{Rank}
 use Rattle.qn_base.specs.declared.ids.View.{View}
 use Rattle.qn_base.specs.Members.{is_member}
+use Rattle.qn_base.specs.lemmas.Bools.{last_of_three}
 use Rattle.qn_model.specs.declared.configuration.Device.{Device}
 use Rattle.qn_model.specs.declared.configuration.Settings.{Settings}
 use Rattle.qn_model.specs.declared.votes.VoteEntry.{VoteEntry}
@@ -28,11 +29,6 @@ no_device false (Some device) counts none = absurd (true≢false none)
 counted_seen : (present : Option View) (seen_votes more votes : ℕ) (view : View) → present ≡ Some view → seen_votes ≡ votes → more ≡ 0
     → (if is_some present then seen_votes + more else 0) ≡ votes
 counted_seen present seen_votes more votes view seen same none = rw (seen, same, none) (add-zero votes)
-
-last_of : (a b c : Bool) → IsTrue (a && b && c) → IsTrue c
-last_of true true c all = all
-last_of true false c all = absurd (false≢true all)
-last_of false b c all = absurd (false≢true all)
 
 -- a half is quorate by its votes, or by the breaker
 by_either : (counted free breaks : Bool) → IsTrue (counted || (free && breaks)) → IsTrue counted ⊎ IsTrue breaks
@@ -74,7 +70,7 @@ module _ (s : Settings) (one_vote_apart : s.two_node ≡ false) (no_device_votes
   majority_side : (past : List VoteEntry) (now : ℕ) (view : View) → present_view past ≡ Some view → IsTrue (is_quorate s past now)
       → expected_votes s past < 2 * votes_among s.nodes view.members
   majority_side past now view seen quorate =
-      let enough : quorum_of s (expected_votes s past) ≤ counted_votes s past now = leb-true _ _ (last_of (is_some (present_view past)) (is_released s past) _ quorate) in
+      let enough : quorum_of s (expected_votes s past) ≤ counted_votes s past now = leb-true _ _ (last_of_three (is_some (present_view past)) (is_released s past) _ quorate) in
       let needed : quorum_of s (expected_votes s past) ≡ expected_votes s past / 2 + 1 = ap (λ (b : Bool). if b then 1 else expected_votes s past / 2 + 1) one_vote_apart in
       let counted : counted_votes s past now ≡ votes_among s.nodes view.members =
       counted_seen (present_view past) (view_votes s past) (device_votes s past now) (votes_among s.nodes view.members) view seen
