@@ -7,7 +7,8 @@
 //! receive, now, Hello and Announce are the outputs of that history, in order (`law_outputs`). Where no call fails and no
 //! tick falls, no run ends because of the clock or of a failed step of the boot (`law_sound_end`), and a failed call halts
 //! a boot only by the disk operation that it was made for (`law_boot_halted`). `NodeRun` is the same run as a machine, which
-//! names its next call and takes its answer. No call takes memory from an allocator.
+//! names its next call and takes its answer; an entry is taken in at each look at the clock that did not go back (`answer`), and
+//! `standing` is what the log says. `Notices` are told of each call, and change nothing. No call takes memory from an allocator.
 #![tactic(auto)]
 
 mod asked;
