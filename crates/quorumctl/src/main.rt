@@ -4,7 +4,6 @@
 #![tactic(auto)]
 
 mod cluster;
-mod files;
 mod images;
 mod input;
 mod journals;
