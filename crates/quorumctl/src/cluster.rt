@@ -10,7 +10,7 @@ use qn_control::{
 use qn_usage::{file_of, has_word, value_of};
 use std::alloc::{AllocError, Global};
 use std::fs::File;
-use std::net::Net;
+use std::net::{Net, TcpStream};
 use std::rt::Files;
 use std::time::Clock;
 
@@ -36,10 +36,9 @@ struct Seen {
 }
 
 /// `status`: the words are those of the command. The exit status is the verdict's, and that of an unknown state where there is trouble.
-pub fn status<R: Files<File = File> + Net + Clock + Print + Eprint + AllocGlobal>(
-    rt: &R,
-    words: &[String],
-) -> u8 {
+pub fn status<
+    R: Files<File = File> + Net<Stream = TcpStream> + Clock + Print + Eprint + AllocGlobal,
+>(rt: &R, words: &[String]) -> u8 {
     let ended = if has_word(words, "--watch") {
         watch(rt, words)
     } else {
@@ -55,10 +54,9 @@ pub fn status<R: Files<File = File> + Net + Clock + Print + Eprint + AllocGlobal
 }
 
 /// Writes what the files say.
-fn look_once<R: Files<File = File> + Net + Clock + Print + AllocGlobal>(
-    rt: &R,
-    words: &[String],
-) -> Result<Verdict, Trouble> {
+fn look_once<
+    R: Files<File = File> + Net<Stream = TcpStream> + Clock + Print + Eprint + AllocGlobal,
+>(rt: &R, words: &[String]) -> Result<Verdict, Trouble> {
     let form = if has_word(words, "--json") {
         Form::Json
     } else if has_word(words, "--prometheus") {
@@ -72,7 +70,7 @@ fn look_once<R: Files<File = File> + Net + Clock + Print + AllocGlobal>(
 }
 
 /// Writes what the files say again and again, until it is interrupted.
-fn watch<R: Files<File = File> + Net + Clock + Print + AllocGlobal>(
+fn watch<R: Files<File = File> + Net<Stream = TcpStream> + Clock + Print + Eprint + AllocGlobal>(
     rt: &R,
     words: &[String],
 ) -> Result<Verdict, Trouble> {
@@ -86,7 +84,7 @@ fn watch<R: Files<File = File> + Net + Clock + Print + AllocGlobal>(
 }
 
 /// Reads the files and the image. The time is read after them, so that no file is of a later one.
-fn see<R: Files<File = File> + Net + Clock + AllocGlobal>(
+fn see<R: Files<File = File> + Net<Stream = TcpStream> + Clock + Eprint + AllocGlobal>(
     rt: &R,
     words: &[String],
 ) -> Result<Seen, Trouble> {
@@ -130,7 +128,7 @@ fn add_unread(
 }
 
 /// Looks at the image; one that cannot be opened, or is none, is a file that cannot be read.
-fn see_image<R: Files<File = File> + Net + Clock + AllocGlobal>(
+fn see_image<R: Files<File = File> + Net<Stream = TcpStream> + Clock + Eprint + AllocGlobal>(
     rt: &R,
     cluster: &mut Cluster,
     path: &str,

@@ -108,7 +108,7 @@ pub fn list<R: Files<File = File> + Net<Stream = TcpStream> + Clock + Print + Ep
 }
 
 /// Looks at an image without settings.
-pub fn look<R: Files<File = File> + Net<Stream = TcpStream> + Clock + AllocGlobal>(
+pub fn look<R: Files<File = File> + Net<Stream = TcpStream> + Clock + Eprint + AllocGlobal>(
     rt: &R,
     path: &str,
 ) -> Result<ImageSeen, Trouble> {
