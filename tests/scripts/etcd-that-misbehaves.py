@@ -2,7 +2,6 @@
 cuts its answer short, answers something else, twice, in pieces, too long or nothing. A command ends with a fault line and status 8, or did
 its whole work, and what it writes is then as over a good one; a node does not open, or is ended by its machine; nothing is lost, and never two hold."""
 import concurrent.futures
-import pathlib
 import random
 import subprocess
 import sys
