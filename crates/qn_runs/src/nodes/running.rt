@@ -49,7 +49,15 @@ pub fn told_text(alloc: Global, case: &Case) -> Option<String> {
     let settings = case.settings.as_str();
     let words = case.words()?;
     let images = NodeImages::One;
-    run_node(alloc, images, settings, words, &mut env, &mut end, &mut telling)?;
+    run_node(
+        alloc,
+        images,
+        settings,
+        words,
+        &mut env,
+        &mut end,
+        &mut telling,
+    )?;
     String::from_str(alloc, telling.text()).ok()
 }
 
@@ -105,7 +113,15 @@ pub fn record<E: Env, L: Sink, O: Sink>(
 {
     let mut recorder = Recorder::new(env, log);
     let images = NodeImages::One;
-    run_node(alloc, images, settings, words, &mut recorder, end, &mut NoNotices)
+    run_node(
+        alloc,
+        images,
+        settings,
+        words,
+        &mut recorder,
+        end,
+        &mut NoNotices,
+    )
 }
 
 /// Runs the node over the outside, and writes how it ended.
