@@ -28,7 +28,7 @@ def rows(heading):
 def is_there(text, name):
     """Whether a function, a type, a clause or a field of a record has that name there."""
     last = re.escape(name.split("::")[-1])
-    return re.search(r"\b(fn|struct|enum|trait|type|ensures|requires|record|data) %s\b|^\s+pub %s :|^abbrev pub %s\b" % (last, last, last), text, re.M)
+    return re.search(r"\b(fn|struct|enum|trait|type|ensures|requires|record|data) %s\b|^\s*pub %s :|^abbrev pub %s\b" % (last, last, last), text, re.M)
 
 
 def look(crate, text, cell):
