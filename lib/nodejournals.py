@@ -36,6 +36,8 @@ class Lanes:
         maker, words = self.makers[line.ident], line.words
         if line.event == "phase":
             maker.state("phase", words["to"] if words["to"] in PHASES else None, point)
+            if words["to"] == "off":
+                maker.state("quorate", None, point)
         elif line.event == "open" and words.get("ok") == "yes":
             maker.state("phase", "booting", point)
         elif line.event in ("hold-won", "hold-lost"):

@@ -401,6 +401,20 @@ def told_of(record, ids, ident):
     return node.lines
 
 
+def has_plain_votes(settings):
+    """Whether a settings text says nothing of votes but who the nodes are."""
+    return not re.search(r"^\s*(quorum_votes|expected_votes|votes|two_node|wait_for_all|last_man_standing|auto_tie_breaker\w*|device)\b", settings, re.M)
+
+
+def journal_of(record, ids, ident):
+    """The journal of a record, by the ticks of the node in place of the time."""
+    lines = []
+    for line in told_of(record, ids, ident):
+        tick = int(re.match(r"tick=(\d+)", line)[1])
+        lines.append("quorumd: node=%d time=%d.%03d %s\n" % (ident, tick // 1000, tick % 1000, line))
+    return "".join(lines)
+
+
 def said_in(journal):
     """The same lines of a journal."""
     lines = [line for line in journal.splitlines() if line.startswith("quorumd: node=")]

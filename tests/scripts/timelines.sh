@@ -38,9 +38,9 @@ refused() {
     grep -qE "$pattern" errors || { printf 'timeline %s: %s\n' "$*" "$(cat errors)"; exit 1; }
 }
 
-refused 2 '^usage: timeline \[--title TITLE\] \[--three-images | --arbiter | --journal | --record\] \[FILE\]' --colour < "$TOP/examples/letting-time-pass.schedule"
-refused 2 '^usage: timeline \[--title TITLE\] \[--three-images | --arbiter | --journal | --record\] \[FILE\]' one two
-refused 2 '^usage: timeline \[--title TITLE\] \[--three-images | --arbiter | --journal | --record\] \[FILE\]' no-such-file
+refused 2 '^usage: timeline \[--title TITLE\] \[--three-images | --arbiter | --journal | --record \[--id ID --settings CONF\]\] \[FILE\]' --colour < "$TOP/examples/letting-time-pass.schedule"
+refused 2 '^usage: timeline \[--title TITLE\] \[--three-images | --arbiter | --journal | --record \[--id ID --settings CONF\]\] \[FILE\]' one two
+refused 2 '^usage: timeline \[--title TITLE\] \[--three-images | --arbiter | --journal | --record \[--id ID --settings CONF\]\] \[FILE\]' no-such-file
 refused 4 '^timeline: fault BadSchedule line 1 Unended$' < /dev/null
 refused 3 '^timeline: fault BadConf ' < <(printf 'nodelist {\n----\n')
 refused 5 '^timeline: fault NotAllowed line 19 rule 1$' < <(sed '1,/^boot/!d' "$TOP/examples/letting-time-pass.schedule"; echo 'pass 5051')
@@ -108,6 +108,21 @@ for line in 'now x' 'feed' 'FEED ok' '' 'read 1 0G' 'left clean'; do
     refused 2 "^timeline: line 2: $line: no line of a record$" --record < <(printf 'now 1\n%s\nnow 2\n' "$line")
 done
 refused 2 '^usage: timeline ' --record --journal record
+
+# the record of a node that ran, with its settings: what its journal says is drawn, and no more
+"$QUORUMD" create --image node.disk < "$TOP/examples/one-node.conf" > /dev/null 2>&1
+touch node.watchdog node.resource
+"$QUORUMD" node-logged --id 1 --image node.disk --watchdog node.watchdog --resource node.resource --port "$((20000 + RANDOM % 10000))" --turns 40 --leave 20 \
+    < "$TOP/examples/one-node.conf" > ran 2> said
+timeline --title one --record --id 1 --settings "$TOP/examples/one-node.conf" ran > drawn.svg
+grep -v event=open said | timeline --title one --journal > wanted.svg
+grep -q 'view 1' drawn.svg
+grep -q '1/1' drawn.svg
+same "$(grep -o 'data-kind=.*' drawn.svg)" "$(grep -o 'data-kind=.*' wanted.svg)"
+refused 2 '^timeline: --id 2: no node of ' --record --id 2 --settings "$TOP/examples/one-node.conf" ran
+refused 2 ': settings that say something of votes: draw the journal of the node$' --record --id 1 --settings "$TOP/examples/two-node.conf" ran
+refused 2 '^usage: timeline ' --record --id 1 ran
+refused 2 '^usage: timeline ' --journal --id 1 --settings "$TOP/examples/one-node.conf" said
 
 # it can be called itself, and through a link
 ln -s "$TOP/bin/timeline" link
