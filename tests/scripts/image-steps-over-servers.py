@@ -1,9 +1,10 @@
-"""The same steps on an image in a file and on one in an etcd cluster: the same answers, and the same sectors. What differs is a file's own, and stands
-in a table with its reason: exactly these steps differ."""
+"""The same steps on an image in a file and on one in an etcd cluster, and on one behind a block server: the same answers, and the same sectors. What
+differs is a file's own, and stands in a table with its reason: exactly these steps differ."""
 import contextlib
 import os
 import pathlib
 import resource
+import shutil
 import subprocess
 import sys
 
@@ -11,12 +12,17 @@ import etcd
 import live
 from live import same, try_all
 
-if not etcd.is_there():
-    print("skipped: no etcd (Debian: etcd-server)")
-    sys.exit(0)
-
 TOP = pathlib.Path(os.environ["TOP"])
-HOST = etcd.servers()[0].host
+HOST, SERVERS = "", []  # where an etcd is, and the scripts that run a command over a server
+if etcd.is_there():
+    HOST = etcd.servers()[0].host
+    SERVERS.append("over-etcd")
+else:
+    print("skipped: no etcd (Debian: etcd-server)")
+if shutil.which("nbdkit"):
+    SERVERS.append("over-nbd")
+else:
+    print("skipped: no nbdkit (Debian: nbdkit)")
 ONE, TWO, MANY = ("".join(["nodelist {\n", *("node {\nnodeid: %d\n}\n" % (number + 1) for number in range(count)), "}\n"]).encode() for count in (1, 2, 32))
 SLOT = b"SLOT".ljust(512, b"\1")
 
@@ -39,8 +45,8 @@ CASES = {
         ("create", TWO, 512 * 512), ("dump",), ("create", TWO), ("message", "--id", "2", "--kind", "off", 513 * 512), ("list",),
     ]),
 }
-FOLDER = "a file needs a folder, and a prefix of keys none"
-LIMIT = "the system limits how long a file gets, and no key"
+FOLDER = "a file needs a folder, and a prefix of keys and an export none"
+LIMIT = "the system limits how long a file gets, and no key and no export"
 DIFFERS = {
     ("no folder", 1): FOLDER, ("no folder", 2): FOLDER, ("no folder", 3): FOLDER, ("no folder", 4): FOLDER,
     ("a limit on a file", 1): LIMIT, ("a limit on a file", 2): LIMIT, ("a limit on a file", 4): LIMIT, ("a limit on a file", 5): LIMIT,
@@ -49,7 +55,7 @@ DIFFERS = {
 
 def limited(limit):
     if limit:
-        resource.setrlimit(resource.RLIMIT_FSIZE, (limit, limit))
+        resource.setrlimit(resource.RLIMIT_FSIZE, (limit, resource.getrlimit(resource.RLIMIT_FSIZE)[1]))
 
 
 def called(program, image, step):
@@ -80,21 +86,22 @@ def stepped(program, image, step):
     return said, found
 
 
-def case(name):
+def case(name, server):
     place, steps = CASES[name]
-    programs = {"file": [live.QUORUMD], "cluster": [sys.executable, "-B", str(TOP / "tests" / "over-etcd")]}
-    images = {kind: pathlib.Path(name.replace(" ", "-"), kind).absolute() / place for kind in programs}
+    programs = {"file": [live.QUORUMD], "server": [sys.executable, "-B", str(TOP / "tests" / server)]}
+    images = {kind: pathlib.Path(server, name.replace(" ", "-"), kind).absolute() / place for kind in programs}
     for image in images.values():
         (image.parent if place == "image" else image.parent.parent).mkdir(parents=True)
     for number, step in enumerate(steps, 1):
         one, other = (stepped(programs[kind], images[kind], step) for kind in programs)
         wanted = (name, number) in DIFFERS
-        same("%s, step %d differs: %r and %r" % (name, number, one[0], other[0]), one != other, wanted)
+        same("%s: %s, step %d differs: %r and %r" % (server, name, number, one[0], other[0]), one != other, wanted)
 
 
 def steps_of_all():
-    for name in CASES:
-        case(name)
+    for server in SERVERS:
+        for name in CASES:
+            case(name, server)
 
 
 try_all(steps_of_all)
