@@ -19,7 +19,7 @@ begun() {
     set_up "$1" || return 1
     for number in 2 3; do qemu_words "$number" 0 > "$room/qemu.$number"; done
     for number in 1 2 3; do tell power "$number"; done
-    until_true 120 saw 1 'event=open port' || return 1
+    until_true 120 saw 1 'event=open port.* ok=yes' || return 1
     for number in 2 3; do
         until_true 120 boots "$number" 1 || return 1
         order "$number" 'touch /run/begin'
