@@ -1,8 +1,11 @@
 """`quorumctl status` and `quorumctl history` over three nodes that run: a boot, a message, a holder that stands still and is taken over
-from, an exit, a boot again, and what their journals tell of all of it."""
+from, an exit, a boot again, and what their journals tell of all of it; and nodes that wait for a view, for all, for a holder and for an answer."""
+import json
 import os
+import pathlib
 import signal
 import subprocess
+import time
 
 from live import Cluster, Wrong, same, try_all, wait_for
 
@@ -87,4 +90,69 @@ def life_of_a_cluster():
             raise Wrong("%r is not told, or not in its place: %r" % (sentence, told))
 
 
-try_all(life_of_a_cluster)
+def why(cluster, ident):
+    """What blocks the start of a node, by its own file; None where it has not written one yet."""
+    path = status_file(cluster, ident)
+    return row(quorumctl("status", path)[1], ident)[-1] if os.path.exists(path) else None
+
+
+def blocked_by(cluster, ident, wanted):
+    wait_for("node %d says %s" % (ident, wanted), lambda: why(cluster, ident) == wanted)
+
+
+def is_once_blocked_by(cluster, ident, wanted):
+    """Whether a node says that within ten seconds, though not for long."""
+    before = time.monotonic() + 10
+    while time.monotonic() < before:
+        if why(cluster, ident) == wanted:
+            return True
+    return False
+
+
+def tried_again(name, attempt):
+    """Attempts, in a cluster of its own each, what a slow machine can miss."""
+    for number in range(5):
+        if attempt(Cluster("%s-%d" % (name, number))):
+            return
+    raise Wrong("%s: not seen in five attempts" % name)
+
+
+def waits_for_all(cluster):
+    """A node alone under wait_for_all: it has no view at first, and then waits."""
+    settings = cluster.folder / "conf"
+    settings.write_text(settings.read_text().replace("corosync_votequorum\n", "corosync_votequorum\nwait_for_all: 1\n"))
+    node = started(cluster, 1)
+    is_seen = is_once_blocked_by(cluster, 1, "no-view")
+    comes_to(cluster, 2, "no owner: 1 wait-for-all", ids=(1,))
+    node.kill()
+    return is_seen
+
+
+def held_by_another():
+    """The chosen node of a view in which another one holds."""
+    cluster = Cluster("held")
+    nodes = [started(cluster, ident) for ident in (2, 3)]
+    blocked_by(cluster, 2, "holding")
+    nodes.append(started(cluster, 1))
+    blocked_by(cluster, 1, "held-by:2")
+    lines = comes_to(cluster, 0, "quorumd healthy: node 2 holds")
+    same("all three", [row(lines, ident)[2] for ident in IDS], ["no", "yes", "no"])
+    comes_to(cluster, 1, "held-by:2", ids=(1,))
+    for node in nodes:
+        node.kill()
+
+
+def unheard(cluster):
+    """A member of the first view that stands still since before it, and answers nothing."""
+    nodes = [started(cluster, ident) for ident in (1, 2)]
+    path = pathlib.Path(status_file(cluster, 1))
+    wait_for("node 1 hears node 2", lambda: path.exists() and json.loads(path.read_text())["peers"][0]["hello_tick"] is not None)
+    time.sleep(1)
+    nodes[1].kill(signal.SIGSTOP)
+    is_seen = is_once_blocked_by(cluster, 1, "unheard:2")
+    for node in nodes:
+        node.kill()
+    return is_seen
+
+
+try_all(life_of_a_cluster, held_by_another, lambda: tried_again("waits", waits_for_all), lambda: tried_again("unheard", unheard))
