@@ -102,7 +102,7 @@ for line in (TOP / "crates.txt").read_text().splitlines():
         crate, used = line.split(":")
         libraries[crate.split()[0]] = used.split()
 libraries = {crate: [other for other in used if other in libraries] for crate, used in libraries.items()}
-programs = ("quorumd", "quorumctl", "qn_vectors", "qn_runs", "qn_soak_nodes", "qn_loopback")
+programs = ("quorumd", "quorumctl", "qn_tests", "qn_soak_nodes")
 running = sorted(set().union(*(below(program, libraries) for program in programs)))
 
 crates = []

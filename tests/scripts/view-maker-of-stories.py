@@ -32,7 +32,7 @@ def answer(member, word, values):
     sys.exit("a row of no kind: %s" % word)
 
 
-lines = (TOP / "crates/qn_vectors/stdin").read_text().splitlines()
+lines = (TOP / "crates/qn_tests/stdin").read_text().splitlines()
 rows = [line.split("\t")[1:] for line in lines if line.startswith("maker\t")]
 wrong, member = [], None
 for number, (call, wanted) in enumerate(rows, 1):

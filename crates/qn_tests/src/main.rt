@@ -1,0 +1,54 @@
+//! The tests of the repository that are one program. What each part of them tries is read from standard input, in parts: a line `part NAME` begins
+//! one, and each module says what the lines of its part are.
+//!
+//!     part rows       rows that were worked out elsewhere, through public calls: `rows`
+//!     part nodes      runs of a node, call by call, that were worked out elsewhere: `nodes`
+//!     part faults     runs of `top` over an outside of which calls fail: `faults`
+//!     part sockets    nodes over real files and sockets: `sockets`
+//!
+//! With words it does one of these in place of that, for `bench/node`, `bench/live` and `bench/audit`:
+//!
+//!     qn_tests show           reads one history, and writes what comes out of each entry
+//!     qn_tests steps N        reads one history, hands it N times to a new node, and writes how many outputs there were
+//!     qn_tests plain N        reads one history, evaluates each of its first N beginnings from the whole list, and writes that number
+//!     qn_tests turns N        runs a node for N turns over an outside that never fails and hears nothing, and writes how that ends
+//!     qn_tests turns N three  the same on three images
+//!     qn_tests turns N log    the same on one image; it writes what an audit of the run reads
+//!
+//! A word, a part or a line that is none of these ends it with an error, but for a row: of one that is none it says that its form differs.
+//!
+//! Promises: what `rows::history` promises of the lines of a recorded history, and what the doubles of the outside promise, which fail, answer
+//! and tell exactly by their script; nothing else. It is a test: what it is run on, and what it must write, stand beside it.
+#![tactic(auto)]
+
+mod doubles;
+mod faults;
+mod nodes;
+mod part;
+mod rows;
+mod sockets;
+mod words;
+
+use nodes::timed::time_turns;
+use part::run_parts;
+use rows::recorded::{show, time_plain, time_steps};
+use std::{env, io};
+use words::{at_fault, number_in};
+
+fn main(rt: HostRuntime) -> io::Result<()> {
+    let mut words = env::args(&rt)?;
+    let _program = words.next();
+    let Some(task) = words.next() else {
+        return run_parts(&rt);
+    };
+    let (count, how) = (words.next(), words.next());
+    let count = count.as_ref().map_or("0", String::as_str);
+    let how = how.as_ref().map_or("one", String::as_str);
+    match task.as_str() {
+        "show" => show(&rt),
+        "steps" => time_steps(&rt, number_in(count)?),
+        "plain" => time_plain(&rt, number_in(count)?),
+        "turns" => time_turns(&rt, number_in(count)?, how),
+        _ => Err(at_fault("no task of that name")),
+    }
+}

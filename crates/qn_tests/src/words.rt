@@ -1,0 +1,117 @@
+//! What lines are made of: their words, and the numbers, ids, ranks, truths, members, bytes and texts that words are.
+ghost use Rattle.std.specs.Prelude.{◌≡◌, ◌<◌, ◌^◌, ℕ, Bool, Some, IfSome, IsSome};
+ghost use Rattle.qn_base.specs.Decimal.{number_of};
+ghost use Rattle.qn_base.specs.Text.{yes_no};
+
+use qn_base::{Mask, NodeId, Rank, View, read_decimal};
+use std::alloc::{AllocError, Global};
+use std::io::{self, ErrorKind};
+
+/// The first word, and what follows it.
+pub fn first_word(words: &str) -> (&str, &str) {
+    words.split_once(' ').unwrap_or((words, ""))
+}
+
+/// The text that stands in a line with `|` for each end of a line.
+pub fn text_of(alloc: Global, line: &str) -> Result<String, AllocError> {
+    line.replace(alloc, '|', "\n")
+}
+
+/// Bytes as hex digits, `-` for none.
+pub fn bytes_of(alloc: Global, digits: &str) -> Option<Vec<u8>> {
+    hex::decode(alloc, digits.strip_prefix('-').unwrap_or(digits)).ok()
+}
+
+/// What is wrong with a word or a line.
+pub fn at_fault(why: &'static str) -> io::Error {
+    io::Error::new(ErrorKind::InvalidInput, why)
+}
+
+/// A number of 64 bits, of a word that has to be one.
+pub fn number_in(word: &str) -> io::Result<u64> {
+    match read_number(word) {
+        Some(number) => Ok(number),
+        None => Err(at_fault("a word that is no number")),
+    }
+}
+
+/// A number of 64 bits.
+pub fn read_number(word: &str) -> Option<u64>
+    ensures { result ≡ number_of word.now }
+{
+    read_decimal(word.as_bytes())
+}
+
+/// A number of 32 bits.
+pub fn read_small_number(word: &str) -> Option<u32>
+    ensures value { IfSome result (λ number. number_of word.now ≡ Some number) }
+    ensures succeeds { (number : ℕ) → number_of word.now ≡ Some number → number < 2 ^ 32
+        → IsSome result }
+{
+    u32::try_from(read_number(word)?).ok()
+}
+
+/// A number of bytes: one of 32 bits.
+pub fn read_size(word: &str) -> Option<usize> {
+    Some(read_small_number(word)? as usize)
+}
+
+/// The id of a node: a number of 32 bits.
+pub fn read_node_id(word: &str) -> Option<NodeId>
+    ensures value { IfSome result (λ id. number_of word.now ≡ Some id.0) }
+    ensures succeeds { (number : ℕ) → number_of word.now ≡ Some number → number < 2 ^ 32
+        → IsSome result }
+{
+    Some(NodeId(read_small_number(word)?))
+}
+
+/// A number of 8 bits.
+pub fn read_byte(word: &str) -> Option<u8>
+    ensures value { IfSome result (λ byte. number_of word.now ≡ Some byte) }
+    ensures succeeds { (number : ℕ) → number_of word.now ≡ Some number → number < 2 ^ 8
+        → IsSome result }
+{
+    u8::try_from(read_number(word)?).ok()
+}
+
+/// A rank: a number of 8 bits. One that is no rank of a mask, 32 or more, may stand in an entry that does not fit.
+pub fn read_rank(word: &str) -> Option<Rank>
+    ensures value { IfSome result (λ rank. number_of word.now ≡ Some rank.0) }
+    ensures succeeds { (number : ℕ) → number_of word.now ≡ Some number → number < 2 ^ 8
+        → IsSome result }
+{
+    Some(Rank(read_byte(word)?))
+}
+
+/// `yes` or `no`.
+pub fn read_truth(word: &str) -> Option<bool>
+    ensures value { IfSome result (λ truth. word.now ≡ yes_no truth) }
+    ensures succeeds { (truth : Bool) → word.now ≡ yes_no truth → IsSome result }
+{
+    match word {
+        "yes" => Some(true),
+        "no" => Some(false),
+        _ => None,
+    }
+}
+
+/// A view: its number and its members.
+pub fn read_view(id: &str, members: &str) -> Option<View>
+    ensures id { IfSome result (λ view. number_of id.now ≡ Some view.id) }
+{
+    let id = read_number(id)?;
+    let members = read_members(members)?;
+    Some(View { id, members })
+}
+
+/// The members of a view: ranks below 32, joined by commas.
+pub fn read_members(text: &str) -> Option<Mask> {
+    let mut members = Mask(0);
+    for word in text.split(',') {
+        match read_rank(word) {
+            Some(rank) if rank.0 < 32 => members = members.with(rank),
+            _ => return None,
+        }
+    }
+    Some(members)
+}
