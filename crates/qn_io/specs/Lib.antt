@@ -1,11 +1,11 @@
 pub mod Admission
 pub mod Answered
+pub mod Counts
 pub mod EventLines
 pub mod EventTexts
 pub mod Exchanges
 pub mod Halts
 pub mod Lines
-pub mod Memory
 pub mod NextLines
 pub mod Openings
 pub mod Orders
@@ -15,8 +15,6 @@ pub mod Places
 pub mod Reads
 pub mod Receives
 pub mod Refusals
-pub mod Scripted
 pub mod Streams
-pub mod Telling
 pub mod WatchdogTimes
 pub mod Writes

@@ -4,7 +4,7 @@ use Rattle.qn_seal.specs.declared.receiver.Refused.TheVariants.{Unsealed, Astray
 use Rattle.qn_io.specs.declared.admission.Reason.{Reason}
 use Rattle.qn_io.specs.declared.admission.Reason.TheVariants.{Elsewhere, Sealed}
 use Rattle.qn_io.specs.declared.refusals.Refusals.{Refusals}
-use Rattle.qn_io.specs.Memory.{one_more}
+use Rattle.qn_io.specs.Counts.{one_more}
 
 -- one more that was not handed on for that reason
 abbrev pub counted : Refusals → Reason → Refusals

@@ -3,9 +3,9 @@
 //!
 //! Promises: whatever a source, a sink or an outside does, its count of faults never falls, and a call
 //! answers `Failed` only where that count rose. Bytes that are told come and go whole and in order; calls
-//! that are told are exactly the calls that were made, with their answers. The objects in memory do exactly
-//! what their scripts say. No file is opened under the descriptor of a standard stream. `StdSource`, `StdSink` and
-//! `RealEnv` are the trusted edge: they tell nothing, and no clause says what a file, a stream or a clock gives.
+//! that are told are exactly the calls that were made, with their answers. No file is opened under the
+//! descriptor of a standard stream. `StdSource`, `StdSink` and `RealEnv` are the trusted edge: they tell nothing, and
+//! no clause says what a file, a stream or a clock gives.
 #![tactic(auto)]
 
 mod admission;
@@ -18,13 +18,11 @@ mod deadline;
 mod devices;
 mod disk;
 mod edge;
-mod env_memory;
 mod error_lines;
 mod etcd_exchange;
 mod etcd_image;
 mod etcd_word;
 mod event_line;
-mod failing;
 mod feeding;
 mod file_size_limit;
 mod halt_file;
@@ -33,7 +31,6 @@ mod image_file;
 mod image_reader;
 mod image_word;
 mod lines;
-mod memory;
 mod moment;
 mod named_file;
 mod nbd_image;
@@ -41,19 +38,15 @@ mod network;
 mod next_line;
 mod outside;
 mod peers;
-mod quiet;
 mod real;
 mod refusals;
 mod replaced_file;
 mod reported;
 mod resource;
-mod scripted;
 mod sealing;
-mod sectors;
 mod server_times;
 mod standard;
 mod start_ids;
-mod told;
 mod waiting;
 mod watchdog;
 mod watchdog_look;
@@ -65,7 +58,6 @@ pub use agent::ask_over;
 pub use buffered::{LINE, Next, PIECE, Pieces};
 pub use calls::{Env, Got, Opening, PACKET, SECTOR, SECTORS, SENT_PACKET};
 pub use edge::{Edge, Guard, MOST_NODES};
-pub use env_memory::MemEnv;
 pub use error_lines::Lines;
 pub use etcd_exchange::{ANSWER, exchange};
 pub use event_line::{EVENT_WORDS, EventLine};
@@ -73,17 +65,14 @@ pub use feeding::feed_once;
 pub use halt_file::put_halt;
 pub use image_reader::ImageReader;
 pub use lines::{LineRead, read_line};
-pub use memory::{MemSink, MemSource};
 pub use moment::Moment;
 pub use nbd_image::{Request, ask_server};
 pub use next_line::{NextLine, read_next};
 pub use outside::{Sink, Source};
 pub use peers::Peers;
-pub use quiet::QuietEnv;
 pub use real::RealEnv;
 pub use replaced_file::ReplacedFile;
 pub use resource::Order;
-pub use scripted::Script;
 pub use standard::{StdSink, StdSource};
 pub use watchdog_time::{is_time_safe, seconds_of, watchdog_of};
 pub use whole::put_all;

@@ -1,6 +1,6 @@
 //! The seal of the packets that a node sends.
 ghost use Rattle.std.specs.Prelude.{◌≡◌, ◌+◌, ◌<◌, ◌≤◌, ◌-◌, ◌^◌, IfOk, OnOk, OnErr, length, min};
-ghost use Rattle.qn_io.specs.Memory.{one_more};
+ghost use Rattle.qn_io.specs.Counts.{one_more};
 ghost use Rattle.qn_seal.specs.Seals.{sealed};
 
 use arrayvec::ArrayVec;

@@ -1,2 +1,5 @@
 pub mod Keys
+pub mod Memory
+pub mod Scripted
+pub mod Telling
 pub mod Words

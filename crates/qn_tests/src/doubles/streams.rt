@@ -1,9 +1,6 @@
-//! Inputs, outputs and images in memory.
-use qn_io::{MemSink, MemSource};
+//! Inputs and outputs in memory of which one call fails.
+use super::memory::{MemSink, MemSource};
 use std::alloc::{AllocError, Global};
-
-/// How many sectors an image has.
-pub const IMAGE_SECTORS: u32 = 1024;
 
 /// An input that is this text and comes in pieces of so many bytes, at least one. The read of that number fails; 0 is none.
 pub fn input_of(

@@ -2,7 +2,7 @@
 ghost use Rattle.std.specs.Prelude.{◌≤◌, OnErr};
 ghost use Rattle.qn_base.specs.Faults.{HasRisen};
 
-use crate::doubles::streams::IMAGE_SECTORS;
+use crate::doubles::sectors::IMAGE_SECTORS;
 use qn_base::{Failed, Rank};
 use qn_io::{Env, Got, Opening, PACKET, SECTOR, SECTORS};
 use std::alloc::{AllocError, Global};

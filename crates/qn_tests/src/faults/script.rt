@@ -1,8 +1,8 @@
 //! The steps that are read, and what they set.
+use crate::doubles::memory::{MemSink, MemSource};
 use crate::doubles::streams::{input_of, output_of};
 use crate::faults::outside::{Counts, Loss, Outside};
 use crate::words::{at_fault, first_word, number_in, text_of};
-use qn_io::{MemSink, MemSource};
 use qn_live::NoNotices;
 use qn_top::top;
 use std::alloc::{AllocError, Global};

@@ -2,6 +2,8 @@
 //! the exit status, and the line that the node writes at its end.
 ghost use Rattle.std.specs.Prelude.{◌≤◌};
 
+use crate::doubles::memory::MemSink;
+use crate::doubles::quiet::QuietEnv;
 use crate::doubles::streams::{input_of, output_of};
 use crate::nodes::case::Case;
 use crate::nodes::played::Played;
@@ -10,7 +12,7 @@ use crate::nodes::telling::Telling;
 use crate::words::read_number;
 use qn_audit::Recorder;
 use qn_commands::{NodeImages, NodeWords, Status, create, node};
-use qn_io::{Env, MemSink, PIECE, QuietEnv, Sink};
+use qn_io::{Env, PIECE, Sink};
 use qn_live::{NoNotices, Notices};
 use qn_model::Timing;
 use sha2::{Digest, Sha256};

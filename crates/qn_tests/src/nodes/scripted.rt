@@ -1,7 +1,9 @@
 //! An outside in memory that answers as a log does, but for one call.
+use crate::doubles::env_memory::MemEnv;
+use crate::doubles::scripted::Script;
 use crate::nodes::case::Case;
 use qn_audit::read_call;
-use qn_io::{Env, Got, MemEnv, PACKET, SECTORS, Script};
+use qn_io::{Env, Got, PACKET, SECTORS};
 use qn_live::{Asked, Room};
 use std::alloc::Global;
 

@@ -1,13 +1,15 @@
 //! Runs of the first of three nodes that are timed, over an outside that never fails and hears nothing.
 ghost use Rattle.std.specs.Prelude.{◌≤◌};
 
-use crate::doubles::streams::{IMAGE_SECTORS, output_of};
+use crate::doubles::quiet::QuietEnv;
+use crate::doubles::sectors::IMAGE_SECTORS;
+use crate::doubles::streams::output_of;
 use crate::nodes::case::node_words;
 use crate::nodes::running::{MOST_END_BYTES, quiet_outside, record, run_node};
 use crate::words::at_fault;
 use qn_base::{Failed, NodeId};
 use qn_commands::{NodeImages, NodeWords};
-use qn_io::{Env, QuietEnv, SECTOR, Sink, StdSink, put_all};
+use qn_io::{Env, SECTOR, Sink, StdSink, put_all};
 use qn_live::NoNotices;
 use std::alloc::Global;
 use std::io;

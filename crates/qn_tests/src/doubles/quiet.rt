@@ -1,7 +1,7 @@
 //! An outside in memory in which nothing fails and nobody sends.
-use crate::calls::{Env, Got, Opening, PACKET, SECTOR};
-use crate::sectors::Sectors;
+use super::sectors::Sectors;
 use qn_base::{Failed, NoMemory, Rank};
+use qn_io::{Env, Got, Opening, PACKET, SECTOR};
 use std::alloc::Global;
 use std::marker::Model;
 
@@ -14,7 +14,7 @@ pub struct QuietEnv {
 }
 
 impl Model for QuietEnv {
-    ghost use Rattle.qn_io.specs.Memory.{Quiet};
+    ghost use Rattle.qn_tests.specs.Memory.{Quiet};
 
     ghost Value = { Quiet };
 
@@ -23,7 +23,7 @@ impl Model for QuietEnv {
 
 impl QuietEnv {
     ghost use Rattle.std.specs.Prelude.{◌≡◌, IfOk};
-    ghost use Rattle.qn_io.specs.Memory.{zero_sectors};
+    ghost use Rattle.qn_tests.specs.Memory.{zero_sectors};
 
     /// An outside with an image of zeros, for which memory is taken here.
     pub fn new(alloc: Global) -> Result<QuietEnv, NoMemory>
@@ -36,7 +36,7 @@ impl QuietEnv {
 
 impl Env for QuietEnv {
     ghost use Rattle.std.specs.Prelude.{◌≡◌, ◌*◌, ◌<◌, ◌≤◌, None, Some, Ok, length, min, slice_get, slice_set};
-    ghost use Rattle.qn_io.specs.Memory.{one_more};
+    ghost use Rattle.qn_io.specs.Counts.{one_more};
 
     ghost faults = { λ _. 0 };
 

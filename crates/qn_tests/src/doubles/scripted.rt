@@ -1,7 +1,7 @@
 //! The scripts of an outside in memory: its ticks and the packets that come.
 ghost use Rattle.std.specs.Prelude.{◌≡◌, ◌≤◌, take};
 
-use crate::calls::{Got, PACKET};
+use qn_io::{Got, PACKET};
 use std::marker::Model;
 
 /// What one call of `receive` gives by a script.
@@ -13,7 +13,7 @@ pub enum Script {
 
 /// Ticks that are answered in order, and then the last one again and again.
 #[derive(Drop)]
-pub(crate) struct Ticks {
+pub struct Ticks {
     ticks: Vec<u64>,
     at: usize,
     last: u64,
@@ -21,7 +21,7 @@ pub(crate) struct Ticks {
 
 impl Model for Ticks {
     ghost use Rattle.std.specs.Prelude.{◌≤◌, length, drop};
-    ghost use Rattle.qn_io.specs.Scripted.{TickScript};
+    ghost use Rattle.qn_tests.specs.Scripted.{TickScript};
 
     ghost Value = { TickScript };
 
@@ -32,9 +32,9 @@ impl Model for Ticks {
 
 impl Ticks {
     ghost use Rattle.std.specs.Prelude.{◌≡◌};
-    ghost use Rattle.qn_io.specs.Scripted.{next_tick};
+    ghost use Rattle.qn_tests.specs.Scripted.{next_tick};
 
-    pub(crate) fn new(ticks: Vec<u64>) -> Ticks
+    pub fn new(ticks: Vec<u64>) -> Ticks
         ensures { result ≡ record { left = ticks.items; last = 0 } }
     {
         Ticks {
@@ -44,7 +44,7 @@ impl Ticks {
         }
     }
 
-    pub(crate) fn next(&mut self) -> u64
+    pub fn next(&mut self) -> u64
         ensures after { self.new ≡ next_tick self.old.left self.old.last }
         ensures value { result ≡ self.new.last }
     {
@@ -58,14 +58,14 @@ impl Ticks {
 
 /// Packets that come in order, and then no more.
 #[derive(Drop)]
-pub(crate) struct Packets {
+pub struct Packets {
     script: Vec<Script>,
     at: usize,
 }
 
 impl Model for Packets {
     ghost use Rattle.std.specs.Prelude.{◌≤◌, List, length, drop};
-    ghost use Rattle.qn_io.specs.declared.scripted.Script.{Script};
+    ghost use Rattle.qn_tests.specs.declared.doubles.scripted.Script.{Script};
 
     ghost Value = { List Script };
 
@@ -77,15 +77,15 @@ impl Model for Packets {
 impl Packets {
     ghost use Rattle.std.specs.Prelude.{◌≡◌, ◌≢◌, drop};
     ghost use Rattle.qn_io.specs.Receives.{FitsPacket, received};
-    ghost use Rattle.qn_io.specs.Scripted.{first_packet};
+    ghost use Rattle.qn_tests.specs.Scripted.{first_packet};
 
-    pub(crate) fn new(script: Vec<Script>) -> Packets
+    pub fn new(script: Vec<Script>) -> Packets
         ensures { result ≡ script.items }
     {
         Packets { script, at: 0 }
     }
 
-    pub(crate) fn next(&mut self, packet: &mut [u8; PACKET]) -> Got
+    pub fn next(&mut self, packet: &mut [u8; PACKET]) -> Got
         ensures within { FitsPacket result }
         ensures answers { result ≢ Got.Failed }
         ensures first { received result packet.new ≡ first_packet self.old }

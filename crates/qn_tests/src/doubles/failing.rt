@@ -1,7 +1,8 @@
 //! Which calls of an object in memory fail, and how many faults there were.
 ghost use Rattle.std.specs.Prelude.{◌≡◌, ℕ, ◌≤◌, ◌↔◌, IsTrue, IsErr, OnErr, Contains, is_ok};
-ghost use Rattle.qn_io.specs.Memory.{Counts, counts_after, one_more};
-ghost use Rattle.qn_io.specs.Outside.{HasRisen};
+ghost use Rattle.qn_io.specs.Counts.{one_more};
+ghost use Rattle.qn_tests.specs.Memory.{Counts, counts_after};
+ghost use Rattle.qn_base.specs.Faults.{HasRisen};
 
 use qn_base::Failed;
 use std::marker::Model;
@@ -9,7 +10,7 @@ use std::marker::Model;
 /// Which calls of an object in memory fail, by their numbers from 1, and how many calls and faults
 /// there were.
 #[derive(Drop)]
-pub(crate) struct Failures {
+pub struct Failures {
     fails: Vec<u64>,
     made: u64,
     faults: u64,
@@ -22,7 +23,7 @@ impl Model for Failures {
 }
 
 impl Failures {
-    pub(crate) fn new(fails: Vec<u64>) -> Failures
+    pub fn new(fails: Vec<u64>) -> Failures
         ensures { result ≡ record { fails = fails.items; made = 0; faults = 0 } }
     {
         Failures {
@@ -33,7 +34,7 @@ impl Failures {
     }
 
     /// Counts a call, and says whether it fails by its number.
-    pub(crate) fn call(&mut self) -> bool
+    pub fn call(&mut self) -> bool
         ensures counted { self.new ≡ record self.old { made = one_more self.old.made } }
         ensures by_number { IsTrue result ↔ Contains self.old.fails self.new.made }
     {
@@ -42,7 +43,7 @@ impl Failures {
     }
 
     /// Counts a fault.
-    pub(crate) fn fault(&mut self) -> Failed
+    pub fn fault(&mut self) -> Failed
         ensures counted { self.new ≡ record self.old { faults = one_more self.old.faults } }
         ensures never_falls { self.old.faults ≤ self.new.faults }
         ensures cause { HasRisen self.old.faults self.new.faults }
@@ -52,7 +53,7 @@ impl Failures {
     }
 
     /// Counts a call that fails exactly by its number.
-    pub(crate) fn done(&mut self) -> Result<(), Failed>
+    pub fn done(&mut self) -> Result<(), Failed>
         ensures by_number { IsErr result ↔ Contains self.old.fails self.new.made }
         ensures counted { self.new ≡ counts_after self.old (is_ok result) }
         ensures never_falls { self.old.faults ≤ self.new.faults }

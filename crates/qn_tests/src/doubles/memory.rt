@@ -1,12 +1,12 @@
 //! An input and an output in memory, which fail at chosen calls.
 ghost use Rattle.std.specs.Prelude.{◌≡◌, ℕ, ◌<◌, ◌≤◌, ◌+◌, ◌-◌, ◌↔◌, [], List, Option, Some, IsErr, IsOk, IfOk, OnErr, Contains, is_ok, ◌⊎◌, min, length, take, drop, vec_len, vec_capacity};
 ghost use Rattle.std.specs.Io.KnownBytes.{prepend_known, append_known, IsAtEnd};
-ghost use Rattle.qn_io.specs.Memory.{counts_after, Input, IsFull, Output};
-ghost use Rattle.qn_io.specs.Outside.{HasRisen};
+ghost use Rattle.qn_tests.specs.Memory.{counts_after, Input, IsFull, Output};
+ghost use Rattle.qn_base.specs.Faults.{HasRisen};
 
-use crate::failing::Failures;
-use crate::outside::{Sink, Source};
+use super::failing::Failures;
 use qn_base::{Failed, NoMemory};
+use qn_io::{Sink, Source};
 use std::alloc::Global;
 use std::marker::Model;
 

@@ -1,7 +1,7 @@
 use Rattle.std.proofs.Common.{◌≡◌, ℕ, ◌≤◌, List, ◌++◌, length, take, min, sym, ap, ◌∙◌, arith}
 use Rattle.std.proofs.Math.Seq.{take-append_seam}
 use Rattle.std.proofs.lemmas.List.{take_min, length-take-le}
-use Rattle.qn_io.proofs.scripted.copy_front.Goals as goal
+use Rattle.qn_tests.proofs.doubles.scripted.copy_front.Goals as goal
 
 -- a list that begins with a prefix of that length
 front_of : (front rest from : List ℕ) (count most : ℕ) → count ≡ min most (length from) → front ≡ take count from → take count (front ++ rest) ≡ take most from

@@ -1,9 +1,6 @@
 -- What the objects in memory are seen as, and what is counted of their calls (this project's profile).
-use Rattle.std.specs.Prelude.{◌≡◌, ℕ, ◌+◌, ◌<◌, Bool, List, length, min, replicate, if◌then◌else◌}
-
--- one more, up to the greatest u64
-abbrev pub one_more : ℕ → ℕ
-one_more count = min (count + 1) 18446744073709551615
+use Rattle.std.specs.Prelude.{◌≡◌, ℕ, ◌<◌, Bool, List, length, replicate, if◌then◌else◌}
+use Rattle.qn_io.specs.Counts.{one_more}
 
 -- the numbers from 1 of the calls that fail, the calls so far and the faults so far
 pub record Counts : Type 0 where

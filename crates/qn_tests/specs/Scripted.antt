@@ -3,10 +3,10 @@ use Rattle.std.specs.Prelude.{ℕ, Bool, List, [], ◌∷◌, take}
 use Rattle.qn_base.specs.declared.calls.Call.{Call}
 use Rattle.qn_base.specs.declared.calls.Received.{Received}
 use Rattle.qn_base.specs.declared.calls.Received.TheVariants as told
-use Rattle.qn_io.specs.declared.scripted.Script.{Script}
-use Rattle.qn_io.specs.declared.scripted.Script.TheVariants as script
-use Rattle.qn_io.specs.Memory.{Counts, counts_after}
-use Rattle.qn_io.specs.Telling.{Telling, telling_after}
+use Rattle.qn_tests.specs.declared.doubles.scripted.Script.{Script}
+use Rattle.qn_tests.specs.declared.doubles.scripted.Script.TheVariants as script
+use Rattle.qn_tests.specs.Memory.{Counts, counts_after}
+use Rattle.qn_tests.specs.Telling.{Telling, telling_after}
 
 -- ticks that are still to be answered, and the last one that was, 0 before the first
 pub record TickScript : Type 0 where

@@ -2,12 +2,12 @@
 ghost use Rattle.std.specs.Prelude.{◌≡◌, ◌≤◌};
 ghost use Rattle.qn_io.specs.Receives.{FitsPacket, received};
 
-use crate::calls::{Env, Got, Opening, PACKET, SECTOR};
-use crate::failing::Failures;
-use crate::scripted::{Packets, Script, Ticks};
-use crate::sectors::Sectors;
-use crate::told::Told;
+use super::failing::Failures;
+use super::scripted::{Packets, Script, Ticks};
+use super::sectors::Sectors;
+use super::told::Told;
 use qn_base::{Bytes, Call, Failed, NoMemory, Rank, Received};
+use qn_io::{Env, Got, Opening, PACKET, SECTOR};
 use std::alloc::Global;
 use std::marker::Model;
 
@@ -23,7 +23,7 @@ pub struct MemEnv {
 }
 
 impl Model for MemEnv {
-    ghost use Rattle.qn_io.specs.Scripted.{Scripted};
+    ghost use Rattle.qn_tests.specs.Scripted.{Scripted};
 
     ghost Value = { Scripted };
 
@@ -32,7 +32,7 @@ impl Model for MemEnv {
 
 impl MemEnv {
     ghost use Rattle.std.specs.Prelude.{◌≡◌, [], Some, None, IfOk, MatchOption};
-    ghost use Rattle.qn_io.specs.Memory.{zero_sectors};
+    ghost use Rattle.qn_tests.specs.Memory.{zero_sectors};
 
     /// An outside with an image of zeros, for which memory is taken here, as for a list of `room`
     /// calls. `now` answers the ticks in order and then the last one, or 0 where there is none;
@@ -81,8 +81,8 @@ impl Env for MemEnv {
     ghost use Rattle.qn_base.specs.Plans.{Made};
     ghost use Rattle.qn_io.specs.Openings.{node_opening};
     ghost use Rattle.qn_io.specs.Receives.{FitsPacket, received};
-    ghost use Rattle.qn_io.specs.Scripted.{after_call, first_packet, next_tick};
-    ghost use Rattle.qn_io.specs.Telling.{telling_after};
+    ghost use Rattle.qn_tests.specs.Scripted.{after_call, first_packet, next_tick};
+    ghost use Rattle.qn_tests.specs.Telling.{telling_after};
 
     ghost faults = { λ e. e.counts.faults };
 

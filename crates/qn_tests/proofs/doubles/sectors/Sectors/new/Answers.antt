@@ -1,7 +1,7 @@
 use Rattle.std.proofs.Common.{◌≡◌, ℕ, List, [], ◌∷◌, ◌++◌, length, replicate, IsOk, ap, ◌∙◌, arith, rules}
 use Rattle.std.proofs.lemmas.List.{length-replicate, replicate_more}
-use Rattle.qn_io.specs.Memory.{zero_sectors}
-use Rattle.qn_io.proofs.sectors.Sectors.new.Goals as goal
+use Rattle.qn_tests.specs.Memory.{zero_sectors}
+use Rattle.qn_tests.proofs.doubles.sectors.Sectors.new.Goals as goal
 
 pub zeros-preserved : goal.zeros-preserved
 zeros-preserved c =

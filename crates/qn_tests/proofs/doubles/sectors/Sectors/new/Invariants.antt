@@ -1,5 +1,5 @@
 use Rattle.std.proofs.Common.{◌≡◌, ◌≤◌, replicate, vec_capacity}
-use Rattle.qn_io.proofs.sectors.Sectors.new.Given as goal
+use Rattle.qn_tests.proofs.doubles.sectors.Sectors.new.Given as goal
 
 -- as many sectors of zeros as turns, and room for all of them
 abbrev pub invariant-zeros : goal.invariant-zeros

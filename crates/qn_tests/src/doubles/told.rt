@@ -1,6 +1,6 @@
 //! The list of the calls that were made, as an outside tells it.
-use crate::calls::Opening;
 use qn_base::{Bytes, Call, NoMemory};
+use qn_io::Opening;
 use std::alloc::Global;
 use std::marker::Model;
 
@@ -10,7 +10,7 @@ const PATH: usize = 256;
 /// The list of the calls that were made, which is told while there is room for it and no path was too
 /// long.
 #[derive(Drop)]
-pub(crate) struct Told {
+pub struct Told {
     calls: Vec<Call>,
     room: usize,
     tells: bool,
@@ -18,7 +18,7 @@ pub(crate) struct Told {
 
 impl Model for Told {
     ghost use Rattle.std.specs.Prelude.{◌≤◌, Some, None, if◌then◌else◌, vec_capacity};
-    ghost use Rattle.qn_io.specs.Telling.{Telling};
+    ghost use Rattle.qn_tests.specs.Telling.{Telling};
 
     ghost Value = { Telling };
 
@@ -32,10 +32,10 @@ impl Told {
     ghost use Rattle.qn_base.specs.declared.calls.Call.TheVariants.{OpenImage};
     ghost use Rattle.qn_base.specs.Plans.{AddsAll};
     ghost use Rattle.qn_io.specs.Openings.{node_opening};
-    ghost use Rattle.qn_io.specs.Telling.{is_tellable, telling_after};
+    ghost use Rattle.qn_tests.specs.Telling.{is_tellable, telling_after};
 
     /// A list with room for that many calls, for which memory is taken here.
-    pub(crate) fn new(alloc: Global, room: usize) -> Result<Told, NoMemory>
+    pub fn new(alloc: Global, room: usize) -> Result<Told, NoMemory>
         ensures { IfOk result (λ told. told ≡ record { room = room; calls = Some [] }) }
     {
         let Ok(calls) = Vec::with_capacity(alloc, room) else {
@@ -49,7 +49,7 @@ impl Told {
     }
 
     /// Adds a call whose paths are not too long.
-    pub(crate) fn add(&mut self, call: Call)
+    pub fn add(&mut self, call: Call)
         requires { is_tellable call ≡ true }
         ensures after { self.new ≡ telling_after self.old call }
         ensures adds { AddsAll self.old.calls self.new.calls (call ∷ []) }
@@ -62,7 +62,7 @@ impl Told {
     }
 
     /// Adds the opening of an image, where its path is not too long.
-    pub(crate) fn add_open_image(&mut self, path: &str, ok: bool)
+    pub fn add_open_image(&mut self, path: &str, ok: bool)
         ensures after { self.new ≡ telling_after self.old (OpenImage path.now ok) }
         ensures adds { AddsAll self.old.calls self.new.calls (OpenImage path.now ok ∷ []) }
     {
@@ -77,7 +77,7 @@ impl Told {
     }
 
     /// Adds the opening of a node, where its paths are not too long.
-    pub(crate) fn add_open_node(&mut self, opening: &Opening<'_>, ok: bool)
+    pub fn add_open_node(&mut self, opening: &Opening<'_>, ok: bool)
         ensures after { self.new ≡ telling_after self.old (node_opening opening.now ok) }
         ensures adds { AddsAll self.old.calls self.new.calls (node_opening opening.now ok ∷ []) }
     {
@@ -100,7 +100,7 @@ impl Told {
     }
 
     /// The calls so far, where they are told.
-    pub(crate) fn calls(&self) -> Option<&[Call]>
+    pub fn calls(&self) -> Option<&[Call]>
         ensures { MatchOption result (self.now.calls ≡ None)
             (λ calls. self.now.calls ≡ Some calls.now) }
     {

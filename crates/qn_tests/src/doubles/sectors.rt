@@ -1,14 +1,17 @@
 //! The sectors of an image in memory.
 ghost use Rattle.std.specs.Prelude.{◌≡◌};
 
-use crate::calls::{SECTOR, SECTORS};
 use qn_base::NoMemory;
+use qn_io::{SECTOR, SECTORS};
 use std::alloc::Global;
 use std::marker::Model;
 
+/// How many sectors one image of three has.
+pub const IMAGE_SECTORS: u32 = 1024;
+
 /// The sectors of an image in memory.
 #[derive(Drop)]
-pub(crate) struct Sectors {
+pub struct Sectors {
     sectors: Vec<[u8; SECTOR]>,
 }
 
@@ -24,10 +27,10 @@ impl Model for Sectors {
 
 impl Sectors {
     ghost use Rattle.std.specs.Prelude.{◌≡◌, ◌<◌, Some, IfOk, length, slice_get, slice_set};
-    ghost use Rattle.qn_io.specs.Memory.{zero_sectors};
+    ghost use Rattle.qn_tests.specs.Memory.{zero_sectors};
 
     /// Sectors of zeros, for which memory is taken here.
-    pub(crate) fn new(alloc: Global) -> Result<Sectors, NoMemory>
+    pub fn new(alloc: Global) -> Result<Sectors, NoMemory>
         ensures { IfOk result (λ sectors. sectors ≡ zero_sectors) }
     {
         let Ok(mut sectors) = Vec::with_capacity(alloc, SECTORS as usize) else {
@@ -39,14 +42,14 @@ impl Sectors {
         Ok(Sectors { sectors })
     }
 
-    pub(crate) fn read(&self, sector: u32, into: &mut [u8; SECTOR])
+    pub fn read(&self, sector: u32, into: &mut [u8; SECTOR])
         requires { sector < 3072 }
         ensures { slice_get self.now sector ≡ Some into.new }
     {
         copy_sector(&self.sectors[sector as usize], into);
     }
 
-    pub(crate) fn write(&mut self, sector: u32, from: &[u8; SECTOR])
+    pub fn write(&mut self, sector: u32, from: &[u8; SECTOR])
         requires { sector < 3072 }
         ensures { self.new ≡ slice_set self.old sector from.now }
     {
