@@ -1,6 +1,6 @@
 //! How the audit of a recorded node ends.
 use qn_conf::ConfFault;
-use qn_head::HeadFault;
+use qn_play::HeadFault;
 use qn_model::LineFault;
 use qn_settings::SettingsFault;
 

@@ -6,7 +6,7 @@ use crate::audit_end::AuditEnd;
 use crate::auditor::Auditor;
 use crate::log::audit_log;
 use qn_base::{NodeId, Rank};
-use qn_head::read_settings;
+use qn_play::read_settings;
 use qn_io::{Pieces, Source};
 use qn_live3::NodeImages;
 use qn_model::{NodeEntry, Nodes};

@@ -14,15 +14,28 @@ mod entries;
 mod events;
 mod first;
 mod hands;
+mod has_nodes;
 mod kept;
+mod leftovers;
 mod looking;
 mod outputs;
 mod packets;
 mod rules;
 mod seat;
+mod sectors;
+mod shows;
+mod steps;
 mod waiting;
+mod world;
 
 pub use cluster::Cluster;
+pub use has_nodes::HasNodes;
+pub use leftovers::{Leftover, Leftovers};
 pub use looking::blank_report;
 pub use rules::unless;
+pub use sectors::Sectors;
+pub use shows::Shows;
+pub use steps::Steps;
 pub use waiting::Waiting;
+pub use world::World;
+

@@ -10,13 +10,23 @@
 //! schedules too.
 #![tactic(auto)]
 
+mod head;
+mod head_fault;
+mod head_line;
 mod lines;
 mod null_sink;
 mod output;
+mod part_text;
 mod plays;
 mod run;
+mod settings_head;
 
+pub use head::{Head, read_head};
+pub use head_fault::HeadFault;
+pub use head_line::read_head_line;
 pub use null_sink::NullSink;
 pub use output::Output;
 pub use plays::Plays;
 pub use run::play;
+pub use settings_head::{SettingsHead, read_settings};
+

@@ -7,12 +7,12 @@ use Rattle.qn_arbiter_sched.specs.EventReading.{arbiter_event_of}
 use Rattle.qn_arbiter_sched.specs.TraceLines.{arbiter_trace_line}
 use Rattle.qn_base.specs.declared.ids.Rank.{Rank}
 use Rattle.qn_base.specs.Members.{is_member}
-use Rattle.qn_head.specs.declared.head.Head.{Head}
-use Rattle.qn_head.specs.Heads.{head_part, line_lines}
-use Rattle.qn_head.specs.HeadLaws as heads
-use Rattle.qn_head.specs.HeadLaws.{TreesAreValid, head_good}
-use Rattle.qn_head.specs.Parts.{Given, then_given}
-use Rattle.qn_head.specs.Replays.{after_head}
+use Rattle.qn_play.specs.declared.head.Head.{Head}
+use Rattle.qn_play.specs.Heads.{head_part, line_lines}
+use Rattle.qn_play.specs.HeadLaws as heads
+use Rattle.qn_play.specs.HeadLaws.{TreesAreValid, head_good}
+use Rattle.qn_play.specs.Parts.{Given, then_given}
+use Rattle.qn_play.specs.Replays.{after_head}
 use Rattle.qn_lease.specs.declared.events.ArbiterEvent.{ArbiterEvent}
 use Rattle.qn_lease.specs.declared.lease.Lease.{Lease}
 use Rattle.qn_lease.specs.ArbiterRules.{is_well_formed_beside, refusal_beside}

@@ -7,11 +7,11 @@ use Rattle.qn_model.specs.Inputs.{Tells, Anyway, AtEnd, AtFailure, tells_more}
 use Rattle.qn_model.specs.declared.events.Event.{Event}
 use Rattle.qn_model.specs.declared.reports.Report.{Report}
 use Rattle.qn_model.specs.Lines.{Ending, Ended, ReadFailed}
-use Rattle.qn_head.specs.declared.head.Head.{Head}
-use Rattle.qn_head.specs.Faults.{IsHeadEnd}
-use Rattle.qn_head.specs.HeadLaws.{head_fits, head_open}
-use Rattle.qn_head.specs.ReplayLaws.{answer_fits, nothing_decides}
-use Rattle.qn_head.specs.Replays.{WantsMemory, answer_of}
+use Rattle.qn_play.specs.declared.head.Head.{Head}
+use Rattle.qn_play.specs.Faults.{IsHeadEnd}
+use Rattle.qn_play.specs.HeadLaws.{head_fits, head_open}
+use Rattle.qn_play.specs.ReplayLaws.{answer_fits, nothing_decides}
+use Rattle.qn_play.specs.Replays.{WantsMemory, answer_of}
 use Rattle.qn_model.specs.World.{World}
 use Rattle.qn_play.specs.Lines.{Taken}
 use Rattle.qn_play.specs.Endings.{EndFits}

@@ -1,9 +1,9 @@
 -- A playback, the lines that it takes, and where it stands.
 use Rattle.std.specs.Io.KnownBytes.{prepend_known}
 use Rattle.std.proofs.Common.{◌≡◌, ◌+◌, ◌++◌, ◌<◌, ◌≤◌, ℕ, Bool, true, false, List, [], ◌∷◌, None, Option, Some, Result, Ok, refl, sym, ap, ◌∙◌, subst, arith}
-use Rattle.qn_head.specs.Parts.{Gives}
-use Rattle.qn_head.specs.ReplayLaws as replays
-use Rattle.qn_head.specs.Replays.{ReplayKind, WantsMemory, answer_of, place_after, start_after}
+use Rattle.qn_play.specs.Parts.{Gives}
+use Rattle.qn_play.specs.ReplayLaws as replays
+use Rattle.qn_play.specs.Replays.{ReplayKind, WantsMemory, answer_of, place_after, start_after}
 use Rattle.qn_model.specs.declared.configuration.Settings.{Settings}
 use Rattle.qn_model.specs.declared.times.Timing.{Timing}
 use Rattle.qn_model.specs.Settings.{ids}

@@ -2,11 +2,11 @@
 use Rattle.std.proofs.Common.{◌≡◌, ◌+◌, ℕ, true, List, [], ◌∷◌, ◌++◌, None, Ok, Err, IfOk, length, refl, ap, ap₂, subst, ◌∙◌}
 use Rattle.std.specs.Prelude.{IsTrue}
 use Rattle.qn_base.specs.Members.{is_member}
-use Rattle.qn_head.specs.declared.head.Head.{Head}
-use Rattle.qn_head.specs.Heads.{head_part}
-use Rattle.qn_head.specs.HeadLaws.{IsGood, TreesAreValid, head_good}
-use Rattle.qn_head.specs.Parts.{Given}
-use Rattle.qn_head.specs.Replays.{after_head}
+use Rattle.qn_play.specs.declared.head.Head.{Head}
+use Rattle.qn_play.specs.Heads.{head_part}
+use Rattle.qn_play.specs.HeadLaws.{IsGood, TreesAreValid, head_good}
+use Rattle.qn_play.specs.Parts.{Given}
+use Rattle.qn_play.specs.Replays.{after_head}
 use Rattle.qn_model.specs.declared.configuration.Settings.{Settings}
 use Rattle.qn_model.specs.declared.times.Timing.{Timing}
 use Rattle.qn_model.specs.Lines.{Ending}

@@ -1,8 +1,8 @@
 -- A replay of which no trace is kept ends, and stands, as one of which it is.
 use Rattle.std.proofs.Common.{◌≡◌, ◌==◌, ℕ, Bool, true, false, cond, List, [], ◌∷◌, length, None, Some, Result, Ok, Err, refl, sym, ap, ◌∙◌, subst, nat_lt}
 use Rattle.qn_base.specs.declared.limits.TheConstants.{MOST_EVENTS, MOST_LINE_BYTES}
-use Rattle.qn_head.specs.Parts.{Given}
-use Rattle.qn_head.specs.Replays.{ReplayKind, after_head, answer_of, play_after, start_after, stood_after}
+use Rattle.qn_play.specs.Parts.{Given}
+use Rattle.qn_play.specs.Replays.{ReplayKind, after_head, answer_of, play_after, start_after, stood_after}
 use Rattle.qn_model.specs.declared.line_fault.LineFault.TheVariants.{TooLong, TooMany}
 use Rattle.qn_model.specs.Lines.{Ending}
 use Rattle.qn_play.specs.Lines.{Play, Taken, bad_line, line_of, played}

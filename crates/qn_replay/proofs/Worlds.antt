@@ -1,7 +1,7 @@
 -- What a call of a world gave, in the words of the worlds that take events.
 use Rattle.std.proofs.Common.{◌≡◌, ◌≤◌, ◌+◌, ℕ, true, Option, Result, Ok, Err, IfOk, IfErr, refl, arith}
 use Rattle.std.specs.Prelude.{OnOk}
-use Rattle.qn_head.specs.declared.head.Head.{Head}
+use Rattle.qn_play.specs.declared.head.Head.{Head}
 use Rattle.qn_model.specs.declared.configuration.Settings.{Settings}
 use Rattle.qn_model.specs.declared.events.Event.{Event}
 use Rattle.qn_model.specs.declared.line_fault.LineFault.{LineFault}

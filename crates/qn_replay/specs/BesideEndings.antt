@@ -2,11 +2,11 @@
 use Rattle.std.specs.Prelude.{◌≡◌, ℕ, ◌+◌, Bool, true, false, cond, List, [], Result, Ok, Err, IfErr}
 use Rattle.std.proofs.Common.{ap}
 use Rattle.qn_arbiter_sched.specs.LeaseLine.{lease_of}
-use Rattle.qn_head.specs.declared.head.Head.{Head}
-use Rattle.qn_head.specs.Heads.{head_part, line_lines}
-use Rattle.qn_head.specs.HeadLaws.{head_fits, head_open, line_fits}
-use Rattle.qn_head.specs.Parts.{Given, then_given}
-use Rattle.qn_head.specs.ReplayLaws.{answer_fits}
+use Rattle.qn_play.specs.declared.head.Head.{Head}
+use Rattle.qn_play.specs.Heads.{head_part, line_lines}
+use Rattle.qn_play.specs.HeadLaws.{head_fits, head_open, line_fits}
+use Rattle.qn_play.specs.Parts.{Given, then_given}
+use Rattle.qn_play.specs.ReplayLaws.{answer_fits}
 use Rattle.qn_lease.specs.declared.lease.Lease.{Lease}
 use Rattle.qn_lease.specs.Lease.{is_safe_lease}
 use Rattle.qn_model.specs.declared.line_fault.LineFault.{LineFault}

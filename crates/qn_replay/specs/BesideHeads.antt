@@ -2,9 +2,9 @@
 -- profile.
 use Rattle.std.specs.Prelude.{◌≡◌, ◌≤◌, ℕ, ◌+◌, true, List, Result, Ok, Err, if◌then◌else◌}
 use Rattle.std.specs.Option.{option_map_or}
-use Rattle.qn_head.specs.declared.head.Head.{Head}
-use Rattle.qn_head.specs.Heads.{head_part, line_lines}
-use Rattle.qn_head.specs.Parts.{Given, Part, then_given}
+use Rattle.qn_play.specs.declared.head.Head.{Head}
+use Rattle.qn_play.specs.Heads.{head_part, line_lines}
+use Rattle.qn_play.specs.Parts.{Given, Part, then_given}
 use Rattle.qn_lease.specs.declared.lease.Lease.{Lease}
 use Rattle.qn_lease.specs.Lease.{is_safe_lease}
 use Rattle.qn_model.specs.declared.configuration.Settings.{Settings}

@@ -5,8 +5,8 @@ use Rattle.qn_arbiter_sched.specs.TraceLines.{arbiter_trace_line}
 use Rattle.qn_arbiter_world.specs.Memory.{needs_memory}
 use Rattle.qn_arbiter_world.specs.Standing.{ArbiterFor}
 use Rattle.qn_arbiter_world.specs.Whole.{Whole}
-use Rattle.qn_head.specs.Replays as kinds
-use Rattle.qn_head.specs.Replays.{ReplayKind, answer_of}
+use Rattle.qn_play.specs.Replays as kinds
+use Rattle.qn_play.specs.Replays.{ReplayKind, answer_of}
 use Rattle.qn_lease.specs.declared.events.ArbiterEvent.{ArbiterEvent}
 use Rattle.qn_lease.specs.declared.lease.Lease.{Lease}
 use Rattle.qn_lease.specs.declared.reports.ArbiterReport.{ArbiterReport}

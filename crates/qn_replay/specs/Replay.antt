@@ -1,8 +1,8 @@
 -- What a replay answers for its whole input: this project's profile.
 use Rattle.std.specs.Prelude.{ℕ, List, None, Option}
-use Rattle.qn_head.specs.declared.head.Head.{Head}
-use Rattle.qn_head.specs.Heads.{head_part}
-use Rattle.qn_head.specs.Replays.{ReplayKind, answer_of}
+use Rattle.qn_play.specs.declared.head.Head.{Head}
+use Rattle.qn_play.specs.Heads.{head_part}
+use Rattle.qn_play.specs.Replays.{ReplayKind, answer_of}
 use Rattle.qn_model.specs.declared.events.Event.{Event}
 use Rattle.qn_model.specs.declared.reports.Report.{Report}
 use Rattle.qn_model.specs.Lines.{Ending}

@@ -1,9 +1,9 @@
 -- What a replay of three images answers for its whole input: this project's profile.
 use Rattle.std.specs.Prelude.{ℕ, List, Option}
-use Rattle.qn_head.specs.declared.head.Head.{Head}
-use Rattle.qn_head.specs.Heads.{head_part}
-use Rattle.qn_head.specs.Replays as kinds
-use Rattle.qn_head.specs.Replays.{ReplayKind, answer_of}
+use Rattle.qn_play.specs.declared.head.Head.{Head}
+use Rattle.qn_play.specs.Heads.{head_part}
+use Rattle.qn_play.specs.Replays as kinds
+use Rattle.qn_play.specs.Replays.{ReplayKind, answer_of}
 use Rattle.qn_model.specs.declared.reports.Report.{Report}
 use Rattle.qn_model.specs.Lines.{Ending}
 use Rattle.qn_model.specs.Settings.{ids}

@@ -1,6 +1,6 @@
 //! The public calls of the replays.
 ghost use Rattle.std.specs.Prelude.{◌≡◌, ◌≢◌, ◌≤◌, ℕ, IfSome};
-ghost use Rattle.qn_head.specs.Replays.{Completes, Replays, RunsOut};
+ghost use Rattle.qn_play.specs.Replays.{Completes, Replays, RunsOut};
 ghost use Rattle.qn_io.specs.Outside.{HasRisen};
 ghost use Rattle.qn_model.specs.Lines.{Ended};
 ghost use Rattle.qn_play.specs.Runs.{AnswersWhole, IfDone};

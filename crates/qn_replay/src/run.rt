@@ -1,6 +1,6 @@
 //! The run of a replay, whatever world takes its events: the head, the events and the end.
 ghost use Rattle.std.specs.Prelude.{◌≡◌, ◌≢◌, ◌≤◌, ℕ, IfSome};
-ghost use Rattle.qn_head.specs.Replays.{Completes, Replays, RunsOut, answer_of};
+ghost use Rattle.qn_play.specs.Replays.{Completes, Replays, RunsOut, answer_of};
 ghost use Rattle.qn_io.specs.Outside.{HasRisen};
 ghost use Rattle.qn_model.specs.Lines.{Ended};
 ghost use Rattle.qn_play.specs.Runs.{AnswersWhole, IfDone};

@@ -17,8 +17,8 @@ use std::alloc::Global;
 pub(crate) trait TakesEvents: Drop {
     ghost use Rattle.std.specs.Prelude.{◌≡◌, ◌<◌, ◌≤◌, ◌+◌, ℕ, List, [], true, None, Err, IfErr, IfOk, OnErr, OnOk, length};
     ghost use Rattle.qn_base.specs.declared.limits.TheConstants.{LATEST_TIME};
-    ghost use Rattle.qn_head.specs.Parts.{Gives, Refuses};
-    ghost use Rattle.qn_head.specs.Replays.{ReplayKind};
+    ghost use Rattle.qn_play.specs.Parts.{Gives, Refuses};
+    ghost use Rattle.qn_play.specs.Replays.{ReplayKind};
     ghost use Rattle.qn_model.specs.Lines.{Ending, ReadFailed};
     ghost use Rattle.qn_model.specs.Settings.{ids};
     ghost use Rattle.qn_play.specs.Endings.{FitsWith};

@@ -7,7 +7,7 @@ use crate::disk::{has_failed, is_pending};
 use crate::state::State;
 use qn_base::Rank;
 use qn_cluster::unless;
-use qn_disk::HasNodes;
+use qn_cluster::HasNodes;
 use qn_model::{DiskOp, Event, Message};
 use qn_parts::Part;
 use qn_safety::TripleEvent;

@@ -1,5 +1,5 @@
-use Rattle.qn_head.specs.ReplayLaws.{answer_fits}
-use Rattle.qn_head.specs.Replays.{answer_of}
+use Rattle.qn_play.specs.ReplayLaws.{answer_fits}
+use Rattle.qn_play.specs.Replays.{answer_of}
 use Rattle.qn_model.specs.Lines.{Ending}
 use Rattle.qn_play.specs.EndLaws.{run_done, run_leased, run_wanted, run_unread, run_unwritten}
 use Rattle.qn_play.specs.Endings.{FitsWith}
