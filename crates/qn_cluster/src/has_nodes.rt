@@ -1,6 +1,6 @@
 //! What is known of the nodes of a world, whatever the disk is that they share.
-use qn_base::{Mask, Rank};
 use crate::Cluster;
+use qn_base::{Mask, Rank};
 use qn_model::{DiskOp, Event as NodeEvent, Timing};
 
 /// A world of nodes and their disk.

@@ -1,9 +1,9 @@
 //! A world that events led to, whatever the disk is that its nodes share, and its public calls.
+use crate::blank_report;
 use crate::has_nodes::HasNodes;
 use crate::shows::Shows;
 use crate::steps::Steps;
 use qn_base::{Mask, NoMemory, Rank, View};
-use crate::blank_report;
 use qn_model::{Refused, Report, Rule, Settings, Timing};
 use std::alloc::Global;
 use std::marker::Model;

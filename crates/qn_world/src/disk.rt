@@ -1,4 +1,4 @@
-//! The disk of a world: what the operations took, the sectors of the one image and the leftovers. To `qn_disk` the one
+//! The disk of a world: what the operations took, the sectors of the one image and the leftovers. To `qn_cluster` the one
 //! image is image 1.
 ghost use Rattle.std.specs.Prelude.{◌≡◌, option_to_list};
 ghost use Rattle.qn_model.specs.World.{given_up};

@@ -4,8 +4,7 @@ ghost use Rattle.qn_model.specs.World.{failed};
 
 use crate::state::State;
 use qn_base::{NoMemory, Rank};
-use qn_cluster::Cluster;
-use qn_cluster::{HasNodes, Leftovers, Sectors, Steps};
+use qn_cluster::{Cluster, HasNodes, Leftovers, Sectors, Steps};
 use qn_model::{
     DiskOp, Event, HeaderSeen, MailSeen, Message, Outs, Report, Settings, SlotSeen, Timing, What,
 };
