@@ -15,7 +15,7 @@
 //!     qn_tests turns N three  the same on three images
 //!     qn_tests turns N log    the same on one image; it writes what an audit of the run reads
 //!
-//! A word, a part or a line that is none of these ends it with an error, but for a row: of one that is none it says that its form differs.
+//! A word, a part or a line that is none of these it says on standard error, and ends; but of a row that is none it writes that it differs.
 //!
 //! Promises: what `rows::history` promises of the lines of a recorded history, and what the doubles of the outside promise, which fail, answer
 //! and tell exactly by their script; nothing else. It is a test: what it is run on, and what it must write, stand beside it.
@@ -33,7 +33,7 @@ use nodes::timed::time_turns;
 use part::run_parts;
 use rows::recorded::{show, time_plain, time_steps};
 use std::{env, io};
-use words::{at_fault, number_in};
+use words::{at_fault, number_in, said_of};
 
 fn main(rt: HostRuntime) -> io::Result<()> {
     let mut words = env::args(&rt)?;
@@ -41,14 +41,24 @@ fn main(rt: HostRuntime) -> io::Result<()> {
     let Some(task) = words.next() else {
         return run_parts(&rt);
     };
-    let (count, how) = (words.next(), words.next());
+    let done = run_task(&rt, task.as_str(), words.next(), words.next());
+    said_of(&rt, task.as_str(), done)
+}
+
+/// Does what the words ask for.
+fn run_task(
+    rt: &HostRuntime,
+    task: &str,
+    count: Option<String>,
+    how: Option<String>,
+) -> io::Result<()> {
     let count = count.as_ref().map_or("0", String::as_str);
     let how = how.as_ref().map_or("one", String::as_str);
-    match task.as_str() {
-        "show" => show(&rt),
-        "steps" => time_steps(&rt, number_in(count)?),
-        "plain" => time_plain(&rt, number_in(count)?),
-        "turns" => time_turns(&rt, number_in(count)?, how),
+    match task {
+        "show" => show(rt),
+        "steps" => time_steps(rt, number_in(count)?),
+        "plain" => time_plain(rt, number_in(count)?),
+        "turns" => time_turns(rt, number_in(count)?, how),
         _ => Err(at_fault("no task of that name")),
     }
 }

@@ -3,7 +3,7 @@ use crate::faults::script::run_script;
 use crate::nodes::reader::run_cases;
 use crate::rows::checking::check_rows;
 use crate::sockets::play;
-use crate::words::at_fault;
+use crate::words::{at_fault, said_of};
 use std::io;
 
 /// What begins the line at which a part begins. The name of the part follows.
@@ -30,9 +30,14 @@ pub fn run_parts(rt: &HostRuntime) -> io::Result<()> {
     };
     for part in parts.split("\npart ") {
         let (name, lines) = part.split_once('\n').unwrap_or((part, ""));
-        Part::named(name)?.run(rt, lines)?;
+        said_of(rt, name, run_part(rt, name, lines))?;
     }
     Ok(())
+}
+
+/// Runs the part of that name.
+fn run_part(rt: &HostRuntime, name: &str, lines: &str) -> io::Result<()> {
+    Part::named(name)?.run(rt, lines)
 }
 
 impl Part {

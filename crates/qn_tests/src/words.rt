@@ -27,6 +27,14 @@ pub fn at_fault(why: &'static str) -> io::Error {
     io::Error::new(ErrorKind::InvalidInput, why)
 }
 
+/// Says a line, or a word, of which that came, where it failed.
+pub fn said_of(rt: &impl Eprint, line: &str, done: io::Result<()>) -> io::Result<()> {
+    if done.is_err() {
+        eprintln!(rt; "at fault: {line}")?;
+    }
+    done
+}
+
 /// A number of 64 bits, of a word that has to be one.
 pub fn number_in(word: &str) -> io::Result<u64> {
     match read_number(word) {

@@ -2,7 +2,7 @@
 use crate::doubles::memory::{MemSink, MemSource};
 use crate::doubles::streams::{input_of, output_of};
 use crate::faults::outside::{Counts, Loss, Outside};
-use crate::words::{at_fault, first_word, number_in, text_of};
+use crate::words::{at_fault, first_word, number_in, said_of, text_of};
 use qn_live::NoNotices;
 use qn_top::top;
 use std::alloc::{AllocError, Global};
@@ -29,10 +29,10 @@ impl Streams {
 }
 
 /// Takes the steps of these lines.
-pub fn run_script(rt: &(impl Print + AllocGlobal), lines: &str) -> io::Result<()> {
+pub fn run_script(rt: &HostRuntime, lines: &str) -> io::Result<()> {
     let mut script = Script::new(rt.alloc())?;
     for line in lines.lines() {
-        script.take_line(rt, line)?;
+        said_of(rt, line, script.take_line(rt, line))?;
     }
     Ok(())
 }

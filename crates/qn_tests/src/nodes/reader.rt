@@ -1,7 +1,7 @@
 //! Reads cases and runs of nodes.
 use crate::nodes::case::Case;
 use crate::nodes::running::{failing_text, played_text, quiet_text, told_text};
-use crate::words::first_word;
+use crate::words::{first_word, said_of};
 use std::alloc::{AllocError, Global};
 use std::io;
 
@@ -9,7 +9,7 @@ use std::io;
 pub fn run_cases(rt: &HostRuntime, lines: &str) -> io::Result<()> {
     let mut reader = Reader::new(rt.alloc())?;
     for line in lines.lines() {
-        reader.take_line(rt, line)?;
+        said_of(rt, line, reader.take_line(rt, line))?;
     }
     reader.tell_totals(rt)
 }

@@ -4,7 +4,7 @@ use super::node::node_step;
 use super::place::{has, holds, makes_folder};
 use super::ports::Ports;
 use super::report::Report;
-use crate::words::{at_fault, first_word, read_byte, read_size, read_small_number};
+use crate::words::{at_fault, first_word, read_byte, read_size, read_small_number, said_of};
 use qn_io::Env;
 use std::io;
 
@@ -35,7 +35,7 @@ impl<'a> Stage<'a> {
     pub fn play<E: Env>(&self, nodes: &mut Nodes<E>, lines: &str) -> io::Result<()> {
         let mut report = Report::new();
         for line in lines.lines() {
-            self.take_line(&mut report, nodes, line)?;
+            said_of(self.rt, line, self.take_line(&mut report, nodes, line))?;
         }
         report.end(self.rt)
     }
