@@ -98,7 +98,7 @@ def look_at_use(crates, cell):
 
 libraries = {}
 for line in (TOP / "crates.txt").read_text().splitlines():
-    if not line.startswith("#"):
+    if line and not line.startswith("#"):
         crate, used = line.split(":")
         libraries[crate.split()[0]] = used.split()
 libraries = {crate: [other for other in used if other in libraries] for crate, used in libraries.items()}
