@@ -1,6 +1,6 @@
 //! A cluster of nodes that run, many at a time, over one outside in memory and in virtual time, beside a world that is told each event.
 //!
-//!     qn_soak_nodes SEED COUNT NODES SECONDS KIND DELAY [line|schedule|logs [FROM BEFORE]]
+//!     qn_soak_nodes SEED COUNT NODES SECONDS KIND DELAY [line|schedule|logs [FROM BEFORE]] [images 1|3]
 //!
 //! COUNT runs of the seeds from SEED on, each of so many nodes for so many virtual seconds, with this fence delay in milliseconds, disturbed as its
 //! KIND says (`kind.rt`; `all` is each of them in turn). It writes a line for each run; with `schedule` also the settings and what the world was told, for `quorumd replay`; with
@@ -25,6 +25,7 @@ mod fault;
 mod host;
 mod judge;
 mod kind;
+mod lines;
 mod logs;
 mod machines;
 mod network;
@@ -35,6 +36,7 @@ mod simulation;
 mod turns;
 mod waits;
 mod words;
+mod worlds;
 
 use runs::run_all;
 use std::process::ExitCode;
@@ -62,7 +64,7 @@ fn answer(rt: &HostRuntime) -> io::Result<u8> {
         Some(words) => run_all(rt, &words),
         None => {
             println!(rt;
-                "usage: qn_soak_nodes SEED COUNT NODES SECONDS KIND DELAY [line|schedule|logs [FROM BEFORE]]"
+                "usage: qn_soak_nodes SEED COUNT NODES SECONDS KIND DELAY [line|schedule|logs [FROM BEFORE]] [images 1|3]"
             )?;
             Ok(USAGE)
         }

@@ -9,6 +9,7 @@ use crate::network::Flight;
 use qn_base::Rank;
 use qn_io::{Got, SECTOR};
 use qn_live::{Asked, Given, LiveEnd, NodeRun, Room};
+use qn_live3::{ImagesRun, NodeImages};
 use qn_model::{Outs, Settings, What};
 use std::marker::Model;
 
@@ -40,7 +41,7 @@ impl Reply {
 /// The process of a node.
 #[derive(Drop)]
 pub struct Process {
-    run: NodeRun,
+    run: ImagesRun,
     room: Room,
     next: Result<Asked, LiveEnd>,
 }
@@ -60,13 +61,19 @@ impl Model for Process {
 }
 
 impl Process {
-    /// The process of the node of that rank before its first call. `clean` says that its boot is a clean start, and `leave_at`
-    /// is the number of the turn from which on it is to leave.
-    pub fn new(settings: &Settings, me: Rank, clean: bool, leave_at: Option<u64>) -> Process
+    /// The process of the node of that rank on these images before its first call. `clean` says that its boot is a clean start, and
+    /// `leave_at` is the number of the turn from which on it is to leave.
+    pub fn new(
+        images: NodeImages,
+        settings: &Settings,
+        me: Rank,
+        clean: bool,
+        leave_at: Option<u64>,
+    ) -> Process
         requires valid { IsValid settings.now }
         requires configured { me.0 < length settings.now.nodes }
     {
-        let run = NodeRun::new(settings.copy(), me, clean, leave_at, TURNS);
+        let run = ImagesRun::new(images, settings.copy(), me, clean, leave_at, TURNS);
         let mut room = Room::new();
         let next = run.asks(&mut room);
         Process { run, room, next }
@@ -79,14 +86,19 @@ impl Process {
         self.next
     }
 
+    /// The running node as one on one image.
+    pub fn node_run(&self) -> &NodeRun {
+        self.run.node_run()
+    }
+
     /// The last entry of its node.
     pub fn entry(&self) -> What {
-        self.run.entry()
+        self.node_run().entry()
     }
 
     /// The outputs of that entry.
     pub fn outs(&self) -> &Outs {
-        self.run.outs()
+        self.node_run().outs()
     }
 
     /// The bytes of the sector that is to be written.

@@ -19,7 +19,7 @@ pub fn run_all(rt: &HostRuntime, words: &Words) -> io::Result<u8> {
         return run_kind(rt, words);
     }
     let mut status = 0;
-    for kind in KINDS.iter() {
+    for kind in KINDS.iter().filter(|kind| kind.is_of(words.images)) {
         let words = Words {
             kind: *kind,
             ..*words

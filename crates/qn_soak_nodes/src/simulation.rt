@@ -67,8 +67,14 @@ impl Simulation {
     {
         let rates = words.kind.rates();
         let mut draw = Draw::new(seed, Stream::Hosts);
-        let beside = Beside::new(alloc, &settings, timing, words.told == Told::Schedule)?;
-        let Ok(disk) = Disk::new(alloc, &settings, &timing) else {
+        let beside = Beside::new(
+            alloc,
+            words.images,
+            &settings,
+            timing,
+            words.told == Told::Schedule,
+        )?;
+        let Ok(disk) = Disk::new(alloc, words.images, &settings, &timing) else {
             return Err(Fault::NoMemory);
         };
         let enough = settings.quorum(settings.expected).min(33) as u32;
@@ -239,7 +245,7 @@ impl Simulation {
             if host.attends(self.time) {
                 attend = attend.with(host.rank);
             }
-            if host.is_well(self.time) {
+            if host.is_well(self.time, self.words.images) {
                 well = well.with(host.rank);
             }
         }

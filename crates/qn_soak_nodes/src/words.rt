@@ -1,9 +1,13 @@
 //! The words of the command line.
 use crate::kind::Kind;
 use qn_base::read_decimal;
+use qn_live3::NodeImages;
 
 /// The word for runs of every kind.
 const ALL: &str = "all";
+
+/// The word before the number of images.
+const IMAGES: &str = "images";
 
 /// What a run writes beside its line.
 #[derive(Clone, Copy, PartialEq, Eq)]
@@ -31,14 +35,28 @@ pub struct Words {
     /// The fence delay of each node, in milliseconds.
     pub delay: u64,
     pub told: Told,
+    /// On which images the nodes run.
+    pub images: NodeImages,
     /// The disturbances that are made: from that one on, and before that one, counted from 0.
     pub from: u64,
     pub before: u64,
 }
 
 impl Words {
-    /// `SEED COUNT NODES SECONDS KIND DELAY [line|schedule|logs [FROM BEFORE]]`; None where they are others.
+    /// `SEED COUNT NODES SECONDS KIND DELAY [line|schedule|logs [FROM BEFORE]] [images 1|3]`; None where they are others.
     pub fn read(words: &[String]) -> Option<Words> {
+        let said = match words {
+            [rest @ .., word, count] if word.as_str() == IMAGES => Words {
+                images: images_of(count.as_str())?,
+                ..Words::read_run(rest)?
+            },
+            _ => Words::read_run(words)?,
+        };
+        said.kind.is_of(said.images).then_some(said)
+    }
+
+    /// The words without those of the images.
+    fn read_run(words: &[String]) -> Option<Words> {
         let (said, rest) = match words {
             [seed, count, nodes, seconds, kind, delay, rest @ ..] => {
                 (
@@ -51,6 +69,7 @@ impl Words {
                         all: kind.as_str() == ALL,
                         delay: number(delay, 0, 3_600_000)?,
                         told: Told::Line,
+                        images: NodeImages::One,
                         from: 0,
                         before: u64::MAX,
                     },
@@ -82,6 +101,14 @@ fn kind_of(word: &str) -> Option<Kind> {
         Some(Kind::Quiet)
     } else {
         Kind::named(word)
+    }
+}
+
+fn images_of(word: &str) -> Option<NodeImages> {
+    match word {
+        "1" => Some(NodeImages::One),
+        "3" => Some(NodeImages::Three),
+        _ => None,
     }
 }
 
