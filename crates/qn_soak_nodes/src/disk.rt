@@ -71,6 +71,8 @@ pub struct Disk {
     images: usize,
     /// The sectors that are damaged, and are restored later.
     pub damages: Vec<Damage>,
+    /// The sectors of three images that are damaged until they are written.
+    wiped: Vec<u32>,
 }
 
 impl Disk {
@@ -90,6 +92,7 @@ impl Disk {
             sectors,
             images,
             damages: Vec::new(alloc),
+            wiped: Vec::new(alloc),
         };
         for place in 0..images {
             disk.create(place, settings, timing);
@@ -134,8 +137,22 @@ impl Disk {
         }
     }
 
-    /// Puts these bytes into a sector.
+    /// Puts these bytes into a sector, which is whole then.
     pub fn write(&mut self, sector: u32, bytes: &Sector) {
+        self.mend(sector);
+        self.put(sector, bytes);
+    }
+
+    fn mend(&mut self, sector: u32) {
+        let Some(place) = self.wiped.iter().position(|wiped| *wiped == sector) else {
+            return;
+        };
+        if place < self.wiped.len() {
+            let _ = self.wiped.swap_remove(place);
+        }
+    }
+
+    fn put(&mut self, sector: u32, bytes: &Sector) {
         if let Some(place) = self.sectors.get_mut(place_of(sector)) {
             *place = *bytes;
         }
@@ -179,9 +196,22 @@ impl Disk {
         (0..self.images).any(|place| self.is_wiped(on_image(place, sector)))
     }
 
-    /// Damages a sector for good: it is whole again once it is written.
-    pub fn wipe(&mut self, sector: u32) {
-        self.write(sector, &[0; SECTOR]);
+    /// By places, the images of which no sector is damaged.
+    pub fn whole(&self) -> [bool; IMAGES] {
+        let mut whole = [true; IMAGES];
+        for sector in self.wiped.iter() {
+            if let Some(place) = whole.get_mut(image_place(*sector)) {
+                *place = false;
+            }
+        }
+        whole
+    }
+
+    /// Damages a sector of one of three images: it is whole again once it is written.
+    pub fn wipe(&mut self, sector: u32) -> Result<(), AllocError> {
+        self.wiped.push(sector).map_err(|_| AllocError)?;
+        self.put(sector, &[0; SECTOR]);
+        Ok(())
     }
 
     /// Damages a sector, and keeps what it held.

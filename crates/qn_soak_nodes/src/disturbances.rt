@@ -280,10 +280,7 @@ impl Simulation {
                 Ok(())
             }
             Disturbance::Damage(rank) => self.damage(rank),
-            Disturbance::Wipe(sector, place) => {
-                self.wipe(sector, place);
-                Ok(())
-            }
+            Disturbance::Wipe(sector, place) => self.wipe(sector, place),
             Disturbance::Message(rank, message, images) => self.operate(rank, message, images),
         }
     }
@@ -383,11 +380,12 @@ impl Simulation {
     }
 
     /// A sector is damaged on the image of that place, where it is on no other one, and is no mailbox with a deadly message.
-    fn wipe(&mut self, sector: u32, place: usize) {
+    fn wipe(&mut self, sector: u32, place: usize) -> Result<(), Fault> {
         let damaged = on_image(place, sector);
-        if !self.disk.is_wiped_somewhere(sector) && !self.disk.message(damaged).is_deadly() {
-            self.disk.wipe(damaged);
+        if self.disk.is_wiped_somewhere(sector) || self.disk.message(damaged).is_deadly() {
+            return Ok(());
         }
+        self.disk.wipe(damaged).map_err(|_| Fault::NoMemory)
     }
 
     /// An operator writes a message, on these images.

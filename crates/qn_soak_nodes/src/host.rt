@@ -1,12 +1,11 @@
 //! One host: its machine, the process of its node, the call that is under way, its resource.
 use crate::clock::{Clock, NEVER, Watchdog};
-use crate::disk::{IMAGES, Leftover, Sector, Write, image_place, on_image};
+use crate::disk::{Disk, IMAGES, Leftover, Sector, Write, image_place, on_image};
 use crate::network::Flight;
 use crate::process::Process;
 use qn_base::{Mask, Rank, View};
 use qn_io::SECTOR;
 use qn_live::Asked;
-use qn_live3::NodeImages;
 use std::alloc::Global;
 
 /// The most packets that wait at a host.
@@ -301,21 +300,21 @@ impl Host {
     }
 
     /// Whether its node is up, its disk answers in time, and nobody has written its end.
-    pub fn is_well(&self, time: u64, images: NodeImages) -> bool {
-        self.attends(time) && self.up && !self.doomed && self.is_disk_well(time, images)
+    pub fn is_well(&self, time: u64, disk: &Disk) -> bool {
+        self.attends(time) && self.up && !self.doomed && self.is_disk_well(time, disk)
     }
 
-    /// Whether the disk answers in time: its image, or each of three images, and two of those on which the node reads its mailbox answer
-    /// well.
-    fn is_disk_well(&self, time: u64, images: NodeImages) -> bool {
-        let well = (0..usize::from(images.count()))
-            .filter(|place| self.is_image_well(*place, time))
-            .count();
-        let quick = self.slow_until.iter().all(|until| time >= *until);
-        match images {
-            NodeImages::One => quick && well == 1,
-            NodeImages::Three => quick && well >= 2,
+    /// Whether the disk answers in time: its one image, or each of three, and two of those on which the node reads its mailbox are whole
+    /// and answer well.
+    fn is_disk_well(&self, time: u64, disk: &Disk) -> bool {
+        let mut well = 0;
+        for (place, whole) in disk.whole().iter().enumerate() {
+            if place < disk.images() && *whole && self.is_image_well(place, time) {
+                well += 1;
+            }
         }
+        let quick = self.slow_until.iter().all(|until| time >= *until);
+        quick && well > disk.images() / 2
     }
 
     /// Whether the node reads its mailbox on the image of that place, and no operation fails there.

@@ -245,7 +245,7 @@ impl Simulation {
             if host.attends(self.time) {
                 attend = attend.with(host.rank);
             }
-            if host.is_well(self.time, self.words.images) {
+            if host.is_well(self.time, &self.disk) {
                 well = well.with(host.rank);
             }
         }
