@@ -8,8 +8,9 @@ use crate::lines::{Line, write_late, write_on, write_operator};
 use crate::worlds::Worlds;
 use arrayvec::ArrayVec;
 use qn_base::{Mask, Rank};
+use qn_live::Standing;
 use qn_live3::NodeImages;
-use qn_model::{Event, Message, Outs, Report, Settings, Timing};
+use qn_model::{Event, Message, Outs, Phase, Report, Settings, Timing};
 use qn_sched::write_line;
 use qn_world::blank_report;
 use std::alloc::Global;
@@ -129,6 +130,16 @@ impl Beside {
     /// What the node of the last event did in the world.
     pub fn outs(&self) -> &Outs {
         &self.report.outs
+    }
+
+    /// Whether the node of the last event, which is of that rank, stands so in the world: by its count, its condition, and whether it
+    /// holds. A node that has ended has neither there.
+    pub fn has(&self, rank: Rank, standing: &Standing) -> bool {
+        let report = &self.report;
+        matches!(standing.phase, Phase::Gone)
+            || standing.answer == report.answer
+                && standing.why == report.why
+                && standing.holds == report.holders.has(rank)
     }
 
     /// The nodes that hold in the world.

@@ -211,7 +211,8 @@ impl Simulation {
             return Ok(());
         };
         self.logs.add(place, call.asked, &reply, &taken, process)?;
-        process.answer(&reply, &taken);
+        let told = process.answer(&reply, &taken)?;
+        self.counts.told = self.counts.told.saturating_add(told as u64);
         if matches!(call.asked, Asked::Now) {
             self.take_turn(place)?;
         }

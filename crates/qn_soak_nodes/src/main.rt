@@ -1,6 +1,6 @@
 //! A cluster of nodes that run, many at a time, over one outside in memory and in virtual time, beside a world that is told each event.
 //!
-//!     qn_soak_nodes SEED COUNT NODES SECONDS KIND DELAY [line|schedule|logs [FROM BEFORE]] [images 1|3]
+//!     qn_soak_nodes SEED COUNT NODES SECONDS KIND DELAY [line|schedule|logs|journals [FROM BEFORE]] [images 1|3|all]
 //!
 //! COUNT runs of the seeds from SEED on, each of so many nodes for so many virtual seconds, with this fence delay in milliseconds, disturbed as its
 //! KIND says (`kind.rt`; `all` is each of them in turn). It writes a line for each run; with `schedule` also the settings and what the world was told, for `quorumd replay`; with
@@ -23,6 +23,7 @@ mod disturbances;
 mod draw;
 mod fault;
 mod host;
+mod journals;
 mod judge;
 mod kind;
 mod lines;
@@ -31,6 +32,7 @@ mod machines;
 mod network;
 mod packets;
 mod process;
+mod reader;
 mod runs;
 mod simulation;
 mod turns;
@@ -64,7 +66,7 @@ fn answer(rt: &HostRuntime) -> io::Result<u8> {
         Some(words) => run_all(rt, &words),
         None => {
             println!(rt;
-                "usage: qn_soak_nodes SEED COUNT NODES SECONDS KIND DELAY [line|schedule|logs [FROM BEFORE]] [images 1|3]"
+                "usage: qn_soak_nodes SEED COUNT NODES SECONDS KIND DELAY [line|schedule|logs|journals [FROM BEFORE]] [images 1|3|all]"
             )?;
             Ok(USAGE)
         }

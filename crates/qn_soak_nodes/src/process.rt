@@ -5,12 +5,15 @@ ghost use Rattle.qn_live.specs.Asking.{question_of, told, Tells};
 ghost use Rattle.qn_model.specs.Settings.{IsValid};
 
 use crate::disk::Sector;
+use crate::fault::Fault;
 use crate::network::Flight;
+use crate::reader::Reader;
 use qn_base::Rank;
 use qn_io::{Got, SECTOR};
-use qn_live::{Asked, Given, LiveEnd, NodeRun, Room};
+use qn_live::{Asked, Given, LiveEnd, NodeRun, Room, Standing};
 use qn_live3::{ImagesRun, NodeImages};
-use qn_model::{Outs, Settings, What};
+use qn_model::{Entry, Outs, Settings, What};
+use qn_notice::Observer;
 use std::marker::Model;
 
 /// The most turns of a run.
@@ -44,6 +47,9 @@ pub struct Process {
     run: ImagesRun,
     room: Room,
     next: Result<Asked, LiveEnd>,
+    /// What is told of the run, and a second reading of its entries.
+    observer: Observer,
+    reader: Reader,
 }
 
 impl Model for Process {
@@ -76,7 +82,13 @@ impl Process {
         let run = ImagesRun::new(images, settings.copy(), me, clean, leave_at, TURNS);
         let mut room = Room::new();
         let next = run.asks(&mut room);
-        Process { run, room, next }
+        Process {
+            run,
+            room,
+            next,
+            observer: Observer::new(),
+            reader: Reader::new(settings, me),
+        }
     }
 
     /// The call that it waits for, or how its run ended.
@@ -96,6 +108,11 @@ impl Process {
         self.node_run().entry()
     }
 
+    /// Where its node stands after that entry.
+    pub fn standing(&self) -> &Standing {
+        self.reader.standing()
+    }
+
     /// The outputs of that entry.
     pub fn outs(&self) -> &Outs {
         self.node_run().outs()
@@ -111,14 +128,33 @@ impl Process {
         self.room.sent.as_slice()
     }
 
-    /// Answers the call that it waits for; `sector` are the bytes of a read that succeeded.
-    pub fn answer(&mut self, reply: &Reply, sector: &Sector) {
+    /// Answers the call that it waits for; `sector` are the bytes of a read that succeeded. It gives how many events are told of
+    /// that, which is a fault where a second reading of the entry tells others.
+    pub fn answer(&mut self, reply: &Reply, sector: &Sector) -> Result<usize, Fault> {
         let Ok(asked) = self.next else {
-            return;
+            return Ok(0);
         };
         let given = given_for(asked, reply, sector, &mut self.room);
         self.run.answer(given, &self.room);
         self.next = self.run.asks(&mut self.room);
+        self.tell(asked, given)
+    }
+
+    /// The events that are told of a call, and of an entry read a second time.
+    fn tell(&mut self, asked: Asked, given: Given) -> Result<usize, Fault> {
+        let run = self.run.node_run();
+        let told = self.observer.made(asked, given, run);
+        if matches!(asked, Asked::Now) {
+            let entry = Entry {
+                tick: given.tick,
+                what: run.entry(),
+            };
+            let read = self.reader.read(entry)?;
+            if told.as_slice() != read.as_slice() {
+                return Err(Fault::OtherJournal(run.rank()));
+            }
+        }
+        Ok(told.len())
     }
 }
 

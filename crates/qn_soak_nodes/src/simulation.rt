@@ -82,7 +82,7 @@ impl Simulation {
         let Ok(judge) = Judge::new(alloc, &timing, enough, words.delay, judges) else {
             return Err(Fault::NoMemory);
         };
-        let logs = Logs::new(alloc, settings.nodes.len(), words.told == Told::Logs)?;
+        let logs = Logs::new(alloc, settings.nodes.len(), words.told.keeps_logs())?;
         let hosts = hosts_of(alloc, settings.nodes.len(), &mut draw)?;
         Ok(Simulation {
             timing,
@@ -274,6 +274,13 @@ impl Simulation {
     /// What the world was told, where that is kept.
     pub fn schedule(&self) -> &str {
         self.beside.schedule()
+    }
+
+    /// The settings of the nodes.
+    pub fn settings(&self) -> &Settings
+        ensures valid { IsValid result.now }
+    {
+        self.beside.settings()
     }
 
     /// The log of the last process of each node, where they are kept.

@@ -73,17 +73,21 @@ impl Simulation {
         }
     }
 
-    /// Compares what the node did with what the node of the world did.
+    /// Compares what the node did, and where it stands, with the node of the world.
     fn compare(&self, place: usize) -> Result<(), Fault> {
         let Some(host) = self.hosts.get(place) else {
             return Ok(());
         };
-        match &host.process {
-            Some(process) if process.outs().as_slice() != self.beside.outs().as_slice() => {
-                Err(Fault::OtherOutputs(host.rank))
-            }
-            _ => Ok(()),
+        let Some(process) = &host.process else {
+            return Ok(());
+        };
+        if process.outs().as_slice() != self.beside.outs().as_slice() {
+            return Err(Fault::OtherOutputs(host.rank));
         }
+        if !self.beside.has(host.rank, process.standing()) {
+            return Err(Fault::OtherStanding(host.rank));
+        }
+        Ok(())
     }
 
     /// Notes what the outputs of an entry say of its node, and judges its resets.
