@@ -140,21 +140,35 @@ impl Process {
         self.tell(asked, given)
     }
 
-    /// The events that are told of a call, and of an entry read a second time.
+    /// How many events are told of a call: of a look at the clock those of the entry, which is read a second time.
     fn tell(&mut self, asked: Asked, given: Given) -> Result<usize, Fault> {
-        let run = self.run.node_run();
-        let told = self.observer.made(asked, given, run);
-        if matches!(asked, Asked::Now) {
-            let entry = Entry {
-                tick: given.tick,
-                what: run.entry(),
-            };
-            let read = self.reader.read(entry)?;
-            if told.as_slice() != read.as_slice() {
-                return Err(Fault::OtherJournal(run.rank()));
+        match asked {
+            Asked::Now => self.tell_entry(given),
+            Asked::Start | Asked::Stop | Asked::Disarm => {
+                let told = self.observer.made(asked, given, self.run.node_run());
+                Ok(told.len())
             }
+            Asked::Receive
+            | Asked::Read { .. }
+            | Asked::Write { .. }
+            | Asked::Feed
+            | Asked::Send { .. }
+            | Asked::Halt { .. } => Ok(0),
         }
-        Ok(told.len())
+    }
+
+    fn tell_entry(&mut self, given: Given) -> Result<usize, Fault> {
+        let run = self.run.node_run();
+        let told = self.observer.made(Asked::Now, given, run);
+        let read = self.reader.read(Entry {
+            tick: given.tick,
+            what: run.entry(),
+        })?;
+        if told.as_slice() == read.as_slice() {
+            Ok(told.len())
+        } else {
+            Err(Fault::OtherJournal(run.rank()))
+        }
     }
 }
 
