@@ -6,8 +6,7 @@ use crate::network::Flight;
 use crate::process::Reply;
 use crate::simulation::Simulation;
 use qn_base::Rank;
-use qn_live::{Asked, LiveEnd};
-use qn_live3::NodeImages;
+use qn_live::{Asked, LiveEnd, NodeImages};
 use qn_model::Event;
 
 /// How late a feed may be: the outside refuses one that was decided longer ago, by the clock of its host, in milliseconds.

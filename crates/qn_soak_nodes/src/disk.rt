@@ -1,7 +1,7 @@
 //! The disk that the hosts share: its image or its three images, sectors that are damaged, and writes that are left over.
 use qn_base::Rank;
 use qn_io::SECTOR;
-use qn_live3::NodeImages;
+use qn_live::NodeImages;
 use qn_model::{Mail, Message, Settings, Slot, Timing};
 use qn_sector::{get_mail, get_slot, mail_sector, put_header, put_mail, put_slot, slot_sector};
 use std::alloc::{AllocError, Global};

@@ -6,7 +6,7 @@ use crate::judge::rank_of;
 use crate::simulation::Simulation;
 use crate::words::Words;
 use qn_base::{Mask, Rank};
-use qn_live3::NodeImages;
+use qn_live::NodeImages;
 use qn_model::Message;
 
 /// How often disturbances are drawn, in milliseconds.

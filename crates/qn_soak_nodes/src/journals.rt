@@ -10,8 +10,7 @@ use qn_audit::{LoggedCall, read_call};
 use qn_base::Rank;
 use qn_io::{Got, Lines};
 use qn_journal::Journal;
-use qn_live::{Notices, Room};
-use qn_live3::NodeImages;
+use qn_live::{NodeImages, Notices, Room};
 use qn_model::Settings;
 
 /// Writes the journal of the last process of each node to standard error.

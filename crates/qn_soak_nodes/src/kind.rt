@@ -1,5 +1,5 @@
 //! The kinds of runs: what is disturbed, and how often.
-use qn_live3::NodeImages;
+use qn_live::NodeImages;
 
 /// What is disturbed in a run.
 #[derive(Clone, Copy, PartialEq, Eq)]

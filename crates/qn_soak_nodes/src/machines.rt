@@ -5,8 +5,7 @@ use crate::fault::Fault;
 use crate::process::Process;
 use crate::simulation::Simulation;
 use qn_base::{Mask, Rank};
-use qn_live::LiveEnd;
-use qn_live3::NodeImages;
+use qn_live::{LiveEnd, NodeImages};
 use qn_model::Event;
 
 impl Simulation {

@@ -6,7 +6,7 @@ use crate::kind::{KINDS, Kind};
 use crate::logs::Log;
 use crate::simulation::Simulation;
 use crate::words::{Told, Words};
-use qn_live3::NodeImages;
+use qn_live::NodeImages;
 use qn_model::{Settings, Timing, timing_safe};
 use qn_settings::settings_of_text;
 use std::alloc::{AllocError, Global};

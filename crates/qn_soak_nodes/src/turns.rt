@@ -4,7 +4,7 @@ use crate::disk::Leftover;
 use crate::fault::Fault;
 use crate::host::{Host, Part};
 use crate::simulation::Simulation;
-use qn_live3::NodeImages;
+use qn_live::NodeImages;
 use qn_model::{DiskOp, Event, HaltKind, MailSeen, Out, What};
 
 impl Simulation {

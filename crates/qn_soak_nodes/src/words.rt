@@ -1,7 +1,7 @@
 //! The words of the command line.
 use crate::kind::Kind;
 use qn_base::read_decimal;
-use qn_live3::NodeImages;
+use qn_live::NodeImages;
 
 /// The word for runs of every kind, and for runs on one image and on three.
 const ALL: &str = "all";

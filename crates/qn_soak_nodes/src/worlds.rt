@@ -5,7 +5,7 @@ ghost use Rattle.qn_model.specs.Timing.{is_safe};
 
 use crate::fault::Fault;
 use qn_base::{LATEST_TIME, Mask, NoMemory};
-use qn_live3::NodeImages;
+use qn_live::NodeImages;
 use qn_model::{Event, Refused, Report, Settings, Timing};
 use qn_sched::read_line_into;
 use qn_triple::{TripleWorld, law_triple_lines, read_triple_line};
