@@ -147,16 +147,8 @@ impl Host {
             slow_until: [0; IMAGES],
             fails_until: [0; IMAGES],
             lost_until: [0; IMAGES],
-            clock: Clock {
-                base: 0,
-                booted: 0,
-                rate: 100_000,
-            },
-            watchdog: Watchdog {
-                armed: false,
-                fed: 0,
-                life: 0,
-            },
+            clock: Clock::first(),
+            watchdog: Watchdog::off(),
             process: None,
             call: None,
             taken: [0; SECTOR],
@@ -307,10 +299,10 @@ impl Host {
     /// Whether the disk answers in time: its one image, or each of three, and two of those on which the node reads its mailbox are whole
     /// and answer well.
     fn is_disk_well(&self, time: u64, disk: &Disk) -> bool {
-        let mut well = 0;
+        let mut well = 0usize;
         for (place, whole) in disk.whole().iter().enumerate() {
             if place < disk.images() && *whole && self.is_image_well(place, time) {
-                well += 1;
+                well = well.saturating_add(1);
             }
         }
         let quick = self.slow_until.iter().all(|until| time >= *until);

@@ -11,7 +11,7 @@ use qn_base::Rank;
 use qn_io::{Got, Lines};
 use qn_journal::Journal;
 use qn_live::{NodeImages, Notices, Room};
-use qn_model::Settings;
+use qn_model::{Nodes, Settings};
 
 /// Writes the journal of the last process of each node to standard error.
 pub fn write_journals(rt: &HostRuntime, images: NodeImages, settings: &Settings, logs: &[Log])
@@ -26,10 +26,10 @@ pub fn write_journals(rt: &HostRuntime, images: NodeImages, settings: &Settings,
 fn write_journal(rt: &HostRuntime, images: NodeImages, settings: &Settings, me: Rank, log: &Log)
     requires valid { IsValid settings.now }
 {
-    let Some(node) = settings.nodes.as_slice().get(usize::from(me.0)) else {
+    if usize::from(me.0) >= settings.nodes.len() {
         return;
-    };
-    let lines = Lines::new(node.id.0, false);
+    }
+    let lines = Lines::new(id_of(&settings.nodes, me), false);
     let mut journal = Journal::new(rt, &lines, None, 0);
     let mut process = Process::new(images, settings, me, log.clean, log.leave_at);
     let mut room = Room::new();
@@ -45,6 +45,14 @@ fn write_journal(rt: &HostRuntime, images: NodeImages, settings: &Settings, me: 
         }
         lines.set_tick(process.node_run().tick());
         journal.made(call.asked, call.given, &room, process.node_run());
+    }
+}
+
+/// The id of the node of that rank.
+fn id_of(nodes: &Nodes, rank: Rank) -> u32 {
+    match nodes.as_slice().get(usize::from(rank.0)) {
+        Some(node) => node.id.0,
+        None => 0,
     }
 }
 

@@ -77,11 +77,7 @@ impl Simulation {
         let Ok(disk) = Disk::new(alloc, words.images, &settings, &timing) else {
             return Err(Fault::NoMemory);
         };
-        let enough = settings.quorum(settings.expected).min(33) as u32;
-        let judges = rates.losses == 0 && rates.lates == 0;
-        let Ok(judge) = Judge::new(alloc, &timing, enough, words.delay, judges) else {
-            return Err(Fault::NoMemory);
-        };
+        let judge = judge_of(alloc, &settings, &timing, &words)?;
         let logs = Logs::new(alloc, settings.nodes.len(), words.told.keeps_logs())?;
         let hosts = hosts_of(alloc, settings.nodes.len(), &mut draw)?;
         Ok(Simulation {
@@ -295,6 +291,19 @@ fn add_clock(clocks: &mut Clocks, host: &Host, from: u64, to: u64) {
     if host.node_on && clocks.len() < MOST_CLOCKS {
         clocks.push((host.rank, advance));
     }
+}
+
+/// Who judges a run of these nodes: of the service, where no packets are lost at any time.
+fn judge_of(
+    alloc: Global,
+    settings: &Settings,
+    timing: &Timing,
+    words: &Words,
+) -> Result<Judge, Fault> {
+    let enough = settings.quorum(settings.expected).min(33) as u32;
+    let rates = words.kind.rates();
+    let judges = rates.losses == 0 && rates.lates == 0;
+    Judge::new(alloc, timing, enough, words.delay, judges).map_err(|_| Fault::NoMemory)
 }
 
 /// So many hosts that are off, and boot within three seconds.
