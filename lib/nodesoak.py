@@ -1,24 +1,34 @@
-"""Runs of qn_soak_nodes: what is run for a number, the line that a run writes, its schedule against `replay` and its logs against `audit`, and
-a smaller run that fails alike."""
+"""Runs of qn_soak_nodes: what is run for a number, the line that a run writes, its schedule against `replay`, its logs against `audit` and its
+journals against a second reader of the logs, and a smaller run that fails alike."""
 import collections
+import itertools
 import os
 import pathlib
+import re
 import subprocess
+import tempfile
 
+from onone import on_one
+from told import has_plain_votes, said_in, told_of
 from traces import program
 
 TOP = pathlib.Path(__file__).resolve().parent.parent
 KINDS = ("quiet", "cuts", "kills", "pauses", "disks", "damages", "operators", "losses", "leaves", "restarts", "agents", "isolations", "device",
-         "mixed")
+         "images", "mixed")
 NODES = (3, 2, 5)
 DELAYS = (0, 3000)
+IMAGES = (1, 3)
 SECONDS = 300
-COUNTS = ("turns", "events", "disturbances", "boots", "starts", "take-overs", "resets", "hurried")
-COMPARED_EACH = 50  # of so many runs one is compared with `replay` and `audit`, and lasts COMPARED_SECONDS
+COUNTS = ("turns", "events", "disturbances", "boots", "starts", "take-overs", "resets", "hurried", "told")
+COMPARED_EACH = 51  # of so many runs one is written down and compared, and lasts COMPARED_SECONDS
 COMPARED_SECONDS = 100
 
-Run = collections.namedtuple("Run", "seed nodes seconds kind delay")
+Run = collections.namedtuple("Run", "seed nodes seconds kind delay images")
 Line = collections.namedtuple("Line", "fault detail counts longest at")
+
+# The runs of a seed: of every kind, the losses of an image on three alone, and with a device three nodes.
+RUNS = [Run(0, 3 if kind == "device" else nodes, SECONDS, kind, delay, images)
+        for kind, nodes, delay, images in itertools.product(KINDS, NODES, DELAYS, IMAGES) if kind != "images" or images == 3]
 
 
 def soaker():
@@ -37,16 +47,22 @@ def is_built():
 
 
 def run_of(number):
-    """The run of that number: every kind with each count of nodes and each delay, and then the next seed."""
-    seed, place = divmod(number, len(KINDS) * len(NODES) * len(DELAYS))
-    place, delay = divmod(place, len(DELAYS))
-    kind, nodes = divmod(place, len(NODES))
-    run = Run(seed + 1, NODES[nodes], SECONDS, KINDS[kind], DELAYS[delay])
-    return run._replace(nodes=3) if run.kind == "device" else run
+    """The run of that number: those of a seed, and then those of the next one."""
+    seed, place = divmod(number, len(RUNS))
+    return RUNS[place]._replace(seed=seed + 1)
 
 
 def words_of(run, *more):
-    return [soaker(), str(run.seed), "1", str(run.nodes), str(run.seconds), run.kind, str(run.delay), *map(str, more)]
+    images = [] if run.images == 1 else ["images", str(run.images)]
+    return [soaker(), str(run.seed), "1", str(run.nodes), str(run.seconds), run.kind, str(run.delay), *map(str, more), *images]
+
+
+def run_of_words(words):
+    """The run of the words that follow the name of the program, as `command_of` has them; None where they are none."""
+    said = re.fullmatch(r"(\d+) 1 (\d+) (\d+) (\w+) (\d+)(?: line)?(?: images (1|3))?", " ".join(words), re.ASCII)
+    if said is None or said[4] not in KINDS:
+        return None
+    return Run(int(said[1]), int(said[2]), int(said[3]), said[4], int(said[5]), int(said[6] or 1))
 
 
 def command_of(run, *more):
@@ -55,8 +71,8 @@ def command_of(run, *more):
 
 
 def written(run, *more):
-    done = subprocess.run(words_of(run, *more), stdout=subprocess.PIPE, check=False, text=True)
-    return done.returncode, done.stdout
+    done = subprocess.run(words_of(run, *more), stdout=subprocess.PIPE, stderr=subprocess.PIPE, check=False, text=True)
+    return done.returncode, done.stdout, done.stderr
 
 
 def line_of(status, text):
@@ -66,46 +82,86 @@ def line_of(status, text):
         return Line("no-line", "status %d" % status, dict.fromkeys(COUNTS, 0), 0, 0)
     begin = words.index("at")
     said = dict(zip(words[begin::2], map(int, words[begin + 1::2])))
-    fault = words[6]
-    return Line("" if fault == "ok" else fault, " ".join(words[6:begin]), {name: said[name] for name in COUNTS}, said["longest"], said["at"])
+    fault = words[8]
+    return Line("" if fault == "ok" else fault, " ".join(words[8:begin]), {name: said[name] for name in COUNTS}, said["longest"], said["at"])
 
 
-def tried(run):
-    return line_of(*written(run))
+def tried(run, *more):
+    return line_of(*written(run, *more)[:2])
 
 
 def compared(run):
-    """What of a run does not agree with `replay` and `audit`; an empty text where all does."""
-    status, text = written(run, "schedule")
-    first, schedule = text.split("\n", 1)
-    replayed = subprocess.run([program(), "replay"], input=schedule, stdout=subprocess.PIPE, check=False, text=True).stdout
-    end = "end %d" % line_of(status, first).counts["events"]
+    """What of a run does not agree with `replay`, `audit` and a second reader of its logs; an empty text where all does."""
+    with tempfile.TemporaryDirectory() as folder:
+        return compared_in(pathlib.Path(folder), run)
+
+
+def compared_in(folder, run):
+    """The same, with the schedule, the settings, the logs and the journals written into a folder."""
+    settings = folder / "settings"
+    end = write_schedule(folder, run)
+    command = "replay" if run.images == 1 else "replay3"
+    with open(folder / "schedule") as schedule:
+        replayed = subprocess.run([program(), command], stdin=schedule, stdout=subprocess.PIPE, check=False, text=True).stdout
     if replayed.rstrip("\n").rsplit("\n", 1)[-1] != end:
         return "its schedule does not replay to %s" % end
-    conf = schedule.split("----\n", 1)[0]
-    logs = written(run, "logs")[1].split("\n", 1)[1].split("log ")[1:]
-    for log in logs:
-        refused = audit_fault(conf, log)
+    for ident, words in write_logs(folder, run):
+        refused = audit_fault(settings.read_text(), words, (folder / ("log.%d" % ident)).read_text())
+        refused = refused or journal_fault(settings.read_text(), ident, run, folder)
         if refused:
-            return refused
+            return "node %d: %s" % (ident, refused)
     return ""
 
 
-def audit_fault(conf, log):
+def write_schedule(folder, run):
+    """Writes the settings and the schedule, and gives the line with which it is to end."""
+    status, text, _ = written(run, "schedule")
+    first, schedule = text.split("\n", 1)
+    (folder / "schedule").write_text(schedule)
+    (folder / "settings").write_text(schedule.split("----\n", 1)[0])
+    return "end %d" % line_of(status, first).counts["events"]
+
+
+def write_logs(folder, run):
+    """Writes the log and the journal of the last process of each node: their ids, and the words of their audits."""
+    _, text, errors = written(run, "journals")
+    audits = []
+    for log in text.split("\n", 1)[1].split("log ")[1:]:
+        head, lines = log.split("\n", 1)
+        ident, _, mode, _, leave = map(int, re.sub(r"[a-z-]+", "0", head).split())
+        words = ["--id", str(ident), "--turns", "1000000000"] + ["--images", "3"] * (run.images == 3)
+        audits.append((ident, words + ["--start-mode", "1"] * (mode == 1) + ["--leave", str(leave)] * (leave != 0)))
+        (folder / ("log.%d" % ident)).write_text(lines)
+        said = [line for line in errors.splitlines(True) if line.startswith("quorumd: node=%d " % ident)]
+        (folder / ("journal.%d" % ident)).write_text("".join(said))
+    return audits
+
+
+def audit_fault(conf, words, log):
     """What an audit of a log says, where it is no run."""
-    head, lines = log.split("\n", 1)
-    ident, _, mode, _, leave = head.split()
-    if not lines:
+    if not log:
         return ""
-    words = [program(), "audit", "--id", ident, "--turns", "1000000000"]
-    words += ["--start-mode", "1"] * (mode == "1") + ["--leave", leave] * (leave != "0")
-    said = subprocess.run(words, input=conf + "----\n" + lines, stdout=subprocess.PIPE, check=False, text=True).stdout
-    return "" if said.startswith(("run prefix", "run whole")) else "the log of node %s: %s" % (ident, said.strip())
+    said = subprocess.run([program(), "audit", *words], input=conf + "----\n" + log, stdout=subprocess.PIPE, check=False, text=True).stdout
+    return "" if said.startswith(("run prefix", "run whole")) else "its log: %s" % said.strip()
+
+
+def journal_fault(conf, ident, run, folder):
+    """Where the journal of a node is not what a second reader makes of its log; settings with more votes than nodes are not read."""
+    if not has_plain_votes(conf):
+        return ""
+    log = (folder / ("log.%d" % ident)).read_text()
+    if run.images == 3:
+        log = on_one(log, ident - 1)
+    got, wanted = said_in((folder / ("journal.%d" % ident)).read_text()), told_of(log, range(1, run.nodes + 1), ident)
+    for one, other in itertools.zip_longest(got, wanted):
+        if one != other:
+            return "its journal has %r, and a second reader of its log %r" % (one, other)
+    return ""
 
 
 def smaller(run, line, tries=200):
     """A run that fails alike with fewer nodes, shorter, or with fewer disturbances, and the first and last of these."""
-    fails = lambda other, *more: line_of(*written(other, "line", *more)).fault == line.fault
+    fails = lambda other, *more: tried(other, "line", *more).fault == line.fault
     run = run._replace(seconds=min(run.seconds, line.at // 1000 + 1))
     for nodes in range(1, run.nodes):
         if fails(run._replace(nodes=nodes)):

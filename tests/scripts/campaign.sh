@@ -7,8 +7,8 @@ export SOAK_NODES=$TOP/crates/qn_soak_nodes/out/qn_soak_nodes
 
 # soaker FILE WORD..: makes a program that says so of each run
 soaker() {
-    printf '#!/usr/bin/env bash\necho "seed $1 kind $5 nodes $3 %s at 5000 disturbances 0 turns 9 events 9 boots 3 starts 1 take-overs 0 resets 1 hurried 0 %s"\n%s\n' \
-        "$2" 'late-writes 0 idle 0 longest 0' "$3" > "$1"
+    printf '#!/usr/bin/env bash\necho "seed $1 kind $5 nodes $3 images 1 %s at 5000 disturbances 0 turns 9 events 9 boots 3 starts 1 take-overs 0 resets 1 hurried 0 %s"\n%s\n' \
+        "$2" 'late-writes 0 told 9 idle 0 longest 0' "$3" > "$1"
     chmod +x "$1"
 }
 
@@ -70,7 +70,7 @@ REAL=$QUORUMD QUORUMD=$PWD/faulty SOAK_NODES=$PWD/needless campaign 0 17 > said 
 same "$status" 1
 grep -A 1 '^FAILED soak of seed 17: 2 nodes hold at once$' said | grep -q '^  bin/quorumd soak 17 200000$'
 grep -A 1 '^FAILED story of seed 17: quorumd replay[a-z0-9-]* ended with status 9$' said | grep -q '^  bench/campaign --story 17 | bin/story$'
-grep -A 1 '^FAILED nodes of seed 17: needless-reset 2 1$' said | grep -q '^  qn_soak_nodes 1 1 5 300 kills 0$'
+grep -A 1 '^FAILED nodes of seed 17: needless-reset 2 1$' said | grep -q '^  qn_soak_nodes 1 1 2 300 cuts 0$'
 tail -n 1 said | grep -qE '^campaign from seed 17: .*, [1-9][0-9]* failed$'
 REAL=$QUORUMD QUORUMD=$PWD/faulty campaign --story 17 > story 2> errors
 grep -qE '^campaign: quorumd replay[a-z0-9-]* ended with status 9$' errors

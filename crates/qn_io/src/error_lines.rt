@@ -55,7 +55,7 @@ impl Lines {
     }
 
     /// From now on lines are of that tick of the node's clock, in milliseconds.
-    pub(crate) fn set_tick(&self, tick: u64) {
+    pub fn set_tick(&self, tick: u64) {
         self.tick.set(tick);
     }
 

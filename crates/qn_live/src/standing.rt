@@ -35,7 +35,7 @@ impl Standing {
     }
 
     /// Where a node stands at the tick of its last entry.
-    pub(crate) fn of(node: &Node, tick: u64) -> Standing
+    pub fn of(node: &Node, tick: u64) -> Standing
         ensures { (s : Settings) (me : ℕ) (log : List Line)
             → NodeFor node.now s me log
             → tick ≡ now log

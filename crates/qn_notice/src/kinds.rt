@@ -3,7 +3,7 @@ use qn_base::{Rank, View};
 use qn_model::{Answer, HaltKind, Phase, Why};
 
 /// What is told of a running node.
-#[derive(Clone, Copy, Default, Debug)]
+#[derive(Clone, Copy, PartialEq, Eq, Default, Debug)]
 pub enum Event {
     /// The phase changed.
     Phase { from: Phase, to: Phase },

@@ -3,7 +3,7 @@ use Rattle.std.specs.Prelude.{◌≡◌, Option, Some, None, Result, Ok, Err}
 use Rattle.qn_base.specs.declared.calls.Call.{Call}
 use Rattle.qn_base.specs.Plans.{Plan, question}
 use Rattle.qn_live.specs.Asking.{question_of}
-use Rattle.qn_live.specs.Machine.{RunFor}
+use Rattle.qn_live.specs.Images.{RunsAs}
 use Rattle.qn_live.specs.Running.{Ran}
 use Rattle.qn_live.specs.declared.asked.Asked.{Asked}
 use Rattle.qn_live.specs.declared.asked.Room.{Room}
@@ -17,4 +17,4 @@ asked_next (Err end) room = None
 
 -- a plan is left of the run, and the call that the process waits for is the one that the plan asks for
 abbrev pub IsAsking : Inside → Type 0
-IsAsking p = (plan : Plan Ran) × RunFor p.run plan × (question plan ≡ asked_next p.next p.room)
+IsAsking p = (plan : Plan Ran) × RunsAs p.run plan × (question plan ≡ asked_next p.next p.room)

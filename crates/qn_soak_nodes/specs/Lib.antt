@@ -1,2 +1,3 @@
 -- What the process of a node keeps: this project's profile.
 pub mod Asking
+pub mod Reading

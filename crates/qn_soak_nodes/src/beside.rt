@@ -4,19 +4,22 @@ ghost use Rattle.qn_model.specs.Settings.{IsValid};
 ghost use Rattle.qn_model.specs.Timing.{is_safe};
 
 use crate::fault::Fault;
+use crate::lines::{Line, write_late, write_on, write_operator};
+use crate::worlds::Worlds;
 use arrayvec::ArrayVec;
-use qn_base::{LATEST_TIME, MOST_LINE_BYTES, Mask, Rank};
-use qn_model::{Event, Outs, Refused, Report, Settings, Timing};
-use qn_sched::{read_line_into, write_line};
-use qn_world::{World, blank_report};
+use qn_base::{Mask, Rank};
+use qn_live::{NodeImages, Standing};
+use qn_model::{Event, Message, Outs, Phase, Report, Settings, Timing};
+use qn_sched::write_line;
+use qn_world::blank_report;
 use std::alloc::Global;
 use std::str;
 
 /// The world beside the running nodes, the schedule that it was told, and its last report.
 #[derive(Drop)]
 pub struct Beside {
-    world: World,
-    line: ArrayVec<u8, MOST_LINE_BYTES>,
+    world: Worlds,
+    line: Line,
     event: Event,
     report: Report,
     /// Whether the schedule is kept.
@@ -26,9 +29,10 @@ pub struct Beside {
 }
 
 impl Beside {
-    /// The first world, with nothing told; `keeps` says whether its schedule is kept.
+    /// The first world of these images, with nothing told; `keeps` says whether its schedule is kept.
     pub fn new(
         alloc: Global,
+        images: NodeImages,
         settings: &Settings,
         timing: Timing,
         keeps: bool,
@@ -36,7 +40,7 @@ impl Beside {
         requires valid { IsValid settings.now }
         requires safe { is_safe timing ≡ true }
     {
-        let Ok(world) = World::new(alloc, settings.copy(), timing) else {
+        let Ok(world) = Worlds::new(alloc, images, settings.copy(), timing) else {
             return Err(Fault::NoMemory);
         };
         Ok(Beside {
@@ -50,22 +54,57 @@ impl Beside {
         })
     }
 
-    /// Tells the world an event.
+    /// Tells the world an event that names no image.
     pub fn tell(&mut self, event: &Event) -> Result<(), Fault> {
         write_line(event, self.world.settings(), &mut self.line);
+        self.happen()
+    }
+
+    /// The part of the operation of a node lands on the image of that place.
+    pub fn land_on(&mut self, rank: Rank, place: usize) -> Result<(), Fault> {
+        match self.world.images() {
+            NodeImages::One => self.tell(&Event::Land(rank)),
+            NodeImages::Three => {
+                write_on(&mut self.line, "land", self.world.settings(), rank, place);
+                self.happen()
+            }
+        }
+    }
+
+    /// The part of the operation of a node fails on the image of that place, of three.
+    pub fn fail_on(&mut self, rank: Rank, place: usize) -> Result<(), Fault> {
+        write_on(&mut self.line, "fail", self.world.settings(), rank, place);
+        self.happen()
+    }
+
+    /// The leftover of that number of a node lands on the image of that place.
+    pub fn late_on(&mut self, rank: Rank, place: usize, number: u64) -> Result<(), Fault> {
+        match self.world.images() {
+            NodeImages::One => self.tell(&Event::Late(rank, number)),
+            NodeImages::Three => {
+                write_late(&mut self.line, self.world.settings(), rank, place, number);
+                self.happen()
+            }
+        }
+    }
+
+    /// An operator writes a message to a node, on the image of that place.
+    pub fn operate_on(&mut self, rank: Rank, place: usize, message: Message) -> Result<(), Fault> {
+        match self.world.images() {
+            NodeImages::One => self.tell(&Event::Operator(rank, message)),
+            NodeImages::Three => {
+                write_operator(&mut self.line, self.world.settings(), rank, place, message);
+                self.happen()
+            }
+        }
+    }
+
+    /// The event of the present line happens.
+    fn happen(&mut self) -> Result<(), Fault> {
         self.keep()?;
-        if read_line_into(self.line.as_slice(), self.world.settings(), &mut self.event).is_err() {
-            return Err(Fault::NoEvent);
-        }
-        if self.world.time() > LATEST_TIME || self.world.steps_left() == 0 {
-            return Err(Fault::Spent);
-        }
         self.events = self.events.saturating_add(1);
-        match self.world.apply_into(&self.event, &mut self.report) {
-            Ok(()) => Ok(()),
-            Err(Refused::NotAllowed(rule)) => Err(Fault::Refused(rule.0)),
-            Err(Refused::NoMemory) => Err(Fault::NoMemory),
-        }
+        self.world
+            .take(self.line.as_slice(), &mut self.event, &mut self.report)
     }
 
     /// Keeps the present line.
@@ -90,6 +129,16 @@ impl Beside {
     /// What the node of the last event did in the world.
     pub fn outs(&self) -> &Outs {
         &self.report.outs
+    }
+
+    /// Whether the node of the last event, which is of that rank, stands so in the world: by its count, its condition, and whether it
+    /// holds. A node that has ended has neither there.
+    pub fn has(&self, rank: Rank, standing: &Standing) -> bool {
+        let report = &self.report;
+        matches!(standing.phase, Phase::Gone)
+            || standing.answer == report.answer
+                && standing.why == report.why
+                && standing.holds == report.holders.has(rank)
     }
 
     /// The nodes that hold in the world.

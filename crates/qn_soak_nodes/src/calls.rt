@@ -1,12 +1,12 @@
 //! The calls of the processes: each takes its time, lands on the disk, may fail, and returns with its answer.
-use crate::disk::{Write, mailbox_of};
+use crate::disk::{Leftover, Write, image_place, mailbox_owner};
 use crate::fault::Fault;
-use crate::host::{Operation, Step, UnderWay};
+use crate::host::{Operation, Part, Step, Trouble, UnderWay};
 use crate::network::Flight;
 use crate::process::Reply;
 use crate::simulation::Simulation;
 use qn_base::Rank;
-use qn_live::{Asked, LiveEnd};
+use qn_live::{Asked, LiveEnd, NodeImages};
 use qn_model::Event;
 
 /// How late a feed may be: the outside refuses one that was decided longer ago, by the clock of its host, in milliseconds.
@@ -60,7 +60,7 @@ impl Simulation {
         };
         match asked {
             Asked::Receive => self.wait_for_packet(place, call),
-            Asked::Read { .. } | Asked::Write { .. } => self.disk_call(place, call),
+            Asked::Read { sector } | Asked::Write { sector } => self.disk_call(place, sector, call),
             Asked::Start | Asked::Stop => UnderWay {
                 at: self.time.saturating_add(self.draw.between(0, 300)),
                 fails: self.draw.chance(self.rates.agent_faults),
@@ -88,21 +88,22 @@ impl Simulation {
         }
     }
 
-    /// An operation of the disk: it lands, and returns after that; one that fails lands in three cases of ten.
-    fn disk_call(&mut self, place: usize, call: UnderWay) -> UnderWay {
-        let (is_slow, is_broken) = match self.hosts.get(place) {
-            Some(host) => (self.time < host.slow_until, self.time < host.fails_until),
-            None => (false, false),
+    /// An operation of the disk: it lands, and returns after that; one that fails lands in three cases of ten, but for one on an image
+    /// that is lost.
+    fn disk_call(&mut self, place: usize, sector: u32, call: UnderWay) -> UnderWay {
+        let trouble = match self.hosts.get(place) {
+            Some(host) => host.trouble(sector, self.time),
+            None => Trouble::none(),
         };
-        let most = if is_slow { SLOW } else { QUICK };
-        let is_broken = is_broken && self.draw.chance(700);
-        let fails = is_broken || self.draw.chance(self.rates.disk_faults);
+        let most = if trouble.is_slow { SLOW } else { QUICK };
+        let is_broken = trouble.is_broken && self.draw.chance(700);
+        let fails = trouble.is_lost || is_broken || self.draw.chance(self.rates.disk_faults);
         UnderWay {
             step: Step::Land,
             at: self.time.saturating_add(self.draw.between(0, most)),
             returns_after: self.draw.between(0, most),
             fails,
-            lands: !fails || self.draw.chance(300),
+            lands: !fails || !trouble.is_lost && self.draw.chance(300),
             ..call
         }
     }
@@ -152,26 +153,45 @@ impl Simulation {
         }
     }
 
-    /// A read takes what stands in its sector. A damaged mailbox tells no more than a read that failed.
+    /// A read takes what stands in its sector.
     fn land_read(&mut self, place: usize, rank: Rank, sector: u32) -> Result<(), Fault> {
         let bytes = self.disk.read(sector);
         if let Some(host) = self.hosts.get_mut(place) {
             host.taken = bytes;
         }
-        if self.disk.is_damaged_mailbox(sector) {
+        if self.tells_nothing(sector) {
             return Ok(());
         }
-        self.beside.tell(&Event::Land(rank))
+        self.land_part(place, rank, sector)
+    }
+
+    /// Whether a read of a sector tells no more than one that failed: of a damaged mailbox, and of each damaged sector of one of three
+    /// images.
+    fn tells_nothing(&self, sector: u32) -> bool {
+        match self.words.images {
+            NodeImages::One => self.disk.is_damaged_mailbox(sector),
+            NodeImages::Three => self.disk.is_wiped(sector),
+        }
     }
 
     fn land_write(&mut self, place: usize, rank: Rank, sector: u32) -> Result<(), Fault> {
         if let Some(write) = self.write_at(place, sector) {
             self.disk.write(sector, &write.bytes);
         }
-        if sector != mailbox_of(rank) {
-            self.note_write(rank, sector);
+        let is_first = match self.hosts.get(place) {
+            Some(host) => !host.has_landed(),
+            None => true,
+        };
+        self.note_write(rank, sector, is_first);
+        self.land_part(place, rank, sector)
+    }
+
+    /// The part of an operation lands on the image of its sector.
+    fn land_part(&mut self, place: usize, rank: Rank, sector: u32) -> Result<(), Fault> {
+        if let Some(host) = self.hosts.get_mut(place) {
+            host.set_part(sector, Part::Landed);
         }
-        self.beside.tell(&Event::Land(rank))
+        self.beside.land_on(rank, image_place(sector))
     }
 
     /// The write of the process of a host into that sector.
@@ -190,7 +210,8 @@ impl Simulation {
             return Ok(());
         };
         self.logs.add(place, call.asked, &reply, &taken, process)?;
-        process.answer(&reply, &taken);
+        let told = process.answer(&reply, &taken)?;
+        self.counts.told = self.counts.told.saturating_add(told as u64);
         if matches!(call.asked, Asked::Now) {
             self.take_turn(place)?;
         }
@@ -203,18 +224,15 @@ impl Simulation {
         match call.asked {
             Asked::Receive => Ok(self.take_packet(place)),
             Asked::Now => Ok(self.look_at_clock(place)),
-            Asked::Read { .. } => {
-                self.note_operation(place, ok, None);
-                Ok(Reply::done(ok))
-            }
+            Asked::Read { sector } => self.finish(place, sector, ok, None),
             Asked::Write { sector } => {
                 let write = if ok || call.landed {
                     None
                 } else {
                     self.write_at(place, sector)
                 };
-                self.note_operation(place, ok, write);
-                Ok(Reply::done(ok))
+                self.note_clear(place, sector, ok);
+                self.finish(place, sector, ok, write)
             }
             Asked::Feed => self.feed(place),
             Asked::Start => Ok(Reply::done(ok)),
@@ -256,10 +274,61 @@ impl Simulation {
         }
     }
 
-    /// Notes how an operation of the disk ended.
-    fn note_operation(&mut self, place: usize, ok: bool, write: Option<Write>) {
-        if let Some(host) = self.hosts.get_mut(place) {
-            host.operation = Operation { failed: !ok, write };
+    /// An operation of the disk returns, with its write where that did not land. That of one image is told by its entry, a part on one of
+    /// three images at once.
+    fn finish(
+        &mut self,
+        place: usize,
+        sector: u32,
+        ok: bool,
+        write: Option<Write>,
+    ) -> Result<Reply, Fault> {
+        match self.words.images {
+            NodeImages::One => {
+                if let Some(host) = self.hosts.get_mut(place) {
+                    host.operation = Operation { failed: !ok, write };
+                }
+            }
+            NodeImages::Three => self.finish_part(place, sector, ok, write)?,
+        }
+        Ok(Reply::done(ok))
+    }
+
+    /// A part on one of three images returns. One that failed, or told nothing, is told as a failure.
+    fn finish_part(
+        &mut self,
+        place: usize,
+        sector: u32,
+        ok: bool,
+        write: Option<Write>,
+    ) -> Result<(), Fault> {
+        let at = self.draw_late(5000);
+        let Some(host) = self.hosts.get_mut(place) else {
+            return Ok(());
+        };
+        let image = image_place(sector);
+        if ok && host.parts.get(image) == Some(&Part::Landed) {
+            return Ok(());
+        }
+        host.set_part(sector, Part::Failed);
+        let rank = host.rank;
+        self.beside.fail_on(rank, image)?;
+        match write {
+            Some(write) => self.leave_over(place, Leftover { at, write }),
+            None => Ok(()),
+        }
+    }
+
+    /// Notes on which images the clear of the own mailbox was done: the node reads it there alone.
+    fn note_clear(&mut self, place: usize, sector: u32, ok: bool) {
+        let Some(host) = self.hosts.get_mut(place) else {
+            return;
+        };
+        if mailbox_owner(sector) != Some(host.rank) {
+            return;
+        }
+        if let Some(good) = host.good.get_mut(image_place(sector)) {
+            *good = ok;
         }
     }
 

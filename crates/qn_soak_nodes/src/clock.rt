@@ -14,6 +14,15 @@ pub struct Clock {
 }
 
 impl Clock {
+    /// The clock of a host that has not booted yet.
+    pub fn first() -> Clock {
+        Clock {
+            base: 0,
+            booted: 0,
+            rate: 100_000,
+        }
+    }
+
     /// What it shows, in hundredths of a millisecond.
     pub fn hundredths(&self, time: u64) -> u64 {
         let passed = time.saturating_sub(self.booted);
@@ -43,6 +52,15 @@ pub struct Watchdog {
 }
 
 impl Watchdog {
+    /// A watchdog that is not armed.
+    pub fn off() -> Watchdog {
+        Watchdog {
+            armed: false,
+            fed: 0,
+            life: 0,
+        }
+    }
+
     /// When it resets the machine.
     pub fn ends_at(&self) -> u64 {
         if self.armed {

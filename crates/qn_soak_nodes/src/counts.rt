@@ -13,6 +13,8 @@ pub struct Counts {
     /// Of the resets those of a node that was silent for less than three loops, and left out of a view once a change had lasted three.
     pub hurried: u64,
     pub late_writes: u64,
+    /// How many events were told of the nodes.
+    pub told: u64,
     /// For how many milliseconds no resource ran.
     pub idle: u64,
     /// The longest time for which a majority that was well had no holder, in thousandths of the bound.
@@ -34,6 +36,7 @@ impl Counts {
             resets: 0,
             hurried: 0,
             late_writes: 0,
+            told: 0,
             idle: 0,
             longest: 0,
             time: 0,

@@ -1,12 +1,13 @@
 //! Disturbances of a run: they are drawn once a second, by the rates of its kind.
-use crate::disk::{mailbox_of, slot_of};
+use crate::disk::{IMAGES, mailbox_of, on_image, slot_of};
 use crate::draw::{Draw, Stream};
 use crate::fault::Fault;
 use crate::judge::rank_of;
 use crate::simulation::Simulation;
 use crate::words::Words;
 use qn_base::{Mask, Rank};
-use qn_model::{Event, Message};
+use qn_live::NodeImages;
+use qn_model::Message;
 
 /// How often disturbances are drawn, in milliseconds.
 const DRAWN_EACH: u64 = 1000;
@@ -32,14 +33,24 @@ enum Disturbance {
     Crash(Rank),
     /// The machine of that host is paused, for so many milliseconds.
     Pause(Rank, u64),
-    /// The disk is slow, or fails, for these hosts and so many milliseconds.
-    Slow(Mask, u64),
-    Fail(Mask, u64),
+    /// The disk is slow, or fails, for these hosts, on these images and for so many milliseconds.
+    Slow(Mask, Images, u64),
+    Fail(Mask, Images, u64),
+    /// An image is lost for all hosts, and comes back after so many milliseconds as it was.
+    Lose(Images, u64),
     /// The mailbox or the slot of that host is damaged.
     Damage(Rank),
-    /// An operator writes that message to that node.
-    Message(Rank, Message),
+    /// A sector is damaged on one of three images: of that number, on the image of that place.
+    Wipe(u32, usize),
+    /// An operator writes that message to that node, on these images.
+    Message(Rank, Message, Images),
 }
+
+/// By places whether it is that image.
+type Images = [bool; IMAGES];
+
+/// All images.
+const ALL: Images = [true; IMAGES];
 
 /// Draws the disturbances of a run.
 #[derive(Drop)]
@@ -50,6 +61,7 @@ pub struct Disturber {
     made: u64,
     from: u64,
     before: u64,
+    images: NodeImages,
 }
 
 impl Disturber {
@@ -61,6 +73,7 @@ impl Disturber {
             made: 0,
             from: words.from,
             before: words.before,
+            images: words.images,
         }
     }
 
@@ -114,7 +127,49 @@ impl Disturber {
             4 => Message::Crashdump,
             _ => Message::Empty,
         };
-        Disturbance::Message(to, message)
+        Disturbance::Message(to, message, self.images_or_one())
+    }
+
+    /// All images, or one of three.
+    fn images_or_one(&mut self) -> Images {
+        match self.images {
+            NodeImages::One => ALL,
+            NodeImages::Three => {
+                let one = self.image();
+                if self.draw.chance(500) { ALL } else { one }
+            }
+        }
+    }
+
+    /// One of three images.
+    fn image(&mut self) -> Images {
+        let place = self.draw.below(3);
+        [place == 0, place == 1, place == 2]
+    }
+
+    /// An image is lost, mostly for a while, or for long.
+    fn loss(&mut self) -> Disturbance {
+        let lost = self.image();
+        let longest = if self.draw.chance(300) {
+            100_000
+        } else {
+            20_000
+        };
+        Disturbance::Lose(lost, self.draw.between(200, longest))
+    }
+
+    /// A damaged sector: one that nodes use, and on three images that of one of them.
+    fn damage(&mut self, count: usize) -> Disturbance {
+        let of = self.host(count);
+        if matches!(self.images, NodeImages::One) {
+            return Disturbance::Damage(of);
+        }
+        let sector = match self.draw.below(10) {
+            0 => 0,
+            1 | 2 | 3 => slot_of(of),
+            _ => mailbox_of(of),
+        };
+        Disturbance::Wipe(sector, self.draw.below(3) as usize)
     }
 
     /// The disk is slow or fails, for one host or for all.
@@ -125,10 +180,11 @@ impl Disturber {
         } else {
             Mask(u32::MAX)
         };
+        let images = self.images_or_one();
         if self.draw.chance(500) {
-            Disturbance::Slow(hosts, self.draw.between(100, 5000))
+            Disturbance::Slow(hosts, images, self.draw.between(100, 5000))
         } else {
-            Disturbance::Fail(hosts, self.draw.between(100, 20_000))
+            Disturbance::Fail(hosts, images, self.draw.between(100, 20_000))
         }
     }
 }
@@ -175,7 +231,11 @@ impl Simulation {
             self.make(drawn)?;
         }
         if self.disturber.is_due(rates.damages) {
-            let drawn = Disturbance::Damage(self.disturber.host(count));
+            let drawn = self.disturber.damage(count);
+            self.make(drawn)?;
+        }
+        if matches!(self.words.images, NodeImages::Three) && self.disturber.is_due(rates.images) {
+            let drawn = self.disturber.loss();
             self.make(drawn)?;
         }
         if self.disturber.is_due(rates.operators) {
@@ -207,34 +267,53 @@ impl Simulation {
                 }
                 Ok(())
             }
-            Disturbance::Slow(hosts, lasts) => {
-                self.slow_disk(hosts, time.saturating_add(lasts));
+            Disturbance::Slow(hosts, images, lasts) => {
+                self.slow_disk(hosts, images, time.saturating_add(lasts));
                 Ok(())
             }
-            Disturbance::Fail(hosts, lasts) => {
-                self.break_disk(hosts, time.saturating_add(lasts));
+            Disturbance::Fail(hosts, images, lasts) => {
+                self.break_disk(hosts, images, time.saturating_add(lasts));
+                Ok(())
+            }
+            Disturbance::Lose(images, lasts) => {
+                self.lose_images(images, time.saturating_add(lasts));
                 Ok(())
             }
             Disturbance::Damage(rank) => self.damage(rank),
-            Disturbance::Message(rank, message) => self.operate(rank, message),
+            Disturbance::Wipe(sector, place) => self.wipe(sector, place),
+            Disturbance::Message(rank, message, images) => self.operate(rank, message, images),
         }
     }
 
-    /// The disk is slow for these hosts until that time.
-    fn slow_disk(&mut self, hosts: Mask, until: u64) {
+    /// The disk is slow for these hosts, on these images, until that time.
+    fn slow_disk(&mut self, hosts: Mask, images: Images, until: u64) {
         for host in self.hosts.iter_mut() {
             if hosts.has(host.rank) {
-                host.slow_until = until;
+                set_until(&mut host.slow_until, images, until);
             }
         }
     }
 
-    /// The disk fails for these hosts until that time.
-    fn break_disk(&mut self, hosts: Mask, until: u64) {
+    /// The disk fails for these hosts, on these images, until that time.
+    fn break_disk(&mut self, hosts: Mask, images: Images, until: u64) {
         for host in self.hosts.iter_mut() {
             if hosts.has(host.rank) {
-                host.fails_until = until;
+                set_until(&mut host.fails_until, images, until);
             }
+        }
+    }
+
+    /// These images are lost until that time, where no other one is.
+    fn lose_images(&mut self, images: Images, until: u64) {
+        let time = self.time;
+        let Some(host) = self.hosts.first() else {
+            return;
+        };
+        if host.lost_until.iter().any(|until| time < *until) {
+            return;
+        }
+        for host in self.hosts.iter_mut() {
+            set_until(&mut host.lost_until, images, until);
         }
     }
 
@@ -300,18 +379,46 @@ impl Simulation {
         self.disk.damage(sector).map_err(|_| Fault::NoMemory)
     }
 
-    /// An operator writes a message: over a deadly one to a node that runs only another deadly one.
-    fn operate(&mut self, rank: Rank, message: Message) -> Result<(), Fault> {
-        let place = usize::from(rank.0);
-        let before = self.disk.message(rank);
-        let Some(host) = self.hosts.get_mut(place) else {
+    /// A sector is damaged on the image of that place, where it is on no other one, and is no mailbox with a deadly message.
+    fn wipe(&mut self, sector: u32, place: usize) -> Result<(), Fault> {
+        let damaged = on_image(place, sector);
+        if self.disk.is_wiped_somewhere(sector) || self.disk.message(damaged).is_deadly() {
+            return Ok(());
+        }
+        self.disk.wipe(damaged).map_err(|_| Fault::NoMemory)
+    }
+
+    /// An operator writes a message, on these images.
+    fn operate(&mut self, rank: Rank, message: Message, images: Images) -> Result<(), Fault> {
+        for place in 0..self.disk.images() {
+            if matches!(images.get(place), Some(true)) {
+                self.operate_on(rank, message, place)?;
+            }
+        }
+        Ok(())
+    }
+
+    /// An operator writes a message on the image of that place: over a deadly one to a node that runs only another deadly one.
+    fn operate_on(&mut self, rank: Rank, message: Message, place: usize) -> Result<(), Fault> {
+        let mailbox = on_image(place, mailbox_of(rank));
+        let before = self.disk.message(mailbox);
+        let Some(host) = self.hosts.get_mut(usize::from(rank.0)) else {
             return Ok(());
         };
         if !message.is_deadly() && before.is_deadly() && host.node_on {
             return Ok(());
         }
         host.doomed = host.doomed || message.is_deadly();
-        self.disk.put_message(rank, message);
-        self.beside.tell(&Event::Operator(rank, message))
+        self.disk.put_message(mailbox, message);
+        self.beside.operate_on(rank, place, message)
+    }
+}
+
+/// Sets a time on these images.
+fn set_until(times: &mut [u64; IMAGES], images: Images, until: u64) {
+    for (time, is_set) in times.iter_mut().zip(images.iter()) {
+        if *is_set {
+            *time = until;
+        }
     }
 }

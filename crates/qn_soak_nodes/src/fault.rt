@@ -14,6 +14,10 @@ pub enum Fault {
     Spent,
     /// The world gives other outputs for an entry of this node.
     OtherOutputs(Rank),
+    /// A second reading of an entry of this node tells other events of it.
+    OtherJournal(Rank),
+    /// In the world this node stands otherwise after an entry: another count, condition or holder.
+    OtherStanding(Rank),
     /// Two nodes hold in the world, and maybe more: the first of them.
     TwoHolders(Rank),
     /// The resource runs at these two hosts.
@@ -35,6 +39,8 @@ impl Fault {
             Fault::NoEvent => "no-event",
             Fault::Spent => "spent",
             Fault::OtherOutputs(_) => "other-outputs",
+            Fault::OtherJournal(_) => "other-journal",
+            Fault::OtherStanding(_) => "other-standing",
             Fault::TwoHolders(_) => "two-holders",
             Fault::TwoResources(..) => "two-resources",
             Fault::Unheld(_) => "unheld",

@@ -1,6 +1,6 @@
 //! One host: its machine, the process of its node, the call that is under way, its resource.
 use crate::clock::{Clock, NEVER, Watchdog};
-use crate::disk::{Leftover, Sector, Write};
+use crate::disk::{Disk, IMAGES, Leftover, Sector, Write, image_place, on_image};
 use crate::network::Flight;
 use crate::process::Process;
 use qn_base::{Mask, Rank, View};
@@ -47,6 +47,35 @@ pub struct Operation {
     pub write: Option<Write>,
 }
 
+/// How far the part of the present operation of the disk has come on an image, as the world was told.
+#[derive(Clone, Copy, PartialEq, Eq)]
+pub enum Part {
+    Pending,
+    Landed,
+    Failed,
+}
+
+/// What is wrong with an image for a host.
+#[derive(Clone, Copy)]
+pub struct Trouble {
+    pub is_slow: bool,
+    /// Whether most operations fail.
+    pub is_broken: bool,
+    /// Whether no operation lands.
+    pub is_lost: bool,
+}
+
+impl Trouble {
+    /// Nothing is.
+    pub fn none() -> Trouble {
+        Trouble {
+            is_slow: false,
+            is_broken: false,
+            is_lost: false,
+        }
+    }
+}
+
 /// What is due at a host.
 #[derive(Clone, Copy, PartialEq, Eq)]
 pub enum Due {
@@ -72,9 +101,10 @@ pub struct Host {
     pub resets_at: u64,
     pub restarts_at: u64,
     pub paused_until: u64,
-    /// Until when its operations of the disk are slow, and until when they fail.
-    pub slow_until: u64,
-    pub fails_until: u64,
+    /// By images: until when its operations are slow, until when they fail, and until when the image is lost.
+    pub slow_until: [u64; IMAGES],
+    pub fails_until: [u64; IMAGES],
+    pub lost_until: [u64; IMAGES],
     pub clock: Clock,
     pub watchdog: Watchdog,
     pub process: Option<Process>,
@@ -82,6 +112,9 @@ pub struct Host {
     /// What the last read of the disk took.
     pub taken: Sector,
     pub operation: Operation,
+    /// By images: how far the present operation has come, and whether the node reads its mailbox there.
+    pub parts: [Part; IMAGES],
+    pub good: [bool; IMAGES],
     /// Whether the resource runs.
     pub resource: bool,
     pub inbox: Vec<Flight>,
@@ -111,18 +144,11 @@ impl Host {
             resets_at: NEVER,
             restarts_at: NEVER,
             paused_until: 0,
-            slow_until: 0,
-            fails_until: 0,
-            clock: Clock {
-                base: 0,
-                booted: 0,
-                rate: 100_000,
-            },
-            watchdog: Watchdog {
-                armed: false,
-                fed: 0,
-                life: 0,
-            },
+            slow_until: [0; IMAGES],
+            fails_until: [0; IMAGES],
+            lost_until: [0; IMAGES],
+            clock: Clock::first(),
+            watchdog: Watchdog::off(),
             process: None,
             call: None,
             taken: [0; SECTOR],
@@ -130,6 +156,8 @@ impl Host {
                 failed: false,
                 write: None,
             },
+            parts: [Part::Pending; IMAGES],
+            good: [true; IMAGES],
             resource: false,
             inbox: Vec::new(alloc),
             leftovers: Vec::new(alloc),
@@ -205,6 +233,51 @@ impl Host {
         Some(Write { sector, bytes })
     }
 
+    /// What is wrong with the image of a sector.
+    pub fn trouble(&self, sector: u32, time: u64) -> Trouble {
+        let place = image_place(sector);
+        match (
+            self.slow_until.get(place),
+            self.fails_until.get(place),
+            self.lost_until.get(place),
+        ) {
+            (Some(slow), Some(fails), Some(lost)) => Trouble {
+                is_slow: time < *slow,
+                is_broken: time < *fails,
+                is_lost: time < *lost,
+            },
+            _ => Trouble::none(),
+        }
+    }
+
+    /// Whether the present operation has landed on some image.
+    pub fn has_landed(&self) -> bool {
+        self.parts.iter().any(|part| *part == Part::Landed)
+    }
+
+    /// An operation of the disk begins.
+    pub fn begin_operation(&mut self) {
+        self.parts = [Part::Pending; IMAGES];
+    }
+
+    /// How far the present operation has come on the image of a sector.
+    pub fn set_part(&mut self, sector: u32, part: Part) {
+        if let Some(place) = self.parts.get_mut(image_place(sector)) {
+            *place = part;
+        }
+    }
+
+    /// How many leftovers on the image of a sector are before that place.
+    pub fn leftovers_before(&self, number: usize, sector: u32) -> u64 {
+        let mut count = 0u64;
+        for left in self.leftovers.iter().take(number) {
+            if image_place(left.write.sector) == image_place(sector) {
+                count = count.saturating_add(1);
+            }
+        }
+        count
+    }
+
     /// Whether its node sends and hears packets: it takes part, and nothing holds it up.
     pub fn attends(&self, time: u64) -> bool {
         self.takes_part && time >= self.paused_until && !self.is_held_up()
@@ -219,9 +292,28 @@ impl Host {
     }
 
     /// Whether its node is up, its disk answers in time, and nobody has written its end.
-    pub fn is_well(&self, time: u64) -> bool {
-        let is_disk_well = time >= self.slow_until && time >= self.fails_until;
-        self.attends(time) && self.up && !self.doomed && is_disk_well
+    pub fn is_well(&self, time: u64, disk: &Disk) -> bool {
+        self.attends(time) && self.up && !self.doomed && self.is_disk_well(time, disk)
+    }
+
+    /// Whether the disk answers in time: its one image, or each of three, and two of those on which the node reads its mailbox are whole
+    /// and answer well.
+    fn is_disk_well(&self, time: u64, disk: &Disk) -> bool {
+        let mut well = 0usize;
+        for (place, whole) in disk.whole().iter().enumerate() {
+            if place < disk.images() && *whole && self.is_image_well(place, time) {
+                well = well.saturating_add(1);
+            }
+        }
+        let quick = self.slow_until.iter().all(|until| time >= *until);
+        quick && well > disk.images() / 2
+    }
+
+    /// Whether the node reads its mailbox on the image of that place, and no operation fails there.
+    fn is_image_well(&self, place: usize, time: u64) -> bool {
+        let trouble = self.trouble(on_image(place, 0), time);
+        let is_good = matches!(self.good.get(place), Some(true));
+        is_good && !trouble.is_broken && !trouble.is_lost
     }
 
     /// Installs a view: its members were seen.

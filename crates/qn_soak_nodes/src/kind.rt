@@ -1,4 +1,5 @@
 //! The kinds of runs: what is disturbed, and how often.
+use qn_live::NodeImages;
 
 /// What is disturbed in a run.
 #[derive(Clone, Copy, PartialEq, Eq)]
@@ -29,6 +30,8 @@ pub enum Kind {
     Isolations,
     /// A quorum device votes.
     Device,
+    /// One of three images is lost and comes back as it was, while links are cut and machines crash.
+    Images,
     /// All of it, milder.
     Mixed,
 }
@@ -36,14 +39,15 @@ pub enum Kind {
 /// How often things are disturbed.
 #[derive(Clone, Copy)]
 pub struct Rates {
-    /// In a thousand seconds: cuts of links, ends of processes and machines, pauses, a slow or failing disk, damaged sectors,
-    /// messages of operators.
+    /// In a thousand seconds: cuts of links, ends of processes and machines, pauses, a slow or failing disk, damaged sectors, losses of
+    /// one of three images, messages of operators.
     pub cuts: u64,
     pub kills: u64,
     pub crashes: u64,
     pub pauses: u64,
     pub disks: u64,
     pub damages: u64,
+    pub images: u64,
     pub operators: u64,
     /// Of a thousand packets: those that are lost, and as many are copied; and those that are late.
     pub losses: u64,
@@ -65,6 +69,7 @@ const CALM: Rates = Rates {
     pauses: 0,
     disks: 0,
     damages: 0,
+    images: 0,
     operators: 0,
     losses: 0,
     lates: 0,
@@ -75,7 +80,7 @@ const CALM: Rates = Rates {
 };
 
 /// Every kind.
-pub static KINDS: [Kind; 14] = [
+pub static KINDS: [Kind; 15] = [
     Kind::Quiet,
     Kind::Cuts,
     Kind::Kills,
@@ -89,6 +94,7 @@ pub static KINDS: [Kind; 14] = [
     Kind::Agents,
     Kind::Isolations,
     Kind::Device,
+    Kind::Images,
     Kind::Mixed,
 ];
 
@@ -109,6 +115,7 @@ impl Kind {
             "agents" => Some(Kind::Agents),
             "isolations" => Some(Kind::Isolations),
             "device" => Some(Kind::Device),
+            "images" => Some(Kind::Images),
             "mixed" => Some(Kind::Mixed),
             _ => None,
         }
@@ -130,8 +137,14 @@ impl Kind {
             Kind::Agents => "agents",
             Kind::Isolations => "isolations",
             Kind::Device => "device",
+            Kind::Images => "images",
             Kind::Mixed => "mixed",
         }
+    }
+
+    /// Whether it is one of nodes on these images.
+    pub fn is_of(self, images: NodeImages) -> bool {
+        matches!(images, NodeImages::Three) || !matches!(self, Kind::Images)
     }
 
     /// Whether a quorum device votes.
@@ -158,6 +171,7 @@ impl Kind {
             },
             Kind::Damages => Rates {
                 damages: 50,
+                images: 10,
                 kills: 10,
                 ..CALM
             },
@@ -190,11 +204,18 @@ impl Kind {
             Kind::Isolations => Rates {
                 cuts: 60,
                 disks: 120,
+                images: 20,
                 ..CALM
             },
             Kind::Device => Rates {
                 cuts: 20,
                 crashes: 10,
+                ..CALM
+            },
+            Kind::Images => Rates {
+                images: 60,
+                cuts: 20,
+                crashes: 20,
                 ..CALM
             },
             Kind::Mixed => Rates {
@@ -204,6 +225,7 @@ impl Kind {
                 pauses: 30,
                 disks: 20,
                 damages: 5,
+                images: 10,
                 operators: 5,
                 losses: 30,
                 lates: 20,

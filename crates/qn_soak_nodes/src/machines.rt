@@ -1,11 +1,11 @@
 //! Machines and processes of a simulation: they boot, end and are started again.
 use crate::clock::{Clock, NEVER, Watchdog};
-use crate::disk::Leftover;
+use crate::disk::{IMAGES, Leftover, image_place};
 use crate::fault::Fault;
 use crate::process::Process;
 use crate::simulation::Simulation;
 use qn_base::{Mask, Rank};
-use qn_live::LiveEnd;
+use qn_live::{LiveEnd, NodeImages};
 use qn_model::Event;
 
 impl Simulation {
@@ -64,9 +64,12 @@ impl Simulation {
         host.heard = None;
         host.doomed = false;
         host.viewed = Mask(0);
+        host.good = [true; IMAGES];
+        host.begin_operation();
         let settings = self.beside.settings();
         if usize::from(rank.0) < settings.nodes.len() {
-            host.process = Some(Process::new(settings, rank, clean, leave_at));
+            let process = Process::new(self.words.images, settings, rank, clean, leave_at);
+            host.process = Some(process);
         }
         self.disk.repair(rank);
         self.logs.begin(place, clean, leave_at);
@@ -170,22 +173,27 @@ impl Simulation {
             return Ok(());
         };
         let rank = host.rank;
+        let sector = left.write.sector;
+        let before = host.leftovers_before(number, sector);
         self.counts.late_writes = self.counts.late_writes.saturating_add(1);
-        self.disk.write(left.write.sector, &left.write.bytes);
-        self.note_write(rank, left.write.sector);
-        let number = (number as u64).saturating_add(1);
-        self.beside.tell(&Event::Late(rank, number))
+        self.disk.write(sector, &left.write.bytes);
+        let is_counted = matches!(self.words.images, NodeImages::One);
+        self.note_write(rank, sector, is_counted);
+        let number = before.saturating_add(1);
+        self.beside.late_on(rank, image_place(sector), number)
     }
 
-    /// A write of a host landed: a reset in another one's mailbox is its end.
-    pub(crate) fn note_write(&mut self, by: Rank, sector: u32) {
+    /// A write of a host landed: a reset in another one's mailbox is its end. It is counted where it landed on no image before.
+    pub(crate) fn note_write(&mut self, by: Rank, sector: u32, is_counted: bool) {
         let Some(of) = crate::disk::mailbox_owner(sector) else {
             return;
         };
         if of == by {
             return;
         }
-        self.counts.resets = self.counts.resets.saturating_add(1);
+        if is_counted {
+            self.counts.resets = self.counts.resets.saturating_add(1);
+        }
         if let Some(host) = self.hosts.get_mut(usize::from(of.0)) {
             host.doomed = true;
         }

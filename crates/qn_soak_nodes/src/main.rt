@@ -1,15 +1,17 @@
 //! A cluster of nodes that run, many at a time, over one outside in memory and in virtual time, beside a world that is told each event.
 //!
-//!     qn_soak_nodes SEED COUNT NODES SECONDS KIND DELAY [line|schedule|logs [FROM BEFORE]]
+//!     qn_soak_nodes SEED COUNT NODES SECONDS KIND DELAY [line|schedule|logs|journals [FROM BEFORE]] [images 1|3|all]
 //!
-//! COUNT runs of the seeds from SEED on, each of so many nodes for so many virtual seconds, with this fence delay in milliseconds, disturbed as its
-//! KIND says (`kind.rt`; `all` is each of them in turn). It writes a line for each run; with `schedule` also the settings and what the world was told, for `quorumd replay`; with
-//! `logs` the calls of the last process of each node, for `quorumd audit`. Only the disturbances from the number FROM on and before BEFORE
-//! are made. The status is 1 where a run is at fault, and 2 for other words.
+//! COUNT runs of the seeds from SEED on, each of so many nodes for so many virtual seconds, with this fence delay in milliseconds, disturbed as
+//! its KIND says (`kind.rt`; `all` is each of them in turn). The nodes run on one image, on three, or first on one and then on three. It writes a
+//! line for each run; with `schedule` also the settings and what the world was told, for `quorumd replay`; with `logs` the calls of the last process of
+//! each node, for `quorumd audit`, and with `journals` on standard error the journal of each, too. Only the disturbances from the number FROM on
+//! and before BEFORE are made. The status is 1 where a run is at fault, and 2 for other words.
 //!
-//! A run is at fault where the world refuses an event or gives other outputs for an entry, where the resource runs at two hosts or at one whose
-//! node does not hold, where nodes with a majority are well and none holds for longer than docs/LIVE.md says, and where a node resets another one that it
-//! saw all the time or again within three loops.
+//! A run is at fault where the world refuses an event or gives other outputs for an entry, where a node stands otherwise than in the world or
+//! what is told of it is not what the definition of a journal says, where the resource runs at two hosts or at one whose node does not hold, where
+//! nodes with a majority are well and none holds for longer than docs/LIVE.md says, and where a node resets another one that it saw all the
+//! time or again within three loops.
 //!
 //! Promises: it is safe and it ends. What it is run on, and what it must write, stand beside it.
 #![tactic(auto)]
@@ -23,18 +25,22 @@ mod disturbances;
 mod draw;
 mod fault;
 mod host;
+mod journals;
 mod judge;
 mod kind;
+mod lines;
 mod logs;
 mod machines;
 mod network;
 mod packets;
 mod process;
+mod reader;
 mod runs;
 mod simulation;
 mod turns;
 mod waits;
 mod words;
+mod worlds;
 
 use runs::run_all;
 use std::process::ExitCode;
@@ -62,7 +68,7 @@ fn answer(rt: &HostRuntime) -> io::Result<u8> {
         Some(words) => run_all(rt, &words),
         None => {
             println!(rt;
-                "usage: qn_soak_nodes SEED COUNT NODES SECONDS KIND DELAY [line|schedule|logs [FROM BEFORE]]"
+                "usage: qn_soak_nodes SEED COUNT NODES SECONDS KIND DELAY [line|schedule|logs|journals [FROM BEFORE]] [images 1|3|all]"
             )?;
             Ok(USAGE)
         }

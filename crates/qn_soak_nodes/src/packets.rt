@@ -103,7 +103,7 @@ impl Simulation {
 }
 
 /// A packet of these bytes; its time and number are not known yet.
-fn flight_of(from: &[u8], sender: Option<Rank>, to: Rank) -> Flight {
+pub(crate) fn flight_of(from: &[u8], sender: Option<Rank>, to: Rank) -> Flight {
     let mut bytes = [0; BYTES];
     for (to, from) in bytes.iter_mut().zip(from.iter()) {
         *to = *from;

@@ -5,11 +5,14 @@ ghost use Rattle.qn_live.specs.Asking.{question_of, told, Tells};
 ghost use Rattle.qn_model.specs.Settings.{IsValid};
 
 use crate::disk::Sector;
+use crate::fault::Fault;
 use crate::network::Flight;
+use crate::reader::Reader;
 use qn_base::Rank;
 use qn_io::{Got, SECTOR};
-use qn_live::{Asked, Given, LiveEnd, NodeRun, Room};
-use qn_model::{Outs, Settings, What};
+use qn_live::{Asked, Given, ImagesRun, LiveEnd, NodeImages, NodeRun, Room, Standing};
+use qn_model::{Entry, Outs, Settings, What};
+use qn_notice::Observer;
 use std::marker::Model;
 
 /// The most turns of a run.
@@ -40,9 +43,12 @@ impl Reply {
 /// The process of a node.
 #[derive(Drop)]
 pub struct Process {
-    run: NodeRun,
+    run: ImagesRun,
     room: Room,
     next: Result<Asked, LiveEnd>,
+    /// What is told of the run, and a second reading of its entries.
+    observer: Observer,
+    reader: Reader,
 }
 
 impl Model for Process {
@@ -60,16 +66,28 @@ impl Model for Process {
 }
 
 impl Process {
-    /// The process of the node of that rank before its first call. `clean` says that its boot is a clean start, and `leave_at`
-    /// is the number of the turn from which on it is to leave.
-    pub fn new(settings: &Settings, me: Rank, clean: bool, leave_at: Option<u64>) -> Process
+    /// The process of the node of that rank on these images before its first call. `clean` says that its boot is a clean start, and
+    /// `leave_at` is the number of the turn from which on it is to leave.
+    pub fn new(
+        images: NodeImages,
+        settings: &Settings,
+        me: Rank,
+        clean: bool,
+        leave_at: Option<u64>,
+    ) -> Process
         requires valid { IsValid settings.now }
         requires configured { me.0 < length settings.now.nodes }
     {
-        let run = NodeRun::new(settings.copy(), me, clean, leave_at, TURNS);
+        let run = ImagesRun::new(images, settings.copy(), me, clean, leave_at, TURNS);
         let mut room = Room::new();
         let next = run.asks(&mut room);
-        Process { run, room, next }
+        Process {
+            run,
+            room,
+            next,
+            observer: Observer::new(),
+            reader: Reader::new(settings, me),
+        }
     }
 
     /// The call that it waits for, or how its run ended.
@@ -79,14 +97,24 @@ impl Process {
         self.next
     }
 
+    /// The running node as one on one image.
+    pub fn node_run(&self) -> &NodeRun {
+        self.run.node_run()
+    }
+
     /// The last entry of its node.
     pub fn entry(&self) -> What {
-        self.run.entry()
+        self.node_run().entry()
+    }
+
+    /// Where its node stands after that entry.
+    pub fn standing(&self) -> &Standing {
+        self.reader.standing()
     }
 
     /// The outputs of that entry.
     pub fn outs(&self) -> &Outs {
-        self.run.outs()
+        self.node_run().outs()
     }
 
     /// The bytes of the sector that is to be written.
@@ -99,14 +127,47 @@ impl Process {
         self.room.sent.as_slice()
     }
 
-    /// Answers the call that it waits for; `sector` are the bytes of a read that succeeded.
-    pub fn answer(&mut self, reply: &Reply, sector: &Sector) {
+    /// Answers the call that it waits for; `sector` are the bytes of a read that succeeded. It gives how many events are told of
+    /// that, which is a fault where a second reading of the entry tells others.
+    pub fn answer(&mut self, reply: &Reply, sector: &Sector) -> Result<usize, Fault> {
         let Ok(asked) = self.next else {
-            return;
+            return Ok(0);
         };
         let given = given_for(asked, reply, sector, &mut self.room);
         self.run.answer(given, &self.room);
         self.next = self.run.asks(&mut self.room);
+        self.tell(asked, given)
+    }
+
+    /// How many events are told of a call: of a look at the clock those of the entry, which is read a second time.
+    fn tell(&mut self, asked: Asked, given: Given) -> Result<usize, Fault> {
+        match asked {
+            Asked::Now => self.tell_entry(given),
+            Asked::Start | Asked::Stop | Asked::Disarm => {
+                let told = self.observer.made(asked, given, self.run.node_run());
+                Ok(told.len())
+            }
+            Asked::Receive
+            | Asked::Read { .. }
+            | Asked::Write { .. }
+            | Asked::Feed
+            | Asked::Send { .. }
+            | Asked::Halt { .. } => Ok(0),
+        }
+    }
+
+    fn tell_entry(&mut self, given: Given) -> Result<usize, Fault> {
+        let run = self.run.node_run();
+        let told = self.observer.made(Asked::Now, given, run);
+        let read = self.reader.read(Entry {
+            tick: given.tick,
+            what: run.entry(),
+        })?;
+        if told.as_slice() == read.as_slice() {
+            Ok(told.len())
+        } else {
+            Err(Fault::OtherJournal(run.rank()))
+        }
     }
 }
 

@@ -1,10 +1,12 @@
 //! The runs that the words ask for, and what is written of each.
 use crate::counts::Counts;
 use crate::fault::Fault;
+use crate::journals::write_journals;
 use crate::kind::{KINDS, Kind};
 use crate::logs::Log;
 use crate::simulation::Simulation;
 use crate::words::{Told, Words};
+use qn_live::NodeImages;
 use qn_model::{Settings, Timing, timing_safe};
 use qn_settings::settings_of_text;
 use std::alloc::{AllocError, Global};
@@ -15,11 +17,24 @@ const LEAST_MSGWAIT: u64 = 8164;
 
 /// Makes the runs, and gives the status: 1 where one is at fault.
 pub fn run_all(rt: &HostRuntime, words: &Words) -> io::Result<u8> {
+    let status = run_kinds(rt, words)?;
+    if !words.all_images {
+        return Ok(status);
+    }
+    let words = Words {
+        images: NodeImages::Three,
+        ..*words
+    };
+    Ok(status.max(run_kinds(rt, &words)?))
+}
+
+/// Makes the runs of the kind that the words say, or of every kind.
+fn run_kinds(rt: &HostRuntime, words: &Words) -> io::Result<u8> {
     if !words.all {
         return run_kind(rt, words);
     }
     let mut status = 0;
-    for kind in KINDS.iter() {
+    for kind in KINDS.iter().filter(|kind| kind.is_of(words.images)) {
         let words = Words {
             kind: *kind,
             ..*words
@@ -63,6 +78,15 @@ fn run_one(rt: &HostRuntime, words: &Words, text: &str, seed: u64) -> io::Result
         Told::Line => {}
         Told::Schedule => write_schedule(rt, text, &timing, simulation.schedule())?,
         Told::Logs => write_logs(rt, simulation.logs().as_slice())?,
+        Told::Journals => {
+            write_logs(rt, simulation.logs().as_slice())?;
+            write_journals(
+                rt,
+                words.images,
+                simulation.settings(),
+                simulation.logs().as_slice(),
+            );
+        }
     }
     Ok(u8::from(fault.is_some()))
 }
@@ -89,7 +113,11 @@ fn write_line(
     counts: &Counts,
 ) -> io::Result<()> {
     let kind = words.kind.name();
-    print!(rt; "seed {seed} kind {kind} nodes {} ", words.nodes)?;
+    let images = words.images.count();
+    print!(rt;
+        "seed {seed} kind {kind} nodes {} images {images} ",
+        words.nodes
+    )?;
     match fault {
         None => print!(rt; "ok")?,
         Some(fault) => write_fault(rt, fault)?,
@@ -103,8 +131,8 @@ fn write_line(
         counts.boots, counts.starts, counts.take_overs
     )?;
     print!(rt;
-        " resets {} hurried {} late-writes {}",
-        counts.resets, counts.hurried, counts.late_writes
+        " resets {} hurried {} late-writes {} told {}",
+        counts.resets, counts.hurried, counts.late_writes, counts.told
     )?;
     println!(rt; " idle {} longest {}", counts.idle, counts.longest)
 }
@@ -115,9 +143,11 @@ fn write_fault(rt: &HostRuntime, fault: Fault) -> io::Result<()> {
     match fault {
         Fault::NoMemory | Fault::NoEvent | Fault::Spent => print!(rt; "{name}"),
         Fault::Refused(rule) => print!(rt; "{name} {rule}"),
-        Fault::OtherOutputs(rank) | Fault::TwoHolders(rank) | Fault::Unheld(rank) => {
-            print!(rt; "{name} {}", id_of(rank.0))
-        }
+        Fault::OtherOutputs(rank)
+        | Fault::OtherJournal(rank)
+        | Fault::OtherStanding(rank)
+        | Fault::TwoHolders(rank)
+        | Fault::Unheld(rank) => print!(rt; "{name} {}", id_of(rank.0)),
         Fault::TwoResources(one, other) => print!(rt; "{name} {} {}", id_of(one.0), id_of(other.0)),
         Fault::NoService { since } => print!(rt; "{name} {since}"),
         Fault::NeedlessReset { by, of } => print!(rt; "{name} {} {}", id_of(by.0), id_of(of.0)),

@@ -67,16 +67,18 @@ impl Simulation {
     {
         let rates = words.kind.rates();
         let mut draw = Draw::new(seed, Stream::Hosts);
-        let beside = Beside::new(alloc, &settings, timing, words.told == Told::Schedule)?;
-        let Ok(disk) = Disk::new(alloc, &settings, &timing) else {
+        let beside = Beside::new(
+            alloc,
+            words.images,
+            &settings,
+            timing,
+            words.told == Told::Schedule,
+        )?;
+        let Ok(disk) = Disk::new(alloc, words.images, &settings, &timing) else {
             return Err(Fault::NoMemory);
         };
-        let enough = settings.quorum(settings.expected).min(33) as u32;
-        let judges = rates.losses == 0 && rates.lates == 0;
-        let Ok(judge) = Judge::new(alloc, &timing, enough, words.delay, judges) else {
-            return Err(Fault::NoMemory);
-        };
-        let logs = Logs::new(alloc, settings.nodes.len(), words.told == Told::Logs)?;
+        let judge = judge_of(alloc, &settings, &timing, &words)?;
+        let logs = Logs::new(alloc, settings.nodes.len(), words.told.keeps_logs())?;
         let hosts = hosts_of(alloc, settings.nodes.len(), &mut draw)?;
         Ok(Simulation {
             timing,
@@ -239,7 +241,7 @@ impl Simulation {
             if host.attends(self.time) {
                 attend = attend.with(host.rank);
             }
-            if host.is_well(self.time) {
+            if host.is_well(self.time, &self.disk) {
                 well = well.with(host.rank);
             }
         }
@@ -270,6 +272,13 @@ impl Simulation {
         self.beside.schedule()
     }
 
+    /// The settings of the nodes.
+    pub fn settings(&self) -> &Settings
+        ensures valid { IsValid result.now }
+    {
+        self.beside.settings()
+    }
+
     /// The log of the last process of each node, where they are kept.
     pub fn logs(&self) -> &Logs {
         &self.logs
@@ -282,6 +291,19 @@ fn add_clock(clocks: &mut Clocks, host: &Host, from: u64, to: u64) {
     if host.node_on && clocks.len() < MOST_CLOCKS {
         clocks.push((host.rank, advance));
     }
+}
+
+/// Who judges a run of these nodes: of the service, where no packets are lost at any time.
+fn judge_of(
+    alloc: Global,
+    settings: &Settings,
+    timing: &Timing,
+    words: &Words,
+) -> Result<Judge, Fault> {
+    let enough = settings.quorum(settings.expected).min(33) as u32;
+    let rates = words.kind.rates();
+    let judges = rates.losses == 0 && rates.lates == 0;
+    Judge::new(alloc, timing, enough, words.delay, judges).map_err(|_| Fault::NoMemory)
 }
 
 /// So many hosts that are off, and boot within three seconds.

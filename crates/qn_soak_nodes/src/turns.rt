@@ -2,8 +2,9 @@
 //! outputs are compared.
 use crate::disk::Leftover;
 use crate::fault::Fault;
-use crate::host::Host;
+use crate::host::{Host, Part};
 use crate::simulation::Simulation;
+use qn_live::NodeImages;
 use qn_model::{DiskOp, Event, HaltKind, MailSeen, Out, What};
 
 impl Simulation {
@@ -20,7 +21,7 @@ impl Simulation {
             return Ok(());
         };
         let entry = process.entry();
-        let event = event_of(host, entry, time);
+        let event = event_of(host, entry, time, self.words.images);
         host.heard = None;
         host.node_on = true;
         let rank = host.rank;
@@ -34,9 +35,30 @@ impl Simulation {
         if matches!(event, Event::Fail(_)) {
             self.leave_failed(place)?;
         }
+        if matches!(event, Event::Fail(_) | Event::Done(_)) {
+            self.end_operation(place)?;
+        }
         self.beside.tell(&event)?;
         self.compare(place)?;
         self.note_outs(place, entry)
+    }
+
+    /// The operation of the disk is answered: an image of three that was not asked told nothing.
+    fn end_operation(&mut self, place: usize) -> Result<(), Fault> {
+        let Some(host) = self.hosts.get_mut(place) else {
+            return Ok(());
+        };
+        let (rank, parts) = (host.rank, host.parts);
+        host.begin_operation();
+        if matches!(self.words.images, NodeImages::One) {
+            return Ok(());
+        }
+        for (image, part) in parts.iter().enumerate() {
+            if *part == Part::Pending {
+                self.beside.fail_on(rank, image)?;
+            }
+        }
+        Ok(())
     }
 
     /// The write that failed is left over, where it did not land.
@@ -51,17 +73,21 @@ impl Simulation {
         }
     }
 
-    /// Compares what the node did with what the node of the world did.
+    /// Compares what the node did, and where it stands, with the node of the world.
     fn compare(&self, place: usize) -> Result<(), Fault> {
         let Some(host) = self.hosts.get(place) else {
             return Ok(());
         };
-        match &host.process {
-            Some(process) if process.outs().as_slice() != self.beside.outs().as_slice() => {
-                Err(Fault::OtherOutputs(host.rank))
-            }
-            _ => Ok(()),
+        let Some(process) = &host.process else {
+            return Ok(());
+        };
+        if process.outs().as_slice() != self.beside.outs().as_slice() {
+            return Err(Fault::OtherOutputs(host.rank));
         }
+        if !self.beside.has(host.rank, process.standing()) {
+            return Err(Fault::OtherStanding(host.rank));
+        }
+        Ok(())
     }
 
     /// Notes what the outputs of an entry say of its node, and judges its resets.
@@ -114,7 +140,7 @@ impl Simulation {
 }
 
 /// The event of the world that hands a node this entry.
-fn event_of(host: &Host, entry: What, time: u64) -> Event {
+fn event_of(host: &Host, entry: What, time: u64, images: NodeImages) -> Event {
     let rank = host.rank;
     match entry {
         What::Begin => Event::Boot(rank, host.clock.hundredths(time)),
@@ -129,7 +155,6 @@ fn event_of(host: &Host, entry: What, time: u64) -> Event {
         What::Stopped(true) => Event::Stopped(rank),
         What::Stopped(false) => Event::Unstopped(rank),
         What::Leave => Event::Leave(rank),
-        What::MailRead(MailSeen::Damaged) => Event::Fail(rank),
         What::Header(_)
         | What::SlotRead(..)
         | What::MailChecked(_)
@@ -138,11 +163,16 @@ fn event_of(host: &Host, entry: What, time: u64) -> Event {
         | What::MailRead(_)
         | What::MailWritten(..)
         | What::Closed(_) => {
-            if host.operation.failed {
+            if matches!(images, NodeImages::One) && has_failed(host, entry) {
                 Event::Fail(rank)
             } else {
                 Event::Done(rank)
             }
         }
     }
+}
+
+/// Whether an operation on one image failed; a read of a damaged mailbox tells no more.
+fn has_failed(host: &Host, entry: What) -> bool {
+    host.operation.failed || matches!(entry, What::MailRead(MailSeen::Damaged))
 }

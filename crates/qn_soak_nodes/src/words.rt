@@ -1,9 +1,13 @@
 //! The words of the command line.
 use crate::kind::Kind;
 use qn_base::read_decimal;
+use qn_live::NodeImages;
 
-/// The word for runs of every kind.
+/// The word for runs of every kind, and for runs on one image and on three.
 const ALL: &str = "all";
+
+/// The word before the number of images.
+const IMAGES: &str = "images";
 
 /// What a run writes beside its line.
 #[derive(Clone, Copy, PartialEq, Eq)]
@@ -14,6 +18,15 @@ pub enum Told {
     Schedule,
     /// The log of the last process of each node, for `audit`.
     Logs,
+    /// These logs, and on standard error the journal of each.
+    Journals,
+}
+
+impl Told {
+    /// Whether the calls of the nodes are kept.
+    pub fn keeps_logs(self) -> bool {
+        matches!(self, Told::Logs | Told::Journals)
+    }
 }
 
 /// The words of the command line.
@@ -31,14 +44,31 @@ pub struct Words {
     /// The fence delay of each node, in milliseconds.
     pub delay: u64,
     pub told: Told,
+    /// On which images the nodes run, and whether there are runs on one image and on three.
+    pub images: NodeImages,
+    pub all_images: bool,
     /// The disturbances that are made: from that one on, and before that one, counted from 0.
     pub from: u64,
     pub before: u64,
 }
 
 impl Words {
-    /// `SEED COUNT NODES SECONDS KIND DELAY [line|schedule|logs [FROM BEFORE]]`; None where they are others.
+    /// `SEED COUNT NODES SECONDS KIND DELAY [line|schedule|logs|journals [FROM BEFORE]] [images 1|3|all]`; None where they are
+    /// others.
     pub fn read(words: &[String]) -> Option<Words> {
+        let said = match words {
+            [rest @ .., word, count] if word.as_str() == IMAGES => Words {
+                images: images_of(count.as_str())?,
+                all_images: count.as_str() == ALL,
+                ..Words::read_run(rest)?
+            },
+            _ => Words::read_run(words)?,
+        };
+        said.kind.is_of(said.images).then_some(said)
+    }
+
+    /// The words without those of the images.
+    fn read_run(words: &[String]) -> Option<Words> {
         let (said, rest) = match words {
             [seed, count, nodes, seconds, kind, delay, rest @ ..] => {
                 (
@@ -51,6 +81,8 @@ impl Words {
                         all: kind.as_str() == ALL,
                         delay: number(delay, 0, 3_600_000)?,
                         told: Told::Line,
+                        images: NodeImages::One,
+                        all_images: false,
                         from: 0,
                         before: u64::MAX,
                     },
@@ -85,11 +117,20 @@ fn kind_of(word: &str) -> Option<Kind> {
     }
 }
 
+fn images_of(word: &str) -> Option<NodeImages> {
+    match word {
+        "1" | ALL => Some(NodeImages::One),
+        "3" => Some(NodeImages::Three),
+        _ => None,
+    }
+}
+
 fn told_of(word: &str) -> Option<Told> {
     match word {
         "line" => Some(Told::Line),
         "schedule" => Some(Told::Schedule),
         "logs" => Some(Told::Logs),
+        "journals" => Some(Told::Journals),
         _ => None,
     }
 }

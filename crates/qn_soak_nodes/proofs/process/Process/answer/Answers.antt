@@ -6,6 +6,14 @@ use Rattle.qn_soak_nodes.specs.Asking.{asked_next}
 use Rattle.qn_soak_nodes.proofs.AskedNext.{asks_next, blank_told}
 use Rattle.qn_soak_nodes.proofs.process.Process.answer.Goals as goal
 
+pub answer-requires-clause-answered : goal.answer-requires-clause-answered
+answer-requires-clause-answered c =
+    let i = c.self.invariant in
+    let made = told c.in-Ok.asked c.self.inside.room c.given_for-given.result c.given_for-given.new.room in
+    let asked : question i.0 ≡ Some (blank made) =
+    i.2 ∙ ap (λ next. asked_next next c.self.inside.room) c.in-Ok.is ∙ ap Some (sym (blank_told c.in-Ok.asked c.self.inside.room c.given_for-given.result c.given_for-given.new.room)) in
+    (i.0, i.1, made, c.given_for-given.ensures.tells, asked)
+
 pub asks-self-inside-requires : goal.asks-self-inside-requires
 asks-self-inside-requires c =
     let i = c.self.invariant in
