@@ -1,7 +1,8 @@
 use Rattle.std.proofs.Common.{ap, sym, subst, ◌∙◌, arith}
 use Rattle.std.specs.Io.KnownBytes.{IsAtEnd}
+use Rattle.qn_io.specs.Outside.{left_at_end}
 use Rattle.qn_sched.specs.declared.replay_end.ReplayEnd.TheVariants.{BadSchedule}
-use Rattle.qn_playback.specs.Steps.{left_at_end, risen_within}
+use Rattle.qn_playback.specs.Steps.{risen_within}
 use Rattle.qn_playback.specs.Faults.{end_of}
 use Rattle.qn_playback.proofs.TextSteps.{reading_begins, reading_ends, reading_fails, reading_goes_on, reading_is_too_long, reading_is_whole, reading_took, reading_wants_memory}
 use Rattle.qn_playback.proofs.settings_head.read_text.Goals as goal
