@@ -16,7 +16,7 @@ VALUES_OF_KIT = {"std." + name for name in ("Bool", "List", "Option", "Result", 
 TOKEN = re.compile(r"[(){},;→λ]|[^\s(){},;→λ]+?(?=\.?(?:[\s(){},;→λ]|$))")
 USE = re.compile(r"(?m)^(?:pub )?use ([\w.-]+)(?:\.\{(.*)\}| as (\S+))?$")
 SIGNATURE = re.compile(r"(?m)^(?:(?:abbrev|unfoldable) )?(?:pub )?([^\s(){},;]+) :(?=\s)(.*\n(?:[ \t].*\n)*)")
-TYPE = re.compile(r"(?m)^(?:pub )?(?:data|record) (\S+)(.*) where$")
+TYPE = re.compile(r"(?ms)^(?:pub )?(?:data|record) (\S+)(.*?) where$")
 
 
 class Source:
@@ -125,6 +125,13 @@ def is_fact(tokens, items, relations):
     return any(items.get(head, "") in relations for head in heads)
 
 
+def follow(sources):
+    """Names that a file brings in from one that brings them in itself, by `pub use`, stand for the same item."""
+    homes = {"%s.%s" % (source.module, name): item for source in sources for name, item in source.items.items()}
+    for source in sources:
+        source.items = {name: homes.get(item, item) for name, item in source.items.items()}
+
+
 def relations_of(sources):
     """The items whose types are facts: of the repository those that speak of values, and of std all but the types of values."""
     given = {item for source in sources for item in source.items.values() if item.startswith("std.")} - VALUES_OF_KIT
@@ -133,6 +140,7 @@ def relations_of(sources):
 
 
 sources = [Source(path) for part in ("specs", "proofs") for path in sorted(TOP.glob("crates/*/%s/**/*.antt" % part))]
+follow(sources)
 relations = relations_of(sources)
 stated = {}
 for source in sources:

@@ -1,4 +1,4 @@
--- Laws of the events of a world, for the worlds above: what the rules leave, and what failures answer.
+-- Laws of the events of a world, for the worlds above: what the rules leave, and the ranks of operations.
 use Rattle.std.proofs.Common.{◌≡◌, ℕ, ◌≤◌, Bool, true, false, [], Some, None, refl, ◌&&◌, ◌||◌, arith}
 use Rattle.std.specs.Prelude.{All, Option, is_some}
 use Rattle.std.specs.Option.{option_or}

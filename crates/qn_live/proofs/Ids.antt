@@ -1,4 +1,4 @@
--- The id of a rank, and what holds at a place of a list.
+-- What holds at a place of a list.
 use Rattle.std.proofs.Common.{◌≡◌, ℕ, suc, zero, ◌<◌, List, [], ◌∷◌, length, Some, subst}
 use Rattle.std.specs.Prelude.{All, slice_get, slice_index_or}
 

@@ -1,1 +1,0 @@
--- The calls of a running node, as they are told.
