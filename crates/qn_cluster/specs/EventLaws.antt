@@ -3,7 +3,6 @@ use Rattle.std.proofs.Common.{◌≡◌, ℕ, ◌≤◌, Bool, true, false, [], 
 use Rattle.std.specs.Prelude.{All, Option, is_some}
 use Rattle.std.specs.Option.{option_or}
 use Rattle.std.proofs.lemmas.List.Elements.{All-nil}
-use Rattle.qn_base.specs.lemmas.Numbers.{equal_to_itself}
 use Rattle.qn_cluster.specs.Standing.{IsWithin}
 use Rattle.qn_model.specs.declared.configuration.Settings.{Settings}
 use Rattle.qn_model.specs.declared.outputs.DiskOp.{DiskOp}

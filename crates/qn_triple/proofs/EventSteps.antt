@@ -29,7 +29,6 @@ use Rattle.qn_model.specs.NodeOutputs.{newest_outs}
 use Rattle.qn_model.specs.Rules.{is_well_formed, refusal, unless}
 use Rattle.qn_model.specs.Steps.{outs_after, step}
 use Rattle.qn_model.specs.World.{is_write, node_at, numbered, put, taken, without}
-use Rattle.qn_model.specs.lemmas.Entries.{failed_answers}
 use Rattle.qn_model.specs.lemmas.Rules.{allowed as passed, running_allowed}
 use Rattle.qn_safety.specs.declared.part.Part.{Part}
 use Rattle.qn_safety.specs.declared.part.Part.TheVariants.{Pending, Landed, Failed}

@@ -1,5 +1,5 @@
 -- The entry of an operation that failed tells nothing of what the disk holds.
-use Rattle.std.proofs.Common.{◌≡◌, ℕ, Bool, true, false, None, ◌==◌, refl}
+use Rattle.std.proofs.Common.{◌≡◌, ℕ, true, false, None, ◌==◌, refl}
 use Rattle.std.proofs.lemmas.Bool.{false≢true}
 use Rattle.qn_base.specs.declared.ids.Rank.{Rank}
 use Rattle.qn_base.specs.lemmas.Bools.{second_of_both}
