@@ -11,7 +11,7 @@ answer-requires-clause-answered c =
     let i = c.self.invariant in
     let made = told c.in-Ok.asked c.self.inside.room c.given_for-given.result c.given_for-given.new.room in
     let asked : question i.0 ≡ Some (blank made) =
-    i.2 ∙ ap (λ next. asked_next next c.self.inside.room) c.in-Ok.is ∙ ap Some (sym (blank_told c.in-Ok.asked c.self.inside.room c.given_for-given.result c.given_for-given.new.room)) in
+    i.2 ∙ ap (λ next. asked_next next c.self.inside.room) c.in-Ok.is ∙ ap Some (sym (blank-told c.in-Ok.asked c.self.inside.room c.given_for-given.result c.given_for-given.new.room)) in
     (i.0, i.1, made, c.given_for-given.ensures.tells, asked)
 
 pub asks-self-inside-requires : goal.asks-self-inside-requires
