@@ -7,3 +7,4 @@ pub mod Masks
 pub mod Numbers
 pub mod Options
 pub mod Ranges
+pub mod Results

@@ -1,6 +1,6 @@
 -- Lists: an item that is read, an item that is replaced, and lists that are joined.
 use Rattle.std.proofs.Common.{◌≡◌, ◌≢◌, ◌<◌, ℕ, suc, zero, Bool, true, false, List, [], ◌∷◌, ◌++◌, length, get_or, Some, refl, ap, ◌∙◌, ◌==◌, arith, length-append}
-use Rattle.std.specs.Prelude.{slice_get, slice_set, nat_lt}
+use Rattle.std.specs.Prelude.{slice_get, slice_set, nat_lt, replicate}
 use Rattle.std.proofs.lemmas.Bool.{eqb-false, lt-ltb}
 use Rattle.std.proofs.lemmas.Option.{get_or_from_slice_get}
 
@@ -32,3 +32,13 @@ pub longer_joined : {A : Type 0} (front back : List A) → back ≢ []
     → nat_lt (length front) (length (front ++ back)) ≡ true
 longer_joined front [] some = absurd (some refl)
 longer_joined front (x ∷ back) some = let e = length-append front (x ∷ back) in lt-ltb _ _ (omega (arith, e))
+
+-- each of so many equal items
+pub replicated : {A : Type 0} (count i : ℕ) (item : A) → i < count → slice_get (replicate count item) i ≡ Some item
+replicated zero i item below = absurd (omega arith)
+replicated (suc count) zero item below = refl
+replicated (suc count) (suc i) item below = replicated count i item (omega arith)
+
+-- a list is longer than what is behind its first item
+pub too_long : {A : Type 0} {P : Type 0} (x : A) (xs : List A) → x ∷ xs ≡ xs → P
+too_long x xs e = absurd (let q : suc (length xs) ≡ length xs = ap length e in omega arith)

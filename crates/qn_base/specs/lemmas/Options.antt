@@ -1,6 +1,6 @@
 -- Options: what is there, and what is not.
 use Rattle.std.proofs.Common.{◌≡◌, ◌≤◌, ℕ, Bool, true, false, Option, Some, None, if◌then◌else◌, is_none, is_some, refl, sym, arith}
-use Rattle.std.specs.Option.{option_map_or}
+use Rattle.std.specs.Option.{option_map_or, IfNone}
 use Rattle.std.proofs.lemmas.Bool.{false≢true}
 use Rattle.std.proofs.lemmas.Option.{none-some, same_Some}
 
@@ -45,3 +45,8 @@ pub true_if_some : {A : Type 0} (test : Bool) (value found : A) → (if test the
     → (test ≡ true) × (found ≡ value)
 true_if_some true value found is = (refl, sym (same_Some value found is))
 true_if_some false value found is = none_is_not_some found is
+
+-- what a search promises where it finds nothing
+pub if_none : {A : Type 0} (o : Option A) (P : Type 0) → is_some o ≡ false → IfNone o P → P
+if_none None P is h = h
+if_none (Some a) P is h = absurd (cc)
