@@ -1,5 +1,6 @@
 -- Small lemmas of the definitions here, each stated once, for the proofs of this crate and of those above.
 pub mod Entries
+pub mod Failures
 pub mod Ids
 pub mod LeastRanks
 pub mod Lines

@@ -1,7 +1,8 @@
 -- Entries that answer an operation, and entries that answer none.
-use Rattle.std.proofs.Common.{◌≡◌, ℕ, Bool, true, false, List, Option, Some, if◌then◌else◌, refl}
-use Rattle.std.proofs.lemmas.Bool.{false≢true}
+use Rattle.std.proofs.Common.{◌≡◌, ℕ, Bool, true, false, List, Option, Some, if◌then◌else◌, refl, None}
+use Rattle.std.proofs.lemmas.Bool.{false≢true, true≢false}
 use Rattle.qn_base.specs.lemmas.Numbers.{equal_to_itself}
+use Rattle.qn_base.specs.lemmas.Options.{none_is_not_some}
 use Rattle.qn_model.specs.declared.configuration.Settings.{Settings}
 use Rattle.qn_model.specs.declared.entries.What.{What}
 use Rattle.qn_model.specs.declared.entries.What.TheVariants as what
@@ -10,10 +11,11 @@ use Rattle.qn_model.specs.declared.outputs.DiskOp.TheVariants as disk
 use Rattle.qn_model.specs.declared.packets.Packet.{Packet}
 use Rattle.qn_model.specs.declared.packets.Packet.TheVariants as packet
 use Rattle.qn_model.specs.Fitting.{answers_op, fits, read_as}
-use Rattle.qn_model.specs.Log.{Line, is_answer, op_out}
+use Rattle.qn_model.specs.Log.{Line, is_answer, op_out, number_read, times_of}
 use Rattle.qn_model.specs.Moments.{begin_of}
 use Rattle.qn_model.specs.Steps.{entry_of}
 use Rattle.qn_model.specs.World.{failed}
+use Rattle.qn_model.specs.declared.times.Timing.{Timing}
 
 -- an entry as it is read fits
 pub read_fits : (s : Settings) (me : ℕ) (past : List Line) (entry : What)
@@ -77,3 +79,27 @@ fitting_answers s me past (what.Device agrees) is fit = absurd (false≢true is)
 fitting_answers s me past what.Tick is fit = absurd (false≢true is)
 fitting_answers s me past (what.Stopped ok) is fit = absurd (false≢true is)
 fitting_answers s me past what.Leave is fit = absurd (false≢true is)
+
+-- only an answer tells times, or a number
+pub times_answer : (entry : What) (times : Timing) → times_of entry ≡ Some times → is_answer entry ≡ true
+times_answer (what.Header seen) times e = refl
+times_answer what.Begin times e = none_is_not_some times e
+times_answer what.BeginClean times e = none_is_not_some times e
+times_answer (what.SlotRead other seen) times e = refl
+times_answer (what.MailChecked seen) times e = refl
+times_answer (what.Claimed ok) times e = refl
+times_answer (what.Cleared ok) times e = refl
+times_answer (what.MailRead seen) times e = refl
+times_answer (what.MailWritten other ok) times e = refl
+times_answer (what.View installed) times e = none_is_not_some times e
+times_answer (what.Ask ask) times e = none_is_not_some times e
+times_answer (what.Tell tell) times e = none_is_not_some times e
+times_answer (what.Device agrees) times e = none_is_not_some times e
+times_answer what.Tick times e = none_is_not_some times e
+times_answer (what.Stopped ok) times e = none_is_not_some times e
+times_answer what.Leave times e = none_is_not_some times e
+times_answer (what.Closed ok) times e = refl
+
+pub plain_number : (entry : What) → is_answer entry ≡ false → number_read entry ≡ None
+plain_number (what.SlotRead rank seen) is = absurd (true≢false is)
+plain_number entry is = refl
