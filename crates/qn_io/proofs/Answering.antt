@@ -1,6 +1,6 @@
 -- What was read of an answer so far, and why it is none.
 use Rattle.std.proofs.Common.{◌≡◌, ℕ, ◌+◌, ◌≤◌, ◌<◌, Bool, true, false, List, [], ◌∷◌, ◌++◌, length, Option, None, Some, Result, Ok, Err, refl, sym, ap, subst, ◌∙◌, append-nil, arith, length-append}
-use Rattle.std.specs.Prelude.{is_err, IsOk, OnErr, OnOk}
+use Rattle.std.specs.Prelude.{is_err, IsOk, OnErr}
 use Rattle.std.specs.Io.KnownBytes.{Appends, Consumes, Keeps}
 use Rattle.std.proofs.KnownBytes.{Consumes-kept, Consumes-trans}
 use Rattle.qn_etcd.specs.Heads.{IsAnswer}
@@ -10,10 +10,6 @@ use Rattle.qn_io.specs.Writes.{SendsFront}
 pub at_err : {A E : Type 0} (P : Type 0) (r : Result A E) → P → OnErr r P
 at_err P (Ok x) holds = tt
 at_err P (Err e) holds = holds
-
-pub ok_holds : {A E : Type 0} {P : Type 0} (r : Result A E) → is_err r ≡ false → OnOk r P → P
-ok_holds (Ok x) ok holds = holds
-ok_holds (Err e) ok holds = absurd (let no : true ≡ false = ok in cc)
 
 pub ok_is_no_err : {A E : Type 0} (r : Result A E) → is_err r ≡ true → IsOk r → ⊥
 ok_is_no_err (Ok x) err ok = absurd (let no : false ≡ true = err in cc)

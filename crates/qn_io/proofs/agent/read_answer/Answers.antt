@@ -1,8 +1,9 @@
-use Rattle.std.proofs.Common.{◌≡◌, ℕ, ◌<◌, List, [], ◌∷◌, ◌++◌, length, take, get_or, Result, Ok, Err, sym, ap, subst, ◌∙◌, arith, length-append}
-use Rattle.std.specs.Prelude.{codes, OnErr}
+use Rattle.std.proofs.Common.{◌≡◌, ℕ, ◌<◌, List, [], ◌∷◌, ◌++◌, length, take, get_or, sym, ap, subst, ◌∙◌, arith, length-append}
+use Rattle.std.specs.Prelude.{codes}
 use Rattle.std.proofs.lemmas.List.{length-take-le}
 use Rattle.std.proofs.Math.Seq.{get_or-append_seam}
 use Rattle.std.proofs.KnownBytes.{Consumes-kept, Consumes-trans}
+use Rattle.qn_io.proofs.Answering.{at_err}
 use Rattle.qn_io.proofs.agent.read_answer.Goals as goal
 
 -- a line that is not read to its end is not the line
@@ -18,10 +19,6 @@ is_other line count byte below differs same =
     let here : get_or (take count line ++ byte ∷ []) count 0 ≡ byte =
     subst (λ (at : ℕ). get_or (take count line ++ byte ∷ []) at 0 ≡ byte) size (get_or-append_seam (take count line) byte [] 0) in
     differs (sym here ∙ ap (λ xs. get_or xs count 0) same)
-
-at_err : {A E : Type 0} (P : Type 0) (r : Result A E) → P → OnErr r P
-at_err P (Ok x) holds = tt
-at_err P (Err e) holds = holds
 
 pub returns-in_err-byte-clause-declined : goal.returns-in_err-byte-clause-declined
 returns-in_err-byte-clause-declined g c =

@@ -3,9 +3,10 @@ use Rattle.std.specs.Prelude.{MatchResult, IfOk, IfErr, IfSome, IfNone, OnOk, On
 use Rattle.std.specs.Io.KnownBytes.{Consumes, ReadConsumes}
 use Rattle.std.proofs.KnownBytes.{Consumes-nil, Consumes-trans}
 use Rattle.arrayvec.specs.ArrayVec.{array_vec_len}
+use Rattle.qn_base.specs.lemmas.Results.{ok_holds}
 use Rattle.qn_etcd.specs.Heads.{IsAnswer, IsHeadOf, MayBegin, NeverBegins}
 use Rattle.qn_etcd.specs.HeadLaws.{nothing_is_no_answer, open_is_no_answer, other_size_is_no_answer, strange_is_no_answer}
-use Rattle.qn_io.proofs.Answering.{at_err, is_none, kept_by_none, ok_holds, ok_is_no_err, stays_none, takes_more}
+use Rattle.qn_io.proofs.Answering.{at_err, is_none, kept_by_none, ok_is_no_err, stays_none, takes_more}
 use Rattle.qn_io.proofs.etcd_exchange.read_answer.Goals as goal
 
 pub parts-init : goal.parts-init
