@@ -77,7 +77,7 @@ allowed_before Itself allowed = allowed
 allowed_before (Later newest more) (OneEvent form ok allowed) = allowed_before more allowed
 
 -- an answer of the disk is no packet
-answer_unsent : (s : Settings) (r : ℕ) (op : Option DiskOp) (entry : What) (ms : List Moment) → answers_op op entry ≡ true → WasSent s r entry ms
+pub answer_unsent : (s : Settings) (r : ℕ) (op : Option DiskOp) (entry : What) (ms : List Moment) → answers_op op entry ≡ true → WasSent s r entry ms
 answer_unsent s r op (what.Ask ask) ms e = never_both (answers_op op (what.Ask ask)) e (plain_no_answer op (what.Ask ask) refl)
 answer_unsent s r op (what.Tell tell) ms e = never_both (answers_op op (what.Tell tell)) e (plain_no_answer op (what.Tell tell) refl)
 answer_unsent s r op what.Begin ms e = tt
@@ -97,7 +97,7 @@ answer_unsent s r op what.Leave ms e = tt
 answer_unsent s r op (what.Closed ok) ms e = tt
 
 -- a packet that is delivered was sent
-packet_sent : (s : Settings) (r number : ℕ) (sent : Sent) (ms : List Moment) → slice_get (packets s ms) number ≡ Some sent → (sent.to.0 == r) ≡ true → WasSent s r (entry_of sent.packet) ms
+pub packet_sent : (s : Settings) (r number : ℕ) (sent : Sent) (ms : List Moment) → slice_get (packets s ms) number ≡ Some sent → (sent.to.0 == r) ≡ true → WasSent s r (entry_of sent.packet) ms
 packet_sent s r number sent ms there receiver = by_content sent.packet refl
   where
     by_content : (content : Packet) → sent.packet ≡ content → WasSent s r (entry_of content) ms

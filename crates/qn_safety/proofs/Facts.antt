@@ -8,7 +8,6 @@ use Rattle.qn_model.specs.declared.configuration.Settings.{Settings}
 use Rattle.qn_model.specs.declared.times.Timing.{Timing}
 use Rattle.qn_model.specs.declared.disk.Slot.{Slot}
 use Rattle.qn_model.specs.declared.entries.What.{What}
-use Rattle.qn_model.specs.declared.entries.What.TheVariants as what
 use Rattle.qn_model.specs.declared.outputs.DiskOp.{DiskOp}
 use Rattle.qn_model.specs.declared.outputs.DiskOp.TheVariants as disk
 use Rattle.qn_model.specs.Log.{Line, op_out, ask_place, times_of, disk_of, is_answer}
@@ -23,6 +22,8 @@ use Rattle.qn_model.specs.declared.events.Event.{Event}
 use Rattle.qn_model.specs.lemmas.Logs.{ask_place-within}
 use Rattle.qn_model.specs.World.{World, taken, failed}
 use Rattle.qn_model.specs.Steps.{run}
+use Rattle.qn_model.specs.lemmas.Entries.{times_answer}
+use Rattle.qn_model.specs.lemmas.Failures.{failed_times}
 use Rattle.qn_safety.proofs.Logs.{Made, made_line, ask_line}
 use Rattle.qn_safety.proofs.Stays.{close_stays}
 use Rattle.qn_safety.proofs.Rests.{read_is}
@@ -31,36 +32,6 @@ use Rattle.qn_safety.proofs.Origins.{added_line}
 use Rattle.qn_safety.proofs.Kept.{Kept}
 use Rattle.qn_safety.proofs.Events.{IsAllowed, allowed_before, stage, moments_grow}
 use Rattle.qn_safety.proofs.Landings.{LandedAt, landed_at, AddedBy, added_by, LineKind, Plain, Taken, Failed}
-
-times_answer : (entry : What) (times : Timing) → times_of entry ≡ Some times → is_answer entry ≡ true
-times_answer (what.Header seen) times e = refl
-times_answer what.Begin times e = none_is_not_some times e
-times_answer what.BeginClean times e = none_is_not_some times e
-times_answer (what.SlotRead other seen) times e = refl
-times_answer (what.MailChecked seen) times e = refl
-times_answer (what.Claimed ok) times e = refl
-times_answer (what.Cleared ok) times e = refl
-times_answer (what.MailRead seen) times e = refl
-times_answer (what.MailWritten other ok) times e = refl
-times_answer (what.View installed) times e = none_is_not_some times e
-times_answer (what.Ask ask) times e = none_is_not_some times e
-times_answer (what.Tell tell) times e = none_is_not_some times e
-times_answer (what.Device agrees) times e = none_is_not_some times e
-times_answer what.Tick times e = none_is_not_some times e
-times_answer (what.Stopped ok) times e = none_is_not_some times e
-times_answer what.Leave times e = none_is_not_some times e
-times_answer (what.Closed ok) times e = refl
-
-failed_times : (op : DiskOp) → times_of (failed op) ≡ None
-unfolding failed
-failed_times disk.ReadHeader = refl
-failed_times (disk.ReadSlot other) = refl
-failed_times disk.CheckMail = refl
-failed_times (disk.WriteClaim number) = refl
-failed_times disk.WriteClear = refl
-failed_times disk.ReadMail = refl
-failed_times (disk.WriteReset other) = refl
-failed_times (disk.WriteClose number) = refl
 
 taken_times : (s : Settings) (t : Timing) (j : ℕ) (op : DiskOp) (w : World) (times : Timing) → times_of (taken s t j op w) ≡ Some times → times ≡ t
 unfolding taken
@@ -87,7 +58,7 @@ headers_agree {s = s} {t = t} {events = events} allowed rank line past before ti
         let land = landed_at rank line.what (allowed_before (before_tail it.back) allowed) it.on took in
         taken_times s t rank land.op (run s t land.earlier) times (sym (ap times_of land.value) ∙ gives)
 
-asked_inside : (line : Line) (past : List Line) (answer : Bool) → line.asked ≡ (if answer then ask_place past else 0) → line.asked ≤ ask_place past
+pub asked_inside : (line : Line) (past : List Line) (answer : Bool) → line.asked ≡ (if answer then ask_place past else 0) → line.asked ≤ ask_place past
 asked_inside line past true e = omega arith
 asked_inside line past false e = omega arith
 

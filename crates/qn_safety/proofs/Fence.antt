@@ -224,3 +224,10 @@ module _ {s : Settings} {t : Timing} {all : List Moment} (run : IsTimedRun s t a
       let forward = spans.forward in
       let margin = leb-true (101 * (t.read_limit + 1 + t.watchdog + t.feed_delay)) (99 * (t.msgwait - 1)) (second_of_both (has_periods t) (outlasts_feeds t) safe) in
       omega arith
+
+pub plain_no_mail : (entry : What) → is_answer entry ≡ false → feeds_on (message_of entry) ≡ false
+plain_no_mail entry plain = by_test (feeds_on (message_of entry)) refl
+  where
+    by_test : (b : Bool) → feeds_on (message_of entry) ≡ b → feeds_on (message_of entry) ≡ false
+    by_test false e = e
+    by_test true e = never_both (is_answer entry) (mail_is_answer entry e) plain

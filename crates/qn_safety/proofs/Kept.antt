@@ -17,7 +17,7 @@ use Rattle.qn_model.specs.declared.life.Phase.{Phase}
 use Rattle.qn_model.specs.declared.life.Phase.TheVariants.{Booting, Up, Leaving, Dying, Gone}
 use Rattle.qn_model.specs.declared.outputs.DiskOp.{DiskOp}
 use Rattle.qn_model.specs.declared.outputs.DiskOp.TheVariants as disk
-use Rattle.qn_model.specs.lemmas.Entries.{fitting_answers}
+use Rattle.qn_model.specs.lemmas.Entries.{fitting_answers, plain_number}
 use Rattle.qn_model.specs.Log.{Line, op_out, claimed, claim_of, disk_of, is_answer, number_read, slot_number}
 use Rattle.qn_model.specs.Phases.{phase, in_time, is_booting}
 use Rattle.qn_model.specs.Hearing.{told}
@@ -62,7 +62,7 @@ first_kept s mine = record {
 }
 
 -- after an entry that answers nothing a node is up only where it was
-booted_back : {s : Settings} {me : ℕ} {line : Line} {past : List Line} → IsLine s me line past → is_answer line.what ≡ false → is_booting (phase s (line ∷ past)) ≡ false
+pub booted_back : {s : Settings} {me : ℕ} {line : Line} {past : List Line} → IsLine s me line past → is_answer line.what ≡ false → is_booting (phase s (line ∷ past)) ≡ false
     → is_booting (phase s past) ≡ false
 unfolding phase
 booted_back {s = s} {me = me} {line = line} {past = past} it plain booted = by_phase (is_booting (phase s past)) refl
@@ -87,12 +87,7 @@ same_claim : (line : Line) (past : List Line) → disk_of line.outs ≡ None →
 unfolding claimed
 same_claim line past none = ap (λ o. option_or (claim_of o) (claimed past)) none
 
--- what answers nothing reads no slot
-plain_number : (entry : What) → is_answer entry ≡ false → number_read entry ≡ None
-plain_number (what.SlotRead rank seen) is = absurd (true≢false is)
-plain_number entry is = refl
-
-number_of_read : (line : Line) (past : List Line) (rank : Rank) (own : Slot) → line.what ≡ what.SlotRead rank (slot.Read own) → slot_number (line ∷ past) ≡ own.incarnation
+pub number_of_read : (line : Line) (past : List Line) (rank : Rank) (own : Slot) → line.what ≡ what.SlotRead rank (slot.Read own) → slot_number (line ∷ past) ≡ own.incarnation
 unfolding slot_number
 number_of_read line past rank own reads = ap (λ entry. unwrap_or (number_read entry) (slot_number past)) reads
 

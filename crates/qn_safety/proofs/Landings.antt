@@ -1,6 +1,7 @@
 -- Where the answer of an operation landed, and how a line of a run came.
-use Rattle.std.proofs.Common.{◌≡◌, ℕ, suc, true, false, List, [], ◌∷◌, length, Some, None, refl, sym, ap, ◌∙◌, subst, arith, ◌⊎◌, inl, inr}
+use Rattle.std.proofs.Common.{◌≡◌, ℕ, suc, true, false, List, [], ◌∷◌, Some, None, refl, sym, ap, ◌∙◌, subst, arith, ◌⊎◌, inl, inr}
 use Rattle.std.proofs.lemmas.Option.{same_Some}
+use Rattle.qn_base.specs.lemmas.Lists.{too_long}
 use Rattle.qn_base.specs.lemmas.Options.{none_is_not_some}
 use Rattle.qn_model.specs.declared.configuration.Settings.{Settings}
 use Rattle.qn_model.specs.declared.times.Timing.{Timing}
@@ -120,9 +121,6 @@ pub record AddedBy (s : Settings) (t : Timing) (j : ℕ) (line : Line) (before :
   pub reads : line.what ≡ read_as s j (node s j before).log entry
   pub kind : LineKind s t j line (run s t earlier)
 
-too_long : {A : Type 0} {P : Type 0} (x : A) (xs : List A) → x ∷ xs ≡ xs → P
-too_long x xs e = absurd (let q : suc (length xs) ≡ length xs = ap length e in omega arith)
-
 module _ (s : Settings) (t : Timing) (j : ℕ) (entry : What) (line : Line) (past : List Line) (w w' : World) where
   kind_of : w'.moments ≡ Adds j entry ∷ w.moments → (node s j w'.moments).log ≡ line ∷ past → past ≡ (node s j w.moments).log → Made s j (node s j w.moments).log
       → Held s (seat_of s j w) → Effect s t j w w' → LineKind s t j line w
@@ -159,7 +157,7 @@ added_later e it = record {
   kind = it.kind;
 }
 
-moments_tail : {x y : Moment} {xs ys : List Moment} → x ∷ xs ≡ y ∷ ys → xs ≡ ys
+pub moments_tail : {x y : Moment} {xs ys : List Moment} → x ∷ xs ≡ y ∷ ys → xs ≡ ys
 moments_tail e = cc
 
 added_here : {s : Settings} {t : Timing} {e : Event} {earlier : List Event} (j : ℕ) (entry : What) (line : Line) (past : List Line) (before : List Moment) → IsAllowed s t (e ∷ earlier)

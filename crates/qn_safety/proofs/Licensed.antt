@@ -22,8 +22,8 @@ use Rattle.qn_model.specs.Timing.{is_safe}
 use Rattle.qn_safety.proofs.Logs.{Made, made_before}
 use Rattle.qn_safety.proofs.Stays.{boot_past_later, closed_never, close_stays}
 use Rattle.qn_safety.proofs.Rests.{Licence, ByClean, ByReset, FencingAsk, slot_ask, written_ask}
-use Rattle.qn_safety.proofs.Runs.{sound, ruled_before, newest_rule, earlier_ruled, span}
-use Rattle.qn_safety.proofs.Origins.{Origin, ByEntry, ByBoot, origin, added_line, same_boots}
+use Rattle.qn_safety.proofs.Runs.{sound, ruled_before, newest_rule, earlier_ruled, span, handed_boots}
+use Rattle.qn_safety.proofs.Origins.{Origin, ByEntry, ByBoot, origin, added_line}
 use Rattle.qn_safety.proofs.Fence.{added_then, timing_up, fence}
 
 -- the incarnation of j that was up at p, if one was, holds at no later moment at which i runs on
@@ -53,7 +53,7 @@ no_begin_write rank false entry begins writes = false≢true (sym (ap (writes_re
 no_begin_write rank true entry begins writes = false≢true (sym (ap (writes_reset rank) begins) ∙ writes)
 
 pub added_boots : (s : Settings) (i : ℕ) (entry : What) (before : List Moment) → (node s i (Adds i entry ∷ before)).boots ≡ (node s i before).boots
-added_boots s i entry before = ap (λ n. n.boots) (node_adds s i entry before) ∙ same_boots s i (time before) entry (node s i before)
+added_boots s i entry before = ap (λ n. n.boots) (node_adds s i entry before) ∙ handed_boots s i (time before) entry (node s i before)
 
 pub holder_on : (s : Settings) (moments : List Moment) (i : ℕ) → is_holder s moments i ≡ true → (node s i moments).on ≡ true
 holder_on s moments i e = (and_parts (node s i moments).on (holds (node s i moments).log) e).0

@@ -1,10 +1,11 @@
 -- What an event is to the log of one node, and what stays in one boot.
-use Rattle.std.proofs.Common.{◌≡◌, ℕ, suc, ◌≤◌, Bool, true, false, List, [], ◌∷◌, Some, None, Option, refl, sym, ap, ◌∙◌, subst, arith, ◌==◌, if◌then◌else◌}
+use Rattle.std.proofs.Common.{◌≡◌, ℕ, ◌≤◌, Bool, true, false, List, [], ◌∷◌, Some, None, Option, refl, sym, ap, ◌∙◌, subst, arith, ◌==◌, if◌then◌else◌}
 use Rattle.std.specs.Prelude.{slice_get}
 use Rattle.std.specs.Option.{option_map_or}
 use Rattle.std.proofs.lemmas.Bool.{eqb-true}
 use Rattle.qn_base.specs.lemmas.Options.{value_tested}
 use Rattle.qn_base.specs.lemmas.Bools.{never_both}
+use Rattle.qn_base.specs.lemmas.Elements.{get_in}
 use Rattle.qn_model.specs.declared.configuration.Settings.{Settings}
 use Rattle.qn_model.specs.declared.times.Timing.{Timing}
 use Rattle.qn_model.specs.declared.packets.Packet.{Packet}
@@ -22,7 +23,7 @@ use Rattle.qn_model.specs.Log.{Line, claimed, incarnation}
 use Rattle.qn_model.specs.Phases.{phase, is_booting}
 use Rattle.qn_model.specs.Fitting.{answers_op, fits, read_as}
 use Rattle.qn_model.specs.NodeOutputs.{is_begin}
-use Rattle.qn_model.specs.Moments.{Before, Itself, Later, Moment, Passes, Boots, Adds, Feeds, Ends, Running, tick_of, begin_of, booted, logged, handed, time, node, packets}
+use Rattle.qn_model.specs.Moments.{Before, Itself, Later, Moment, Passes, Boots, Adds, Feeds, Ends, tick_of, begin_of, booted, time, node, packets}
 use Rattle.qn_model.specs.World.{World, op_at, failed, numbered}
 use Rattle.qn_model.specs.Rules.{refusal, is_on, may_be_done, may_deliver}
 use Rattle.qn_model.specs.Steps.{AllAllowed, answered, entry_of, fails, happens, landed, lands_late, run, step}
@@ -33,8 +34,8 @@ use Rattle.qn_safety.proofs.Logs.{Made, OneMore, before_outs}
 use Rattle.qn_safety.proofs.Outs.{plain_no_answer}
 use Rattle.qn_safety.proofs.Stays.{boot_past_later}
 use Rattle.qn_safety.proofs.Numbers.{claimed_same, up_number}
-use Rattle.qn_safety.proofs.Runs.{Turn, IsApart, IsPass, IsBoot, IsAdd, IsFeed, IsEnd, turn, boots_le, ruled_before, sound, span}
-use Rattle.qn_safety.proofs.Origins.{booted_log, get_in, handed_log, line_of, line_tick, line_what, begin_line, same_boots, sent_among, Sending}
+use Rattle.qn_safety.proofs.Runs.{Turn, IsApart, IsPass, IsBoot, IsAdd, IsFeed, IsEnd, turn, boots_le, ruled_before, sound, span, booted_boots, boots_apart, handed_boots}
+use Rattle.qn_safety.proofs.Origins.{booted_log, handed_log, line_of, line_tick, line_what, begin_line, sent_among, Sending}
 use Rattle.qn_safety.proofs.Seats.{seat_of}
 use Rattle.qn_safety.proofs.Held.{Held}
 use Rattle.qn_safety.proofs.Events.{allowed_of, earlier_allowed, newest_allowed, run_step, stage}
@@ -100,7 +101,7 @@ by_turn s of rank moment earlier (IsBoot base clean e at) none tells = absurd te
 by_turn s of rank moment earlier (IsAdd entry e at) none tells =
     let line = line_of s rank (tick_of (node s rank earlier).clock) entry (node s rank earlier).log in
     let reads : ComesOf of rank (read_as s rank (node s rank earlier).log entry) = comes_if of rank entry (fits s rank (node s rank earlier).log entry) (tells refl) in
-    Enters line none (sym (ap (λ n. n.boots) e ∙ same_boots s rank (time earlier) entry (node s rank earlier)))
+    Enters line none (sym (ap (λ n. n.boots) e ∙ handed_boots s rank (time earlier) entry (node s rank earlier)))
     (ap (λ n. n.log) e ∙ handed_log s rank (time earlier) entry (node s rank earlier))
     (subst (λ w. ComesOf of rank w) (sym (line_what s rank (tick_of (node s rank earlier).clock) entry (node s rank earlier).log)) reads)
     (line_tick s rank (tick_of (node s rank earlier).clock) entry (node s rank earlier).log)
@@ -113,23 +114,14 @@ stays : (s : Settings) (of : Event) (rank : ℕ) (moments : List Moment) → is_
 stays s of rank moments none = Rests none refl refl
 
 -- a rank boots
-booted_count : (s : Settings) (i now base : ℕ) (clean : Bool) (n : Running) → (booted s i now base clean n).boots ≡ suc n.boots
-unfolding booted handed logged
-booted_count s i now base clean n = refl
-
 begins_with : (clean : Bool) → is_begin (begin_of clean) ≡ true
 begins_with false = refl
 begins_with true = refl
 
-apart_node : (s : Settings) (rank other base : ℕ) (clean : Bool) (earlier : List Moment) → (other == rank) ≡ false → node s rank (Boots other base clean ∷ earlier) ≡ node s rank earlier
-unfolding node
-apart_node s rank other base clean earlier apart =
-    ap (λ b. if b then booted s rank (time earlier) base clean (node s rank earlier) else node s rank earlier) apart
-
 boot_move : (s : Settings) (of : Event) (rank other base : ℕ) (clean : Bool) (earlier : List Moment) (b : Bool) → (other == rank) ≡ b → is_boot_of rank of ≡ b
     → LogMove s rank of earlier (Boots other base clean ∷ earlier)
 boot_move s of rank other base clean earlier false apart none =
-    let e = apart_node s rank other base clean earlier apart in
+    let e = boots_apart s rank other base clean earlier apart in
     Rests none (sym (ap (λ n. n.boots) e)) (ap (λ n. n.log) e)
 boot_move s of rank other base clean earlier true own some =
     subst (λ r. LogMove s rank of earlier (Boots r base clean ∷ earlier)) (sym (eqb-true other rank own)) own_boot
@@ -138,7 +130,7 @@ boot_move s of rank other base clean earlier true own some =
     own_boot =
         let e = node_boots s rank base clean earlier in
         Begins (line_of s rank (tick_of base) (begin_of clean) []) some
-        (ap (λ n. n.boots) e ∙ booted_count s rank (time earlier) base clean (node s rank earlier))
+        (ap (λ n. n.boots) e ∙ booted_boots s rank (time earlier) base clean (node s rank earlier))
         (ap (λ n. n.log) e ∙ booted_log s rank (time earlier) base clean (node s rank earlier))
         (ap is_begin (begin_line s rank (tick_of base) clean) ∙ begins_with clean)
 

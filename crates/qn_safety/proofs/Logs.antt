@@ -8,7 +8,7 @@ use Rattle.qn_model.specs.declared.entries.What.{What}
 use Rattle.qn_model.specs.declared.entries.What.TheVariants as what
 use Rattle.qn_model.specs.declared.outputs.DiskOp.{DiskOp}
 use Rattle.qn_model.specs.lemmas.Entries.{fitting_answers}
-use Rattle.qn_model.specs.Log.{Line, op_out, ask_place, ask_tick, now, disk_of, has_start, is_answer}
+use Rattle.qn_model.specs.Log.{Line, op_out, ask_place, ask_tick, now, disk_of, has_start, is_answer, claimed}
 use Rattle.qn_model.specs.Fitting.{fits, answers_op}
 use Rattle.qn_model.specs.NodeOutputs.{outs_at, taken_in}
 use Rattle.qn_model.specs.Moments.{Before, Itself, Later}
@@ -125,3 +125,7 @@ answer_of {s = s} {me = me} {line = line} {past = past} it is =
       asked = asked;
       place = it.place ∙ ap (λ b. if b then ask_place past else 0) is ∙ asked.place;
     }
+
+pub nothing_claimed : claimed [] ≡ None
+unfolding claimed
+nothing_claimed = refl

@@ -23,23 +23,24 @@ use Rattle.qn_model.specs.Moments.{Moment, Adds, node, packets}
 use Rattle.qn_safety.specs.Timed.{IsUp, IsSameBoot, IsBetween, GetsBadMail, WrittenMeansBadMail}
 use Rattle.qn_model.specs.declared.events.Event.{Event}
 use Rattle.qn_model.specs.declared.events.Event.TheVariants as event
-use Rattle.qn_model.specs.World.{World, put, op_at, mailboxes_with, taken, failed, numbered}
+use Rattle.qn_model.specs.World.{World, put, op_at, mailboxes_with, taken, numbered}
 use Rattle.qn_model.specs.Rules.{refusal, is_on, may_operate}
 use Rattle.qn_model.specs.Steps.{happens, landed, answered, fails, lands_late, entry_of, step, run}
 use Rattle.std.specs.Prelude.{slice_get}
 use Rattle.std.proofs.lemmas.Option.{same_Some}
 use Rattle.qn_base.specs.lemmas.Options.{none_is_not_some}
-use Rattle.qn_base.specs.lemmas.Bools.{never_both, first_of_both, second_of_both}
+use Rattle.qn_base.specs.lemmas.Bools.{never_both, first_of_both}
 use Rattle.qn_model.specs.lemmas.Rules.{allowed}
 use Rattle.qn_model.specs.lemmas.Moments.{put_same, put_other}
 use Rattle.qn_model.specs.lemmas.Entries.{read_answers_none}
+use Rattle.qn_model.specs.lemmas.Failures.{failed_no_mail, failed_unwritten}
 use Rattle.qn_model.specs.lemmas.Logs.{ask_place-within}
 use Rattle.qn_safety.proofs.Logs.{Made, made_line}
 use Rattle.qn_safety.proofs.Stays.{ask_place_kept}
 use Rattle.qn_safety.proofs.Rests.{write_is}
 use Rattle.qn_safety.proofs.Runs.{sound, ruled_before, span, same_mid}
 use Rattle.qn_safety.proofs.Origins.{line_of, line_what}
-use Rattle.qn_safety.proofs.Fence.{mail_is_answer, up_later}
+use Rattle.qn_safety.proofs.Fence.{up_later, plain_no_mail}
 use Rattle.qn_safety.proofs.Seats.{seat_of, Effect, Rests, Enters, Answers, Fails, BootsUp, GoesOff, Lands, LandsLate}
 use Rattle.qn_safety.proofs.Kept.{some_op, booting_op}
 use Rattle.qn_safety.proofs.Held.{Held, resets_late}
@@ -214,35 +215,6 @@ module _ {s : Settings} {t : Timing} (j : ℕ) (p : List Moment) where
       let on_new = (span j ruled newer mids.1 on).on in
       let up_new = up_later j (ruled_before newer ruled) to_new up mids.0 on_new in
       bad_mail_step allowed up_new on (bad_mail_on i other more (earlier_allowed allowed) lands own is up mids.0 on_new)
-
-plain_no_mail : (entry : What) → is_answer entry ≡ false → feeds_on (message_of entry) ≡ false
-plain_no_mail entry plain = by_test (feeds_on (message_of entry)) refl
-  where
-    by_test : (b : Bool) → feeds_on (message_of entry) ≡ b → feeds_on (message_of entry) ≡ false
-    by_test false e = e
-    by_test true e = never_both (is_answer entry) (mail_is_answer entry e) plain
-
-failed_no_mail : (op : DiskOp) → feeds_on (message_of (failed op)) ≡ false
-unfolding failed
-failed_no_mail disk.ReadMail = refl
-failed_no_mail disk.ReadHeader = refl
-failed_no_mail (disk.ReadSlot other) = refl
-failed_no_mail disk.CheckMail = refl
-failed_no_mail (disk.WriteClaim number) = refl
-failed_no_mail disk.WriteClear = refl
-failed_no_mail (disk.WriteReset other) = refl
-failed_no_mail (disk.WriteClose number) = refl
-
-failed_unwritten : (j : ℕ) (op : DiskOp) → writes_reset j (failed op) ≡ true → ⊥
-unfolding failed
-failed_unwritten j (disk.WriteReset other) e = false≢true (second_of_both (other.0 == j) false e)
-failed_unwritten j disk.ReadHeader e = false≢true e
-failed_unwritten j (disk.ReadSlot other) e = false≢true e
-failed_unwritten j disk.CheckMail e = false≢true e
-failed_unwritten j (disk.WriteClaim number) e = false≢true e
-failed_unwritten j disk.WriteClear e = false≢true e
-failed_unwritten j disk.ReadMail e = false≢true e
-failed_unwritten j (disk.WriteClose number) e = false≢true e
 
 taken_reset : (s : Settings) (t : Timing) (i j : ℕ) (op : DiskOp) (w : World) → writes_reset j (taken s t i op w) ≡ true → (other : Rank) × (op ≡ disk.WriteReset other) × (other.0 ≡ j)
 unfolding taken

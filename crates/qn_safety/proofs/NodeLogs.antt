@@ -34,6 +34,7 @@ use Rattle.qn_model.specs.Moments.{is_gone}
 use Rattle.qn_model.specs.NodeOutputs.{acts, ask_to, asks, asks_under, boot_outs, boot_step_outs, disk_outs, gives_start, gives_stop, is_asked, is_asking, is_begin, is_boot_step, live_outs, mail_feeds, outs_at, replies, when}
 use Rattle.qn_model.specs.NodeVotes.{view}
 use Rattle.qn_model.specs.Wanted.{boot_op, wanted_with_delay}
+use Rattle.qn_model.specs.lemmas.Phases.{live_booted}
 use Rattle.qn_safety.specs.Closing.{is_close}
 use Rattle.qn_safety.specs.NodeLogs.{IsNodeLog, IsOperation, LogsHold, is_disk_last, is_end}
 use Rattle.qn_safety.proofs.Says.{Reason}
@@ -207,13 +208,6 @@ gone_line : {s : Settings} {me : ℕ} {line : Line} {past : List Line} → IsLin
 unfolding phase
 gone_line {s = s} {me = me} {line = line} {past = past} it made before gone =
     gone_by s me past (in_time line.tick past) (apt made) before line.what it.fitting gone
-
-live_booted : (p : Phase) → is_live p ≡ true → is_booting p ≡ false
-live_booted Up e = refl
-live_booted Leaving e = refl
-live_booted Booting e = absurd (false≢true e)
-live_booted Dying e = absurd (false≢true e)
-live_booted Gone e = absurd (false≢true e)
 
 -- where a node is gone its newest entry gave one output, which ends the run
 ends_outs : (s : Settings) (me : ℕ) (past : List Line) (tick : ℕ) (entry : What) (log : List Line) → GoneBy s past entry

@@ -1,5 +1,5 @@
 -- Where a line of a log was added, and where a packet was sent.
-use Rattle.std.proofs.Common.{◌≡◌, ℕ, suc, zero, Bool, true, false, List, [], ◌∷◌, ◌++◌, Some, refl, sym, ap, ◌∙◌, subst, arith, if◌then◌else◌, ◌⊎◌, inl, inr, All}
+use Rattle.std.proofs.Common.{◌≡◌, ℕ, Bool, true, false, List, [], ◌∷◌, ◌++◌, refl, sym, ap, ◌∙◌, subst, arith, if◌then◌else◌, ◌⊎◌, inl, inr, All}
 use Rattle.std.proofs.lemmas.Bool.{false≢true}
 use Rattle.qn_base.specs.declared.ids.Rank.{Rank}
 use Rattle.qn_model.specs.declared.configuration.Settings.{Settings}
@@ -7,12 +7,10 @@ use Rattle.qn_model.specs.declared.times.Timing.{Timing}
 use Rattle.qn_model.specs.declared.packets.Packet.{Packet}
 use Rattle.qn_model.specs.declared.packets.Packet.TheVariants as packet
 use Rattle.qn_model.specs.declared.entries.What.{What}
-use Rattle.qn_model.specs.declared.life.Phase.{Phase}
-use Rattle.qn_model.specs.declared.life.Phase.TheVariants.{Booting, Up, Leaving, Dying, Gone}
 use Rattle.qn_model.specs.declared.outputs.Out.{Out}
 use Rattle.qn_model.specs.declared.outputs.Out.TheVariants as out
 use Rattle.qn_model.specs.Log.{Line, ask_place, is_answer}
-use Rattle.qn_model.specs.Phases.{phase, is_booting, is_live}
+use Rattle.qn_model.specs.Phases.{phase, is_live}
 use Rattle.qn_model.specs.Fitting.{read_as}
 use Rattle.qn_model.specs.NodeOutputs.{outs_at, taken_in, with_entry, newest_outs}
 use Rattle.qn_model.specs.Moments.{Before, Itself, Later}
@@ -20,15 +18,13 @@ use Rattle.qn_safety.specs.Earlier.{before_length}
 use Rattle.qn_model.specs.declared.packets.Sent.{Sent}
 use Rattle.qn_model.specs.Moments.{Moment, Passes, Boots, Adds, Feeds, Ends, Running, tick_of, logged, handed, begin_of, booted, time, node, given_out, packets, packets_of}
 use Rattle.qn_safety.specs.Timed.{IsUp, IsSameBoot, IsSentTo, AllRuled, IsAdded}
-use Rattle.std.specs.Prelude.{slice_get}
 use Rattle.std.proofs.lemmas.List.Elements.{All-head, All-tail}
-use Rattle.std.proofs.lemmas.Option.{same_Some}
-use Rattle.qn_base.specs.lemmas.Options.{none_is_not_some}
-use Rattle.qn_base.specs.lemmas.Elements.{IsIn, First, Behind}
+use Rattle.qn_base.specs.lemmas.Elements.{IsIn, First, Behind, get_in, none_in}
 use Rattle.qn_model.specs.lemmas.Moments.{never_logged, node_adds, node_boots}
+use Rattle.qn_model.specs.lemmas.Phases.{live_booted}
 use Rattle.qn_safety.proofs.Says.{Says, PacketReason}
 use Rattle.qn_safety.proofs.Logs.{Made, before_outs, made_line, line_says}
-use Rattle.qn_safety.proofs.Runs.{Turn, IsApart, IsPass, IsBoot, IsAdd, IsFeed, IsEnd, turn, sound, newest_rule, earlier_ruled}
+use Rattle.qn_safety.proofs.Runs.{Turn, IsApart, IsPass, IsBoot, IsAdd, IsFeed, IsEnd, turn, sound, newest_rule, earlier_ruled, handed_boots}
 
 -- where a line of a log comes from: it was added at a moment of the same boot, or began the boot
 pub data Origin (s : Settings) (i : ℕ) (line : Line) (past : List Line) (moments : List Moment) : Type 0 where
@@ -78,10 +74,6 @@ origin_later s i line past moment earlier same (ByEntry before added boot) =
     ByEntry before (record { entry = added.entry; back = Later moment added.back; gave = added.gave }) (boot ∙ sym same)
 origin_later s i line past moment earlier same (ByBoot clean begins first) = ByBoot clean begins first
 
-pub same_boots : (s : Settings) (i now : ℕ) (entry : What) (n : Running) → (handed s i now entry n).boots ≡ n.boots
-unfolding handed logged
-same_boots s i now entry n = refl
-
 pub head_same : {x y : Line} {xs ys : List Line} → x ∷ xs ≡ y ∷ ys → x ≡ y
 head_same e = cc
 
@@ -113,7 +105,7 @@ origin_turn s i line past earlier moment (IsAdd entry e at) rest back =
 
     at_entry : (line ∷ past ≡ line_of s i (tick_of (node s i earlier).clock) entry (node s i earlier).log ∷ (node s i earlier).log) ⊎ Before (line ∷ past) (node s i earlier).log → Origin s i line past (moment ∷ earlier)
     at_entry (inl same) = ByEntry earlier (record { entry = entry; back = Itself; gave = log_now ∙ sym same }) refl
-    at_entry (inr more) = origin_later s i line past moment earlier (ap (λ n. n.boots) e ∙ same_boots s i (time earlier) entry (node s i earlier)) (rest more)
+    at_entry (inr more) = origin_later s i line past moment earlier (ap (λ n. n.boots) e ∙ handed_boots s i (time earlier) entry (node s i earlier)) (rest more)
 
 -- each line of a log has an origin
 pub origin : (s : Settings) (i : ℕ) (line : Line) (past : List Line) (moments : List Moment) → Before (line ∷ past) (node s i moments).log → Origin s i line past moments
@@ -138,11 +130,6 @@ added_line s i entry line past before gave =
       at = ap (λ l. l.tick) (head_same same) ∙ line_tick s i (tick_of (node s i before).clock) entry (node s i before).log;
     }
 
-pub get_in : {A : Type 0} (xs : List A) (n : ℕ) (x : A) → slice_get xs n ≡ Some x → IsIn x xs
-get_in [] n x e = none_is_not_some x e
-get_in (y ∷ ys) zero x e = subst (λ z. IsIn z (y ∷ ys)) (same_Some _ _ e) First
-get_in (y ∷ ys) (suc n) x e = Behind y (get_in ys n x e)
-
 in_either : {A : Type 0} (x : A) (xs ys : List A) → IsIn x (xs ++ ys) → IsIn x xs ⊎ IsIn x ys
 in_either x [] ys there = inr there
 in_either x (y ∷ xs) ys First = inl First
@@ -156,9 +143,6 @@ pub all_in : {A : Type 0} (P : A → Type 0) (x : A) (xs : List A) → All P xs 
 all_in P x (y ∷ xs) all First = All-head P x xs all
 all_in P x [] all there = elim there [ ]
 all_in P x (z ∷ xs) all (Behind y there) = all_in P x xs (All-tail P z xs all) there
-
-none_in : {A : Type 0} {x : A} {P : Type 0} → IsIn x [] → P
-none_in there = elim there [ ]
 
 sent_in : (sent : Sent) (outs : List Out) → IsIn sent (packets_of outs) → IsIn (out.Send sent.to sent.packet) outs
 sent_in sent [] there = none_in there
@@ -196,13 +180,6 @@ packet_live s k past log entry to (packet.Ask ask) why = why.live
 packet_live s k past log entry to (packet.Hello from) why = absurd why
 packet_live s k past log entry to (packet.Announce from seen) why = absurd why
 packet_live s k past log entry to (packet.Vote agrees) why = absurd why
-
-live_booted : (p : Phase) → is_live p ≡ true → is_booting p ≡ false
-live_booted Up e = refl
-live_booted Leaving e = refl
-live_booted Booting e = absurd (false≢true e)
-live_booted Dying e = absurd (false≢true e)
-live_booted Gone e = absurd (false≢true e)
 
 first_not_live : (s : Settings) → is_live (phase s []) ≡ false
 unfolding phase

@@ -10,8 +10,6 @@ use Rattle.qn_model.specs.declared.times.Timing.{Timing}
 use Rattle.qn_model.specs.declared.disk.Slot.{Slot}
 use Rattle.qn_model.specs.declared.seen.SlotSeen.TheVariants as slot
 use Rattle.qn_model.specs.declared.entries.What.TheVariants as what
-use Rattle.qn_model.specs.declared.outputs.DiskOp.{DiskOp}
-use Rattle.qn_model.specs.declared.outputs.DiskOp.TheVariants as disk
 use Rattle.qn_model.specs.Log.{Line, claimed, incarnation, is_answer}
 use Rattle.qn_model.specs.Phases.{phase, is_booting}
 use Rattle.qn_model.specs.Fitting.{answers_op}
@@ -23,7 +21,8 @@ use Rattle.qn_model.specs.declared.events.Event.{Event}
 use Rattle.qn_model.specs.lemmas.Entries.{begin_answers_none, failed_answers, read_answers_none}
 use Rattle.qn_model.specs.World.{World, failed}
 use Rattle.qn_model.specs.Steps.{run}
-use Rattle.qn_safety.proofs.Logs.{Made, IsLine, made_line}
+use Rattle.qn_model.specs.lemmas.Failures.{failed_own}
+use Rattle.qn_safety.proofs.Logs.{Made, IsLine, made_line, nothing_claimed}
 use Rattle.qn_safety.proofs.Outs.{answer_fits, claimed_cases}
 use Rattle.qn_safety.proofs.Numbers.{up_number, ClaimGiven}
 use Rattle.qn_safety.proofs.Runs.{sound, ruled_before, boots_le}
@@ -52,7 +51,7 @@ slot_rises s t j w w' made held (LandsLate number op there same) =
     let q : (w'.slots j).incarnation ≡ (slot_after op (w.slots j)).incarnation = ap (λ x. x.slot.incarnation) same in
     omega arith
 
-never_on : (s : Settings) (j : ℕ) → (node s j []).on ≡ false
+pub never_on : (s : Settings) (j : ℕ) → (node s j []).on ≡ false
 unfolding node
 never_on s j = refl
 
@@ -114,21 +113,6 @@ earlier_boot s t e earlier j p back less = by_growth (grows s t e earlier)
     by_growth : ((run s t (e ∷ earlier)).moments ≡ (run s t earlier).moments) ⊎ ((m : Moment) × ((run s t (e ∷ earlier)).moments ≡ m ∷ (run s t earlier).moments)) → Before p (run s t earlier).moments
     by_growth (inl same) = subst (λ ms. Before p ms) same back
     by_growth (inr more) = by_newest more.0 more.1 (newest_state (subst (λ ms. Before p ms) more.1 back))
-
-failed_own : (op : DiskOp) (rank : Rank) (own : Slot) → failed op ≡ what.SlotRead rank (slot.Read own) → ⊥
-unfolding failed
-failed_own disk.ReadHeader rank own e = cc
-failed_own (disk.ReadSlot other) rank own e = cc
-failed_own disk.CheckMail rank own e = cc
-failed_own (disk.WriteClaim number) rank own e = cc
-failed_own disk.WriteClear rank own e = cc
-failed_own disk.ReadMail rank own e = cc
-failed_own (disk.WriteReset other) rank own e = cc
-failed_own (disk.WriteClose number) rank own e = cc
-
-nothing_claimed : claimed [] ≡ None
-unfolding claimed
-nothing_claimed = refl
 
 module _ {s : Settings} {t : Timing} (j number later_number : ℕ) (p : List Moment) (up : IsUp s j p) (has : incarnation (node s j p).log ≡ Some number) where
   -- a claim that an answer gives is above each number that was up before

@@ -35,7 +35,7 @@ pub data Turn (s : Settings) (i : ℕ) (earlier : List Moment) : Moment → Type
   IsEnd : node s i (Ends i ∷ earlier) ≡ record (node s i earlier) { on = false }
       → time (Ends i ∷ earlier) ≡ time earlier → Turn s i earlier (Ends i)
 
-boots_apart : (s : Settings) (i other base : ℕ) (clean : Bool) (earlier : List Moment) → (other == i) ≡ false → node s i (Boots other base clean ∷ earlier) ≡ node s i earlier
+pub boots_apart : (s : Settings) (i other base : ℕ) (clean : Bool) (earlier : List Moment) → (other == i) ≡ false → node s i (Boots other base clean ∷ earlier) ≡ node s i earlier
 unfolding node
 boots_apart s i other base clean earlier e = ap (λ b. if b then booted s i (time earlier) base clean (node s i earlier) else node s i earlier) e
 
@@ -232,11 +232,11 @@ newest_rule (OneRuled rule ruled) = rule
 pub earlier_ruled : {s : Settings} {t : Timing} {moment : Moment} {earlier : List Moment} → AllRuled s t (moment ∷ earlier) → AllRuled s t earlier
 earlier_ruled (OneRuled rule ruled) = ruled
 
-booted_boots : (s : Settings) (i now base : ℕ) (clean : Bool) (n : Running) → (booted s i now base clean n).boots ≡ suc n.boots
+pub booted_boots : (s : Settings) (i now base : ℕ) (clean : Bool) (n : Running) → (booted s i now base clean n).boots ≡ suc n.boots
 unfolding booted handed logged
 booted_boots s i now base clean n = refl
 
-handed_boots : (s : Settings) (i now : ℕ) (entry : What) (n : Running) → (handed s i now entry n).boots ≡ n.boots
+pub handed_boots : (s : Settings) (i now : ℕ) (entry : What) (n : Running) → (handed s i now entry n).boots ≡ n.boots
 unfolding handed logged
 handed_boots s i now entry n = refl
 

@@ -14,8 +14,6 @@ use Rattle.qn_model.specs.declared.packets.Packet.TheVariants as packet
 use Rattle.qn_model.specs.declared.outputs.Out.TheVariants as out
 use Rattle.qn_model.specs.declared.entries.What.{What}
 use Rattle.qn_model.specs.declared.entries.What.TheVariants as what
-use Rattle.qn_model.specs.declared.life.Phase.{Phase}
-use Rattle.qn_model.specs.declared.life.Phase.TheVariants.{Booting, Up, Leaving, Dying, Gone}
 use Rattle.qn_model.specs.Log.{Line, claimed, has_start}
 use Rattle.qn_model.specs.Phases.{phase, is_booting, is_live}
 use Rattle.qn_model.specs.Holding.{holds, is_stopped}
@@ -33,6 +31,7 @@ use Rattle.qn_safety.specs.Boots.{one_boot}
 use Rattle.qn_base.specs.lemmas.Bools.{first_of_neither, second_of_neither, never_both, first_of_both, second_of_both}
 use Rattle.qn_base.specs.lemmas.Elements.{IsIn}
 use Rattle.qn_model.specs.NodeVotes.{is_same_view}
+use Rattle.qn_model.specs.lemmas.Phases.{live_booted}
 use Rattle.qn_safety.proofs.Says.{PacketReason, TellReason, AskReason}
 use Rattle.qn_safety.proofs.Logs.{Made, IsLine, before_outs, made_line, start_reason}
 use Rattle.qn_safety.proofs.Rests.{TellFound, same_view_at}
@@ -66,13 +65,6 @@ read_tell s me past entry tell e = read_by_test (fits s me past entry) entry (wh
 
 read_ask : (s : Settings) (me : ℕ) (past : List Line) (entry : What) (ask : Ask) → read_as s me past entry ≡ what.Ask ask → entry ≡ what.Ask ask
 read_ask s me past entry ask e = read_by_test (fits s me past entry) entry (what.Ask ask) e (λ q. cc)
-
-live_booted : (p : Phase) → is_live p ≡ true → is_booting p ≡ false
-live_booted Up e = refl
-live_booted Leaving e = refl
-live_booted Booting e = absurd (false≢true e)
-live_booted Dying e = absurd (false≢true e)
-live_booted Gone e = absurd (false≢true e)
 
 number_of_test : (found : Option ℕ) (number : ℕ) → option_map_or (λ n. n == number) found false ≡ true → found ≡ Some number
 number_of_test None number e = absurd (false≢true e)

@@ -2,8 +2,8 @@
 use Rattle.std.proofs.Common.{◌≡◌, ℕ, ◌≤◌, Bool, true, false, List, [], ◌∷◌, ◌++◌, Some, refl, sym, ap, ◌∙◌, subst, arith, ◌==◌, ◌&&◌, ◌||◌, not, nat_lt, unwrap_or, if◌then◌else◌, ◌⊎◌, inl, inr}
 use Rattle.std.proofs.lemmas.Bool.{false≢true, eqb-true, ltb-true, ltb-false}
 use Rattle.qn_base.specs.declared.ids.Rank.{Rank}
-use Rattle.qn_base.specs.lemmas.Bools.{first_of_both, second_of_both}
-use Rattle.qn_base.specs.lemmas.Elements.{IsIn, First, Behind}
+use Rattle.qn_base.specs.lemmas.Bools.{first_of_both}
+use Rattle.qn_base.specs.lemmas.Elements.{IsIn, First, Behind, none_in}
 use Rattle.qn_model.specs.declared.disk.Message.{Message}
 use Rattle.qn_model.specs.declared.disk.Slot.{Slot}
 use Rattle.qn_model.specs.declared.seen.SlotSeen.TheVariants as slot
@@ -15,10 +15,11 @@ use Rattle.qn_model.specs.declared.outputs.DiskOp.TheVariants as disk
 use Rattle.qn_model.specs.Licences.{writes_reset}
 use Rattle.qn_model.specs.Sectors.{is_deadly}
 use Rattle.qn_model.specs.World.{failed}
+use Rattle.qn_model.specs.lemmas.Failures.{failed_unwritten, failed_own}
 use Rattle.qn_safety.specs.declared.part.Part.{Part}
 use Rattle.qn_safety.specs.declared.part.Part.TheVariants.{Pending, Landed, Failed}
 use Rattle.qn_safety.specs.TripleWorld.{needs_good, counted, counting, slots_among, is_above, highest, slot_among, messages_among, first_deadly, harmless, message_among, together, answer_among, answer_of}
-use Rattle.qn_safety.proofs.TripleSets.{TwoOf, OneTwo, OneThree, TwoThree, none_in, first_or, in_either, only_in, in_left, in_right}
+use Rattle.qn_safety.proofs.TripleSets.{TwoOf, OneTwo, OneThree, TwoThree, first_or, in_either, only_in, in_left, in_right}
 
 -- whether a part counts, by the list of its value
 data Counts (op : DiskOp) (good : Bool) (part : Part) (values : List What) : Type 0 where
@@ -238,19 +239,7 @@ deadly_first m (first ∷ more) other there deadly = by_test (is_deadly first) r
 pub deadly_told : (m : Message) (found : List Message) → IsIn m found → is_deadly m ≡ true → is_deadly (message_among found) ≡ true
 deadly_told m found there deadly = deadly_first m found (harmless found) there deadly
 
--- a reset that was written has two parts that count
-failed_unwritten : (j : ℕ) (op : DiskOp) → writes_reset j (failed op) ≡ true → ⊥
-unfolding failed
-failed_unwritten j (disk.WriteReset other) e = false≢true (second_of_both (other.0 == j) false e)
-failed_unwritten j disk.ReadHeader e = false≢true e
-failed_unwritten j (disk.ReadSlot other) e = false≢true e
-failed_unwritten j disk.CheckMail e = false≢true e
-failed_unwritten j (disk.WriteClaim number) e = false≢true e
-failed_unwritten j disk.WriteClear e = false≢true e
-failed_unwritten j disk.ReadMail e = false≢true e
-failed_unwritten j (disk.WriteClose number) e = false≢true e
-
--- the rank of the reset
+-- a reset that was written has two parts that count; the rank of the reset
 pub record ResetOf (op : DiskOp) (j : ℕ) : Type 0 where
   pub other : Rank
   pub is : op ≡ disk.WriteReset other
@@ -311,18 +300,6 @@ cleared_two op parts good clears = by_answer (answer_is op parts good)
     by_answer (FewCount e) = absurd (failed_uncleared op (sym e ∙ clears))
     by_answer (TwoCount first there two e) = two
 
--- a slot that was read is the highest of two or more
-failed_unread : (op : DiskOp) (rank : Rank) (own : Slot) → failed op ≡ what.SlotRead rank (slot.Read own) → ⊥
-unfolding failed
-failed_unread disk.ReadHeader rank own e = cc
-failed_unread (disk.ReadSlot other) rank own e = cc
-failed_unread disk.CheckMail rank own e = cc
-failed_unread (disk.WriteClaim number) rank own e = cc
-failed_unread disk.WriteClear rank own e = cc
-failed_unread disk.ReadMail rank own e = cc
-failed_unread (disk.WriteReset other) rank own e = cc
-failed_unread (disk.WriteClose number) rank own e = cc
-
 -- a read of a slot that gave one: what it asked for, and the two parts that count
 pub record SlotTold (op : DiskOp) (parts : ℕ → Part) (good : ℕ → Bool) (rank : Rank) (own : Slot) : Type 0 where
   pub is : op ≡ disk.ReadSlot rank
@@ -351,7 +328,7 @@ pub slot_told : (op : DiskOp) (parts : ℕ → Part) (good : ℕ → Bool) (rank
 slot_told op parts good rank own reads = by_answer (answer_is op parts good)
   where
     by_answer : AnswerIs op parts good (answer_of op parts good) → SlotTold op parts good rank own
-    by_answer (FewCount e) = absurd (failed_unread op rank own (sym e ∙ reads))
+    by_answer (FewCount e) = absurd (failed_own op rank own (sym e ∙ reads))
     by_answer (TwoCount first there two e) =
         let told = together_slot op first (counting op parts good) rank own (sym e ∙ reads) in
         record { is = told.0; two = two; best = read_highest (slots_among (counting op parts good)) own told.1 }

@@ -4,23 +4,18 @@ use Rattle.std.proofs.Common.{◌≡◌, ℕ, ◌+◌, ◌<◌, ◌≤◌, Bool,
 use Rattle.std.specs.Option.{option_map_or}
 use Rattle.std.specs.Prelude.{slice_get}
 use Rattle.std.specs.List.{list_all}
-use Rattle.std.proofs.lemmas.Bool.{cases_order, eqb-true, ltb-true, leb-true, not-true}
+use Rattle.std.proofs.lemmas.Bool.{cases_order, ltb-true, leb-true, not-true}
 use Rattle.qn_base.specs.Members.{is_member}
 use Rattle.qn_base.specs.lemmas.Options.{value_tested}
-use Rattle.qn_base.specs.lemmas.Bools.{never_both, first_of_both, second_of_both}
+use Rattle.qn_base.specs.lemmas.Bools.{first_of_both, second_of_both}
 use Rattle.qn_base.specs.lemmas.Ranges.{each_in_range}
 use Rattle.qn_model.specs.declared.configuration.Settings.{Settings}
 use Rattle.qn_model.specs.declared.times.Timing.{Timing}
-use Rattle.qn_model.specs.declared.packets.Packet.{Packet}
-use Rattle.qn_model.specs.declared.packets.Packet.TheVariants as packet
 use Rattle.qn_model.specs.declared.packets.Sent.{Sent}
-use Rattle.qn_model.specs.declared.entries.What.{What}
-use Rattle.qn_model.specs.declared.entries.What.TheVariants as what
 use Rattle.qn_model.specs.declared.events.Event.TheVariants as event
 use Rattle.qn_model.specs.declared.outputs.DiskOp.{DiskOp}
 use Rattle.qn_model.specs.lemmas.Rules.{allowed, both_allowed}
 use Rattle.qn_model.specs.Log.{incarnation}
-use Rattle.qn_model.specs.Fitting.{answers_op}
 use Rattle.qn_model.specs.Moments.{Before, Itself, Later, Moment, Adds, advance_of, time, node, packets}
 use Rattle.qn_model.specs.World.{numbered}
 use Rattle.qn_model.specs.Rules.{passes, is_well_formed, refusal, is_on, may_pass, may_be_stopped, may_deliver, may_feed, is_configured}
@@ -28,15 +23,14 @@ use Rattle.qn_model.specs.Steps.{happens, entry_of, step}
 use Rattle.qn_safety.specs.declared.triple_event.TripleEvent.{TripleEvent}
 use Rattle.qn_safety.specs.declared.triple_event.TripleEvent.TheVariants as triple
 use Rattle.qn_safety.specs.Answers.{answer_answers}
-use Rattle.qn_safety.specs.Timed.{IsUp, WasSent, AllRuled, NoMoment, OneRuled, NumbersRise}
+use Rattle.qn_safety.specs.Timed.{IsUp, AllRuled, NoMoment, OneRuled, NumbersRise}
 use Rattle.qn_safety.specs.TripleWorld.{TripleWorld, nodes_of, op_of, answer_of}
 use Rattle.qn_safety.specs.TripleRules.{is_well_formed_triple, refusal_triple, may_be_done_triple}
 use Rattle.qn_safety.specs.TripleSteps.{landed_on, failed_on, done_triple, lands_late_on, step_triple, run_triple, AllAllowedTriple}
 use Rattle.qn_safety.specs.Earlier.{before_total}
-use Rattle.qn_safety.proofs.Outs.{plain_no_answer}
 use Rattle.qn_safety.proofs.Runs.{boots_le}
 use Rattle.qn_safety.proofs.Seats.{running_allows}
-use Rattle.qn_safety.proofs.Events.{newest_state, only_nothing}
+use Rattle.qn_safety.proofs.Events.{newest_state, only_nothing, answer_unsent, packet_sent}
 use Rattle.qn_safety.proofs.TripleSeats.{Effect, effect}
 use Rattle.qn_safety.proofs.TripleRising.{Height, Growth, height_step, first_height, up_top}
 
@@ -53,37 +47,6 @@ allowed_of s t (e ∷ earlier) all = OneEvent all.0 all.1 (allowed_of s t earlie
 pub allowed_before : {s : Settings} {t : Timing} {old new : List TripleEvent} → Before old new → IsAllowed s t new → IsAllowed s t old
 allowed_before Itself allowed = allowed
 allowed_before (Later newest more) (OneEvent form ok allowed) = allowed_before more allowed
-
--- an answer of the disk is no packet
-answer_unsent : (s : Settings) (r : ℕ) (op : Option DiskOp) (entry : What) (ms : List Moment) → answers_op op entry ≡ true → WasSent s r entry ms
-answer_unsent s r op (what.Ask ask) ms e = never_both (answers_op op (what.Ask ask)) e (plain_no_answer op (what.Ask ask) refl)
-answer_unsent s r op (what.Tell tell) ms e = never_both (answers_op op (what.Tell tell)) e (plain_no_answer op (what.Tell tell) refl)
-answer_unsent s r op what.Begin ms e = tt
-answer_unsent s r op what.BeginClean ms e = tt
-answer_unsent s r op (what.Header seen) ms e = tt
-answer_unsent s r op (what.SlotRead other seen) ms e = tt
-answer_unsent s r op (what.MailChecked seen) ms e = tt
-answer_unsent s r op (what.Claimed ok) ms e = tt
-answer_unsent s r op (what.Cleared ok) ms e = tt
-answer_unsent s r op (what.MailRead seen) ms e = tt
-answer_unsent s r op (what.MailWritten other ok) ms e = tt
-answer_unsent s r op (what.View installed) ms e = tt
-answer_unsent s r op (what.Device agrees) ms e = tt
-answer_unsent s r op what.Tick ms e = tt
-answer_unsent s r op (what.Stopped ok) ms e = tt
-answer_unsent s r op what.Leave ms e = tt
-answer_unsent s r op (what.Closed ok) ms e = tt
-
--- a packet that is delivered was sent
-packet_sent : (s : Settings) (r number : ℕ) (sent : Sent) (ms : List Moment) → slice_get (packets s ms) number ≡ Some sent → (sent.to.0 == r) ≡ true → WasSent s r (entry_of sent.packet) ms
-packet_sent s r number sent ms there receiver = by_content sent.packet refl
-  where
-    by_content : (content : Packet) → sent.packet ≡ content → WasSent s r (entry_of content) ms
-    by_content (packet.Ask ask) e = record { number = number; sent = sent; there = there; receiver = eqb-true sent.to.0 r receiver; content = e }
-    by_content (packet.Tell tell) e = record { number = number; sent = sent; there = there; receiver = eqb-true sent.to.0 r receiver; content = e }
-    by_content (packet.Hello from) e = tt
-    by_content (packet.Announce from seen) e = tt
-    by_content (packet.Vote agrees) e = tt
 
 -- each event that is allowed adds a moment that obeys the rules, or none
 ruled_step : (s : Settings) (t : Timing) (e : TripleEvent) (w : TripleWorld) → is_well_formed_triple s e ≡ true → refusal_triple s t e w ≡ None

@@ -1,5 +1,5 @@
 -- Two of the four facts of the disk hold of every run of three images: headers agree, and clean means closed.
-use Rattle.std.proofs.Common.{◌≡◌, ℕ, ◌<◌, Bool, true, false, List, ◌∷◌, Some, None, Option, refl, sym, ap, ◌∙◌, subst, arith, ◌==◌, ◌⊎◌, inl, inr}
+use Rattle.std.proofs.Common.{◌≡◌, ℕ, ◌<◌, Bool, true, false, List, ◌∷◌, Some, Option, refl, sym, ap, ◌∙◌, subst, arith, ◌==◌, ◌⊎◌, inl, inr}
 use Rattle.std.proofs.lemmas.Bool.{false≢true, eqb-true}
 use Rattle.std.proofs.lemmas.Option.{same_Some}
 use Rattle.qn_base.specs.declared.ids.Rank.{Rank}
@@ -18,7 +18,9 @@ use Rattle.qn_model.specs.Log.{claimed, times_of, is_answer}
 use Rattle.qn_model.specs.Phases.{phase, is_booting}
 use Rattle.qn_model.specs.Licences.{reads_slot, is_clean_slot}
 use Rattle.qn_model.specs.Moments.{Moment, node}
-use Rattle.qn_model.specs.World.{World, taken, failed}
+use Rattle.qn_model.specs.World.{World, taken}
+use Rattle.qn_model.specs.lemmas.Entries.{times_answer}
+use Rattle.qn_model.specs.lemmas.Failures.{failed_times}
 use Rattle.qn_safety.specs.declared.triple_event.TripleEvent.{TripleEvent}
 use Rattle.qn_safety.specs.Closing.{asked_close}
 use Rattle.qn_safety.specs.Timed.{IsUp, IsBetween, HasClosed, CleanMeansClosed, HeadersAgree}
@@ -39,36 +41,6 @@ use Rattle.qn_safety.proofs.TripleKept.{dirty, IsOwn, Kept, slot_case}
 use Rattle.qn_safety.proofs.TripleRising.{Height}
 use Rattle.qn_safety.proofs.TripleEvents.{IsAllowed, allowed_before, stage, effect_at, earlier_allowed}
 use Rattle.qn_safety.proofs.TripleLandings.{LineKind, Plain, Told, AddedBy, added_by, Seen, between_of, PartCase, WasThere, JustLanded, Carried, watch}
-
-times_answer : (entry : What) (times : Timing) → times_of entry ≡ Some times → is_answer entry ≡ true
-times_answer (what.Header seen) times e = refl
-times_answer what.Begin times e = none_is_not_some times e
-times_answer what.BeginClean times e = none_is_not_some times e
-times_answer (what.SlotRead other seen) times e = refl
-times_answer (what.MailChecked seen) times e = refl
-times_answer (what.Claimed ok) times e = refl
-times_answer (what.Cleared ok) times e = refl
-times_answer (what.MailRead seen) times e = refl
-times_answer (what.MailWritten other ok) times e = refl
-times_answer (what.View installed) times e = none_is_not_some times e
-times_answer (what.Ask ask) times e = none_is_not_some times e
-times_answer (what.Tell tell) times e = none_is_not_some times e
-times_answer (what.Device agrees) times e = none_is_not_some times e
-times_answer what.Tick times e = none_is_not_some times e
-times_answer (what.Stopped ok) times e = none_is_not_some times e
-times_answer what.Leave times e = none_is_not_some times e
-times_answer (what.Closed ok) times e = refl
-
-failed_times : (op : DiskOp) → times_of (failed op) ≡ None
-unfolding failed
-failed_times disk.ReadHeader = refl
-failed_times (disk.ReadSlot other) = refl
-failed_times disk.CheckMail = refl
-failed_times (disk.WriteClaim number) = refl
-failed_times disk.WriteClear = refl
-failed_times disk.ReadMail = refl
-failed_times (disk.WriteReset other) = refl
-failed_times (disk.WriteClose number) = refl
 
 header_times : (s : Settings) (t : Timing) (j : ℕ) (w : World) (times : Timing) → times_of (what.Header (header_of (taken s t j disk.ReadHeader w))) ≡ Some times → times ≡ t
 unfolding taken

@@ -1,11 +1,11 @@
 -- What stays true of a node on three images at each event, and how the number of its last incarnation rises.
-use Rattle.std.proofs.Common.{◌≡◌, ℕ, ◌<◌, ◌≤◌, Bool, true, false, List, [], ◌∷◌, ◌++◌, Some, None, Option, refl, sym, ap, ◌∙◌, subst, arith, ◌⊎◌, inl, inr, unwrap_or}
+use Rattle.std.proofs.Common.{◌≡◌, ℕ, ◌<◌, ◌≤◌, Bool, true, false, List, [], ◌∷◌, ◌++◌, Some, None, Option, refl, sym, ap, ◌∙◌, subst, arith, ◌⊎◌, inl, inr}
 use Rattle.std.proofs.lemmas.Bool.{false≢true, true≢false, not-true}
 use Rattle.std.proofs.lemmas.Option.{same_Some}
 use Rattle.qn_base.specs.declared.ids.Rank.{Rank}
 use Rattle.qn_base.specs.lemmas.Options.{none_is_not_some}
 use Rattle.qn_base.specs.lemmas.Bools.{never_both}
-use Rattle.qn_base.specs.lemmas.Elements.{IsIn}
+use Rattle.qn_base.specs.lemmas.Elements.{IsIn, none_in}
 use Rattle.qn_model.specs.declared.configuration.Settings.{Settings}
 use Rattle.qn_model.specs.declared.times.Timing.{Timing}
 use Rattle.qn_model.specs.declared.disk.Slot.{Slot}
@@ -17,8 +17,8 @@ use Rattle.qn_model.specs.declared.outputs.DiskOp.{DiskOp}
 use Rattle.qn_model.specs.declared.outputs.DiskOp.TheVariants as disk
 use Rattle.qn_model.specs.lemmas.Moments.{put_same}
 use Rattle.qn_model.specs.lemmas.Entries.{begin_answers_none, read_answers_none}
-use Rattle.qn_model.specs.Log.{Line, op_out, claimed, disk_of, is_answer, slot_number, number_read}
-use Rattle.qn_model.specs.Phases.{phase, next_phase, in_time, is_booting}
+use Rattle.qn_model.specs.Log.{Line, op_out, claimed, disk_of, is_answer, slot_number}
+use Rattle.qn_model.specs.Phases.{phase, is_booting}
 use Rattle.qn_model.specs.Fitting.{answers_op}
 use Rattle.qn_model.specs.Moments.{begin_of, is_gone, node}
 use Rattle.qn_model.specs.World.{World, put, taken, numbered, without}
@@ -30,11 +30,11 @@ use Rattle.qn_safety.proofs.Apt.{claimed_answers, check_answers}
 use Rattle.qn_safety.proofs.Numbers.{NumberFrom, BySlot, ByCheck, ClaimGiven, claim_given, claimed_same}
 use Rattle.qn_safety.proofs.Outs.{answer_fits, claimed_cases, out_claims, own_slot_out, clear_given, check_given, claimed_by_clear, comes_up}
 use Rattle.qn_safety.proofs.Origins.{line_of, line_what}
-use Rattle.qn_safety.proofs.Kept.{booting_op}
-use Rattle.qn_safety.proofs.TripleSets.{TwoOf, OneTwo, meet, map_two, put_case, none_in, numbered_in, without_in, in_either}
+use Rattle.qn_safety.proofs.Kept.{booting_op, booted_back, booting_back, number_of_read}
+use Rattle.qn_safety.proofs.TripleSets.{TwoOf, OneTwo, meet, map_two, put_case, numbered_in, without_in, in_either}
 use Rattle.qn_safety.proofs.TripleAnswers.{CountsAt, SlotTold, slot_told, slot_in, claimed_two, cleared_two}
 use Rattle.qn_safety.proofs.TripleSeats.{TripleSeat, seat_of, entered, answered, fresh, gone_off, slots_after, part_failed, late, Effect, Rests, Enters, Answers, BootsUp, GoesOff, LandsOn, FailsOn, LateOn}
-use Rattle.qn_safety.proofs.TripleLogs.{booted_back, booting_back, close_asked, closing_booted, open_before, asked_on, given_out, cleared_is, claim_first}
+use Rattle.qn_safety.proofs.TripleLogs.{close_asked, closing_booted, open_before, asked_on, given_out, cleared_is, claim_first, phase_of}
 use Rattle.qn_safety.proofs.TripleKept.{dirty, IsRead, Clearing, IsOwn, KeepsTop, Kept, fresh_read, not_landed, kept_enter, above_after, clean_after, kept_written, kept_landed, leaves_is, kept_failed, keeps_out}
 
 -- what is always true of a seat, by the number of the last incarnation of its node that came up
@@ -51,18 +51,10 @@ pub record Next (s : Settings) (t : Timing) (j top : ℕ) (x x' : TripleSeat) : 
   pub held : Held s t j now x'
   pub rises : x'.on ≡ true → is_booting (phase s x'.log) ≡ false → ((x.on ≡ true) × (is_booting (phase s x.log) ≡ false)) ⊎ (top < now)
 
-phase_after : (s : Settings) (line : Line) (past : List Line) (entry : What) → line.what ≡ entry → phase s (line ∷ past) ≡ next_phase s entry (in_time line.tick past) (phase s past)
-unfolding phase
-phase_after s line past entry reads = ap (λ e. next_phase s e (in_time line.tick past) (phase s past)) reads
-
 -- the answer of the clear ends the boot
 cleared_phase : (s : Settings) (line : Line) (past : List Line) (ok : Bool) → line.what ≡ what.Cleared ok → is_booting (phase s (line ∷ past)) ≡ false
-cleared_phase s line past true reads = ap is_booting (phase_after s line past (what.Cleared true) reads)
-cleared_phase s line past false reads = ap is_booting (phase_after s line past (what.Cleared false) reads)
-
-number_of_read : (line : Line) (past : List Line) (rank : Rank) (own : Slot) → line.what ≡ what.SlotRead rank (slot.Read own) → slot_number (line ∷ past) ≡ own.incarnation
-unfolding slot_number
-number_of_read line past rank own reads = ap (λ entry. unwrap_or (number_read entry) (slot_number past)) reads
+cleared_phase s line past true reads = ap is_booting (phase_of s line past (what.Cleared true) reads)
+cleared_phase s line past false reads = ap is_booting (phase_of s line past (what.Cleared false) reads)
 
 -- a seat whose operation was answered, by the line of the answer
 abbrev pub with_answer : TripleSeat → Line → DiskOp → Bool → TripleSeat
@@ -235,7 +227,7 @@ module _ {s : Settings} {t : Timing} {j top : ℕ} (x : TripleSeat) {line : Line
       where
         by_ok : (ok : Bool) × (line.what ≡ what.Cleared ok) → line.what ≡ what.Cleared true
         by_ok (true, e) = e
-        by_ok (false, e) = never_both (is_gone (phase s (line ∷ x.log))) (ap is_gone (phase_after s line x.log (what.Cleared false) e)) living
+        by_ok (false, e) = never_both (is_gone (phase s (line ∷ x.log))) (ap is_gone (phase_of s line x.log (what.Cleared false) e)) living
 
     good_is : (k : ℕ) → good_after op x.parts x.good k ≡ has_landed (x.parts k)
     good_is k = ap (λ o. good_after o x.parts x.good k) clear_is

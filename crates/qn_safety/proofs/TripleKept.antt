@@ -4,7 +4,7 @@ use Rattle.std.proofs.lemmas.Bool.{false≢true, true≢false}
 use Rattle.std.proofs.lemmas.Option.{same_Some}
 use Rattle.qn_base.specs.declared.ids.Rank.{Rank}
 use Rattle.qn_base.specs.lemmas.Bools.{never_both}
-use Rattle.qn_base.specs.lemmas.Elements.{IsIn}
+use Rattle.qn_base.specs.lemmas.Elements.{IsIn, none_in}
 use Rattle.qn_model.specs.declared.configuration.Settings.{Settings}
 use Rattle.qn_model.specs.declared.times.Timing.{Timing}
 use Rattle.qn_model.specs.declared.disk.Slot.{Slot}
@@ -17,6 +17,7 @@ use Rattle.qn_model.specs.lemmas.Moments.{put_same}
 use Rattle.qn_model.specs.Log.{Line, op_out, claimed, disk_of, is_answer, slot_number}
 use Rattle.qn_model.specs.Phases.{phase, is_booting}
 use Rattle.qn_model.specs.World.{World, put, taken, is_write}
+use Rattle.qn_model.specs.lemmas.Entries.{plain_number}
 use Rattle.qn_safety.specs.Closing.{asked_close}
 use Rattle.qn_safety.specs.declared.part.Part.{Part}
 use Rattle.qn_safety.specs.declared.part.Part.TheVariants.{Pending, Landed, Failed}
@@ -25,10 +26,10 @@ use Rattle.qn_safety.proofs.Logs.{Made, IsLine}
 use Rattle.qn_safety.proofs.Stays.{op_kept}
 use Rattle.qn_safety.proofs.Numbers.{claim_given, number_kept}
 use Rattle.qn_safety.proofs.Outs.{out_cases, out_claims, out_closes, clear_given, check_given}
-use Rattle.qn_safety.proofs.Kept.{booting_op, booted_op}
-use Rattle.qn_safety.proofs.TripleSets.{TwoOf, map_two, put_case, none_in, only_in, in_either}
+use Rattle.qn_safety.proofs.Kept.{booting_op, booted_op, booted_back, booting_back}
+use Rattle.qn_safety.proofs.TripleSets.{TwoOf, map_two, put_case, only_in, in_either}
 use Rattle.qn_safety.proofs.TripleSeats.{TripleSeat, slots_after, part_failed}
-use Rattle.qn_safety.proofs.TripleLogs.{booted_back, booting_back, plain_claimed, plain_number, close_asked, closing_booted, open_before, asked_on}
+use Rattle.qn_safety.proofs.TripleLogs.{plain_claimed, close_asked, closing_booted, open_before, asked_on}
 
 -- the slot of a running incarnation, and of one that closed
 abbrev pub dirty : ℕ → Slot

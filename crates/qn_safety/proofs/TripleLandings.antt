@@ -1,8 +1,9 @@
 -- How a line of a run of three images came, and what is carried along while an operation is out.
-use Rattle.std.proofs.Common.{◌≡◌, ℕ, suc, ◌≤◌, Bool, true, false, List, [], ◌∷◌, length, Some, None, Option, refl, sym, ap, ◌∙◌, subst, arith, if◌then◌else◌, ◌⊎◌, inl, inr}
+use Rattle.std.proofs.Common.{◌≡◌, ℕ, suc, ◌≤◌, true, false, List, [], ◌∷◌, length, Some, None, Option, refl, sym, ap, ◌∙◌, subst, arith, ◌⊎◌, inl, inr}
 use Rattle.std.proofs.lemmas.Bool.{false≢true}
 use Rattle.qn_base.specs.lemmas.Options.{none_is_not_some}
 use Rattle.qn_base.specs.lemmas.Bools.{never_both}
+use Rattle.qn_base.specs.lemmas.Lists.{too_long}
 use Rattle.qn_model.specs.declared.configuration.Settings.{Settings}
 use Rattle.qn_model.specs.declared.times.Timing.{Timing}
 use Rattle.qn_model.specs.declared.entries.What.{What}
@@ -27,6 +28,8 @@ use Rattle.qn_safety.proofs.Runs.{sound, ruled_before, newest_rule}
 use Rattle.qn_safety.proofs.Origins.{line_of, line_what, added_line, head_same}
 use Rattle.qn_safety.proofs.Licensed.{added_boots}
 use Rattle.qn_safety.proofs.Events.{newest_state, only_nothing}
+use Rattle.qn_safety.proofs.Facts.{asked_inside}
+use Rattle.qn_safety.proofs.Landings.{moments_tail}
 use Rattle.qn_safety.proofs.TripleSets.{put_case}
 use Rattle.qn_safety.proofs.TripleSeats.{seat_of, Effect, Rests, Enters, Answers, BootsUp, GoesOff, LandsOn, FailsOn, LateOn}
 use Rattle.qn_safety.proofs.TripleKept.{Kept, not_landed, failed_not_landed}
@@ -45,9 +48,6 @@ pub record AddedBy (s : Settings) (t : Timing) (j : ℕ) (line : Line) (before :
   pub same : (run_triple s t earlier).moments ≡ before
   pub on : (node s j (run_triple s t earlier).moments).on ≡ true
   pub kind : LineKind s j line (run_triple s t earlier)
-
-too_long : {A : Type 0} {P : Type 0} (x : A) (xs : List A) → x ∷ xs ≡ xs → P
-too_long x xs e = absurd (let q : suc (length xs) ≡ length xs = ap length e in omega arith)
 
 module _ (s : Settings) (t : Timing) (j : ℕ) (entry : What) (line : Line) (past : List Line) (w w' : TripleWorld) where
   kind_of : w'.moments ≡ Adds j entry ∷ w.moments → (node s j w'.moments).log ≡ line ∷ past → past ≡ (node s j w.moments).log → Effect s t j w w' → LineKind s j line w
@@ -72,9 +72,6 @@ module _ (s : Settings) (t : Timing) (j : ℕ) (entry : What) (line : Line) (pas
 
 added_later : {s : Settings} {t : Timing} {j : ℕ} {line : Line} {before : List Moment} {events : List TripleEvent} (e : TripleEvent) → AddedBy s t j line before events → AddedBy s t j line before (e ∷ events)
 added_later e it = record { e = it.e; earlier = it.earlier; back = Later e it.back; same = it.same; on = it.on; kind = it.kind }
-
-moments_tail : {x y : Moment} {xs ys : List Moment} → x ∷ xs ≡ y ∷ ys → xs ≡ ys
-moments_tail e = cc
 
 added_here : {s : Settings} {t : Timing} {e : TripleEvent} {earlier : List TripleEvent} (j : ℕ) (entry : What) (line : Line) (past : List Line) (before : List Moment) → IsAllowed s t (e ∷ earlier)
     → (node s j (Adds j entry ∷ before)).log ≡ line ∷ past → before ≡ (run_triple s t earlier).moments → (run_triple s t (e ∷ earlier)).moments ≡ Adds j entry ∷ before
@@ -111,10 +108,6 @@ added_by {s = s} {t = t} j line past before (OneEvent {e = e} {earlier = earlier
         → (Before (Adds j added.entry ∷ before) (run_triple s t earlier).moments → AddedBy s t j line before earlier) → AddedBy s t j line before (e ∷ earlier)
     by_growth (inl same) rest = added_later e (rest (subst (λ ms. Before (Adds j added.entry ∷ before) ms) same added.back))
     by_growth (inr more) rest = by_newest more.0 more.1 (newest_state (subst (λ ms. Before (Adds j added.entry ∷ before) ms) more.1 added.back)) rest
-
-asked_inside : (line : Line) (past : List Line) (answer : Bool) → line.asked ≡ (if answer then ask_place past else 0) → line.asked ≤ ask_place past
-asked_inside line past true e = omega arith
-asked_inside line past false e = omega arith
 
 -- what an answer asked for lies at most at the last asking place before it
 pub asked_le : {s : Settings} {t : Timing} {events : List TripleEvent} (j : ℕ) (line : Line) (past : List Line) (before : List Moment) → IsAllowed s t events

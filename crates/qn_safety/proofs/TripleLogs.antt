@@ -1,7 +1,7 @@
 -- More of the log of one node: a boot claims one number, and from then on the claim or the clear is out until the node is up.
 use Rattle.std.proofs.Common.{◌≡◌, ℕ, Bool, true, false, List, [], ◌∷◌, Some, None, Option, refl, sym, ap, ◌∙◌, subst, if◌then◌else◌, ◌||◌, ◌⊎◌, inl, inr}
 use Rattle.std.specs.Option.{option_or}
-use Rattle.std.proofs.lemmas.Bool.{false≢true, true≢false, or_parts}
+use Rattle.std.proofs.lemmas.Bool.{false≢true, or_parts}
 use Rattle.std.proofs.lemmas.Option.{same_Some}
 use Rattle.qn_model.specs.declared.configuration.Settings.{Settings}
 use Rattle.qn_model.specs.declared.entries.What.{What}
@@ -15,34 +15,18 @@ use Rattle.qn_base.specs.lemmas.Options.{none_is_not_some}
 use Rattle.qn_base.specs.lemmas.Bools.{never_both}
 use Rattle.qn_model.specs.lemmas.Logs.{op_out-newest}
 use Rattle.qn_model.specs.lemmas.Entries.{fitting_answers}
-use Rattle.qn_model.specs.Log.{Line, op_out, begins_clean, claimed, claim_of, disk_of, is_answer, number_read, slot_number}
+use Rattle.qn_model.specs.Log.{Line, op_out, begins_clean, claimed, claim_of, disk_of, is_answer, slot_number}
 use Rattle.qn_model.specs.Phases.{phase, next_phase, in_time, is_booting, is_live, deadly_of, message_of}
 use Rattle.qn_model.specs.Fitting.{answers_op, is_claimed, is_cleared}
 use Rattle.qn_model.specs.NodeOutputs.{outs_at, taken_in, boot_outs, live_outs, mail_feeds}
 use Rattle.qn_model.specs.Moments.{Itself, Later}
 use Rattle.qn_safety.specs.Closing.{is_close, asked_close}
-use Rattle.qn_safety.proofs.Logs.{Made, NoLine, OneMore, IsLine, ask_line}
+use Rattle.qn_safety.proofs.Logs.{Made, NoLine, OneMore, IsLine, ask_line, nothing_claimed}
 use Rattle.qn_safety.proofs.Apt.{slot_answers, check_answers}
-use Rattle.qn_safety.proofs.Stays.{boot_past, op_kept, is_over, closed_never, close_stays}
-use Rattle.qn_safety.proofs.Times.{boot_tick}
+use Rattle.qn_safety.proofs.Kept.{booting_back}
+use Rattle.qn_safety.proofs.Stays.{op_kept, is_over, closed_never, close_stays}
 use Rattle.qn_safety.proofs.Numbers.{NumberFrom, BySlot, ByCheck, ClaimGiven}
 use Rattle.qn_safety.proofs.Outs.{claimed_cases}
-
-pub booted_back : {s : Settings} {me : ℕ} {line : Line} {past : List Line} → IsLine s me line past → is_answer line.what ≡ false → is_booting (phase s (line ∷ past)) ≡ false
-    → is_booting (phase s past) ≡ false
-unfolding phase
-booted_back {s = s} {me = me} {line = line} {past = past} it plain booted = by_phase (is_booting (phase s past)) refl
-  where
-    by_phase : (b : Bool) → is_booting (phase s past) ≡ b → is_booting (phase s past) ≡ false
-    by_phase false e = e
-    by_phase true e = never_both (is_booting (phase s (line ∷ past))) (boot_tick s me past line.what (in_time line.tick past) plain it.fitting e) booted
-
-pub booting_back : {s : Settings} {me : ℕ} {line : Line} {past : List Line} → IsLine s me line past → is_booting (phase s (line ∷ past)) ≡ true → is_booting (phase s past) ≡ true
-booting_back {s = s} {line = line} {past = past} it booting = by_phase (is_booting (phase s past)) refl
-  where
-    by_phase : (b : Bool) → is_booting (phase s past) ≡ b → is_booting (phase s past) ≡ true
-    by_phase true e = e
-    by_phase false e = never_both (is_booting (phase s (line ∷ past))) booting (boot_past it e)
 
 -- an entry that answers nothing claims nothing
 pub plain_claimed : {s : Settings} {me : ℕ} {line : Line} {past : List Line} → IsLine s me line past → is_answer line.what ≡ false → claimed (line ∷ past) ≡ claimed past
@@ -51,10 +35,6 @@ plain_claimed {s = s} {line = line} {past = past} it plain = by_cases (claimed_c
     by_cases : (claimed (line ∷ past) ≡ claimed past) ⊎ ((number : ℕ) × (claimed (line ∷ past) ≡ Some number) × ClaimGiven s line past number) → claimed (line ∷ past) ≡ claimed past
     by_cases (inl same) = same
     by_cases (inr claim) = never_both (is_answer line.what) claim.2.answers plain
-
-pub plain_number : (entry : What) → is_answer entry ≡ false → number_read entry ≡ None
-plain_number (what.SlotRead rank seen) is = absurd (true≢false is)
-plain_number entry is = refl
 
 -- a close that is out was asked for
 pub close_asked : (log : List Line) (number : ℕ) → op_out log ≡ Some (disk.WriteClose number) → asked_close log ≡ true
@@ -119,7 +99,7 @@ clear_comes {s = s} {me = me} {line = line} {past = past} it booting reads =
     by_phase true e = refl
     by_phase false e = absurd (false≢true e)
 
-phase_of : (s : Settings) (line : Line) (past : List Line) (entry : What) → line.what ≡ entry → phase s (line ∷ past) ≡ next_phase s entry (in_time line.tick past) (phase s past)
+pub phase_of : (s : Settings) (line : Line) (past : List Line) (entry : What) → line.what ≡ entry → phase s (line ∷ past) ≡ next_phase s entry (in_time line.tick past) (phase s past)
 unfolding phase
 phase_of s line past entry reads = ap (λ e. next_phase s e (in_time line.tick past) (phase s past)) reads
 
@@ -142,10 +122,6 @@ module _ {s : Settings} {me : ℕ} {line : Line} {past : List Line} (it : IsLine
           let reads = claimed_is line.what (subst (λ o. answers_op o line.what ≡ true) out (fitting_answers s me past line.what is it.fitting)) in claim_answered reads.0 reads.1
       by_answer true is (ClearOut out) =
           let reads = cleared_is line.what (subst (λ o. answers_op o line.what ≡ true) out (fitting_answers s me past line.what is it.fitting)) in clear_answered reads.0 reads.1
-
-nothing_claimed : claimed [] ≡ None
-unfolding claimed
-nothing_claimed = refl
 
 claimed_here : (line : Line) (past : List Line) (number : ℕ) (op : DiskOp) → disk_of line.outs ≡ Some op → claimed (line ∷ past) ≡ Some number → LateOut (line ∷ past) ⊎ (claimed past ≡ Some number)
 unfolding claimed

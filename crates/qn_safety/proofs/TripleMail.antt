@@ -26,8 +26,9 @@ use Rattle.qn_model.specs.Sectors.{is_deadly}
 use Rattle.qn_model.specs.Licences.{writes_reset}
 use Rattle.qn_model.specs.NodeOutputs.{feeds_on}
 use Rattle.qn_model.specs.Moments.{Before, Itself, Later, Moment, node}
-use Rattle.qn_model.specs.World.{World, put, taken, failed, numbered}
+use Rattle.qn_model.specs.World.{World, put, taken, numbered}
 use Rattle.qn_model.specs.Rules.{is_on, may_operate}
+use Rattle.qn_model.specs.lemmas.Failures.{failed_no_mail}
 use Rattle.qn_safety.specs.declared.triple_event.TripleEvent.{TripleEvent}
 use Rattle.qn_safety.specs.declared.triple_event.TripleEvent.TheVariants as triple
 use Rattle.qn_safety.specs.Timed.{IsUp, IsSameBoot, IsBetween, GetsBadMail, WrittenMeansBadMail}
@@ -40,7 +41,7 @@ use Rattle.qn_safety.specs.Earlier.{before_length, before_tail, before_total, be
 use Rattle.qn_safety.proofs.Logs.{Made}
 use Rattle.qn_safety.proofs.Rests.{write_is}
 use Rattle.qn_safety.proofs.Runs.{sound, ruled_before, span, same_mid}
-use Rattle.qn_safety.proofs.Fence.{mail_is_answer, up_later}
+use Rattle.qn_safety.proofs.Fence.{up_later, plain_no_mail}
 use Rattle.qn_safety.proofs.Kept.{booting_op}
 use Rattle.qn_safety.proofs.TripleSets.{TwoOf, meet, put_case, numbered_in}
 use Rattle.qn_safety.proofs.TripleAnswers.{CountsAt, AnswerIs, FewCount, TwoCount, answer_is, written_answer, mail_in, deadly_told}
@@ -231,24 +232,6 @@ module _ {s : Settings} {t : Timing} (j : ℕ) (There : ℕ → Type 0) (p : Lis
       let on_new = (span j ruled newer mids.1 on).on in
       let up_new = up_later j (ruled_before newer ruled) to_new up mids.0 on_new in
       bad_mail_step allowed up_new on (bad_mail_on more (earlier_allowed allowed) is up deadly mids.0 on_new)
-
-plain_no_mail : (entry : What) → is_answer entry ≡ false → feeds_on (message_of entry) ≡ false
-plain_no_mail entry plain = by_test (feeds_on (message_of entry)) refl
-  where
-    by_test : (b : Bool) → feeds_on (message_of entry) ≡ b → feeds_on (message_of entry) ≡ false
-    by_test false e = e
-    by_test true e = never_both (is_answer entry) (mail_is_answer entry e) plain
-
-failed_no_mail : (op : DiskOp) → feeds_on (message_of (failed op)) ≡ false
-unfolding failed
-failed_no_mail disk.ReadMail = refl
-failed_no_mail disk.ReadHeader = refl
-failed_no_mail (disk.ReadSlot other) = refl
-failed_no_mail disk.CheckMail = refl
-failed_no_mail (disk.WriteClaim number) = refl
-failed_no_mail disk.WriteClear = refl
-failed_no_mail (disk.WriteReset other) = refl
-failed_no_mail (disk.WriteClose number) = refl
 
 together_no_mail : (op : DiskOp) (first : What) (values : List What) → (op ≡ disk.ReadMail → feeds_on (message_of (together disk.ReadMail first values)) ≡ false) → feeds_on (message_of (together op first values)) ≡ false
 together_no_mail disk.ReadMail first values bad = bad refl

@@ -1,5 +1,5 @@
 -- The numbers of the incarnations of one node on three images rise: what one event does to the number of the last one.
-use Rattle.std.proofs.Common.{◌≡◌, ℕ, ◌<◌, ◌≤◌, true, false, List, [], ◌∷◌, Some, refl, sym, ap, ◌∙◌, subst, arith, ◌⊎◌, inl, inr}
+use Rattle.std.proofs.Common.{◌≡◌, ℕ, ◌<◌, ◌≤◌, true, false, List, ◌∷◌, Some, sym, ap, ◌∙◌, subst, arith, ◌⊎◌, inl, inr}
 use Rattle.std.proofs.lemmas.Option.{same_Some}
 use Rattle.qn_base.specs.lemmas.Bools.{never_both}
 use Rattle.qn_model.specs.declared.configuration.Settings.{Settings}
@@ -12,6 +12,7 @@ use Rattle.qn_safety.specs.TripleWorld.{TripleWorld, first_triple}
 use Rattle.qn_safety.proofs.Runs.{sound}
 use Rattle.qn_safety.proofs.Numbers.{up_number}
 use Rattle.qn_safety.proofs.Events.{newest_state, only_nothing}
+use Rattle.qn_safety.proofs.Rising.{never_on}
 use Rattle.qn_safety.proofs.TripleSeats.{seat_of, Effect, Rests, Enters, Answers, BootsUp, GoesOff, LandsOn, FailsOn, LateOn}
 use Rattle.qn_safety.proofs.TripleHeld.{Held, Next, next_effect, first_held}
 
@@ -86,10 +87,6 @@ module _ {s : Settings} {t : Timing} (j : ℕ) (w w' : TripleWorld) (ruled : All
           let q = was.fresh (record { on = was_up.0; booted = was_up.1 }) number p more up (omega arith) has in
           let r = next.order in
           omega arith
-
-never_on : (s : Settings) (j : ℕ) → (node s j []).on ≡ false
-unfolding node
-never_on s j = refl
 
 pub first_height : (s : Settings) (t : Timing) (j : ℕ) → Height s t j first_triple
 first_height s t j = record {

@@ -1,10 +1,8 @@
 -- Two of three images, functions that are changed at one place, and members of lists.
 use Rattle.std.proofs.Common.{◌≡◌, ℕ, suc, zero, Bool, true, false, List, [], ◌∷◌, ◌++◌, Some, refl, subst, ◌==◌, if◌then◌else◌, ◌⊎◌, inl, inr}
 use Rattle.std.proofs.lemmas.Bool.{eqb-true}
-use Rattle.std.specs.Prelude.{slice_get}
-use Rattle.std.proofs.lemmas.Option.{same_Some}
 use Rattle.qn_base.specs.lemmas.Options.{none_is_not_some}
-use Rattle.qn_base.specs.lemmas.Elements.{IsIn, First, Behind}
+use Rattle.qn_base.specs.lemmas.Elements.{IsIn, First, Behind, get_in, none_in}
 use Rattle.qn_model.specs.World.{put, numbered, without}
 
 -- a property of two of the three images
@@ -38,17 +36,9 @@ put_case P f k i value here there = by_owner (k == i) refl
     by_owner true e = here (eqb-true k i e)
     by_owner false e = there
 
-pub none_in : {A : Type 0} {x : A} {P : Type 0} → IsIn x [] → P
-none_in there = elim there [ ]
-
 pub first_or : {A : Type 0} {x y : A} {ys : List A} → IsIn x (y ∷ ys) → (x ≡ y) ⊎ IsIn x ys
 first_or First = inl refl
 first_or (Behind y more) = inr more
-
-pub get_in : {A : Type 0} (xs : List A) (n : ℕ) (x : A) → slice_get xs n ≡ Some x → IsIn x xs
-get_in [] n x e = none_is_not_some x e
-get_in (y ∷ ys) zero x e = subst (λ z. IsIn z (y ∷ ys)) (same_Some _ _ e) First
-get_in (y ∷ ys) (suc n) x e = Behind y (get_in ys n x e)
 
 pub numbered_in : {A : Type 0} (xs : List A) (number : ℕ) (x : A) → numbered xs number ≡ Some x → IsIn x xs
 numbered_in xs zero x e = none_is_not_some x e
