@@ -2,6 +2,7 @@
 use Rattle.std.proofs.Common.{◌≡◌, ℕ, Bool, true, false, List, ◌++◌, Option, None, Some, refl, sym, ap, ◌∙◌, ◌&&◌, ◌||◌, not}
 use Rattle.std.specs.Prelude.{if◌then◌else◌, is_some, unwrap_or}
 use Rattle.std.specs.Option.{option_map, option_or}
+use Rattle.qn_base.specs.lemmas.Bools.{first_of_three}
 use Rattle.qn_model.specs.declared.configuration.Settings.{Settings}
 use Rattle.qn_model.specs.declared.entries.What.{What}
 use Rattle.qn_model.specs.declared.entries.What.TheVariants as what
@@ -130,13 +131,9 @@ live_or None second one other = other
 live_or (Some op) second one other = one
 
 -- a Stop is given only by a node that holds, a Start only by one that does not
-stop_held : (held other last : Bool) → (held && other && last) ≡ true → held ≡ true
-stop_held true other last e = refl
-stop_held false other last e = absurd (cc)
-
 gives_stop-held : (s : Settings) (log : List Line) → gives_stop s log ≡ true → holds log ≡ true
 gives_stop-held s log e =
-    stop_held (holds log) (is_leaving (phase s log) || not (quorate_with_tie s log (now log))) (may_stop (timing log).loop_ms (now log) log) e
+    first_of_three (holds log) (is_leaving (phase s log) || not (quorate_with_tie s log (now log))) (may_stop (timing log).loop_ms (now log) log) e
 
 start_free : (down held : Bool) (rest : Why) → is_clear (if down then why.Down else (if held then why.Holding else rest)) ≡ true → held ≡ false
 start_free true held rest e = absurd (cc)

@@ -1,5 +1,6 @@
 -- What is among the outputs of a node that acts.
 use Rattle.std.proofs.Common.{◌≡◌, ℕ, Bool, true, false, List, [], ◌∷◌, ◌++◌, map, Option, None, Some, refl, ◌∙◌, ◌||◌}
+use Rattle.std.proofs.Math.Bool.{or-false}
 use Rattle.std.specs.Prelude.{if◌then◌else◌}
 use Rattle.std.specs.Option.{option_map_or, option_or}
 use Rattle.qn_base.specs.declared.ids.View.{View}
@@ -14,16 +15,7 @@ use Rattle.qn_model.specs.Holding.{holds}
 use Rattle.qn_model.specs.NodeVotes.{view}
 use Rattle.qn_model.specs.NodeOutputs.{acts, ask_to, asks_under, disk_outs, gives_start, gives_stop, is_asking, replies, when}
 use Rattle.qn_model.specs.Wanted.{wanted_with_delay}
-
-disk_of-append : (first second : List Out) → disk_of (first ++ second) ≡ option_or (disk_of first) (disk_of second)
-disk_of-append [] second = refl
-disk_of-append (out.Stop ∷ first) second = disk_of-append first second
-disk_of-append (out.Start ∷ first) second = disk_of-append first second
-disk_of-append (out.Feed ∷ first) second = disk_of-append first second
-disk_of-append (out.Send to packet ∷ first) second = disk_of-append first second
-disk_of-append (out.Disk op ∷ first) second = refl
-disk_of-append (out.Disarm ∷ first) second = disk_of-append first second
-disk_of-append (out.Halt kind ∷ first) second = disk_of-append first second
+use Rattle.qn_model.specs.lemmas.Operations.{disk_of-append}
 
 has_start-append : (first second : List Out) → has_start (first ++ second) ≡ (has_start first || has_start second)
 has_start-append [] second = refl
@@ -58,15 +50,11 @@ or_none : (op : Option DiskOp) → option_or op None ≡ op
 or_none None = refl
 or_none (Some op) = refl
 
-or_false : (b : Bool) → (b || false) ≡ b
-or_false true = refl
-or_false false = refl
-
 -- outputs with more of another kind after them
 plain_behind : (outs more : List Out) (stops starts : Bool) (op : Option DiskOp) → Has outs stops starts op → IsPlain more → Has (outs ++ more) stops starts op
 plain_behind outs more stops starts op has plain = record {
-  of_stop = has_stop-append outs more ∙ rw (has.of_stop, plain.of_stop) (or_false stops);
-  of_start = has_start-append outs more ∙ rw (has.of_start, plain.of_start) (or_false starts);
+  of_stop = has_stop-append outs more ∙ rw (has.of_stop, plain.of_stop) (or-false stops);
+  of_start = has_start-append outs more ∙ rw (has.of_start, plain.of_start) (or-false starts);
   of_op = disk_of-append outs more ∙ rw (has.of_op, plain.of_op) (or_none op);
 }
 
@@ -123,8 +111,8 @@ module _ (s : Settings) (me : ℕ) (log : List Line) where
   op_behind : (outs : List Out) (stops starts : Bool) (op : Option DiskOp) → Has outs stops starts None → Has (outs ++ disk_outs op) stops starts op
   op_behind outs stops starts None has = plain_behind outs [] stops starts None has plain_nothing
   op_behind outs stops starts (Some op) has = record {
-    of_stop = has_stop-append outs (out.Disk op ∷ []) ∙ rw has.of_stop (or_false stops);
-    of_start = has_start-append outs (out.Disk op ∷ []) ∙ rw has.of_start (or_false starts);
+    of_stop = has_stop-append outs (out.Disk op ∷ []) ∙ rw has.of_stop (or-false stops);
+    of_start = has_start-append outs (out.Disk op ∷ []) ∙ rw has.of_start (or-false starts);
     of_op = disk_of-append outs (out.Disk op ∷ []) ∙ rw has.of_op;
   }
 

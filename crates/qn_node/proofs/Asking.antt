@@ -1,6 +1,6 @@
 -- The Asks to the members of a mask, one rank after the other.
 use Rattle.std.proofs.Common.{◌≡◌, ◌<◌, ℕ, suc, zero, ◌+◌, Bool, true, false, List, [], ◌∷◌, ◌++◌, map, Option, None, Some, refl, sym, ap, ◌∙◌, append_assoc, arith}
-use Rattle.std.specs.Prelude.{IfNone, filter, if◌then◌else◌, is_some}
+use Rattle.std.specs.Prelude.{filter, if◌then◌else◌}
 use Rattle.std.specs.Option.{option_map, option_map_or}
 use Rattle.std.specs.List.{range_with_len}
 use Rattle.qn_base.specs.declared.ids.View.{View}
@@ -83,12 +83,3 @@ ask_nowhere f (Some view) is = absurd (cc)
 pub unasked : (f : View → Out) (present : Option View) → option_map_or (λ view. if false then f view ∷ [] else []) present [] ≡ []
 unasked f None = refl
 unasked f (Some view) = refl
-
--- what is not there
-pub none_of : {A : Type 0} (o : Option A) → ((a : A) → o ≡ Some a → ⊥) → o ≡ None
-none_of None never = refl
-none_of (Some a) never = absurd (never a refl)
-
-pub if_none : {A : Type 0} (o : Option A) (P : Type 0) → is_some o ≡ false → IfNone o P → P
-if_none None P is h = h
-if_none (Some a) P is h = absurd (cc)

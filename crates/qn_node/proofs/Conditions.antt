@@ -18,6 +18,7 @@ use Rattle.qn_model.specs.Wanted.{fence_delay, fencing_op, fencing_op_with_delay
 use Rattle.qn_fence.specs.declared.fencing.Want.{Want}
 use Rattle.qn_fence.specs.declared.fencing.Want.TheVariants as want
 use Rattle.qn_fence.specs.Fence.{op_of}
+use Rattle.qn_node.proofs.LiveReads.{up_of}
 use Rattle.qn_node.specs.declared.live.Live.{Live}
 use Rattle.qn_node.specs.Live.{LiveFor, lacks, live_phase, must_wait, unmet_by, wanted_by}
 
@@ -44,10 +45,6 @@ quorate_of s log tick count is = ap (λ a. a.quorate) is
 leaving_of : (leaving : Bool) → is_leaving (live_phase leaving) ≡ leaving
 leaving_of true = refl
 leaving_of false = refl
-
-up_of : (leaving : Bool) → is_up (live_phase leaving) ≡ not leaving
-up_of true = refl
-up_of false = refl
 
 -- the next disk operation
 pub wanted_is : (live : Live) (s : Settings) (me : ℕ) (log : List Line) → LiveFor live s me log

@@ -3,7 +3,6 @@ pub mod ActsLaws
 pub mod LiveEntries
 pub mod LiveReads
 pub mod LiveSteps
-pub mod Ids
 pub mod Outside
 pub mod Ranks
 pub mod ResourceSteps

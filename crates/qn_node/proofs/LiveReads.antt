@@ -26,7 +26,7 @@ live_of : (leaving : Bool) → is_live (live_phase leaving) ≡ true
 live_of true = refl
 live_of false = refl
 
-up_of : (leaving : Bool) → is_up (live_phase leaving) ≡ not leaving
+pub up_of : (leaving : Bool) → is_up (live_phase leaving) ≡ not leaving
 up_of true = refl
 up_of false = refl
 

@@ -1,11 +1,12 @@
 -- The outputs of a node name configured nodes.
 use Rattle.std.proofs.Common.{◌≡◌, ℕ, suc, zero, ◌+◌, ◌<◌, ◌≤◌, Bool, true, false, List, [], ◌∷◌, ◌++◌, map, length, Some, None, refl, sym, subst, ◌∙◌, ◌&&◌, ◌||◌, not, arith}
+use Rattle.std.proofs.lemmas.Bool.{ltb-true}
 use Rattle.std.specs.Prelude.{Option, All, filter, is_some, nat_lt, option_and_then, ◌==◌, if◌then◌else◌}
 use Rattle.std.specs.Option.{option_map, option_map_or, option_or}
 use Rattle.std.specs.List.{range_with_len}
-use Rattle.std.proofs.lemmas.Bool.Decides.{nat_tests}
 use Rattle.std.proofs.lemmas.List.Elements.{All-nil, All-cons, All-append}
 use Rattle.qn_base.specs.declared.ids.View.{View}
+use Rattle.qn_base.specs.lemmas.Bools.{second_of_both, second_of_three}
 use Rattle.qn_model.specs.declared.configuration.Settings.{Settings}
 use Rattle.qn_model.specs.declared.packets.Ask.{Ask}
 use Rattle.qn_model.specs.declared.disk.Message.{Message}
@@ -51,24 +52,12 @@ no_asker : (w : What) (b : Bool) (from : ℕ) → asker w ≡ None → asker (if
 no_asker w true from none e = absurd (let z : None ≡ Some from = sym none ∙ e in cc)
 no_asker w false from none e = absurd (cc)
 
-is_for_from : (mine listed other : Bool) → (mine && listed && other) ≡ true → listed ≡ true
-is_for_from true true other e = refl
-is_for_from true false other e = absurd (cc)
-is_for_from false listed other e = absurd (cc)
-
-live_for : (live for : Bool) → (live && for) ≡ true → for ≡ true
-live_for true for e = e
-live_for false for e = absurd (cc)
-
-below_of : (from bound : ℕ) → nat_lt from bound ≡ true → from < bound
-below_of from bound e = grind (arith, nat_tests)
-
 asked_from : (s : Settings) (me : ℕ) (live : Bool) (ask : Ask) (from : ℕ) (b : Bool) → (live && is_for s me ask.from ask.to) ≡ b
     → asker (if b then what.Ask ask else what.Tick) ≡ Some from → from < length s.nodes
 asked_from s me live ask from true fit e =
     let same : ask.from.0 ≡ from = cc in
-    let listed = is_for_from (ask.to.0 == me) (nat_lt ask.from.0 (length s.nodes)) (not (ask.from.0 == me)) (live_for live (is_for s me ask.from ask.to) fit) in
-    subst (λ n. n < length s.nodes) same (below_of ask.from.0 (length s.nodes) listed)
+    let listed = second_of_three (ask.to.0 == me) (nat_lt ask.from.0 (length s.nodes)) (not (ask.from.0 == me)) (second_of_both live (is_for s me ask.from ask.to) fit) in
+    subst (λ n. n < length s.nodes) same (ltb-true ask.from.0 (length s.nodes) listed)
 asked_from s me live ask from false fit e = absurd (cc)
 
 none_below : (from bound : ℕ) → from < 0 → from < bound

@@ -5,13 +5,13 @@ use Rattle.qn_model.specs.declared.configuration.Settings.{Settings}
 use Rattle.qn_model.specs.declared.entries.What.{What}
 use Rattle.qn_model.specs.declared.entries.What.TheVariants as what
 use Rattle.qn_model.specs.declared.life.Phase.{Phase}
-use Rattle.qn_model.specs.declared.life.Phase.TheVariants.{Booting, Up, Leaving, Dying, Gone}
 use Rattle.qn_model.specs.declared.outputs.Out.{Out}
 use Rattle.qn_model.specs.Log.{Line, claimed, is_answer, op_out}
 use Rattle.qn_model.specs.Phases.{in_time, is_live, is_up, next_phase, phase}
 use Rattle.qn_model.specs.Holding.{answers_stop, stop_due}
 use Rattle.qn_model.specs.Fitting.{answers_op, fits, is_first, read_as}
 use Rattle.qn_model.specs.NodeOutputs.{boot_outs, is_boot_step, outs_at, taken_in, with_read}
+use Rattle.qn_model.specs.lemmas.Phases.{not_up}
 use Rattle.qn_node.specs.declared.rest.Rest.{Rest}
 use Rattle.qn_node.specs.Resource.{after_entry, is_stopping}
 use Rattle.qn_node.specs.Rest.{RestFor}
@@ -44,13 +44,6 @@ stopped_read : (rest : Rest) (log : List Line) (tick : ℕ) (ok due : Bool) → 
     → ReadsQuietly rest log tick (what.Stopped ok) (if due then what.Stopped ok else what.Tick)
 stopped_read rest log tick ok true due waits = record { quiet = quiet_stopped ok; fit = λ e. due; same = refl }
 stopped_read rest log tick ok false due waits = record { quiet = quiet_tick; fit = λ e. absurd (cc); same = rw waits }
-
-not_up : (p : Phase) → is_live p ≡ false → is_up p ≡ false
-not_up Booting e = refl
-not_up Up e = absurd (cc)
-not_up Leaving e = absurd (cc)
-not_up Dying e = refl
-not_up Gone e = refl
 
 reads_quietly : (rest : Rest) (s : Settings) (me : ℕ) (log : List Line) (tick : ℕ) (w : What) → RestFor rest s log
     → ReadsQuietly rest log tick w (read_as s me log w)

@@ -4,8 +4,6 @@ use Rattle.std.specs.Prelude.{if◌then◌else◌}
 use Rattle.qn_model.specs.declared.configuration.Settings.{Settings}
 use Rattle.qn_model.specs.declared.entries.What.{What}
 use Rattle.qn_model.specs.declared.entries.What.TheVariants as what
-use Rattle.qn_model.specs.declared.life.Phase.{Phase}
-use Rattle.qn_model.specs.declared.life.Phase.TheVariants.{Booting, Up, Leaving, Dying, Gone}
 use Rattle.qn_model.specs.declared.life.Why.TheVariants as why
 use Rattle.qn_model.specs.declared.votes.VoteWhat.TheVariants as vote
 use Rattle.qn_model.specs.Log.{Line, claimed}
@@ -15,6 +13,7 @@ use Rattle.qn_model.specs.NodeVotes.{vote_of, votes}
 use Rattle.qn_model.specs.Fitting.{fits, read_as}
 use Rattle.qn_model.specs.NodeOutputs.{with_read}
 use Rattle.qn_model.specs.Unmet.{unmet}
+use Rattle.qn_model.specs.lemmas.Phases.{not_up}
 use Rattle.qn_node.specs.declared.live.Live.{Live}
 use Rattle.qn_node.specs.declared.stage.Stage.{Stage}
 use Rattle.qn_node.specs.declared.stage.Stage.TheVariants as stage
@@ -54,13 +53,6 @@ claims_at (stage.Claim boot) s me log h = sym h.waits.has_claimed
 claims_at (stage.Clear boot) s me log h = sym h.waits.has_claimed
 claims_at (stage.Live live) s me log h = sym h.claims
 claims_at (stage.Rest rest) s me log h = sym h.claims
-
-not_up : (p : Phase) → is_live p ≡ false → is_up p ≡ false
-not_up Booting e = refl
-not_up Up e = absurd (cc)
-not_up Leaving e = refl
-not_up Dying e = refl
-not_up Gone e = refl
 
 -- a stage that takes no part
 pub no_part_at : (at : Stage) → ((live : Live) → at ≡ stage.Live live → ⊥) → takes_part at ≡ false

@@ -1,6 +1,5 @@
 -- Words joined by a byte, written one after another.
-use Rattle.std.proofs.Common.{◌≡◌, ◌+◌, ◌<◌, ◌≤◌, ℕ, true, false, cond, List, [], ◌∷◌, ◌++◌, length, map, take, drop, get_or, Option, None, Some, refl, sym, ap, ◌∙◌, append_assoc, append-nil, arith}
-use Rattle.std.specs.Prelude.{IfNone, is_some}
+use Rattle.std.proofs.Common.{◌≡◌, ◌+◌, ◌<◌, ◌≤◌, ℕ, true, false, cond, List, [], ◌∷◌, ◌++◌, length, map, take, drop, get_or, refl, sym, ap, ◌∙◌, append_assoc, append-nil, arith}
 use Rattle.std.specs.List.{join_with_byte}
 use Rattle.std.proofs.lemmas.List.{map-append, take_all, take_more, at_drop_more}
 use Rattle.qn_base.specs.declared.ids.Mask.{Mask}
@@ -67,10 +66,6 @@ ids_from-none rank [] members none = refl
 ids_from-none rank (id ∷ all) members none =
     let here : is_member members rank ≡ false = none rank (omega arith) in
     rw here (ids_from-none (rank + 1) all members (λ j low. none j (omega arith)))
-
-pub if_none : {A : Type 0} (o : Option A) (P : Type 0) → is_some o ≡ false → IfNone o P → P
-if_none None P is h = h
-if_none (Some a) P is h = absurd (cc)
 
 -- the ids of the members from this rank on
 abbrev pub left_ids : ℕ → Mask → List NodeEntry → List ℕ

@@ -1,6 +1,7 @@
-use Rattle.std.proofs.Common.{◌≡◌, None, refl, sym, ap, subst, ◌∙◌, ℕ, true, false, arith, eq-eqb}
+use Rattle.std.proofs.Common.{◌≡◌, None, refl, sym, ap, subst, ◌∙◌, ℕ, false, arith}
 use Rattle.std.specs.Prelude.{◌==◌}
 use Rattle.std.proofs.lemmas.Bool.Decides.{nat_tests}
+use Rattle.qn_base.specs.lemmas.Numbers.{equal_to_itself}
 use Rattle.qn_model.specs.declared.entries.What.TheVariants as what
 use Rattle.qn_model.specs.declared.outputs.DiskOp.TheVariants as disk
 use Rattle.qn_model.specs.NodeOutputs.{newest_outs, with_read}
@@ -25,9 +26,6 @@ returns-in_default-clause-outs c = λ log h.
     let tick = c.args.tick in
     subst (λ w. c.args.outs.now ≡ newest_outs (with_read s me log tick w)) (sym (nothing_for_slot s me log None c.args.what h.waits c.in_default.not-SlotRead))
     (c.requires ∙ sym (tick_outs s me tick log h.waits.is_booting))
-
-same : (me : ℕ) → (me == me) ≡ true
-same me = eq-eqb me me refl
 
 other : (rank me : ℕ) → (rank ≡ me → ⊥) → (me == rank) ≡ false
 other rank me differ = grind (arith, nat_tests)
@@ -56,7 +54,7 @@ returns-clause-stands c = λ log h.
     let own = c.in-SlotRead.is ∙ ap (λ n. what.SlotRead (rank_of n) c.in-SlotRead.seen) c.if-rank-own.false in
     let E = what.SlotRead (rank_of me) c.in-SlotRead.seen in
     as_read (λ w. StageFor c.own_slot.result s me (with_read s me log tick w)) s me log c.args.what E own
-    (reads_answer s me log None (disk.ReadSlot (rank_of me)) E h.waits refl (same me)) (c.own_slot.ensures.stands s me tick log h)
+    (reads_answer s me log None (disk.ReadSlot (rank_of me)) E h.waits refl (equal_to_itself me)) (c.own_slot.ensures.stands s me tick log h)
 
 pub returns-clause-outs : goal.returns-clause-outs
 returns-clause-outs c = λ log h.
@@ -66,4 +64,4 @@ returns-clause-outs c = λ log h.
     let own = c.in-SlotRead.is ∙ ap (λ n. what.SlotRead (rank_of n) c.in-SlotRead.seen) c.if-rank-own.false in
     let E = what.SlotRead (rank_of me) c.in-SlotRead.seen in
     as_read (λ w. c.own_slot.new.outs ≡ newest_outs (with_read s me log tick w)) s me log c.args.what E own
-    (reads_answer s me log None (disk.ReadSlot (rank_of me)) E h.waits refl (same me)) (c.own_slot.ensures.outs s me tick log h)
+    (reads_answer s me log None (disk.ReadSlot (rank_of me)) E h.waits refl (equal_to_itself me)) (c.own_slot.ensures.outs s me tick log h)

@@ -1,10 +1,11 @@
 use Rattle.std.proofs.Common.{◌≡◌, ◌++◌, ◌∙◌, List, ℕ, ap, arith, length, map, sym}
 use Rattle.std.specs.Prelude.{decimal, not}
 use Rattle.std.proofs.lemmas.List.{length-map}
+use Rattle.qn_base.specs.lemmas.Options.{if_none}
 use Rattle.qn_model.specs.declared.nodelist.NodeEntry.{NodeEntry}
 use Rattle.qn_model.specs.Settings.{ids}
 use Rattle.qn_sched.specs.TraceLines.{joined_or_dash}
-use Rattle.qn_sched.proofs.Joining.{ids_from-none, if_none}
+use Rattle.qn_sched.proofs.Joining.{ids_from-none}
 use Rattle.qn_sched.proofs.trace.add_holders.Goals as goal
 
 pub returns-then-is_none-clause-text : goal.returns-then-is_none-clause-text

@@ -3,9 +3,10 @@ use Rattle.std.specs.Prelude.{filter, not}
 use Rattle.std.specs.List.{range_with_len}
 use Rattle.std.specs.Option.{option_map_or}
 use Rattle.qn_base.specs.Members.{is_member}
+use Rattle.qn_base.specs.lemmas.Options.{if_none}
 use Rattle.qn_model.specs.NodeOutputs.{ask_to}
 use Rattle.qn_model.specs.NodeVotes.{view}
-use Rattle.qn_node.proofs.Asking.{asks_nobody, asks_step, if_none}
+use Rattle.qn_node.proofs.Asking.{asks_nobody, asks_step}
 use Rattle.qn_node.proofs.live.Live.ask.Goals as goal
 
 pub loop-rank-preserved : goal.loop-rank-preserved

@@ -1,7 +1,7 @@
 use Rattle.std.proofs.Common.{◌≡◌, ◌≤◌, length, Some, arith, sym}
 use Rattle.std.specs.Prelude.{slice_get}
 use Rattle.std.proofs.lemmas.Bool.Decides.{nat_tests}
-use Rattle.qn_node.proofs.Ids.{id_from-configured, id_from-past}
+use Rattle.qn_model.specs.lemmas.Ids.{id_from-configured, id_from-past}
 use Rattle.qn_node.proofs.own.Own.id_of.Goals as goal
 
 pub returns-then-has : goal.returns-then-has
