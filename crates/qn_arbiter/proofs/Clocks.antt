@@ -1,8 +1,10 @@
 -- The true time after an event, and the clock of an arbiter.
 use Rattle.std.proofs.Common.{◌≡◌, ℕ, ◌+◌, ◌*◌, ◌≤◌, true, None, Some, Option, subst, arith}
+use Rattle.std.proofs.lemmas.Bool.{leb-true}
 use Rattle.std.specs.Prelude.{nat_le, slice_get, unwrap_or}
 use Rattle.std.specs.List.{list_all}
 use Rattle.std.specs.Option.{option_map, option_map_or}
+use Rattle.qn_base.specs.lemmas.Bools.{first_of_both, second_of_both}
 use Rattle.qn_lease.specs.ArbiterRules.{pass_of}
 use Rattle.qn_lease.specs.ArbiterSteps.{advanced_arbiter}
 use Rattle.qn_lease.specs.ArbiterWorld.{Arbiter}
@@ -16,7 +18,6 @@ use Rattle.qn_model.specs.Steps.{answered, entry_of, fails, happens, landed, lan
 use Rattle.qn_model.specs.World.{World, numbered, op_at}
 use Rattle.qn_arbiter.specs.declared.running.RunningArbiter.{RunningArbiter}
 use Rattle.qn_arbiter.specs.Standing.{HasRoomFor, IsEarly, RunsFor, RunsOrOff}
-use Rattle.qn_arbiter.proofs.RuleTests.{first_true, le-true, second_true}
 
 same_time : {A : Type 0} (o : Option A) (f : A → World) (w : World) → ((x : A) → time w.moments ≤ time (f x).moments) → time w.moments + 0 ≤ time (option_map_or f o w).moments
 same_time None f w each = omega arith
@@ -48,8 +49,8 @@ time_after s t (event.Operator rank message) w = omega arith
 pub short_pass : (s : Settings) (one : Event) → is_well_formed s one ≡ true → unwrap_or (pass_of one) 0 ≤ 1000000000
 unfolding is_well_formed
 short_pass s (event.Pass dt clocks) formed =
-    let in_range : is_between 1 1000000000 dt ≡ true = first_true _ (list_all (is_clock s) clocks) (first_true _ _ formed) in
-    le-true dt 1000000000 (second_true (nat_le 1 dt) _ in_range)
+    let in_range : is_between 1 1000000000 dt ≡ true = first_of_both _ (list_all (is_clock s) clocks) (first_of_both _ _ formed) in
+    leb-true dt 1000000000 (second_of_both (nat_le 1 dt) _ in_range)
 short_pass s (event.Boot rank base) formed = omega arith
 short_pass s (event.BootClean rank base) formed = omega arith
 short_pass s (event.Crash rank) formed = omega arith

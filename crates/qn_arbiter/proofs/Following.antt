@@ -1,9 +1,11 @@
 -- The arbiter and the pollers after each event that the nodes meet.
 use Rattle.std.proofs.Common.{◌≡◌, ℕ, ◌*◌, ◌≤◌, Bool, true, false, List, Option, None, Some, length, refl, sym, ◌∙◌, ap, subst, arith, if◌then◌else◌, ◌&&◌}
+use Rattle.std.proofs.lemmas.Bool.{leb-true}
 use Rattle.std.specs.Prelude.{unwrap_or, nat_le, ◌==◌}
 use Rattle.std.specs.Option.{option_map, option_map_or, option_or}
 use Rattle.qn_base.specs.declared.ids.Rank.{Rank}
 use Rattle.qn_base.specs.declared.limits.TheConstants.{LATEST_TIME}
+use Rattle.qn_base.specs.lemmas.Bools.{first_of_both, second_of_both}
 use Rattle.qn_lease.specs.declared.events.ArbiterEvent.TheVariants as beside
 use Rattle.qn_lease.specs.declared.lease.Lease.{Lease}
 use Rattle.qn_lease.specs.declared.polls.Reply.{Reply}
@@ -19,6 +21,7 @@ use Rattle.qn_model.specs.Moments.{tick_of, time}
 use Rattle.qn_model.specs.Rules.{is_configured, is_on, is_well_formed, is_within_bounds, refusal, unless}
 use Rattle.qn_model.specs.Settings.{IsValid}
 use Rattle.qn_model.specs.World.{World, node_at, put}
+use Rattle.qn_model.specs.lemmas.Rules.{allowed as passed}
 use Rattle.qn_arbiter.specs.declared.running.RunningArbiter.{RunningArbiter}
 use Rattle.qn_arbiter.specs.OwnRules.{own_refusal}
 use Rattle.qn_arbiter.specs.Standing.{AreAnswers, HasRoomFor, IsStanding, KeptFor, PollersFor, RunsOrOff}
@@ -27,7 +30,7 @@ use Rattle.qn_arbiter.specs.Whole.{Kept}
 use Rattle.qn_arbiter.proofs.Clocks.{early_after, early_still, has_room, time_after}
 use Rattle.qn_arbiter.proofs.Meeting.{Follows, IsOfNodes}
 use Rattle.qn_arbiter.proofs.Refusals.{nodes_decide}
-use Rattle.qn_arbiter.proofs.RuleTests.{first_true, le-true, lt-decides, passed, second_true}
+use Rattle.qn_arbiter.proofs.RuleTests.{lt-decides}
 use Rattle.qn_arbiter.proofs.StepForms.{after_one, after_pass_with, after_reply, some_same}
 
 -- what holds of all pollers holds of them after one was replaced
@@ -102,8 +105,8 @@ pub pass_formed : (s : Settings) (hundredths : ℕ) (one : Event) → is_well_fo
     → (hundredths ≤ 1000000000000) × (is_well_formed s one ≡ true)
 unfolding is_well_formed_beside
 pass_formed s hundredths one formed = (
-  le-true hundredths 1000000000000 (first_true (nat_le hundredths 1000000000000) (is_well_formed s one) formed),
-  second_true (nat_le hundredths 1000000000000) (is_well_formed s one) formed,
+  leb-true hundredths 1000000000000 (first_of_both (nat_le hundredths 1000000000000) (is_well_formed s one) formed),
+  second_of_both (nat_le hundredths 1000000000000) (is_well_formed s one) formed,
 )
 
 -- the clock of the arbiter keeps its bounds
@@ -111,7 +114,7 @@ pass_bound : (hundredths : ℕ) (o : Option ℕ) (on : Bool) → option_map_or (
     → hundredths ≤ 101 * unwrap_or o 0
 pass_bound hundredths None on e = absurd (cc)
 pass_bound hundredths (Some dt) on e =
-    le-true hundredths (101 * dt) (second_true (nat_le (99 * dt) hundredths) _ (second_true on (is_within_bounds dt hundredths) e))
+    leb-true hundredths (101 * dt) (second_of_both (nat_le (99 * dt) hundredths) _ (second_of_both on (is_within_bounds dt hundredths) e))
 
 own_pass : (k : Kept) (hundredths : ℕ) (one : Event) (d : ArbiterWorld) → own_refusal k.world.settings (beside.PassWith hundredths one) d ≡ None
     → may_pass_with hundredths one d ≡ true

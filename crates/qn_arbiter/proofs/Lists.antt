@@ -1,52 +1,13 @@
 -- Lists whose items are replaced, and pollers by rank.
-use Rattle.std.proofs.Common.{◌≡◌, ◌≢◌, ℕ, suc, zero, ◌<◌, Bool, true, false, List, [], ◌∷◌, get_or, length, Some, refl, ◌⊎◌, inl, inr, sym, ◌∙◌, ap, subst, arith, eq-eqb, if◌then◌else◌, map}
-use Rattle.std.specs.Prelude.{replicate, slice_get, slice_set, ◌==◌}
-use Rattle.std.proofs.lemmas.Bool.{false≢true}
-use Rattle.std.proofs.lemmas.Bool.Decides.{Decides-eqb}
+use Rattle.std.proofs.Common.{◌≡◌, ℕ, suc, zero, ◌<◌, List, [], ◌∷◌, get_or, Some, refl, ◌∙◌, ap, arith, map}
+use Rattle.std.specs.Prelude.{replicate, slice_get, slice_set}
 use Rattle.std.proofs.lemmas.Option.{slice_get_within}
 use Rattle.qn_arbiter.specs.declared.poller.Poller.{Poller as CodePoller}
 use Rattle.qn_arbiter.specs.Poller.{poller_of}
 use Rattle.qn_lease.specs.Poller.{Poller}
 use Rattle.qn_model.specs.World.{put}
+use Rattle.qn_cluster.specs.ListLaws.{rank_put}
 use Rattle.qn_arbiter.specs.Standing.{PollersFor}
-
--- two ranks are the same or not
-rank_by : (i j : ℕ) (b : Bool) → (i == j) ≡ b → (i ≡ j) ⊎ ((i == j) ≡ false)
-rank_by i j true e = inl ((Decides-eqb i j).0 e)
-rank_by i j false e = inr e
-
-rank_cases : (i j : ℕ) → (i ≡ j) ⊎ ((i == j) ≡ false)
-rank_cases i j = rank_by i j (i == j) refl
-
-same_rank : (i : ℕ) → (i == i) ≡ true
-same_rank i = eq-eqb i i refl
-
-other_rank : (i j : ℕ) → (i == j) ≡ false → i ≢ j
-other_rank i j e same = false≢true (sym e ∙ eq-eqb i j same)
-
-get_set_same : {A : Type 0} (items : List A) (i : ℕ) (item : A) → i < length items → slice_get (slice_set items i item) i ≡ Some item
-get_set_same [] i item within = absurd (omega arith)
-get_set_same (first ∷ items) zero item within = refl
-get_set_same (first ∷ items) (suc i) item within = get_set_same items i item (omega arith)
-
-get_set_apart : {A : Type 0} (items : List A) (i j : ℕ) (item : A) → i ≢ j → slice_get (slice_set items i item) j ≡ slice_get items j
-get_set_apart [] i j item apart = refl
-get_set_apart (first ∷ items) zero zero item apart = absurd (apart refl)
-get_set_apart (first ∷ items) zero (suc j) item apart = refl
-get_set_apart (first ∷ items) (suc i) zero item apart = refl
-get_set_apart (first ∷ items) (suc i) (suc j) item apart = get_set_apart items i j item (λ e. apart (ap suc e))
-
--- a value of a rank that is replaced
-rank_put : {A : Type 0} (items : List A) (values : ℕ → A) (i : ℕ) (value : A) → i < length items
-    → ((j : ℕ) → j < 32 → slice_get items j ≡ Some (values j))
-    → (j : ℕ) → j < 32 → slice_get (slice_set items i value) j ≡ Some (put values i value j)
-rank_put items values i value within before j below = put_by (rank_cases i j)
-  where
-    put_by : (i ≡ j) ⊎ ((i == j) ≡ false) → slice_get (slice_set items i value) j ≡ Some (put values i value j)
-    put_by (inl same) =
-        subst (λ k. slice_get (slice_set items i value) k ≡ Some (put values i value k)) same
-        (get_set_same items i value within ∙ ap (λ b. Some (if b then value else values i)) (sym (same_rank i)))
-    put_by (inr apart) = get_set_apart items i j value (other_rank i j apart) ∙ (before j below ∙ ap (λ b. Some (if b then value else values j)) (sym apart))
 
 map_set : {A B : Type 0} (f : A → B) (items : List A) (i : ℕ) (item : A) → map f (slice_set items i item) ≡ slice_set (map f items) i (f item)
 map_set f [] i item = refl

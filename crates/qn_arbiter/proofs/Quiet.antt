@@ -1,7 +1,7 @@
 -- What a world stands for after an event that the nodes do not meet.
 use Rattle.std.proofs.Common.{◌≡◌, ℕ, suc, zero, Bool, false, ◌+◌, ◌≤◌, ◌<◌, true, List, [], ◌∷◌, ◌++◌, Option, None, Some, length, refl, sym, ◌∙◌, ap, ap₂, subst, arith, ◌⊎◌, inl, inr, length-append, ◌||◌}
 use Rattle.std.specs.Prelude.{All, is_some, slice_get}
-use Rattle.std.proofs.lemmas.Bool.{false≢true}
+use Rattle.std.proofs.lemmas.Bool.{false≢true, ltb-true, leb-true}
 use Rattle.std.specs.Option.{option_map, option_map_or}
 use Rattle.std.proofs.lemmas.List.Elements.{All-nil}
 use Rattle.qn_base.specs.declared.ids.Rank.{Rank}
@@ -21,6 +21,7 @@ use Rattle.qn_model.specs.declared.reports.Refused.{Refused}
 use Rattle.qn_model.specs.declared.reports.Refused.TheVariants as refused
 use Rattle.qn_model.specs.Moments.{time}
 use Rattle.qn_model.specs.Steps.{report}
+use Rattle.qn_model.specs.lemmas.Rules.{both_allowed, allowed as passed}
 use Rattle.qn_node.specs.Outputs.{IsNodeOutput}
 use Rattle.qn_world.specs.Memory.{needs_memory as nodes_need_memory}
 use Rattle.qn_arbiter.specs.declared.running.RunningArbiter.{RunningArbiter}
@@ -31,7 +32,6 @@ use Rattle.qn_arbiter.specs.Stepping.{IsReady, OneHolder, Polls, RefusedBy, Refu
 use Rattle.qn_arbiter.specs.Whole.{Kept}
 use Rattle.qn_arbiter.proofs.Following.{put_holds}
 use Rattle.qn_arbiter.proofs.Refusals.{nodes_decide}
-use Rattle.qn_arbiter.proofs.RuleTests.{le-true, lt-true, passed, passed_both}
 use Rattle.qn_arbiter.proofs.StepForms.{HeardAt, after_boot, after_crash, after_hear, after_poll, heard_there}
 
 -- the nodes meet nothing at an event, which no rule refuses
@@ -93,7 +93,7 @@ boot_frame k running = record { settings = refl; timing = refl; lease = refl; st
 
 base_early : (k : Kept) (base : ℕ) → IsReady k (beside.ArbiterBoot base) → base ≤ 1000000000000000
 unfolding is_well_formed_beside
-base_early k base ready = le-true base 1000000000000000 ready.formed
+base_early k base ready = leb-true base 1000000000000000 ready.formed
 
 pub boot_stands : (k : Kept) (base : ℕ) (running : RunningArbiter) → IsReady k (beside.ArbiterBoot base) → RunsFor running (booted_arbiter k.lease.lease base)
     → (d : ArbiterWorld) → KeptFor k d → KeptFor (record k { arbiter = Some running }) (step_beside k.world.settings k.world.timing k.lease (beside.ArbiterBoot base) d)
@@ -251,7 +251,7 @@ poll_stands_so k rank ready none =
 
 pub poll_rank : (s : Settings) (rank : Rank) → is_well_formed_beside s (beside.Poll rank) ≡ true → rank.0 < length s.nodes
 unfolding is_well_formed_beside
-poll_rank s rank formed = lt-true rank.0 (length s.nodes) formed
+poll_rank s rank formed = ltb-true rank.0 (length s.nodes) formed
 
 pub poll_few : (k : Kept) (rank : Rank) → IsStanding k → is_well_formed_beside k.world.settings (beside.Poll rank) ≡ true → rank.0 < 32
 poll_few k rank standing formed =
@@ -353,7 +353,7 @@ hears_some k number ready none = by_both (poll_at number d) d.arbiter both.1 bot
     is = ready.standing.1
 
     both : (is_some d.arbiter ≡ true) × (is_some (poll_at number d) ≡ true)
-    both = passed_both (is_some d.arbiter) (is_some (poll_at number d)) 12 14 (ready.allowed d is)
+    both = both_allowed (is_some d.arbiter) (is_some (poll_at number d)) 12 14 (ready.allowed d is)
 
     by_both : (p : Option Poll) (a : Option Arbiter) → is_some p ≡ true → is_some a ≡ true → option_map_or (λ poll. option_map (heard_by poll) a) p None ≡ None → ⊥
     by_both None a there on e = absurd (false≢true there)

@@ -4,6 +4,7 @@ use Rattle.std.specs.Prelude.{All, slice_get, slice_set, ◌==◌}
 use Rattle.std.proofs.lemmas.List.{append-nil, length-set}
 use Rattle.std.proofs.lemmas.List.Elements.{All-append, All-nil}
 use Rattle.std.proofs.lemmas.Option.{slice_get_within}
+use Rattle.qn_base.specs.lemmas.Numbers.{same_or_not}
 use Rattle.qn_model.specs.declared.configuration.Settings.{Settings}
 use Rattle.qn_model.specs.declared.packets.Sent.{Sent}
 use Rattle.qn_model.specs.Settings.{IsValid}
@@ -13,7 +14,7 @@ use Rattle.qn_cluster.specs.declared.seat.Seat.{Seat}
 use Rattle.qn_cluster.specs.Nodes.{Nodes}
 use Rattle.qn_cluster.specs.Seats.{IsFresh, SeatFor}
 use Rattle.qn_cluster.specs.Standing.{ClusterFor, IsOpWithin, latest_clock}
-use Rattle.qn_cluster.proofs.Lists.{found, rank_cases}
+use Rattle.qn_cluster.proofs.Lists.{found}
 
 -- a seat is that of a configured rank
 pub seat_configured : (w : Nodes) (d : List Moment) (i : ℕ) (seat : Seat) → ClusterFor w d → slice_get w.seats i ≡ Some seat → i < length w.settings.nodes
@@ -79,7 +80,7 @@ with_seat w d e i new more is within one own =
       times = is.times ∙ sym one.same_time;
       nodes = λ j seat here. node_of d e w i j new seat more is one own (found w.seats i j new seat within here);
       sent = ap (λ sent. sent ++ more) is.sent ∙ sym one.sends;
-      clocks = λ j below on. clock_of w d e i j new more is one own below (rank_cases i j) on;
+      clocks = λ j below on. clock_of w d e i j new more is one own below (same_or_not i j) on;
       receivers = All-append (λ sent. sent.to.0 < length w.settings.nodes) w.packets more is.receivers own.receive;
       targets = λ j seat here. target_of w d i j new seat is own.target (found w.seats i j new seat within here);
       rooms = λ j seat here. room_of w d i j new seat is own.room (found w.seats i j new seat within here);

@@ -1,11 +1,12 @@
 -- What a world stands for after one of its nodes was handed an entry.
-use Rattle.std.proofs.Common.{◌≡◌, ◌≢◌, ℕ, ◌<◌, ◌≤◌, Bool, true, false, List, [], ◌∷◌, ◌++◌, length, Some, None, refl, if◌then◌else◌, not, sym, ◌∙◌, ap, subst, arith, length-append}
-use Rattle.std.specs.Prelude.{All, Option, is_some, slice_get, slice_set, nat_lt}
+use Rattle.std.proofs.Common.{◌≡◌, ◌≢◌, ℕ, ◌<◌, ◌≤◌, Bool, true, false, List, [], ◌∷◌, ◌++◌, length, Some, None, refl, if◌then◌else◌, not, sym, ◌∙◌, ap, subst, arith}
+use Rattle.std.specs.Prelude.{All, Option, is_some, slice_get, slice_set}
 use Rattle.std.specs.Option.{option_or}
 use Rattle.std.proofs.lemmas.List.{append-nil, length-set}
 use Rattle.std.proofs.lemmas.Option.{slice_get_within}
-use Rattle.std.proofs.lemmas.Bool.Decides.{nat_tests}
 use Rattle.std.proofs.lemmas.List.Elements.{All-nil, All-cons, All-head, All-tail}
+use Rattle.qn_base.specs.lemmas.Lists.{longer_joined}
+use Rattle.qn_base.specs.lemmas.Numbers.{equal_to_itself}
 use Rattle.qn_model.specs.declared.configuration.Settings.{Settings}
 use Rattle.qn_model.specs.declared.entries.Entry.{Entry}
 use Rattle.qn_model.specs.declared.entries.What.{What}
@@ -21,6 +22,7 @@ use Rattle.qn_model.specs.Fitting.{read_as}
 use Rattle.qn_model.specs.Wanted.{boot_op}
 use Rattle.qn_model.specs.NodeOutputs.{boot_outs, boot_step_outs, disk_outs, is_begin, is_boot_step, live_outs, mail_feeds, newest_outs, outs_at, taken_in, when, with_entry}
 use Rattle.qn_model.specs.Moments.{Adds, Moment, Running, given_out, handed, logged, node, packets, packets_of, tick_of, time}
+use Rattle.qn_model.specs.lemmas.Moments.{clock_handed}
 use Rattle.qn_node.specs.Node.{steps_of}
 use Rattle.qn_node.specs.Outputs.{IsNodeOutput}
 use Rattle.qn_cluster.specs.declared.seat.Seat.{Seat}
@@ -29,7 +31,6 @@ use Rattle.qn_cluster.specs.Seats.{HandedSeat, IsDue, SeatFor}
 use Rattle.qn_cluster.specs.Standing.{HasRoom, IsOpWithin, IsWithin, ClusterFor, latest_clock}
 use Rattle.qn_cluster.specs.Stepping.{Handed, Unhanded, outs_of, sends_at}
 use Rattle.qn_cluster.specs.Nodes.{Nodes}
-use Rattle.qn_cluster.proofs.Lists.{same_rank}
 use Rattle.qn_cluster.proofs.SeatSteps.{answer_read, op_entry}
 use Rattle.qn_cluster.proofs.Silence.{silent_while_out}
 use Rattle.qn_cluster.proofs.ClusterSteps.{OneNode, seat_configured, seated, with_seat}
@@ -122,7 +123,7 @@ quiet_sends_nothing s me log entry quiet =
 pub adds_node : (s : Settings) (d : List Moment) (i : ℕ) (entry : What)
     → node s i (Adds i entry ∷ d) ≡ handed s i (time d) entry (node s i d)
 unfolding node
-adds_node s d i entry = ap (λ b. if b then handed s i (time d) entry (node s i d) else node s i d) (same_rank i)
+adds_node s d i entry = ap (λ b. if b then handed s i (time d) entry (node s i d) else node s i d) (equal_to_itself i)
 
 pub one_adds : (s : Settings) (d : List Moment) (i : ℕ) (entry : What) → OneNode s d (Adds i entry ∷ d) i (packets_of (outs_of s i (Adds i entry ∷ d)))
 unfolding node time packets given_out
@@ -133,19 +134,11 @@ one_adds s d i entry =
       sends = refl;
     }
 
-handed-clock : (s : Settings) (i t : ℕ) (entry : What) (n : Running) → (handed s i t entry n).clock ≡ n.clock
-unfolding handed logged
-handed-clock s i t entry n = refl
-
-longer : {A : Type 0} (front back : List A) → back ≢ [] → nat_lt (length front) (length (front ++ back)) ≡ true
-longer front [] some = absurd (some refl)
-longer front (x ∷ back) some = let e = length-append front (x ∷ back) in grind (arith, nat_tests)
-
 -- what is sent is appended
 pub sends_added : (s : Settings) (d : List Moment) (i : ℕ) (entry : What) → packets_of (outs_of s i (Adds i entry ∷ d)) ≢ []
     → sends_at s (Adds i entry) d ≡ true
 unfolding node packets given_out
-sends_added s d i entry some = longer (packets s d) (packets_of (outs_of s i (Adds i entry ∷ d))) some
+sends_added s d i entry some = longer_joined (packets s d) (packets_of (outs_of s i (Adds i entry ∷ d))) some
 
 -- a seat that stands for all that another stands for is handed an entry in its place
 pub handed_by_copy : (old copy new : Seat) (t : ℕ) (entry : What) (outs : List Out)
@@ -200,7 +193,7 @@ hand_world w d i old new entry outs is here room on due hands =
     let all = hands.ranks w.settings i (node w.settings i d) (is.nodes i old here) on in
     let gives = gives_added w d i old new entry outs is here on hands in
     let clock : (node w.settings i (Adds i entry ∷ d)).clock ≡ (node w.settings i d).clock =
-    ap (λ n. n.clock) after ∙ handed-clock w.settings i (time d) entry (node w.settings i d) in
+    ap (λ n. n.clock) after ∙ clock_handed w.settings i (time d) entry (node w.settings i d) in
     with_seat w d (Adds i entry ∷ d) i new (packets_of outs) is (slice_get_within w.seats i old here)
     (subst (λ outs. OneNode w.settings d (Adds i entry ∷ d) i (packets_of outs)) (sym gives) (one_adds w.settings d i entry))
     (record {

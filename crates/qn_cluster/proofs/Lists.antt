@@ -1,44 +1,15 @@
 -- Lists whose items are replaced, and leftovers.
-use Rattle.std.proofs.Common.{◌≡◌, ◌≢◌, ℕ, suc, zero, ◌<◌, Bool, true, false, List, [], ◌∷◌, length, get_or, Some, None, refl, ◌⊎◌, inl, inr, sym, ◌∙◌, ap, subst, arith, eq-eqb}
-use Rattle.std.specs.Prelude.{All, Option, slice_get, slice_set, ◌==◌}
+use Rattle.std.proofs.Common.{◌≡◌, ℕ, suc, zero, ◌<◌, false, List, [], ◌∷◌, length, Some, refl, ◌⊎◌, inl, inr, sym, ◌∙◌, subst, arith}
+use Rattle.std.specs.Prelude.{All, slice_get, slice_set, ◌==◌}
 use Rattle.std.proofs.lemmas.List.Elements.{All-get_or}
-use Rattle.std.proofs.lemmas.Bool.{false≢true}
-use Rattle.std.proofs.lemmas.Bool.Decides.{Decides-eqb}
 use Rattle.std.proofs.lemmas.Option.{get_or_from_slice_get, slice_get_within}
-
--- two ranks are the same or not
-rank_by : (i j : ℕ) (b : Bool) → (i == j) ≡ b → (i ≡ j) ⊎ ((i == j) ≡ false)
-rank_by i j true e = inl ((Decides-eqb i j).0 e)
-rank_by i j false e = inr e
-
-pub rank_cases : (i j : ℕ) → (i ≡ j) ⊎ ((i == j) ≡ false)
-rank_cases i j = rank_by i j (i == j) refl
-
-pub same_rank : (i : ℕ) → (i == i) ≡ true
-same_rank i = eq-eqb i i refl
-
-pub other_rank : (i j : ℕ) → (i == j) ≡ false → i ≢ j
-other_rank i j e same = false≢true (sym e ∙ eq-eqb i j same)
-
-pub get_set_same : {A : Type 0} (items : List A) (i : ℕ) (item : A) → i < length items → slice_get (slice_set items i item) i ≡ Some item
-get_set_same [] i item within = absurd (omega arith)
-get_set_same (first ∷ items) zero item within = refl
-get_set_same (first ∷ items) (suc i) item within = get_set_same items i item (omega arith)
-
-get_set_apart : {A : Type 0} (items : List A) (i j : ℕ) (item : A) → i ≢ j → slice_get (slice_set items i item) j ≡ slice_get items j
-get_set_apart [] i j item apart = refl
-get_set_apart (first ∷ items) zero zero item apart = absurd (apart refl)
-get_set_apart (first ∷ items) zero (suc j) item apart = refl
-get_set_apart (first ∷ items) (suc i) zero item apart = refl
-get_set_apart (first ∷ items) (suc i) (suc j) item apart = get_set_apart items i j item (λ e. apart (ap suc e))
-
-pub get_set_other : {A : Type 0} (items : List A) (i j : ℕ) (item : A) → (i == j) ≡ false → slice_get (slice_set items i item) j ≡ slice_get items j
-get_set_other items i j item e = get_set_apart items i j item (other_rank i j e)
+use Rattle.qn_base.specs.lemmas.Lists.{get_set_same, get_set_other}
+use Rattle.qn_base.specs.lemmas.Numbers.{same_or_not}
 
 -- the item that a list has at a place after one of its items was replaced
 pub found : {A : Type 0} (items : List A) (i j : ℕ) (item seen : A) → i < length items → slice_get (slice_set items i item) j ≡ Some seen
     → ((i ≡ j) × (seen ≡ item)) ⊎ (((i == j) ≡ false) × (slice_get items j ≡ Some seen))
-found items i j item seen within e = found_by (rank_cases i j)
+found items i j item seen within e = found_by (same_or_not i j)
   where
     found_by : (i ≡ j) ⊎ ((i == j) ≡ false) → ((i ≡ j) × (seen ≡ item)) ⊎ (((i == j) ≡ false) × (slice_get items j ≡ Some seen))
     found_by (inl same) = inl (same, (let q : Some seen ≡ Some item = sym (subst (λ k. slice_get (slice_set items i item) k ≡ Some seen) (sym same) e) ∙ get_set_same items i item within in cc))
@@ -50,15 +21,6 @@ item_there [] i within = absurd (omega arith)
 item_there (first ∷ items) zero within = (first, refl)
 item_there (first ∷ items) (suc i) within = item_there items i (omega arith)
 
--- the item at a place is the one that is read there
-pub read_at : {A : Type 0} (items others : List A) (place i : ℕ) (item d : A) → items ≡ others → place ≡ i → slice_get others i ≡ Some item → get_or items place d ≡ item
-read_at items others place i item d same at here =
-    get_or_from_slice_get items place item d (ap (λ items. slice_get items place) same ∙ (ap (λ place. slice_get others place) at ∙ here))
-
 -- what holds of each item holds of the one at a place
 pub all_at : {A : Type 0} (P : A → Type 0) (items : List A) (i : ℕ) (item : A) → All P items → slice_get items i ≡ Some item → P item
 all_at P items i item all here = subst P (get_or_from_slice_get items i item item here) (All-get_or P items i item (slice_get_within items i item here) all)
-
-pub not_some : {A : Type 0} (o : Option A) → ((x : A) → o ≡ Some x → ⊥) → o ≡ None
-not_some None never = refl
-not_some (Some x) never = absurd (never x refl)

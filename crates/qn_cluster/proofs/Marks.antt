@@ -1,17 +1,19 @@
 -- Leftovers on the images that are marked, and what changes of the leftovers of one rank.
 use Rattle.std.proofs.Common.{◌≡◌, ℕ, suc, zero, ◌+◌, Bool, true, false, List, [], ◌∷◌, ◌++◌, refl, not, ◌&&◌, if◌then◌else◌, ◌⊎◌, inl, inr, sym, ◌∙◌, ◌<◌, ap, subst, arith, drop, take}
-use Rattle.std.specs.Prelude.{All, Result, Ok, Err, OnOk, slice_index_or, ◌==◌}
+use Rattle.std.specs.Prelude.{All, slice_index_or, ◌==◌}
 use Rattle.std.specs.List.{remove}
-use Rattle.std.proofs.lemmas.Bool.{eqb-true}
+use Rattle.std.proofs.lemmas.Bool.{eqb-true, and_right}
 use Rattle.std.proofs.lemmas.List.{append-nil}
 use Rattle.std.proofs.lemmas.List.Elements.{All-append, All-cons, All-drop, All-filter, All-nil, All-take}
 use Rattle.qn_base.specs.declared.ids.Rank.{Rank}
+use Rattle.qn_base.specs.lemmas.Bools.{first_of_both, second_of_both}
+use Rattle.qn_base.specs.lemmas.Numbers.{equal_to_itself, same_or_not}
 use Rattle.qn_cluster.specs.Standing.{IsWithin}
 use Rattle.qn_cluster.specs.declared.leftovers.Leftover.{Leftover}
 use Rattle.qn_cluster.specs.Places.{marked_on, others_of}
 use Rattle.qn_cluster.specs.DiskStanding.{LeftFor, is_marked, is_of, left_over, left_where}
 use Rattle.qn_cluster.proofs.LeftoverSteps.{FoundLeft, left_of-dropped, left_of-others, left_where-append}
-use Rattle.qn_cluster.specs.ListLaws.{by_image, rank_cases, same_rank}
+use Rattle.qn_cluster.specs.ListLaws.{by_image}
 use Rattle.qn_model.specs.declared.outputs.DiskOp.{DiskOp}
 use Rattle.qn_model.specs.World.{put, without}
 use Rattle.qn_safety.specs.TripleRules.{is_image}
@@ -39,7 +41,7 @@ three mine a b c x y z p q r =
     ∙ (ap (λ second. (x ++ second) ++ left_where mine c) q ∙ ap (λ third. (x ++ y) ++ third) r)))
 
 on_one : (i : ℕ) (n k : ℕ) (b : Bool) → (n == k) ≡ b → (i == i && n == k) ≡ b
-on_one i n k b e = ap (λ t. t && n == k) (same_rank i) ∙ e
+on_one i n k b e = ap (λ t. t && n == k) (equal_to_itself i) ∙ e
 
 marked_own : (i : Rank) (op : DiskOp) (marks : List Bool) (k : ℕ) → is_image k ≡ true
     → left_where (is_of i.0 k) (marked_on i op marks 3) ≡ (if is_marked marks k then op ∷ [] else [])
@@ -86,7 +88,7 @@ pub left_marked : (items new : List Leftover) (i : Rank) (op : DiskOp) (marks : 
 left_marked items new i op marks count left within is e =
     subst (λ all. LeftFor count all (left_over left i.0 op marks)) (sym e)
     (record {
-      lefts = λ j k one. by_rank j k one (rank_cases i.0 j);
+      lefts = λ j k one. by_rank j k one (same_or_not i.0 j);
       targets = All-append (InRange count) items (marked_on i op marks 3) is.targets (marked_within count i op marks within);
     })
   where
@@ -96,7 +98,7 @@ left_marked items new i op marks count left within is e =
         (left_where-append (is_of i.0 k) items (marked_on i op marks 3)
         ∙ (ap (λ front. front ++ left_where (is_of i.0 k) (marked_on i op marks 3)) (is.lefts i.0 k one)
         ∙ (ap (λ back. left i.0 k ++ back) (marked_own i op marks k one)
-        ∙ sym (ap (λ b. (if b then (λ (image : ℕ). left i.0 image ++ (if is_marked marks image then op ∷ [] else [])) else left i.0) k) (same_rank i.0)))))
+        ∙ sym (ap (λ b. (if b then (λ (image : ℕ). left i.0 image ++ (if is_marked marks image then op ∷ [] else [])) else left i.0) k) (equal_to_itself i.0)))))
     by_rank j k one (inr apart) =
         left_where-append (is_of j k) items (marked_on i op marks 3)
         ∙ (ap (λ back. left_where (is_of j k) items ++ back) (marked_apart i op marks j k apart)
@@ -108,39 +110,27 @@ pub left_dropped : (items new : List Leftover) (i : Rank) (count : ℕ) (left : 
 left_dropped items new i count left is e =
     subst (λ all. LeftFor count all (put left i.0 (λ image. []))) (sym e)
     (record {
-      lefts = λ j k one. by_rank j k one (rank_cases i.0 j);
+      lefts = λ j k one. by_rank j k one (same_or_not i.0 j);
       targets = All-filter (λ leftover. not (leftover.of.0 == i.0)) (InRange count) items is.targets;
     })
   where
     by_rank : (j k : ℕ) → is_image k ≡ true → (i.0 ≡ j) ⊎ ((i.0 == j) ≡ false) → left_where (is_of j k) (others_of i.0 items) ≡ put left i.0 (λ image. []) j k
     by_rank j k one (inl same) =
         subst (λ j. left_where (is_of j k) (others_of i.0 items) ≡ put left i.0 (λ image. []) j k) same
-        (left_of-dropped i.0 k items ∙ sym (ap (λ b. (if b then (λ (image : ℕ). []) else left i.0) k) (same_rank i.0)))
+        (left_of-dropped i.0 k items ∙ sym (ap (λ b. (if b then (λ (image : ℕ). []) else left i.0) k) (equal_to_itself i.0)))
     by_rank j k one (inr apart) =
         left_of-others i.0 j k items apart ∙ (is.lefts j k one ∙ sym (ap (λ b. (if b then (λ (image : ℕ). []) else left j) k) apart))
 
 -- ---- a leftover that is taken
 
-second_false : (a b : Bool) → b ≡ false → (a && b) ≡ false
-second_false true b e = e
-second_false false b e = refl
-
-first_of : (a b : Bool) → (a && b) ≡ true → a ≡ true
-first_of true b e = refl
-first_of false b e = absurd (cc)
-
-second_of : (a b : Bool) → (a && b) ≡ true → b ≡ true
-second_of true b e = e
-second_of false b e = absurd (cc)
-
 -- a test that fails keeps a leftover of another rank or image apart
 other_of : (i j n k : ℕ) (l : Leftover) (b c : Bool) → (i == j) ≡ b → (n == k) ≡ c → (b && c) ≡ false → is_of i n l ≡ true → is_of j k l ≡ false
 other_of i j n k l true true p q e own = absurd (cc)
 other_of i j n k l true false p q e own =
-    let here : l.image ≡ n = eqb-true l.image n (second_of (l.of.0 == i) (l.image == n) own) in
-    second_false (l.of.0 == j) (l.image == k) (ap (λ m. m == k) here ∙ q)
+    let here : l.image ≡ n = eqb-true l.image n (second_of_both (l.of.0 == i) (l.image == n) own) in
+    and_right (l.of.0 == j) (l.image == k) (ap (λ m. m == k) here ∙ q)
 other_of i j n k l false c p q e own =
-    let here : l.of.0 ≡ i = eqb-true l.of.0 i (first_of (l.of.0 == i) (l.image == n) own) in
+    let here : l.of.0 ≡ i = eqb-true l.of.0 i (first_of_both (l.of.0 == i) (l.image == n) own) in
     ap (λ b. b && l.image == k) (ap (λ m. m == j) here ∙ p)
 
 put_on_by : (left : ℕ → ℕ → List DiskOp) (i n j k : ℕ) (value : List DiskOp) (b c : Bool) → (i == j) ≡ b → (n == k) ≡ c
@@ -184,8 +174,3 @@ image_next zero below = refl
 image_next (suc zero) below = refl
 image_next (suc (suc zero)) below = refl
 image_next (suc (suc (suc place))) below = absurd (omega arith)
-
--- what a result promises where it is one
-pub ok_so : {A E : Type 0} (r : Result A E) {P Q : Type 0} → (P → Q) → OnOk r P → OnOk r Q
-ok_so (Ok x) so p = so p
-ok_so (Err e) so p = p

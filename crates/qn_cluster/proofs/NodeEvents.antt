@@ -1,10 +1,10 @@
 -- The events that change nodes alone.
 use Rattle.std.proofs.Common.{◌≡◌, ℕ, ◌<◌, Bool, true, false, List, [], ◌∷◌, Some, None, length, refl, if◌then◌else◌, ◌⊎◌, inl, inr, sym, ◌∙◌, ap, subst}
-use Rattle.std.specs.Prelude.{All, Option, Result, Ok, Err, OnErr, OnOk, is_some, slice_get, ◌==◌}
+use Rattle.std.specs.Prelude.{Option, is_some, slice_get, ◌==◌}
 use Rattle.std.specs.Option.{option_map_or, option_or}
-use Rattle.std.proofs.lemmas.List.Elements.{All-nil}
 use Rattle.qn_base.specs.declared.ids.Rank.{Rank}
 use Rattle.qn_base.specs.declared.ids.View.{View}
+use Rattle.qn_base.specs.lemmas.Numbers.{same_or_not}
 use Rattle.qn_cluster.specs.EventRanks.{rank_configured}
 use Rattle.qn_cluster.specs.Events.{CanStep, KeepsOut, Starved, Stepped}
 use Rattle.qn_cluster.specs.Nodes.{Nodes}
@@ -12,15 +12,12 @@ use Rattle.qn_cluster.specs.Seats.{IsDue}
 use Rattle.qn_cluster.specs.Standing.{ClusterFor, IsStanding}
 use Rattle.qn_cluster.specs.Stepping.{Fed, Handed, IsPassable, Passed, Unhanded, grows}
 use Rattle.qn_cluster.proofs.HandSteps.{one_adds}
-use Rattle.qn_cluster.proofs.Lists.{rank_cases}
 use Rattle.qn_model.specs.declared.configuration.Settings.{Settings}
 use Rattle.qn_model.specs.declared.entries.What.{What}
 use Rattle.qn_model.specs.declared.entries.What.TheVariants as what
 use Rattle.qn_model.specs.declared.events.Event.{Event}
 use Rattle.qn_model.specs.declared.events.Event.TheVariants as event
 use Rattle.qn_model.specs.declared.outputs.Out.{Out}
-use Rattle.qn_model.specs.declared.packets.Packet.{Packet}
-use Rattle.qn_model.specs.declared.packets.Packet.TheVariants as packet
 use Rattle.qn_model.specs.declared.packets.Sent.{Sent}
 use Rattle.qn_model.specs.declared.times.Timing.{Timing}
 use Rattle.qn_model.specs.Log.{is_answer, op_out}
@@ -29,7 +26,9 @@ use Rattle.qn_model.specs.NodeOutputs.{newest_outs}
 use Rattle.qn_model.specs.Rules.{is_on, is_well_formed, may_deliver, may_pass, refusal, unless}
 use Rattle.qn_model.specs.Steps.{entry_of, happens, outs_after, step, touched}
 use Rattle.qn_model.specs.World.{World, node_at, op_at}
-use Rattle.qn_node.specs.Outputs.{IsNodeOutput}
+use Rattle.qn_model.specs.lemmas.Entries.{packet_answers_none}
+use Rattle.qn_model.specs.lemmas.Rules.{allowed as passed, running_allowed}
+use Rattle.qn_cluster.specs.EventLaws.{no_outputs}
 
 -- the rank of a well formed event has a seat
 pub rank_within : (w : Nodes) (event : Event) (rank : Rank) → IsStanding w → is_well_formed w.settings event ≡ true → touched event ≡ Some rank
@@ -41,27 +40,11 @@ rank_ready w event rank ready e = rank_within w event rank (ready.world.moments,
 
 -- ---- what the rules leave
 
-passed : (b : Bool) (rule : ℕ) → unless b rule ≡ None → b ≡ true
-passed true rule e = refl
-passed false rule e = absurd (cc)
-
 passed_second : (on test : Bool) (rule : ℕ) → option_or (unless on 3) (unless test rule) ≡ None → test ≡ true
 passed_second true test rule e = passed test rule e
 passed_second false test rule e = absurd (cc)
 
-passed_first : (on : Bool) (rest : Option ℕ) → option_or (unless on 3) rest ≡ None → on ≡ true
-passed_first true rest e = refl
-passed_first false rest e = absurd (cc)
-
 -- ---- a result on one side
-
-pub ok_so : {A E : Type 0} (r : Result A E) {P Q : Type 0} → (P → Q) → OnOk r P → OnOk r Q
-ok_so (Ok x) so p = so p
-ok_so (Err e) so p = p
-
-pub err_so : {A E : Type 0} (r : Result A E) {P Q : Type 0} → (P → Q) → OnErr r P → OnErr r Q
-err_so (Ok x) so p = p
-err_so (Err e) so p = so p
 
 -- ---- operations that are out
 
@@ -70,7 +53,7 @@ entry_keeps : (s : Settings) (d : World) (i : ℕ) (entry : What) → is_on s i 
     → (is_some (op_at s i d) ≡ true → op_at s i (happens (Adds i entry) d) ≡ op_at s i d)
     → KeepsOut s d (happens (Adds i entry) d)
 entry_keeps s d i entry on own =
-    record { ran = λ j after. ran_by j after (rank_cases i j); same = λ j before some. same_by j some (rank_cases i j) }
+    record { ran = λ j after. ran_by j after (same_or_not i j); same = λ j before some. same_by j some (same_or_not i j) }
   where
     ran_by : (j : ℕ) → is_on s j (happens (Adds i entry) d) ≡ true → (i ≡ j) ⊎ ((i == j) ≡ false) → is_on s j d ≡ true
     ran_by j after (inl same) = subst (λ k. is_on s k d ≡ true) same on
@@ -114,27 +97,27 @@ pub record Plain (s : Settings) (event : Event) (rank : Rank) (entry : What) : T
 
 pub view_plain : (s : Settings) (rank : Rank) (view : View) → Plain s (event.View rank view) rank (what.View view)
 unfolding step refusal
-view_plain s rank view = record { steps = λ t d. refl; on = λ t d e. passed_first (is_on s rank.0 d) _ e; plain = refl; outs = λ after. refl }
+view_plain s rank view = record { steps = λ t d. refl; on = λ t d e. running_allowed (is_on s rank.0 d) _ e; plain = refl; outs = λ after. refl }
 
 pub device_plain : (s : Settings) (rank : Rank) (agrees : Bool) → Plain s (event.Device rank agrees) rank (what.Device agrees)
 unfolding step refusal
-device_plain s rank agrees = record { steps = λ t d. refl; on = λ t d e. passed_first (is_on s rank.0 d) _ e; plain = refl; outs = λ after. refl }
+device_plain s rank agrees = record { steps = λ t d. refl; on = λ t d e. running_allowed (is_on s rank.0 d) _ e; plain = refl; outs = λ after. refl }
 
 pub tick_plain : (s : Settings) (rank : Rank) → Plain s (event.Tick rank) rank what.Tick
 unfolding step refusal
-tick_plain s rank = record { steps = λ t d. refl; on = λ t d e. passed_first (is_on s rank.0 d) _ e; plain = refl; outs = λ after. refl }
+tick_plain s rank = record { steps = λ t d. refl; on = λ t d e. running_allowed (is_on s rank.0 d) _ e; plain = refl; outs = λ after. refl }
 
 pub stopped_plain : (s : Settings) (rank : Rank) → Plain s (event.Stopped rank) rank (what.Stopped true)
 unfolding step refusal
-stopped_plain s rank = record { steps = λ t d. refl; on = λ t d e. passed_first (is_on s rank.0 d) _ e; plain = refl; outs = λ after. refl }
+stopped_plain s rank = record { steps = λ t d. refl; on = λ t d e. running_allowed (is_on s rank.0 d) _ e; plain = refl; outs = λ after. refl }
 
 pub unstopped_plain : (s : Settings) (rank : Rank) → Plain s (event.Unstopped rank) rank (what.Stopped false)
 unfolding step refusal
-unstopped_plain s rank = record { steps = λ t d. refl; on = λ t d e. passed_first (is_on s rank.0 d) _ e; plain = refl; outs = λ after. refl }
+unstopped_plain s rank = record { steps = λ t d. refl; on = λ t d e. running_allowed (is_on s rank.0 d) _ e; plain = refl; outs = λ after. refl }
 
 pub leave_plain : (s : Settings) (rank : Rank) → Plain s (event.Leave rank) rank what.Leave
 unfolding step refusal
-leave_plain s rank = record { steps = λ t d. refl; on = λ t d e. passed_first (is_on s rank.0 d) _ e; plain = refl; outs = λ after. refl }
+leave_plain s rank = record { steps = λ t d. refl; on = λ t d e. running_allowed (is_on s rank.0 d) _ e; plain = refl; outs = λ after. refl }
 
 pub entry_stepped : (w new : Nodes) (event : Event) (rank : Rank) (entry : What) (outs : List Out) → Plain w.settings event rank entry
     → Handed w new rank.0 entry outs → Stepped w new event outs
@@ -162,9 +145,6 @@ entry_starved w new event rank entry p starved =
     }
 
 -- ---- pass and feed
-
-no_outputs : (s : Settings) → All (IsNodeOutput s) []
-no_outputs s = All-nil (IsNodeOutput s)
 
 pass_ready : (s : Settings) (t : Timing) (d : World) (dt : ℕ) (clocks : List (Rank × ℕ)) → refusal s t (event.Pass dt clocks) d ≡ None → may_pass s t dt clocks d ≡ true
 unfolding refusal
@@ -200,18 +180,11 @@ feed_made w new rank feeds =
 
 deliver_on : (s : Settings) (t : Timing) (d : World) (rank : Rank) (number : ℕ) → refusal s t (event.Deliver rank number) d ≡ None → is_on s rank.0 d ≡ true
 unfolding refusal
-deliver_on s t d rank number e = passed_first (is_on s rank.0 d) _ e
+deliver_on s t d rank number e = running_allowed (is_on s rank.0 d) _ e
 
 deliver_may : (s : Settings) (t : Timing) (d : World) (rank : Rank) (number : ℕ) → refusal s t (event.Deliver rank number) d ≡ None → may_deliver s rank.0 number d ≡ true
 unfolding refusal
 deliver_may s t d rank number e = passed_second (is_on s rank.0 d) (may_deliver s rank.0 number d) 8 e
-
-packet_plain : (p : Packet) → is_answer (entry_of p) ≡ false
-packet_plain (packet.Ask ask) = refl
-packet_plain (packet.Tell tell) = refl
-packet_plain (packet.Hello from) = refl
-packet_plain (packet.Announce from view) = refl
-packet_plain (packet.Vote agrees) = refl
 
 deliver_steps : (s : Settings) (t : Timing) (rank : Rank) (number : ℕ) (sent : Sent) (entry : What) (d : World)
     → Some sent ≡ slice_get (packets s d.moments) number → entry ≡ entry_of sent.packet
@@ -224,7 +197,7 @@ pub deliver_made : (w new : Nodes) (rank : Rank) (number : ℕ) (sent : Sent) (e
     → ((d : World) → ClusterFor w d.moments → Some sent ≡ slice_get (packets w.settings d.moments) number)
     → entry ≡ entry_of sent.packet → Handed w new rank.0 entry outs → Stepped w new (event.Deliver rank number) outs
 deliver_made w new rank number sent entry outs found entry_is made =
-    let plain : is_answer entry ≡ false = ap is_answer entry_is ∙ packet_plain sent.packet in
+    let plain : is_answer entry ≡ false = ap is_answer entry_is ∙ packet_answers_none sent.packet in
     record {
       frame = made.frame;
       stands = λ t d is allowed.

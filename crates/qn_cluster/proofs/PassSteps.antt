@@ -1,5 +1,6 @@
 -- What a cluster stands for after a boot, an end or a feed of a node, and after time passed.
 use Rattle.std.proofs.Common.{◌≡◌, ℕ, suc, zero, ◌+◌, ◌*◌, ◌^◌, ◌<◌, ◌≤◌, Bool, true, false, List, [], ◌∷◌, ◌++◌, length, Some, None, refl, if◌then◌else◌, ◌&&◌, ◌⊎◌, inl, inr, sym, ◌∙◌, ap, subst, arith}
+use Rattle.std.proofs.lemmas.Bool.{leb-true}
 use Rattle.std.specs.Prelude.{Option, slice_get, slice_set, ◌==◌, nat_le}
 use Rattle.std.specs.List.{list_all, range_with_len}
 use Rattle.std.specs.Option.{option_map}
@@ -9,6 +10,8 @@ use Rattle.std.proofs.lemmas.List.Elements.{All-nil}
 use Rattle.std.proofs.lemmas.Option.{slice_get_within}
 use Rattle.qn_base.specs.declared.ids.Rank.{Rank}
 use Rattle.qn_base.specs.declared.limits.TheConstants.{LATEST_TIME}
+use Rattle.qn_base.specs.lemmas.Bools.{first_of_both, second_of_both}
+use Rattle.qn_base.specs.lemmas.Numbers.{equal_to_itself, same_or_not}
 use Rattle.qn_model.specs.declared.configuration.Settings.{Settings}
 use Rattle.qn_model.specs.declared.times.Timing.{Timing}
 use Rattle.qn_model.specs.declared.outputs.Out.{Out}
@@ -26,8 +29,6 @@ use Rattle.qn_cluster.specs.Standing.{ClusterFor, IsOpWithin, latest_clock}
 use Rattle.qn_cluster.specs.Stepping.{Booted, Ended, Fed, IsPassable, Passed, SameFrame}
 use Rattle.qn_cluster.proofs.ClusterSteps.{OneNode, seat_configured, with_quiet_seat}
 use Rattle.qn_cluster.proofs.HandSteps.{op_within}
-use Rattle.qn_cluster.proofs.Lists.{rank_cases, same_rank}
-use Rattle.qn_cluster.proofs.RuleSteps.{first_true, le-true, second_true}
 
 -- one seat is replaced
 seat_frame : (w new : Nodes) (i : ℕ) (seat : Seat) → new ≡ record w { seats = slice_set w.seats i seat } → SameFrame w new
@@ -42,7 +43,7 @@ seat_frame w new i seat e =
 
 boots_node : (s : Settings) (d : List Moment) (i base : ℕ) (clean : Bool) → node s i (Boots i base clean ∷ d) ≡ booted s i (time d) base clean (node s i d)
 unfolding node
-boots_node s d i base clean = ap (λ b. if b then booted s i (time d) base clean (node s i d) else node s i d) (same_rank i)
+boots_node s d i base clean = ap (λ b. if b then booted s i (time d) base clean (node s i d) else node s i d) (equal_to_itself i)
 
 -- the begin of a boot sends nothing
 begin_sends_nothing : (s : Settings) (i t base : ℕ) (clean : Bool) (n : Running) → packets_of (newest_outs (booted s i t base clean n).log) ≡ []
@@ -101,7 +102,7 @@ boot_stepped w new i base clean seat outs within few early f boot =
 
 ends_node : (s : Settings) (d : List Moment) (i : ℕ) → node s i (Ends i ∷ d) ≡ record (node s i d) { on = false }
 unfolding node
-ends_node s d i = ap (λ b. if b then record (node s i d) { on = false } else node s i d) (same_rank i)
+ends_node s d i = ap (λ b. if b then record (node s i d) { on = false } else node s i d) (equal_to_itself i)
 
 one_ends : (s : Settings) (d : List Moment) (i : ℕ) → OneNode s d (Ends i ∷ d) i []
 unfolding node time packets given_out
@@ -136,7 +137,7 @@ end_stepped w new i seat here e =
 
 feeds_node : (s : Settings) (d : List Moment) (i : ℕ) → node s i (Feeds i ∷ d) ≡ record (node s i d) { fed = time d }
 unfolding node
-feeds_node s d i = ap (λ b. if b then record (node s i d) { fed = time d } else node s i d) (same_rank i)
+feeds_node s d i = ap (λ b. if b then record (node s i d) { fed = time d } else node s i d) (equal_to_itself i)
 
 one_feeds : (s : Settings) (d : List Moment) (i : ℕ) → OneNode s d (Feeds i ∷ d) i []
 unfolding node time packets given_out
@@ -180,28 +181,28 @@ feed_stepped w new i seat here e =
 range_step : (p : ℕ → Bool) (from count rank : ℕ) → (from ≡ rank) ⊎ ((from == rank) ≡ false) → (p from && list_all p (range_with_len (from + 1) count)) ≡ true
     → from ≤ rank → rank < from + suc count → (list_all p (range_with_len (from + 1) count) ≡ true → from + 1 ≤ rank → rank < (from + 1) + count → p rank ≡ true)
     → p rank ≡ true
-range_step p from count rank (inl same) e low high later = subst (λ r. p r ≡ true) same (first_true (p from) _ e)
+range_step p from count rank (inl same) e low high later = subst (λ r. p r ≡ true) same (first_of_both (p from) _ e)
 range_step p from count rank (inr apart) e low high later =
     let above : from + 1 ≤ rank = grind (arith, nat_tests) in
-    later (second_true (p from) _ e) above (omega arith)
+    later (second_of_both (p from) _ e) above (omega arith)
 
 range_at : (p : ℕ → Bool) (from count rank : ℕ) → list_all p (range_with_len from count) ≡ true → from ≤ rank → rank < from + count → p rank ≡ true
 range_at p from zero rank e low high = absurd (omega arith)
 range_at p from (suc count) rank e low high =
-    range_step p from count rank (rank_cases from rank) e low high (λ e low high. range_at p (from + 1) count rank e low high)
+    range_step p from count rank (same_or_not from rank) e low high (λ e low high. range_at p (from + 1) count rank e low high)
 
 lives_on : (t : Timing) (dt advance now : ℕ) (n : Running) → passes t dt advance now n ≡ true → n.on ≡ true → advance ≤ 101 * dt
 lives_on t dt advance now n e on =
     let z : (is_within_bounds dt advance && outlives t (now + dt) n.fed) ≡ true =
     sym (ap (λ b. if b then is_within_bounds dt advance && outlives t (now + dt) n.fed else true) on) ∙ e in
-    le-true advance (101 * dt) (second_true (nat_le (99 * dt) advance) _ (first_true _ _ z))
+    leb-true advance (101 * dt) (second_of_both (nat_le (99 * dt) advance) _ (first_of_both _ _ z))
 
 advances_little : (s : Settings) (t : Timing) (w : World) (dt : ℕ) (clocks : List (Rank × ℕ)) (rank : ℕ) → may_pass s t dt clocks w ≡ true
     → rank < length s.nodes → (node s rank w.moments).on ≡ true → advance_of dt clocks rank ≤ 101 * dt
 advances_little s t w dt clocks rank allowed below on =
     lives_on t dt (advance_of dt clocks rank) (time w.moments) (node s rank w.moments)
     (range_at (λ rank. passes t dt (advance_of dt clocks rank) (time w.moments) (node s rank w.moments)) 0 (length s.nodes) rank
-    (second_true _ _ allowed) (omega arith) (omega arith)) on
+    (second_of_both _ _ allowed) (omega arith) (omega arith)) on
 
 map_some : {A B : Type 0} (f : A → B) (o : Option A) (y : B) → option_map f o ≡ Some y → (x : A) × (o ≡ Some x) × (y ≡ f x)
 map_some f None y e = absurd (cc)

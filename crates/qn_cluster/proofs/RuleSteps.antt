@@ -1,11 +1,13 @@
 -- The rules that look at nodes alone, by the seats of a cluster.
 use Rattle.std.proofs.Common.{◌≡◌, ℕ, suc, zero, ◌+◌, ◌-◌, ◌*◌, ◌<◌, ◌≤◌, Bool, true, false, List, [], ◌∷◌, length, Some, None, refl, not, if◌then◌else◌, ◌&&◌, ◌||◌, sym, ◌∙◌, ap, subst, arith, add-one, drop}
-use Rattle.std.specs.Prelude.{Option, slice_get, nat_le, nat_lt}
+use Rattle.std.proofs.lemmas.Bool.{ltb-true, leb-true}
+use Rattle.std.specs.Prelude.{Option, slice_get, nat_le}
 use Rattle.std.specs.List.{list_all, range_with_len}
 use Rattle.std.specs.Option.{option_map_or, option_or}
 use Rattle.std.proofs.lemmas.Bool.Decides.{nat_tests}
 use Rattle.qn_base.specs.declared.ids.Rank.{Rank}
 use Rattle.qn_base.specs.declared.limits.TheConstants.{LONGEST_PERIOD}
+use Rattle.qn_base.specs.lemmas.Bools.{first_of_both, second_of_both}
 use Rattle.qn_model.specs.declared.configuration.Settings.{Settings}
 use Rattle.qn_model.specs.declared.times.Timing.{Timing}
 use Rattle.qn_model.specs.declared.events.Event.TheVariants as event
@@ -70,20 +72,6 @@ lives_rule w t d i seat dt advance later is here at =
 
 -- ---- ranks
 
-pub lt-true : (n m : ℕ) → nat_lt n m ≡ true → n < m
-lt-true n m e = grind (arith, nat_tests)
-
-pub le-true : (n m : ℕ) → nat_le n m ≡ true → n ≤ m
-le-true n m e = grind (arith, nat_tests)
-
-pub second_true : (a b : Bool) → (a && b) ≡ true → b ≡ true
-second_true true b e = e
-second_true false b e = absurd (cc)
-
-pub first_true : (a b : Bool) → (a && b) ≡ true → a ≡ true
-first_true true b e = refl
-first_true false b e = absurd (cc)
-
 -- ---- tests of all ranks
 
 all_split : (p : ℕ → Bool) (rank count : ℕ) → rank < count
@@ -91,16 +79,6 @@ all_split : (p : ℕ → Bool) (rank count : ℕ) → rank < count
 all_split p rank count below =
     let one_more : count - rank ≡ suc (count - (rank + 1)) = omega arith in
     ap (λ n. list_all p (range_with_len rank n)) one_more
-
-pub all_so_far : (p : ℕ → Bool) (rank count : ℕ) (all : Bool) → rank < count → p rank ≡ true
-    → list_all p (range_with_len rank (count - rank)) ≡ all → list_all p (range_with_len (rank + 1) (count - (rank + 1))) ≡ all
-all_so_far p rank count all below passes was =
-    sym (all_split p rank count below ∙ ap (λ b. b && list_all p (range_with_len (rank + 1) (count - (rank + 1)))) passes) ∙ was
-
-pub one_fails : (p : ℕ → Bool) (rank count : ℕ) (all : Bool) → rank < count → p rank ≡ false
-    → list_all p (range_with_len rank (count - rank)) ≡ all → all ≡ false
-one_fails p rank count all below fails was =
-    sym was ∙ (all_split p rank count below ∙ ap (λ b. b && list_all p (range_with_len (rank + 1) (count - (rank + 1)))) fails)
 
 -- tests that agree on what a third one lets pass
 same_by : (p q : Bool) (rest others : Bool) (guard more : Bool) → (guard && more) ≡ true → (guard ≡ true → p ≡ q) → (more ≡ true → rest ≡ others)
@@ -116,8 +94,8 @@ list_all_same guard p q (item ∷ items) e same =
 
 pub list_all_at : {A : Type 0} (p : A → Bool) (items : List A) (i : ℕ) (item : A) → list_all p items ≡ true → slice_get items i ≡ Some item → p item ≡ true
 list_all_at p [] i item e here = absurd (cc)
-list_all_at p (first ∷ items) zero item e here = let z : first ≡ item = cc in subst (λ x. p x ≡ true) z (first_true (p first) (list_all p items) e)
-list_all_at p (first ∷ items) (suc i) item e here = list_all_at p items i item (second_true (p first) (list_all p items) e) here
+list_all_at p (first ∷ items) zero item e here = let z : first ≡ item = cc in subst (λ x. p x ≡ true) z (first_of_both (p first) (list_all p items) e)
+list_all_at p (first ∷ items) (suc i) item e here = list_all_at p items i item (second_of_both (p first) (list_all p items) e) here
 
 range_same : (p q : ℕ → Bool) (from count limit : ℕ) → from + count ≤ limit → ((rank : ℕ) → rank < limit → p rank ≡ q rank)
     → list_all p (range_with_len from count) ≡ list_all q (range_with_len from count)
@@ -131,20 +109,20 @@ range_same p q from (suc count) limit fits same =
 pub short_pass : (s : Settings) (dt : ℕ) (clocks : List (Rank × ℕ)) → is_well_formed s (event.Pass dt clocks) ≡ true → dt ≤ 1000000000
 unfolding is_well_formed
 short_pass s dt clocks formed =
-    let in_range : is_between 1 1000000000 dt ≡ true = first_true _ (list_all (is_clock s) clocks) (first_true _ _ formed) in
-    le-true dt 1000000000 (second_true (nat_le 1 dt) _ in_range)
+    let in_range : is_between 1 1000000000 dt ≡ true = first_of_both _ (list_all (is_clock s) clocks) (first_of_both _ _ formed) in
+    leb-true dt 1000000000 (second_of_both (nat_le 1 dt) _ in_range)
 
 pub clocks_configured : (s : Settings) (dt : ℕ) (clocks : List (Rank × ℕ)) → is_well_formed s (event.Pass dt clocks) ≡ true → list_all (is_clock s) clocks ≡ true
 unfolding is_well_formed
-clocks_configured s dt clocks formed = second_true (is_between 1 1000000000 dt) _ (first_true _ _ formed)
+clocks_configured s dt clocks formed = second_of_both (is_between 1 1000000000 dt) _ (first_of_both _ _ formed)
 
 -- every clock that is named is that of a seat
 pub clock_within : (w : Nodes) (dt : ℕ) (clocks : List (Rank × ℕ)) (place : ℕ) (clock : Rank × ℕ) → IsStanding w
     → is_well_formed w.settings (event.Pass dt clocks) ≡ true → slice_get clocks place ≡ Some clock → clock.0.0 < length w.seats
 clock_within w dt clocks place clock standing formed here =
     subst (λ count. clock.0.0 < count) (sym standing.1.count)
-    (lt-true clock.0.0 (length w.settings.nodes)
-    (first_true (is_configured w.settings clock.0.0) _ (list_all_at (is_clock w.settings) clocks place clock (clocks_configured w.settings dt clocks formed) here)))
+    (ltb-true clock.0.0 (length w.settings.nodes)
+    (first_of_both (is_configured w.settings clock.0.0) _ (list_all_at (is_clock w.settings) clocks place clock (clocks_configured w.settings dt clocks formed) here)))
 
 pub on_same : (w : Nodes) (d : World) (rank : ℕ) → ClusterFor w d.moments → rank < length w.seats → on_at w rank ≡ is_on w.settings rank d
 on_same w d rank is within =
@@ -166,7 +144,7 @@ pass_rule w t d dt clocks is formed =
     let clocks_same : list_all (λ clock. on_at w clock.0.0) clocks ≡ list_all (λ clock. is_on w.settings clock.0.0 d) clocks =
     list_all_same (is_clock w.settings) (λ clock. on_at w clock.0.0) (λ clock. is_on w.settings clock.0.0 d) clocks (clocks_configured w.settings dt clocks formed)
     (λ clock good. on_same w d clock.0.0 is
-    (subst (λ count. clock.0.0 < count) (sym is.count) (lt-true clock.0.0 (length w.settings.nodes) (first_true (is_configured w.settings clock.0.0) _ good)))) in
+    (subst (λ count. clock.0.0 < count) (sym is.count) (ltb-true clock.0.0 (length w.settings.nodes) (first_of_both (is_configured w.settings clock.0.0) _ good)))) in
     let ranks_same : list_all (passes_at t.watchdog w dt clocks) (range_with_len 0 (length w.seats))
     ≡ list_all (λ rank. passes t dt (advance_of dt clocks rank) (time d.moments) (node_at w.settings rank d)) (range_with_len 0 (length w.settings.nodes)) =
     range_same (passes_at t.watchdog w dt clocks) (λ rank. passes t dt (advance_of dt clocks rank) (time d.moments) (node_at w.settings rank d)) 0 (length w.seats) (length w.seats)
@@ -177,7 +155,7 @@ pass_rule w t d dt clocks is formed =
 -- the watchdog of safe timing
 pub short_watchdog : (t : Timing) → is_safe t ≡ true → t.watchdog ≤ LONGEST_PERIOD
 short_watchdog t safe =
-    le-true t.watchdog LONGEST_PERIOD (second_true (nat_le 1 t.watchdog) _ (first_true _ _ (first_true _ _ (first_true _ _ (first_true _ _ (first_true _ _ safe))))))
+    leb-true t.watchdog LONGEST_PERIOD (second_of_both (nat_le 1 t.watchdog) _ (first_of_both _ _ (first_of_both _ _ (first_of_both _ _ (first_of_both _ _ (first_of_both _ _ safe))))))
 
 pub few_seats : (w : Nodes) → IsStanding w → length w.seats ≤ 32
 few_seats w standing = subst (λ count. count ≤ 32) (sym standing.1.count) standing.1.valid.few_nodes

@@ -1,8 +1,9 @@
 -- What the operations of a node take from the sectors, and write to them.
-use Rattle.std.proofs.Common.{◌≡◌, ℕ, ◌<◌, true, false, length, Some, refl, sym, ◌∙◌, ap, subst, suc, zero, arith}
+use Rattle.std.proofs.Common.{◌≡◌, ℕ, ◌<◌, true, false, length, Some, sym, ◌∙◌, ap, subst}
 use Rattle.std.specs.Prelude.{replicate, slice_get, slice_set}
 use Rattle.std.proofs.lemmas.Option.{slice_get_within}
 use Rattle.qn_base.specs.declared.ids.Rank.{Rank}
+use Rattle.qn_base.specs.lemmas.Lists.{replicated}
 use Rattle.qn_cluster.specs.declared.sectors.Sectors.{Sectors}
 use Rattle.qn_cluster.specs.DiskStanding.{SectorsFor}
 use Rattle.qn_cluster.specs.ListLaws.{rank_put}
@@ -21,11 +22,6 @@ use Rattle.qn_model.specs.declared.times.Timing.{Timing}
 use Rattle.qn_model.specs.World.{World, first_world, mailboxes_with, put, slots_with, taken}
 
 -- the sectors of an image as new
-replicated : {A : Type 0} (count rank : ℕ) (item : A) → rank < count → slice_get (replicate count item) rank ≡ Some item
-replicated zero rank item below = absurd (omega arith)
-replicated (suc count) zero item below = refl
-replicated (suc count) (suc rank) item below = replicated count rank item (omega arith)
-
 pub new_sectors : SectorsFor (record { slots = replicate 32 (record { incarnation = 0; clean = true }); mailboxes = replicate 32 message.Empty }) first_world.slots first_world.mailboxes
 new_sectors =
     record {

@@ -1,6 +1,6 @@
 -- A node asks nothing of the disk while one of its operations is out and not answered.
 use Rattle.std.proofs.Common.{◌≡◌, ℕ, Bool, true, false, List, [], ◌∷◌, ◌++◌, Some, None, refl, if◌then◌else◌, ◌||◌, ◌∙◌, ap}
-use Rattle.std.specs.Prelude.{Option, filter, is_some, length, map}
+use Rattle.std.specs.Prelude.{Option, filter, is_some, length}
 use Rattle.std.specs.List.{range_with_len}
 use Rattle.std.specs.Option.{option_map_or, option_or}
 use Rattle.qn_base.specs.declared.ids.View.{View}
@@ -17,56 +17,16 @@ use Rattle.qn_model.specs.Holding.{holds}
 use Rattle.qn_model.specs.NodeVotes.{view}
 use Rattle.qn_model.specs.Fitting.{fits, is_first, read_as}
 use Rattle.qn_model.specs.Wanted.{wanted_with_delay}
-use Rattle.qn_model.specs.NodeOutputs.{acts, ask_to, asks, asks_under, boot_outs, boot_step_outs, disk_outs, gives_start, gives_stop, is_asked, is_asking, is_boot_step, live_outs, mail_feeds, newest_outs, outs_at, replies, taken_in, when, with_entry}
+use Rattle.qn_model.specs.NodeOutputs.{acts, asks, asks_under, boot_outs, boot_step_outs, disk_outs, gives_start, gives_stop, is_asked, is_asking, is_boot_step, live_outs, mail_feeds, newest_outs, outs_at, replies, taken_in, when, with_entry}
+use Rattle.qn_model.specs.lemmas.Operations.{none_joined, none_when, none_of_replies, none_of_asks}
 
 none_front : (front back : Option DiskOp) → front ≡ None → back ≡ None → option_or front back ≡ None
 none_front None back e f = f
 none_front (Some op) back e f = absurd (cc)
 
-disk_of-append : (front back : List Out) → disk_of (front ++ back) ≡ option_or (disk_of front) (disk_of back)
-disk_of-append [] back = refl
-disk_of-append (out.Stop ∷ front) back = disk_of-append front back
-disk_of-append (out.Start ∷ front) back = disk_of-append front back
-disk_of-append (out.Feed ∷ front) back = disk_of-append front back
-disk_of-append (out.Send to sent ∷ front) back = disk_of-append front back
-disk_of-append (out.Disk op ∷ front) back = refl
-disk_of-append (out.Disarm ∷ front) back = disk_of-append front back
-disk_of-append (out.Halt kind ∷ front) back = disk_of-append front back
-
--- two lists that ask nothing of the disk
-no_disk : (front back : List Out) → disk_of front ≡ None → disk_of back ≡ None → disk_of (front ++ back) ≡ None
-no_disk front back e f = disk_of-append front back ∙ none_front (disk_of front) (disk_of back) e f
-
-when_no_disk : (b : Bool) (output : Out) → disk_of (output ∷ []) ≡ None → disk_of (when b output) ≡ None
-when_no_disk true output e = e
-when_no_disk false output e = refl
-
-replies_no_disk : (s : Settings) (me : ℕ) (held : Bool) (log : List Line) (entry : What) → disk_of (replies s me held log entry) ≡ None
-replies_no_disk s me held log (what.Ask ask) = when_no_disk _ _ refl
-replies_no_disk s me held log what.Begin = refl
-replies_no_disk s me held log what.BeginClean = refl
-replies_no_disk s me held log (what.Header seen) = refl
-replies_no_disk s me held log (what.SlotRead rank seen) = refl
-replies_no_disk s me held log (what.MailChecked seen) = refl
-replies_no_disk s me held log (what.Claimed ok) = refl
-replies_no_disk s me held log (what.Cleared ok) = refl
-replies_no_disk s me held log (what.MailRead seen) = refl
-replies_no_disk s me held log (what.MailWritten rank ok) = refl
-replies_no_disk s me held log (what.View installed) = refl
-replies_no_disk s me held log (what.Tell tell) = refl
-replies_no_disk s me held log (what.Device agrees) = refl
-replies_no_disk s me held log what.Tick = refl
-replies_no_disk s me held log (what.Stopped ok) = refl
-replies_no_disk s me held log what.Leave = refl
-replies_no_disk s me held log (what.Closed ok) = refl
-
-asks_no_disk : (me : ℕ) (log : List Line) (present : View) (ranks : List ℕ) → disk_of (map (ask_to me log present) ranks) ≡ None
-asks_no_disk me log present [] = refl
-asks_no_disk me log present (rank ∷ ranks) = asks_no_disk me log present ranks
-
 under_no_disk : (s : Settings) (me : ℕ) (log : List Line) (present : Option View) → disk_of (option_map_or (asks_under s me log) present []) ≡ None
 under_no_disk s me log None = refl
-under_no_disk s me log (Some present) = asks_no_disk me log present (filter (is_asked s me log) (range_with_len 0 (length s.nodes)))
+under_no_disk s me log (Some present) = none_of_asks me log present (filter (is_asked s me log) (range_with_len 0 (length s.nodes)))
 
 asking_no_disk : (s : Settings) (me : ℕ) (log : List Line) (b : Bool) → disk_of (if b then option_map_or (asks_under s me log) (view log) [] else []) ≡ None
 asking_no_disk s me log true = under_no_disk s me log (view log)
@@ -87,13 +47,13 @@ acts_no_disk s me log entry fed e =
     let start = when (gives_start s me log) out.Start in
     let feed = when fed out.Feed in
     let told = replies s me (gives_start s me log || holds log) log entry in
-    no_disk (stop ++ start ++ feed ++ told ++ asks s me log) (disk_outs (wanted_with_delay s me log))
-    (no_disk (stop ++ start ++ feed ++ told) (asks s me log)
-    (no_disk (stop ++ start ++ feed) told
-    (no_disk (stop ++ start) feed
-    (no_disk stop start (when_no_disk (gives_stop s log) out.Stop refl) (when_no_disk (gives_start s me log) out.Start refl))
-    (when_no_disk fed out.Feed refl))
-    (replies_no_disk s me (gives_start s me log || holds log) log entry))
+    none_joined (stop ++ start ++ feed ++ told ++ asks s me log) (disk_outs (wanted_with_delay s me log))
+    (none_joined (stop ++ start ++ feed ++ told) (asks s me log)
+    (none_joined (stop ++ start ++ feed) told
+    (none_joined (stop ++ start) feed
+    (none_joined stop start (none_when (gives_stop s log) out.Stop refl) (none_when (gives_start s me log) out.Start refl))
+    (none_when fed out.Feed refl))
+    (none_of_replies s me (gives_start s me log || holds log) log entry))
     (asking_no_disk s me log (is_asking s log)))
     (ap (λ op. disk_of (disk_outs op)) (wanted_none s me log e))
 

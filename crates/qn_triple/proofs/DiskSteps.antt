@@ -3,6 +3,8 @@ use Rattle.std.proofs.Common.{◌≡◌, ◌≢◌, ℕ, suc, zero, ◌-◌, ◌
 use Rattle.std.specs.Prelude.{Option, slice_get, slice_set, ◌==◌}
 use Rattle.std.proofs.lemmas.Bool.{eqb-true, false≢true}
 use Rattle.std.proofs.lemmas.Option.{slice_get_within}
+use Rattle.qn_base.specs.lemmas.Lists.{get_set_same, get_set_apart}
+use Rattle.qn_base.specs.lemmas.Numbers.{equal_to_itself, same_or_not}
 use Rattle.qn_cluster.specs.Nodes.{Nodes}
 use Rattle.qn_cluster.specs.Standing.{ClusterFor}
 use Rattle.qn_cluster.specs.declared.sectors.Sectors.{Sectors}
@@ -23,7 +25,7 @@ use Rattle.qn_cluster.specs.WorldSteps.{OtherDisk, Turns}
 use Rattle.qn_triple.specs.Standing.{GoodAt, IsStanding, PartsAt, SectorsAt, TripleFor, three_images}
 use Rattle.qn_triple.specs.Stepping.{Mails, Writes}
 use Rattle.qn_triple.specs.Whole.{Whole, cluster_of, with_nodes}
-use Rattle.qn_cluster.specs.ListLaws.{by_image, get_set_apart, get_set_same, rank_cases, same_rank}
+use Rattle.qn_cluster.specs.ListLaws.{by_image}
 
 -- other nodes, after some moments
 pub with_moments : (w : Whole) (c : Nodes) (d : TripleWorld) (moments : List Moment) → TripleFor w d → c.settings ≡ w.settings → ClusterFor c moments
@@ -53,7 +55,7 @@ pub parts_put : (w new : Whole) (d : TripleWorld) (i : ℕ) (own : List Part) (w
     → TripleFor new (record d { parts = put d.parts i wanted })
 parts_put w new d i own wanted is below e each =
     subst (λ n. TripleFor n (record d { parts = put d.parts i wanted })) (sym e)
-    (record { safe = is.safe; cluster = is.cluster; parts = λ rank few. at_rank rank few (rank_cases i rank); good = is.good; images = is.images; lefts = is.lefts })
+    (record { safe = is.safe; cluster = is.cluster; parts = λ rank few. at_rank rank few (same_or_not i rank); good = is.good; images = is.images; lefts = is.lefts })
   where
     within : i < length w.parts
     within = slice_get_within w.parts i (is.parts i below).own (is.parts i below).here
@@ -64,7 +66,7 @@ parts_put w new d i own wanted is below e each =
         (record {
           own = own;
           here = get_set_same w.parts i own within;
-          each = λ image one. each image one ∙ sym (ap (λ f. f image) (put_at d.parts i wanted i true (same_rank i)));
+          each = λ image one. each image one ∙ sym (ap (λ f. f image) (put_at d.parts i wanted i true (equal_to_itself i)));
         })
     at_rank rank few (inr apart) =
         let at = is.parts rank few in
@@ -80,7 +82,7 @@ pub good_put : (w new : Whole) (d : TripleWorld) (i : ℕ) (own : List Bool) (wa
     → TripleFor new (record d { good = put d.good i wanted })
 good_put w new d i own wanted is below e each =
     subst (λ n. TripleFor n (record d { good = put d.good i wanted })) (sym e)
-    (record { safe = is.safe; cluster = is.cluster; parts = is.parts; good = λ rank few. at_rank rank few (rank_cases i rank); images = is.images; lefts = is.lefts })
+    (record { safe = is.safe; cluster = is.cluster; parts = is.parts; good = λ rank few. at_rank rank few (same_or_not i rank); images = is.images; lefts = is.lefts })
   where
     within : i < length w.good
     within = slice_get_within w.good i (is.good i below).own (is.good i below).here
@@ -91,7 +93,7 @@ good_put w new d i own wanted is below e each =
         (record {
           own = own;
           here = get_set_same w.good i own within;
-          each = λ image one. each image one ∙ sym (ap (λ f. f image) (put_at d.good i wanted i true (same_rank i)));
+          each = λ image one. each image one ∙ sym (ap (λ f. f image) (put_at d.good i wanted i true (equal_to_itself i)));
         })
     at_rank rank few (inr apart) =
         let at = is.good rank few in
@@ -140,7 +142,7 @@ pub sectors_put : (w new : Whole) (d : TripleWorld) (image : ℕ) (slots : ℕ �
     → TripleFor new (record d { slots = slots; mailboxes = mailboxes })
 sectors_put w new d image slots mailboxes after is one e changed =
     subst (λ n. TripleFor n (record d { slots = slots; mailboxes = mailboxes })) (sym e)
-    (record { safe = is.safe; cluster = is.cluster; parts = is.parts; good = is.good; images = λ k one_k. at_image k one_k (rank_cases image k); lefts = is.lefts })
+    (record { safe = is.safe; cluster = is.cluster; parts = is.parts; good = is.good; images = λ k one_k. at_image k one_k (same_or_not image k); lefts = is.lefts })
   where
     within : image - 1 < length w.sectors
     within = slice_get_within w.sectors (image - 1) (is.images image one).own (is.images image one).here
@@ -168,7 +170,7 @@ pub put_on_own : {A : Type 0} (f : ℕ → ℕ → A) (i image : ℕ) (value : A
     → put (λ r. f r image) i value rank ≡ put_on f i image value rank image
 put_on_own f i image value rank true e =
     ap (λ b. if b then value else f rank image) e
-    ∙ sym (ap (λ b. (if b then put (f i) image value else f rank) image) e ∙ ap (λ b. if b then value else f i image) (same_rank image))
+    ∙ sym (ap (λ b. (if b then put (f i) image value else f rank) image) e ∙ ap (λ b. if b then value else f i image) (equal_to_itself image))
 put_on_own f i image value rank false e =
     ap (λ b. if b then value else f rank image) e ∙ sym (ap (λ b. (if b then put (f i) image value else f rank) image) e)
 

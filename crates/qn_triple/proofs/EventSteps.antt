@@ -2,15 +2,17 @@
 use Rattle.std.proofs.Common.{◌≡◌, ◌≢◌, ℕ, Bool, true, false, List, [], ◌∷◌, ◌++◌, length, Some, None, refl, if◌then◌else◌, ◌&&◌, sym, ◌∙◌, ap, subst, arith}
 use Rattle.std.specs.Prelude.{Option, is_some, ◌==◌, nat_lt}
 use Rattle.std.specs.Option.{option_map_or, option_or}
-use Rattle.std.proofs.lemmas.Bool.{eqb-true}
+use Rattle.std.proofs.lemmas.Bool.{eqb-true, or_right}
 use Rattle.std.proofs.lemmas.Bool.Decides.{nat_tests}
 use Rattle.std.proofs.lemmas.List.{append-nil}
 use Rattle.qn_base.specs.declared.ids.Rank.{Rank}
+use Rattle.qn_base.specs.lemmas.Lists.{longer_joined}
+use Rattle.qn_base.specs.lemmas.Numbers.{equal_to_itself}
 use Rattle.qn_cluster.specs.Events.{CanStep, Starved, Stepped as NodesStepped, is_of_nodes}
 use Rattle.qn_cluster.specs.Seats.{IsDue}
 use Rattle.qn_cluster.specs.Standing.{IsOpWithin, IsWithin}
 use Rattle.qn_cluster.specs.Stepping.{Booted, Ended, Handed, Unhanded, grows}
-use Rattle.qn_cluster.specs.EventLaws.{failure_answers, first_some, is_some_none, longer_back, no_outputs, or_first, or_true, passed, passed_both, passed_first, wider}
+use Rattle.qn_cluster.specs.EventLaws.{first_some, is_some_none, no_outputs, or_first, passed_both, wider}
 use Rattle.qn_cluster.specs.DiskStanding.{is_marked, left_over}
 use Rattle.qn_cluster.specs.WorldStepLaws.{both_disks, framed, same_frames, turned}
 use Rattle.qn_model.specs.declared.configuration.Settings.{Settings}
@@ -19,7 +21,6 @@ use Rattle.qn_model.specs.declared.entries.What.{What}
 use Rattle.qn_model.specs.declared.events.Event.{Event}
 use Rattle.qn_model.specs.declared.events.Event.TheVariants as event
 use Rattle.qn_model.specs.declared.outputs.DiskOp.{DiskOp}
-use Rattle.qn_model.specs.declared.outputs.DiskOp.TheVariants as disk
 use Rattle.qn_model.specs.declared.outputs.Out.{Out}
 use Rattle.qn_model.specs.declared.times.Timing.{Timing}
 use Rattle.qn_model.specs.Fitting.{answers_op}
@@ -28,20 +29,22 @@ use Rattle.qn_model.specs.NodeOutputs.{newest_outs}
 use Rattle.qn_model.specs.Rules.{is_well_formed, refusal, unless}
 use Rattle.qn_model.specs.Steps.{outs_after, step}
 use Rattle.qn_model.specs.World.{is_write, node_at, numbered, put, taken, without}
+use Rattle.qn_model.specs.lemmas.Rules.{allowed as passed, running_allowed}
 use Rattle.qn_safety.specs.declared.part.Part.{Part}
 use Rattle.qn_safety.specs.declared.part.Part.TheVariants.{Pending, Landed, Failed}
 use Rattle.qn_safety.specs.declared.triple_event.TripleEvent.{TripleEvent}
 use Rattle.qn_safety.specs.declared.triple_event.TripleEvent.TheVariants as triple
 use Rattle.qn_safety.specs.TripleRules.{is_image, is_on_triple, may_be_done_triple, may_fail_on, may_land_on, is_well_formed_triple, refusal_triple}
 use Rattle.qn_safety.specs.TripleSteps.{done_triple, ends_triple, failed_on, landed_on, lands_late_on, step_triple, written_on}
-use Rattle.qn_safety.specs.TripleWorld.{TripleWorld, all_good, all_pending, answer_among, answer_of, counting, good_after, image_of, is_pending, leaves_over, nodes_of, none_left, op_of, put_on, together}
+use Rattle.qn_safety.specs.TripleWorld.{TripleWorld, all_good, all_pending, answer_of, good_after, image_of, is_pending, leaves_over, nodes_of, none_left, op_of, put_on}
 use Rattle.qn_triple.specs.Memory.{leaves_on, leaves_one}
 use Rattle.qn_cluster.specs.WorldSteps.{IsReady, OutOfMemory, Stepped, Turns, boot_event}
 use Rattle.qn_triple.specs.Standing.{IsStanding, TripleFor, three_images}
 use Rattle.qn_triple.specs.Stepping.{GivesUp, KeepsOn, given_up_on, only_on}
 use Rattle.qn_triple.specs.Whole.{Whole, cluster_of, with_nodes}
 use Rattle.qn_triple.proofs.DiskSteps.{lefts_same, moved}
-use Rattle.qn_cluster.specs.ListLaws.{by_image, same_rank}
+use Rattle.qn_cluster.specs.ListLaws.{by_image}
+use Rattle.qn_safety.specs.Answers.{answer_answers}
 
 -- ---- what the rules leave
 
@@ -63,7 +66,7 @@ done_ready w d rank e = passed_both (is_on_triple w.settings rank.0 d) (may_be_d
 crash_on : (w : Whole) (d : TripleWorld) (rank : Rank) → refusal_triple w.settings w.timing (triple.One (event.Crash rank)) d ≡ None
     → is_on_triple w.settings rank.0 d ≡ true
 unfolding refusal_triple refusal
-crash_on w d rank e = passed_first (is_on_triple w.settings rank.0 d) None e
+crash_on w d rank e = running_allowed (is_on_triple w.settings rank.0 d) None e
 
 -- an operation that is out of a running node, as the code knows it
 abbrev pub IsOut : Whole → ℕ → Option DiskOp → Type 0
@@ -202,12 +205,12 @@ not_failed w rank image op outs out none =
 one_of_three : (rank : ℕ) (d after : TripleWorld) (image : ℕ) → is_image image ≡ true → leaves_on rank image d after ≡ true → leaves_one rank d after ≡ true
 one_of_three rank d after =
     by_image (λ image. leaves_on rank image d after ≡ true → leaves_one rank d after ≡ true)
-    (λ e. or_first _ _ (or_first _ _ e)) (λ e. or_first _ _ (or_true _ _ e)) (λ e. or_true _ _ e)
+    (λ e. or_first _ _ (or_first _ _ e)) (λ e. or_first _ _ (or_right _ _ e)) (λ e. or_right _ _ e)
 
 leaves_more : (rank image : ℕ) (d after : TripleWorld) (ops : List DiskOp) → is_image image ≡ true → ops ≢ [] → after.left rank image ≡ d.left rank image ++ ops
     → leaves_one rank d after ≡ true
 leaves_more rank image d after ops one some e =
-    one_of_three rank d after image one (ap (λ left. nat_lt (length (d.left rank image)) (length left)) e ∙ longer_back (d.left rank image) ops some)
+    one_of_three rank d after image one (ap (λ left. nat_lt (length (d.left rank image)) (length left)) e ∙ longer_joined (d.left rank image) ops some)
 
 not_empty : (op : DiskOp) (b : Bool) → b ≡ true → (if b then op ∷ [] else []) ≢ []
 not_empty op true e none = absurd (cc)
@@ -230,11 +233,11 @@ fail_starved w new rank image op left out one left_is e marked =
           let here = marked_here left image marked.0 (sym (marked_only left image marked.0 marked.1) ∙ marked.2) in
           let some : leaves_over (Some op) (d.parts i image) ≢ [] =
           subst (λ ops. ops ≢ []) (sym (leaves_if op (d.parts i image))) (not_empty op (is_write op && is_pending (d.parts i image)) (sym (left_is d is) ∙ here.0)) in
-          or_true _ _
+          or_right _ _
           (subst (λ o. leaves_one i d (option_map_or (λ op. failed_on i image op d) o d) ≡ true) op_is
           (leaves_more i image d (failed_on i image op d) (leaves_over (Some op) (d.parts i image)) one some
-          (ap (λ b. (if b then put (d.left i) image (d.left i image ++ leaves_over (Some op) (d.parts i image)) else d.left i) image) (same_rank i)
-          ∙ ap (λ b. if b then d.left i image ++ leaves_over (Some op) (d.parts i image) else d.left i image) (same_rank image))));
+          (ap (λ b. (if b then put (d.left i) image (d.left i image ++ leaves_over (Some op) (d.parts i image)) else d.left i) image) (equal_to_itself i)
+          ∙ ap (λ b. if b then d.left i image ++ leaves_over (Some op) (d.parts i image) else d.left i image) (equal_to_itself image))));
     }
 
 -- ---- late, and an operator
@@ -304,9 +307,9 @@ crash_starved w new rank keeps =
       cause = λ d is allowed.
           let i = rank.0 in
           let lost = keeps.cause d is (crash_on w d rank allowed) in
-          or_true _ _
+          or_right _ _
           (leaves_more i lost.0 d (ends_triple w.settings i d) (leaves_over (op_of w.settings i d) (d.parts i lost.0)) lost.1 lost.2
-          (ap (λ b. (if b then (λ (n : ℕ). d.left i n ++ leaves_over (op_of w.settings i d) (d.parts i n)) else d.left i) lost.0) (same_rank i)));
+          (ap (λ b. (if b then (λ (n : ℕ). d.left i n ++ leaves_over (op_of w.settings i d) (d.parts i n)) else d.left i) lost.0) (equal_to_itself i)));
     }
 
 -- ---- boot
@@ -350,25 +353,6 @@ boot_stepped w a b c new rank base clean outs drops forgets trusts disk boots =
     gives_by d e = e ∙ sym (boot_gives w.settings w.timing rank base clean d)
 
 -- ---- done
-
-together_answers : (op : DiskOp) (first : What) (values : List What) → answers_op (Some op) (together op first values) ≡ true
-together_answers disk.ReadHeader first values = refl
-together_answers (disk.ReadSlot other) first values = same_rank other.0
-together_answers disk.CheckMail first values = refl
-together_answers (disk.WriteClaim number) first values = refl
-together_answers disk.WriteClear first values = refl
-together_answers disk.ReadMail first values = refl
-together_answers (disk.WriteReset other) first values = same_rank other.0
-together_answers (disk.WriteClose number) first values = refl
-
-among_answers : (op : DiskOp) (values : List What) → answers_op (Some op) (answer_among op values) ≡ true
-among_answers op [] = failure_answers op
-among_answers op (one ∷ []) = failure_answers op
-among_answers op (first ∷ second ∷ more) = together_answers op first (first ∷ second ∷ more)
-
-answer_answers : (op : DiskOp) (parts : ℕ → Part) (good : ℕ → Bool) → answers_op (Some op) (answer_of op parts good) ≡ true
-unfolding answer_of
-answer_answers op parts good = among_answers op (counting op parts good)
 
 answer_due : (w : Whole) (d : TripleWorld) (i : ℕ) (op : DiskOp) (entry : What) → Some op ≡ op_of w.settings i d → entry ≡ answer_of op (d.parts i) (d.good i)
     → IsDue (node w.settings i d.moments) entry

@@ -2,9 +2,9 @@
 use Rattle.std.proofs.Common.{◌≡◌, ◌-◌, ℕ, Bool, true, List, [], length, refl, sym, ◌∙◌, ap, subst}
 use Rattle.std.specs.Prelude.{replicate, slice_get}
 use Rattle.std.proofs.lemmas.List.Elements.{All-nil}
+use Rattle.qn_base.specs.lemmas.Lists.{replicated}
 use Rattle.qn_cluster.specs.Standing.{ClusterFor, IsWithin}
 use Rattle.qn_cluster.specs.declared.sectors.Sectors.{Sectors}
-use Rattle.qn_cluster.specs.ListLaws.{replicated}
 use Rattle.qn_cluster.specs.DiskStanding.{LeftFor, SectorsFor}
 use Rattle.qn_model.specs.Timing.{is_safe}
 use Rattle.qn_model.specs.World.{first_world}

@@ -1,5 +1,6 @@
 -- What a world stands for after an event that hands a node an entry.
 use Rattle.std.proofs.Common.{◌≡◌, ◌≢◌, ℕ, ◌<◌, Bool, true, false, List, [], ◌++◌, length, Some, None, refl, ◌&&◌, sym, ◌∙◌, ap, subst, take}
+use Rattle.std.proofs.lemmas.Bool.{or_right}
 use Rattle.std.specs.Prelude.{Option, is_some, slice_set}
 use Rattle.std.specs.Option.{option_map_or}
 use Rattle.qn_base.specs.declared.ids.Rank.{Rank}
@@ -15,15 +16,17 @@ use Rattle.qn_model.specs.Moments.{Adds}
 use Rattle.qn_model.specs.World.{World, failed, given_up, leftover_at, node_at, op_at, put}
 use Rattle.qn_model.specs.Rules.{is_on, may_be_done, may_fail, refusal}
 use Rattle.qn_model.specs.Steps.{answered, fails, gives_up, happens, step}
+use Rattle.qn_model.specs.lemmas.Entries.{failed_answers}
+use Rattle.qn_model.specs.lemmas.Moments.{put_same}
 use Rattle.qn_world.specs.Memory.{leaves_between, sends_between}
-use Rattle.qn_cluster.specs.EventLaws.{failure_answers, or_first, or_true, passed_both}
+use Rattle.qn_cluster.specs.EventLaws.{or_first, passed_both}
 use Rattle.qn_cluster.specs.WorldStepLaws.{framed, same_frames}
 use Rattle.qn_cluster.specs.WorldSteps.{OutOfMemory, SameFrame, Stepped}
 use Rattle.qn_world.specs.Standing.{WorldFor, one_image}
 use Rattle.qn_world.specs.Stepping.{Hands, HandsNot, LeavesOver}
 use Rattle.qn_world.specs.Whole.{Whole, cluster_of}
 use Rattle.qn_world.proofs.EventSteps.{IsOut, gave_up, given_up_same, leaves_more, some_op}
-use Rattle.qn_world.proofs.WorldSteps.{adds_others, put_here, with_none}
+use Rattle.qn_world.proofs.WorldSteps.{adds_others, with_none}
 
 -- ---- done
 
@@ -108,7 +111,7 @@ fail_ready w d rank e = passed_both (is_on w.settings rank.0 d) (may_fail w.sett
 fail_due : (w : Whole) (d : World) (i : ℕ) (op : DiskOp) (entry : What) → entry ≡ failed op → Some op ≡ op_at w.settings i d
     → IsDue (node_at w.settings i d) entry
 fail_due w d i op entry entry_is op_is kind =
-    ap (λ entry. answers_op (op_at w.settings i d) entry) entry_is ∙ (ap (λ o. answers_op o (failed op)) (sym op_is) ∙ failure_answers op)
+    ap (λ entry. answers_op (op_at w.settings i d) entry) entry_is ∙ (ap (λ o. answers_op o (failed op)) (sym op_is) ∙ failed_answers op)
 
 left_frame : (w left : Whole) (i : ℕ) (ops : List DiskOp) → LeavesOver w left i ops → SameFrame one_image w left
 left_frame w left i ops leaves =
@@ -158,10 +161,10 @@ fail_starved_left w new rank op took out e some =
       same = e;
       cause = λ d is allowed.
           let op_is = out.op_is d is (fail_ready w d rank allowed).0 in
-          or_true _ _
+          or_right _ _
           (subst (λ o. leaves_between (event.Fail rank) d (option_map_or (λ op. fails w.settings rank.0 op d) o d) ≡ true) op_is
           (leaves_more d (fails w.settings rank.0 op d) rank (leftover_at w.settings rank.0 d)
-          (λ none. some (given_up_same w.settings d rank.0 (Some op) took op_is (out.took_is d is) ∙ none)) (put_here d.left rank.0 (d.left rank.0 ++ leftover_at w.settings rank.0 d))));
+          (λ none. some (given_up_same w.settings d rank.0 (Some op) took op_is (out.took_is d is) ∙ none)) (put_same d.left rank.0 (d.left rank.0 ++ leftover_at w.settings rank.0 d))));
     }
 
 pub fail_starved : (w left back new : Whole) (rank : Rank) (op : DiskOp) (took : Option What) (entry : What) → IsOut w rank.0 (Some op) took

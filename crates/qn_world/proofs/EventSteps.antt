@@ -1,8 +1,12 @@
 -- What a world stands for after an event that hands no node an entry by itself.
 use Rattle.std.proofs.Common.{◌≡◌, ◌≢◌, ℕ, ◌<◌, ◌≤◌, Bool, true, false, List, [], ◌++◌, length, Some, None, refl, if◌then◌else◌, ◌⊎◌, inl, inr, sym, ◌∙◌, ap, subst}
+use Rattle.std.proofs.lemmas.Bool.{or_right, leb-true}
 use Rattle.std.specs.Prelude.{Option, is_some, slice_get, slice_set, ◌==◌, nat_lt}
 use Rattle.std.specs.Option.{option_map_or}
 use Rattle.qn_base.specs.declared.ids.Rank.{Rank}
+use Rattle.qn_base.specs.lemmas.Bools.{second_of_both}
+use Rattle.qn_base.specs.lemmas.Lists.{longer_joined}
+use Rattle.qn_base.specs.lemmas.Numbers.{equal_to_itself, same_or_not}
 use Rattle.qn_cluster.specs.Events.{CanStep, KeepsOut, Starved, Stepped as NodesStepped, is_of_nodes}
 use Rattle.qn_cluster.specs.Standing.{IsOpWithin, IsWithin}
 use Rattle.qn_cluster.specs.Stepping.{Booted, Ended}
@@ -22,15 +26,15 @@ use Rattle.qn_model.specs.NodeOutputs.{newest_outs}
 use Rattle.qn_model.specs.World.{World, given_up, leftover_at, node_at, numbered, op_at, put, taken, without}
 use Rattle.qn_model.specs.Rules.{is_configured, is_on, is_well_formed, may_be_late, may_land, refusal}
 use Rattle.qn_model.specs.Steps.{boots, entry_of, gives_up, happens, landed, lands_late, outs_after, step, touched, with_mail, written}
-use Rattle.qn_cluster.specs.EventLaws.{first_some, is_some_none, longer_back, no_outputs, or_first, or_true, passed, passed_both, passed_first, wider}
+use Rattle.qn_model.specs.lemmas.Moments.{put_same}
+use Rattle.qn_model.specs.lemmas.Rules.{allowed as passed, running_allowed}
+use Rattle.qn_cluster.specs.EventLaws.{first_some, is_some_none, no_outputs, or_first, passed_both, wider}
 use Rattle.qn_cluster.specs.WorldStepLaws.{framed, same_frames, turned}
 use Rattle.qn_cluster.specs.WorldSteps.{IsReady, OutOfMemory, Stepped, Turns, boot_event}
 use Rattle.qn_world.specs.Standing.{IsStanding, WorldFor, one_image}
 use Rattle.qn_world.specs.Stepping.{LeavesOver}
 use Rattle.qn_world.specs.Whole.{Whole, cluster_of, with_nodes}
-use Rattle.qn_cluster.specs.ListLaws.{rank_cases, same_rank}
-use Rattle.qn_world.proofs.RuleSteps.{le-true, second_true}
-use Rattle.qn_world.proofs.WorldSteps.{boots_others, ends_others, put_here, took_put, with_kept, with_none, with_took}
+use Rattle.qn_world.proofs.WorldSteps.{boots_others, ends_others, took_put, with_kept, with_none, with_took}
 
 -- ---- leftovers
 
@@ -59,7 +63,7 @@ took_same w i took below reads d is = reads (d.took i) (is.landings i below)
 
 crash_on : (w : Whole) (d : World) (rank : Rank) → refusal w.settings w.timing (event.Crash rank) d ≡ None → is_on w.settings rank.0 d ≡ true
 unfolding refusal
-crash_on w d rank e = passed_first (is_on w.settings rank.0 d) None e
+crash_on w d rank e = running_allowed (is_on w.settings rank.0 d) None e
 
 pub crash_stepped : (w left mid new : Whole) (rank : Rank) (op : Option DiskOp) (took : Option What) → IsOut w rank.0 op took
     → LeavesOver w left rank.0 (given_up op took)
@@ -89,7 +93,7 @@ crash_stepped w left mid new rank op took out leaves f g ends =
 
 pub leaves_more : (d after : World) (rank : Rank) (ops : List DiskOp) → ops ≢ [] → after.left rank.0 ≡ d.left rank.0 ++ ops
     → nat_lt (length (d.left rank.0)) (length (after.left rank.0)) ≡ true
-leaves_more d after rank ops some e = ap (λ left. nat_lt (length (d.left rank.0)) (length left)) e ∙ longer_back (d.left rank.0) ops some
+leaves_more d after rank ops some e = ap (λ left. nat_lt (length (d.left rank.0)) (length left)) e ∙ longer_joined (d.left rank.0) ops some
 
 pub crash_starved : (w new : Whole) (rank : Rank) (op : Option DiskOp) (took : Option What) → IsOut w rank.0 op took → new ≡ w → given_up op took ≢ []
     → OutOfMemory one_image w new (event.Crash rank)
@@ -99,8 +103,8 @@ crash_starved w new rank op took out e some =
       same = e;
       cause = λ d is allowed.
           let on = crash_on w d rank allowed in
-          or_true _ _ (leaves_more d (happens (Ends rank.0) (gives_up w.settings rank.0 d)) rank (leftover_at w.settings rank.0 d)
-          (λ none. some (given_up_same w.settings d rank.0 op took (out.op_is d is on) (out.took_is d is) ∙ none)) (put_here d.left rank.0 (d.left rank.0 ++ leftover_at w.settings rank.0 d)));
+          or_right _ _ (leaves_more d (happens (Ends rank.0) (gives_up w.settings rank.0 d)) rank (leftover_at w.settings rank.0 d)
+          (λ none. some (given_up_same w.settings d rank.0 op took (out.op_is d is on) (out.took_is d is) ∙ none)) (put_same d.left rank.0 (d.left rank.0 ++ leftover_at w.settings rank.0 d)));
     }
 
 -- ---- land
@@ -113,23 +117,23 @@ land_ready w d rank e = passed_both (is_on w.settings rank.0 d) (may_land w.sett
 answers_itself : (w : Whole) (d : World) (i : ℕ) (op : DiskOp) → answers_op (Some op) (taken w.settings w.timing i op d) ≡ true
 unfolding taken
 answers_itself w d i disk.ReadHeader = refl
-answers_itself w d i (disk.ReadSlot other) = same_rank other.0
+answers_itself w d i (disk.ReadSlot other) = equal_to_itself other.0
 answers_itself w d i disk.CheckMail = refl
 answers_itself w d i (disk.WriteClaim number) = refl
 answers_itself w d i disk.WriteClear = refl
 answers_itself w d i disk.ReadMail = refl
-answers_itself w d i (disk.WriteReset other) = same_rank other.0
+answers_itself w d i (disk.WriteReset other) = equal_to_itself other.0
 answers_itself w d i (disk.WriteClose number) = refl
 
 land_answers : (w : Whole) (d : World) (i : ℕ) (op : DiskOp) → WorldFor w d → op_at w.settings i d ≡ Some op
     → (j : ℕ) (entry : What) → put d.took i (Some (taken w.settings w.timing i op d)) j ≡ Some entry → is_on w.settings j d ≡ true
     → answers_op (op_at w.settings j d) entry ≡ true
-land_answers w d i op is op_is j entry took on = land_by (rank_cases i j)
+land_answers w d i op is op_is j entry took on = land_by (same_or_not i j)
   where
     land_by : (i ≡ j) ⊎ ((i == j) ≡ false) → answers_op (op_at w.settings j d) entry ≡ true
     land_by (inl same) =
         let here : put d.took i (Some (taken w.settings w.timing i op d)) i ≡ Some entry = subst (λ k. put d.took i (Some (taken w.settings w.timing i op d)) k ≡ Some entry) (sym same) took in
-        let z : Some (taken w.settings w.timing i op d) ≡ Some entry = sym (put_here d.took i (Some (taken w.settings w.timing i op d))) ∙ here in
+        let z : Some (taken w.settings w.timing i op d) ≡ Some entry = sym (put_same d.took i (Some (taken w.settings w.timing i op d))) ∙ here in
         let y : taken w.settings w.timing i op d ≡ entry = cc in
         subst (λ k. answers_op (op_at w.settings k d) entry ≡ true) same
         (ap (λ op. answers_op op entry) op_is ∙ (ap (λ entry. answers_op (Some op) entry) (sym y) ∙ answers_itself w d i op))
@@ -251,8 +255,8 @@ nodes_starved w new event disk starved =
 
 pub few_base : (s : Settings) (rank : Rank) (base : ℕ) (clean : Bool) → is_well_formed s (boot_event rank base clean) ≡ true → base ≤ 1000000000000000
 unfolding is_well_formed
-few_base s rank base false formed = le-true base 1000000000000000 (second_true (is_configured s rank.0) _ formed)
-few_base s rank base true formed = le-true base 1000000000000000 (second_true (is_configured s rank.0) _ formed)
+few_base s rank base false formed = leb-true base 1000000000000000 (second_of_both (is_configured s rank.0) _ formed)
+few_base s rank base true formed = leb-true base 1000000000000000 (second_of_both (is_configured s rank.0) _ formed)
 
 -- both events that boot a rank touch it, make its boot, and report what comes out of it
 pub boot_touches : (rank : Rank) (base : ℕ) (clean : Bool) → touched (boot_event rank base clean) ≡ Some rank

@@ -2,8 +2,8 @@
 use Rattle.std.proofs.Common.{◌≡◌, Bool, true, false, List, [], length, None, refl, if◌then◌else◌, sym, ◌∙◌, ap, subst}
 use Rattle.std.specs.Prelude.{replicate, slice_get, ◌==◌}
 use Rattle.std.proofs.lemmas.List.Elements.{All-nil}
+use Rattle.qn_base.specs.lemmas.Lists.{replicated}
 use Rattle.qn_cluster.specs.Standing.{ClusterFor, IsWithin}
-use Rattle.qn_cluster.specs.ListLaws.{replicated}
 use Rattle.qn_cluster.specs.DiskStanding.{LeftFor, SectorsFor}
 use Rattle.qn_model.specs.declared.outputs.DiskOp.{DiskOp}
 use Rattle.qn_model.specs.Timing.{is_safe}

@@ -1,8 +1,9 @@
 -- The rules that look at the disk, and the ranks of well formed events.
-use Rattle.std.proofs.Common.{◌≡◌, ℕ, ◌<◌, ◌≤◌, Bool, true, false, length, Some, refl, not, ◌&&◌, ◌||◌, sym, ◌∙◌, ap, subst, arith}
+use Rattle.std.proofs.Common.{◌≡◌, ℕ, ◌<◌, ◌≤◌, Bool, true, length, Some, not, ◌||◌, sym, ◌∙◌, ap, subst, arith}
+use Rattle.std.proofs.lemmas.Bool.{leb-true}
 use Rattle.std.specs.Prelude.{nat_le}
-use Rattle.std.proofs.lemmas.Bool.Decides.{nat_tests}
 use Rattle.qn_base.specs.declared.ids.Rank.{Rank}
+use Rattle.qn_base.specs.lemmas.Bools.{first_of_both, second_of_both}
 use Rattle.qn_cluster.specs.EventRanks.{rank_configured}
 use Rattle.qn_model.specs.declared.configuration.Settings.{Settings}
 use Rattle.qn_model.specs.declared.disk.Message.{Message}
@@ -17,17 +18,6 @@ use Rattle.qn_world.specs.Whole.{Whole}
 
 -- ---- ranks
 
-pub le-true : (n m : ℕ) → nat_le n m ≡ true → n ≤ m
-le-true n m e = grind (arith, nat_tests)
-
-pub second_true : (a b : Bool) → (a && b) ≡ true → b ≡ true
-second_true true b e = e
-second_true false b e = absurd (cc)
-
-pub first_true : (a b : Bool) → (a && b) ≡ true → a ≡ true
-first_true true b e = refl
-first_true false b e = absurd (cc)
-
 -- the rank of a well formed event has a seat
 pub rank_within : (w : Whole) (event : Event) (rank : Rank) → IsStanding w → is_well_formed w.settings event ≡ true → touched event ≡ Some rank
     → rank.0 < length w.seats
@@ -40,7 +30,7 @@ rank_few w event rank standing formed e =
 -- the number of a leftover is 1 or more
 pub late_number : (s : Settings) (rank : Rank) (number : ℕ) → is_well_formed s (event.Late rank number) ≡ true → 1 ≤ number
 unfolding is_well_formed
-late_number s rank number formed = le-true 1 number (first_true (nat_le 1 number) _ (second_true (is_configured s rank.0) _ formed))
+late_number s rank number formed = leb-true 1 number (first_of_both (nat_le 1 number) _ (second_of_both (is_configured s rank.0) _ formed))
 
 -- rule 10, by the mailbox of a rank
 pub operator_rule : (w : Whole) (d : World) (i : ℕ) (sent there : Message) (on : Bool) → there ≡ d.mailboxes i → on ≡ is_on w.settings i d

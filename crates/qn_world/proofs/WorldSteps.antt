@@ -2,6 +2,7 @@
 use Rattle.std.proofs.Common.{◌≡◌, ℕ, ◌<◌, Bool, true, false, List, ◌∷◌, length, Some, None, refl, if◌then◌else◌, ◌⊎◌, inl, inr, sym, ◌∙◌, ap, subst}
 use Rattle.std.specs.Prelude.{Option, is_some, slice_get, slice_set, ◌==◌}
 use Rattle.std.proofs.lemmas.Option.{slice_get_within}
+use Rattle.qn_base.specs.lemmas.Numbers.{equal_to_itself, same_or_not}
 use Rattle.qn_cluster.specs.Events.{KeepsOut}
 use Rattle.qn_cluster.specs.Nodes.{Nodes}
 use Rattle.qn_cluster.specs.Standing.{ClusterFor}
@@ -17,10 +18,7 @@ use Rattle.qn_model.specs.Steps.{happens}
 use Rattle.qn_model.specs.World.{World, op_at, put}
 use Rattle.qn_world.specs.Standing.{WorldFor, on_first}
 use Rattle.qn_world.specs.Whole.{Whole, cluster_of, with_nodes}
-use Rattle.qn_cluster.specs.ListLaws.{rank_cases, rank_put, same_rank}
-
-pub put_here : {A : Type 0} (f : ℕ → A) (i : ℕ) (value : A) → put f i value i ≡ value
-put_here f i value = ap (λ b. if b then value else f i) (same_rank i)
+use Rattle.qn_cluster.specs.ListLaws.{rank_put}
 
 -- an answer that an operation took answers it, of each running node
 abbrev pub Answers : Settings → World → (ℕ → Option What) → Type 0
@@ -93,13 +91,13 @@ others_by w d moment i j entry is others apart took on =
 -- a moment of a node whose operation has no answer any more
 none_put : (d : World) (i j : ℕ) (entry : What) → i ≡ j → put d.took i None j ≡ Some entry → ⊥
 none_put d i j entry same took =
-    let here : (i == j) ≡ true = subst (λ k. (i == k) ≡ true) same (same_rank i) in
+    let here : (i == j) ≡ true = subst (λ k. (i == k) ≡ true) same (equal_to_itself i) in
     let z : None ≡ Some entry = sym (ap (λ b. if b then None else d.took j) here) ∙ took in
     cc
 
 none_answers : (w : Whole) (d : World) (moment : Moment) (i : ℕ) → WorldFor w d → OthersStay w.settings d.moments moment i
     → Answers w.settings (happens moment d) (put d.took i None)
-none_answers w d moment i is others j entry took on = none_by (rank_cases i j)
+none_answers w d moment i is others j entry took on = none_by (same_or_not i j)
   where
     none_by : (i ≡ j) ⊎ ((i == j) ≡ false) → answers_op (op_at w.settings j (happens moment d)) entry ≡ true
     none_by (inl same) = absurd (none_put d i j entry same took)

@@ -1,9 +1,9 @@
 use Rattle.std.proofs.Common.{◌≡◌, ◌<◌, ◌+◌, ◌∷◌, ◌∙◌, Some, [], ap, arith, length, length-append, subst, sym}
 use Rattle.std.specs.Prelude.{slice_get}
+use Rattle.qn_base.specs.lemmas.Results.{ok_holds}
 use Rattle.qn_lease.specs.Poller.{Poller}
 use Rattle.qn_arbiter.specs.Whole.{Kept}
 use Rattle.qn_arbiter.proofs.Quiet.{poll_few}
-use Rattle.qn_arbiter.proofs.RuleTests.{ok_holds}
 use Rattle.qn_arbiter.proofs.StepForms.{some_same}
 use Rattle.qn_arbiter.proofs.state.State.send_poll.Goals as goal
 

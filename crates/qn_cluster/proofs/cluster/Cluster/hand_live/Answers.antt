@@ -1,10 +1,11 @@
 use Rattle.std.proofs.Common.{◌∙◌, ◌++◌, ap, subst}
 use Rattle.std.specs.Prelude.{slice_set}
+use Rattle.qn_base.specs.lemmas.Lists.{read_at}
 use Rattle.qn_model.specs.Moments.{packets_of}
 use Rattle.qn_cluster.specs.Seats.{HandedSeat}
 use Rattle.qn_cluster.specs.Nodes.{Nodes}
 use Rattle.qn_cluster.proofs.HandSteps.{handed_world}
-use Rattle.qn_cluster.proofs.Lists.{item_there, read_at}
+use Rattle.qn_cluster.proofs.Lists.{item_there}
 use Rattle.qn_cluster.proofs.ClusterSteps.{seated}
 use Rattle.qn_cluster.proofs.cluster.Cluster.hand_live.Goals as goal
 

@@ -1,8 +1,8 @@
 use Rattle.std.proofs.Common.{◌∙◌, ap, subst}
 use Rattle.std.specs.Prelude.{slice_set}
+use Rattle.qn_base.specs.lemmas.Lists.{read_at}
 use Rattle.qn_cluster.specs.Seats.{HandedSeat}
 use Rattle.qn_cluster.specs.Nodes.{Nodes}
-use Rattle.qn_cluster.proofs.Lists.{read_at}
 use Rattle.qn_cluster.proofs.cluster.Cluster.hand_seat.Goals as goal
 
 pub returns : goal.returns

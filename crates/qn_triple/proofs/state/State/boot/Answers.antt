@@ -1,9 +1,10 @@
 use Rattle.std.proofs.Common.{◌<◌, ◌∙◌, ap, length, subst, sym}
+use Rattle.std.proofs.lemmas.Bool.{ltb-true}
 use Rattle.qn_cluster.specs.Nodes.{Nodes}
 use Rattle.qn_cluster.specs.Stepping.{Booted}
 use Rattle.qn_triple.specs.Whole.{cluster_of, with_nodes}
 use Rattle.qn_triple.proofs.EventSteps.{boot_stepped}
-use Rattle.qn_triple.proofs.RuleSteps.{boot_base, boot_rank, few, lt-true, within}
+use Rattle.qn_triple.proofs.RuleSteps.{boot_base, boot_rank, few, within}
 use Rattle.qn_triple.proofs.state.State.boot.Goals as goal
 
 pub forget_parts-requires : goal.forget_parts-requires
@@ -18,7 +19,7 @@ boot-requires c =
     let one = boot_rank c.args.self.now.settings c.args.i c.args.base c.args.clean c.requires.formed in
     record {
       within = subst (λ (n : Nodes). c.args.i.0 < length n.seats) (sym nodes) (within c.args.self.now c.args.i.0 c.requires.standing one);
-      configured = subst (λ (n : Nodes). c.args.i.0 < length n.settings.nodes) (sym nodes) (lt-true c.args.i.0 (length c.args.self.now.settings.nodes) one);
+      configured = subst (λ (n : Nodes). c.args.i.0 < length n.settings.nodes) (sym nodes) (ltb-true c.args.i.0 (length c.args.self.now.settings.nodes) one);
       few = subst (λ (n : Nodes). n.steps < 18446744073709551615) (sym nodes) c.requires.few;
       early = boot_base c.args.self.now.settings c.args.i c.args.base c.args.clean c.requires.formed;
     }

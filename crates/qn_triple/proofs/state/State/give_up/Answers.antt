@@ -1,12 +1,13 @@
 use Rattle.std.proofs.Common.{◌≡◌, ◌∙◌, ◌&&◌, [], ◌∷◌, ap, length, refl, subst, sym}
 use Rattle.std.proofs.lemmas.Result.{err_from_is_err_and}
+use Rattle.qn_base.specs.lemmas.Options.{none_if_no_value}
 use Rattle.qn_cluster.specs.Standing.{IsOpWithin}
 use Rattle.qn_cluster.specs.DiskStanding.{is_marked}
 use Rattle.qn_model.specs.World.{is_write}
 use Rattle.qn_safety.specs.TripleWorld.{is_pending}
 use Rattle.qn_triple.proofs.DiskSteps.{parts_read}
 use Rattle.qn_triple.proofs.EventSteps.{gives_nothing, gives_up, keeps_on}
-use Rattle.qn_cluster.specs.ListLaws.{by_image, not_some}
+use Rattle.qn_cluster.specs.ListLaws.{by_image}
 use Rattle.qn_triple.proofs.state.State.give_up.Goals as goal
 
 pub leave_over-requires : goal.leave_over-requires
@@ -33,4 +34,4 @@ returns-in_ok-leave_over-clause-ok c =
     c.in_ok-leave_over.ensures.ok
 
 pub returns-in_default-clause-ok : goal.returns-in_default-clause-ok
-returns-in_default-clause-ok c = gives_nothing c.args.self.now c.args.i.0 c.op.result c.op.ensures.exact (not_some c.op.result (λ op e. c.in_default.not-Some op e))
+returns-in_default-clause-ok c = gives_nothing c.args.self.now c.args.i.0 c.op.result c.op.ensures.exact (none_if_no_value c.op.result (λ op e. c.in_default.not-Some op e))

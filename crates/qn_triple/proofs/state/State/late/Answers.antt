@@ -1,7 +1,7 @@
 use Rattle.std.proofs.Common.{◌∙◌, length, subst, sym}
+use Rattle.qn_base.specs.lemmas.Options.{none_if_no_value}
 use Rattle.qn_cluster.specs.Standing.{IsOpWithin}
 use Rattle.qn_triple.proofs.EventSteps.{late_stepped, not_late, op_target}
-use Rattle.qn_cluster.specs.ListLaws.{not_some}
 use Rattle.qn_triple.proofs.RuleSteps.{few, late_image, late_number, late_rank}
 use Rattle.qn_triple.proofs.state.State.late.Goals as goal
 
@@ -29,5 +29,5 @@ returns-in-Some c =
 
 pub returns-in_default : goal.returns-in_default
 returns-in_default c =
-    let none = not_some c.take_left.result (λ op e. c.in_default.not-Some op e) in
+    let none = none_if_no_value c.take_left.result (λ op e. c.in_default.not-Some op e) in
     not_late c.args.self.now c.take_left.new.self c.args.i c.args.image c.args.number _ (c.take_left.ensures.none none) (λ d is. sym none ∙ c.take_left.ensures.op d is)

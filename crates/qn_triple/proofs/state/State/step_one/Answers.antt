@@ -1,8 +1,8 @@
 use Rattle.std.proofs.Common.{[], ap, subst, sym}
+use Rattle.std.proofs.lemmas.Result.{on_ok_weaker, on_err_weaker}
 use Rattle.qn_safety.specs.declared.triple_event.TripleEvent.TheVariants as triple
 use Rattle.qn_cluster.specs.WorldSteps.{IsReady, OutOfMemory, Stepped}
 use Rattle.qn_triple.specs.Standing.{three_images}
-use Rattle.qn_cluster.specs.ResultLaws.{err_so, ok_so}
 use Rattle.qn_triple.proofs.EventSteps.{is_of_disk, never_one}
 use Rattle.qn_triple.proofs.state.State.step_one.Goals as goal
 
@@ -27,18 +27,18 @@ returns-in-BootClean-clause-ok c =
 
 pub returns-in-Crash-clause-ok : goal.returns-in-Crash-clause-ok
 returns-in-Crash-clause-ok c =
-    ok_so c.crash.result (λ made. subst (λ outs. Stepped three_images c.args.self.now c.crash.new.self (triple.One c.args.event.now) outs) (sym c.requires.none)
+    on_ok_weaker c.crash.result (λ made. subst (λ outs. Stepped three_images c.args.self.now c.crash.new.self (triple.One c.args.event.now) outs) (sym c.requires.none)
     (subst (λ e. Stepped three_images c.args.self.now c.crash.new.self (triple.One e) []) (sym c.in-Crash.is) made)) c.crash.ensures.ok
 
 pub returns-in-Crash-clause-err : goal.returns-in-Crash-clause-err
 returns-in-Crash-clause-err c =
-    err_so c.crash.result (λ starved. subst (λ e. OutOfMemory three_images c.args.self.now c.crash.new.self (triple.One e)) (sym c.in-Crash.is) starved) c.crash.ensures.err
+    on_err_weaker c.crash.result (λ starved. subst (λ e. OutOfMemory three_images c.args.self.now c.crash.new.self (triple.One e)) (sym c.in-Crash.is) starved) c.crash.ensures.err
 
 pub returns-in-Done-clause-ok : goal.returns-in-Done-clause-ok
-returns-in-Done-clause-ok c = ok_so c.done.result (λ made. subst (λ e. Stepped three_images c.args.self.now c.done.new.self (triple.One e) c.done.new.outs) (sym c.in-Done.is) made) c.done.ensures.ok
+returns-in-Done-clause-ok c = on_ok_weaker c.done.result (λ made. subst (λ e. Stepped three_images c.args.self.now c.done.new.self (triple.One e) c.done.new.outs) (sym c.in-Done.is) made) c.done.ensures.ok
 
 pub returns-in-Done-clause-err : goal.returns-in-Done-clause-err
-returns-in-Done-clause-err c = err_so c.done.result (λ starved. subst (λ e. OutOfMemory three_images c.args.self.now c.done.new.self (triple.One e)) (sym c.in-Done.is) starved) c.done.ensures.err
+returns-in-Done-clause-err c = on_err_weaker c.done.result (λ starved. subst (λ e. OutOfMemory three_images c.args.self.now c.done.new.self (triple.One e)) (sym c.in-Done.is) starved) c.done.ensures.err
 
 pub returns-in-Land-clause-ok : goal.returns-in-Land-clause-ok
 returns-in-Land-clause-ok c = never_one c.args.self.now c.args.event.now c.args.outs.now (ap is_of_disk c.in-Land.is) c.requires.ready

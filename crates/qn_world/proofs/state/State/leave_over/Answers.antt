@@ -1,8 +1,9 @@
 use Rattle.std.proofs.Common.{◌≡◌, ◌∙◌, ap, length, subst, sym, take}
+use Rattle.std.proofs.lemmas.Result.{on_err_weaker}
 use Rattle.qn_cluster.specs.DiskStanding.{LeftFor}
 use Rattle.qn_world.specs.Standing.{on_first}
 use Rattle.qn_world.specs.Whole.{Whole}
-use Rattle.qn_cluster.specs.ResultLaws.{both_ok, err_so}
+use Rattle.qn_cluster.specs.ResultLaws.{both_ok}
 use Rattle.qn_world.proofs.DiskSteps.{leaves_one}
 use Rattle.qn_world.proofs.state.State.leave_over.Goals as goal
 
@@ -16,5 +17,5 @@ returns-clause-ok c =
 
 pub returns-clause-err : goal.returns-clause-err
 returns-clause-err c =
-    err_so c.leave.result (λ same. ap (λ (w : Whole). record w { left = c.leave.new.self }) c.self.view_is
+    on_err_weaker c.leave.result (λ same. ap (λ (w : Whole). record w { left = c.leave.new.self }) c.self.view_is
     ∙ ap (λ items. record c.args.self.now { left = items }) (same ∙ ap (λ w. w.left) c.self.view_is)) c.leave.ensures.err

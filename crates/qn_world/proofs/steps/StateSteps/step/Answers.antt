@@ -1,7 +1,7 @@
 use Rattle.std.proofs.Common.{[], subst, sym}
+use Rattle.std.proofs.lemmas.Result.{on_ok_weaker, on_err_weaker}
 use Rattle.qn_cluster.specs.WorldSteps.{IsReady, OutOfMemory, Stepped}
 use Rattle.qn_world.specs.Standing.{one_image}
-use Rattle.qn_cluster.specs.ResultLaws.{err_so, ok_so}
 use Rattle.qn_world.proofs.steps.StateSteps.step.Goals as goal
 
 pub crash-requires : goal.crash-requires
@@ -52,21 +52,21 @@ returns-in-Operator-clause-ok c =
 
 pub returns-in-Crash-clause-ok : goal.returns-in-Crash-clause-ok
 returns-in-Crash-clause-ok c =
-    ok_so c.crash.result (λ made. subst (λ outs. Stepped one_image c.args.self.now c.crash.new.self c.args.event.now outs) (sym c.requires.none)
+    on_ok_weaker c.crash.result (λ made. subst (λ outs. Stepped one_image c.args.self.now c.crash.new.self c.args.event.now outs) (sym c.requires.none)
     (subst (λ e. Stepped one_image c.args.self.now c.crash.new.self e []) (sym c.in-Crash.is) made)) c.crash.ensures.ok
 
 pub returns-in-Crash-clause-err : goal.returns-in-Crash-clause-err
 returns-in-Crash-clause-err c =
-    err_so c.crash.result (λ starved. subst (λ e. OutOfMemory one_image c.args.self.now c.crash.new.self e) (sym c.in-Crash.is) starved) c.crash.ensures.err
+    on_err_weaker c.crash.result (λ starved. subst (λ e. OutOfMemory one_image c.args.self.now c.crash.new.self e) (sym c.in-Crash.is) starved) c.crash.ensures.err
 
 pub returns-in-Done-clause-ok : goal.returns-in-Done-clause-ok
-returns-in-Done-clause-ok c = ok_so c.done.result (λ made. subst (λ e. Stepped one_image c.args.self.now c.done.new.self e c.done.new.outs) (sym c.in-Done.is) made) c.done.ensures.ok
+returns-in-Done-clause-ok c = on_ok_weaker c.done.result (λ made. subst (λ e. Stepped one_image c.args.self.now c.done.new.self e c.done.new.outs) (sym c.in-Done.is) made) c.done.ensures.ok
 
 pub returns-in-Done-clause-err : goal.returns-in-Done-clause-err
-returns-in-Done-clause-err c = err_so c.done.result (λ starved. subst (λ e. OutOfMemory one_image c.args.self.now c.done.new.self e) (sym c.in-Done.is) starved) c.done.ensures.err
+returns-in-Done-clause-err c = on_err_weaker c.done.result (λ starved. subst (λ e. OutOfMemory one_image c.args.self.now c.done.new.self e) (sym c.in-Done.is) starved) c.done.ensures.err
 
 pub returns-in-Fail-clause-ok : goal.returns-in-Fail-clause-ok
-returns-in-Fail-clause-ok c = ok_so c.fail.result (λ made. subst (λ e. Stepped one_image c.args.self.now c.fail.new.self e c.fail.new.outs) (sym c.in-Fail.is) made) c.fail.ensures.ok
+returns-in-Fail-clause-ok c = on_ok_weaker c.fail.result (λ made. subst (λ e. Stepped one_image c.args.self.now c.fail.new.self e c.fail.new.outs) (sym c.in-Fail.is) made) c.fail.ensures.ok
 
 pub returns-in-Fail-clause-err : goal.returns-in-Fail-clause-err
-returns-in-Fail-clause-err c = err_so c.fail.result (λ starved. subst (λ e. OutOfMemory one_image c.args.self.now c.fail.new.self e) (sym c.in-Fail.is) starved) c.fail.ensures.err
+returns-in-Fail-clause-err c = on_err_weaker c.fail.result (λ starved. subst (λ e. OutOfMemory one_image c.args.self.now c.fail.new.self e) (sym c.in-Fail.is) starved) c.fail.ensures.err
