@@ -8,12 +8,13 @@ use Rattle.qn_io.specs.declared.lines.LineRead.TheVariants as read
 use Rattle.qn_io.specs.Lines.{IsDrainedLine, OnFailedLine, ReadsLine}
 use Rattle.qn_model.specs.LineLaws.{IsPartOfLine}
 use Rattle.qn_model.specs.Lines.{Ending, Ended, ReadFailed}
+use Rattle.qn_io.specs.Outside.{left_at_end}
 use Rattle.qn_sched.specs.declared.replay_end.ReplayEnd.{ReplayEnd}
 use Rattle.qn_playback.specs.Judging.{AtFault, OutOfMemory, RefusesAt, judged}
 use Rattle.qn_playback.specs.Lines.{Play, Taken, Wants, line_of, rest_of}
 use Rattle.qn_playback.specs.Played.{Played, ended, go_on, traced}
 use Rattle.qn_playback.specs.Reading.{GoesOn, IsOpen, LastDecides, Stops, Wanted}
-use Rattle.qn_playback.specs.Steps.{left_at_end, stops_at, stops_ended, stops_failed}
+use Rattle.qn_playback.specs.Steps.{stops_at, stops_ended, stops_failed}
 use Rattle.qn_playback.proofs.LineLaws.{rest_of-last, rest_of-line, rest_of-long}
 
 -- out of memory for the line that was taken

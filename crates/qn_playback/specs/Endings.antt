@@ -47,7 +47,7 @@ fits_beside leased (UnsafeLease timeout limit lease) ending never = absurd never
 abbrev pub PlayFits : Play → Type 0
 PlayFits play = (earlier : Taken) (line : List ℕ) (ending : Ending) → IfErr (play earlier line) (λ end. EndFits end ending)
 
-either_fits : (ending : Ending) (test : Bool) (first second : ReplayEnd) → EndFits first ending → EndFits second ending → EndFits (cond test first second) ending
+pub either_fits : (ending : Ending) (test : Bool) (first second : ReplayEnd) → EndFits first ending → EndFits second ending → EndFits (cond test first second) ending
 either_fits ending true first second fits others = fits
 either_fits ending false first second fits others = others
 

@@ -11,7 +11,7 @@ use Rattle.qn_model.specs.declared.times.Timing.{Timing}
 use Rattle.qn_model.specs.Lines.{Ending, Ended, ReadFailed, lines_of}
 use Rattle.qn_model.specs.Settings.{IsValid}
 use Rattle.qn_model.specs.Timing.{is_safe}
-use Rattle.qn_playback.specs.Endings.{EndFits}
+use Rattle.qn_playback.specs.Endings.{EndFits, either_fits}
 use Rattle.qn_sched.specs.declared.replay_end.ReplayEnd.{ReplayEnd}
 use Rattle.qn_sched.specs.declared.replay_end.ReplayEnd.TheVariants.{NoMemory, ReadFault, UnsafeTiming}
 use Rattle.qn_sched.specs.Head.{dashes, or_bad_text, safe_or_not, safe_timing_in, settings_in}
@@ -31,10 +31,6 @@ use Rattle.qn_playback.specs.Parts.{Given, then_given}
 -- an end that fits, where there is one
 abbrev EndsFit : {A : Type 0} → Ending → Result A ReplayEnd → Type 0
 EndsFit ending judged = IfErr judged (λ end. EndFits end ending)
-
-either_fits : (ending : Ending) (test : Bool) (first second : ReplayEnd) → EndFits first ending → EndFits second ending → EndFits (cond test first second) ending
-either_fits ending true first second fits others = fits
-either_fits ending false first second fits others = others
 
 either_given : {A : Type 0} (ending : Ending) (test : Bool) (first second : Result A ReplayEnd) → EndsFit ending first → EndsFit ending second → EndsFit ending (cond test first second)
 either_given ending true first second fits others = fits

@@ -1,7 +1,7 @@
 -- Laws of taking the input step by step, up to the end.
-use Rattle.std.proofs.Common.{◌≡◌, ◌≤◌, arith, ℕ, List, [], ◌∷◌, ◌++◌, Option, Result, Ok, Err, refl, sym, ap, ◌∙◌, subst, append_assoc}
-use Rattle.std.specs.Io.KnownBytes.{IsAtEnd, prepend_known}
-use Rattle.qn_io.specs.Outside.{HasRisen, prepend_known-append, prepend_known-nil}
+use Rattle.std.proofs.Common.{◌≡◌, ℕ, List, [], ◌∷◌, ◌++◌, Option, Result, Ok, Err, refl, sym, ap, ◌∙◌, subst, append_assoc}
+use Rattle.std.specs.Io.KnownBytes.{prepend_known}
+use Rattle.qn_io.specs.Outside.{prepend_known-append, prepend_known-nil}
 use Rattle.qn_model.specs.Inputs.{Tells, Anyway, AtEnd, AtFailure}
 use Rattle.qn_model.specs.Lines.{Ending, Ended, ReadFailed}
 use Rattle.qn_sched.specs.declared.replay_end.ReplayEnd.{ReplayEnd}
@@ -143,11 +143,3 @@ stops_ended taken end takes at_end may is = record { taken = taken; takes = take
 pub stops_failed : {Last : Type 0} {played_of : Rest Last} {last : Last} {wanted : List ℕ → Type 0} {a b : Option (List ℕ)} {at_end failed : Type 0} (taken : List ℕ) (end : ReplayEnd)
     → a ≡ prepend_known taken b → failed → IsOpen played_of taken → played_of ReadFailed taken ≡ ended last end → Stops played_of last wanted a b at_end failed end
 stops_failed taken end takes fails may is = record { taken = taken; takes = takes; needed = StillOpen may; stops = Told (AtFailure fails is) }
-
--- nothing is left after the pieces that were handed out
-pub left_at_end : (waiting : List ℕ) (left : Option (List ℕ)) → waiting ≡ [] → IsAtEnd (prepend_known waiting left) → IsAtEnd left
-left_at_end waiting left none at_end = subst IsAtEnd (ap (λ w. prepend_known w left) none ∙ prepend_known-nil left) at_end
-
--- a count that rose in between rose over all
-pub risen_within : (a b c d : ℕ) → a ≤ b → b ≤ c → c ≤ d → HasRisen b c → HasRisen a d
-risen_within a b c d before between after rose = grind (arith, rose)

@@ -1,6 +1,6 @@
 use Rattle.std.proofs.Common.{arith, refl, sym}
 use Rattle.std.proofs.lemmas.Result.{err_from_is_err_and}
-use Rattle.qn_playback.specs.Steps.{risen_within}
+use Rattle.qn_base.specs.Rising.{HasRisen-within}
 use Rattle.qn_playback.specs.Heads.{settings_part, timing_lines}
 use Rattle.qn_playback.specs.PartLaws.{refuses_first, refuses_wider}
 use Rattle.qn_playback.proofs.HeadSteps.{gives_head, refuses_line, refuses_timing}
@@ -17,7 +17,7 @@ returns-in_err-read_head_line-clause-end g c =
     rw (exit.1, exit.2)
     (refuses_line c.in_ok-text.text c.in_ok-text.ensures.settings
     (refuses_wider
-    (λ fails. (fails.0, risen_within _ _ _ _ (omega (arith, c.in_ok-text.ensures.never_falls)) (omega (arith, c.in_err-read_head_line.ensures.never_falls)) (omega arith) fails.1))
+    (λ fails. (fails.0, HasRisen-within _ _ _ _ (omega (arith, c.in_ok-text.ensures.never_falls)) (omega (arith, c.in_err-read_head_line.ensures.never_falls)) (omega arith) fails.1))
     c.in_err-read_head_line.ensures.end))
 
 pub returns-in_err-timing-clause-end : goal.returns-in_err-timing-clause-end

@@ -1,5 +1,5 @@
 use Rattle.std.proofs.Common.{ℕ, ◌≤◌, subst}
-use Rattle.qn_playback.specs.Steps.{left_at_end}
+use Rattle.qn_io.specs.Outside.{left_at_end}
 use Rattle.qn_playback.proofs.HeadLineSteps.{gives_line, refuses_end, refuses_failure, refuses_length}
 use Rattle.qn_playback.proofs.head_line.read_head_line.Goals as goal
 

@@ -1,7 +1,8 @@
 use Rattle.std.proofs.Common.{ap, sym, subst, ◌∙◌, arith}
 use Rattle.std.specs.Io.KnownBytes.{IsAtEnd}
+use Rattle.qn_base.specs.Rising.{HasRisen-within}
+use Rattle.qn_io.specs.Outside.{left_at_end}
 use Rattle.qn_sched.specs.declared.replay_end.ReplayEnd.TheVariants.{BadSchedule}
-use Rattle.qn_playback.specs.Steps.{left_at_end, risen_within}
 use Rattle.qn_playback.specs.Faults.{end_of}
 use Rattle.qn_playback.proofs.TextSteps.{reading_begins, reading_ends, reading_fails, reading_goes_on, reading_is_too_long, reading_is_whole, reading_took, reading_wants_memory}
 use Rattle.qn_playback.proofs.settings_head.read_text.Goals as goal
@@ -39,8 +40,8 @@ returns-in-End-clause-fault g c =
 pub returns-in-Failed-clause-fault : goal.returns-in-Failed-clause-fault
 returns-in-Failed-clause-fault g c =
     reading_fails c.bytes.text c.bytes.invariant.reads c.in-Failed.ensures.gives
-    (c.in-Failed.ensures.drained, risen_within _ _ _ _ c.bytes.invariant.never_falls (omega (arith, c.in-Failed.ensures.never_falls)) (omega arith) c.in-Failed.ensures.cause)
+    (c.in-Failed.ensures.drained, HasRisen-within _ _ _ _ c.bytes.invariant.never_falls (omega (arith, c.in-Failed.ensures.never_falls)) (omega arith) c.in-Failed.ensures.cause)
 
 pub returns-in-Failed-clause-cause : goal.returns-in-Failed-clause-cause
 returns-in-Failed-clause-cause g c is =
-    risen_within _ _ _ _ c.bytes.invariant.never_falls (omega (arith, c.in-Failed.ensures.never_falls)) (omega arith) c.in-Failed.ensures.cause
+    HasRisen-within _ _ _ _ c.bytes.invariant.never_falls (omega (arith, c.in-Failed.ensures.never_falls)) (omega arith) c.in-Failed.ensures.cause
