@@ -30,10 +30,6 @@ pub on_ok : {A E : Type 0} {P Q : Type 0} (result : Result A E) → (P → Q) �
 on_ok (Ok value) then holds = then holds
 on_ok (Err end) then holds = tt
 
-pub if_ok : {A E : Type 0} {P Q : A → Type 0} (result : Result A E) → ((value : A) → P value → Q value) → IfOk result P → IfOk result Q
-if_ok (Ok value) then holds = then value holds
-if_ok (Err end) then holds = tt
-
 if_err : {A E : Type 0} {P Q : E → Type 0} (result : Result A E) → ((end : E) → P end → Q end) → IfErr result P → IfErr result Q
 if_err (Ok value) then holds = tt
 if_err (Err end) then holds = then end holds

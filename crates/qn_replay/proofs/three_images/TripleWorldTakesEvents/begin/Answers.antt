@@ -1,5 +1,5 @@
+use Rattle.std.proofs.lemmas.Result.{IfOk-weaker}
 use Rattle.qn_replay.proofs.TripleTimes.{triple_starts_early}
-use Rattle.qn_replay.proofs.Worlds.{if_ok}
 use Rattle.qn_replay.proofs.three_images.TripleWorldTakesEvents.begin.Goals as goal
 
 pub new-requires-clause-valid : goal.new-requires-clause-valid
@@ -9,4 +9,4 @@ pub new-requires-clause-safe : goal.new-requires-clause-safe
 new-requires-clause-safe c = c.requires.safe
 
 pub returns-clause-time : goal.returns-clause-time
-returns-clause-time c = if_ok c.new.result triple_starts_early c.new.ensures.first
+returns-clause-time c = IfOk-weaker c.new.result _ _ triple_starts_early c.new.ensures.first
