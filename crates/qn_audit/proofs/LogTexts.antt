@@ -5,12 +5,6 @@ use Rattle.std.specs.Io.KnownBytes.{append_known}
 use Rattle.qn_base.specs.declared.calls.Call.{Call}
 use Rattle.qn_base.specs.Rising.{HasRisen-within}
 use Rattle.qn_io.specs.Outside.{append_known-append, append_known-nil}
-use Rattle.qn_base.specs.Calls.{blank}
-use Rattle.qn_live.specs.declared.asked.Asked.{Asked}
-use Rattle.qn_live.specs.declared.asked.Asked.TheVariants as asked
-use Rattle.qn_live.specs.declared.asked.Given.{Given}
-use Rattle.qn_live.specs.declared.asked.Room.{Room}
-use Rattle.qn_live.specs.Asking.{question_of, told}
 use Rattle.qn_audit.specs.Logs.{call_line, log_text}
 use Rattle.qn_audit.specs.Recording.{LogSink, Logs, LogsWhen}
 
@@ -59,16 +53,3 @@ log_text-append [] call = append-nil (call_line call ++ codes "\n")
 log_text-append (first ∷ calls) call =
     ap (λ rest. (call_line first ++ codes "\n") ++ rest) (log_text-append calls call)
     ∙ sym (append_assoc (call_line first ++ codes "\n") (log_text calls) (call_line call ++ codes "\n"))
-
--- the question of a call as it is told is the one that was asked
-pub blank-told : (wanted : Asked) (before : Room) (given : Given) (after : Room) → blank (told wanted before given after) ≡ question_of wanted before
-blank-told asked.Receive before given after = refl
-blank-told asked.Now before given after = refl
-blank-told (asked.Read sector) before given after = refl
-blank-told (asked.Write sector) before given after = refl
-blank-told asked.Feed before given after = refl
-blank-told asked.Start before given after = refl
-blank-told asked.Stop before given after = refl
-blank-told (asked.Send to) before given after = refl
-blank-told asked.Disarm before given after = refl
-blank-told (asked.Halt code) before given after = refl

@@ -8,11 +8,9 @@ use Rattle.qn_model.specs.declared.configuration.Settings.{Settings}
 use Rattle.qn_model.specs.declared.outputs.DiskOp.{DiskOp}
 use Rattle.qn_model.specs.declared.outputs.DiskOp.TheVariants as disk
 use Rattle.qn_model.specs.World.{failed}
-use Rattle.qn_live.specs.declared.asked.Asked.{Asked}
-use Rattle.qn_live.specs.declared.asked.Asked.TheVariants as asked
 use Rattle.qn_live.specs.declared.asked.Given.{Given}
 use Rattle.qn_live.specs.declared.asked.Room.{Room}
-use Rattle.qn_live.specs.Asking.{Tells, question_of, told}
+use Rattle.qn_live.specs.Asking.{Tells}
 use Rattle.qn_live.specs.Performing.{disk_answer, disk_call, done}
 
 -- the question of a call is a read where the call is one
@@ -51,16 +49,3 @@ pub disk_answer-told : (s : Settings) (me number : ℕ) (op : DiskOp) (made : Ca
 disk_answer-told s me number op made given room tells asked =
     by_success s op made room.sector given.ok tells.ok
     (λ good. done_with s me number op made room.sector (ap is_read (sym asked) ∙ is_read-blank made) (λ reads. tells.bytes reads good))
-
--- the question of a call as it is told is the one that was asked
-pub blank-told : (wanted : Asked) (before : Room) (given : Given) (after : Room) → blank (told wanted before given after) ≡ question_of wanted before
-blank-told asked.Receive before given after = refl
-blank-told asked.Now before given after = refl
-blank-told (asked.Read sector) before given after = refl
-blank-told (asked.Write sector) before given after = refl
-blank-told asked.Feed before given after = refl
-blank-told asked.Start before given after = refl
-blank-told asked.Stop before given after = refl
-blank-told (asked.Send to) before given after = refl
-blank-told asked.Disarm before given after = refl
-blank-told (asked.Halt code) before given after = refl

@@ -1,5 +1,6 @@
 -- The sector that stands for three images says what they told together.
 use Rattle.std.proofs.Common.{◌≡◌, ℕ, Bool, true, false, not, ◌&&◌, ◌||◌, ◌==◌, List, [], ◌∷◌, ◌++◌, Option, None, Some, IfSome, if◌then◌else◌, refl, sym, ap, subst, ◌∙◌, arith}
+use Rattle.std.proofs.lemmas.Bool.{and_parts}
 use Rattle.std.specs.List.{list_any}
 use Rattle.std.specs.Option.{option_map_or}
 use Rattle.std.specs.Str.{bytes_eq}
@@ -55,16 +56,12 @@ when_some : {A : Type 0} (test : Bool) (value found : A) → (if test then Some 
 when_some true value found e = (refl, cc)
 when_some false value found e = cc
 
-both : (a b : Bool) → (a && b) ≡ true → (a ≡ true) × (b ≡ true)
-both true b is = (refl, is)
-both false b is = cc
-
 header_spelled : (bytes : List ℕ) (found : ℕ × Timing) → header_of bytes ≡ Some found → (is_header found.0 found.1 ≡ true) × (bytes ≡ header_bytes found.0 found.1)
 unfolding header_in
 header_spelled bytes found e =
     let here : ℕ × Timing = (nodes_at bytes, timing_at bytes) in
     let w = when_some (is_header here.0 here.1 && bytes_eq (header_bytes_in 2 here.0 here.1) bytes) here found e in
-    let tests = both (is_header here.0 here.1) (bytes_eq (header_bytes_in 2 here.0 here.1) bytes) w.0 in
+    let tests = and_parts (is_header here.0 here.1) (bytes_eq (header_bytes_in 2 here.0 here.1) bytes) w.0 in
     let P : ℕ × Timing → Bool = λ p. is_header p.0 p.1 in
     let B : ℕ × Timing → List ℕ = λ p. header_bytes p.0 p.1 in
     (ap P (sym w.1) ∙ tests.0, sym ((bytes_eq-Decides _ _).0 tests.1) ∙ ap B w.1)
@@ -74,7 +71,7 @@ unfolding slot_of
 slot_spelled bytes found e =
     let here : NodeId × Slot = (record { 0 = id_at bytes }, slot_at bytes) in
     let w = when_some (not (id_at bytes == 0) && bytes_eq (slot_bytes (id_at bytes) (slot_at bytes)) bytes) here found e in
-    let tests = both (not (id_at bytes == 0)) (bytes_eq (slot_bytes (id_at bytes) (slot_at bytes)) bytes) w.0 in
+    let tests = and_parts (not (id_at bytes == 0)) (bytes_eq (slot_bytes (id_at bytes) (slot_at bytes)) bytes) w.0 in
     let P : NodeId × Slot → Bool = λ p. not (p.0.0 == 0) in
     let B : NodeId × Slot → List ℕ = λ p. slot_bytes p.0.0 p.1 in
     (ap P (sym w.1) ∙ tests.0, sym ((bytes_eq-Decides _ _).0 tests.1) ∙ ap B w.1)

@@ -29,6 +29,7 @@ use Rattle.qn_model.specs.Moments.{begin_of}
 use Rattle.qn_model.specs.NodeOutputs.{is_begin, log_from, log_of, newest_outs, with_entry}
 use Rattle.qn_model.specs.Steps.{entry_of}
 use Rattle.qn_model.specs.World.{failed}
+use Rattle.qn_model.specs.lemmas.Logs.{log_from-more}
 use Rattle.qn_wire.specs.Packets.{packet_bytes}
 use Rattle.qn_live.specs.declared.live_end.LiveEnd.{LiveEnd}
 use Rattle.qn_live.specs.declared.live_end.LiveEnd.TheVariants as end
@@ -41,7 +42,6 @@ use Rattle.qn_live.specs.Handed.{BeginsOnce, HandsHistory, RisesFrom, begins_boo
 use Rattle.qn_live.specs.Performing.{disk_answer, disk_call, done, end_in, noted, out_call, outs_plan, own_number, waits_after}
 use Rattle.qn_live.specs.Running.{RunState, Turned, Over, Next, Ran, first_state, later}
 use Rattle.qn_live.specs.Runs.{clocked, greeted, handled, live_plan, parted, run_plan, settled, taken, timed, turn_plan, turns_end}
-use Rattle.qn_live.proofs.Histories.{log_from-more}
 
 -- ## What the clock told in the calls of a plan
 

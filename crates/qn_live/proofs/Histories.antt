@@ -16,6 +16,7 @@ use Rattle.qn_model.specs.declared.outputs.Out.{Out}
 use Rattle.qn_model.specs.Log.{Line, now}
 use Rattle.qn_model.specs.Moments.{begin_of}
 use Rattle.qn_model.specs.NodeOutputs.{log_from, newest_outs, with_entry}
+use Rattle.qn_model.specs.lemmas.Logs.{log_from-more}
 use Rattle.qn_member.specs.Maker.{Maker}
 use Rattle.qn_live.specs.declared.live_end.LiveEnd.{LiveEnd}
 use Rattle.qn_live.specs.declared.live_end.LiveEnd.TheVariants as end
@@ -29,12 +30,6 @@ use Rattle.qn_live.specs.Performing.{end_in, noted, outs_plan}
 use Rattle.qn_live.specs.Running.{RunState, Turned, Over, Next, Ran, first_state, later}
 use Rattle.qn_live.specs.Runs.{clocked, greeted, handled, live_plan, parted, run_plan, settled, taken, timed, turn_plan}
 use Rattle.qn_live.proofs.Always.{Always, always_follows, always_then}
-
--- a history with one more entry
-pub log_from-more : (s : Settings) (me : ℕ) (past : List Line) (history : List Entry) (entry : Entry) → log_from s me past (history ++ entry ∷ []) ≡ with_entry s me (log_from s me past history) entry
-unfolding log_from
-log_from-more s me past [] entry = refl
-log_from-more s me past (first ∷ history) entry = log_from-more s me (with_entry s me past first) history entry
 
 one_more : (s : Settings) (me : ℕ) (log : List Line) (entry : Entry) → IsHistory s me log → IsHistory s me (with_entry s me log entry)
 one_more s me log entry is =

@@ -1,7 +1,6 @@
 pub mod Always
 pub mod Answering
 pub mod Answers
-pub mod Calls
 pub mod Checks
 pub mod Coming
 pub mod Halted

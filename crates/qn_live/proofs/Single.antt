@@ -1,5 +1,7 @@
 -- A run on three images is a run on one: for its calls there are calls on one image that lead to the same end.
 use Rattle.std.proofs.Common.{◌≡◌, ◌≤◌, ℕ, Bool, true, false, not, ◌||◌, ◌==◌, ◌-◌, ◌/◌, List, [], ◌∷◌, ◌++◌, Option, None, Some, if◌then◌else◌, refl, sym, ap, subst, ◌∙◌, arith}
+use Rattle.std.proofs.Math.Bool.{or-false}
+use Rattle.std.proofs.lemmas.Bool.{or_from}
 use Rattle.std.specs.Prelude.{nat_lt}
 use Rattle.std.specs.List.{list_any}
 use Rattle.qn_base.specs.declared.calls.Call.{Call}
@@ -19,6 +21,7 @@ use Rattle.qn_model.specs.declared.seen.MailSeen.TheVariants as mail
 use Rattle.qn_model.specs.declared.seen.SlotSeen.{SlotSeen}
 use Rattle.qn_model.specs.declared.seen.SlotSeen.TheVariants as slot
 use Rattle.qn_base.specs.declared.ids.Rank.{Rank}
+use Rattle.qn_base.specs.lemmas.Bools.{first_of_neither, second_of_neither}
 use Rattle.qn_model.specs.Wanted.{rank_of}
 use Rattle.qn_model.specs.World.{failed}
 use Rattle.qn_safety.specs.declared.part.Part.{Part}
@@ -29,7 +32,7 @@ use Rattle.qn_live.specs.Laws.{NeverFalls, tick_after}
 use Rattle.qn_live.specs.Performing.{done}
 use Rattle.qn_live.specs.TripleDisk.{Told, call_plan, if_failed, image_plan, images_plan, is_asked, is_majority, is_strange, once, part_of, part_of_entry, part_plan, parts_plan, read_entry, read_of, read_plan, reading, sector_of, some_differ, write_plan}
 use Rattle.qn_live.specs.TripleRuns.{on_three}
-use Rattle.qn_live.proofs.Stretches.{Stretches, or_left, or_neither, or_right}
+use Rattle.qn_live.proofs.Stretches.{Stretches}
 use Rattle.qn_live.proofs.Wiped.{AsksWiped}
 
 -- ## Lists of calls
@@ -48,20 +51,16 @@ rising last (call ∷ calls) more rises =
 failed_first : (calls more : List Call) → some_failed (calls ++ more) ≡ false → some_failed calls ≡ false
 failed_first [] more none = refl
 failed_first (call ∷ calls) more none =
-    or_neither (is_failed call) (some_failed calls) (or_left (is_failed call) (some_failed (calls ++ more)) none)
-    (failed_first calls more (or_right (is_failed call) (some_failed (calls ++ more)) none))
+    or_from (is_failed call) (some_failed calls) (first_of_neither (is_failed call) (some_failed (calls ++ more)) none)
+    (failed_first calls more (second_of_neither (is_failed call) (some_failed (calls ++ more)) none))
 
 failed_then : (calls more : List Call) → some_failed (calls ++ more) ≡ false → some_failed more ≡ false
 failed_then [] more none = none
-failed_then (call ∷ calls) more none = failed_then calls more (or_right (is_failed call) (some_failed (calls ++ more)) none)
+failed_then (call ∷ calls) more none = failed_then calls more (second_of_neither (is_failed call) (some_failed (calls ++ more)) none)
 
 or_joined : (a b c : Bool) → ((a || b) || c) ≡ (a || (b || c))
 or_joined true b c = refl
 or_joined false b c = refl
-
-or_none : (a : Bool) → (a || false) ≡ a
-or_none true = refl
-or_none false = refl
 
 -- ## What the calls of a plan lead to
 
@@ -80,7 +79,7 @@ leads_then P Q last some (Asks question left) next leads goes_on =
 pub leads_end : {A : Type 0} (P : ℕ → Bool → A → Type 0) (last : ℕ) (some : Bool) (plan : Plan A) (calls : List Call) (value : A)
     → Leads P last some plan → Follows plan calls value → P (ticks last calls) (some || some_failed calls) value
 leads_end {A} P last some (Ends end) calls value leads follows =
-    rw follows.0 (rw (or_none some) (subst (λ (v : A). P last some v) (sym follows.1) leads))
+    rw follows.0 (rw (or-false some) (subst (λ (v : A). P last some v) (sym follows.1) leads))
 leads_end P last some (Asks question left) [] value leads follows = absurd follows
 leads_end P last some (Asks question left) (call ∷ calls) value leads follows =
     let rest = leads_end P (tick_after call last) (some || is_failed call) (left call) calls value (leads call follows.0) follows.1 in
@@ -134,7 +133,7 @@ PartTold last some tick now part = (tick ≡ last) × (now ≡ false → (some �
 part_leads : (s : Settings) (op : DiskOp) (asked : Bool) (image sector last : ℕ) (some : Bool) → Leads (PartTold last some) last some (part_plan s op asked image sector)
 unfolding part_plan
 part_leads s op true image sector last some = λ c is.
-    (reads_none c _ last is, λ none. (or_left some (is_failed c) none, whole_part s op c (or_right some (is_failed c) none)))
+    (reads_none c _ last is, λ none. (first_of_neither some (is_failed c) none, whole_part s op c (second_of_neither some (is_failed c) none)))
 part_leads s op false image sector last some = (refl, λ none. (none, refl))
 
 abbrev PartsTold : ℕ → ℕ → Bool → List Part → Type 0
@@ -242,7 +241,7 @@ ImageTold last some tick now written = (tick ≡ last) × (now ≡ false → (so
 image_leads : (image sector : ℕ) (bytes : List ℕ) (last : ℕ) (some : Bool) → Leads (ImageTold last some) last some (image_plan image sector bytes)
 unfolding image_plan
 image_leads image sector bytes last some = λ c is.
-    (writes_none c _ _ last is, λ none. (or_left some (is_failed c) none, ap not (or_right some (is_failed c) none)))
+    (writes_none c _ _ last is, λ none. (first_of_neither some (is_failed c) none, ap not (second_of_neither some (is_failed c) none)))
 
 abbrev ImagesTold : ℕ → ℕ → Bool → List Bool → Type 0
 ImagesTold last tick now written = (tick ≡ last) × (now ≡ false → is_majority written ≡ true)

@@ -1,11 +1,13 @@
 -- The calls on three images beside those of the run on one: each of these stands for a stretch of them.
-use Rattle.std.proofs.Common.{◌≡◌, ℕ, Bool, true, false, ◌||◌, List, [], ◌∷◌, ◌++◌, refl, sym, ap, subst, ◌∙◌, append_assoc}
+use Rattle.std.proofs.Common.{◌≡◌, ℕ, Bool, true, false, List, [], ◌∷◌, ◌++◌, refl, sym, ap, subst, ◌∙◌, append_assoc}
+use Rattle.std.proofs.lemmas.Bool.{or_from}
 use Rattle.std.specs.List.{list_any}
 use Rattle.std.proofs.lemmas.List.Folds.{list_any-append}
 use Rattle.qn_base.specs.declared.calls.Call.{Call}
 use Rattle.qn_base.specs.declared.calls.Call.TheVariants as call
 use Rattle.qn_base.specs.Calls.{blank, is_failed, some_failed}
 use Rattle.qn_base.specs.Plans.{Plan, Ends, Asks, ◌>>=◌, Follows}
+use Rattle.qn_base.specs.lemmas.Bools.{first_of_neither, second_of_neither}
 use Rattle.qn_model.specs.declared.configuration.Settings.{Settings}
 use Rattle.qn_model.specs.declared.outputs.BootCause.{BootCause}
 use Rattle.qn_model.specs.Log.{Line}
@@ -15,17 +17,6 @@ use Rattle.qn_live.specs.Halts.{HaltedBy, IsNewest, is_on_disk, one_call}
 use Rattle.qn_live.specs.Performing.{disk_call}
 use Rattle.qn_live.specs.TripleDisk.{Told, call_plan, once}
 use Rattle.qn_live.specs.TripleHalts.{HaltedOnThree}
-
-pub or_left : (a b : Bool) → (a || b) ≡ false → a ≡ false
-or_left true b is = cc
-or_left false b is = refl
-
-pub or_right : (a b : Bool) → (a || b) ≡ false → b ≡ false
-or_right true b is = cc
-or_right false b is = is
-
-pub or_neither : (a b : Bool) → a ≡ false → b ≡ false → (a || b) ≡ false
-or_neither a b first second = rw (first, second) refl
 
 -- the calls that were made on three images for one call; where it tells a failure, one of them failed
 pub record Stretch (s : Settings) (me : ℕ) (made : Call) (own : List Call) : Type 0 where
@@ -47,7 +38,7 @@ once_off : (good : List Bool) (question : Call) (own : List Call) (told : Told) 
     → list_any is_on_disk own ≡ false
 once_off good question [] told off follows = absurd follows
 once_off good question (made ∷ more) told off follows =
-    or_neither (is_on_disk made) (list_any is_on_disk more) (asked_place made question follows.0 ∙ off) (ap (list_any is_on_disk) follows.1.0)
+    or_from (is_on_disk made) (list_any is_on_disk more) (asked_place made question follows.0 ∙ off) (ap (list_any is_on_disk) follows.1.0)
 
 call_off : (s : Settings) (me : ℕ) (good : List Bool) (question : Call) (own : List Call) (told : Told) → is_on_disk question ≡ false
     → Follows (call_plan s me good question) own told → list_any is_on_disk own ≡ false
@@ -70,12 +61,12 @@ all_off : (s : Settings) (me : ℕ) (one calls : List Call) → Stretches s me o
 all_off s me [] calls none off = ap (list_any is_on_disk) none
 all_off s me (made ∷ one) calls parts off =
     let own = parts.3 in
-    let first : is_on_disk (blank made) ≡ false = sym (asked_place made (blank made) refl) ∙ or_left (is_on_disk made) (list_any is_on_disk one) off in
+    let first : is_on_disk (blank made) ≡ false = sym (asked_place made (blank made) refl) ∙ first_of_neither (is_on_disk made) (list_any is_on_disk one) off in
     ap (list_any is_on_disk) parts.2
     ∙ list_any-append is_on_disk parts.0 parts.1
-    ∙ or_neither (list_any is_on_disk parts.0) (list_any is_on_disk parts.1)
+    ∙ or_from (list_any is_on_disk parts.0) (list_any is_on_disk parts.1)
     (call_off s me own.good (blank made) parts.0 own.told first own.follows)
-    (all_off s me one parts.1 parts.4 (or_right (is_on_disk made) (list_any is_on_disk one) off))
+    (all_off s me one parts.1 parts.4 (second_of_neither (is_on_disk made) (list_any is_on_disk one) off))
 
 -- ## The stretch of one call
 

@@ -1,5 +1,6 @@
 -- The calls of a run that perform outputs are those of its log, in order.
-use Rattle.std.proofs.Common.{◌≡◌, ℕ, suc, zero, Bool, true, false, not, ◌&&◌, ◌+◌, ◌-◌, List, [], ◌∷◌, ◌++◌, map, Option, None, Some, if◌then◌else◌, refl, sym, ap, subst, ◌∙◌, append_assoc}
+use Rattle.std.proofs.Common.{◌≡◌, ℕ, suc, zero, Bool, true, false, not, ◌+◌, ◌-◌, List, [], ◌∷◌, ◌++◌, map, Option, None, Some, if◌then◌else◌, refl, sym, ap, subst, ◌∙◌, append_assoc}
+use Rattle.std.proofs.lemmas.Bool.{and_parts}
 use Rattle.std.specs.Prelude.{nat_lt}
 use Rattle.std.specs.List.{list_all}
 use Rattle.std.specs.Option.{option_map_or}
@@ -147,14 +148,10 @@ act_speaks s me number (out.Send to (packet.Vote agrees)) is = absurd (cc)
 act_speaks s me number out.Disarm is = absurd (cc)
 act_speaks s me number (out.Halt kind) is = absurd (cc)
 
-both_true : (one other : Bool) → (one && other) ≡ true → (one ≡ true) × (other ≡ true)
-both_true true other is = (refl, is)
-both_true false other is = absurd (cc)
-
 acts_speak : (s : Settings) (me number : ℕ) (outs : List Out) → list_all is_act outs ≡ true → AllSpeak s me number outs
 acts_speak s me number [] all = tt
 acts_speak s me number (o ∷ outs) all =
-    let both = both_true (is_act o) (list_all is_act outs) all in
+    let both = and_parts (is_act o) (list_all is_act outs) all in
     (act_speaks s me number o both.0, acts_speak s me number outs both.1)
 
 come_speak : (s : Settings) (me number : ℕ) (entry : What) (outs : List Out) → Comes s entry outs → AllSpeak s me number outs

@@ -1,9 +1,10 @@
 -- The calls of a running node as values: what is asked, and what a call gave. This project's profile.
 use Rattle.std.specs.Prelude.{◌≡◌, ◌<◌, Bool, true, false, not, [], if◌then◌else◌}
+use Rattle.std.proofs.Common.{refl}
 use Rattle.qn_base.specs.declared.calls.Call.{Call}
 use Rattle.qn_base.specs.declared.calls.Call.TheVariants as call
 use Rattle.qn_base.specs.declared.calls.Received.TheVariants as received
-use Rattle.qn_base.specs.Calls.{is_failed}
+use Rattle.qn_base.specs.Calls.{is_failed, blank}
 use Rattle.qn_io.specs.Answered.{bytes_read, is_read, received_in, time_of}
 use Rattle.qn_io.specs.Receives.{received}
 use Rattle.qn_live.specs.declared.asked.Asked.{Asked}
@@ -82,3 +83,16 @@ pub record Tells (made : Call) (given : Given) (room : Room) : Type 0 where
   pub got : received_in made ≡ received given.got room.packet
   pub ok : is_failed made ≡ not given.ok
   pub bytes : is_read made ≡ true → is_failed made ≡ false → bytes_read made ≡ room.sector
+
+-- a call without its answer is the question
+pub blank-told : (wanted : Asked) (before : Room) (given : Given) (after : Room) → blank (told wanted before given after) ≡ question_of wanted before
+blank-told asked.Receive before given after = refl
+blank-told asked.Now before given after = refl
+blank-told (asked.Read sector) before given after = refl
+blank-told (asked.Write sector) before given after = refl
+blank-told asked.Feed before given after = refl
+blank-told asked.Start before given after = refl
+blank-told asked.Stop before given after = refl
+blank-told (asked.Send to) before given after = refl
+blank-told asked.Disarm before given after = refl
+blank-told (asked.Halt code) before given after = refl

@@ -1,8 +1,10 @@
 -- The outputs that halt no boot, proved over the definitions of a node: what the laws of ends stand on.
 use Rattle.std.proofs.Common.{◌≡◌, ℕ, Bool, true, false, not, ◌||◌, ◌&&◌, ◌++◌, List, [], ◌∷◌, Option, None, Some, map, filter, length, refl, if◌then◌else◌}
+use Rattle.std.proofs.lemmas.Bool.{and_from}
 use Rattle.std.specs.List.{range_with_len}
 use Rattle.std.specs.Option.{option_map_or}
 use Rattle.qn_base.specs.declared.ids.View.{View}
+use Rattle.qn_base.specs.lemmas.Bools.{first_of_both, second_of_both}
 use Rattle.qn_model.specs.declared.configuration.Settings.{Settings}
 use Rattle.qn_model.specs.declared.disk.Message.{Message}
 use Rattle.qn_model.specs.declared.entries.What.{What}
@@ -32,26 +34,14 @@ abbrev pub calm_outs : List Out → Bool
 calm_outs [] = true
 calm_outs (o ∷ outs) = calm_out o && calm_outs outs
 
-and_both : (a b : Bool) → a ≡ true → b ≡ true → (a && b) ≡ true
-and_both true b first second = second
-and_both false b first second = cc
-
-and_left : (a b : Bool) → (a && b) ≡ true → a ≡ true
-and_left true b is = refl
-and_left false b is = cc
-
-and_right : (a b : Bool) → (a && b) ≡ true → b ≡ true
-and_right true b is = is
-and_right false b is = cc
-
 calm_join : (outs more : List Out) → calm_outs outs ≡ true → calm_outs more ≡ true → calm_outs (outs ++ more) ≡ true
 calm_join [] more first second = second
 calm_join (o ∷ outs) more first second =
-    and_both (calm_out o) (calm_outs (outs ++ more)) (and_left (calm_out o) (calm_outs outs) first)
-    (calm_join outs more (and_right (calm_out o) (calm_outs outs) first) second)
+    and_from (calm_out o) (calm_outs (outs ++ more)) (first_of_both (calm_out o) (calm_outs outs) first)
+    (calm_join outs more (second_of_both (calm_out o) (calm_outs outs) first) second)
 
 calm_when : (test : Bool) (o : Out) → calm_out o ≡ true → calm_outs (when test o) ≡ true
-calm_when true o calm = and_both (calm_out o) true calm refl
+calm_when true o calm = and_from (calm_out o) true calm refl
 calm_when false o calm = refl
 
 calm_disk : (op : Option DiskOp) → calm_outs (disk_outs op) ≡ true

@@ -2,7 +2,7 @@
 use Rattle.std.proofs.Common.{◌≡◌, ◌⊎◌, inl, inr, ℕ, zero, suc, ◌+◌, ◌-◌, ◌^◌, Bool, true, false, not, ◌||◌, ◌==◌, ◌++◌, List, [], ◌∷◌, Option, None, Some, IfSome, length, nat_lt, refl, sym, ap, ◌∙◌, subst, if◌then◌else◌}
 use Rattle.std.specs.List.{list_any}
 use Rattle.std.specs.Option.{option_map_or}
-use Rattle.std.proofs.lemmas.Bool.{le-ltb}
+use Rattle.std.proofs.lemmas.Bool.{le-ltb, or_right, or_from}
 use Rattle.qn_base.specs.declared.calls.Call.{Call}
 use Rattle.qn_base.specs.declared.calls.Call.TheVariants as call
 use Rattle.qn_base.specs.declared.calls.Received.TheVariants as received
@@ -101,13 +101,6 @@ leads_end {A} P past (Ends end) calls value leads follows = rw follows.0 (subst 
 leads_end P past (Asks question left) [] value leads follows = absurd follows
 leads_end P past (Asks question left) (call ∷ calls) value leads follows =
     leads_end P (after_call call past) (left call) calls value (leads call follows.0) follows.1
-
-or_neither : (a b : Bool) → a ≡ false → b ≡ false → (a || b) ≡ false
-or_neither a b first second = rw (first, second) refl
-
-or_second : (a b : Bool) → b ≡ true → (a || b) ≡ true
-or_second true b is = refl
-or_second false b is = is
 
 -- a call that does not ask for the time tells no tick
 abbrev is_now : Call → Bool
@@ -514,7 +507,7 @@ module _ (s : Settings) (me : ℕ) where
       of_call : (c : Call) → blank c ≡ call.Now 0 → Leads Turns (after_call c past) (clocked s me chosen (time_of c))
       of_call (call.Now tick) asked =
           leads_clocked chosen (after_call (call.Now tick) past)
-          (λ back. or_second past.fell (nat_lt tick past.tick) (subst (λ (first : ℕ). nat_lt tick first ≡ true) is back)) caused waiting
+          (λ back. or_right past.fell (nat_lt tick past.tick) (subst (λ (first : ℕ). nat_lt tick first ≡ true) is back)) caused waiting
       of_call (call.OpenImage path ok) asked = absurd cc
       of_call (call.OpenNode images image watchdog resource port rank ok) asked = absurd cc
       of_call (call.Receive got) asked = absurd cc
@@ -628,7 +621,7 @@ parted_at_last past (first ∷ calls) made is = of_rest (parted_at_last (after_c
     of_place true on same none =
         let is_made : first ≡ made = cc in
         inr (record { before = []; after = calls; parts = ap (λ (c : Call). c ∷ calls) is_made; last = none })
-    of_place false off same none = inl (same, or_neither (is_on_disk first) (list_any is_on_disk calls) off none)
+    of_place false off same none = inl (same, or_from (is_on_disk first) (list_any is_on_disk calls) off none)
 
     of_rest : (((after_call first past).disk ≡ Some made) × (list_any is_on_disk calls ≡ false)) ⊎ Parted made calls
         → ((past.disk ≡ Some made) × (list_any is_on_disk (first ∷ calls) ≡ false)) ⊎ Parted made (first ∷ calls)
@@ -641,14 +634,14 @@ pub halted_failed : (plan_of : Call → Plan Call) (s : Settings) (me : ℕ) (wh
 halted_failed plan_of s me why calls halted =
     ap some_failed halted.fails.parts
     ∙ some_failed-append halted.fails.before (halted.fails.own ++ halted.fails.after)
-    ∙ or_second (some_failed halted.fails.before) (some_failed (halted.fails.own ++ halted.fails.after))
+    ∙ or_right (some_failed halted.fails.before) (some_failed (halted.fails.own ++ halted.fails.after))
     (some_failed-append halted.fails.own halted.fails.after ∙ ap (λ (some : Bool). some || some_failed halted.fails.after) halted.fails.failed)
 
 never_fell : (past : Past) (calls : List Call) → past.fell ≡ false → NeverFalls past.tick calls → (after_calls calls past).fell ≡ false
 never_fell past [] none rises = none
 never_fell past (call ∷ calls) none rises =
     never_fell (after_call call past) calls
-    (or_neither past.fell (nat_lt (tick_after call past.tick) past.tick) none (le-ltb (tick_after call past.tick) past.tick rises.0)) rises.1
+    (or_from past.fell (nat_lt (tick_after call past.tick) past.tick) none (le-ltb (tick_after call past.tick) past.tick rises.0)) rises.1
 
 module _ (s : Settings) (me : ℕ) (clean : Bool) (leave : Option ℕ) (turns : ℕ) (calls : List Call) (ran : Ran)
     (follows : Follows (live_plan s me clean leave turns) calls ran) where

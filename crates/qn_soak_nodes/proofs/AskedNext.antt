@@ -1,14 +1,11 @@
 -- What a running node asks next is what the plan that is left of its run asks.
-use Rattle.std.proofs.Common.{◌≡◌, Result, Ok, Err, Some, refl, ap}
+use Rattle.std.proofs.Common.{◌≡◌, Result, Ok, Err, Some, ap}
 use Rattle.std.specs.Prelude.{IfOk, IfErr}
-use Rattle.qn_base.specs.Calls.{blank}
 use Rattle.qn_base.specs.Plans.{Plan, question}
-use Rattle.qn_live.specs.Asking.{question_of, told}
+use Rattle.qn_live.specs.Asking.{question_of}
 use Rattle.qn_live.specs.Machine.{EndsWith, RunFor}
 use Rattle.qn_live.specs.Running.{Ran}
 use Rattle.qn_live.specs.declared.asked.Asked.{Asked}
-use Rattle.qn_live.specs.declared.asked.Asked.TheVariants as asked
-use Rattle.qn_live.specs.declared.asked.Given.{Given}
 use Rattle.qn_live.specs.declared.asked.Room.{Room}
 use Rattle.qn_live.specs.declared.live_end.LiveEnd.{LiveEnd}
 use Rattle.qn_live.specs.declared.run.NodeRun.{NodeRun}
@@ -18,16 +15,3 @@ use Rattle.qn_soak_nodes.specs.Asking.{asked_next}
 pub asks_next : (run : NodeRun) (plan : Plan Ran) (room : Room) (next : Result Asked LiveEnd) → RunFor run plan → IfOk next (λ wanted. (other : Plan Ran) → RunFor run other → question other ≡ Some (question_of wanted room)) → IfErr next (λ end. (other : Plan Ran) → RunFor run other → EndsWith other end) → question plan ≡ asked_next next room
 asks_next run plan room (Ok wanted) runs asked over = asked plan runs
 asks_next run plan room (Err end) runs asked over = let ended = over plan runs in ap question ended.1
-
--- the question of a call as it is told is the one that was asked
-pub blank_told : (wanted : Asked) (before : Room) (given : Given) (after : Room) → blank (told wanted before given after) ≡ question_of wanted before
-blank_told asked.Receive before given after = refl
-blank_told asked.Now before given after = refl
-blank_told (asked.Read sector) before given after = refl
-blank_told (asked.Write sector) before given after = refl
-blank_told asked.Feed before given after = refl
-blank_told asked.Start before given after = refl
-blank_told asked.Stop before given after = refl
-blank_told (asked.Send to) before given after = refl
-blank_told asked.Disarm before given after = refl
-blank_told (asked.Halt code) before given after = refl

@@ -1,11 +1,11 @@
 use Rattle.std.proofs.Common.{◌∷◌, ◌++◌, [], Some, sym, ap, ◌∙◌, arith, refl}
 use Rattle.qn_base.specs.PlanSteps.{made_none, made_then}
-use Rattle.qn_live.specs.Asking.{told}
+use Rattle.qn_live.specs.Asking.{told, blank-told}
 use Rattle.qn_live.specs.Images.{plan_on}
 use Rattle.qn_audit.specs.Judging.{IsNext, left_after}
 use Rattle.qn_audit.specs.JudgeLaws.{keeps_call, kept_follows, left_call_after}
 use Rattle.qn_audit.specs.Logs.{log_text}
-use Rattle.qn_audit.proofs.LogTexts.{blank-told, logs_none, logs_then, log_text-append}
+use Rattle.qn_audit.proofs.LogTexts.{logs_none, logs_then, log_text-append}
 use Rattle.qn_audit.proofs.WholeLogs.{recorded_then}
 use Rattle.qn_audit.proofs.logging.run_recorded.Goals as goal
 

@@ -1,6 +1,7 @@
 use Rattle.std.proofs.Common.{◌≡◌, ◌≤◌, length, Some, arith, sym}
 use Rattle.std.specs.Prelude.{slice_get}
-use Rattle.qn_live.proofs.Ids.{id_from-configured, id_from-past, holds_at}
+use Rattle.qn_model.specs.lemmas.Ids.{id_from-configured, id_from-past}
+use Rattle.qn_live.proofs.Ids.{holds_at}
 use Rattle.qn_live.proofs.disk.id_of.Goals as goal
 
 pub returns-then-from-len-clause-id : goal.returns-then-from-len-clause-id

@@ -2,9 +2,8 @@ use Rattle.std.proofs.Common.{◌≡◌, Some, sym, ap, ◌∙◌}
 use Rattle.qn_base.specs.Calls.{blank}
 use Rattle.qn_base.specs.Plans.{question, left}
 use Rattle.qn_base.specs.PlanSteps.{at_start, at_call, at_over}
-use Rattle.qn_live.specs.Asking.{told}
+use Rattle.qn_live.specs.Asking.{told, blank-told}
 use Rattle.qn_live.specs.Runs.{live_plan}
-use Rattle.qn_live.proofs.Answering.{blank-told}
 use Rattle.qn_live.proofs.running.run_node.Goals as goal
 
 pub calls-init : goal.calls-init

@@ -2,9 +2,8 @@ use Rattle.std.proofs.Common.{◌≡◌, Some, sym, ap, ◌∙◌}
 use Rattle.qn_base.specs.Calls.{blank}
 use Rattle.qn_base.specs.Plans.{question, left}
 use Rattle.qn_base.specs.PlanSteps.{at_start, at_call, at_over}
-use Rattle.qn_live.specs.Asking.{told}
+use Rattle.qn_live.specs.Asking.{told, blank-told}
 use Rattle.qn_live.specs.TripleRuns.{triple_plan}
-use Rattle.qn_live.proofs.Calls.{blank-told}
 use Rattle.qn_live.proofs.Halted.{halted_run}
 use Rattle.qn_live.proofs.triple_running.run_node3.Goals as goal
 

@@ -1,4 +1,5 @@
-use Rattle.std.proofs.Common.{◌≡◌, refl, subst, ℕ, Bool, true, false, ◌&&◌, ◌==◌, ◌*◌, [], Option, None, Some}
+use Rattle.std.proofs.Common.{◌≡◌, refl, subst, ℕ, Bool, false, ◌==◌, ◌*◌, [], Option, None, Some}
+use Rattle.std.proofs.lemmas.Bool.{and_right}
 use Rattle.std.specs.Option.{option_map_or}
 use Rattle.qn_model.specs.declared.configuration.Settings.{Settings}
 use Rattle.qn_model.specs.NodeOutputs.{log_of}
@@ -19,16 +20,12 @@ never : {A : Type 0} (o : Option A) → option_map_or (λ (x : A). false) o fals
 never None = refl
 never (Some x) = refl
 
-and_never : (first second : Bool) → second ≡ false → (first && second) ≡ false
-and_never true second h = h
-and_never false second h = refl
-
 -- no node is quorate before its first entry
 first_not_quorate : (s : Settings) (me : ℕ) → (standing s me []).answer.quorate ≡ false
 unfolding votes present_view
 first_not_quorate s me =
-    and_never (is_released s []) _
-    (and_never (2 * view_votes s [] == expected_votes s []) _ (never (tie_node s [])))
+    and_right (is_released s []) _
+    (and_right (2 * view_votes s [] == expected_votes s []) _ (never (tie_node s [])))
 
 pub returns-clause-journal : goal.returns-clause-journal
 returns-clause-journal c = λ s me history.
