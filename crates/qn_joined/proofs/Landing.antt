@@ -2,6 +2,7 @@
 use Rattle.std.proofs.Common.{◌≡◌, ◌<◌, ℕ, Bool, true, false, not, ◌&&◌, ◌||◌, List, [], ◌∷◌, ◌++◌, Option, None, Some, if◌then◌else◌, refl, sym, ap, subst, ◌∙◌, is_some}
 use Rattle.std.specs.Prelude.{◌^◌, IfSome, length}
 use Rattle.std.specs.Option.{option_or, option_map_or}
+use Rattle.std.proofs.lemmas.Option.{same_Some}
 use Rattle.qn_model.specs.declared.configuration.Settings.{Settings}
 use Rattle.qn_model.specs.declared.disk.Message.{Message}
 use Rattle.qn_model.specs.declared.mailbox.Mail.{Mail}
@@ -36,9 +37,6 @@ use Rattle.qn_joined.proofs.Calls.{timed_on}
 use Rattle.qn_joined.proofs.Frames.{one_moves}
 use Rattle.qn_joined.proofs.Images.{image_lands, mail_put, takes_done}
 use Rattle.qn_joined.proofs.Passing.{asked_of}
-
-some_same : {A : Type 0} {a b : A} → Some a ≡ Some b → a ≡ b
-some_same e = cc
 
 -- the operation of a host whose disk call waits
 pub record DiskWaits (s : Settings) (rank : ℕ) (host : Host) (n : Running) (took : Option What) (left : List DiskOp) (all : List Sent) : Type 0 where
@@ -84,7 +82,7 @@ module _ {s : Settings} {rank : ℕ} (host : Host) (n : Running) (took : Option 
       silent = λ alive none. absurd (let both = sym out_is ∙ none in cc);
       backed = λ alive. (
         record { stopped = (is.backed lives).0.stopped; disk = λ a e. absurd (let none = (performs.disk op refl).0 in let both = sym none ∙ e in cc) },
-        record { come = performs.come; last = performs.last; disk = λ other e. ((performs.disk op refl).0, ap Some (same ∙ ap (λ o. done s o bytes) (some_same e))) },
+        record { come = performs.come; last = performs.last; disk = λ other e. ((performs.disk op refl).0, ap Some (same ∙ ap (λ o. done s o bytes) (same_Some _ _ e))) },
       );
       idle = λ is_on none. absurd cc;
       among = subst (λ l. AreAmong s rank host.left (left ++ l)) (still took ∙ sym (still (Some answer))) is.among;

@@ -2,6 +2,7 @@
 use Rattle.std.proofs.Common.{◌≡◌, ◌≤◌, ℕ, Bool, true, false, not, ◌&&◌, List, [], ◌∷◌, ◌++◌, Option, None, Some, if◌then◌else◌, refl, sym, ap, subst, ◌∙◌, is_some, ◌⊎◌, inl, inr}
 use Rattle.std.specs.Prelude.{◌<◌, ◌^◌}
 use Rattle.std.proofs.lemmas.List.{append-nil}
+use Rattle.std.proofs.lemmas.Option.{same_Some}
 use Rattle.qn_base.specs.declared.calls.Call.{Call}
 use Rattle.qn_base.specs.declared.calls.Call.TheVariants as call
 use Rattle.qn_base.specs.Calls.{blank, is_failed}
@@ -58,14 +59,11 @@ disk_blank (call.Halt code) = refl
 disk_blank (call.OpenImage path ok) = refl
 disk_blank (call.OpenNode images image watchdog resource port rank ok) = refl
 
-some_is : {A : Type 0} {a b : A} → Some a ≡ Some b → a ≡ b
-some_is e = cc
-
 pub quiet_of : (asked made : Call) → is_quiet asked ≡ true → Some asked ≡ Some (blank made) → is_quiet made ≡ true
-quiet_of asked made is e = sym (quiet_blank made) ∙ sym (ap is_quiet (some_is e)) ∙ is
+quiet_of asked made is e = sym (quiet_blank made) ∙ sym (ap is_quiet (same_Some _ _ e)) ∙ is
 
 pub disk_of_call : (asked made : Call) → is_disk asked ≡ true → Some asked ≡ Some (blank made) → is_disk made ≡ true
-disk_of_call asked made is e = sym (disk_blank made) ∙ sym (ap is_disk (some_is e)) ∙ is
+disk_of_call asked made is e = sym (disk_blank made) ∙ sym (ap is_disk (same_Some _ _ e)) ∙ is
 
 -- what stays of a host
 pub record Keeps (host after : Host) : Type 0 where
@@ -213,7 +211,7 @@ pub left_alike : (s : Settings) (rank number : ℕ) (op : DiskOp) (made : Call) 
     → AreAmong s rank calls ops
     → AreAmong s rank (calls ++ left_over made took_call) (ops ++ given_up (Some op) took)
 left_alike s rank number op made took_call took {calls} {ops} small fits asked alike among =
-    subst (λ l. AreAmong s rank (calls ++ l) (ops ++ given_up (Some op) took)) (ap (λ c. left_over c took_call) (some_is asked) ∙ sym (left_over_same made took_call))
+    subst (λ l. AreAmong s rank (calls ++ l) (ops ++ given_up (Some op) took)) (ap (λ c. left_over c took_call) (same_Some _ _ asked) ∙ sym (left_over_same made took_call))
     (disk_given_up s rank number op took_call took small fits alike among)
 
 -- a host whose run moved on, while its node did not
@@ -357,5 +355,5 @@ answer_backed s rank number op made host sent took asked is may alike = by_faile
         same : {bytes : List ℕ} → (is_writing made ≡ true) ⊎ (bytes ≡ bytes_read made) → done s op bytes ≡ done s op (bytes_read made)
         same {bytes} (inl writes) =
             write_done s op bytes (bytes_read made)
-            (sym (writes_call s rank number op) ∙ ap is_writing (some_is asked) ∙ sym (writing_blank made) ∙ writes)
+            (sym (writes_call s rank number op) ∙ ap is_writing (same_Some _ _ asked) ∙ sym (writing_blank made) ∙ writes)
         same (inr e) = ap (done s op) e

@@ -1,5 +1,5 @@
 -- At most one resource runs where every joint has a world.
-use Rattle.std.proofs.Common.{◌≡◌, ◌<◌, ◌≤◌, ℕ, Bool, true, false, not, List, Option, refl, ap, ◌∙◌, inl, inr}
+use Rattle.std.proofs.Common.{◌≡◌, ◌<◌, ◌≤◌, ℕ, Bool, true, false, List, Option, refl, ap, ◌∙◌, inl, inr}
 use Rattle.std.specs.Prelude.{◌&&◌, ◌⊎◌, length}
 use Rattle.std.proofs.lemmas.Bool.{cases_lt, and_parts, and_from}
 use Rattle.qn_model.specs.declared.configuration.Settings.{Settings}
@@ -14,6 +14,7 @@ use Rattle.qn_model.specs.Steps.{run}
 use Rattle.qn_model.specs.World.{node_at}
 use Rattle.qn_joined.specs.Joints.{Host, Joint}
 use Rattle.qn_safety.specs.AnyNumbers.{OneMayHold}
+use Rattle.qn_joined.proofs.Calls.{timed_on}
 use Rattle.qn_joined.specs.Owning.{Owns}
 use Rattle.qn_joined.specs.Stands.{log_at}
 use Rattle.qn_joined.specs.Theorem.{AtMostOneRuns, HostOwns}
@@ -47,12 +48,6 @@ living_runs {s = s} {host = host} is on owns runs = by_gone (is_gone (phase s (l
     by_gone false e = e
     by_gone true e = absurd (let none = is.rests on e in let held = (owns.held runs).0 in cc)
 
-timed : (on asked gone : Bool) → on ≡ true → asked ≡ true → gone ≡ false → (on && asked && not gone) ≡ true
-timed true true false one two three = refl
-timed false asked gone one two three = cc
-timed true false gone one two three = cc
-timed true true true one two three = cc
-
 -- a resource that runs is held in the world
 runner_holds : {s : Settings} {t : Timing} {j : Joint} (has : HasWorld s t j) (rank : ℕ) → HostOwns (j.hosts rank)
     → ((j.hosts rank).on && (j.hosts rank).runs) ≡ true → is_holder s (run s t has.events).moments rank ≡ true
@@ -60,7 +55,7 @@ runner_holds {s} {t} {j} has rank owned runs =
     let two = and_parts (j.hosts rank).on (j.hosts rank).runs runs in
     let owns = owned two.0 in
     let is = has.world.nodes rank (configured has rank two.0) in
-    let on = is.on ∙ timed (j.hosts rank).on (j.hosts rank).asked (is_gone (phase s (log_at (j.hosts rank).stand.spot))) two.0 (asked_runs is two.0 two.1) (living_runs is two.0 owns two.1) in
+    let on = is.on ∙ timed_on (j.hosts rank).on (j.hosts rank).asked (is_gone (phase s (log_at (j.hosts rank).stand.spot))) two.0 (asked_runs is two.0 two.1) (living_runs is two.0 owns two.1) in
     and_from (node_at s rank (run s t has.events)).on (holds (node_at s rank (run s t has.events)).log) on (ap holds (is.log on) ∙ (owns.held two.1).0)
 
 pub one_owner : (s : Settings) (t : Timing) → OneMayHold s t → EveryJointHasAWorld s t → AtMostOneRuns s t

@@ -1,6 +1,7 @@
 -- Where a call returns, a resource that runs is still held.
 use Rattle.std.proofs.Common.{◌≡◌, ℕ, suc, zero, Bool, true, false, not, ◌&&◌, ◌||◌, List, Option, None, Some, if◌then◌else◌, refl, sym, ap, subst, ◌∙◌}
 use Rattle.std.specs.Prelude.{nat_lt}
+use Rattle.std.proofs.lemmas.Option.{same_Some}
 use Rattle.qn_base.specs.declared.calls.Call.{Call}
 use Rattle.qn_base.specs.declared.calls.Call.TheVariants as call
 use Rattle.qn_base.specs.Calls.{blank, is_failed}
@@ -68,12 +69,9 @@ effect_runs (call.Halt code) outs time host = refl
 effect_runs (call.OpenImage path ok) outs time host = refl
 effect_runs (call.OpenNode images image watchdog resource port rank ok) outs time host = refl
 
-some_is : {A : Type 0} {a b : A} → Some a ≡ Some b → a ≡ b
-some_is e = cc
-
 -- the kind of a call that was asked for
 kind_of : (asked made : Call) (k : ℕ) → kind asked ≡ k → Some asked ≡ Some (blank made) → kind made ≡ k
-kind_of asked made k is e = sym (kind_blank made) ∙ sym (ap kind (some_is e)) ∙ is
+kind_of asked made k is e = sym (kind_blank made) ∙ sym (ap kind (same_Some _ _ e)) ∙ is
 
 -- no packet is a stop
 entry_no_stop : (p : Packet) → is_stopped (entry_of p) ≡ false

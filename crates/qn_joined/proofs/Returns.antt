@@ -5,6 +5,7 @@ use Rattle.std.specs.Str.{bytes_eq}
 use Rattle.std.specs.Option.{option_map_or}
 use Rattle.std.specs.Prelude.{option_and_then}
 use Rattle.std.proofs.lemmas.List.Elements.{Contains-append_cases, Contains-push_cases}
+use Rattle.std.proofs.lemmas.Option.{same_Some}
 use Rattle.qn_base.specs.declared.calls.Call.{Call}
 use Rattle.qn_base.specs.declared.calls.Call.TheVariants as call
 use Rattle.qn_base.specs.Calls.{blank}
@@ -42,9 +43,6 @@ use Rattle.qn_joined.proofs.Frames.{Knows, one_moves}
 use Rattle.qn_joined.proofs.Images.{same_image}
 use Rattle.qn_joined.proofs.Looks.{looks_in_world}
 use Rattle.qn_joined.proofs.Standing.{first_greets}
-
-some_same : {A : Type 0} {a b : A} → Some a ≡ Some b → a ≡ b
-some_same e = cc
 
 -- a greeting is read as no packet that counts
 found_one : (test : Packet → Bool) (found : Option Packet) (q : Packet) → option_and_then (λ p. if test p then Some p else None) found ≡ Some q → found ≡ Some q
@@ -116,7 +114,7 @@ output_sent : (all : List Sent) (to : ℕ) (p : Packet) → packet_of (packet_by
 output_sent all to p back sent receiver bytes q there spelled c =
     let same = one_sent there in
     subst (λ r. WasSentTo r all q) (ap (λ x. x.0) same)
-    (subst (λ x. WasSentTo to all x) (some_same (sym back ∙ ap packet_of (ap (λ x. x.1) same) ∙ spelled)) sent)
+    (subst (λ x. WasSentTo to all x) (same_Some _ _ (sym back ∙ ap packet_of (ap (λ x. x.1) same) ∙ spelled)) sent)
 
 module _ (s : Settings) (rank : ℕ) (host : Host) (n : Running) (took : Option What) (left : List DiskOp) (all : List Sent) where
   -- what a call that waits sends is known
@@ -125,22 +123,22 @@ module _ (s : Settings) (rank : ℕ) (host : Host) (n : Running) (took : Option 
       → waits_for s rank (at host spot) ≡ Some asked_call
       → Knows (sent_by asked_call) all
   unfolding left_plan outs_plan sends_plan out_call
-  sends_known (Receiving st) c back is on asked spells waits = subst (λ x. Knows (sent_by x) all) (some_same waits) (nothing_sent all)
-  sends_known (Looking chosen) c back is on asked spells waits = subst (λ x. Knows (sent_by x) all) (some_same waits) (nothing_sent all)
+  sends_known (Receiving st) c back is on asked spells waits = subst (λ x. Knows (sent_by x) all) (same_Some _ _ waits) (nothing_sent all)
+  sends_known (Looking chosen) c back is on asked spells waits = subst (λ x. Knows (sent_by x) all) (same_Some _ _ waits) (nothing_sent all)
   sends_known (Saying said rest st) c back is on asked spells waits =
-      subst (λ x. Knows (sent_by x) all) (some_same waits) (greeting_sent all said.to.0 said.packet (first_greets said rest is.greets))
+      subst (λ x. Knows (sent_by x) all) (same_Some _ _ waits) (greeting_sent all said.to.0 said.packet (first_greets said rest is.greets))
   sends_known (Parting end said rest st) c back is on asked spells waits =
-      subst (λ x. Knows (sent_by x) all) (some_same waits) (greeting_sent all said.to.0 said.packet (first_greets said rest is.greets))
+      subst (λ x. Knows (sent_by x) all) (same_Some _ _ waits) (greeting_sent all said.to.0 said.packet (first_greets said rest is.greets))
   sends_known (Ended ran) c back is on asked spells waits = absurd cc
-  sends_known (Acting entry outs out.Stop rest st) c back is on asked spells waits = subst (λ x. Knows (sent_by x) all) (some_same waits) (nothing_sent all)
-  sends_known (Acting entry outs out.Start rest st) c back is on asked spells waits = subst (λ x. Knows (sent_by x) all) (some_same waits) (nothing_sent all)
-  sends_known (Acting entry outs out.Feed rest st) c back is on asked spells waits = subst (λ x. Knows (sent_by x) all) (some_same waits) (nothing_sent all)
-  sends_known (Acting entry outs out.Disarm rest st) c back is on asked spells waits = subst (λ x. Knows (sent_by x) all) (some_same waits) (nothing_sent all)
-  sends_known (Acting entry outs (out.Halt kind) rest st) c back is on asked spells waits = subst (λ x. Knows (sent_by x) all) (some_same waits) (nothing_sent all)
+  sends_known (Acting entry outs out.Stop rest st) c back is on asked spells waits = subst (λ x. Knows (sent_by x) all) (same_Some _ _ waits) (nothing_sent all)
+  sends_known (Acting entry outs out.Start rest st) c back is on asked spells waits = subst (λ x. Knows (sent_by x) all) (same_Some _ _ waits) (nothing_sent all)
+  sends_known (Acting entry outs out.Feed rest st) c back is on asked spells waits = subst (λ x. Knows (sent_by x) all) (same_Some _ _ waits) (nothing_sent all)
+  sends_known (Acting entry outs out.Disarm rest st) c back is on asked spells waits = subst (λ x. Knows (sent_by x) all) (same_Some _ _ waits) (nothing_sent all)
+  sends_known (Acting entry outs (out.Halt kind) rest st) c back is on asked spells waits = subst (λ x. Knows (sent_by x) all) (same_Some _ _ waits) (nothing_sent all)
   sends_known (Acting entry outs (out.Disk op) rest st) c back is on asked spells waits =
-      subst (λ x. Knows (sent_by x) all) (some_same waits) (subst (λ l. Knows l all) (sym (disk_sends s rank (own_number st.log) op)) (nothing_sent all))
+      subst (λ x. Knows (sent_by x) all) (same_Some _ _ waits) (subst (λ l. Knows l all) (sym (disk_sends s rank (own_number st.log) op)) (nothing_sent all))
   sends_known (Acting entry outs (out.Send to p) rest st) c back is on asked spells waits =
-      subst (λ x. Knows (sent_by x) all) (some_same waits) (output_sent all to.0 p (back p spells) (is.backed lives).1.come.0)
+      subst (λ x. Knows (sent_by x) all) (same_Some _ _ waits) (output_sent all to.0 p (back p spells) (is.backed lives).1.come.0)
     where
       by_gone : (b : Bool) → is_gone (phase s st.log) ≡ b → n.on ≡ true
       by_gone true e = absurd (let none = (is.ending on e).2 in cc)
