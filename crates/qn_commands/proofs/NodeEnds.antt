@@ -1,11 +1,13 @@
 -- How a node ended whose calls did not fail, and what settings it was given.
-use Rattle.std.proofs.Common.{◌≡◌, ◌≢◌, ◌⊎◌, inl, inr, ℕ, Bool, true, false, ◌||◌, List, [], ◌∷◌, ◌++◌, Option, None, Some, Result, Ok, Err, IfOk, IfSome, refl, sym, ap, subst, if◌then◌else◌}
+use Rattle.std.proofs.Common.{◌≡◌, ◌≢◌, ◌⊎◌, inl, inr, ℕ, Bool, true, false, List, [], ◌∷◌, ◌++◌, Option, None, Some, Result, Ok, Err, IfOk, IfSome, refl, sym, ap, subst, if◌then◌else◌}
 use Rattle.std.specs.Option.{option_map_or}
 use Rattle.std.specs.Io.KnownBytes.{IsAtEnd}
+use Rattle.std.proofs.lemmas.Result.{IfOk-weaker}
 use Rattle.qn_base.specs.declared.calls.Call.{Call}
 use Rattle.qn_base.specs.declared.calls.Call.TheVariants.{OpenImage, OpenNode, Now, Receive, Read, Write, Feed, Start, Stop, Send, Disarm, Halt}
 use Rattle.qn_base.specs.Calls.{blank, is_failed, some_failed}
 use Rattle.qn_base.specs.Plans.{Plan, Ends, Asks, Follows}
+use Rattle.qn_base.specs.lemmas.Bools.{first_of_neither, second_of_neither}
 use Rattle.qn_live.specs.Running.{Ran}
 use Rattle.qn_live.specs.Laws.{NeverFalls, tick_after}
 use Rattle.qn_model.specs.declared.configuration.Settings.{Settings}
@@ -30,10 +32,6 @@ use Rattle.qn_commands.proofs.Creating.{refused_settings}
 if_some_map : {A : Type 0} {P Q : A → Type 0} (value : Option A) → ((a : A) → P a → Q a) → IfSome value P → IfSome value Q
 if_some_map None maps holds = tt
 if_some_map (Some a) maps holds = maps a holds
-
-if_ok_map : {A E : Type 0} {P Q : A → Type 0} (result : Result A E) → ((a : A) → P a → Q a) → IfOk result P → IfOk result Q
-if_ok_map (Ok a) maps holds = maps a holds
-if_ok_map (Err fault) maps holds = tt
 
 if_some_all : {A P : Type 0} (value : Option A) → ((a : A) → value ≡ Some a → P) → IfSome value (λ a. P)
 if_some_all None holds = tt
@@ -69,7 +67,7 @@ module _ (P : Type 0) (words : NodeWords) (before after : Input) where
   pub bad_settings : (why : Fault) → Judges input_settings before after (Err why) → status_of why ≢ 11 → ¬ ReadFails before after
       → IfSome before.left (λ bytes. IfOk (input_settings Ended bytes) (λ given. IfSome (rank_with given words.id) (λ rank. P)))
   bad_settings why judges memory no_read =
-      if_some_map before.left (λ bytes none. if_ok_map (input_settings Ended bytes) (λ given never. absurd never) none)
+      if_some_map before.left (λ bytes none. IfOk-weaker (input_settings Ended bytes) _ _ (λ given never. absurd never) none)
       (refused_settings ⊥ before after why judges memory no_read)
 
 -- ## The end of a run
@@ -102,14 +100,6 @@ said_whole : (text : List ℕ) (wanted : ℕ) (before after : Output) (code : �
 said_whole text wanted before after code no_write (Whole is whole) = (is, whole)
 said_whole text wanted before after code no_write (Cut is fails front) = absurd (no_write fails)
 
-pub or_left : (a b : Bool) → (a || b) ≡ false → a ≡ false
-or_left true b is = cc
-or_left false b is = refl
-
-or_right : (a b : Bool) → (a || b) ≡ false → b ≡ false
-or_right true b is = cc
-or_right false b is = is
-
 not_risen : {rises : Type 0} (failing : Bool) → (failing ≡ true → rises) → (rises → ⊥) → failing ≡ false
 not_risen true cause calm = absurd (calm (cause refl))
 not_risen false cause calm = refl
@@ -138,12 +128,12 @@ module _ (images : NodeImages) (words : NodeWords) (rank : ℕ) where
     opened_ends (call ∷ calls) did whole rises no_write =
         let ran_on : Performs (run_work images words settings rank) calls before after code =
         subst (λ (failing : Bool). Performs (if failing then refusal EnvFault else run_work images words settings rank) calls before after code)
-        (or_left (is_failed call) (some_failed calls) whole) did.1 in
+        (first_of_neither (is_failed call) (some_failed calls) whole) did.1 in
         let run = performed (node_plan images words settings rank) words.turns calls before after code ran_on in
         record {
           end = run.ran.end;
           no_call = law.call calls run.ran run.follows
-              (or_right (is_failed call) (some_failed calls) whole);
+              (second_of_neither (is_failed call) (some_failed calls) whole);
           no_clock = law.clock calls run.ran run.follows
               (subst (λ (last : ℕ). NeverFalls last calls) (opening_tells_none call did.0) rises.1);
           answers = said_whole (end_outcome words.turns run.ran.end).text (end_outcome words.turns run.ran.end).status before after code no_write run.says;

@@ -1,17 +1,13 @@
 -- What follows from a verdict.
-use Rattle.std.proofs.Common.{◌≡◌, ◌≤◌, ◌<◌, ℕ, Bool, true, false, not, ◌&&◌, ◌||◌, ◌==◌, List, [], ◌∷◌, refl, sym, ◌∙◌, ap, arith, if◌then◌else◌, nat_lt, filter, length, All, slice_index_or}
+use Rattle.std.proofs.Common.{◌≡◌, ◌≤◌, ◌<◌, ℕ, Bool, true, false, not, ◌&&◌, ◌==◌, List, [], ◌∷◌, refl, sym, ◌∙◌, ap, arith, if◌then◌else◌, nat_lt, filter, length, All, slice_index_or}
 use Rattle.std.specs.List.{list_any, list_all}
-use Rattle.std.proofs.lemmas.Bool.{false≢true, and_parts, not-true, lt-ltb, ltb-false, eqb-false}
+use Rattle.std.proofs.lemmas.Bool.{false≢true, and_parts, not-true, lt-ltb, ltb-false, eqb-false, or_right}
 use Rattle.std.proofs.lemmas.List.Sums.{AllPass-from_list_all}
 use Rattle.quorumctl.specs.declared.node_file.NodeFile.{NodeFile}
 use Rattle.quorumctl.specs.declared.verdict.Verdict.{Verdict}
 use Rattle.quorumctl.specs.declared.verdict.Verdict.TheVariants.{Healthy, Degraded, NoOwner, Unknown}
 use Rattle.quorumctl.specs.NodeFiles.{is_quiet, is_stale, sees_all}
 use Rattle.quorumctl.specs.Verdicts.{holders, is_holder, is_live, is_owner_elsewhere, is_well, judge, of_live, with_holder, without_holder}
-
-either_right : (one other : Bool) → other ≡ true → (one || other) ≡ true
-either_right true other is = refl
-either_right false other is = is
 
 -- where a node holds, a node is live
 pub live_of_holder : (now : ℕ) (files : List NodeFile) → 1 ≤ holders now files → list_any (is_live now) files ≡ true
@@ -23,7 +19,7 @@ live_of_holder now (file ∷ files) some = by_holder (is_holder now file) refl (
     by_holder true holds later = let both = and_parts (is_live now file) file.holds holds in rw both.0 refl
     by_holder false holds later =
         let same : holders now (file ∷ files) ≡ holders now files = rw holds refl in
-        either_right (is_live now file) (list_any (is_live now) files) (later (omega arith))
+        or_right (is_live now file) (list_any (is_live now) files) (later (omega arith))
 
 pub two_holders : (now : ℕ) (files : List NodeFile) → 2 ≤ holders now files → judge now files ≡ NoOwner
 two_holders now files two =

@@ -1,13 +1,9 @@
-use Rattle.std.proofs.Common.{◌≡◌, ℕ, List, [], ◌∷◌, ◌++◌, Option, sym, ap, ◌∙◌, subst}
-use Rattle.std.specs.Io.KnownBytes.{IsAtEnd, prepend_known}
+use Rattle.std.proofs.Common.{[], ◌∷◌, ◌++◌, sym, ap, ◌∙◌, subst}
+use Rattle.std.specs.Io.KnownBytes.{prepend_known}
 use Rattle.qn_io.specs.Lines.{HasNoLineFeed}
-use Rattle.qn_io.specs.Outside.{prepend_known-nil}
+use Rattle.qn_io.specs.Outside.{left_at_end}
 use Rattle.qn_commands.proofs.Turned.{turn_failed, turn_line, turn_rest, turn_too_long}
 use Rattle.qn_commands.proofs.commands.count.Run.next_line.Goals as goal
-
--- nothing is left after the pieces that were handed out
-ended : (waiting : List ℕ) (left : Option (List ℕ)) → waiting ≡ [] → IsAtEnd (prepend_known waiting left) → IsAtEnd left
-ended waiting left none at_end = subst IsAtEnd (ap (λ w. prepend_known w left) none ∙ prepend_known-nil left) at_end
 
 pub returns-in-Line-clause-turns : goal.returns-in-Line-clause-turns
 returns-in-Line-clause-turns g c =
@@ -25,7 +21,7 @@ returns-in-Rest-clause-turns g c =
     (subst HasNoLineFeed same c.in-Rest.ensures.unended)
     c.as_slice-line.ensures.fits
     (c.in-Rest.ensures.reads.0 ∙ ap (λ xs. prepend_known xs (prepend_known c.read_line-read.new.pieces (g.I.Source.left c.read_line-read.new.input))) same)
-    (c.in-Rest.ensures.drained, ended c.read_line-read.new.pieces _ c.in-Rest.ensures.drained c.in-Rest.ensures.reads.1)
+    (c.in-Rest.ensures.drained, left_at_end c.read_line-read.new.pieces _ c.in-Rest.ensures.drained c.in-Rest.ensures.reads.1)
     c.end.ensures.answers
 
 pub returns-in-TooLong-clause-turns : goal.returns-in-TooLong-clause-turns
