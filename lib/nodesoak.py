@@ -20,7 +20,7 @@ DELAYS = (0, 3000)
 IMAGES = (1, 3)
 SECONDS = 300
 COUNTS = ("turns", "events", "disturbances", "boots", "starts", "take-overs", "resets", "hurried", "told")
-COMPARED_EACH = 51  # of so many runs one is written down and compared, and lasts COMPARED_SECONDS
+COMPARED_EACH = 53  # of so many runs one is written down and compared, and lasts COMPARED_SECONDS
 COMPARED_SECONDS = 100
 
 Run = collections.namedtuple("Run", "seed nodes seconds kind delay images")

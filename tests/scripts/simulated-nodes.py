@@ -51,8 +51,12 @@ for number, run in enumerate(RUNS):
     told += "".join(journal.read_text() for journal in journals)
 same("kinds of lines that no journal has", sorted(KINDS - set(re.findall(r" event=([a-z-]+)", told))), [])
 
-for wrong, said in ((faulty("other-journal", "journals", errors="s/why=no-view/why=clear/"), "its journal has"), (faulty("other-log", "journals", output="s/^feed ok/start ok/"), "its log:"),
-                    (faulty("other-schedule", "schedule", output="/^feed 1/d"), "its schedule does not replay to end")):
+WRONG = (
+    (faulty("other-journal", "journals", errors="s/why=no-view/why=clear/"), "its journal has"),
+    (faulty("other-log", "journals", output="s/^feed ok/start ok/"), "its log:"),
+    (faulty("other-schedule", "schedule", output="/^feed 1/d"), "its schedule does not replay to end"),
+)
+for wrong, said in WRONG:
     status, line = written("wrong", RUNS[0], wrong)
     same("%s: %s" % (said, line), (status, said in line), (1, True))
 

@@ -1,5 +1,5 @@
 -- How far a second reading of a node has come: this project's profile.
-use Rattle.std.specs.Prelude.{◌≡◌, ℕ, List, ◌×◌}
+use Rattle.std.specs.Prelude.{◌≡◌, ℕ, List}
 use Rattle.qn_model.specs.declared.configuration.Settings.{Settings}
 use Rattle.qn_model.specs.Log.{Line}
 use Rattle.qn_live.specs.Standings.{standing}
