@@ -107,7 +107,7 @@ running = sorted(set().union(*(below(program, libraries) for program in programs
 
 crates = []
 for row in rows("Crate by crate"):
-    crates = re.findall(r"`(qn_\w+)`", row[0]) or crates
+    crates = re.findall(r"`((?:qn_|quorum)\w+)`", row[0]) or crates
     look(crates[0], "\n".join(sources(crate) for crate in crates), row[-1])
     look_at_use(crates, row[-1])
 
