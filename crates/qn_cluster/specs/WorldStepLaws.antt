@@ -9,7 +9,7 @@ use Rattle.qn_cluster.specs.Standing.{ClusterFor, HasRoom}
 use Rattle.qn_cluster.specs.StandingLaws.{spent, spent_room, spent_stands}
 use Rattle.qn_cluster.specs.Stepping.{SameFrame as SameNodes}
 use Rattle.qn_cluster.specs.WorldKinds.{IsLawful, WorldKind}
-use Rattle.qn_cluster.specs.WorldSteps.{Applied, HoldsOnce, IsAllowed, IsFormed, IsReached, IsReady, IsStanding, OneHolder, OtherDisk, OutOfMemory, Refuses, SameFrame, Stepped, after_event, outs_of, report_of}
+use Rattle.qn_cluster.specs.WorldSteps.{Applied, HoldsOnce, IsAllowed, IsFormed, IsReached, IsReady, IsStanding, Made, OneHolder, OtherDisk, OutOfMemory, Refuses, SameFrame, Stepped, after_event, outs_of, report_of}
 use Rattle.qn_model.specs.declared.outputs.Out.{Out}
 use Rattle.qn_model.specs.declared.reports.Refused.TheVariants as refused
 use Rattle.qn_model.specs.declared.reports.Report.{Report}
@@ -90,61 +90,79 @@ module _ {Kept World Event : Type 0} (kind : WorldKind Kept World Event) where
 
     -- the world made the step of an event that is allowed, with one step less
     module _ (k mid new : Kept) (event : Event) (outs : List Out) (standing : IsStanding kind k) (e : mid ≡ one_less k)
-        (allowed : (d : World) → kind.StandsFor k d → IsAllowed kind k event d) (made : Stepped kind mid new event outs) where
-      made_less : Stepped kind (one_less k) new event outs
-      made_less = subst (λ m. Stepped kind m new event outs) e made
+        (allowed : (d : World) → kind.StandsFor k d → IsAllowed kind k event d) (stepped : Stepped kind mid new event outs) where
+      stepped_less : Stepped kind (one_less k) new event outs
+      stepped_less = subst (λ m. Stepped kind m new event outs) e stepped
 
-      made_settings : (kind.nodes new).settings ≡ (kind.nodes k).settings
-      made_settings = made_less.frame.settings ∙ ap (λ c. c.settings) (less_nodes k)
+      stands_after : (d : World) → kind.StandsFor k d → kind.StandsFor new (after_event kind k event d)
+      stands_after d is = subst (kind.StandsFor new) (after_less k event d) (stepped_less.stands d (less_stands k d is) (less_allowed k event d (allowed d is)))
 
-      made_stands : (d : World) → kind.StandsFor k d → kind.StandsFor new (after_event kind k event d)
-      made_stands d is = subst (kind.StandsFor new) (after_less k event d) (made_less.stands d (less_stands k d is) (less_allowed k event d (allowed d is)))
-
-      made_gives : (d : World) → kind.StandsFor k d → outs ≡ outs_of kind k event (after_event kind k event d)
-      made_gives d is =
-          made_less.gives d (less_stands k d is) (less_allowed k event d (allowed d is))
+      gives_after : (d : World) → kind.StandsFor k d → outs ≡ outs_of kind k event (after_event kind k event d)
+      gives_after d is =
+          stepped_less.gives d (less_stands k d is) (less_allowed k event d (allowed d is))
           ∙ (ap (λ c. outs_after c.settings (kind.as_one event) (kind.nodes_of (after_event kind (one_less k) event d))) (less_nodes k)
           ∙ ap (outs_of kind k event) (after_less k event d))
 
-      made_ranks : All (IsNodeOutput (kind.nodes k).settings) outs
-      made_ranks =
-          subst (λ (c : Nodes). All (IsNodeOutput c.settings) outs) (less_nodes k)
-          (made_less.ranks standing.0 (less_stands k standing.0 standing.1) (less_allowed k event standing.0 (allowed standing.0 standing.1)))
+      pub made : 0 < (kind.nodes k).steps → Made kind k new event outs
+      made some =
+          let count = stepped_less.frame.steps ∙ ap (λ c. c.steps) (less_nodes k) in
+          record {
+            settings = stepped_less.frame.settings ∙ ap (λ c. c.settings) (less_nodes k);
+            timing = stepped_less.frame.timing ∙ less_timing k;
+            steps = omega arith;
+            stands = stands_after;
+            gives = gives_after;
+            ranks =
+                subst (λ (c : Nodes). All (IsNodeOutput c.settings) outs) (less_nodes k)
+                (stepped_less.ranks standing.0 (less_stands k standing.0 standing.1) (less_allowed k event standing.0 (allowed standing.0 standing.1)));
+          }
 
+    -- the world made the step of an event
+    module _ (k new : Kept) (event : Event) (outs : List Out) (standing : IsStanding kind k) (made : Made kind k new event outs) where
       -- the event can be reported
       pub reportable : IsFormed kind k event → IsFormed kind new event × IsStanding kind new
       reportable formed =
-          (subst (λ s. kind.is_well_formed s event ≡ true) (sym made_settings) formed, (after_event kind k event standing.0, made_stands standing.0 standing.1))
+          (subst (λ s. kind.is_well_formed s event ≡ true) (sym made.settings) formed, (after_event kind k event standing.0, made.stands standing.0 standing.1))
 
-      pub applied : (r : Report) → 0 < (kind.nodes k).steps
+      pub applied : (r : Report) → ((d : World) → kind.StandsFor k d → IsAllowed kind k event d)
           → ((d : World) → kind.StandsFor new d → outs ≡ outs_of kind new event d → r ≡ report_of kind new event d)
           → Applied kind k new event r
       unfolding report
-      applied r some says =
-          let count = made_less.frame.steps ∙ ap (λ c. c.steps) (less_nodes k) in
+      applied r allowed says =
           let reports : (d : World) → kind.StandsFor k d → r ≡ report_of kind k event (after_event kind k event d) =
           λ d is.
-          says (after_event kind k event d) (made_stands d is)
-          (made_gives d is ∙ sym (ap (λ s. outs_after s (kind.as_one event) (kind.nodes_of (after_event kind k event d))) made_settings))
-          ∙ ap (λ s. kind.report s event (after_event kind k event d)) made_settings in
+          says (after_event kind k event d) (made.stands d is)
+          (made.gives d is ∙ sym (ap (λ s. outs_after s (kind.as_one event) (kind.nodes_of (after_event kind k event d))) made.settings))
+          ∙ ap (λ s. kind.report s event (after_event kind k event d)) made.settings in
           let exact = reports standing.0 standing.1 ∙ lawful.reported (kind.nodes k).settings event (after_event kind k event standing.0) in
           record {
-            settings = made_settings;
-            timing = made_less.frame.timing ∙ less_timing k;
-            steps = omega arith;
+            settings = made.settings;
+            timing = made.timing;
+            steps = made.steps;
             allowed = allowed;
-            stands = made_stands;
+            stands = made.stands;
             reports = reports;
             outs =
                 subst (All (IsNodeOutput (kind.nodes k).settings))
-                (made_gives standing.0 standing.1 ∙ sym (ap (λ r. r.outs) exact)) made_ranks;
+                (made.gives standing.0 standing.1 ∙ sym (ap (λ r. r.outs) exact)) made.ranks;
           }
 
-    pub starved : (k mid back new : Kept) (event : Event) → 0 < (kind.nodes k).steps → mid ≡ one_less k
-        → ((d : World) → kind.StandsFor k d → IsAllowed kind k event d) → OutOfMemory kind mid back event
+    -- a step that was applied was made
+    pub made_of : (k new : Kept) (event : Event) (r : Report) → Applied kind k new event r → Made kind k new event r.outs
+    unfolding report
+    made_of k new event r done = record {
+      settings = done.settings;
+      timing = done.timing;
+      steps = done.steps;
+      stands = done.stands;
+      gives = λ d is. ap (λ r. r.outs) (done.reports d is ∙ lawful.reported (kind.nodes k).settings event (after_event kind k event d));
+      ranks = done.outs;
+    }
+
+    pub starved : (k mid back new : Kept) (event : Event) → 0 < (kind.nodes k).steps → mid ≡ one_less k → OutOfMemory kind mid back event
         → new ≡ kind.with_steps back ((kind.nodes back).steps + 1)
-        → Refuses kind k new event refused.NoMemory
-    starved k mid back new event some e allowed out f =
+        → OutOfMemory kind k new event
+    starved k mid back new event some e out f =
         let less : OutOfMemory kind (one_less k) back event = subst (λ m. OutOfMemory kind m back event) e out in
         let n = (kind.nodes k).steps - 1 in
         record {
@@ -153,21 +171,27 @@ module _ {Kept World Event : Type 0} (kind : WorldKind Kept World Event) where
               ∙ (ap (λ b. kind.with_steps b ((kind.nodes b).steps + 1)) less.same
               ∙ (ap (λ c. kind.with_steps (one_less k) (c.steps + 1)) (less_nodes k)
               ∙ (ap (kind.with_steps (one_less k)) (back_again (kind.nodes k).steps some) ∙ lawful.restored k n)));
-          why = λ d is. allowed d is;
-          memory = λ no_memory d is.
+          cause = λ d is allowed.
               ap (λ t. kind.needs_memory (kind.nodes k).settings t event d) (sym (less_timing k))
               ∙ (ap (λ c. kind.needs_memory c.settings (kind.timing (one_less k)) event d) (sym (less_nodes k))
-              ∙ less.cause d (less_stands k d is) (less_allowed k event d (allowed d is)));
+              ∙ less.cause d (less_stands k d is) (less_allowed k event d allowed));
         }
+
+    -- an event that is allowed is refused where there was no memory for it
+    pub refused_starved : (k new : Kept) (event : Event) → ((d : World) → kind.StandsFor k d → IsAllowed kind k event d) → OutOfMemory kind k new event
+        → Refuses kind k new event refused.NoMemory
+    refused_starved k new event allowed out =
+        record { same = out.same; why = allowed; memory = λ no_memory d is. out.cause d is (allowed d is) }
 
     -- ---- the worlds that events lead to
 
-    module _ (k new : Kept) (event : Event) (r : Report) (reached : IsReached kind k) (formed : IsFormed kind k event) (made : Applied kind k new event r) where
+    module _ (k new : Kept) (event : Event) (outs : List Out) (reached : IsReached kind k) (formed : IsFormed kind k event)
+        (allowed : (d : World) → kind.StandsFor k d → IsAllowed kind k event d) (made : Made kind k new event outs) where
       -- each of one more event is allowed in its turn
       allowed_more : kind.AllAllowed (kind.nodes k).settings (kind.timing k) (event ∷ reached.events)
       allowed_more =
           lawful.one_allowed (kind.nodes k).settings (kind.timing k) event reached.events formed
-          (made.allowed (kind.run (kind.nodes k).settings (kind.timing k) reached.events) reached.stands) reached.allowed
+          (allowed (kind.run (kind.nodes k).settings (kind.timing k) reached.events) reached.stands) reached.allowed
 
       after_more : kind.run (kind.nodes k).settings (kind.timing k) (event ∷ reached.events)
           ≡ after_event kind k event (kind.run (kind.nodes k).settings (kind.timing k) reached.events)
@@ -189,14 +213,22 @@ module _ {Kept World Event : Type 0} (kind : WorldKind Kept World Event) where
                 (subst (λ t. kind.StandsFor new (kind.run (kind.nodes k).settings t (event ∷ reached.events))) (sym made.timing) after);
           }
 
+    module _ (k new : Kept) (event : Event) (r : Report) (reached : IsReached kind k) (formed : IsFormed kind k event) (done : Applied kind k new event r) where
+      -- the world after one more event was reached
+      pub reached_applied : IsReached kind new
+      reached_applied = reached_more k new event r.outs reached formed done.allowed (made_of k new event r done)
+
       -- one holder at most is reported
       pub one_holder : HoldsOnce kind → OneHolder r
       unfolding report
       one_holder once i j first second =
+          let made = made_of k new event r done in
+          let more = after_more k new event r.outs reached formed done.allowed made in
           let d = kind.run (kind.nodes k).settings (kind.timing k) reached.events in
           let same : r.holders ≡ holders (kind.nodes k).settings (kind.nodes_of (kind.run (kind.nodes k).settings (kind.timing k) (event ∷ reached.events))) =
-          ap (λ r. r.holders) (made.reports d reached.stands ∙ lawful.reported (kind.nodes k).settings event (after_event kind k event d)) ∙ ap (λ after. holders (kind.nodes k).settings (kind.nodes_of after)) (sym after_more) in
-          once (kind.nodes k).settings (kind.timing k) (event ∷ reached.events) i j (lawful.safe k d reached.stands) allowed_more
+          ap (λ r. r.holders) (done.reports d reached.stands ∙ lawful.reported (kind.nodes k).settings event (after_event kind k event d)) ∙ ap (λ after. holders (kind.nodes k).settings (kind.nodes_of after)) (sym more) in
+          once (kind.nodes k).settings (kind.timing k) (event ∷ reached.events) i j (lawful.safe k d reached.stands)
+          (allowed_more k new event r.outs reached formed done.allowed made)
           (subst (λ mask. IsTrue (is_member mask i)) same first) (subst (λ mask. IsTrue (is_member mask j)) same second)
 
     -- one node at most holds in a world that was reached

@@ -105,6 +105,15 @@ module _ {Kept World Event : Type 0} (kind : WorldKind Kept World Event) where
     pub same : new ≡ old
     pub cause : (d : World) → kind.StandsFor old d → IsAllowed old event d → NeedsMemory old event d
 
+  -- the world made the step of an event that was allowed, with one step less that is left
+  pub record Made (old new : Kept) (event : Event) (outs : List Out) : Type 0 where
+    pub settings : (kind.nodes new).settings ≡ (kind.nodes old).settings
+    pub timing : kind.timing new ≡ kind.timing old
+    pub steps : (kind.nodes new).steps + 1 ≡ (kind.nodes old).steps
+    pub stands : (d : World) → kind.StandsFor old d → kind.StandsFor new (after_event old event d)
+    pub gives : (d : World) → kind.StandsFor old d → outs ≡ outs_of old event (after_event old event d)
+    pub ranks : All (IsNodeOutput (kind.nodes old).settings) outs
+
   -- the event was allowed, and the world made its step, of which this is reported
   pub record Applied (old new : Kept) (event : Event) (r : Report) : Type 0 where
     pub settings : (kind.nodes new).settings ≡ (kind.nodes old).settings

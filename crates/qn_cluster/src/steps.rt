@@ -10,7 +10,7 @@ pub trait Steps: HasNodes {
     ghost use Rattle.qn_base.specs.declared.limits.TheConstants.{LATEST_TIME};
     ghost use Rattle.qn_model.specs.Settings.{IsValid};
     ghost use Rattle.qn_model.specs.Timing.{is_safe};
-    ghost use Rattle.qn_cluster.specs.WorldSteps.{Applied, HoldsOnce, IsFormed, IsReady, IsStanding, OutOfMemory, Refuses, Stepped, outs_of, report_of, rule_of};
+    ghost use Rattle.qn_cluster.specs.WorldSteps.{Applied, HoldsOnce, IsAllowed, IsFormed, IsReady, IsStanding, Made, OutOfMemory, Refuses, Stepped, outs_of, report_of, rule_of};
 
     /// What is kept of the first world.
     fn first(alloc: Global, settings: Settings, timing: Timing) -> Result<Self, NoMemory>
@@ -65,6 +65,28 @@ pub trait Steps: HasNodes {
         }
     }
 
+    /// The step of an event of which it is known that no rule refuses it, with the outputs that it gave in place of `outs`;
+    /// or it finds no memory, and the world is as it was. What `outs` holds then is not said.
+    final fn apply_allowed(&mut self, event: &Self::Event, outs: &mut Outs) -> Result<(), NoMemory>
+        requires formed { IsFormed Self.kind self.old event.now }
+        requires standing { IsStanding Self.kind self.old }
+        requires early { (Self.kind.nodes self.old).time ≤ LATEST_TIME }
+        requires room { 0 < (Self.kind.nodes self.old).steps }
+        requires allowed { (d : Self.World)
+            → Self.kind.StandsFor self.old d
+            → IsAllowed Self.kind self.old event.now d }
+        ensures ok { OnOk result (Made Self.kind self.old self.new event.now outs.new) }
+        ensures err { OnErr result (OutOfMemory Self.kind self.old self.new event.now) }
+    {
+        outs.clear();
+        self.spend();
+        if self.step(event, outs).is_err() {
+            self.give_back();
+            return Err(NoMemory);
+        }
+        Ok(())
+    }
+
     /// The step of an event, if the event is allowed and there is memory for it; what it came to is written over a report
     /// that is there. What that holds after a refusal is not said.
     final fn apply_into(&mut self, event: &Self::Event, into: &mut Report) -> Result<(), Refused>
@@ -76,13 +98,10 @@ pub trait Steps: HasNodes {
         ensures err { IfErr result
             (λ answer. Refuses Self.kind self.old self.new event.now answer) }
     {
-        into.outs.clear();
         if let Err(rule) = self.allowed(event) {
             return Err(Refused::NotAllowed(rule));
         }
-        self.spend();
-        if self.step(event, &mut into.outs).is_err() {
-            self.give_back();
+        if self.apply_allowed(event, &mut into.outs).is_err() {
             return Err(Refused::NoMemory);
         }
         self.fill(event, into);

@@ -4,7 +4,7 @@ use crate::has_nodes::HasNodes;
 use crate::shows::Shows;
 use crate::steps::Steps;
 use qn_base::{Mask, NoMemory, Rank, View};
-use qn_model::{Refused, Report, Rule, Settings, Timing};
+use qn_model::{Outs, Refused, Report, Rule, Settings, Timing};
 use std::alloc::Global;
 use std::marker::Model;
 
@@ -31,7 +31,7 @@ impl<S: Steps + Drop> World<S> {
     ghost use Rattle.qn_base.specs.declared.limits.TheConstants.{LATEST_TIME};
     ghost use Rattle.qn_base.specs.Members.{is_member};
     ghost use Rattle.qn_cluster.specs.Seen.{IsConfigured, polls_now, report_at, tick_now};
-    ghost use Rattle.qn_cluster.specs.WorldSteps.{IsFormed, NeedsMemory, RefusedBy, after_event, report_of, rule_of};
+    ghost use Rattle.qn_cluster.specs.WorldSteps.{IsFormed, NeedsMemory, RefusedBy, after_event, outs_of, report_of, rule_of};
     ghost use Rattle.qn_model.specs.Moments.{node, packets};
     ghost use Rattle.qn_model.specs.Settings.{IsValid};
     ghost use Rattle.qn_model.specs.Steps.{holders};
@@ -146,6 +146,36 @@ impl<S: Steps + Drop> World<S> {
     {
         S::law_one_holds();
         self.state.apply_into(event, into)?;
+        Ok(())
+    }
+
+    /// The step of an event of which it is known that no rule refuses it, with the outputs that it gave in place of `outs`;
+    /// nothing else is reported. It runs out of memory only where the step appends a packet or a leftover. The world is
+    /// then as it was, and what `outs` holds is not said.
+    pub fn apply_allowed(&mut self, event: &S::Event, outs: &mut Outs) -> Result<(), NoMemory>
+        requires formed { IsFormed S.kind self.old event.now }
+        requires early { (S.kind.nodes self.old).time ≤ LATEST_TIME }
+        requires room { 0 < (S.kind.nodes self.old).steps }
+        requires allowed { (d : S.World)
+            → S.kind.StandsFor self.old d
+            → rule_of S.kind self.old event.now d ≡ None }
+        ensures stands { OnOk result ((d : S.World)
+            → S.kind.StandsFor self.old d
+            → S.kind.StandsFor self.new (after_event S.kind self.old event.now d)) }
+        ensures gives { OnOk result ((d : S.World)
+            → S.kind.StandsFor self.old d
+            → outs.new ≡ outs_of S.kind self.old event.now
+            (after_event S.kind self.old event.now d)) }
+        ensures steps { OnOk result
+            ((S.kind.nodes self.new).steps + 1 ≡ (S.kind.nodes self.old).steps) }
+        ensures memory { OnErr result ((d : S.World)
+            → S.kind.StandsFor self.old d
+            → NeedsMemory S.kind self.old event.now d) }
+        ensures err { OnErr result (self.new ≡ self.old) }
+        ensures settings { (S.kind.nodes self.new).settings ≡ (S.kind.nodes self.old).settings }
+        ensures timing { S.kind.timing self.new ≡ S.kind.timing self.old }
+    {
+        self.state.apply_allowed(event, outs)?;
         Ok(())
     }
 

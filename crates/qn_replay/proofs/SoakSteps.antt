@@ -11,7 +11,7 @@ use Rattle.qn_model.specs.declared.configuration.Settings.{Settings}
 use Rattle.qn_model.specs.declared.events.Event.{Event}
 use Rattle.qn_model.specs.declared.reports.Report.{Report}
 use Rattle.qn_model.specs.declared.times.Timing.{Timing}
-use Rattle.qn_model.specs.Steps.{holders, report, step}
+use Rattle.qn_model.specs.Steps.{holders, outs_after, report, step}
 use Rattle.qn_model.specs.World.{World}
 use Rattle.qn_world.specs.Standing.{WorldFor}
 use Rattle.qn_world.specs.Whole.{Whole}
@@ -49,6 +49,15 @@ module _ (seed events state : ℕ) (event : Event) (is : undrawn event state ≡
       new_is ∙ ap₂ (λ r old. tallied event r old) here old_is
       ∙ ap (λ d. tallied d.event (report soak_settings d.event (step soak_settings soak_timing d.event (soaked seed events).world)) (soaked seed events).tally) is
       ∙ ap (λ s. s.tally) (sym (soaked_more seed events))
+
+-- what is reported of an event has its outputs and its holders
+pub reported_outs : (s : Settings) (event : Event) (after : World) → (report s event after).outs ≡ outs_after s event after
+unfolding report
+reported_outs s event after = refl
+
+pub reported_holders : (s : Settings) (event : Event) (after : World) → (report s event after).holders ≡ holders s after
+unfolding report
+reported_holders s event after = refl
 
 -- the bounds of the tally grow with it
 pub within_more : (events : ℕ) (old new : Tally) → IsWithin (40 * events) old → GrowsBy 40 old new → IsWithin (40 * (events + 1)) new

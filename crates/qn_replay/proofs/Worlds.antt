@@ -37,11 +37,11 @@ if_err (Err end) then holds = then end holds
 -- ---- what was read and refused
 
 -- the event of a line, as it was read in place
-pub read_is : (result : Result (Unit {0}) LineFault) (event : Event) → read_as result event ≡ filled_in result event
+pub read_is : {Event : Type 0} (result : Result (Unit {0}) LineFault) (event : Event) → read_as result event ≡ filled_in result event
 read_is (Ok done) event = refl
 read_is (Err fault) event = refl
 
-pub read_ok : (result : Result (Unit {0}) LineFault) (event : Event) (P : Event → Type 0) → ((other : Event) → filled_in result event ≡ Ok other → P other) → OnOk result (P event)
+pub read_ok : {Event : Type 0} (result : Result (Unit {0}) LineFault) (event : Event) (P : Event → Type 0) → ((other : Event) → filled_in result event ≡ Ok other → P other) → OnOk result (P event)
 read_ok (Ok done) event P holds = holds event refl
 read_ok (Err fault) event P holds = tt
 

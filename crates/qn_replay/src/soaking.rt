@@ -11,9 +11,9 @@ use crate::soak_settings::{soak_settings, soak_timing};
 use crate::tally::Tally;
 use qn_base::{Failed, NoMemory, Rank, ShortText};
 use qn_io::{Sink, put_all};
-use qn_model::Event;
+use qn_model::{Event, Outs};
 use qn_sched::ReplayEnd;
-use qn_world::{World, blank_report};
+use qn_world::World;
 use std::alloc::Global;
 
 /// Draws so many events from the seed, applies each to a world of three nodes, and writes a summary line.
@@ -54,13 +54,11 @@ fn tally_of(alloc: Global, seed: u64, events: u64) -> Result<Tally, NoMemory>
     let mut generator = Gen::new(seed);
     let mut tally = Tally::new();
     let mut event = Event::Tick(Rank(0));
-    let mut report = blank_report();
+    let mut outs = Outs::new();
     'events: for number in 0..events {
         generator.next_into(&world, &mut event);
-        match world.apply_into(&event, &mut report) {
-            Ok(()) => tally.add(&event, &report),
-            Err(_) => return Err(NoMemory),
-        }
+        world.apply_allowed(&event, &mut outs)?;
+        tally.add(&event, &outs, world.holders());
     }
     Ok(tally)
 }

@@ -2,7 +2,8 @@
 ghost use Rattle.std.specs.Prelude.{◌≡◌, ◌≤◌, count_by, length};
 ghost use Rattle.qn_replay.specs.Soak.{is_boot, is_crash, is_reset, is_start, is_stop};
 
-use qn_model::{DiskOp, Event, Out, Report};
+use qn_base::Mask;
+use qn_model::{DiskOp, Event, Out, Outs};
 
 /// What the events of a soak came to: boots and crashes count events, resets, starts and stops count outputs,
 /// and `most_holders` is the greatest number of nodes that held the resource after any event.
@@ -18,6 +19,7 @@ pub(crate) struct Tally {
 
 impl Tally {
     ghost use Rattle.std.specs.Prelude.{◌≡◌};
+    ghost use Rattle.qn_model.specs.declared.reports.Report.{Report};
     ghost use Rattle.qn_replay.specs.Soak.{GrowsBy, IsWithin, nothing_tallied, tallied};
 
     /// Nothing happened yet.
@@ -34,20 +36,23 @@ impl Tally {
         }
     }
 
-    /// Adds an event and its report.
+    /// Adds an event, its outputs and the nodes that hold the resource after it.
     #[tactic(auto, unfolding(crate::specs::Soak::tallied))]
-    pub(crate) fn add(&mut self, event: &Event, report: &Report)
+    pub(crate) fn add(&mut self, event: &Event, outs: &Outs, holders: Mask)
         requires { IsWithin 8000000 self.old }
-        ensures tally { self.new ≡ tallied event.now report.now self.old }
+        ensures tally { (report : Report)
+            → report.outs ≡ outs.now
+            → report.holders ≡ holders
+            → self.new ≡ tallied event.now report self.old }
         ensures grows { GrowsBy 40 self.old self.new }
     {
-        let outs = report.outs.as_slice();
+        let outs = outs.as_slice();
         self.boots += u64::from(is_boot(event));
         self.crashes += u64::from(is_crash(event));
         self.resets += count_resets(outs);
         self.starts += count_starts(outs);
         self.stops += count_stops(outs);
-        let holders = u64::from(report.holders.0.count_ones());
+        let holders = u64::from(holders.0.count_ones());
         self.most_holders = self.most_holders.max(holders);
     }
 }

@@ -7,7 +7,7 @@ use qn_model::{Event, LineFault, Refused, Report};
 use qn_playback::{Head, read_head};
 use qn_safety::TripleEvent;
 use qn_sched::{ReplayEnd, write_trace};
-use qn_triple::{TripleWorld, blank_report, law_triple_lines, read_triple_line};
+use qn_triple::{TripleWorld, blank_report, law_triple_lines, read_triple_line_into};
 use std::alloc::Global;
 
 impl TakesEvents for TripleWorld {
@@ -58,13 +58,7 @@ impl TakesEvents for TripleWorld {
 
     fn read(&self, line: &[u8], into: &mut TripleEvent) -> Result<(), LineFault> {
         law_triple_lines();
-        match read_triple_line(line, self.settings()) {
-            Ok(event) => {
-                *into = event;
-                Ok(())
-            }
-            Err(fault) => Err(fault),
-        }
+        read_triple_line_into(line, self.settings(), into)
     }
 
     fn apply(&mut self, event: &TripleEvent, into: &mut Report) -> Result<(), Refused> {

@@ -156,6 +156,6 @@ unfoldable pub event_of : List ℕ → List ℕ → Result Event LineFault
 event_of ids line = if nat_lt MOST_LINE_BYTES (length line) then Err TooLong else event_of_words ids (words_of line)
 
 -- the answer of a call that fills in an event, with that event
-abbrev pub filled_in : Result (Unit {0}) LineFault → Event → Result Event LineFault
+abbrev pub filled_in : {A : Type 0} → Result (Unit {0}) LineFault → A → Result A LineFault
 filled_in (Ok done) event = Ok event
 filled_in (Err fault) event = Err fault

@@ -18,7 +18,7 @@ mod state;
 mod steps;
 mod world;
 
-pub use event_line::read_triple_line;
+pub use event_line::{read_triple_line, read_triple_line_into};
 pub use laws::law_triple_lines;
 pub use qn_cluster::blank_report;
 pub use state::State;

@@ -1,10 +1,14 @@
-use Rattle.std.proofs.Common.{◌≡◌, true, ap, ◌∙◌, arith}
+use Rattle.std.proofs.Common.{◌≡◌, ℕ, true, refl, sym, ap, ap₂, subst, ◌∙◌, arith}
+use Rattle.std.specs.Prelude.{IsTrue}
+use Rattle.qn_base.specs.declared.ids.Mask.{Mask}
+use Rattle.qn_base.specs.Members.{is_member}
 use Rattle.qn_model.specs.Moments.{time}
-use Rattle.qn_model.specs.Rules.{is_well_formed}
+use Rattle.qn_model.specs.Rules.{is_well_formed, refusal}
+use Rattle.qn_model.specs.Steps.{holders, report, step}
 use Rattle.qn_replay.specs.Generator.{next_event, undrawn}
 use Rattle.qn_replay.specs.Soak.{soaked}
 use Rattle.qn_playback.specs.Times.{time-step}
-use Rattle.qn_replay.proofs.SoakSteps.{few_holders, most_more, stands_more, state_more, tally_more, within_more, within_none}
+use Rattle.qn_replay.proofs.SoakSteps.{few_holders, most_more, reported_holders, reported_outs, stands_more, state_more, tally_more, within_more, within_none}
 use Rattle.qn_replay.proofs.soaking.tally_of.Goals as goal
 
 pub events-init : goal.events-init
@@ -24,32 +28,42 @@ events-init c =
       steps = omega (arith, c.in_ok-world.ensures.steps);
     }
 
+pub apply_allowed-requires-clause-allowed : goal.apply_allowed-requires-clause-allowed
+apply_allowed-requires-clause-allowed c = λ d stands.
+    let before = c.events.invariant in
+    ap₂ (λ s t. refusal s t c.next_into.new.into d) before.settings before.timing ∙ c.next_into.ensures.allowed d stands
+
 pub events-preserved : goal.events-preserved
 events-preserved c =
     let before = c.events.invariant in
+    let made = c.in_ok-apply_allowed.ensures in
     let d = (soaked c.args.seed c.events.number).world in
     let event = c.next_into.new.into in
+    let after = step c.events.world.settings c.events.world.timing event d in
     let is : undrawn event c.next_into.new.self ≡ next_event d (soaked c.args.seed c.events.number).state =
     c.next_into.ensures.drawn d before.stands ∙ ap (λ x. next_event d x) before.state in
-    let stood = c.in-Ok.ensures.stands d before.stands in
-    let said = c.in-Ok.ensures.report d before.stands in
+    let stood = made.stands d before.stands in
+    let said = report c.events.world.settings event after in
+    let outs : said.outs ≡ c.apply_allowed.new.outs = reported_outs c.events.world.settings event after ∙ sym (made.gives d before.stands) in
+    let held : said.holders ≡ c.holders.result =
+    reported_holders c.events.world.settings event after ∙ sym (c.holders.ensures.exact after stood ∙ ap (λ s. holders s after) made.settings) in
+    let tallied_is = c.add.ensures.tally said outs held in
+    let one : (i j : ℕ) → IsTrue (is_member said.holders i) → IsTrue (is_member said.holders j) → i ≡ j = subst (λ (mask : Mask). (i j : ℕ) → IsTrue (is_member mask i) → IsTrue (is_member mask j) → i ≡ j) (sym held) c.holders.ensures.one_holder in
     let formed : is_well_formed c.events.world.settings event ≡ true = ap (λ s. is_well_formed s event) before.settings ∙ c.next_into.ensures.formed in
     let then = before.stands.cluster.times in
     let now = stood.cluster.times in
     let later = time-step c.events.world.settings c.events.world.timing event d formed in
     let early = before.early in
     let left = before.steps in
-    let step = c.in-Ok.ensures.steps in
+    let spent = made.steps in
     record {
       stands = stands_more c.args.seed c.events.number c.next_into.new.self event is before.settings before.timing stood;
       state = state_more c.args.seed c.events.number c.next_into.new.self event is;
-      tally = tally_more c.args.seed c.events.number c.next_into.new.self event is c.apply_into.new.into c.events.tally c.add.new.self before.settings before.timing said before.tally
-          c.add.ensures.tally;
-      one = most_more event c.apply_into.new.into c.events.tally c.add.new.self before.one (few_holders c.events.world.timing event c.apply_into.new.into d before.settings said c.in-Ok.ensures.one_holder)
-          c.add.ensures.tally;
+      tally = tally_more c.args.seed c.events.number c.next_into.new.self event is said c.events.tally c.add.new.self before.settings before.timing refl before.tally tallied_is;
+      one = most_more event said c.events.tally c.add.new.self before.one (few_holders c.events.world.timing event said d before.settings refl one) tallied_is;
       within = within_more c.events.number c.events.tally c.add.new.self before.within c.add.ensures.grows;
-      settings = c.in-Ok.ensures.settings ∙ before.settings;
-      timing = c.in-Ok.ensures.timing ∙ before.timing;
+      settings = made.settings ∙ before.settings;
+      timing = made.timing ∙ before.timing;
       early = omega (arith, early, then, now, later);
-      steps = omega (arith, left, step);
+      steps = omega (arith, left, spent);
     }
