@@ -56,7 +56,7 @@ unfolding phase
 phase_after s line past entry reads = ap (λ e. next_phase s e (in_time line.tick past) (phase s past)) reads
 
 -- the answer of the clear ends the boot
-cleared_phase : (s : Settings) (line : Line) (past : List Line) (ok : Bool) → line.what ≡ what.Cleared ok → is_booting (phase s (line ∷ past)) ≡ false
+pub cleared_phase : (s : Settings) (line : Line) (past : List Line) (ok : Bool) → line.what ≡ what.Cleared ok → is_booting (phase s (line ∷ past)) ≡ false
 cleared_phase s line past true reads = ap is_booting (phase_after s line past (what.Cleared true) reads)
 cleared_phase s line past false reads = ap is_booting (phase_after s line past (what.Cleared false) reads)
 
