@@ -20,4 +20,5 @@ mod Rows
 mod Standing
 mod Stands
 mod Taking
+mod TripleTells
 mod Worlds

@@ -5,3 +5,5 @@ pub mod Owning
 pub mod Stands
 pub mod Theorem
 pub mod WorldOf
+pub mod TripleJoints
+pub mod TripleWorldOf

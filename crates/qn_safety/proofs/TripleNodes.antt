@@ -1,9 +1,11 @@
 -- What holds of each configured node of the world of three images.
-use Rattle.std.proofs.Common.{◌≡◌, ℕ, Bool, true, false, List, ◌∷◌, Option, None, Some, refl, sym, ap, ◌∙◌, subst, ◌&&◌, ◌||◌}
+use Rattle.std.proofs.Common.{◌≡◌, ℕ, Bool, true, false, List, ◌∷◌, Option, None, Some, refl, sym, ap, ◌∙◌, subst, ◌&&◌, ◌||◌, ◌==◌, ◌⊎◌, inl, inr}
 use Rattle.std.specs.Prelude.{◌<◌, length}
-use Rattle.std.proofs.lemmas.Bool.{false≢true, true≢false}
+use Rattle.std.proofs.lemmas.Bool.{eqb-true, false≢true, true≢false}
 use Rattle.std.proofs.lemmas.Option.{same_Some}
+use Rattle.qn_base.specs.declared.ids.Rank.{Rank}
 use Rattle.qn_base.specs.lemmas.Bools.{never_both}
+use Rattle.qn_base.specs.lemmas.Options.{value_tested}
 use Rattle.qn_model.specs.declared.configuration.Settings.{Settings}
 use Rattle.qn_model.specs.declared.times.Timing.{Timing}
 use Rattle.qn_model.specs.declared.entries.What.{What}
@@ -13,6 +15,8 @@ use Rattle.qn_model.specs.declared.outputs.DiskOp.TheVariants as disk
 use Rattle.qn_model.specs.Log.{Line, op_out}
 use Rattle.qn_model.specs.Moments.{node, time}
 use Rattle.qn_model.specs.Fitting.{answers_op}
+use Rattle.qn_model.specs.NodeVotes.{is_in_view}
+use Rattle.qn_model.specs.Unmet.{chosen, is_chosen}
 use Rattle.qn_model.specs.Phases.{is_booting, phase}
 use Rattle.qn_model.specs.World.{failed}
 use Rattle.qn_safety.specs.declared.triple_event.TripleEvent.{TripleEvent}
@@ -22,7 +26,11 @@ use Rattle.qn_safety.specs.TripleNumbers.{AllMayTriple, IsTripleNode, TripleNode
 use Rattle.qn_safety.specs.TripleSteps.{run_triple}
 use Rattle.qn_safety.specs.TripleWorld.{TripleWorld, answer_of, good_after, op_of, together}
 use Rattle.qn_safety.proofs.Kept.{booting_back, booting_op}
-use Rattle.qn_safety.proofs.Logs.{Made, made_line}
+use Rattle.qn_safety.proofs.Apt.{boot_step_of}
+use Rattle.qn_safety.proofs.Logs.{Made, ask_line, before_outs, disk_reason, line_at, made_line}
+use Rattle.qn_safety.proofs.Rests.{no_reset}
+use Rattle.qn_safety.proofs.Says.{Reason}
+use Rattle.qn_model.specs.lemmas.LeastRanks.{least_passes}
 use Rattle.qn_safety.proofs.NodeLogs.{node_log}
 use Rattle.qn_safety.proofs.Origins.{line_of, line_what}
 use Rattle.qn_safety.proofs.Outs.{answer_fits}
@@ -116,9 +124,29 @@ two_good good (TwoThree a b) = by_tests (good 1) (good 2) (good 3) a b
     by_tests x false z a b = absurd (false≢true a)
     by_tests x true false a b = absurd (false≢true b)
 
+-- a node resets another one alone: it is the chosen one of its view, and whom it resets is outside
+resets_other : (s : Settings) (me : ℕ) (log : List Line) (rank : ℕ) → is_in_view log rank ≡ false → is_chosen s me log ≡ true → (rank == me) ≡ false
+resets_other s me log rank outside chosen_is = by_same (rank == me) refl
+  where
+    by_same : (b : Bool) → (rank == me) ≡ b → (rank == me) ≡ false
+    by_same false e = e
+    by_same true e =
+        let first = value_tested (λ r. r == me) (chosen s log) chosen_is in
+        let inside : is_in_view log first.0 ≡ true = least_passes (length s.nodes) 0 (λ r. is_in_view log r) first.0 first.1 in
+        never_both (is_in_view log rank) (subst (λ r. is_in_view log r ≡ true) (eqb-true first.0 me first.2 ∙ sym (eqb-true rank me e)) inside) outside
+
+reset_other : {s : Settings} {me : ℕ} {log : List Line} → Made s me log → (other : Rank) → op_out log ≡ Some (disk.WriteReset other) → (other.0 == me) ≡ false
+reset_other {s = s} {me = me} {log = log} made other e =
+    let asked = ask_line (disk.WriteReset other) log e in
+    by_reason asked.line asked.past (disk_reason (line_at asked.back made) (disk.WriteReset other) asked.gave)
+  where
+    by_reason : (line : Line) (past : List Line) → Reason s me past line.what (before_outs line past) (disk.WriteReset other) → (other.0 == me) ≡ false
+    by_reason line past (inl boots) = absurd (no_reset s me line.what (disk.WriteReset other) _ other (boot_step_of s me _ line.what (disk.WriteReset other) false boots.goes_on boots.next) refl)
+    by_reason line past (inr lives) = resets_other s me (before_outs line past) other.0 lives.state.1 lives.state.3
+
 pub triple_nodes_hold : (s : Settings) (t : Timing) → TripleNodesHold s t
 triple_nodes_hold s t events rank may below =
-    record { log = node_log _ at.made below at.going; good = good_by (is_booting (phase s (node s rank w.moments).log)) refl; checks = checks }
+    record { log = node_log _ at.made below at.going; good = good_by (is_booting (phase s (node s rank w.moments).log)) refl; checks = checks; others = reset_other at.made }
   where
     w : TripleWorld
     w = run_triple s t events

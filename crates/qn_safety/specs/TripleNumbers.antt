@@ -1,5 +1,6 @@
 -- Events of three images that the rules allow, whatever their numbers, and what holds of each node then: this project's profile.
-use Rattle.std.specs.Prelude.{◌≡◌, ◌<◌, ℕ, Bool, true, ◌&&◌, ◌||◌, List, [], ◌∷◌, None, Some, length}
+use Rattle.std.specs.Prelude.{◌≡◌, ◌<◌, ℕ, Bool, true, false, ◌==◌, ◌&&◌, ◌||◌, List, [], ◌∷◌, None, Some, length}
+use Rattle.qn_base.specs.declared.ids.Rank.{Rank}
 use Rattle.qn_model.specs.declared.configuration.Settings.{Settings}
 use Rattle.qn_model.specs.declared.times.Timing.{Timing}
 use Rattle.qn_model.specs.declared.outputs.DiskOp.TheVariants as disk
@@ -40,13 +41,14 @@ abbrev pub is_two : (ℕ → Bool) → Bool
 is_two on = on 1 && on 2 || on 1 && on 3 || on 2 && on 3
 
 -- the log of a node is one that a world makes; while it runs two of its images at least are good, and all of them where it
--- checks its mailbox for a clean start
+-- checks its mailbox for a clean start; it resets no node but another
 pub record IsTripleNode (s : Settings) (rank : ℕ) (w : TripleWorld) : Type 0 where
   pub log : IsNodeLog s (node s rank w.moments).log
   pub good : (node s rank w.moments).on ≡ true → is_two (w.good rank) ≡ true
   pub checks : (node s rank w.moments).on ≡ true
       → op_of s rank w ≡ Some disk.CheckMail
       → (image : ℕ) → w.good rank image ≡ true
+  pub others : (other : Rank) → op_of s rank w ≡ Some (disk.WriteReset other) → (other.0 == rank) ≡ false
 
 -- each configured node is such a node, in the world after any events that the rules allow
 abbrev pub TripleNodesHold : Settings → Timing → Type 0
