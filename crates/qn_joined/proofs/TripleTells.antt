@@ -1,12 +1,13 @@
 -- What three images tell together of an operation, whatever each of them answers, is what the world of three images answers.
 use Rattle.std.proofs.Common.{◌≡◌, ◌<◌, ◌≤◌, ◌+◌, ◌-◌, ◌*◌, ◌/◌, ℕ, zero, suc, Bool, true, false, not, ◌&&◌, ◌||◌, ◌==◌, List, [], ◌∷◌, Option, None, Some, if◌then◌else◌, refl, sym, ap, subst, ◌∙◌, arith, ◌⊎◌, inl, inr, map}
-use Rattle.std.specs.Prelude.{length, nat_lt, IsTrue}
+use Rattle.std.specs.Prelude.{length, nat_le, nat_lt, IsTrue}
 use Rattle.std.specs.List.{list_any}
-use Rattle.std.proofs.lemmas.Bool.{eq-eqb, eqb-false, lt-ltb, ltb-true, ne_eqb}
+use Rattle.std.proofs.lemmas.Bool.{eq-eqb, eqb-false, leb-true, lt-ltb, ltb-true, ne_eqb}
 use Rattle.qn_base.specs.declared.calls.Call.{Call}
 use Rattle.qn_base.specs.declared.calls.Call.TheVariants as call
 use Rattle.qn_base.specs.declared.ids.Rank.{Rank}
 use Rattle.qn_base.specs.Calls.{blank, is_failed}
+use Rattle.qn_base.specs.lemmas.Bools.{first_of_both, second_of_both}
 use Rattle.qn_base.specs.Plans as plans
 use Rattle.qn_base.specs.Plans.{Follows, Plan, ◌>>=◌}
 use Rattle.qn_io.specs.Answered.{bytes_read}
@@ -338,7 +339,7 @@ module _ (s : Settings) (t : Timing) (op : DiskOp) (A : Type 0) (value : A → W
     ends one two three h k l = record {
       call = asks_again (sector_of s (read_entry op (one ∷ two ∷ three ∷ []) good));
       answer = tells sector one two three good h.told k.told l.told ∙ same;
-      good = λ image is. sym (stays (part_on (one ∷ two ∷ three ∷ [])) (is_good_on good) image);
+      goods = λ image is. sym (stays (part_on (one ∷ two ∷ three ∷ [])) (is_good_on good) image);
       three = refl;
     }
       where
@@ -385,7 +386,7 @@ module _ (s : Settings) (t : Timing) (op : DiskOp) (A : Type 0) (value : A → W
         )
     first false e = inl (second (is_asked op y) refl Pending (unasked (is_asked op x) e))
 
-    pub read_left : reading sector ≡ op → IsLeft s t rank number op good 3 none_told (call_plan s rank good (disk_call s rank number op))
+    read_left : reading sector ≡ op → IsLeft s t rank number op good 3 none_told (call_plan s rank good (disk_call s rank number op))
     unfolding read_plan parts_plan
     read_left same =
         subst (λ c. IsLeft s t rank number op good 3 none_told (call_plan s rank good c)) (sym asks)
@@ -437,18 +438,18 @@ module _ (s : Settings) (t : Timing) (rank number : ℕ) (check : CheckTells s) 
     call = mail_asks (sector_of s (read_entry disk.ReadMail (mails (one ∷ two ∷ three ∷ [])) all_good));
     answer = check rank number (one ∷ two ∷ three ∷ []) (mail_told one two three) follows
         ∙ check_same (part_of s disk.CheckMail one) (part_of s disk.CheckMail two) (part_of s disk.CheckMail three) h k l;
-    good = λ image is. refl;
+    goods = λ image is. refl;
     three = refl;
   }
 
-  pub check_left : IsLeft s t rank number disk.CheckMail all_good 3 none_told (call_plan s rank all_good (disk_call s rank number disk.CheckMail))
+  check_left : IsLeft s t rank number disk.CheckMail all_good 3 none_told (call_plan s rank all_good (disk_call s rank number disk.CheckMail))
   unfolding disk_call read_plan parts_plan part_plan
   check_left =
       subst (λ o. IsLeft s t rank number disk.CheckMail all_good 3 none_told (mail_plan o)) (sym reads)
       (inr (_, refl, λ one same honest. inr (_, refl, λ two same' honest'. inr (_, refl, λ three same'' honest''.
       (mail_told one two three, refl,
       check_ends one two three (check_heard one honest) (check_heard two honest') (check_heard three honest'')
-      (subst (λ o. Follows (mail_plan o) (one ∷ two ∷ three ∷ []) (mail_told one two three)) (sym reads) (same, same', same'', refl, refl)))))))
+      (subst (λ o. Follows (mail_plan o) (one ∷ two ∷ three ∷ []) (mail_told one two three)) (sym reads) (same, (same', (same'', (refl, refl))))))))))
 
 -- ## The calls of a write
 
@@ -460,14 +461,15 @@ landed_not false value = refl
 written_good : (a b c : Bool) (u v w : What) (image : ℕ) → is_image image ≡ true
     → is_good_on (not a ∷ not b ∷ not c ∷ []) image
     ≡ has_landed (part_on ((if a then Failed else Landed u) ∷ (if b then Failed else Landed v) ∷ (if c then Failed else Landed w) ∷ []) image)
-written_good a b c u v w zero is = absurd cc
+written_good a b c u v w zero is = absurd (let under = leb-true 1 0 (first_of_both (nat_le 1 0) (nat_le 0 3) is) in omega (arith, under))
 written_good a b c u v w (suc zero) is = sym (landed_not a u)
 written_good a b c u v w (suc (suc zero)) is = sym (landed_not b v)
 written_good a b c u v w (suc (suc (suc zero))) is = sym (landed_not c w)
 written_good a b c u v w (suc (suc (suc (suc more)))) is = absurd (out_of more is)
   where
     out_of : (more : ℕ) → is_image (suc (suc (suc (suc more)))) ≡ true → ⊥
-    out_of more is = cc
+    out_of more is =
+        let under = leb-true (suc (suc (suc (suc more)))) 3 (second_of_both (nat_le 1 (suc (suc (suc (suc more))))) (nat_le (suc (suc (suc (suc more)))) 3) is) in omega (arith, under)
 
 module _ (s : Settings) (t : Timing) (rank number sector : ℕ) (bytes : List ℕ) (op : DiskOp) (good : List Bool) (tells : WritesTell s) (write : is_write op ≡ true)
     (asks : disk_call s rank number op ≡ call.Write sector bytes true)
@@ -487,7 +489,7 @@ module _ (s : Settings) (t : Timing) (rank number sector : ℕ) (bytes : List �
   module _ (goods : (one two three : Call) (image : ℕ) → is_image image ≡ true
       → is_good_on (good_after_write rank sector (done_on one two three) good) image
       ≡ good_after op (part_on (part_of s op one ∷ part_of s op two ∷ part_of s op three ∷ [])) (is_good_on good) image) where
-    pub write_left : IsLeft s t rank number op good 3 none_told (call_plan s rank good (disk_call s rank number op))
+    write_left : IsLeft s t rank number op good 3 none_told (call_plan s rank good (disk_call s rank number op))
     unfolding write_plan images_plan image_plan
     write_left =
         subst (λ p. IsLeft s t rank number op good 3 none_told p) (sym (ap (λ c. call_plan s rank good c) asks))
@@ -498,8 +500,8 @@ module _ (s : Settings) (t : Timing) (rank number sector : ℕ) (bytes : List �
           call = sym asks;
           answer = tells rank number op good (one ∷ two ∷ three ∷ []) (write_told one two three) write
               (subst (λ c. Follows (call_plan s rank good c) (one ∷ two ∷ three ∷ []) (write_told one two three)) (sym asks)
-              (same ∙ ap (on_image 1) asks, same' ∙ ap (on_image 2) asks, same'' ∙ ap (on_image 3) asks, refl, refl));
-          good = goods one two three;
+              (same ∙ ap (on_image 1) asks, (same' ∙ ap (on_image 2) asks, (same'' ∙ ap (on_image 3) asks, (refl, refl)))));
+          goods = goods one two three;
           three = three_good (sector == mail_place rank) (done_on one two three) refl;
         })))))
 
@@ -527,6 +529,7 @@ apart_slot : (rank : ℕ) → rank < 32 → (1 + 2 * rank == 512 + rank) ≡ fal
 apart_slot rank small = ne_eqb (1 + 2 * rank) (512 + rank) (λ e. omega (arith, small))
 
 pub calls_answer : (s : Settings) (t : Timing) → Tells s → CallsAnswer s t
+unfolding disk_call done
 calls_answer s t tells rank number op good x y z fits below is_op shape enough =
     subst (λ g. IsEnough rank op g → IsLeft s t rank number op g 3 none_told (call_plan s rank g (disk_call s rank number op))) (sym shape) (by_op op is_op) enough
   where
@@ -537,7 +540,6 @@ calls_answer s t tells rank number op good x y z fits below is_op shape enough =
     kept sector written apart = ap (λ b. if b then written else x ∷ y ∷ z ∷ []) apart
 
     by_op : (o : DiskOp) → IsOperation s o → IsEnough rank o (x ∷ y ∷ z ∷ []) → IsLeft s t rank number o (x ∷ y ∷ z ∷ []) 3 none_told (call_plan s rank (x ∷ y ∷ z ∷ []) (disk_call s rank number o))
-    unfolding disk_call done
     by_op disk.ReadHeader is e =
         read_left s t disk.ReadHeader (Unit {0}) (λ u. what.Header (header.Read (length s.nodes) t)) refl (λ found held. (tt, held)) rank number 0 refl x y z (header_kind s t x y z) tells.header
         (λ parts good image. refl) refl

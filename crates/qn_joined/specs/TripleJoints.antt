@@ -8,7 +8,7 @@ use Rattle.qn_base.specs.declared.calls.Call.TheVariants as call
 use Rattle.qn_base.specs.declared.ids.Rank.{Rank}
 use Rattle.qn_base.specs.Calls.{blank}
 use Rattle.qn_base.specs.Plans as plans
-use Rattle.qn_base.specs.Plans.{Plan, Ends, Asks, ◌>>=◌, question}
+use Rattle.qn_base.specs.Plans.{Plan, ◌>>=◌, question}
 use Rattle.qn_model.specs.declared.configuration.Settings.{Settings}
 use Rattle.qn_model.specs.declared.disk.Message.{Message}
 use Rattle.qn_model.specs.declared.times.Timing.{Timing}

@@ -83,7 +83,7 @@ IsHonest s t op made = (is_failed made ≡ true) ⊎ ((is_failed made ≡ false)
 pub record IsAnswered (s : Settings) (rank number : ℕ) (op : DiskOp) (good : List Bool) (by : ToldBy) (told : Told) : Type 0 where
   pub call : blank told.0 ≡ disk_call s rank number op
   pub answer : disk_answer s op told.0 ≡ answer_of op (part_on (all_told by)) (is_good_on good)
-  pub good : (image : ℕ) → is_image image ≡ true
+  pub goods : (image : ℕ) → is_image image ≡ true
       → is_good_on told.1 image ≡ good_after op (part_on (all_told by)) (is_good_on good) image
   pub three : told.1 ≡ is_good_on told.1 1 ∷ is_good_on told.1 2 ∷ is_good_on told.1 3 ∷ []
 
