@@ -1,2 +1,16 @@
+pub mod ApplySteps
+pub mod Clocks
+pub mod EventSpelling
+pub mod Following
+mod LeaseSpelling
+pub mod Lists
+pub mod Meeting
+mod PassLength
+pub mod PassWords
 pub mod Places
+pub mod Quiet
+pub mod Refusals
 pub mod Remembering
+pub mod RuleTests
+pub mod StepForms
+mod WordsOfLines

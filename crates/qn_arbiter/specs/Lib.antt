@@ -1,2 +1,12 @@
 pub mod Arbiter
+pub mod EventLines
+pub mod EventNames
+pub mod EventReading
+pub mod LeaseLine
+pub mod Memory
+pub mod OwnRules
 pub mod Poller
+pub mod Standing
+pub mod Stepping
+pub mod TraceLines
+pub mod Whole

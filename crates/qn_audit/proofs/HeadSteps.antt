@@ -1,13 +1,13 @@
 -- An input whose head was read: its audit ends there, or goes on with the lines after it.
 use Rattle.std.proofs.Common.{◌≡◌, ◌≤◌, ℕ, List, [], ◌++◌, Option, None, Some, Err, length, refl, sym, ap, ◌∙◌, subst}
 use Rattle.std.specs.Io.KnownBytes.{IsAtEnd, prepend_known}
-use Rattle.qn_head.specs.declared.head_fault.HeadFault.{HeadFault}
-use Rattle.qn_head.specs.declared.head_fault.HeadFault.TheVariants as head
-use Rattle.qn_head.specs.declared.settings_head.SettingsHead.{SettingsHead}
-use Rattle.qn_head.specs.Faults.{end_of}
-use Rattle.qn_head.specs.Heads.{settings_part}
-use Rattle.qn_head.specs.Parts.{Given, Gives, Refuses}
-use Rattle.qn_head.specs.Parts as part
+use Rattle.qn_playback.specs.declared.head_fault.HeadFault.{HeadFault}
+use Rattle.qn_playback.specs.declared.head_fault.HeadFault.TheVariants as head
+use Rattle.qn_playback.specs.declared.settings_head.SettingsHead.{SettingsHead}
+use Rattle.qn_playback.specs.Faults.{end_of}
+use Rattle.qn_playback.specs.Heads.{settings_part}
+use Rattle.qn_playback.specs.Parts.{Given, Gives, Refuses}
+use Rattle.qn_playback.specs.Parts as part
 use Rattle.qn_io.specs.declared.buffered.TheConstants.{PIECE}
 use Rattle.qn_io.specs.Outside.{HasRisen, prepend_known-append, prepend_known-nil}
 use Rattle.qn_model.specs.Inputs.{Anyway, AtEnd, AtFailure}

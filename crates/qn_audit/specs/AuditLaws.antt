@@ -2,13 +2,13 @@
 use Rattle.std.proofs.Common.{◌≡◌, ℕ, Bool, true, false, cond, List, [], ◌∷◌, Option, None, Some, Result, Ok, Err, length, nat_lt, refl, sym, ap, ◌∙◌, subst}
 use Rattle.qn_base.specs.declared.calls.Call.{Call}
 use Rattle.qn_base.specs.Plans.{question}
-use Rattle.qn_head.specs.declared.head_fault.HeadFault.{HeadFault}
-use Rattle.qn_head.specs.declared.head_fault.HeadFault.TheVariants as head
-use Rattle.qn_head.specs.declared.settings_head.SettingsHead.{SettingsHead}
-use Rattle.qn_head.specs.Faults.{end_of}
-use Rattle.qn_head.specs.HeadLaws.{settings_no_memory, settings_read}
-use Rattle.qn_head.specs.Heads.{settings_part}
-use Rattle.qn_head.specs.Parts.{Given}
+use Rattle.qn_playback.specs.declared.head_fault.HeadFault.{HeadFault}
+use Rattle.qn_playback.specs.declared.head_fault.HeadFault.TheVariants as head
+use Rattle.qn_playback.specs.declared.settings_head.SettingsHead.{SettingsHead}
+use Rattle.qn_playback.specs.Faults.{end_of}
+use Rattle.qn_playback.specs.HeadLaws.{settings_no_memory, settings_read}
+use Rattle.qn_playback.specs.Heads.{settings_part}
+use Rattle.qn_playback.specs.Parts.{Given}
 use Rattle.qn_model.specs.declared.line_fault.LineFault.{LineFault}
 use Rattle.qn_model.specs.declared.line_fault.LineFault.TheVariants.{TooLong}
 use Rattle.qn_model.specs.Lines.{Ending, Ended, ReadFailed}

@@ -6,7 +6,7 @@ use Rattle.qn_base.specs.declared.limits.TheConstants.{MOST_LINE_BYTES}
 use Rattle.qn_base.specs.Plans.{Plan, left, question}
 use Rattle.qn_live.specs.Machine.{EndsWith}
 use Rattle.qn_live.specs.Running.{Ran}
-use Rattle.qn_live3.specs.Images.{RunsAs}
+use Rattle.qn_live.specs.Images.{RunsAs}
 use Rattle.qn_model.specs.declared.line_fault.LineFault.{LineFault}
 use Rattle.qn_model.specs.declared.line_fault.LineFault.TheVariants.{TooLong, TooMany, Unended}
 use Rattle.qn_model.specs.Lines.{Ending, Ended, ReadFailed, lines_of}

@@ -3,18 +3,18 @@ use Rattle.std.specs.Prelude.{◌≡◌, ◌≤◌, ℕ, Bool, List, [], ◌++�
 use Rattle.std.specs.Io.KnownBytes.{IsAtEnd, prepend_known}
 use Rattle.qn_base.specs.declared.ids.NodeId.{NodeId}
 use Rattle.qn_base.specs.Plans.{Plan}
-use Rattle.qn_head.specs.declared.head_fault.HeadFault.{HeadFault}
-use Rattle.qn_head.specs.declared.head_fault.HeadFault.TheVariants as head
-use Rattle.qn_head.specs.declared.settings_head.SettingsHead.{SettingsHead}
-use Rattle.qn_head.specs.Faults.{end_of}
-use Rattle.qn_head.specs.Heads.{settings_part}
-use Rattle.qn_head.specs.Parts.{Given}
-use Rattle.qn_head.specs.Parts as part
+use Rattle.qn_playback.specs.declared.head_fault.HeadFault.{HeadFault}
+use Rattle.qn_playback.specs.declared.head_fault.HeadFault.TheVariants as head
+use Rattle.qn_playback.specs.declared.settings_head.SettingsHead.{SettingsHead}
+use Rattle.qn_playback.specs.Faults.{end_of}
+use Rattle.qn_playback.specs.Heads.{settings_part}
+use Rattle.qn_playback.specs.Parts.{Given}
+use Rattle.qn_playback.specs.Parts as part
 use Rattle.qn_io.specs.declared.buffered.TheConstants.{PIECE}
 use Rattle.qn_io.specs.Outside.{HasRisen}
 use Rattle.qn_live.specs.Running.{Ran}
-use Rattle.qn_live3.specs.declared.node_images.NodeImages.{NodeImages}
-use Rattle.qn_live3.specs.Images.{plan_on}
+use Rattle.qn_live.specs.declared.node_images.NodeImages.{NodeImages}
+use Rattle.qn_live.specs.Images.{plan_on}
 use Rattle.qn_model.specs.declared.configuration.Settings.{Settings}
 use Rattle.qn_model.specs.Inputs.{Tells}
 use Rattle.qn_model.specs.Lines.{Ending}

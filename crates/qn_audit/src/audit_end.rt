@@ -1,7 +1,7 @@
 //! How the audit of a recorded node ends.
 use qn_conf::ConfFault;
-use qn_head::HeadFault;
 use qn_model::LineFault;
+use qn_playback::HeadFault;
 use qn_settings::SettingsFault;
 
 /// How an audit ended. Lines are those of the whole input, from 1.

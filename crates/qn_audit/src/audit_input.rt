@@ -6,10 +6,10 @@ use crate::audit_end::AuditEnd;
 use crate::auditor::Auditor;
 use crate::log::audit_log;
 use qn_base::{NodeId, Rank};
-use qn_head::read_settings;
 use qn_io::{Pieces, Source};
-use qn_live3::NodeImages;
+use qn_live::NodeImages;
 use qn_model::{NodeEntry, Nodes};
+use qn_playback::read_settings;
 use std::alloc::Global;
 
 /// Judges an input of a settings text, a line `----` and a log: whether the log is a whole run of so many turns, or the

@@ -4,8 +4,7 @@ ghost use Rattle.std.specs.Prelude.{◌≡◌};
 use crate::answering::is_wanted;
 use crate::logged_call::LoggedCall;
 use qn_base::Rank;
-use qn_live::{LiveEnd, Room};
-use qn_live3::{ImagesRun, NodeImages};
+use qn_live::{ImagesRun, LiveEnd, NodeImages, Room};
 use qn_model::Settings;
 
 /// A run of a node as far as the calls of a log tell of it.
@@ -32,7 +31,7 @@ impl Auditor {
     ghost use Rattle.std.specs.Prelude.{◌≤◌, ◌<◌, length, OnOk, OnErr};
     ghost use Rattle.qn_base.specs.Plans.{Plan, left};
     ghost use Rattle.qn_live.specs.Running.{Ran};
-    ghost use Rattle.qn_live3.specs.Images.{plan_on};
+    ghost use Rattle.qn_live.specs.Images.{plan_on};
     ghost use Rattle.qn_model.specs.Settings.{IsValid};
     ghost use Rattle.qn_audit.specs.Auditing.{IsJudging, StandsFor, VerdictFor};
     ghost use Rattle.qn_audit.specs.Judging.{IsNext};

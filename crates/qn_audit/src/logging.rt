@@ -4,7 +4,7 @@ ghost use Rattle.hex.specs.Hex.{IsBytes};
 ghost use Rattle.qn_base.specs.Plans.{Made};
 ghost use Rattle.qn_io.specs.Receives.{FitsPacket};
 ghost use Rattle.qn_live.specs.Asking.{IsServed, told, Tells};
-ghost use Rattle.qn_live3.specs.Images.{plan_on};
+ghost use Rattle.qn_live.specs.Images.{plan_on};
 ghost use Rattle.qn_model.specs.Log.{Line};
 ghost use Rattle.qn_model.specs.Settings.{IsValid};
 ghost use Rattle.qn_audit.specs.Logs.{IsRecorded};
@@ -13,12 +13,11 @@ ghost use Rattle.qn_audit.specs.Recording.{DidLogged, LogsCall, log_of, recorded
 use crate::recorder::Recorder;
 use qn_base::Rank;
 use qn_io::{Env, Got, SECTOR, Sink};
-use qn_live::{Asked, Given, LiveEnd, Notices, Room};
-use qn_live3::{ImagesRun, NodeImages};
+use qn_live::{Asked, Given, ImagesRun, LiveEnd, NodeImages, Notices, Room};
 use qn_model::Settings;
 
 /// Runs the node of that rank on these images for that many turns at most, over an outside whose calls are recorded, as
-/// `qn_live::run_node` and `qn_live3::run_node3` do. The calls that were made are those of the plan, and they were given to the log in that order.
+/// `qn_live::run_node` and `qn_live::run_node3` do. The calls that were made are those of the plan, and they were given to the log in that order.
 /// `notices` is told of each call, and of the end.
 pub fn run_recorded<E: Env, O: Sink, N: Notices>(
     recorder: &mut Recorder<'_, E, O>,

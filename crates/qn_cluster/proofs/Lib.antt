@@ -1,12 +1,16 @@
 pub mod ClusterSteps
+pub mod Counts
 pub mod HandSteps
 pub mod Holders
+pub mod LeftoverSteps
 pub mod Lists
 pub mod Looks
+pub mod Marks
 pub mod NodeEvents
 pub mod OutputSteps
 pub mod PacketsKept
 pub mod PassSteps
 pub mod RuleSteps
 pub mod SeatSteps
+pub mod SectorSteps
 pub mod Silence

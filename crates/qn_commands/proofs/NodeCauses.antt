@@ -10,12 +10,12 @@ use Rattle.qn_live.specs.declared.live_end.LiveEnd.TheVariants as end
 use Rattle.qn_live.specs.EndLaws.{halted_failed}
 use Rattle.qn_live.specs.Halts.{HaltedBy, one_call}
 use Rattle.qn_live.specs.Laws.{NeverFalls, is_by_clock, is_no_failure}
-use Rattle.qn_live3.specs.Halts.{three_calls}
+use Rattle.qn_live.specs.TripleHalts.{three_calls}
 use Rattle.qn_model.specs.declared.configuration.Settings.{Settings}
 use Rattle.qn_model.specs.declared.outputs.BootCause.{BootCause}
 use Rattle.qn_commands.specs.declared.commands.node.NodeWords.{NodeWords}
-use Rattle.qn_live3.specs.declared.node_images.NodeImages.{NodeImages}
-use Rattle.qn_live3.specs.declared.node_images.NodeImages.TheVariants.{One, Three}
+use Rattle.qn_live.specs.declared.node_images.NodeImages.{NodeImages}
+use Rattle.qn_live.specs.declared.node_images.NodeImages.TheVariants.{One, Three}
 use Rattle.qn_commands.specs.declared.fault.Fault.TheVariants.{BootHalted, EnvFault, UnknownNode}
 use Rattle.qn_commands.specs.Commands.Node.{EndsWithCause, HaltedOn, HaltsBoot, node_plan, node_work, opened_work, opening, rank_with, run_work}
 use Rattle.qn_commands.specs.Endings.{AnswersWhole, Cut, Says, Whole, refused}

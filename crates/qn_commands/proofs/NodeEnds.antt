@@ -11,7 +11,7 @@ use Rattle.qn_live.specs.Laws.{NeverFalls, tick_after}
 use Rattle.qn_model.specs.declared.configuration.Settings.{Settings}
 use Rattle.qn_model.specs.Lines.{Ended}
 use Rattle.qn_commands.specs.declared.commands.node.NodeWords.{NodeWords}
-use Rattle.qn_live3.specs.declared.node_images.NodeImages.{NodeImages}
+use Rattle.qn_live.specs.declared.node_images.NodeImages.{NodeImages}
 use Rattle.qn_commands.specs.declared.fault.Fault.{Fault}
 use Rattle.qn_commands.specs.declared.fault.Fault.TheVariants.{EnvFault, UnknownNode}
 use Rattle.qn_commands.specs.Commands.Node.{EndsUndisturbed, EndsWithCause, node_plan, node_work, opened_work, opening, rank_with, run_end, run_work}

@@ -13,8 +13,8 @@ use Rattle.qn_live.specs.declared.live_end.LiveEnd.TheVariants as ended
 use Rattle.qn_model.specs.Log.{Line}
 use Rattle.qn_model.specs.declared.configuration.Settings.{Settings}
 use Rattle.qn_commands.specs.declared.commands.node.NodeWords.{NodeWords}
-use Rattle.qn_live3.specs.declared.node_images.NodeImages.{NodeImages}
-use Rattle.qn_live3.specs.Images.{plan_on}
+use Rattle.qn_live.specs.declared.node_images.NodeImages.{NodeImages}
+use Rattle.qn_live.specs.Images.{plan_on}
 use Rattle.qn_commands.specs.declared.fault.Fault.{Fault}
 use Rattle.qn_commands.specs.declared.fault.Fault.TheVariants.{EnvFault, UnknownNode}
 use Rattle.qn_commands.specs.declared.status.Status.TheVariants as status

@@ -29,5 +29,5 @@ pub use commands::node_logged::node_logged;
 pub use ending::{refuse, say};
 pub use fault::Fault;
 pub use path::Path;
-pub use qn_live3::NodeImages;
+pub use qn_live::NodeImages;
 pub use status::Status;

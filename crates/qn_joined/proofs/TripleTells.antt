@@ -33,9 +33,9 @@ use Rattle.qn_safety.specs.TripleNumbers.{is_two}
 use Rattle.qn_safety.specs.TripleRules.{is_image}
 use Rattle.qn_safety.specs.TripleWorld.{answer_of, good_after, has_failed, has_landed}
 use Rattle.qn_live.specs.Performing.{disk_answer, disk_call, done}
-use Rattle.qn_live3.specs.Disk.{Told, call_plan, differ, good_after_write, image_plan, images_plan, is_asked, is_failed_read, is_majority, is_strange, part_of, part_plan, parts_plan, read_entry, read_of, read_plan, reading, same_times, sector_of, sector_on, some_differ, strange, write_plan}
-use Rattle.qn_live3.specs.Laws.{IsTold, parts_told, taken_from}
-use Rattle.qn_live3.specs.Runs.{all_good}
+use Rattle.qn_live.specs.TripleDisk.{Told, call_plan, differ, good_after_write, image_plan, images_plan, is_asked, is_failed_read, is_majority, is_strange, part_of, part_plan, parts_plan, read_entry, read_of, read_plan, reading, same_times, sector_of, sector_on, some_differ, strange, write_plan}
+use Rattle.qn_live.specs.TripleLaws.{IsTold, parts_told, taken_from}
+use Rattle.qn_live.specs.TripleRuns.{all_good}
 use Rattle.qn_joined.specs.Joints.{FitsImage}
 use Rattle.qn_joined.specs.TripleWorldOf.{CallsAnswer, IsAnswered, IsEnough, IsHeld, IsHonest, IsLeft, ToldBy, all_told, image_before, none_told, on_image, told_also}
 

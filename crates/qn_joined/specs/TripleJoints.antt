@@ -18,9 +18,9 @@ use Rattle.qn_model.specs.World.{numbered, put, without}
 use Rattle.qn_wire.specs.Packets.{is_well_formed}
 use Rattle.qn_safety.specs.TripleRules.{is_image}
 use Rattle.qn_live.specs.Running.{Ran}
-use Rattle.qn_live3.specs.Disk.{Told, call_plan}
-use Rattle.qn_live3.specs.Machine.{goes_on}
-use Rattle.qn_live3.specs.Runs.{all_good, on_three}
+use Rattle.qn_live.specs.TripleDisk.{Told, call_plan}
+use Rattle.qn_live.specs.TripleMachine.{goes_on}
+use Rattle.qn_live.specs.TripleRuns.{all_good, on_three}
 use Rattle.qn_joined.specs.Joints.{FitsImage, Host, IsNewImage, MayAnswer, began, given_up_by, host_passes, is_deadly_mail, is_disk, is_timed, landed_image, looked_first, never_on, packet_said, returned, sent_by, takes, waits_for}
 use Rattle.qn_joined.specs.Stands.{plan_at}
 

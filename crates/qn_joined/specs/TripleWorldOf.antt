@@ -31,8 +31,8 @@ use Rattle.qn_safety.specs.TripleRules.{is_image, none_pending}
 use Rattle.qn_safety.specs.TripleSteps.{run_triple}
 use Rattle.qn_safety.specs.TripleWorld.{TripleWorld, answer_of, good_after, image_of, is_pending}
 use Rattle.qn_live.specs.Performing.{disk_answer, disk_call, done}
-use Rattle.qn_live3.specs.Disk.{Told, call_plan, part_of, sector_on}
-use Rattle.qn_live3.specs.Runs.{all_good}
+use Rattle.qn_live.specs.TripleDisk.{Told, call_plan, part_of, sector_on}
+use Rattle.qn_live.specs.TripleRuns.{all_good}
 use Rattle.qn_safety.specs.NodeLogs.{IsOperation}
 use Rattle.qn_joined.specs.Joints.{FitsImage, counts, waits_for}
 use Rattle.qn_joined.specs.TripleJoints.{IsTripleJoined, TripleHappening, TripleHost, TripleJoint, call_on_three, triple_joint_after}

@@ -1,12 +1,24 @@
 pub mod Always
 pub mod Answering
+pub mod Answers
+pub mod Calls
+pub mod Checks
 pub mod Coming
+pub mod Halted
 pub mod Handing
 pub mod Histories
 pub mod Ids
 pub mod Joining
-pub mod Operations
+pub mod Operated
+pub mod OperationCalls
+pub mod TripleOutputs
 mod Rows
+pub mod Single
+pub mod Steps
+pub mod Stretches
 pub mod Taking
 pub mod Telling
 pub mod Through
+pub mod Turning
+pub mod Wiped
+pub mod Writes

@@ -3,8 +3,10 @@ pub mod CalmOutputs
 pub mod Choosing
 pub mod EndLaws
 pub mod Greetings
-pub mod Handed
 pub mod Halts
+pub mod Handed
+pub mod ImageCounts
+pub mod Images
 pub mod Laws
 pub mod Machine
 pub mod Performing
@@ -12,3 +14,10 @@ pub mod Places
 pub mod Running
 pub mod Runs
 pub mod Standings
+pub mod TripleDisk
+pub mod TripleHalts
+pub mod TripleLaws
+pub mod TripleMachine
+pub mod TripleOperations
+pub mod TripleOutputs
+pub mod TripleRuns

@@ -1,5 +1,5 @@
 //! The disk operations of a node on one image: the call of each, and what its answer is to the node. How a node on three images does
-//! each of them with the sectors of all three stands in qn_live3.
+//! each of them with the sectors of all three stands in `specs/TripleDisk`.
 ghost use Rattle.std.specs.Prelude.{◌≡◌, ◌≤◌, ◌<◌, false, length, if◌then◌else◌};
 ghost use Rattle.qn_model.specs.Settings.{IsValid};
 ghost use Rattle.qn_model.specs.Unmet.{id_of};

@@ -9,6 +9,13 @@
 //! a boot only by the disk operation that it was made for (`law_boot_halted`). `NodeRun` is the same run as a machine, which
 //! names its next call and takes its answer; an entry is taken in at each look at the clock that did not go back (`answer`), and
 //! `standing` is what the log says. `Notices` are told of each call, and change nothing. No call takes memory from an allocator.
+//!
+//! The same on three images, of which any one may be lost: the calls that `run_node3` makes are those of `triple_plan` of
+//! `specs/TripleRuns`, and its end is the one of that plan, for every outside. The plan is that of a node on one image, in which a call on
+//! the image is made on each of the three, and what they tell together is the entry that the world of three images gives (`qn_safety`'s
+//! `TripleWorld`). A failed call halts a boot only by the disk operation that it was made for (`law_triple_boot_halted`). `TripleRun` is
+//! the same run as a machine, which names its next call and takes its answer: it makes each disk operation of a node by calls on the
+//! images, one after the other, and answers it by what they told.
 #![tactic(auto)]
 
 mod asked;
@@ -16,24 +23,42 @@ mod calling;
 mod choosing;
 mod disk;
 mod greeting;
+mod images_run;
 mod laws;
 mod live_end;
+mod node_images;
 mod notices;
 mod outputs;
+mod part;
 mod place;
 mod run;
 mod running;
 mod standing;
+mod told;
+mod triple_entry;
+mod triple_laws;
+mod triple_operations;
+mod triple_run;
+mod triple_running;
 
 pub use asked::{Asked, Given, Room};
 pub use calling::call;
 pub use disk::{answer, done, id_of};
+pub use images_run::ImagesRun;
 pub use laws::{
     law_boot_halted, law_end_causes, law_handed_history, law_one_end, law_one_history,
     law_operation, law_outputs, law_rest, law_sound_end,
 };
 pub use live_end::LiveEnd;
+pub use node_images::NodeImages;
 pub use notices::{NoNotices, Notices};
 pub use run::NodeRun;
 pub use running::run_node;
 pub use standing::Standing;
+pub use triple_laws::{
+    law_triple_answers, law_triple_boot_halted, law_triple_check, law_triple_end,
+    law_triple_end_causes, law_triple_handed_history, law_triple_history, law_triple_outputs,
+    law_triple_writes,
+};
+pub use triple_run::TripleRun;
+pub use triple_running::run_node3;

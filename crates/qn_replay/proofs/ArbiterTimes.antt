@@ -2,8 +2,8 @@
 use Rattle.std.proofs.Common.{◌≡◌, ◌∙◌, ◌+◌, ◌≤◌, Bool, true, Option, None, Some, ap, arith, nat_le}
 use Rattle.std.specs.Option.{option_map, option_map_or}
 use Rattle.std.proofs.lemmas.Bool.{and_parts}
-use Rattle.qn_arbiter_world.specs.Standing.{ArbiterFor}
-use Rattle.qn_arbiter_world.specs.Whole.{Whole}
+use Rattle.qn_arbiter.specs.Standing.{ArbiterFor}
+use Rattle.qn_arbiter.specs.Whole.{Whole}
 use Rattle.qn_base.specs.declared.ids.Rank.{Rank}
 use Rattle.qn_lease.specs.declared.events.ArbiterEvent.{ArbiterEvent}
 use Rattle.qn_lease.specs.declared.events.ArbiterEvent.TheVariants as beside
@@ -19,7 +19,7 @@ use Rattle.qn_model.specs.Moments.{tick_of, time}
 use Rattle.qn_model.specs.Rules.{is_well_formed}
 use Rattle.qn_model.specs.Steps.{step}
 use Rattle.qn_model.specs.World.{World, node_at}
-use Rattle.qn_play.specs.Times.{time-step}
+use Rattle.qn_playback.specs.Times.{time-step}
 
 -- no time passes at what a node takes from a reply
 device_step : (s : Settings) (t : Timing) (rank : Rank) (answer : Option Bool) (w : World) → time (step s t (device_event rank answer) w).moments ≤ time w.moments + 1000000000

@@ -2,17 +2,17 @@
 use Rattle.std.proofs.Common.{◌≡◌, ◌+◌, ℕ, true, List, [], ◌∷◌, ◌++◌, Option, None, Some, Result, Ok, Err, IfOk, length, refl, sym, ap, ◌∙◌, subst}
 use Rattle.std.specs.Prelude.{IsTrue}
 use Rattle.std.specs.Option.{option_map_or}
-use Rattle.qn_arbiter_sched.specs.EventLines.{arbiter_line}
-use Rattle.qn_arbiter_sched.specs.EventReading.{arbiter_event_of}
-use Rattle.qn_arbiter_sched.specs.TraceLines.{arbiter_trace_line}
+use Rattle.qn_arbiter.specs.EventLines.{arbiter_line}
+use Rattle.qn_arbiter.specs.EventReading.{arbiter_event_of}
+use Rattle.qn_arbiter.specs.TraceLines.{arbiter_trace_line}
 use Rattle.qn_base.specs.declared.ids.Rank.{Rank}
 use Rattle.qn_base.specs.Members.{is_member}
-use Rattle.qn_head.specs.declared.head.Head.{Head}
-use Rattle.qn_head.specs.Heads.{head_part, line_lines}
-use Rattle.qn_head.specs.HeadLaws as heads
-use Rattle.qn_head.specs.HeadLaws.{TreesAreValid, head_good}
-use Rattle.qn_head.specs.Parts.{Given, then_given}
-use Rattle.qn_head.specs.Replays.{after_head}
+use Rattle.qn_playback.specs.declared.head.Head.{Head}
+use Rattle.qn_playback.specs.Heads.{head_part, line_lines}
+use Rattle.qn_playback.specs.HeadLaws as heads
+use Rattle.qn_playback.specs.HeadLaws.{TreesAreValid, head_good}
+use Rattle.qn_playback.specs.Parts.{Given, then_given}
+use Rattle.qn_playback.specs.Replays.{after_head}
 use Rattle.qn_lease.specs.declared.events.ArbiterEvent.{ArbiterEvent}
 use Rattle.qn_lease.specs.declared.lease.Lease.{Lease}
 use Rattle.qn_lease.specs.ArbiterRules.{is_well_formed_beside, refusal_beside}
@@ -29,8 +29,8 @@ use Rattle.qn_model.specs.Settings.{IsValid, ids}
 use Rattle.qn_model.specs.Steps.{holders, report}
 use Rattle.qn_model.specs.Timing.{is_safe}
 use Rattle.qn_model.specs.World.{World}
-use Rattle.qn_play.specs.Played.{go_on}
-use Rattle.qn_play.specs.WorldTraces.{AllAllowedIn, lines_after, trace_is_run, world_after}
+use Rattle.qn_playback.specs.Played.{go_on}
+use Rattle.qn_playback.specs.WorldTraces.{AllAllowedIn, lines_after, trace_is_run, world_after}
 use Rattle.qn_sched.specs.declared.replay_end.ReplayEnd.{ReplayEnd}
 use Rattle.qn_replay.specs.declared.arbiter_head.ArbiterHead.{ArbiterHead}
 use Rattle.qn_replay.specs.BesideHeads.{arbiter_head_part, lease_given, lease_in, lease_lines, with_lease}

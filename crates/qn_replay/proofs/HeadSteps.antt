@@ -1,10 +1,10 @@
 -- The lease line after the head of a schedule.
 use Rattle.std.proofs.Common.{◌≡◌, ◌≤◌, ◌+◌, ℕ, Bool, true, false, cond, List, Option, Result, Ok, Err, IfOk, refl, sym, ap, ◌∙◌, subst}
-use Rattle.qn_arbiter_sched.specs.LeaseLine.{lease_of}
-use Rattle.qn_head.specs.declared.head.Head.{Head}
-use Rattle.qn_head.specs.Heads.{head_part, line_part}
-use Rattle.qn_head.specs.Parts.{Gives, Leads, Part, Refuses, whole}
-use Rattle.qn_head.specs.PartLaws.{leads_judged, leads_then, leads_to_next, refuses_first, refuses_judged, refuses_then}
+use Rattle.qn_arbiter.specs.LeaseLine.{lease_of}
+use Rattle.qn_playback.specs.declared.head.Head.{Head}
+use Rattle.qn_playback.specs.Heads.{head_part, line_part}
+use Rattle.qn_playback.specs.Parts.{Gives, Leads, Part, Refuses, whole}
+use Rattle.qn_playback.specs.PartLaws.{leads_judged, leads_then, leads_to_next, refuses_first, refuses_judged, refuses_then}
 use Rattle.qn_lease.specs.declared.lease.Lease.{Lease}
 use Rattle.qn_lease.specs.Lease.{is_safe_lease}
 use Rattle.qn_model.specs.declared.configuration.Settings.{Settings}

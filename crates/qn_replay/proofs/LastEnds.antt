@@ -7,25 +7,25 @@ use Rattle.qn_model.specs.Inputs.{Tells, Anyway, AtEnd, AtFailure, tells_more}
 use Rattle.qn_model.specs.declared.events.Event.{Event}
 use Rattle.qn_model.specs.declared.reports.Report.{Report}
 use Rattle.qn_model.specs.Lines.{Ending, Ended, ReadFailed}
-use Rattle.qn_head.specs.declared.head.Head.{Head}
-use Rattle.qn_head.specs.Faults.{IsHeadEnd}
-use Rattle.qn_head.specs.HeadLaws.{head_fits, head_open}
-use Rattle.qn_head.specs.ReplayLaws.{answer_fits, nothing_decides}
-use Rattle.qn_head.specs.Replays.{WantsMemory, answer_of}
+use Rattle.qn_playback.specs.declared.head.Head.{Head}
+use Rattle.qn_playback.specs.Faults.{IsHeadEnd}
+use Rattle.qn_playback.specs.HeadLaws.{head_fits, head_open}
+use Rattle.qn_playback.specs.ReplayLaws.{answer_fits, nothing_decides}
+use Rattle.qn_playback.specs.Replays.{WantsMemory, answer_of}
 use Rattle.qn_model.specs.World.{World}
-use Rattle.qn_play.specs.Lines.{Taken}
-use Rattle.qn_play.specs.Endings.{EndFits}
-use Rattle.qn_play.specs.Reading.{Anywhere, EndsWith, IsNeeded, IsOpen, LastDecides, Rest, StillOpen, Stops, Told}
-use Rattle.qn_play.specs.Reading as reading
-use Rattle.qn_play.specs.RunLaws.{tells_all}
-use Rattle.qn_play.specs.Runs as runs
+use Rattle.qn_playback.specs.Lines.{Taken}
+use Rattle.qn_playback.specs.Endings.{EndFits}
+use Rattle.qn_playback.specs.Reading.{Anywhere, EndsWith, IsNeeded, IsOpen, LastDecides, Rest, StillOpen, Stops, Told}
+use Rattle.qn_playback.specs.Reading as reading
+use Rattle.qn_playback.specs.RunLaws.{tells_all}
+use Rattle.qn_playback.specs.Runs as runs
 use Rattle.qn_sched.specs.declared.replay_end.ReplayEnd.{ReplayEnd}
 use Rattle.qn_sched.specs.declared.replay_end.ReplayEnd.TheVariants.{Done, BadConf, BadSettings, BadSchedule, NotAllowed, ReadFault, WriteFault, UnsafeTiming, UnsafeLease, NoMemory}
 use Rattle.qn_world.specs.Standing.{WorldFor}
 use Rattle.qn_world.specs.Whole.{Whole}
-use Rattle.qn_play.specs.EndLaws.{fits, run_leased, run_unwritten, tells_leased, tells_unwritten}
-use Rattle.qn_play.specs.Runs.{Unwritten, Wanted, WroteAll}
-use Rattle.qn_play.specs.Worlds.{Progress, progress_at}
+use Rattle.qn_playback.specs.EndLaws.{fits, run_leased, run_unwritten, tells_leased, tells_unwritten}
+use Rattle.qn_playback.specs.Runs.{Unwritten, Wanted, WroteAll}
+use Rattle.qn_playback.specs.Worlds.{Progress, progress_at}
 use Rattle.qn_replay.specs.declared.playback.Playback.{Playback as AnyPlayback}
 use Rattle.qn_replay.specs.Endings.{replay_fits}
 use Rattle.qn_replay.specs.EventWorlds.{untraced}

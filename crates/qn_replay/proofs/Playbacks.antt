@@ -1,17 +1,17 @@
 -- A playback, the lines that it takes, and where it stands.
 use Rattle.std.specs.Io.KnownBytes.{prepend_known}
 use Rattle.std.proofs.Common.{◌≡◌, ◌+◌, ◌++◌, ◌<◌, ◌≤◌, ℕ, Bool, true, false, List, [], ◌∷◌, None, Option, Some, Result, Ok, refl, sym, ap, ◌∙◌, subst, arith}
-use Rattle.qn_head.specs.Parts.{Gives}
-use Rattle.qn_head.specs.ReplayLaws as replays
-use Rattle.qn_head.specs.Replays.{ReplayKind, WantsMemory, answer_of, place_after, start_after}
+use Rattle.qn_playback.specs.Parts.{Gives}
+use Rattle.qn_playback.specs.ReplayLaws as replays
+use Rattle.qn_playback.specs.Replays.{ReplayKind, WantsMemory, answer_of, place_after, start_after}
 use Rattle.qn_model.specs.declared.configuration.Settings.{Settings}
 use Rattle.qn_model.specs.declared.times.Timing.{Timing}
 use Rattle.qn_model.specs.Settings.{ids}
-use Rattle.qn_play.specs.Judging.{RefusesAt}
-use Rattle.qn_play.specs.Lines.{Taken, rest_of}
-use Rattle.qn_play.specs.Runs.{Runs, WantsAtLine}
-use Rattle.qn_play.specs.WorldLaws as laws
-use Rattle.qn_play.specs.Worlds.{AtFault, IsAfter, IsGoing, NotAllowedHere, OutOfMemory, Place, Progress, RefusesLine, TakesLine, WorldRules, after_lines, allowed_in, at_start, event_play, event_wants, progress_at, with_event}
+use Rattle.qn_playback.specs.Judging.{RefusesAt}
+use Rattle.qn_playback.specs.Lines.{Taken, rest_of}
+use Rattle.qn_playback.specs.Runs.{Runs, WantsAtLine}
+use Rattle.qn_playback.specs.WorldLaws as laws
+use Rattle.qn_playback.specs.Worlds.{AtFault, IsAfter, IsGoing, NotAllowedHere, OutOfMemory, Place, Progress, RefusesLine, TakesLine, WorldRules, after_lines, allowed_in, at_start, event_play, event_wants, progress_at, with_event}
 use Rattle.qn_sched.specs.declared.replay_end.ReplayEnd.{ReplayEnd}
 use Rattle.qn_replay.specs.declared.playback.Playback.{Playback}
 use Rattle.qn_replay.specs.EventWorlds.{EventWorld, after_event, line_if, rule_of, text_of_event, traced_if}

@@ -2,11 +2,11 @@
 use Rattle.std.proofs.Common.{◌≡◌, ◌+◌, ℕ, true, List, [], ◌∷◌, ◌++◌, None, Ok, Err, IfOk, length, refl, ap, ap₂, subst, ◌∙◌}
 use Rattle.std.specs.Prelude.{◌↔◌, IsTrue}
 use Rattle.qn_base.specs.Members.{is_member}
-use Rattle.qn_head.specs.declared.head.Head.{Head}
-use Rattle.qn_head.specs.Heads.{head_part}
-use Rattle.qn_head.specs.HeadLaws.{IsGood, TreesAreValid, head_good}
-use Rattle.qn_head.specs.Parts.{Given}
-use Rattle.qn_head.specs.Replays.{after_head}
+use Rattle.qn_playback.specs.declared.head.Head.{Head}
+use Rattle.qn_playback.specs.Heads.{head_part}
+use Rattle.qn_playback.specs.HeadLaws.{IsGood, TreesAreValid, head_good}
+use Rattle.qn_playback.specs.Parts.{Given}
+use Rattle.qn_playback.specs.Replays.{after_head}
 use Rattle.qn_model.specs.declared.configuration.Settings.{Settings}
 use Rattle.qn_model.specs.declared.events.Event.{Event}
 use Rattle.qn_model.specs.declared.times.Timing.{Timing}
@@ -16,8 +16,8 @@ use Rattle.qn_model.specs.Settings.{IsValid, ids}
 use Rattle.qn_model.specs.Steps.{AllAllowed, report, run, step}
 use Rattle.qn_model.specs.Timing.{is_safe}
 use Rattle.qn_model.specs.World.{World}
-use Rattle.qn_play.specs.Played.{go_on}
-use Rattle.qn_play.specs.WorldTraces.{AllAllowedIn, lines_after, trace_is_run, world_after}
+use Rattle.qn_playback.specs.Played.{go_on}
+use Rattle.qn_playback.specs.WorldTraces.{AllAllowedIn, lines_after, trace_is_run, world_after}
 use Rattle.qn_safety.specs.Reported.{OneReported}
 use Rattle.qn_sched.specs.EventLines.{event_line}
 use Rattle.qn_sched.specs.EventReading.{event_of}

@@ -8,7 +8,7 @@ use Rattle.qn_model.specs.declared.times.Timing.{Timing}
 use Rattle.qn_model.specs.Moments.{time}
 use Rattle.qn_model.specs.Rules.{is_well_formed}
 use Rattle.qn_model.specs.World.{numbered}
-use Rattle.qn_play.specs.Times.{time-step}
+use Rattle.qn_playback.specs.Times.{time-step}
 use Rattle.qn_safety.specs.declared.triple_event.TripleEvent.{TripleEvent}
 use Rattle.qn_safety.specs.declared.triple_event.TripleEvent.TheVariants as triple
 use Rattle.qn_safety.specs.TripleRules.{is_well_formed_triple}

@@ -1,13 +1,13 @@
 -- A replay of which no trace is kept ends, and stands, as one of which it is.
 use Rattle.std.proofs.Common.{◌≡◌, ◌==◌, ℕ, Bool, true, false, cond, List, [], ◌∷◌, length, None, Some, Result, Ok, Err, refl, sym, ap, ◌∙◌, subst, nat_lt}
 use Rattle.qn_base.specs.declared.limits.TheConstants.{MOST_EVENTS, MOST_LINE_BYTES}
-use Rattle.qn_head.specs.Parts.{Given}
-use Rattle.qn_head.specs.Replays.{ReplayKind, after_head, answer_of, play_after, start_after, stood_after}
+use Rattle.qn_playback.specs.Parts.{Given}
+use Rattle.qn_playback.specs.Replays.{ReplayKind, after_head, answer_of, play_after, start_after, stood_after}
 use Rattle.qn_model.specs.declared.line_fault.LineFault.TheVariants.{TooLong, TooMany}
 use Rattle.qn_model.specs.Lines.{Ending}
-use Rattle.qn_play.specs.Lines.{Play, Taken, bad_line, line_of, played}
-use Rattle.qn_play.specs.Played.{Played, go_on, traced}
-use Rattle.qn_play.specs.Worlds.{Progress, WorldRules, after_line, after_lines, allowed_in, event_play, moved_on, said_event, text_if, text_of, with_event}
+use Rattle.qn_playback.specs.Lines.{Play, Taken, bad_line, line_of, played}
+use Rattle.qn_playback.specs.Played.{Played, go_on, traced}
+use Rattle.qn_playback.specs.Worlds.{Progress, WorldRules, after_line, after_lines, allowed_in, event_play, moved_on, said_event, text_if, text_of, with_event}
 use Rattle.qn_sched.specs.declared.replay_end.ReplayEnd.{ReplayEnd}
 use Rattle.qn_replay.specs.EventWorlds.{traced_if, untraced}
 

@@ -1,7 +1,7 @@
 -- What a call of a world gave, in the words of the worlds that take events.
 use Rattle.std.proofs.Common.{◌≡◌, ◌≤◌, ◌+◌, ℕ, true, Option, Result, Ok, Err, IfOk, IfErr, refl, arith}
 use Rattle.std.specs.Prelude.{OnOk}
-use Rattle.qn_head.specs.declared.head.Head.{Head}
+use Rattle.qn_playback.specs.declared.head.Head.{Head}
 use Rattle.qn_model.specs.declared.configuration.Settings.{Settings}
 use Rattle.qn_model.specs.declared.events.Event.{Event}
 use Rattle.qn_model.specs.declared.line_fault.LineFault.{LineFault}
@@ -14,8 +14,8 @@ use Rattle.qn_model.specs.Settings.{IsValid}
 use Rattle.qn_model.specs.Steps.{step}
 use Rattle.qn_model.specs.Timing.{is_safe}
 use Rattle.qn_model.specs.World.{World, first_world}
-use Rattle.qn_play.specs.Times.{time-step}
-use Rattle.qn_play.specs.WorldLaws as laws
+use Rattle.qn_playback.specs.Times.{time-step}
+use Rattle.qn_playback.specs.WorldLaws as laws
 use Rattle.qn_sched.specs.declared.replay_end.ReplayEnd.{ReplayEnd}
 use Rattle.qn_sched.specs.EventReading.{filled_in}
 use Rattle.qn_world.specs.Standing.{WorldFor}

@@ -1,17 +1,17 @@
 -- How the end of a replay beside an arbiter and the way in which its input ended belong together.
 use Rattle.std.specs.Prelude.{◌≡◌, ℕ, ◌+◌, Bool, true, false, cond, List, [], Result, Ok, Err, IfErr}
 use Rattle.std.proofs.Common.{ap}
-use Rattle.qn_arbiter_sched.specs.LeaseLine.{lease_of}
-use Rattle.qn_head.specs.declared.head.Head.{Head}
-use Rattle.qn_head.specs.Heads.{head_part, line_lines}
-use Rattle.qn_head.specs.HeadLaws.{head_fits, head_open, line_fits}
-use Rattle.qn_head.specs.Parts.{Given, then_given}
-use Rattle.qn_head.specs.ReplayLaws.{answer_fits}
+use Rattle.qn_arbiter.specs.LeaseLine.{lease_of}
+use Rattle.qn_playback.specs.declared.head.Head.{Head}
+use Rattle.qn_playback.specs.Heads.{head_part, line_lines}
+use Rattle.qn_playback.specs.HeadLaws.{head_fits, head_open, line_fits}
+use Rattle.qn_playback.specs.Parts.{Given, then_given}
+use Rattle.qn_playback.specs.ReplayLaws.{answer_fits}
 use Rattle.qn_lease.specs.declared.lease.Lease.{Lease}
 use Rattle.qn_lease.specs.Lease.{is_safe_lease}
 use Rattle.qn_model.specs.declared.line_fault.LineFault.{LineFault}
 use Rattle.qn_model.specs.Lines.{Ending, ReadFailed}
-use Rattle.qn_play.specs.Endings.{EndFits, FitsWith, fits_beside}
+use Rattle.qn_playback.specs.Endings.{EndFits, FitsWith, fits_beside}
 use Rattle.qn_sched.specs.declared.replay_end.ReplayEnd.{ReplayEnd}
 use Rattle.qn_sched.specs.declared.replay_end.ReplayEnd.TheVariants.{ReadFault}
 use Rattle.qn_replay.specs.BesideHeads.{arbiter_head_part, lease_given, lease_lines, safe_or_not, unsafe_end, with_lease}

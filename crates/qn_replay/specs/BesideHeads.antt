@@ -2,9 +2,9 @@
 -- profile.
 use Rattle.std.specs.Prelude.{◌≡◌, ◌≤◌, ℕ, ◌+◌, true, List, Result, Ok, Err, if◌then◌else◌}
 use Rattle.std.specs.Option.{option_map_or}
-use Rattle.qn_head.specs.declared.head.Head.{Head}
-use Rattle.qn_head.specs.Heads.{head_part, line_lines}
-use Rattle.qn_head.specs.Parts.{Given, Part, then_given}
+use Rattle.qn_playback.specs.declared.head.Head.{Head}
+use Rattle.qn_playback.specs.Heads.{head_part, line_lines}
+use Rattle.qn_playback.specs.Parts.{Given, Part, then_given}
 use Rattle.qn_lease.specs.declared.lease.Lease.{Lease}
 use Rattle.qn_lease.specs.Lease.{is_safe_lease}
 use Rattle.qn_model.specs.declared.configuration.Settings.{Settings}
@@ -14,7 +14,7 @@ use Rattle.qn_model.specs.Settings.{IsValid}
 use Rattle.qn_model.specs.Timing.{is_safe}
 use Rattle.qn_sched.specs.declared.replay_end.ReplayEnd.{ReplayEnd}
 use Rattle.qn_sched.specs.declared.replay_end.ReplayEnd.TheVariants.{BadSchedule, UnsafeLease}
-use Rattle.qn_arbiter_sched.specs.LeaseLine.{lease_of}
+use Rattle.qn_arbiter.specs.LeaseLine.{lease_of}
 use Rattle.qn_replay.specs.declared.arbiter_head.ArbiterHead.{ArbiterHead}
 
 -- the end at two times that are not safe: with the timeout of the device, or 0 without one

@@ -1,12 +1,12 @@
 -- What a replay beside an arbiter answers for its whole input: this project's profile.
 use Rattle.std.specs.Prelude.{ℕ, List, Option}
-use Rattle.qn_arbiter_sched.specs.EventReading.{arbiter_event_of}
-use Rattle.qn_arbiter_sched.specs.TraceLines.{arbiter_trace_line}
-use Rattle.qn_arbiter_world.specs.Memory.{needs_memory}
-use Rattle.qn_arbiter_world.specs.Standing.{ArbiterFor}
-use Rattle.qn_arbiter_world.specs.Whole.{Whole}
-use Rattle.qn_head.specs.Replays as kinds
-use Rattle.qn_head.specs.Replays.{ReplayKind, answer_of}
+use Rattle.qn_arbiter.specs.EventReading.{arbiter_event_of}
+use Rattle.qn_arbiter.specs.TraceLines.{arbiter_trace_line}
+use Rattle.qn_arbiter.specs.Memory.{needs_memory}
+use Rattle.qn_arbiter.specs.Standing.{ArbiterFor}
+use Rattle.qn_arbiter.specs.Whole.{Whole}
+use Rattle.qn_playback.specs.Replays as kinds
+use Rattle.qn_playback.specs.Replays.{ReplayKind, answer_of}
 use Rattle.qn_lease.specs.declared.events.ArbiterEvent.{ArbiterEvent}
 use Rattle.qn_lease.specs.declared.lease.Lease.{Lease}
 use Rattle.qn_lease.specs.declared.reports.ArbiterReport.{ArbiterReport}
@@ -15,8 +15,8 @@ use Rattle.qn_lease.specs.ArbiterSteps.{report_beside, step_beside}
 use Rattle.qn_lease.specs.ArbiterWorld.{ArbiterWorld, first_arbiter_world}
 use Rattle.qn_model.specs.Lines.{Ending}
 use Rattle.qn_model.specs.Settings.{ids}
-use Rattle.qn_play.specs.Played.{Played}
-use Rattle.qn_play.specs.Worlds.{Progress, WorldRules}
+use Rattle.qn_playback.specs.Played.{Played}
+use Rattle.qn_playback.specs.Worlds.{Progress, WorldRules}
 use Rattle.qn_replay.specs.declared.arbiter_head.ArbiterHead.{ArbiterHead}
 use Rattle.qn_replay.specs.BesideHeads.{arbiter_head_part}
 use Rattle.qn_replay.specs.EventWorlds.{EventWorld}

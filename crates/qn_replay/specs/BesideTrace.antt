@@ -1,6 +1,6 @@
 -- A trace beside an arbiter tells of a run of the world, and each of its lines names one holder at most.
 use Rattle.std.specs.Prelude.{◌≡◌, ℕ, ◌+◌, true, List, [], ◌∷◌, ◌++◌, length}
-use Rattle.qn_arbiter_sched.specs.TraceLines.{arbiter_trace_line}
+use Rattle.qn_arbiter.specs.TraceLines.{arbiter_trace_line}
 use Rattle.qn_base.specs.Members.{is_member}
 use Rattle.qn_lease.specs.declared.events.ArbiterEvent.{ArbiterEvent}
 use Rattle.qn_lease.specs.declared.lease.Lease.{Lease}

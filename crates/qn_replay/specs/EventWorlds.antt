@@ -3,8 +3,8 @@ use Rattle.std.specs.Prelude.{ℕ, Bool, true, false, List, [], Option, Result, 
 use Rattle.qn_model.specs.declared.configuration.Settings.{Settings}
 use Rattle.qn_model.specs.declared.line_fault.LineFault.{LineFault}
 use Rattle.qn_model.specs.declared.times.Timing.{Timing}
-use Rattle.qn_head.specs.Replays.{ReplayKind}
-use Rattle.qn_play.specs.Worlds.{WorldRules}
+use Rattle.qn_playback.specs.Replays.{ReplayKind}
+use Rattle.qn_playback.specs.Worlds.{WorldRules}
 
 -- What a world of the code keeps: its settings and times, how many steps it has left, and its time; the worlds of the definitions that it
 -- stands for, and their rules; the events that are well formed; and the trace line of the event of a number, by what was reported of it.

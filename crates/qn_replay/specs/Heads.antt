@@ -1,6 +1,6 @@
 -- What is known of the head of a schedule that was read.
 use Rattle.std.specs.Prelude.{◌≡◌, ◌≤◌, true}
-use Rattle.qn_head.specs.declared.head.Head.{Head}
+use Rattle.qn_playback.specs.declared.head.Head.{Head}
 use Rattle.qn_model.specs.Settings.{IsValid}
 use Rattle.qn_model.specs.Timing.{is_safe}
 

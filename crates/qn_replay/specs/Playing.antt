@@ -1,7 +1,7 @@
 -- A replay after its head, line after line, whatever world takes the events: this project's profile.
 use Rattle.std.specs.Prelude.{◌≡◌, ℕ, List, Result, Ok, Err}
-use Rattle.qn_play.specs.Lines.{Play, Taken, Wants}
-use Rattle.qn_play.specs.Worlds.{IsAfter, Place, Progress, RefusesLine, TakesLine, WorldRules, event_play, event_wants, start_of}
+use Rattle.qn_playback.specs.Lines.{Play, Taken, Wants}
+use Rattle.qn_playback.specs.Worlds.{IsAfter, Place, Progress, RefusesLine, TakesLine, WorldRules, event_play, event_wants, start_of}
 use Rattle.qn_sched.specs.declared.replay_end.ReplayEnd.{ReplayEnd}
 use Rattle.qn_sched.specs.declared.replay_end.ReplayEnd.TheVariants.{Done}
 use Rattle.qn_replay.specs.declared.playback.Playback.{Playback}

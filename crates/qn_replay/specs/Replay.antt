@@ -1,8 +1,8 @@
 -- What a replay answers for its whole input: this project's profile.
 use Rattle.std.specs.Prelude.{ℕ, List, None, Option}
-use Rattle.qn_head.specs.declared.head.Head.{Head}
-use Rattle.qn_head.specs.Heads.{head_part}
-use Rattle.qn_head.specs.Replays.{ReplayKind, answer_of}
+use Rattle.qn_playback.specs.declared.head.Head.{Head}
+use Rattle.qn_playback.specs.Heads.{head_part}
+use Rattle.qn_playback.specs.Replays.{ReplayKind, answer_of}
 use Rattle.qn_model.specs.declared.events.Event.{Event}
 use Rattle.qn_model.specs.declared.reports.Report.{Report}
 use Rattle.qn_model.specs.Lines.{Ending}
@@ -10,8 +10,8 @@ use Rattle.qn_model.specs.Rules.{is_well_formed, refusal}
 use Rattle.qn_model.specs.Settings.{ids}
 use Rattle.qn_model.specs.Steps.{report, step}
 use Rattle.qn_model.specs.World.{World, first_world}
-use Rattle.qn_play.specs.Played.{Played, ended}
-use Rattle.qn_play.specs.Worlds.{Progress, WorldRules}
+use Rattle.qn_playback.specs.Played.{Played, ended}
+use Rattle.qn_playback.specs.Worlds.{Progress, WorldRules}
 use Rattle.qn_sched.specs.declared.replay_end.ReplayEnd.{ReplayEnd}
 use Rattle.qn_sched.specs.EventReading.{event_of}
 use Rattle.qn_sched.specs.TraceLines.{trace_line}

@@ -3,12 +3,12 @@ use Rattle.std.specs.Prelude.{◌≡◌, ◌≤◌, ◌⊎◌, ℕ, length, List
 use Rattle.qn_world.specs.Standing.{WorldFor}
 use Rattle.qn_world.specs.Whole.{Whole}
 use Rattle.std.specs.Io.KnownBytes.{IsAtEnd, prepend_known}
-use Rattle.qn_head.specs.Replays as kinds
+use Rattle.qn_playback.specs.Replays as kinds
 use Rattle.qn_io.specs.declared.buffered.TheConstants.{PIECE}
 use Rattle.qn_model.specs.Inputs.{Tells}
 use Rattle.qn_model.specs.World.{World}
-use Rattle.qn_play.specs.Reading.{IsNeeded}
-use Rattle.qn_play.specs.Worlds.{Progress}
+use Rattle.qn_playback.specs.Reading.{IsNeeded}
+use Rattle.qn_playback.specs.Worlds.{Progress}
 use Rattle.qn_sched.specs.declared.replay_end.ReplayEnd.{ReplayEnd}
 use Rattle.qn_sched.specs.declared.replay_end.ReplayEnd.TheVariants.{Done, BadConf, BadSettings, BadSchedule, NotAllowed, ReadFault, WriteFault, UnsafeTiming, UnsafeLease, NoMemory}
 use Rattle.qn_replay.specs.Replay.{Replayed, image_replay, replay_of}

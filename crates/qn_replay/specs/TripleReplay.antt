@@ -1,14 +1,14 @@
 -- What a replay of three images answers for its whole input: this project's profile.
 use Rattle.std.specs.Prelude.{ℕ, List, Option}
-use Rattle.qn_head.specs.declared.head.Head.{Head}
-use Rattle.qn_head.specs.Heads.{head_part}
-use Rattle.qn_head.specs.Replays as kinds
-use Rattle.qn_head.specs.Replays.{ReplayKind, answer_of}
+use Rattle.qn_playback.specs.declared.head.Head.{Head}
+use Rattle.qn_playback.specs.Heads.{head_part}
+use Rattle.qn_playback.specs.Replays as kinds
+use Rattle.qn_playback.specs.Replays.{ReplayKind, answer_of}
 use Rattle.qn_model.specs.declared.reports.Report.{Report}
 use Rattle.qn_model.specs.Lines.{Ending}
 use Rattle.qn_model.specs.Settings.{ids}
-use Rattle.qn_play.specs.Played.{Played}
-use Rattle.qn_play.specs.Worlds.{Progress, WorldRules}
+use Rattle.qn_playback.specs.Played.{Played}
+use Rattle.qn_playback.specs.Worlds.{Progress, WorldRules}
 use Rattle.qn_safety.specs.declared.triple_event.TripleEvent.{TripleEvent}
 use Rattle.qn_safety.specs.TripleRules.{is_well_formed_triple, refusal_triple}
 use Rattle.qn_safety.specs.TripleSteps.{report_triple, step_triple}

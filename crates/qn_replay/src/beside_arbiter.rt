@@ -2,8 +2,7 @@
 use crate::arbiter_head::{ArbiterHead, read_arbiter_head};
 use crate::takes_events::TakesEvents;
 use arrayvec::ArrayVec;
-use qn_arbiter_sched::{read_arbiter_line, write_arbiter_trace};
-use qn_arbiter_world::{ArbiterWorld, blank_report};
+use qn_arbiter::{ArbiterWorld, blank_report, read_arbiter_line, write_arbiter_trace};
 use qn_base::{MOST_LINE_BYTES, NoMemory};
 use qn_io::{Pieces, Source};
 use qn_lease::{ArbiterEvent, ArbiterReport};

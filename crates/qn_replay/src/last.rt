@@ -7,9 +7,8 @@ ghost use Rattle.qn_replay.specs.Runs.{GivesWorld, IsFault, Reaches};
 
 use crate::playback::Playback;
 use crate::takes_events::TakesEvents;
-use qn_head::read_head;
 use qn_io::{Pieces, Source};
-use qn_play::{NullSink, Output, play};
+use qn_playback::{NullSink, Output, play, read_head};
 use qn_sched::ReplayEnd;
 use qn_world::World;
 use std::alloc::Global;

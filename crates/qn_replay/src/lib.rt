@@ -1,5 +1,5 @@
-//! The replay of a schedule over any source, of one image, of three, and beside an arbiter: a head is read by qn_head, and
-//! the lines after it are played by qn_play. One playback and one run serve the three worlds (`TakesEvents`).
+//! The replay of a schedule over any source, of one image, of three, and beside an arbiter: a head is read, and
+//! the lines after it are played by qn_playback. One playback and one run serve the three worlds (`TakesEvents`).
 //!
 //! Promises, on `replay`, `replay3` and `replay_arbiter`: the trace and the end are exactly the defined ones of the bytes
 //! that were read, and nothing is read after the piece in which the first fault stood; an unsafe lease is refused right

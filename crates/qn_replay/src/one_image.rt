@@ -2,15 +2,15 @@
 use crate::takes_events::TakesEvents;
 use arrayvec::ArrayVec;
 use qn_base::{MOST_LINE_BYTES, NoMemory, Rank};
-use qn_head::{Head, read_head};
 use qn_io::{Pieces, Source};
 use qn_model::{Event, LineFault, Refused, Report};
+use qn_playback::{Head, read_head};
 use qn_sched::{ReplayEnd, read_line_into, write_trace};
 use qn_world::{World, blank_report};
 use std::alloc::Global;
 
 impl TakesEvents for World {
-    ghost use Rattle.qn_head.specs.HeadLaws.{head_fits, head_open};
+    ghost use Rattle.qn_playback.specs.HeadLaws.{head_fits, head_open};
     ghost use Rattle.qn_model.specs.World.{World as Defined};
     ghost use Rattle.qn_replay.specs.Heads.{IsGoodHead};
     ghost use Rattle.qn_replay.specs.Replay.{image_replay, image_world};

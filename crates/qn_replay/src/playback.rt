@@ -1,9 +1,9 @@
-//! A replay after its head, as a world that qn_play plays, whatever world takes the events.
+//! A replay after its head, as a world that qn_playback plays, whatever world takes the events.
 use crate::takes_events::TakesEvents;
 use arrayvec::ArrayVec;
 use qn_base::MOST_LINE_BYTES;
 use qn_model::{LineFault, Refused};
-use qn_play::Plays;
+use qn_playback::Plays;
 use qn_sched::ReplayEnd;
 
 /// A replay after its head: the world after the events so far, the last of them and what it came to, how many lines
@@ -21,7 +21,7 @@ pub(crate) struct Playback<W: TakesEvents> {
 impl<W: TakesEvents> Playback<W> {
     ghost use Rattle.std.specs.Prelude.{◌≡◌, ◌<◌, ◌≤◌, ◌+◌, ◌++◌, ◌^◌, [], ◌∷◌, OnOk, OnErr, IfErr, length};
     ghost use Rattle.qn_base.specs.declared.limits.TheConstants.{MOST_EVENTS};
-    ghost use Rattle.qn_play.specs.Worlds.{IsGoing, refused_end};
+    ghost use Rattle.qn_playback.specs.Worlds.{IsGoing, refused_end};
     ghost use Rattle.qn_replay.specs.EventWorlds.{traced_if};
     ghost use Rattle.qn_replay.specs.Playing.{HasPlayed, Refuses, Takes, last_line, last_of, place_at};
 

@@ -1,15 +1,15 @@
 //! The public calls of the replays.
 ghost use Rattle.std.specs.Prelude.{◌≡◌, ◌≢◌, ◌≤◌, ℕ, IfSome};
-ghost use Rattle.qn_head.specs.Replays.{Completes, Replays, RunsOut};
+ghost use Rattle.qn_playback.specs.Replays.{Completes, Replays, RunsOut};
 ghost use Rattle.qn_io.specs.Outside.{HasRisen};
 ghost use Rattle.qn_model.specs.Lines.{Ended};
-ghost use Rattle.qn_play.specs.Runs.{AnswersWhole, IfDone};
+ghost use Rattle.qn_playback.specs.Runs.{AnswersWhole, IfDone};
 ghost use Rattle.qn_replay.specs.BesideReplay.{beside_replay, replay_arbiter_of};
 ghost use Rattle.qn_replay.specs.Replay.{image_replay, replay_of};
 ghost use Rattle.qn_replay.specs.TripleReplay.{replay3_of, triple_replay};
 
 use crate::run::replay_by;
-use qn_arbiter_world::ArbiterWorld;
+use qn_arbiter::ArbiterWorld;
 use qn_io::{Sink, Source};
 use qn_sched::ReplayEnd;
 use qn_triple::TripleWorld;

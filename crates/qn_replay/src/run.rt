@@ -1,14 +1,14 @@
 //! The run of a replay, whatever world takes its events: the head, the events and the end.
 ghost use Rattle.std.specs.Prelude.{◌≡◌, ◌≢◌, ◌≤◌, ℕ, IfSome};
-ghost use Rattle.qn_head.specs.Replays.{Completes, Replays, RunsOut, answer_of};
+ghost use Rattle.qn_playback.specs.Replays.{Completes, Replays, RunsOut, answer_of};
 ghost use Rattle.qn_io.specs.Outside.{HasRisen};
 ghost use Rattle.qn_model.specs.Lines.{Ended};
-ghost use Rattle.qn_play.specs.Runs.{AnswersWhole, IfDone};
+ghost use Rattle.qn_playback.specs.Runs.{AnswersWhole, IfDone};
 
 use crate::playback::Playback;
 use crate::takes_events::TakesEvents;
 use qn_io::{Pieces, Sink, Source};
-use qn_play::{Output, play};
+use qn_playback::{Output, play};
 use qn_sched::ReplayEnd;
 use std::alloc::Global;
 

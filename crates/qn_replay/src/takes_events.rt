@@ -17,12 +17,12 @@ use std::alloc::Global;
 pub(crate) trait TakesEvents: Drop {
     ghost use Rattle.std.specs.Prelude.{◌≡◌, ◌<◌, ◌≤◌, ◌+◌, ℕ, List, [], true, None, Err, IfErr, IfOk, OnErr, OnOk, length};
     ghost use Rattle.qn_base.specs.declared.limits.TheConstants.{LATEST_TIME};
-    ghost use Rattle.qn_head.specs.Parts.{Gives, Refuses};
-    ghost use Rattle.qn_head.specs.Replays.{ReplayKind};
+    ghost use Rattle.qn_playback.specs.Parts.{Gives, Refuses};
+    ghost use Rattle.qn_playback.specs.Replays.{ReplayKind};
     ghost use Rattle.qn_model.specs.Lines.{Ending, ReadFailed};
     ghost use Rattle.qn_model.specs.Settings.{ids};
-    ghost use Rattle.qn_play.specs.Endings.{FitsWith};
-    ghost use Rattle.qn_play.specs.WorldLaws.{RefusedBy};
+    ghost use Rattle.qn_playback.specs.Endings.{FitsWith};
+    ghost use Rattle.qn_playback.specs.WorldLaws.{RefusedBy};
     ghost use Rattle.qn_replay.specs.EventWorlds.{EventWorld, after_event, read_as, rule_of, text_of_event, wants_memory};
     ghost use Rattle.qn_sched.specs.declared.replay_end.ReplayEnd.TheVariants.{ReadFault};
 

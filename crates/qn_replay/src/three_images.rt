@@ -2,16 +2,16 @@
 use crate::takes_events::TakesEvents;
 use arrayvec::ArrayVec;
 use qn_base::{MOST_LINE_BYTES, NoMemory, Rank};
-use qn_head::{Head, read_head};
 use qn_io::{Pieces, Source};
 use qn_model::{Event, LineFault, Refused, Report};
+use qn_playback::{Head, read_head};
 use qn_safety::TripleEvent;
 use qn_sched::{ReplayEnd, write_trace};
 use qn_triple::{TripleWorld, blank_report, law_triple_lines, read_triple_line};
 use std::alloc::Global;
 
 impl TakesEvents for TripleWorld {
-    ghost use Rattle.qn_head.specs.HeadLaws.{head_fits, head_open};
+    ghost use Rattle.qn_playback.specs.HeadLaws.{head_fits, head_open};
     ghost use Rattle.qn_replay.specs.Heads.{IsGoodHead};
     ghost use Rattle.qn_replay.specs.TripleReplay.{triple_replay, triple_world};
     ghost use Rattle.qn_safety.specs.TripleWorld.{TripleWorld as Defined};

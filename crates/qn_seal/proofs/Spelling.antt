@@ -8,7 +8,7 @@ use Rattle.std.proofs.lemmas.Bool.{and_parts, and_from, cond-true, leb-true, le-
 use Rattle.std.proofs.lemmas.Option.{cond_some}
 use Rattle.byteorder.specs.Numbers.{big_number-reads_back}
 use Rattle.sha2.proofs.Facts256.{length-sha256}
-use Rattle.qn_mac.specs.Hmac.{hmac}
+use Rattle.qn_seal.specs.Hmac.{hmac}
 use Rattle.qn_seal.specs.declared.keys.Key.{Key}
 use Rattle.qn_seal.specs.declared.seals.Seal.{Seal}
 use Rattle.qn_seal.specs.Seals.{head_bytes, sealed, IsSeal, Spells}

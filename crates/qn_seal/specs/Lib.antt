@@ -1,3 +1,4 @@
-pub mod Seals
+pub mod Hmac
 pub mod Opening
 pub mod Receiving
+pub mod Seals

@@ -2,7 +2,7 @@
 use Rattle.std.specs.Prelude.{◌≡◌, ℕ, ◌<◌, ◌≤◌, ◌^◌, List, [], ◌∷◌, ◌++◌, codes, length, slice_index}
 use Rattle.std.specs.Int.{bytes_high_first}
 use Rattle.sha2.specs.Sha256.{sha256}
-use Rattle.qn_mac.specs.Hmac.{hmac}
+use Rattle.qn_seal.specs.Hmac.{hmac}
 use Rattle.qn_seal.specs.declared.keys.Key.{Key}
 use Rattle.qn_seal.specs.declared.seals.Seal.{Seal}
 

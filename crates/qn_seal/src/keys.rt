@@ -3,9 +3,9 @@ ghost use Rattle.std.specs.Prelude.{◌≡◌};
 ghost use Rattle.qn_seal.specs.Seals.{key_of};
 ghost use Rattle.sha2.specs.Sha256.{sha256};
 
+use crate::mac::tag_of;
 use crate::opening::open;
 use crate::seals::Seal;
-use qn_mac::tag_of;
 use sha2::{Digest, Sha256};
 
 /// A key.

@@ -3,10 +3,11 @@
 //! Promises: `put_sealed` writes the one spelling of a seal and a packet. `open` answers a packet exactly where the bytes are its
 //! spelling under the key beside the text. `Receiver::take` takes exactly what one of its keys opens, is of another configured rank to
 //! this one and newer than what it took of that sender; what it does not take changes nothing. That nobody makes such bytes without the
-//! key rests on HMAC-SHA-256 alone, and no clause says it.
+//! key rests on HMAC-SHA-256 alone, and no clause says it. `tag_of` is that tag, HMAC-SHA-256 (RFC 2104) at a key of 32 bytes.
 #![tactic(auto)]
 
 mod keys;
+mod mac;
 mod opening;
 mod receiver;
 mod seals;

@@ -5,10 +5,10 @@ ghost use Rattle.qn_seal.specs.Seals.{IsSeal, Spells};
 ghost use Rattle.qn_seal.specs.Opening.{opened, seal_at};
 
 use crate::keys::Key;
+use crate::mac::TAG;
 use crate::seals::{HEAD, MOST_BYTES, Seal, put_sealed};
 use arrayvec::ArrayVec;
 use byteorder::{BigEndian, ByteOrder};
-use qn_mac::TAG;
 
 /// How many bytes a sealed packet has at least.
 const LEAST_BYTES: usize = 58;

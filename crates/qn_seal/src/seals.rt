@@ -5,9 +5,9 @@ ghost use Rattle.arrayvec.specs.ArrayVec.{array_vec_len};
 ghost use Rattle.qn_seal.specs.Seals.{head_bytes, sealed};
 
 use crate::keys::Key;
+use crate::mac::tag_of_two;
 use arrayvec::ArrayVec;
 use byteorder::{BigEndian, ByteOrder};
-use qn_mac::tag_of_two;
 
 /// What the head of a sealed packet says: the ranks of its sender and its receiver; the boot of the sender, which is its system time in
 /// milliseconds when it opened its port; and the number of the packet in that boot, from 1.

@@ -4,10 +4,10 @@ use Rattle.qn_conf.specs.declared.faults.ConfFault.{ConfFault}
 use Rattle.qn_conf.specs.declared.faults.ConfFault.TheVariants as conf
 use Rattle.qn_model.specs.Lines.{Ending, Ended, ReadFailed, Outcome}
 use Rattle.qn_model.specs.World.{World}
-use Rattle.qn_play.specs.Endings.{FitsWith}
-use Rattle.qn_play.specs.Reading.{Rest}
+use Rattle.qn_playback.specs.Endings.{FitsWith}
+use Rattle.qn_playback.specs.Reading.{Rest}
 use Rattle.qn_replay.specs.Endings.{ReplayFits}
-use Rattle.qn_play.specs.Worlds.{Progress}
+use Rattle.qn_playback.specs.Worlds.{Progress}
 use Rattle.qn_replay.specs.Replay.{replay_of}
 use Rattle.qn_sched.specs.declared.replay_end.ReplayEnd.{ReplayEnd}
 use Rattle.qn_sched.specs.declared.replay_end.ReplayEnd.TheVariants as end

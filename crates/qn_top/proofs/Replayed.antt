@@ -6,10 +6,10 @@ use Rattle.qn_io.specs.Outside.{append_known-append, append_known-nil}
 use Rattle.qn_io.specs.Writes.{AppendsFront}
 use Rattle.qn_model.specs.Inputs.{BeginsWith, Tells, Anyway, AtEnd, AtFailure}
 use Rattle.qn_model.specs.Lines.{Outcome, after}
-use Rattle.qn_play.specs.Reading as reading
-use Rattle.qn_play.specs.Played.{Played}
-use Rattle.qn_play.specs.Reading.{Rest}
-use Rattle.qn_play.specs.Runs.{EndsAs, Runs, Unwritten, Wanted, WroteAll}
+use Rattle.qn_playback.specs.Reading as reading
+use Rattle.qn_playback.specs.Played.{Played}
+use Rattle.qn_playback.specs.Reading.{Rest}
+use Rattle.qn_playback.specs.Runs.{EndsAs, Runs, Unwritten, Wanted, WroteAll}
 use Rattle.qn_sched.specs.declared.replay_end.ReplayEnd.{ReplayEnd}
 use Rattle.qn_sched.specs.declared.replay_end.ReplayEnd.TheVariants as end
 use Rattle.qn_commands.specs.Endings.{Cut, Says, Whole}

@@ -3,7 +3,7 @@ use Rattle.std.proofs.Common.{◌≡◌, ℕ, List, [], refl, sym, subst, append
 use Rattle.qn_io.specs.Writes.{AppendsFront}
 use Rattle.qn_model.specs.Inputs.{BeginsWith}
 use Rattle.qn_model.specs.Lines.{Ending}
-use Rattle.qn_play.specs.Reading.{Rest}
+use Rattle.qn_playback.specs.Reading.{Rest}
 use Rattle.qn_sched.specs.declared.replay_end.ReplayEnd.TheVariants as end
 use Rattle.qn_commands.specs.declared.fault.Fault.TheVariants as fault
 use Rattle.qn_commands.specs.Faults.{fault_line}

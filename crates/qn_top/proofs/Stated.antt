@@ -3,9 +3,9 @@ use Rattle.std.proofs.Common.{◌≡◌, ◌⊎◌, inl, inr, ℕ, List, [], ◌
 use Rattle.qn_model.specs.Inputs.{BeginsWith, Tells, Anyway, AtEnd, AtFailure}
 use Rattle.qn_model.specs.Lines.{Ended, ReadFailed, Outcome}
 use Rattle.qn_model.specs.World.{World}
-use Rattle.qn_play.specs.Reading as reading
+use Rattle.qn_playback.specs.Reading as reading
 use Rattle.qn_replay.specs.Endings.{EndFits, ReplayFits}
-use Rattle.qn_play.specs.Worlds.{Progress}
+use Rattle.qn_playback.specs.Worlds.{Progress}
 use Rattle.qn_replay.specs.Replay.{Replayed, replay_of}
 use Rattle.qn_replay.specs.Runs.{GivesWorld, IsFault, IsLast, Reaches}
 use Rattle.qn_sched.specs.declared.replay_end.ReplayEnd.{ReplayEnd}

@@ -10,7 +10,7 @@ use Rattle.qn_commands.specs.Commands.Message.{Sends}
 use Rattle.qn_commands.specs.Commands.Migrate.{Migrates}
 use Rattle.qn_commands.specs.Commands.Node.{RunsNode}
 use Rattle.qn_commands.specs.Commands.NodeLogged.{LogsNode}
-use Rattle.qn_live3.specs.declared.node_images.NodeImages.TheVariants.{One, Three}
+use Rattle.qn_live.specs.declared.node_images.NodeImages.TheVariants.{One, Three}
 use Rattle.qn_commands.specs.Seen.{Seen}
 use Rattle.qn_top.specs.declared.command.Command.{Command}
 use Rattle.qn_top.specs.declared.command.Command.TheVariants as command

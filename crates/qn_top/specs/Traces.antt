@@ -5,7 +5,7 @@ use Rattle.qn_io.specs.declared.buffered.TheConstants.{PIECE}
 use Rattle.qn_io.specs.Writes.{AppendsFront}
 use Rattle.qn_model.specs.Inputs.{BeginsWith, Tells}
 use Rattle.qn_model.specs.Lines.{Ended, Ending, Outcome, after}
-use Rattle.qn_play.specs.Reading.{Rest}
+use Rattle.qn_playback.specs.Reading.{Rest}
 use Rattle.qn_sched.specs.declared.replay_end.ReplayEnd.{ReplayEnd}
 use Rattle.qn_commands.specs.declared.fault.Fault.TheVariants as fault
 use Rattle.qn_commands.specs.declared.status.Status.{Status}

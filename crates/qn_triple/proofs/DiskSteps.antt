@@ -5,9 +5,9 @@ use Rattle.std.proofs.lemmas.Bool.{eqb-true, false≢true}
 use Rattle.std.proofs.lemmas.Option.{slice_get_within}
 use Rattle.qn_cluster.specs.Nodes.{Nodes}
 use Rattle.qn_cluster.specs.Standing.{ClusterFor}
-use Rattle.qn_disk.specs.declared.sectors.Sectors.{Sectors}
-use Rattle.qn_disk.specs.declared.leftovers.Leftover.{Leftover}
-use Rattle.qn_disk.specs.Standing.{LeftFor, SectorsFor}
+use Rattle.qn_cluster.specs.declared.sectors.Sectors.{Sectors}
+use Rattle.qn_cluster.specs.declared.leftovers.Leftover.{Leftover}
+use Rattle.qn_cluster.specs.DiskStanding.{LeftFor, SectorsFor}
 use Rattle.qn_model.specs.declared.disk.Message.{Message}
 use Rattle.qn_model.specs.declared.disk.Slot.{Slot}
 use Rattle.qn_model.specs.declared.outputs.DiskOp.{DiskOp}
@@ -19,11 +19,11 @@ use Rattle.qn_safety.specs.declared.part.Part.{Part}
 use Rattle.qn_safety.specs.TripleRules.{is_image, none_pending}
 use Rattle.qn_safety.specs.TripleSteps.{written_on}
 use Rattle.qn_safety.specs.TripleWorld.{TripleWorld, all_pending, answer_of, good_after, has_landed, is_pending, mailboxes_on, put_on, slots_on}
-use Rattle.qn_disk.specs.WorldSteps.{OtherDisk, Turns}
+use Rattle.qn_cluster.specs.WorldSteps.{OtherDisk, Turns}
 use Rattle.qn_triple.specs.Standing.{GoodAt, IsStanding, PartsAt, SectorsAt, TripleFor, three_images}
 use Rattle.qn_triple.specs.Stepping.{Mails, Writes}
 use Rattle.qn_triple.specs.Whole.{Whole, cluster_of, with_nodes}
-use Rattle.qn_disk.specs.ListLaws.{by_image, get_set_apart, get_set_same, rank_cases, same_rank}
+use Rattle.qn_cluster.specs.ListLaws.{by_image, get_set_apart, get_set_same, rank_cases, same_rank}
 
 -- other nodes, after some moments
 pub with_moments : (w : Whole) (c : Nodes) (d : TripleWorld) (moments : List Moment) → TripleFor w d → c.settings ≡ w.settings → ClusterFor c moments

@@ -10,9 +10,9 @@ use Rattle.qn_cluster.specs.Events.{CanStep, Starved, Stepped as NodesStepped, i
 use Rattle.qn_cluster.specs.Seats.{IsDue}
 use Rattle.qn_cluster.specs.Standing.{IsOpWithin, IsWithin}
 use Rattle.qn_cluster.specs.Stepping.{Booted, Ended, Handed, Unhanded, grows}
-use Rattle.qn_disk.specs.EventLaws.{failure_answers, first_some, is_some_none, longer_back, no_outputs, or_first, or_true, passed, passed_both, passed_first, wider}
-use Rattle.qn_disk.specs.Standing.{is_marked, left_over}
-use Rattle.qn_disk.specs.WorldStepLaws.{both_disks, framed, same_frames, turned}
+use Rattle.qn_cluster.specs.EventLaws.{failure_answers, first_some, is_some_none, longer_back, no_outputs, or_first, or_true, passed, passed_both, passed_first, wider}
+use Rattle.qn_cluster.specs.DiskStanding.{is_marked, left_over}
+use Rattle.qn_cluster.specs.WorldStepLaws.{both_disks, framed, same_frames, turned}
 use Rattle.qn_model.specs.declared.configuration.Settings.{Settings}
 use Rattle.qn_model.specs.declared.disk.Message.{Message}
 use Rattle.qn_model.specs.declared.entries.What.{What}
@@ -36,12 +36,12 @@ use Rattle.qn_safety.specs.TripleRules.{is_image, is_on_triple, may_be_done_trip
 use Rattle.qn_safety.specs.TripleSteps.{done_triple, ends_triple, failed_on, landed_on, lands_late_on, step_triple, written_on}
 use Rattle.qn_safety.specs.TripleWorld.{TripleWorld, all_good, all_pending, answer_among, answer_of, counting, good_after, image_of, is_pending, leaves_over, nodes_of, none_left, op_of, put_on, together}
 use Rattle.qn_triple.specs.Memory.{leaves_on, leaves_one}
-use Rattle.qn_disk.specs.WorldSteps.{IsReady, OutOfMemory, Stepped, Turns, boot_event}
+use Rattle.qn_cluster.specs.WorldSteps.{IsReady, OutOfMemory, Stepped, Turns, boot_event}
 use Rattle.qn_triple.specs.Standing.{IsStanding, TripleFor, three_images}
 use Rattle.qn_triple.specs.Stepping.{GivesUp, KeepsOn, given_up_on, only_on}
 use Rattle.qn_triple.specs.Whole.{Whole, cluster_of, with_nodes}
 use Rattle.qn_triple.proofs.DiskSteps.{lefts_same, moved}
-use Rattle.qn_disk.specs.ListLaws.{by_image, same_rank}
+use Rattle.qn_cluster.specs.ListLaws.{by_image, same_rank}
 
 -- ---- what the rules leave
 

@@ -3,9 +3,9 @@ use Rattle.std.proofs.Common.{◌≡◌, ◌-◌, ℕ, Bool, true, List, [], len
 use Rattle.std.specs.Prelude.{replicate, slice_get}
 use Rattle.std.proofs.lemmas.List.Elements.{All-nil}
 use Rattle.qn_cluster.specs.Standing.{ClusterFor, IsWithin}
-use Rattle.qn_disk.specs.declared.sectors.Sectors.{Sectors}
-use Rattle.qn_disk.specs.ListLaws.{replicated}
-use Rattle.qn_disk.specs.Standing.{LeftFor, SectorsFor}
+use Rattle.qn_cluster.specs.declared.sectors.Sectors.{Sectors}
+use Rattle.qn_cluster.specs.ListLaws.{replicated}
+use Rattle.qn_cluster.specs.DiskStanding.{LeftFor, SectorsFor}
 use Rattle.qn_model.specs.Timing.{is_safe}
 use Rattle.qn_model.specs.World.{first_world}
 use Rattle.qn_parts.specs.Parts.{is_good_on, part_on}

@@ -9,7 +9,7 @@ use Rattle.qn_model.specs.declared.events.Event.TheVariants as event
 use Rattle.qn_model.specs.Rules.{is_configured, is_well_formed}
 use Rattle.qn_safety.specs.declared.triple_event.TripleEvent.TheVariants as triple
 use Rattle.qn_safety.specs.TripleRules.{is_image, is_well_formed_triple}
-use Rattle.qn_disk.specs.WorldSteps.{boot_event}
+use Rattle.qn_cluster.specs.WorldSteps.{boot_event}
 use Rattle.qn_triple.specs.Standing.{IsStanding}
 use Rattle.qn_triple.specs.Whole.{Whole}
 

@@ -1,6 +1,6 @@
 -- The world of three images obeys the laws of its kind.
 use Rattle.std.proofs.Common.{refl}
-use Rattle.qn_disk.specs.WorldKinds.{IsLawful}
+use Rattle.qn_cluster.specs.WorldKinds.{IsLawful}
 use Rattle.qn_safety.specs.TripleSteps.{AllAllowedTriple, report_triple, run_triple}
 use Rattle.qn_triple.specs.Standing.{three_images}
 

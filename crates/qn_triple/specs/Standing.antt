@@ -1,10 +1,10 @@
 -- What a world of three images of the code stands for: one of the definitions.
 use Rattle.std.specs.Prelude.{◌≡◌, ◌<◌, ◌-◌, ℕ, Bool, true, List, Some, length, slice_get}
 use Rattle.qn_cluster.specs.Standing.{ClusterFor}
-use Rattle.qn_disk.specs.declared.sectors.Sectors.{Sectors}
-use Rattle.qn_disk.specs.Standing.{LeftFor, SectorsFor}
-use Rattle.qn_disk.specs.WorldKinds.{WorldKind}
-use Rattle.qn_disk.specs.WorldSteps as worlds
+use Rattle.qn_cluster.specs.declared.sectors.Sectors.{Sectors}
+use Rattle.qn_cluster.specs.DiskStanding.{LeftFor, SectorsFor}
+use Rattle.qn_cluster.specs.WorldKinds.{WorldKind}
+use Rattle.qn_cluster.specs.WorldSteps as worlds
 use Rattle.qn_model.specs.declared.disk.Message.{Message}
 use Rattle.qn_model.specs.declared.disk.Slot.{Slot}
 use Rattle.qn_model.specs.Timing.{is_safe}

@@ -1,9 +1,9 @@
 -- What a call that steps the world of three images promises.
 use Rattle.std.specs.Prelude.{◌≡◌, ◌≢◌, ◌++◌, ◌∷◌, ◌==◌, ◌&&◌, ℕ, Bool, true, List, []}
-use Rattle.qn_disk.specs.declared.sectors.Sectors.{Sectors}
-use Rattle.qn_disk.specs.Standing.{SectorsFor}
-use Rattle.qn_disk.specs.WorldSteps.{OtherDisk}
-pub use Rattle.qn_disk.specs.WorldSteps.{RefusedBy}
+use Rattle.qn_cluster.specs.declared.sectors.Sectors.{Sectors}
+use Rattle.qn_cluster.specs.DiskStanding.{SectorsFor}
+use Rattle.qn_cluster.specs.WorldSteps.{OtherDisk}
+pub use Rattle.qn_cluster.specs.WorldSteps.{RefusedBy}
 use Rattle.qn_model.specs.declared.configuration.Settings.{Settings}
 use Rattle.qn_model.specs.declared.disk.Message.{Message}
 use Rattle.qn_model.specs.declared.disk.Slot.{Slot}

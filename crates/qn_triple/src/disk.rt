@@ -8,7 +8,7 @@ ghost use Rattle.qn_safety.specs.TripleWorld.{has_failed, is_pending};
 
 use crate::state::State;
 use qn_base::{NoMemory, Rank};
-use qn_disk::{HasNodes, Sectors};
+use qn_cluster::{HasNodes, Sectors};
 use qn_model::{DiskOp, Message, What};
 use qn_parts::{Part, answer_of, good_after};
 
@@ -77,13 +77,13 @@ fn with_part(parts: [Part; 3], image: u8, part: Part) -> [Part; 3]
 impl State {
     ghost use Rattle.std.specs.Prelude.{◌≡◌, ◌<◌, ◌≤◌, ℕ, true, None, Some, OnOk, OnErr, OnSome, is_some, length, slice_get, slice_set};
     ghost use Rattle.qn_cluster.specs.Standing.{IsOpWithin, IsWithin};
-    ghost use Rattle.qn_disk.specs.Standing.{is_marked, left_over};
-    ghost use Rattle.qn_disk.specs.declared.sectors.Sectors.{Sectors};
+    ghost use Rattle.qn_cluster.specs.DiskStanding.{is_marked, left_over};
+    ghost use Rattle.qn_cluster.specs.declared.sectors.Sectors.{Sectors};
     ghost use Rattle.qn_model.specs.World.{numbered, put, taken, without};
     ghost use Rattle.qn_safety.specs.TripleRules.{is_image, none_pending};
     ghost use Rattle.qn_safety.specs.TripleSteps.{written_on};
     ghost use Rattle.qn_safety.specs.TripleWorld.{TripleWorld, all_good, all_pending, answer_of, good_after, image_of, is_pending, none_left, put_on};
-    ghost use Rattle.qn_disk.specs.WorldSteps.{Turns};
+    ghost use Rattle.qn_cluster.specs.WorldSteps.{Turns};
     ghost use Rattle.qn_triple.specs.Standing.{IsStanding, TripleFor, three_images};
     ghost use Rattle.qn_triple.specs.Stepping.{GivesUp, KeepsOn, Mails, Writes};
 

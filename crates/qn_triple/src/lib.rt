@@ -1,8 +1,8 @@
 //! The world of three images: the nodes of a cluster, the three images that they share, and the ten rules that an event
 //! has to obey; and the lines of its schedules. The nodes and the packets are those of `qn_cluster`; how an event is taken
-//! stands in `qn_disk`: the world is its `World` of a `State` of three images.
+//! stands in `qn_cluster`: the world is its `World` of a `State` of three images.
 //!
-//! Promises: a `TripleWorld` stands for a world of the definitions (`specs/Standing`), and what `qn_disk` promises of any world
+//! Promises: a `TripleWorld` stands for a world of the definitions (`specs/Standing`), and what `qn_cluster` promises of any world
 //! holds of it, as `three_images` says it. So `allowed` is exactly the rules; `apply_into`, and `apply` on it, answers the rule
 //! that refuses an event, or makes exactly the step of the definitions and reports the new world. It runs out of memory only
 //! where a step appends a packet or a leftover. At most one node holds, though any one image may fail, lag behind or come

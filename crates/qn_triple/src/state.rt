@@ -1,6 +1,5 @@
 //! What a world of three images keeps.
-use qn_cluster::Cluster;
-use qn_disk::{HasNodes, Leftovers, Sectors};
+use qn_cluster::{Cluster, HasNodes, Leftovers, Sectors};
 use qn_model::Timing;
 use qn_parts::Part;
 use qn_safety::TripleEvent;

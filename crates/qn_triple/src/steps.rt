@@ -4,8 +4,7 @@ ghost use Rattle.std.specs.Prelude.{◌≡◌, IfOk, replicate};
 use crate::disk::{is_left_over, only_on};
 use crate::state::State;
 use qn_base::{NoMemory, Rank};
-use qn_cluster::Cluster;
-use qn_disk::{HasNodes, Leftovers, Sectors, Steps};
+use qn_cluster::{Cluster, HasNodes, Leftovers, Sectors, Steps};
 use qn_model::{Event, Message, Outs, Report, Settings, Timing};
 use qn_parts::Part;
 use qn_safety::{TripleEvent, law_triple_no_two_holders};
@@ -89,7 +88,7 @@ impl Steps for State {
 impl State {
     ghost use Rattle.std.specs.Prelude.{◌≡◌, [], true, OnOk, OnErr};
     ghost use Rattle.qn_cluster.specs.Events.{is_of_nodes};
-    ghost use Rattle.qn_disk.specs.WorldSteps.{IsReady, OutOfMemory, Stepped, boot_event};
+    ghost use Rattle.qn_cluster.specs.WorldSteps.{IsReady, OutOfMemory, Stepped, boot_event};
     ghost use Rattle.qn_triple.specs.Standing.{three_images};
 
     /// The step of an event that names no image.

@@ -16,9 +16,9 @@ use Rattle.qn_model.specs.World.{World, failed, given_up, leftover_at, node_at, 
 use Rattle.qn_model.specs.Rules.{is_on, may_be_done, may_fail, refusal}
 use Rattle.qn_model.specs.Steps.{answered, fails, gives_up, happens, step}
 use Rattle.qn_world.specs.Memory.{leaves_between, sends_between}
-use Rattle.qn_disk.specs.EventLaws.{failure_answers, or_first, or_true, passed_both}
-use Rattle.qn_disk.specs.WorldStepLaws.{framed, same_frames}
-use Rattle.qn_disk.specs.WorldSteps.{OutOfMemory, SameFrame, Stepped}
+use Rattle.qn_cluster.specs.EventLaws.{failure_answers, or_first, or_true, passed_both}
+use Rattle.qn_cluster.specs.WorldStepLaws.{framed, same_frames}
+use Rattle.qn_cluster.specs.WorldSteps.{OutOfMemory, SameFrame, Stepped}
 use Rattle.qn_world.specs.Standing.{WorldFor, one_image}
 use Rattle.qn_world.specs.Stepping.{Hands, HandsNot, LeavesOver}
 use Rattle.qn_world.specs.Whole.{Whole, cluster_of}

@@ -4,9 +4,9 @@ use Rattle.std.specs.Prelude.{Option, ◌==◌}
 use Rattle.std.proofs.lemmas.Bool.{eqb-true}
 use Rattle.std.proofs.lemmas.List.{append-nil, take_at}
 use Rattle.qn_cluster.specs.Standing.{IsOpWithin, IsWithin}
-use Rattle.qn_disk.specs.declared.leftovers.Leftover.{Leftover}
-use Rattle.qn_disk.specs.declared.sectors.Sectors.{Sectors}
-use Rattle.qn_disk.specs.Standing.{LeftFor, SectorsFor, is_marked, left_over}
+use Rattle.qn_cluster.specs.declared.leftovers.Leftover.{Leftover}
+use Rattle.qn_cluster.specs.declared.sectors.Sectors.{Sectors}
+use Rattle.qn_cluster.specs.DiskStanding.{LeftFor, SectorsFor, is_marked, left_over}
 use Rattle.qn_model.specs.declared.disk.Message.{Message}
 use Rattle.qn_model.specs.declared.disk.Slot.{Slot}
 use Rattle.qn_model.specs.declared.entries.What.{What}
@@ -14,11 +14,11 @@ use Rattle.qn_model.specs.declared.outputs.DiskOp.{DiskOp}
 use Rattle.qn_model.specs.World.{World, given_up, is_write, put, without}
 use Rattle.qn_safety.specs.TripleRules.{is_image}
 use Rattle.qn_safety.specs.TripleWorld.{put_on}
-use Rattle.qn_disk.specs.WorldSteps.{Turns}
+use Rattle.qn_cluster.specs.WorldSteps.{Turns}
 use Rattle.qn_world.specs.Standing.{WorldFor, on_first, one_image}
 use Rattle.qn_world.specs.Stepping.{LeavesOver}
 use Rattle.qn_world.specs.Whole.{Whole, cluster_of}
-use Rattle.qn_disk.specs.ListLaws.{by_image}
+use Rattle.qn_cluster.specs.ListLaws.{by_image}
 
 -- ---- sectors
 

@@ -22,13 +22,13 @@ use Rattle.qn_model.specs.NodeOutputs.{newest_outs}
 use Rattle.qn_model.specs.World.{World, given_up, leftover_at, node_at, numbered, op_at, put, taken, without}
 use Rattle.qn_model.specs.Rules.{is_configured, is_on, is_well_formed, may_be_late, may_land, refusal}
 use Rattle.qn_model.specs.Steps.{boots, entry_of, gives_up, happens, landed, lands_late, outs_after, step, touched, with_mail, written}
-use Rattle.qn_disk.specs.EventLaws.{first_some, is_some_none, longer_back, no_outputs, or_first, or_true, passed, passed_both, passed_first, wider}
-use Rattle.qn_disk.specs.WorldStepLaws.{framed, same_frames, turned}
-use Rattle.qn_disk.specs.WorldSteps.{IsReady, OutOfMemory, Stepped, Turns, boot_event}
+use Rattle.qn_cluster.specs.EventLaws.{first_some, is_some_none, longer_back, no_outputs, or_first, or_true, passed, passed_both, passed_first, wider}
+use Rattle.qn_cluster.specs.WorldStepLaws.{framed, same_frames, turned}
+use Rattle.qn_cluster.specs.WorldSteps.{IsReady, OutOfMemory, Stepped, Turns, boot_event}
 use Rattle.qn_world.specs.Standing.{IsStanding, WorldFor, one_image}
 use Rattle.qn_world.specs.Stepping.{LeavesOver}
 use Rattle.qn_world.specs.Whole.{Whole, cluster_of, with_nodes}
-use Rattle.qn_disk.specs.ListLaws.{rank_cases, same_rank}
+use Rattle.qn_cluster.specs.ListLaws.{rank_cases, same_rank}
 use Rattle.qn_world.proofs.RuleSteps.{le-true, second_true}
 use Rattle.qn_world.proofs.WorldSteps.{boots_others, ends_others, put_here, took_put, with_kept, with_none, with_took}
 

@@ -3,8 +3,8 @@ use Rattle.std.proofs.Common.{◌≡◌, Bool, true, false, List, [], length, No
 use Rattle.std.specs.Prelude.{replicate, slice_get, ◌==◌}
 use Rattle.std.proofs.lemmas.List.Elements.{All-nil}
 use Rattle.qn_cluster.specs.Standing.{ClusterFor, IsWithin}
-use Rattle.qn_disk.specs.ListLaws.{replicated}
-use Rattle.qn_disk.specs.Standing.{LeftFor, SectorsFor}
+use Rattle.qn_cluster.specs.ListLaws.{replicated}
+use Rattle.qn_cluster.specs.DiskStanding.{LeftFor, SectorsFor}
 use Rattle.qn_model.specs.declared.outputs.DiskOp.{DiskOp}
 use Rattle.qn_model.specs.Timing.{is_safe}
 use Rattle.qn_model.specs.World.{first_world}

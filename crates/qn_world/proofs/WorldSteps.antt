@@ -5,7 +5,7 @@ use Rattle.std.proofs.lemmas.Option.{slice_get_within}
 use Rattle.qn_cluster.specs.Events.{KeepsOut}
 use Rattle.qn_cluster.specs.Nodes.{Nodes}
 use Rattle.qn_cluster.specs.Standing.{ClusterFor}
-use Rattle.qn_disk.specs.Standing.{LeftFor}
+use Rattle.qn_cluster.specs.DiskStanding.{LeftFor}
 use Rattle.qn_model.specs.declared.configuration.Settings.{Settings}
 use Rattle.qn_model.specs.declared.entries.What.{What}
 use Rattle.qn_model.specs.declared.outputs.DiskOp.{DiskOp}
@@ -17,7 +17,7 @@ use Rattle.qn_model.specs.Steps.{happens}
 use Rattle.qn_model.specs.World.{World, op_at, put}
 use Rattle.qn_world.specs.Standing.{WorldFor, on_first}
 use Rattle.qn_world.specs.Whole.{Whole, cluster_of, with_nodes}
-use Rattle.qn_disk.specs.ListLaws.{rank_cases, rank_put, same_rank}
+use Rattle.qn_cluster.specs.ListLaws.{rank_cases, rank_put, same_rank}
 
 pub put_here : {A : Type 0} (f : ℕ → A) (i : ℕ) (value : A) → put f i value i ≡ value
 put_here f i value = ap (λ b. if b then value else f i) (same_rank i)

@@ -1,6 +1,6 @@
 -- The world of one image obeys the laws of its kind.
 use Rattle.std.proofs.Common.{refl}
-use Rattle.qn_disk.specs.WorldKinds.{IsLawful}
+use Rattle.qn_cluster.specs.WorldKinds.{IsLawful}
 use Rattle.qn_model.specs.Steps.{AllAllowed, run}
 use Rattle.qn_world.specs.Standing.{one_image}
 

@@ -1,9 +1,9 @@
 -- What a world of the code stands for: a world of the definitions.
 use Rattle.std.specs.Prelude.{◌≡◌, ◌<◌, ◌==◌, ℕ, true, List, [], Some, length, slice_get, if◌then◌else◌}
 use Rattle.qn_cluster.specs.Standing.{ClusterFor}
-use Rattle.qn_disk.specs.Standing.{LeftFor, SectorsFor}
-use Rattle.qn_disk.specs.WorldKinds.{WorldKind}
-use Rattle.qn_disk.specs.WorldSteps as worlds
+use Rattle.qn_cluster.specs.DiskStanding.{LeftFor, SectorsFor}
+use Rattle.qn_cluster.specs.WorldKinds.{WorldKind}
+use Rattle.qn_cluster.specs.WorldSteps as worlds
 use Rattle.qn_model.specs.declared.entries.What.{What}
 use Rattle.qn_model.specs.declared.events.Event.{Event}
 use Rattle.qn_model.specs.declared.outputs.DiskOp.{DiskOp}

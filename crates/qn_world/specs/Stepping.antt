@@ -1,7 +1,7 @@
 -- What a call that steps the world promises.
 use Rattle.std.specs.Prelude.{◌≡◌, ◌++◌, ℕ, List, length, take}
 use Rattle.qn_cluster.specs.Stepping.{Handed, Unhanded}
-pub use Rattle.qn_disk.specs.WorldSteps.{RefusedBy}
+pub use Rattle.qn_cluster.specs.WorldSteps.{RefusedBy}
 use Rattle.qn_model.specs.declared.entries.What.{What}
 use Rattle.qn_model.specs.declared.outputs.DiskOp.{DiskOp}
 use Rattle.qn_model.specs.declared.outputs.Out.{Out}

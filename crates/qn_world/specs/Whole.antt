@@ -2,8 +2,8 @@
 use Rattle.std.specs.Prelude.{ℕ, List, Option}
 use Rattle.qn_cluster.specs.Nodes.{Nodes}
 use Rattle.qn_cluster.specs.declared.seat.Seat.{Seat}
-use Rattle.qn_disk.specs.declared.leftovers.Leftover.{Leftover}
-use Rattle.qn_disk.specs.declared.sectors.Sectors.{Sectors}
+use Rattle.qn_cluster.specs.declared.leftovers.Leftover.{Leftover}
+use Rattle.qn_cluster.specs.declared.sectors.Sectors.{Sectors}
 use Rattle.qn_model.specs.declared.configuration.Settings.{Settings}
 use Rattle.qn_model.specs.declared.times.Timing.{Timing}
 use Rattle.qn_model.specs.declared.entries.What.{What}

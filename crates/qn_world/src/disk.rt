@@ -1,4 +1,4 @@
-//! The disk of a world: what the operations took, the sectors of the one image and the leftovers. To `qn_disk` the one
+//! The disk of a world: what the operations took, the sectors of the one image and the leftovers. To `qn_cluster` the one
 //! image is image 1.
 ghost use Rattle.std.specs.Prelude.{◌≡◌, option_to_list};
 ghost use Rattle.qn_model.specs.World.{given_up};
@@ -23,7 +23,7 @@ impl State {
     ghost use Rattle.qn_model.specs.declared.entries.What.{What};
     ghost use Rattle.qn_model.specs.Steps.{with_mail, written};
     ghost use Rattle.qn_model.specs.World.{World, given_up, numbered, put, taken, without};
-    ghost use Rattle.qn_disk.specs.WorldSteps.{Turns};
+    ghost use Rattle.qn_cluster.specs.WorldSteps.{Turns};
     ghost use Rattle.qn_world.specs.Standing.{WorldFor, one_image};
     ghost use Rattle.qn_world.specs.Stepping.{LeavesOver};
 

@@ -5,8 +5,7 @@ ghost use Rattle.qn_model.specs.Sectors.{is_deadly};
 use crate::pending::has_landed;
 use crate::state::State;
 use qn_base::Rank;
-use qn_cluster::unless;
-use qn_disk::HasNodes;
+use qn_cluster::{HasNodes, unless};
 use qn_model::{DiskOp, Message, What};
 
 /// Whether an operator may write a message over the one that is there, to a node that runs or is off.

@@ -1,7 +1,6 @@
 //! What a world keeps.
 use qn_base::{NoMemory, Rank};
-use qn_cluster::Cluster;
-use qn_disk::{HasNodes, Leftovers, Sectors};
+use qn_cluster::{Cluster, HasNodes, Leftovers, Sectors};
 use qn_model::{Event, Outs, Timing, What};
 use std::marker::Model;
 

@@ -4,8 +4,7 @@ ghost use Rattle.qn_model.specs.World.{failed};
 
 use crate::state::State;
 use qn_base::{NoMemory, Rank};
-use qn_cluster::Cluster;
-use qn_disk::{HasNodes, Leftovers, Sectors, Steps};
+use qn_cluster::{Cluster, HasNodes, Leftovers, Sectors, Steps};
 use qn_model::{
     DiskOp, Event, HeaderSeen, MailSeen, Message, Outs, Report, Settings, SlotSeen, Timing, What,
 };
@@ -112,7 +111,7 @@ impl Steps for State {
 impl State {
     ghost use Rattle.std.specs.Prelude.{◌≡◌, [], true, OnOk, OnErr};
     ghost use Rattle.qn_cluster.specs.Events.{is_of_nodes};
-    ghost use Rattle.qn_disk.specs.WorldSteps.{IsReady, OutOfMemory, Stepped, boot_event};
+    ghost use Rattle.qn_cluster.specs.WorldSteps.{IsReady, OutOfMemory, Stepped, boot_event};
     ghost use Rattle.qn_world.specs.Standing.{one_image};
 
     /// The nodes make the step of an event that changes them alone.

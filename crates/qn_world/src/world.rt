@@ -3,11 +3,11 @@ use crate::looking::NodeSeen;
 use crate::pending::Pending;
 use crate::state::State;
 use qn_base::Rank;
-use qn_disk::Shows;
+use qn_cluster::Shows;
 
 /// A cluster in true time, with its nodes, the image that they share, and the packets that were sent. It
 /// changes by events, each of which one of ten rules may refuse.
-pub type World = qn_disk::World<State>;
+pub type World = qn_cluster::World<State>;
 
 impl Shows for State {
     ghost use Rattle.qn_world.specs.Showing.{IsPending, IsSeen};

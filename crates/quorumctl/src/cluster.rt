@@ -1,162 +1,196 @@
-//! `status`: what the status files of the nodes of this host come to. It makes no call on a node.
-use crate::images::{look, pause};
-use crate::status_file::{Refusal, read_status_file};
-use crate::table::QUORUMCTL;
-use crate::trouble::{Trouble, say};
-use qn_control::{
-    Cluster, ImageSeen, UnreadFile, Verdict, cluster_json, cluster_metrics, cluster_text,
-    image_lines_beside,
-};
-use qn_usage::{file_of, has_word, value_of};
+//! A cluster as its status files show it, and what is said of it in one line.
+use crate::node_file::{NodeFile, PeerOfFile};
+use crate::text::Text;
+use crate::verdict::{Verdict, is_holder, is_live, judge};
 use std::alloc::{AllocError, Global};
-use std::fs::File;
-use std::net::{Net, TcpStream};
-use std::rt::Files;
-use std::time::Clock;
 
-/// Milliseconds between two texts of `--watch`.
-const WATCH: u64 = 1000;
-
-/// What a terminal does before a text of `--watch`: the cursor to the first place, and all behind it is erased (ECMA-48, CUP and ED).
-const ERASE: &str = "\u{1b}[H\u{1b}[J";
-
-/// The form of the text.
-#[derive(Clone, Copy)]
-enum Form {
-    Table,
-    Json,
-    Metrics,
-}
-
-/// The cluster as its status files show it, and the image where one is looked at.
+/// The status files of a cluster, at a moment of their host.
 #[derive(Drop)]
-struct Seen {
-    cluster: Cluster,
-    image: Option<ImageSeen>,
+pub struct Cluster {
+    /// The moment, in milliseconds of the host's monotonic clock.
+    pub now: u64,
+    /// The files that were read, as they were named.
+    pub nodes: Vec<NodeFile>,
+    /// Those that were not, an image among them.
+    pub unread: Vec<UnreadFile>,
 }
 
-/// `status`: the words are those of the command. The exit status is the verdict's, and that of an unknown state where there is trouble.
-pub fn status<
-    R: Files<File = File> + Net<Stream = TcpStream> + Clock + Print + Eprint + AllocGlobal,
->(rt: &R, words: &[String]) -> u8 {
-    let ended = if has_word(words, "--watch") {
-        watch(rt, words)
-    } else {
-        look_once(rt, words)
-    };
-    match ended {
-        Ok(verdict) => verdict.exit_status(),
-        Err(trouble) => {
-            let _ = eprintln!(rt; "quorumctl: {trouble}");
-            Verdict::Unknown.exit_status()
+/// A file that cannot be read, or says what no status file says.
+#[derive(Drop)]
+pub struct UnreadFile {
+    pub path: String,
+    pub why: String,
+}
+
+impl Cluster {
+    /// What the files come to.
+    pub fn verdict(&self) -> Verdict {
+        judge(self.now, self.nodes.as_slice()).beside_unread(!self.unread.is_empty())
+    }
+
+    /// The reason of the verdict, in one line without its end.
+    pub fn reason(&self, alloc: Global) -> Result<String, AllocError> {
+        let mut text = Text::new(alloc);
+        match self.verdict() {
+            Verdict::Healthy => add_holders(&mut text, self, "node ", " holds"),
+            Verdict::Degraded => return self.wrongs(alloc),
+            Verdict::NoOwner if self.is_held() => add_holders(&mut text, self, "TWO HOLDERS: ", ""),
+            Verdict::NoOwner => add_waits(&mut text, self),
+            Verdict::Unknown => text.add("no node answers"),
         }
+        text.finish()
     }
-}
 
-/// Writes what the files say.
-fn look_once<
-    R: Files<File = File> + Net<Stream = TcpStream> + Clock + Print + Eprint + AllocGlobal,
->(rt: &R, words: &[String]) -> Result<Verdict, Trouble> {
-    let form = if has_word(words, "--json") {
-        Form::Json
-    } else if has_word(words, "--prometheus") {
-        Form::Metrics
-    } else {
-        Form::Table
-    };
-    let seen = see(rt, words)?;
-    say(rt, text_of(rt.alloc(), &seen, form)?.as_str())?;
-    Ok(seen.cluster.verdict())
-}
-
-/// Writes what the files say again and again, until it is interrupted.
-fn watch<R: Files<File = File> + Net<Stream = TcpStream> + Clock + Print + Eprint + AllocGlobal>(
-    rt: &R,
-    words: &[String],
-) -> Result<Verdict, Trouble> {
-    for _ in 0..u64::MAX {
-        let seen = see(rt, words)?;
-        let text = text_of(rt.alloc(), &seen, Form::Table)?;
-        say(rt, format!(in rt.alloc(); "{ERASE}{text}")?.as_str())?;
-        pause(rt, WATCH)?;
-    }
-    Ok(Verdict::Unknown)
-}
-
-/// Reads the files and the image. The time is read after them, so that no file is of a later one.
-fn see<R: Files<File = File> + Net<Stream = TcpStream> + Clock + Eprint + AllocGlobal>(
-    rt: &R,
-    words: &[String],
-) -> Result<Seen, Trouble> {
-    let mut cluster = Cluster {
-        now: 0,
-        nodes: Vec::new(rt.alloc()),
-        unread: Vec::new(rt.alloc()),
-    };
-    for number in 0..words.len() {
-        let Some(path) = file_of(QUORUMCTL, words, number) else {
-            break;
+    /// What is wrong, node by node.
+    fn wrongs(&self, alloc: Global) -> Result<String, AllocError> {
+        let mut wrongs = Wrongs {
+            text: Text::new(alloc),
+            separator: "",
         };
-        match read_status_file(rt, path) {
-            Ok(node) => cluster.nodes.push(node)?,
-            Err(refusal) => add_unread(rt.alloc(), &mut cluster, path, &refusal)?,
+        if !self.is_held() {
+            wrongs.add_owner_elsewhere(self);
         }
-    }
-    let image = match value_of(words, "--image") {
-        Some(path) => see_image(rt, &mut cluster, path)?,
-        None => None,
-    };
-    let now = rt.monotonic().map_err(Trouble::System)?.as_millis();
-    cluster.now = u64::try_from(now).unwrap_or(u64::MAX);
-    Ok(Seen { cluster, image })
-}
-
-/// Adds a file that is no status file.
-fn add_unread(
-    alloc: Global,
-    cluster: &mut Cluster,
-    path: &str,
-    refusal: &Refusal,
-) -> Result<(), Trouble> {
-    if matches!(refusal, Refusal::NoMemory) {
-        return Err(Trouble::NoMemory);
-    }
-    let path = String::from_str(alloc, path)?;
-    let why = format!(in alloc; "{refusal}")?;
-    cluster.unread.push(UnreadFile { path, why })?;
-    Ok(())
-}
-
-/// Looks at the image; one that cannot be opened, or is none, is a file that cannot be read.
-fn see_image<R: Files<File = File> + Net<Stream = TcpStream> + Clock + Eprint + AllocGlobal>(
-    rt: &R,
-    cluster: &mut Cluster,
-    path: &str,
-) -> Result<Option<ImageSeen>, Trouble> {
-    let alloc = rt.alloc();
-    let why = match look(rt, path) {
-        Ok(seen) if seen.header.is_some() => return Ok(Some(seen)),
-        Ok(_) => format!(in alloc; "it is no image")?,
-        Err(Trouble::NoMemory) => return Err(Trouble::NoMemory),
-        Err(trouble) => format!(in alloc; "{trouble}")?,
-    };
-    let path = String::from_str(alloc, path)?;
-    cluster.unread.push(UnreadFile { path, why })?;
-    Ok(None)
-}
-
-/// The text in its form.
-fn text_of(alloc: Global, seen: &Seen, form: Form) -> Result<String, AllocError> {
-    match form {
-        Form::Table => {
-            let mut text = cluster_text(alloc, &seen.cluster)?;
-            if let Some(image) = &seen.image {
-                let lines = image_lines_beside(alloc, image, &seen.cluster)?;
-                text.push_str(lines.as_str())?;
+        for node in self.nodes.as_slice() {
+            if is_live(self.now, node) {
+                wrongs.add_live(node);
+            } else {
+                wrongs.add_silent(self, node);
             }
-            Ok(text)
         }
-        Form::Json => cluster_json(alloc, &seen.cluster, seen.image.as_ref()),
-        Form::Metrics => cluster_metrics(alloc, &seen.cluster),
+        for file in self.unread.as_slice() {
+            wrongs.add_unread(file);
+        }
+        wrongs.text.finish()
+    }
+
+    /// Whether a live node of these holds.
+    fn is_held(&self) -> bool {
+        let mut nodes = self.nodes.as_slice().iter();
+        nodes.any(|node| is_holder(self.now, node))
+    }
+
+    /// How old a file is, in milliseconds; 0 where its tick is after the moment.
+    pub(crate) fn age(&self, node: &NodeFile) -> u64 {
+        self.now.saturating_sub(node.tick)
+    }
+}
+
+/// The ids of the live holders.
+fn add_holders(text: &mut Text, cluster: &Cluster, before: &'static str, after: &'static str) {
+    let mut separator = before;
+    for node in cluster.nodes.as_slice() {
+        if is_holder(cluster.now, node) {
+            text.add_number(separator, u64::from(node.id.0));
+            separator = ", ";
+        }
+    }
+    text.add(after);
+}
+
+/// What each live node waits for.
+fn add_waits(text: &mut Text, cluster: &Cluster) {
+    let mut separator = "no owner: ";
+    for node in cluster.nodes.as_slice() {
+        if is_live(cluster.now, node) {
+            text.add_number(separator, u64::from(node.id.0));
+            text.add(" ");
+            text.add_foreign(node.why.as_str());
+            separator = "; ";
+        }
+    }
+}
+
+/// A list of what is wrong.
+#[derive(Drop)]
+struct Wrongs {
+    text: Text,
+    /// What stands before the next thing.
+    separator: &'static str,
+}
+
+impl Wrongs {
+    fn begin(&mut self) {
+        self.text.add(self.separator);
+        self.separator = "; ";
+    }
+
+    fn begin_node(&mut self, node: &NodeFile) {
+        self.begin();
+        self.text.add_number("node ", u64::from(node.id.0));
+    }
+
+    /// None of these nodes holds; which one does is said as far as one of them was told.
+    fn add_owner_elsewhere(&mut self, cluster: &Cluster) {
+        self.begin();
+        self.text
+            .add("owner not among the nodes that are looked at");
+        for node in cluster.nodes.as_slice() {
+            if is_live(cluster.now, node) && node.why.as_str().starts_with("held-by:") {
+                self.text.add_number(", node ", u64::from(node.id.0));
+                self.text.add(" says ");
+                self.text.add_foreign(node.why.as_str());
+            }
+        }
+    }
+
+    /// A node says nothing any more.
+    fn add_silent(&mut self, cluster: &Cluster, node: &NodeFile) {
+        self.begin_node(node);
+        match &node.end {
+            Some(end) => {
+                self.text.add(" ended: ");
+                self.text.add_foreign(end.as_str());
+            }
+            None if cluster.now < node.tick => self.text.add(" is of another boot of this host"),
+            None => {
+                self.text.add(" silent for ");
+                self.text.add_seconds(cluster.age(node));
+                self.text.add(" s");
+            }
+        }
+    }
+
+    /// What is wrong with a node that is live.
+    fn add_live(&mut self, node: &NodeFile) {
+        if !node.quorate {
+            self.begin_node(node);
+            self.text.add_number(" not quorate ", node.votes);
+            self.text.add_number("/", node.quorum);
+        } else if !node.sees_all() {
+            self.begin_node(node);
+            self.add_unseen(node);
+        }
+        if !node.mail.is_quiet() {
+            self.begin_node(node);
+            self.text.add(" has mail ");
+            self.text.add(node.mail.name());
+        }
+    }
+
+    /// The configured nodes that a node does not see.
+    fn add_unseen(&mut self, node: &NodeFile) {
+        let mut separator = " does not see ";
+        for peer in node.peers.as_slice() {
+            if !node.sees(peer) {
+                self.text.add_number(separator, u64::from(peer.id.0));
+                separator = ",";
+            }
+        }
+    }
+
+    /// A file that cannot be read, or is no status file.
+    fn add_unread(&mut self, file: &UnreadFile) {
+        self.begin();
+        self.text.add_foreign(file.path.as_str());
+        self.text.add(": ");
+        self.text.add_foreign(file.why.as_str());
+    }
+}
+
+/// For how many milliseconds its node did not hear a peer; None where it never did.
+pub(crate) fn silence_of(node: &NodeFile, peer: &PeerOfFile) -> Option<u64> {
+    match peer.hello_tick {
+        Some(hello_tick) => Some(node.tick.saturating_sub(hello_tick)),
+        None => None,
     }
 }

@@ -1,13 +1,13 @@
 //! The commands on an image, wherever it lies. They open it for reading, and make nothing.
+use crate::findings::Finding;
+use crate::image::{ImageSeen, NodeSeen, Sectors, look_at_image};
+use crate::image_json::{check_json, list_json};
+use crate::image_lines::{finding_lines, node_lines};
 use crate::input::read_input;
 use crate::open_image::OpenImage;
 use crate::texts::say_fault;
 use crate::trouble::{Trouble, say};
 use qn_base::{NodeId, read_decimal};
-use qn_control::{
-    Finding, ImageSeen, NodeSeen, Sectors, check_json, finding_lines, list_json, look_at_image,
-    node_lines,
-};
 use qn_model::{Mail, Message, Settings, Slot, Timing};
 use qn_settings::settings_of_text;
 use qn_usage::value_of;

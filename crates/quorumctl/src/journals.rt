@@ -1,7 +1,7 @@
 //! `history`: what the journals of the nodes tell, in the order of time.
+use crate::history::History;
 use crate::table::QUORUMCTL;
 use crate::trouble::{Trouble, say};
-use qn_control::History;
 use qn_usage::file_of;
 use std::alloc::Global;
 use std::fs::File;

@@ -1,5 +1,5 @@
 //! An image that is open to be looked at, wherever it lies.
-use qn_control::Sectors;
+use crate::image::Sectors;
 use qn_io::{ImageReader, SECTOR};
 use std::fs::File;
 use std::io;

@@ -12,15 +12,15 @@ use Rattle.qn_live.specs.declared.live_end.LiveEnd.TheVariants as end
 use Rattle.qn_live.specs.Halts.{HaltedBy, one_call}
 use Rattle.qn_live.specs.Running.{Ran}
 use Rattle.qn_live.specs.Laws.{NeverFalls, is_by_call, is_by_clock, is_no_failure}
-use Rattle.qn_live3.specs.Halts.{HaltedOnThree}
-use Rattle.qn_live3.specs.ImageCounts.{image_count}
-use Rattle.qn_live3.specs.Images.{plan_on}
+use Rattle.qn_live.specs.TripleHalts.{HaltedOnThree}
+use Rattle.qn_live.specs.ImageCounts.{image_count}
+use Rattle.qn_live.specs.Images.{plan_on}
 use Rattle.qn_model.specs.declared.configuration.Settings.{Settings}
 use Rattle.qn_model.specs.declared.outputs.BootCause.{BootCause}
 use Rattle.qn_model.specs.Lines.{Ended}
 use Rattle.qn_commands.specs.declared.commands.node.NodeWords.{NodeWords}
-use Rattle.qn_live3.specs.declared.node_images.NodeImages.{NodeImages}
-use Rattle.qn_live3.specs.declared.node_images.NodeImages.TheVariants.{One, Three}
+use Rattle.qn_live.specs.declared.node_images.NodeImages.{NodeImages}
+use Rattle.qn_live.specs.declared.node_images.NodeImages.TheVariants.{One, Three}
 use Rattle.qn_commands.specs.declared.fault.Fault.{Fault}
 use Rattle.qn_commands.specs.declared.fault.Fault.TheVariants.{BootHalted, EnvFault, UnknownNode}
 use Rattle.qn_commands.specs.declared.status.Status.TheVariants as status

@@ -7,11 +7,11 @@ use Rattle.qn_base.specs.declared.calls.Call.{Call}
 use Rattle.qn_base.specs.Plans.{Made}
 use Rattle.qn_io.specs.Writes.{AppendsFront}
 use Rattle.qn_live.specs.declared.live_end.LiveEnd.{LiveEnd}
-use Rattle.qn_live3.specs.Images.{plan_on}
+use Rattle.qn_live.specs.Images.{plan_on}
 use Rattle.qn_model.specs.declared.configuration.Settings.{Settings}
 use Rattle.qn_model.specs.Log.{Line}
 use Rattle.qn_commands.specs.declared.commands.node.NodeWords.{NodeWords}
-use Rattle.qn_live3.specs.declared.node_images.NodeImages.{NodeImages}
+use Rattle.qn_live.specs.declared.node_images.NodeImages.{NodeImages}
 use Rattle.qn_commands.specs.declared.status.Status.TheVariants as status
 use Rattle.qn_commands.specs.Commands.Node.{RunsNode, node_work, opening}
 use Rattle.qn_commands.specs.Seen.{Outside, Output, Seen, WriteFails}

@@ -12,7 +12,7 @@ use crate::status::Status;
 use qn_audit::{AuditEnd, audit};
 use qn_base::{NodeId, ShortText};
 use qn_io::{Sink, Source};
-use qn_live3::NodeImages;
+use qn_live::NodeImages;
 use std::alloc::Global;
 
 /// What the words of `audit` say of the run that a log is to be.

@@ -17,8 +17,10 @@ use crate::settings_text::read_settings;
 use crate::status::Status;
 use qn_base::{Failed, NodeId, Rank};
 use qn_io::{Env, Opening, Sink, Source};
-use qn_live::{LiveEnd, Notices, law_boot_halted, law_end_causes, run_node};
-use qn_live3::{NodeImages, law_triple_boot_halted, law_triple_end_causes, run_node3};
+use qn_live::{
+    LiveEnd, NodeImages, Notices, law_boot_halted, law_end_causes, law_triple_boot_halted,
+    law_triple_end_causes, run_node, run_node3,
+};
 use qn_model::{NodeEntry, Settings};
 use std::alloc::Global;
 

@@ -16,8 +16,7 @@ use crate::status::Status;
 use qn_audit::{Recorder, run_recorded};
 use qn_base::{Failed, Rank};
 use qn_io::{Env, Sink, Source};
-use qn_live::{LiveEnd, Notices};
-use qn_live3::NodeImages;
+use qn_live::{LiveEnd, NodeImages, Notices};
 use qn_model::Settings;
 use std::alloc::Global;
 

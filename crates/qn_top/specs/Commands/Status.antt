@@ -5,7 +5,7 @@ use Rattle.qn_io.specs.declared.buffered.TheConstants.{PIECE}
 use Rattle.qn_model.specs.declared.configuration.Settings.{Settings}
 use Rattle.qn_model.specs.Lines.{Ended, Ending, Outcome}
 use Rattle.qn_model.specs.World.{World}
-use Rattle.qn_play.specs.Worlds.{Progress}
+use Rattle.qn_playback.specs.Worlds.{Progress}
 use Rattle.qn_replay.specs.Replay.{replay_of}
 use Rattle.qn_sched.specs.declared.replay_end.ReplayEnd.{ReplayEnd}
 use Rattle.qn_sched.specs.declared.replay_end.ReplayEnd.TheVariants as end

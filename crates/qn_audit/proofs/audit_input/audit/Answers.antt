@@ -1,9 +1,9 @@
 use Rattle.std.proofs.Common.{◌≡◌, [], List, ℕ, Option, refl, sym, subst, arith}
 use Rattle.std.specs.Io.KnownBytes.{IsAtEnd, prepend_known}
 use Rattle.qn_base.specs.Rising.{HasRisen-within}
-use Rattle.qn_head.specs.Faults.{end_of}
-use Rattle.qn_head.specs.Heads.{settings_part}
-use Rattle.qn_head.specs.Parts.{Gives, Refuses}
+use Rattle.qn_playback.specs.Faults.{end_of}
+use Rattle.qn_playback.specs.Heads.{settings_part}
+use Rattle.qn_playback.specs.Parts.{Gives, Refuses}
 use Rattle.qn_io.specs.Outside.{HasRisen}
 use Rattle.qn_audit.specs.declared.audit_end.AuditEnd.{AuditEnd}
 use Rattle.qn_audit.specs.Inputs.{AuditedRun, JudgesInput, input_at, plan_of}

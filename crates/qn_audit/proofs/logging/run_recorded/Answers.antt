@@ -1,7 +1,7 @@
 use Rattle.std.proofs.Common.{◌∷◌, ◌++◌, [], Some, sym, ap, ◌∙◌, arith, refl}
 use Rattle.qn_base.specs.PlanSteps.{made_none, made_then}
 use Rattle.qn_live.specs.Asking.{told}
-use Rattle.qn_live3.specs.Images.{plan_on}
+use Rattle.qn_live.specs.Images.{plan_on}
 use Rattle.qn_audit.specs.Judging.{IsNext, left_after}
 use Rattle.qn_audit.specs.JudgeLaws.{keeps_call, kept_follows, left_call_after}
 use Rattle.qn_audit.specs.Logs.{log_text}

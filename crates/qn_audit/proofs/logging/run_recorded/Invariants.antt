@@ -1,7 +1,7 @@
 use Rattle.std.proofs.Common.{◌≡◌, ◌≤◌, List}
 use Rattle.qn_base.specs.declared.calls.Call.{Call}
 use Rattle.qn_base.specs.Plans.{Made}
-use Rattle.qn_live3.specs.Images.{RunsAs, images_work, plan_on}
+use Rattle.qn_live.specs.Images.{RunsAs, images_work, plan_on}
 use Rattle.qn_audit.specs.Judging.{Keeps, left_after}
 use Rattle.qn_audit.specs.Logs.{AreRecorded, log_text}
 use Rattle.qn_audit.specs.Recording.{Logs, log_of}

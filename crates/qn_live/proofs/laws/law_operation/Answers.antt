@@ -1,4 +1,4 @@
-use Rattle.qn_live.proofs.Operations.{no_op_asked, op_asked, op_fits}
+use Rattle.qn_live.proofs.OperationCalls.{no_op_asked, op_asked, op_fits}
 use Rattle.qn_live.proofs.laws.law_operation.Goals as goal
 
 pub returns-clause-asked : goal.returns-clause-asked

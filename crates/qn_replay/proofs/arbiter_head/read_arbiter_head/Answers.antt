@@ -1,7 +1,7 @@
 use Rattle.std.proofs.Common.{arith, refl, sym}
 use Rattle.std.proofs.lemmas.Result.{err_from_is_err_and}
 use Rattle.qn_base.specs.Rising.{HasRisen-within}
-use Rattle.qn_head.specs.PartLaws.{refuses_wider}
+use Rattle.qn_playback.specs.PartLaws.{refuses_wider}
 use Rattle.qn_replay.proofs.HeadSteps.{gives_lease, lease_is_safe, refuses_head, refuses_lease, refuses_line}
 use Rattle.qn_replay.proofs.arbiter_head.read_arbiter_head.Goals as goal
 

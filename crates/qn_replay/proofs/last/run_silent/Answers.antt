@@ -1,10 +1,10 @@
 use Rattle.std.proofs.Common.{◌<◌, arith, Bool, None, ap, refl, subst, sym, IfErr, Result, ◌∙◌}
 use Rattle.std.proofs.lemmas.Result.{err_from_is_err_and}
 use Rattle.qn_base.specs.Rising.{HasRisen-within}
-use Rattle.qn_head.specs.ReplayLaws.{stops_in_head, stops_without_world}
-use Rattle.qn_head.specs.Replays.{WantsMemory, answer_of}
+use Rattle.qn_playback.specs.ReplayLaws.{stops_in_head, stops_without_world}
+use Rattle.qn_playback.specs.Replays.{WantsMemory, answer_of}
 use Rattle.qn_io.specs.Outside.{HasRisen}
-use Rattle.qn_play.specs.Runs.{Runs}
+use Rattle.qn_playback.specs.Runs.{Runs}
 use Rattle.qn_sched.specs.declared.replay_end.ReplayEnd.{ReplayEnd}
 use Rattle.qn_world.specs.Whole.{Whole}
 use Rattle.qn_replay.specs.EventWorlds.{traced_if, untraced}

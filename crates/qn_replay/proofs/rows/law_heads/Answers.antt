@@ -13,9 +13,9 @@ use Rattle.qn_sched.specs.Head.{safe_timing_in, settings_in}
 use Rattle.qn_sched.specs.TimingLine.{time_of, times_of, times_of_words, timing_of, timing_of_words}
 use Rattle.qn_sched.specs.EventNames.{event_name}
 use Rattle.qn_sched.specs.EventReading.{event_of, event_of_words}
-use Rattle.qn_head.specs.Heads.{last_line, last_of_text, within_bound}
-use Rattle.qn_play.specs.Lines.{last_line as last_event, line_of}
-use Rattle.qn_play.specs.Worlds.{after_lines}
+use Rattle.qn_playback.specs.Heads.{last_line, last_of_text, within_bound}
+use Rattle.qn_playback.specs.Lines.{last_line as last_event, line_of}
+use Rattle.qn_playback.specs.Worlds.{after_lines}
 use Rattle.qn_replay.proofs.rows.law_heads.Goals as goal
 
 pub returns-clause-good : goal.returns-clause-good

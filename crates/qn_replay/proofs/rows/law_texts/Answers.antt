@@ -11,8 +11,8 @@ use Rattle.qn_settings.specs.Sections.{key_in}
 use Rattle.qn_settings.specs.Text.{settings_of_text}
 use Rattle.qn_sched.specs.Head.{safe_timing_in, settings_in}
 use Rattle.qn_sched.specs.TimingLine.{time_of, times_of, times_of_words, timing_of, timing_of_words}
-use Rattle.qn_head.specs.Heads.{last_line, last_of_text, within_bound}
-use Rattle.qn_play.specs.Lines.{last_line as last_event}
+use Rattle.qn_playback.specs.Heads.{last_line, last_of_text, within_bound}
+use Rattle.qn_playback.specs.Lines.{last_line as last_event}
 use Rattle.qn_replay.proofs.rows.law_texts.Goals as goal
 
 pub returns-clause-empty : goal.returns-clause-empty

@@ -1,9 +1,9 @@
-use Rattle.qn_head.specs.ReplayLaws.{answer_fits}
-use Rattle.qn_head.specs.Replays.{answer_of}
+use Rattle.qn_playback.specs.ReplayLaws.{answer_fits}
+use Rattle.qn_playback.specs.Replays.{answer_of}
 use Rattle.qn_model.specs.Lines.{Ending}
-use Rattle.qn_play.specs.EndLaws.{run_done, run_leased, run_wanted, run_unread, run_unwritten}
-use Rattle.qn_play.specs.Endings.{FitsWith}
-use Rattle.qn_play.specs.RunLaws.{runs_complete}
+use Rattle.qn_playback.specs.EndLaws.{run_done, run_leased, run_wanted, run_unread, run_unwritten}
+use Rattle.qn_playback.specs.Endings.{FitsWith}
+use Rattle.qn_playback.specs.RunLaws.{runs_complete}
 use Rattle.std.proofs.Common.{List, ℕ}
 use Rattle.qn_replay.proofs.run.replay_by.Given.{Over}
 use Rattle.qn_replay.proofs.run.replay_by.Goals as goal

@@ -1,6 +1,6 @@
 use Rattle.std.proofs.Common.{Bool, ap, sym, subst, ◌∙◌, arith}
 use Rattle.qn_base.specs.Rising.{HasRisen-within}
-use Rattle.qn_head.specs.ReplayLaws.{ends_in_head, not_begun, stops_in_head, stops_without_world}
+use Rattle.qn_playback.specs.ReplayLaws.{ends_in_head, not_begun, stops_in_head, stops_without_world}
 use Rattle.qn_replay.specs.EventWorlds.{traced_if}
 use Rattle.qn_replay.proofs.Playbacks.{runs_on}
 use Rattle.qn_replay.proofs.run.run.Goals as goal

@@ -3,7 +3,7 @@ use Rattle.qn_model.specs.Moments.{time}
 use Rattle.qn_model.specs.Rules.{is_well_formed}
 use Rattle.qn_replay.specs.Generator.{next_event, undrawn}
 use Rattle.qn_replay.specs.Soak.{soaked}
-use Rattle.qn_play.specs.Times.{time-step}
+use Rattle.qn_playback.specs.Times.{time-step}
 use Rattle.qn_replay.proofs.SoakSteps.{few_holders, most_more, stands_more, state_more, tally_more, within_more, within_none}
 use Rattle.qn_replay.proofs.soaking.tally_of.Goals as goal
 

@@ -1,8 +1,8 @@
 use Rattle.std.proofs.Common.{ℕ}
 use Rattle.qn_model.specs.declared.configuration.Settings.{Settings}
 use Rattle.qn_commands.specs.declared.commands.node.NodeWords.{NodeWords}
-use Rattle.qn_live3.specs.declared.node_images.NodeImages.{NodeImages}
-use Rattle.qn_live3.specs.declared.node_images.NodeImages.TheVariants.{One, Three}
+use Rattle.qn_live.specs.declared.node_images.NodeImages.{NodeImages}
+use Rattle.qn_live.specs.declared.node_images.NodeImages.TheVariants.{One, Three}
 use Rattle.qn_commands.specs.Commands.Node.{EndsWithCause}
 use Rattle.qn_commands.proofs.commands.node.law_node_ends.Goals as goal
 

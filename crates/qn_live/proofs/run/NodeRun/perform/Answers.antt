@@ -4,7 +4,7 @@ use Rattle.qn_live.specs.declared.place.Place.{Place}
 use Rattle.qn_live.specs.declared.place.Place.TheVariants as place
 use Rattle.qn_live.specs.Machine.{HasMore, acting, left_at, state_of}
 use Rattle.qn_live.proofs.Joining.{acting_more, left_call, stands_too}
-use Rattle.qn_live.proofs.Operations.{acted, op_found}
+use Rattle.qn_live.proofs.OperationCalls.{acted, op_found}
 use Rattle.qn_live.proofs.run.NodeRun.perform.Goals as goal
 
 pub returns-in-Act-clause-runs : goal.returns-in-Act-clause-runs

@@ -1,6 +1,6 @@
 use Rattle.std.proofs.Common.{ap}
-use Rattle.qn_arbiter_sched.specs.TraceLines.{arbiter_trace_line}
-use Rattle.qn_arbiter_world.specs.Standing.{ArbiterFor}
+use Rattle.qn_arbiter.specs.TraceLines.{arbiter_trace_line}
+use Rattle.qn_arbiter.specs.Standing.{ArbiterFor}
 use Rattle.qn_lease.specs.ArbiterRules.{refusal_beside}
 use Rattle.qn_model.specs.Settings.{ids}
 use Rattle.qn_replay.specs.BesideReplay.{beside_rules}

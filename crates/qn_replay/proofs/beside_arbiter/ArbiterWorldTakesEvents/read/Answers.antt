@@ -1,5 +1,5 @@
 use Rattle.std.proofs.Common.{◌≡◌, ◌∙◌, true, ap, refl, subst}
-use Rattle.qn_arbiter_sched.specs.EventReading.{arbiter_event_of}
+use Rattle.qn_arbiter.specs.EventReading.{arbiter_event_of}
 use Rattle.qn_lease.specs.ArbiterRules.{is_well_formed_beside}
 use Rattle.qn_model.specs.declared.configuration.Settings.{Settings}
 use Rattle.qn_model.specs.Settings.{ids}

@@ -1,6 +1,6 @@
 use Rattle.std.proofs.Common.{Ok, Err, Result, refl, sym, ap, ◌∙◌}
 use Rattle.qn_model.specs.declared.reports.Refused.{Refused}
-use Rattle.qn_play.specs.WorldLaws.{refuses_event, refuses_fault, said_as}
+use Rattle.qn_playback.specs.WorldLaws.{refuses_event, refuses_fault, said_as}
 use Rattle.qn_replay.specs.Playing.{place_at}
 use Rattle.qn_replay.proofs.Playbacks.{refuses_if, takes_event}
 use Rattle.qn_replay.proofs.playback.Playback.happen.Goals as goal

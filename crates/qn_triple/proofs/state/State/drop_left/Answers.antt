@@ -1,5 +1,5 @@
 use Rattle.std.proofs.Common.{ap, length, subst, sym}
-use Rattle.qn_disk.specs.Standing.{LeftFor}
+use Rattle.qn_cluster.specs.DiskStanding.{LeftFor}
 use Rattle.qn_model.specs.World.{put}
 use Rattle.qn_safety.specs.TripleWorld.{none_left}
 use Rattle.qn_triple.specs.Whole.{Whole}

@@ -2,10 +2,10 @@ use Rattle.std.proofs.Common.{◌≡◌, ◌∙◌, ◌&&◌, ℕ, true, ap, len
 use Rattle.std.proofs.lemmas.Result.{err_from_is_err_and}
 use Rattle.qn_cluster.specs.Standing.{IsOpWithin}
 use Rattle.qn_model.specs.World.{is_write}
-use Rattle.qn_disk.specs.Standing.{is_marked, left_over}
+use Rattle.qn_cluster.specs.DiskStanding.{is_marked, left_over}
 use Rattle.qn_safety.specs.TripleRules.{is_image}
 use Rattle.qn_safety.specs.TripleWorld.{is_pending}
-use Rattle.qn_disk.specs.WorldSteps.{Turns}
+use Rattle.qn_cluster.specs.WorldSteps.{Turns}
 use Rattle.qn_triple.specs.Standing.{three_images}
 use Rattle.qn_triple.proofs.EventSteps.{fail_starved, fail_stepped, not_failed}
 use Rattle.qn_triple.proofs.RuleSteps.{fail_image, fail_rank, few, within}

@@ -4,7 +4,7 @@ use Rattle.qn_parts.specs.Parts.{part_on}
 use Rattle.qn_safety.specs.declared.part.Part.TheVariants.{Pending}
 use Rattle.qn_safety.specs.TripleWorld.{all_pending}
 use Rattle.qn_triple.proofs.DiskSteps.{parts_turned}
-use Rattle.qn_disk.specs.ListLaws.{by_image}
+use Rattle.qn_cluster.specs.ListLaws.{by_image}
 use Rattle.qn_triple.proofs.state.State.forget_parts.Goals as goal
 
 pub returns : goal.returns

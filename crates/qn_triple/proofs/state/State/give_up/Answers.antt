@@ -1,12 +1,12 @@
 use Rattle.std.proofs.Common.{◌≡◌, ◌∙◌, ◌&&◌, [], ◌∷◌, ap, length, refl, subst, sym}
 use Rattle.std.proofs.lemmas.Result.{err_from_is_err_and}
 use Rattle.qn_cluster.specs.Standing.{IsOpWithin}
-use Rattle.qn_disk.specs.Standing.{is_marked}
+use Rattle.qn_cluster.specs.DiskStanding.{is_marked}
 use Rattle.qn_model.specs.World.{is_write}
 use Rattle.qn_safety.specs.TripleWorld.{is_pending}
 use Rattle.qn_triple.proofs.DiskSteps.{parts_read}
 use Rattle.qn_triple.proofs.EventSteps.{gives_nothing, gives_up, keeps_on}
-use Rattle.qn_disk.specs.ListLaws.{by_image, not_some}
+use Rattle.qn_cluster.specs.ListLaws.{by_image, not_some}
 use Rattle.qn_triple.proofs.state.State.give_up.Goals as goal
 
 pub leave_over-requires : goal.leave_over-requires

@@ -1,5 +1,5 @@
 use Rattle.std.proofs.Common.{ap, length, subst, sym}
-use Rattle.qn_disk.specs.Standing.{LeftFor}
+use Rattle.qn_cluster.specs.DiskStanding.{LeftFor}
 use Rattle.qn_triple.proofs.state.State.has_left.Goals as goal
 
 pub returns : goal.returns

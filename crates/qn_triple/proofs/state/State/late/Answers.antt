@@ -1,7 +1,7 @@
 use Rattle.std.proofs.Common.{◌∙◌, length, subst, sym}
 use Rattle.qn_cluster.specs.Standing.{IsOpWithin}
 use Rattle.qn_triple.proofs.EventSteps.{late_stepped, not_late, op_target}
-use Rattle.qn_disk.specs.ListLaws.{not_some}
+use Rattle.qn_cluster.specs.ListLaws.{not_some}
 use Rattle.qn_triple.proofs.RuleSteps.{few, late_image, late_number, late_rank}
 use Rattle.qn_triple.proofs.state.State.late.Goals as goal
 

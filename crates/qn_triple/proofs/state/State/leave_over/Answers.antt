@@ -1,8 +1,8 @@
 use Rattle.std.proofs.Common.{◌∙◌, ap, length, subst, sym}
-use Rattle.qn_disk.specs.Standing.{LeftFor, left_over}
+use Rattle.qn_cluster.specs.DiskStanding.{LeftFor, left_over}
 use Rattle.qn_triple.specs.Whole.{Whole}
 use Rattle.qn_triple.proofs.DiskSteps.{left_turned}
-use Rattle.qn_disk.specs.ResultLaws.{err_so, ok_so}
+use Rattle.qn_cluster.specs.ResultLaws.{err_so, ok_so}
 use Rattle.qn_triple.proofs.state.State.leave_over.Goals as goal
 
 pub returns-clause-ok : goal.returns-clause-ok

@@ -1,7 +1,7 @@
 use Rattle.std.proofs.Common.{ap, subst, sym}
 use Rattle.qn_cluster.specs.Events.{CanStep, Starved, Stepped as NodesStepped}
 use Rattle.qn_triple.specs.Whole.{cluster_of, with_nodes}
-use Rattle.qn_disk.specs.ResultLaws.{err_so, ok_so}
+use Rattle.qn_cluster.specs.ResultLaws.{err_so, ok_so}
 use Rattle.qn_triple.proofs.EventSteps.{can_step, nodes_starved, nodes_stepped}
 use Rattle.qn_triple.proofs.state.State.step_nodes.Goals as goal
 

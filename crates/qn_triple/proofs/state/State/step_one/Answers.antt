@@ -1,8 +1,8 @@
 use Rattle.std.proofs.Common.{[], ap, subst, sym}
 use Rattle.qn_safety.specs.declared.triple_event.TripleEvent.TheVariants as triple
-use Rattle.qn_disk.specs.WorldSteps.{IsReady, OutOfMemory, Stepped}
+use Rattle.qn_cluster.specs.WorldSteps.{IsReady, OutOfMemory, Stepped}
 use Rattle.qn_triple.specs.Standing.{three_images}
-use Rattle.qn_disk.specs.ResultLaws.{err_so, ok_so}
+use Rattle.qn_cluster.specs.ResultLaws.{err_so, ok_so}
 use Rattle.qn_triple.proofs.EventSteps.{is_of_disk, never_one}
 use Rattle.qn_triple.proofs.state.State.step_one.Goals as goal
 

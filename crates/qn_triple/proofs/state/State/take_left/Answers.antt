@@ -1,10 +1,10 @@
 use Rattle.std.proofs.Common.{◌∙◌, ap, length, subst, sym}
-use Rattle.qn_disk.specs.Standing.{LeftFor}
+use Rattle.qn_cluster.specs.DiskStanding.{LeftFor}
 use Rattle.qn_model.specs.World.{without}
 use Rattle.qn_safety.specs.TripleWorld.{put_on}
 use Rattle.qn_triple.specs.Whole.{Whole}
 use Rattle.qn_triple.proofs.DiskSteps.{left_turned}
-use Rattle.qn_disk.specs.ResultLaws.{some_so}
+use Rattle.qn_cluster.specs.ResultLaws.{some_so}
 use Rattle.qn_triple.proofs.state.State.take_left.Goals as goal
 
 pub returns-clause-op : goal.returns-clause-op

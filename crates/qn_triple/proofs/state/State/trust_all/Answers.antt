@@ -3,7 +3,7 @@ use Rattle.std.specs.Prelude.{replicate}
 use Rattle.qn_parts.specs.Parts.{is_good_on}
 use Rattle.qn_safety.specs.TripleWorld.{all_good}
 use Rattle.qn_triple.proofs.DiskSteps.{good_turned}
-use Rattle.qn_disk.specs.ListLaws.{by_image}
+use Rattle.qn_cluster.specs.ListLaws.{by_image}
 use Rattle.qn_triple.proofs.state.State.trust_all.Goals as goal
 
 pub returns : goal.returns

@@ -1,8 +1,8 @@
 use Rattle.std.proofs.Common.{◌∙◌, ap, refl, subst, sym}
 use Rattle.std.specs.Prelude.{slice_set}
-use Rattle.qn_disk.specs.Standing.{SectorsFor}
+use Rattle.qn_cluster.specs.DiskStanding.{SectorsFor}
 use Rattle.qn_triple.specs.Whole.{Whole}
-use Rattle.qn_disk.specs.ListLaws.{read_at}
+use Rattle.qn_cluster.specs.ListLaws.{read_at}
 use Rattle.qn_triple.proofs.state.State.write_at.Goals as goal
 
 pub returns : goal.returns

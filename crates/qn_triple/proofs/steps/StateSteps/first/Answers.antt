@@ -1,6 +1,6 @@
 use Rattle.std.proofs.Common.{◌≡◌, refl, true}
 use Rattle.std.specs.Prelude.{replicate}
-use Rattle.qn_disk.specs.ListLaws.{by_image}
+use Rattle.qn_cluster.specs.ListLaws.{by_image}
 use Rattle.qn_parts.specs.Parts.{is_good_on, part_on}
 use Rattle.qn_safety.specs.declared.part.Part.TheVariants.{Pending}
 use Rattle.qn_triple.proofs.FirstWorld.{first_stands}

@@ -1,7 +1,7 @@
 use Rattle.std.proofs.Common.{[], subst, sym}
-use Rattle.qn_disk.specs.WorldSteps.{IsReady, OutOfMemory, Stepped}
+use Rattle.qn_cluster.specs.WorldSteps.{IsReady, OutOfMemory, Stepped}
 use Rattle.qn_triple.specs.Standing.{three_images}
-use Rattle.qn_disk.specs.ResultLaws.{err_so, ok_so}
+use Rattle.qn_cluster.specs.ResultLaws.{err_so, ok_so}
 use Rattle.qn_triple.proofs.steps.StateSteps.step.Goals as goal
 
 pub step_one-requires-clause-ready : goal.step_one-requires-clause-ready

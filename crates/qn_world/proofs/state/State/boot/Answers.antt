@@ -2,7 +2,7 @@ use Rattle.std.proofs.Common.{◌<◌, ◌∙◌, ap, length, subst, sym}
 use Rattle.qn_cluster.specs.EventRanks.{rank_configured}
 use Rattle.qn_cluster.specs.Nodes.{Nodes}
 use Rattle.qn_cluster.specs.Stepping.{Booted}
-use Rattle.qn_disk.specs.WorldSteps.{boot_event}
+use Rattle.qn_cluster.specs.WorldSteps.{boot_event}
 use Rattle.qn_world.specs.Whole.{cluster_of, with_nodes}
 use Rattle.qn_world.proofs.EventSteps.{boot_stepped, boot_touches, few_base}
 use Rattle.qn_world.proofs.RuleSteps.{rank_few, rank_within}

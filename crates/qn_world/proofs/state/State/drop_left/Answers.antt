@@ -1,5 +1,5 @@
 use Rattle.std.proofs.Common.{ℕ, [], ap, length, subst, sym}
-use Rattle.qn_disk.specs.Standing.{LeftFor}
+use Rattle.qn_cluster.specs.DiskStanding.{LeftFor}
 use Rattle.qn_model.specs.World.{put}
 use Rattle.qn_world.specs.Standing.{on_first}
 use Rattle.qn_world.specs.Whole.{Whole}

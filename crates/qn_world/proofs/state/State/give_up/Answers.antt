@@ -1,7 +1,7 @@
 use Rattle.std.proofs.Common.{◌∙◌, ap, length, subst, sym}
 use Rattle.std.specs.Prelude.{option_to_list}
 use Rattle.qn_world.specs.Stepping.{LeavesOver}
-use Rattle.qn_disk.specs.ResultLaws.{err_so, ok_so}
+use Rattle.qn_cluster.specs.ResultLaws.{err_so, ok_so}
 use Rattle.qn_world.proofs.DiskSteps.{given_within, leaves_none, not_empty}
 use Rattle.qn_world.proofs.state.State.give_up.Goals as goal
 

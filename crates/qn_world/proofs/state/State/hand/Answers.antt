@@ -1,7 +1,7 @@
 use Rattle.std.proofs.Common.{◌∙◌, ap, subst}
 use Rattle.qn_cluster.specs.Stepping.{Handed, Unhanded}
 use Rattle.qn_world.specs.Whole.{cluster_of, with_nodes}
-use Rattle.qn_disk.specs.ResultLaws.{err_so, ok_so}
+use Rattle.qn_cluster.specs.ResultLaws.{err_so, ok_so}
 use Rattle.qn_world.proofs.state.State.hand.Goals as goal
 
 pub returns-clause-ok : goal.returns-clause-ok

@@ -2,7 +2,7 @@ use Rattle.std.proofs.Common.{◌∙◌, length, refl, subst, sym}
 use Rattle.qn_cluster.specs.Standing.{IsOpWithin}
 use Rattle.qn_model.specs.declared.events.Event.TheVariants as event
 use Rattle.qn_world.proofs.EventSteps.{late_stepped, not_late, op_target}
-use Rattle.qn_disk.specs.ListLaws.{not_some}
+use Rattle.qn_cluster.specs.ListLaws.{not_some}
 use Rattle.qn_world.proofs.RuleSteps.{late_number, rank_few}
 use Rattle.qn_world.proofs.state.State.late.Goals as goal
 

@@ -1,8 +1,8 @@
 use Rattle.std.proofs.Common.{◌≡◌, ◌∙◌, ap, length, subst, sym, take}
-use Rattle.qn_disk.specs.Standing.{LeftFor}
+use Rattle.qn_cluster.specs.DiskStanding.{LeftFor}
 use Rattle.qn_world.specs.Standing.{on_first}
 use Rattle.qn_world.specs.Whole.{Whole}
-use Rattle.qn_disk.specs.ResultLaws.{both_ok, err_so}
+use Rattle.qn_cluster.specs.ResultLaws.{both_ok, err_so}
 use Rattle.qn_world.proofs.DiskSteps.{leaves_one}
 use Rattle.qn_world.proofs.state.State.leave_over.Goals as goal
 

@@ -1,5 +1,5 @@
 use Rattle.std.proofs.Common.{ap, length, subst, sym}
-use Rattle.qn_disk.specs.Standing.{LeftFor}
+use Rattle.qn_cluster.specs.DiskStanding.{LeftFor}
 use Rattle.qn_world.specs.Standing.{on_first}
 use Rattle.qn_world.proofs.state.State.left_of.Goals as goal
 

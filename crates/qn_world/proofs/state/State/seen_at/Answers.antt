@@ -1,6 +1,6 @@
 use Rattle.std.proofs.Common.{◌≡◌, ap}
 use Rattle.qn_cluster.specs.Seen.{phase_now}
-use Rattle.qn_disk.specs.WorldStepLaws.{of_same_nodes}
+use Rattle.qn_cluster.specs.WorldStepLaws.{of_same_nodes}
 use Rattle.qn_model.specs.Moments.{is_holder, node}
 use Rattle.qn_model.specs.Steps.{answer_now, why_now}
 use Rattle.qn_world.specs.Whole.{cluster_of}

@@ -1,10 +1,10 @@
 use Rattle.std.proofs.Common.{◌∙◌, ap, length, subst, sym}
-use Rattle.qn_disk.specs.Standing.{LeftFor}
+use Rattle.qn_cluster.specs.DiskStanding.{LeftFor}
 use Rattle.qn_model.specs.World.{put, without}
 use Rattle.qn_safety.specs.TripleWorld.{put_on}
 use Rattle.qn_world.specs.Standing.{on_first}
 use Rattle.qn_world.specs.Whole.{Whole}
-use Rattle.qn_disk.specs.ResultLaws.{some_so}
+use Rattle.qn_cluster.specs.ResultLaws.{some_so}
 use Rattle.qn_world.proofs.DiskSteps.{left_turned, taken_first}
 use Rattle.qn_world.proofs.state.State.take_left.Goals as goal
 

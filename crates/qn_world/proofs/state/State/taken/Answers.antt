@@ -1,5 +1,5 @@
 use Rattle.std.proofs.Common.{◌∙◌, ap, subst, sym}
-use Rattle.qn_disk.specs.Standing.{SectorsFor}
+use Rattle.qn_cluster.specs.DiskStanding.{SectorsFor}
 use Rattle.qn_model.specs.World.{taken}
 use Rattle.qn_world.proofs.state.State.taken.Goals as goal
 

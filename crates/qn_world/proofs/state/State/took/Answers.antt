@@ -1,5 +1,5 @@
 use Rattle.std.proofs.Common.{ap}
-use Rattle.qn_disk.specs.ListLaws.{read_at}
+use Rattle.qn_cluster.specs.ListLaws.{read_at}
 use Rattle.qn_world.proofs.state.State.took.Goals as goal
 
 pub returns : goal.returns

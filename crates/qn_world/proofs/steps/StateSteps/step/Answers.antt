@@ -1,7 +1,7 @@
 use Rattle.std.proofs.Common.{[], subst, sym}
-use Rattle.qn_disk.specs.WorldSteps.{IsReady, OutOfMemory, Stepped}
+use Rattle.qn_cluster.specs.WorldSteps.{IsReady, OutOfMemory, Stepped}
 use Rattle.qn_world.specs.Standing.{one_image}
-use Rattle.qn_disk.specs.ResultLaws.{err_so, ok_so}
+use Rattle.qn_cluster.specs.ResultLaws.{err_so, ok_so}
 use Rattle.qn_world.proofs.steps.StateSteps.step.Goals as goal
 
 pub crash-requires : goal.crash-requires

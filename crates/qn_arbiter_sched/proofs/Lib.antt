@@ -1,5 +1,0 @@
-pub mod EventSpelling
-mod LeaseSpelling
-mod PassLength
-pub mod PassWords
-mod WordsOfLines

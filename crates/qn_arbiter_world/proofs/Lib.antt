@@ -1,9 +1,0 @@
-pub mod ApplySteps
-pub mod Clocks
-pub mod Following
-pub mod Lists
-pub mod Meeting
-pub mod Quiet
-pub mod Refusals
-pub mod RuleTests
-pub mod StepForms

@@ -1,6 +1,0 @@
-use Rattle.qn_lease.specs.Poller.{fresh_poller}
-use Rattle.qn_arbiter_world.proofs.Lists.{pollers_all}
-use Rattle.qn_arbiter_world.proofs.pollers.Pollers.new.Goals as goal
-
-pub returns : goal.returns
-returns c = pollers_all c.new.result (fresh_poller c.args.limit) c.new.ensures

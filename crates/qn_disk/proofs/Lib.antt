@@ -1,4 +1,0 @@
-pub mod Counts
-pub mod LeftoverSteps
-pub mod Marks
-pub mod SectorSteps

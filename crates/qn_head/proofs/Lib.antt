@@ -1,6 +1,0 @@
-mod HeadSteps
-mod LineSteps
-mod SettingsSteps
-mod Taken
-mod TextLines
-mod TextSteps

@@ -1,0 +1,50 @@
+-- The run of a node on one image or on three: this project's profile.
+use Rattle.std.specs.Prelude.{◌≡◌, ℕ, Bool, Option, Some}
+use Rattle.qn_base.specs.declared.calls.Call.{Call}
+use Rattle.qn_base.specs.Calls.{blank}
+use Rattle.qn_base.specs.Plans.{Plan, question}
+use Rattle.qn_model.specs.declared.configuration.Settings.{Settings}
+use Rattle.qn_live.specs.declared.asked.Given.{Given}
+use Rattle.qn_live.specs.declared.asked.Room.{Room}
+use Rattle.qn_live.specs.declared.run.NodeRun.{NodeRun}
+use Rattle.qn_live.specs.Asking.{Tells}
+use Rattle.qn_live.specs.Machine.{RunFor, work}
+use Rattle.qn_live.specs.Running.{Ran}
+use Rattle.qn_live.specs.Runs.{live_plan}
+use Rattle.qn_live.specs.declared.images_run.ImagesRun.{ImagesRun}
+use Rattle.qn_live.specs.declared.images_run.ImagesRun.TheVariants as run
+use Rattle.qn_live.specs.declared.node_images.NodeImages.{NodeImages}
+use Rattle.qn_live.specs.declared.node_images.NodeImages.TheVariants as images
+use Rattle.qn_live.specs.TripleMachine.{TripleRunFor, triple_work}
+use Rattle.qn_live.specs.TripleRuns.{triple_plan}
+
+-- the run of a node on these images
+abbrev pub plan_on : NodeImages → Settings → ℕ → Bool → Option ℕ → ℕ → Plan Ran
+plan_on images.One s me clean leave turns = live_plan s me clean leave turns
+plan_on images.Three s me clean leave turns = triple_plan s me clean leave turns
+
+-- the run as that of a node on one image
+abbrev pub node_run : ImagesRun → NodeRun
+node_run (run.One single) = single
+node_run (run.Three triple) = triple.run
+
+-- the machine stands for the plan: this is left of its run
+abbrev pub RunsAs : ImagesRun → Plan Ran → Type 0
+RunsAs (run.One single) plan = RunFor single plan
+RunsAs (run.Three triple) plan = TripleRunFor triple plan
+
+abbrev pub HasRun : ImagesRun → Type 0
+HasRun of = (plan : Plan Ran) × RunsAs of plan
+
+-- the call that was asked for gave this answer
+abbrev pub WasAnswered : ImagesRun → Given → Room → Type 0
+WasAnswered of given room =
+    (plan : Plan Ran) × RunsAs of plan × (call : Call) × Tells call given room × (question plan ≡ Some (blank call))
+
+-- the calls that are to come of the node, and at most so many that the machine still makes
+abbrev pub has_work : ImagesRun → ℕ
+has_work of = work (node_run of)
+
+abbrev pub images_work : ImagesRun → ℕ
+images_work (run.One single) = work single
+images_work (run.Three triple) = triple_work triple

@@ -1,9 +1,0 @@
-pub mod Disk
-pub mod Halts
-pub mod ImageCounts
-pub mod Images
-pub mod Laws
-pub mod Machine
-pub mod Operations
-pub mod Outputs
-pub mod Runs

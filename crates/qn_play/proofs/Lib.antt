@@ -1,3 +1,0 @@
-mod LineLaws
-mod LineSteps
-mod Running

@@ -1,0 +1,9 @@
+mod HeadLineSteps
+mod HeadSteps
+mod LineLaws
+mod LineSteps
+mod Running
+mod SettingsSteps
+mod Taken
+mod TextLines
+mod TextSteps

@@ -1,0 +1,165 @@
+//! `status`: what the status files of the nodes of this host come to. It makes no call on a node.
+use crate::as_json::cluster_json;
+use crate::as_metrics::cluster_metrics;
+use crate::as_table::cluster_text;
+use crate::cluster::{Cluster, UnreadFile};
+use crate::image::ImageSeen;
+use crate::image_lines::image_lines_beside;
+use crate::images::{look, pause};
+use crate::status_file::{Refusal, read_status_file};
+use crate::table::QUORUMCTL;
+use crate::trouble::{Trouble, say};
+use crate::verdict::Verdict;
+use qn_usage::{file_of, has_word, value_of};
+use std::alloc::{AllocError, Global};
+use std::fs::File;
+use std::net::{Net, TcpStream};
+use std::rt::Files;
+use std::time::Clock;
+
+/// Milliseconds between two texts of `--watch`.
+const WATCH: u64 = 1000;
+
+/// What a terminal does before a text of `--watch`: the cursor to the first place, and all behind it is erased (ECMA-48, CUP and ED).
+const ERASE: &str = "\u{1b}[H\u{1b}[J";
+
+/// The form of the text.
+#[derive(Clone, Copy)]
+enum Form {
+    Table,
+    Json,
+    Metrics,
+}
+
+/// The cluster as its status files show it, and the image where one is looked at.
+#[derive(Drop)]
+struct Seen {
+    cluster: Cluster,
+    image: Option<ImageSeen>,
+}
+
+/// `status`: the words are those of the command. The exit status is the verdict's, and that of an unknown state where there is trouble.
+pub fn status<
+    R: Files<File = File> + Net<Stream = TcpStream> + Clock + Print + Eprint + AllocGlobal,
+>(rt: &R, words: &[String]) -> u8 {
+    let ended = if has_word(words, "--watch") {
+        watch(rt, words)
+    } else {
+        look_once(rt, words)
+    };
+    match ended {
+        Ok(verdict) => verdict.exit_status(),
+        Err(trouble) => {
+            let _ = eprintln!(rt; "quorumctl: {trouble}");
+            Verdict::Unknown.exit_status()
+        }
+    }
+}
+
+/// Writes what the files say.
+fn look_once<
+    R: Files<File = File> + Net<Stream = TcpStream> + Clock + Print + Eprint + AllocGlobal,
+>(rt: &R, words: &[String]) -> Result<Verdict, Trouble> {
+    let form = if has_word(words, "--json") {
+        Form::Json
+    } else if has_word(words, "--prometheus") {
+        Form::Metrics
+    } else {
+        Form::Table
+    };
+    let seen = see(rt, words)?;
+    say(rt, text_of(rt.alloc(), &seen, form)?.as_str())?;
+    Ok(seen.cluster.verdict())
+}
+
+/// Writes what the files say again and again, until it is interrupted.
+fn watch<R: Files<File = File> + Net<Stream = TcpStream> + Clock + Print + Eprint + AllocGlobal>(
+    rt: &R,
+    words: &[String],
+) -> Result<Verdict, Trouble> {
+    for _ in 0..u64::MAX {
+        let seen = see(rt, words)?;
+        let text = text_of(rt.alloc(), &seen, Form::Table)?;
+        say(rt, format!(in rt.alloc(); "{ERASE}{text}")?.as_str())?;
+        pause(rt, WATCH)?;
+    }
+    Ok(Verdict::Unknown)
+}
+
+/// Reads the files and the image. The time is read after them, so that no file is of a later one.
+fn see<R: Files<File = File> + Net<Stream = TcpStream> + Clock + Eprint + AllocGlobal>(
+    rt: &R,
+    words: &[String],
+) -> Result<Seen, Trouble> {
+    let mut cluster = Cluster {
+        now: 0,
+        nodes: Vec::new(rt.alloc()),
+        unread: Vec::new(rt.alloc()),
+    };
+    for number in 0..words.len() {
+        let Some(path) = file_of(QUORUMCTL, words, number) else {
+            break;
+        };
+        match read_status_file(rt, path) {
+            Ok(node) => cluster.nodes.push(node)?,
+            Err(refusal) => add_unread(rt.alloc(), &mut cluster, path, &refusal)?,
+        }
+    }
+    let image = match value_of(words, "--image") {
+        Some(path) => see_image(rt, &mut cluster, path)?,
+        None => None,
+    };
+    let now = rt.monotonic().map_err(Trouble::System)?.as_millis();
+    cluster.now = u64::try_from(now).unwrap_or(u64::MAX);
+    Ok(Seen { cluster, image })
+}
+
+/// Adds a file that is no status file.
+fn add_unread(
+    alloc: Global,
+    cluster: &mut Cluster,
+    path: &str,
+    refusal: &Refusal,
+) -> Result<(), Trouble> {
+    if matches!(refusal, Refusal::NoMemory) {
+        return Err(Trouble::NoMemory);
+    }
+    let path = String::from_str(alloc, path)?;
+    let why = format!(in alloc; "{refusal}")?;
+    cluster.unread.push(UnreadFile { path, why })?;
+    Ok(())
+}
+
+/// Looks at the image; one that cannot be opened, or is none, is a file that cannot be read.
+fn see_image<R: Files<File = File> + Net<Stream = TcpStream> + Clock + Eprint + AllocGlobal>(
+    rt: &R,
+    cluster: &mut Cluster,
+    path: &str,
+) -> Result<Option<ImageSeen>, Trouble> {
+    let alloc = rt.alloc();
+    let why = match look(rt, path) {
+        Ok(seen) if seen.header.is_some() => return Ok(Some(seen)),
+        Ok(_) => format!(in alloc; "it is no image")?,
+        Err(Trouble::NoMemory) => return Err(Trouble::NoMemory),
+        Err(trouble) => format!(in alloc; "{trouble}")?,
+    };
+    let path = String::from_str(alloc, path)?;
+    cluster.unread.push(UnreadFile { path, why })?;
+    Ok(None)
+}
+
+/// The text in its form.
+fn text_of(alloc: Global, seen: &Seen, form: Form) -> Result<String, AllocError> {
+    match form {
+        Form::Table => {
+            let mut text = cluster_text(alloc, &seen.cluster)?;
+            if let Some(image) = &seen.image {
+                let lines = image_lines_beside(alloc, image, &seen.cluster)?;
+                text.push_str(lines.as_str())?;
+            }
+            Ok(text)
+        }
+        Form::Json => cluster_json(alloc, &seen.cluster, seen.image.as_ref()),
+        Form::Metrics => cluster_metrics(alloc, &seen.cluster),
+    }
+}
