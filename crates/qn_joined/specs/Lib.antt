@@ -6,4 +6,5 @@ pub mod Stands
 pub mod Theorem
 pub mod WorldOf
 pub mod TripleJoints
+pub mod TripleNodes
 pub mod TripleWorldOf

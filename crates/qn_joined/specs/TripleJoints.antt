@@ -79,11 +79,14 @@ image_named other = 0
 abbrev pub image_waited : TripleHost → ℕ
 image_waited host = option_map_or image_named (question host.call) 0
 
--- what is left over where the call that a host waits for is given up
+-- what the call that a host waits for leaves over where it is given up, and all that is left over then
+abbrev pub given_up_now : Settings → ℕ → TripleHost → List Call
+given_up_now s rank host =
+    option_map_or (λ asked. given_up_by (waits_for s rank host.one) host.took) (question host.call) []
+
 abbrev pub gives_up : Settings → ℕ → TripleHost → ℕ → List Call
 gives_up s rank host =
-    put host.left (image_waited host)
-    (host.left (image_waited host) ++ given_up_by (waits_for s rank host.one) host.took)
+    put host.left (image_waited host) (host.left (image_waited host) ++ given_up_now s rank host)
 
 -- a host before its first process
 abbrev pub never_on_triple : TripleHost
