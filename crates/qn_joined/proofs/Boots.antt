@@ -64,22 +64,22 @@ begins_as_node s rank host n took left all clean leave turns begun is off =
     lives : n.on ≡ true → ⊥
     lives on = let both = sym off_now ∙ on in cc
 
-said_at_boot : (s : Settings) (rank base : ℕ) (clean : Bool) (ms : List Moment)
+pub said_at_boot : (s : Settings) (rank base : ℕ) (clean : Bool) (ms : List Moment)
     → AllSaid (packets s (Boots rank base clean ∷ ms)) (newest_outs (node s rank (Boots rank base clean ∷ ms)).log)
 unfolding packets given_out
 said_at_boot s rank base clean ms =
     all_said _ (newest_outs (node s rank (Boots rank base clean ∷ ms)).log) (λ sent is. Contains-append_right (packets s ms) _ sent is)
 
 -- the event of a boot
-abbrev boot_event : ℕ → ℕ → Bool → Event
+abbrev pub boot_event : ℕ → ℕ → Bool → Event
 boot_event rank base false = event.Boot (rank_of rank) base
 boot_event rank base true = event.BootClean (rank_of rank) base
 
-boot_ranked : (s : Settings) (rank base : ℕ) (clean : Bool) → rank < length s.nodes → is_ranked s (boot_event rank base clean) ≡ true
+pub boot_ranked : (s : Settings) (rank base : ℕ) (clean : Bool) → rank < length s.nodes → is_ranked s (boot_event rank base clean) ≡ true
 boot_ranked s rank base false below = lt-ltb rank (length s.nodes) below
 boot_ranked s rank base true below = lt-ltb rank (length s.nodes) below
 
-boot_allowed : (s : Settings) (t : Timing) (rank base : ℕ) (clean : Bool) (w : World) → (node_at s rank w).on ≡ false → refusal s t (boot_event rank base clean) w ≡ None
+pub boot_allowed : (s : Settings) (t : Timing) (rank base : ℕ) (clean : Bool) (w : World) → (node_at s rank w).on ≡ false → refusal s t (boot_event rank base clean) w ≡ None
 unfolding refusal
 boot_allowed s t rank base false w off = ap (λ b. unless (not b) 2) off
 boot_allowed s t rank base true w off = ap (λ b. unless (not b) 2) off
@@ -100,7 +100,7 @@ boots_changes s rank base clean w =
       left = λ r apart. put_other w.left rank r [] apart;
     }
 
-first_is : (s : Settings) (rank base now : ℕ) (host : Host) (stand : Stand)
+pub first_is : (s : Settings) (rank base now : ℕ) (host : Host) (stand : Stand)
     → looked_first s rank base now (record host { stand = stand }) ≡ returned s rank (call.Now (tick_of base)) now (record host { asked = true; clock = base; stand = stand })
 unfolding looked_first returned
 first_is s rank base now host stand = refl
@@ -217,7 +217,7 @@ feeds_changes s rank w =
       left = λ r apart. refl;
     }
 
-fed_node : {s : Settings} {rank : ℕ} {host : Host} {n : Running} {took : Option What} {left : List DiskOp} {all : List Sent} (now : ℕ)
+pub fed_node : {s : Settings} {rank : ℕ} {host : Host} {n : Running} {took : Option What} {left : List DiskOp} {all : List Sent} (now : ℕ)
     → IsNode s rank host n took left all → IsNode s rank (record host { fed = now }) (record n { fed = now }) took left all
 fed_node now is =
     record {
@@ -237,7 +237,7 @@ fed_node now is =
       rests = is.rests;
     }
 
-unfed_node : {s : Settings} {rank : ℕ} {host : Host} {n : Running} {took : Option What} {left : List DiskOp} {all : List Sent} (now : ℕ)
+pub unfed_node : {s : Settings} {rank : ℕ} {host : Host} {n : Running} {took : Option What} {left : List DiskOp} {all : List Sent} (now : ℕ)
     → n.on ≡ false → IsNode s rank host n took left all → IsNode s rank (record host { fed = now }) n took left all
 unfed_node now off is =
     record {

@@ -80,7 +80,7 @@ module _ (s : Settings) (t : Timing) (rank : ℕ) (host : Host) (w : World) (liv
   tick_hands entry plain same = plain_hands (event.Tick (rank_of rank)) entry what.Tick refl (on_allows None refl) same plain refl
 
   -- a view that is none of its node is read as a tick
-  no_view_fits : (v : View) (live low : Bool) → is_member v.members rank ≡ false → (live && (low && is_member v.members rank)) ≡ false
+  pub no_view_fits : (v : View) (live low : Bool) → is_member v.members rank ≡ false → (live && (low && is_member v.members rank)) ≡ false
   no_view_fits v true true out = out
   no_view_fits v true false out = refl
   no_view_fits v false low out = refl

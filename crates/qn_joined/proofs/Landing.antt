@@ -45,12 +45,13 @@ pub record DiskWaits (s : Settings) (rank : ℕ) (host : Host) (n : Running) (to
   pub waits : waits_for s rank host ≡ Some (disk_call s rank number op)
   pub small : n.on ≡ true → IsNodeLog s n.log → number < 2 ^ 64
   pub lives : n.on ≡ true
+  pub ahead : disk_ahead host.stand.spot ≡ Some op
   pub out : op_out n.log ≡ Some op
   pub alike : TookAlike s op host.took took
   pub lands : (bytes : List ℕ) (answer : What) → answer ≡ done s op bytes → IsNode s rank (record host { took = Some bytes }) n (Some answer) left all
 
 module _ {s : Settings} {rank : ℕ} (host : Host) (n : Running) (took : Option What) (left : List DiskOp) (all : List Sent) where
-  disk_waits : (spot : Spot) → IsNode s rank (at host spot) n took left all → host.on ≡ true → option_map_or is_disk (waits_for s rank (at host spot)) false ≡ true
+  pub disk_waits : (spot : Spot) → IsNode s rank (at host spot) n took left all → host.on ≡ true → option_map_or is_disk (waits_for s rank (at host spot)) false ≡ true
       → DiskWaits s rank (at host spot) n took left all
   unfolding left_plan outs_plan sends_plan out_call
   disk_waits (Receiving st) is on disk = absurd cc
@@ -70,6 +71,7 @@ module _ {s : Settings} {rank : ℕ} (host : Host) (n : Running) (took : Option 
     waits = refl;
     small = λ alive logs. subst (λ l. own_number l < 2 ^ 64) (is.log alive) logs.number;
     lives = lives;
+    ahead = refl;
     out = out_is;
     alike = (performs.disk op refl).1;
     lands = λ bytes answer same. record {
@@ -163,7 +165,7 @@ lands_in_world s t events j rank alike logs below may is fits happen =
     steps : option_map_or (λ op. landed s t rank op w) (op_at s rank w) w ≡ landed s t rank d.op w
     steps = ap (λ o. option_map_or (λ op. landed s t rank op w) o w) d.out
 
-may_by : (deadly there there' on on' : Bool) → there ≡ there' → (on ≡ false → on' ≡ false) → (deadly || not there || not on) ≡ true → (deadly || not there' || not on') ≡ true
+pub may_by : (deadly there there' on on' : Bool) → there ≡ there' → (on ≡ false → on' ≡ false) → (deadly || not there || not on) ≡ true → (deadly || not there' || not on') ≡ true
 may_by deadly there there' on on' same off is = subst (λ b. (deadly || not b || not on') ≡ true) same (by_on deadly there on off is)
   where
     by_on : (deadly there on : Bool) → (on ≡ false → on' ≡ false) → (deadly || not there || not on) ≡ true → (deadly || not there || not on') ≡ true

@@ -45,7 +45,7 @@ pub record LateOp (s : Settings) (rank : ℕ) (calls : List Call) (ops : List Di
   pub fits : IsOperation s op
   pub among : AreAmong s rank (without calls (suc place)) (without ops (suc at))
 
-late_op : {s : Settings} {rank : ℕ} {calls : List Call} {ops : List DiskOp} (place : ℕ) (write : Call) → AreAmong s rank calls ops → slice_get calls place ≡ Some write
+pub late_op : {s : Settings} {rank : ℕ} {calls : List Call} {ops : List DiskOp} (place : ℕ) (write : Call) → AreAmong s rank calls ops → slice_get calls place ≡ Some write
     → LateOp s rank calls ops place write
 late_op place write NoCall is = absurd cc
 late_op place write (Skips op rest) is =

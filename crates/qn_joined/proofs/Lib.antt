@@ -20,4 +20,8 @@ mod Rows
 mod Standing
 mod Stands
 mod Taking
+mod TripleAsking
+mod TripleFrames
+mod TripleSteps
+mod TripleTells
 mod Worlds

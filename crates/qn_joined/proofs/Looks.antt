@@ -50,7 +50,7 @@ all_said all (out.Disarm ∷ outs) there = all_said all outs there
 all_said all (out.Halt kind ∷ outs) there = all_said all outs there
 
 -- what came out of an entry was sent with it
-said_newest : (s : Settings) (rank : ℕ) (entry : What) (ms : List Moment)
+pub said_newest : (s : Settings) (rank : ℕ) (entry : What) (ms : List Moment)
     → AllSaid (packets s (Adds rank entry ∷ ms)) (newest_outs (node s rank (Adds rank entry ∷ ms)).log)
 unfolding packets given_out
 said_newest s rank entry ms =
@@ -60,7 +60,7 @@ view_comes : (rank : ℕ) (log : List Line) (took : Option What) (all : List Sen
 view_comes rank log took all None = tt
 view_comes rank log took all (Some view) = tt
 
-looked_comes : (rank : ℕ) (log : List Line) (took : Option What) (all : List Sent) (tick : ℕ) (chosen : Choice) (maker : Option Maker)
+pub looked_comes : (rank : ℕ) (log : List Line) (took : Option What) (all : List Sent) (tick : ℕ) (chosen : Choice) (maker : Option Maker)
     → ComesAs rank log took all chosen → ComesIn rank log took all (looked tick chosen maker).1
 looked_comes rank log took all tick (choice.Whole entry) maker is = is
 looked_comes rank log took all tick (choice.Open p) None is = tt
@@ -68,7 +68,7 @@ looked_comes rank log took all tick (choice.Open p) (Some m) is = view_comes ran
 
 module _ {s : Settings} {rank : ℕ} (host : Host) (chosen : Choice × RunState) {n : Running} {took : Option What} {left : List DiskOp} {all : List Sent} where
   -- a node whose host is to look at the clock runs
-  lives_of : IsNode s rank (at host (Looking chosen)) n took left all → host.on ≡ true → host.asked ≡ true → n.on ≡ true
+  pub lives_of : IsNode s rank (at host (Looking chosen)) n took left all → host.on ≡ true → host.asked ≡ true → n.on ≡ true
   lives_of is on asked = by_gone (is_gone (phase s chosen.1.log)) refl
     where
       by_gone : (b : Bool) → is_gone (phase s chosen.1.log) ≡ b → n.on ≡ true
@@ -78,7 +78,7 @@ module _ {s : Settings} {rank : ℕ} (host : Host) (chosen : Choice × RunState)
   among_of : IsNode s rank (at host (Looking chosen)) n took left all → n.on ≡ true → AreAmong s rank host.left (left ++ given_up (op_out n.log) took)
   among_of is lives = subst (λ l. AreAmong s rank host.left (left ++ l)) (ap (λ b. if b && true then given_up (op_out n.log) took else []) lives) is.among
 
-  ready_of : IsNode s rank (at host (Looking chosen)) n took left all → host.on ≡ true → n.on ≡ true → IsReady s rank host chosen n took left
+  pub ready_of : IsNode s rank (at host (Looking chosen)) n took left all → host.on ≡ true → n.on ≡ true → IsReady s rank host chosen n took left
   ready_of is on lives = record {
     log = is.log lives;
     clock = is.clock lives;

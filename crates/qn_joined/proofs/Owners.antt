@@ -30,7 +30,7 @@ configured {s} {t} {j} has rank on = by_order (cases_lt rank (length s.nodes))
     by_order (inr out) = absurd (let off = has.world.off rank out in cc)
 
 -- a process that has not looked at the clock runs no resource
-asked_runs : {s : Settings} {rank : ℕ} {host : Host} {n : Running} {took : Option What} {left : List DiskOp} {all : List Sent}
+pub asked_runs : {s : Settings} {rank : ℕ} {host : Host} {n : Running} {took : Option What} {left : List DiskOp} {all : List Sent}
     → IsNode s rank host n took left all → host.on ≡ true → host.runs ≡ true → host.asked ≡ true
 asked_runs {host = host} is on runs = by_asked host.asked refl
   where
@@ -39,7 +39,7 @@ asked_runs {host = host} is on runs = by_asked host.asked refl
     by_asked false e = absurd (let fresh = is.fresh on e in let quiet = fresh.runs in cc)
 
 -- nor does a node that is gone
-living_runs : {s : Settings} {rank : ℕ} {host : Host} {n : Running} {took : Option What} {left : List DiskOp} {all : List Sent}
+pub living_runs : {s : Settings} {rank : ℕ} {host : Host} {n : Running} {took : Option What} {left : List DiskOp} {all : List Sent}
     → IsNode s rank host n took left all → host.on ≡ true → Owns host.stand.spot host.runs → host.runs ≡ true
     → is_gone (phase s (log_at host.stand.spot)) ≡ false
 living_runs {s = s} {host = host} is on owns runs = by_gone (is_gone (phase s (log_at host.stand.spot))) refl

@@ -34,7 +34,7 @@ pub asked_of : {s : Settings} {rank : ℕ} {host : Host} {n : Running} {took : O
     → IsNode s rank host n took left all → n.on ≡ true → host.asked ≡ true
 asked_of {s} {rank} {host} is on = second_of_three host.on host.asked (not (is_gone (phase s (log_at host.stand.spot)))) (sym is.on ∙ on)
 
-passes_node : {s : Settings} {rank : ℕ} {host : Host} {n : Running} {took : Option What} {left : List DiskOp} {all : List Sent} (all' : List Sent) (advance : ℕ)
+pub passes_node : {s : Settings} {rank : ℕ} {host : Host} {n : Running} {took : Option What} {left : List DiskOp} {all : List Sent} (all' : List Sent) (advance : ℕ)
     → Grows all all'
     → IsNode s rank host n took left all
     → IsNode s rank (record host { clock = (if host.asked then host.clock + advance else host.clock) }) (advanced advance n) took left all'
@@ -60,15 +60,15 @@ passes_node {s} {rank} {host} {n} {took} {left} {all} all' advance grows is =
       rests = is.rests;
     }
 
-both_of : (a b c d : Bool) → (a ≡ true → b ≡ true) → (c ≡ true → d ≡ true) → (a && c) ≡ true → (b && d) ≡ true
+pub both_of : (a b c d : Bool) → (a ≡ true → b ≡ true) → (c ≡ true → d ≡ true) → (a && c) ≡ true → (b && d) ≡ true
 both_of true b c d g h is = ap (λ x. x && d) (g refl) ∙ h is
 both_of false b c d g h is = absurd cc
 
-all_of : {A : Type 0} (p q : A → Bool) (items : List A) → ((x : A) → p x ≡ true → q x ≡ true) → list_all p items ≡ true → list_all q items ≡ true
+pub all_of : {A : Type 0} (p q : A → Bool) (items : List A) → ((x : A) → p x ≡ true → q x ≡ true) → list_all p items ≡ true → list_all q items ≡ true
 all_of p q [] h is = refl
 all_of p q (x ∷ items) h is = both_of (p x) (q x) (list_all p items) (list_all q items) (h x) (λ rest. all_of p q items h rest) is
 
-in_all : (test : ℕ → Bool) (count from : ℕ) → ((k : ℕ) → from ≤ k → k < from + count → test k ≡ true) → list_all test (range_with_len from count) ≡ true
+pub in_all : (test : ℕ → Bool) (count from : ℕ) → ((k : ℕ) → from ≤ k → k < from + count → test k ≡ true) → list_all test (range_with_len from count) ≡ true
 in_all test zero from h = refl
 in_all test (suc count) from h =
     ap (λ b. b && list_all test (range_with_len (from + 1) count)) (h from (omega arith) (omega arith))
@@ -77,7 +77,7 @@ in_all test (suc count) from h =
 outlives_more : (t : Timing) (now old new : ℕ) → old ≤ new → outlives t now old ≡ true → outlives t now new ≡ true
 outlives_more t now old new le is = le-leb (99 * (now - new)) (100 * t.watchdog) (let was = leb-true (99 * (now - old)) (100 * t.watchdog) is in omega (arith, was, le))
 
-passes_by : (t : Timing) (dt advance now : ℕ) (n : Running) (fed : ℕ) (b : Bool) → n.on ≡ b → (b ≡ true → fed ≤ n.fed)
+pub passes_by : (t : Timing) (dt advance now : ℕ) (n : Running) (fed : ℕ) (b : Bool) → n.on ≡ b → (b ≡ true → fed ≤ n.fed)
     → (if b then is_within_bounds dt advance && outlives t (now + dt) fed else true) ≡ true → passes t dt advance now n ≡ true
 passes_by t dt advance now n fed false e le is = ap (λ b. if b then is_within_bounds dt advance && outlives t (now + dt) n.fed else true) e
 passes_by t dt advance now n fed true e le is =

@@ -71,7 +71,7 @@ greeting_counts (packet.Ask ask) q is e c = cc
 greeting_counts (packet.Tell tell) q is e c = cc
 greeting_counts (packet.Vote agrees) q is e c = cc
 
-sent_blank : (made : Call) → sent_by made ≡ sent_by (blank made)
+pub sent_blank : (made : Call) → sent_by made ≡ sent_by (blank made)
 sent_blank (call.Now tick) = refl
 sent_blank (call.Receive got) = refl
 sent_blank (call.Read sector read ok) = refl
@@ -118,7 +118,7 @@ output_sent all to p back sent receiver bytes q there spelled c =
 
 module _ (s : Settings) (rank : ℕ) (host : Host) (n : Running) (took : Option What) (left : List DiskOp) (all : List Sent) where
   -- what a call that waits sends is known
-  sends_known : (spot : Spot) (asked_call : Call) → PacketsReadBack → IsNode s rank (at host spot) n took left all → host.on ≡ true → host.asked ≡ true
+  pub sends_known : (spot : Spot) (asked_call : Call) → PacketsReadBack → IsNode s rank (at host spot) n took left all → host.on ≡ true → host.asked ≡ true
       → option_map_or is_well_formed (packet_said spot) true ≡ true
       → waits_for s rank (at host spot) ≡ Some asked_call
       → Knows (sent_by asked_call) all

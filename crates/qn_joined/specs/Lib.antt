@@ -5,3 +5,6 @@ pub mod Owning
 pub mod Stands
 pub mod Theorem
 pub mod WorldOf
+pub mod TripleJoints
+pub mod TripleNodes
+pub mod TripleWorldOf

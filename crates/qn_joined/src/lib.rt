@@ -12,6 +12,7 @@
 #![tactic(auto)]
 
 mod laws;
+mod triple_laws;
 
 pub use laws::{
     law_begins_as_node, law_boots_in_world, law_ends_in_world, law_feeds_in_world,
@@ -19,3 +20,4 @@ pub use laws::{
     law_owned, law_packets_read_back, law_processes, law_returns_as_node, law_returns_own,
     law_stands, law_takes_alike, law_worlds,
 };
+pub use triple_laws::law_triple_calls;

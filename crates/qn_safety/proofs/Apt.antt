@@ -318,8 +318,8 @@ lives_on s me past (what.Stopped ok) timely fit apt live none open' = live
 lives_on s me past what.Leave timely fit apt live none open' = refl
 lives_on s me past (what.Closed ok) timely fit apt live none open' = absurd (true≢false open')
 
-state_apt : (s : Settings) (log : List Line) (op : DiskOp) → is_live (phase s log) ≡ true → LiveState s log op → is_apt (Some op) (phase s log) ≡ true
-state_apt s log disk.ReadMail live state = by_live (phase s log) live
+state_apt : (s : Settings) (me : ℕ) (log : List Line) (op : DiskOp) → is_live (phase s log) ≡ true → LiveState s me log op → is_apt (Some op) (phase s log) ≡ true
+state_apt s me log disk.ReadMail live state = by_live (phase s log) live
   where
     by_live : (p : Phase) → is_live p ≡ true → is_apt (Some disk.ReadMail) p ≡ true
     by_live Up e = refl
@@ -327,13 +327,13 @@ state_apt s log disk.ReadMail live state = by_live (phase s log) live
     by_live Booting e = absurd (false≢true e)
     by_live Dying e = absurd (false≢true e)
     by_live Gone e = absurd (false≢true e)
-state_apt s log (disk.ReadSlot rank) live state = subst (λ p. is_apt (Some (disk.ReadSlot rank)) p ≡ true) (sym (up_is (phase s log) state.0)) refl
-state_apt s log disk.CheckMail live state = absurd state
-state_apt s log (disk.WriteReset rank) live state = subst (λ p. is_apt (Some (disk.WriteReset rank)) p ≡ true) (sym (up_is (phase s log) state.0)) refl
-state_apt s log (disk.WriteClose number) live state = subst (λ p. is_apt (Some (disk.WriteClose number)) p ≡ true) (sym (leaving_is (phase s log) state.0)) refl
-state_apt s log disk.ReadHeader live state = absurd state
-state_apt s log (disk.WriteClaim number) live state = absurd state
-state_apt s log disk.WriteClear live state = absurd state
+state_apt s me log (disk.ReadSlot rank) live state = subst (λ p. is_apt (Some (disk.ReadSlot rank)) p ≡ true) (sym (up_is (phase s log) state.0)) refl
+state_apt s me log disk.CheckMail live state = absurd state
+state_apt s me log (disk.WriteReset rank) live state = subst (λ p. is_apt (Some (disk.WriteReset rank)) p ≡ true) (sym (up_is (phase s log) state.0)) refl
+state_apt s me log (disk.WriteClose number) live state = subst (λ p. is_apt (Some (disk.WriteClose number)) p ≡ true) (sym (leaving_is (phase s log) state.0)) refl
+state_apt s me log disk.ReadHeader live state = absurd state
+state_apt s me log (disk.WriteClaim number) live state = absurd state
+state_apt s me log disk.WriteClear live state = absurd state
 
 -- an operation that a line gives is apt in the phase after it
 apt_given : (s : Settings) (me : ℕ) (line : Line) (past : List Line) (op : DiskOp) → IsLine s me line past → is_apt (op_out past) (phase s past) ≡ true
@@ -343,7 +343,7 @@ apt_given s me line past op it apt (inl boots) =
     subst (λ p. is_apt (Some op) (next_phase s line.what (in_time line.tick past) p) ≡ true) (sym (booting_is (phase s past) boots.booting))
     (step_apt me line.what op _ (boot_step_of s me _ line.what op (in_time line.tick past) boots.goes_on boots.next))
 apt_given s me line past op it apt (inr lives) =
-    state_apt s (before_outs line past) op (lives_on s me past line.what (in_time line.tick past) it.fitting apt lives.live lives.lives_on lives.not_closed) lives.state
+    state_apt s me (before_outs line past) op (lives_on s me past line.what (in_time line.tick past) it.fitting apt lives.live lives.lives_on lives.not_closed) lives.state
 
 apt_step : (s : Settings) (me : ℕ) (line : Line) (past : List Line) → IsLine s me line past → is_apt (op_out past) (phase s past) ≡ true
     → (given : Option DiskOp) (answer : Bool) → disk_of line.outs ≡ given → is_answer line.what ≡ answer

@@ -42,7 +42,7 @@ pub data IsAllowed (s : Settings) (t : Timing) : List Event → Type 0 where
   OneEvent : {e : Event} {earlier : List Event} → is_ranked s e ≡ true → refusal s t e (run s t earlier) ≡ None → IsAllowed s t earlier → IsAllowed s t (e ∷ earlier)
 
 -- a well formed event boots a configured node, where it boots one
-ranked_of : (s : Settings) (e : Event) → is_well_formed s e ≡ true → is_ranked s e ≡ true
+pub ranked_of : (s : Settings) (e : Event) → is_well_formed s e ≡ true → is_ranked s e ≡ true
 unfolding is_well_formed
 ranked_of s (event.Boot rank base) form = first_of_both (is_configured s rank.0) (nat_le base 1000000000000000) form
 ranked_of s (event.BootClean rank base) form = first_of_both (is_configured s rank.0) (nat_le base 1000000000000000) form

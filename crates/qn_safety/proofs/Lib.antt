@@ -44,3 +44,4 @@ pub mod TriplePremises
 pub mod LogMoves
 pub mod UpNodes
 pub mod NodeLogs
+pub mod TripleNodes

@@ -353,7 +353,7 @@ op_fits {s = s} {me = me} {log = log} made below (disk.WriteReset rank) e =
 op_fits made below (disk.WriteClose number) e = claimed_fits made number (out_closes made number e)
 
 -- a log of a configured node, that went on up to its newest entry
-node_log : {s : Settings} {me : ℕ} (log : List Line) → Made s me log → me < length s.nodes → is_gone (phase s (older log)) ≡ false → IsNodeLog s log
+pub node_log : {s : Settings} {me : ℕ} (log : List Line) → Made s me log → me < length s.nodes → is_gone (phase s (older log)) ≡ false → IsNodeLog s log
 unfolding phase op_out
 node_log {s = s} [] made below before = record {
   last = refl;

@@ -41,22 +41,23 @@ pub record BootReason (s : Settings) (me : ℕ) (past log : List Line) (entry : 
   pub next : boot_op me (begins_clean log) (slot_number log) entry ≡ Some op
 
 -- the state that a node that takes part asks for an operation in
-abbrev pub LiveState : Settings → List Line → DiskOp → Type 0
-LiveState s log disk.ReadMail = Unit {0}
-LiveState s log (disk.ReadSlot rank) = (is_up (phase s log) ≡ true) × (is_in_view log rank.0 ≡ false) × (rank.0 < length s.nodes)
-LiveState s log (disk.WriteReset rank) = (is_up (phase s log) ≡ true) × (is_in_view log rank.0 ≡ false) × (rank.0 < length s.nodes)
-LiveState s log (disk.WriteClose number) = (is_leaving (phase s log) ≡ true) × (holds log ≡ false) × (incarnation log ≡ Some number)
-LiveState s log op = ⊥
+abbrev pub LiveState : Settings → ℕ → List Line → DiskOp → Type 0
+LiveState s me log disk.ReadMail = Unit {0}
+LiveState s me log (disk.ReadSlot rank) = (is_up (phase s log) ≡ true) × (is_in_view log rank.0 ≡ false) × (rank.0 < length s.nodes)
+LiveState s me log (disk.WriteReset rank) =
+    (is_up (phase s log) ≡ true) × (is_in_view log rank.0 ≡ false) × (rank.0 < length s.nodes) × (is_chosen s me log ≡ true)
+LiveState s me log (disk.WriteClose number) = (is_leaving (phase s log) ≡ true) × (holds log ≡ false) × (incarnation log ≡ Some number)
+LiveState s me log op = ⊥
 
-pub record LiveReason (s : Settings) (past log : List Line) (entry : What) (op : DiskOp) : Type 0 where
+pub record LiveReason (s : Settings) (me : ℕ) (past log : List Line) (entry : What) (op : DiskOp) : Type 0 where
   pub live : is_live (phase s past) ≡ true
   pub lives_on : deadly_of (message_of entry) ≡ None
   pub not_closed : is_closed entry ≡ false
   pub silent : op_out log ≡ None
-  pub state : LiveState s log op
+  pub state : LiveState s me log op
 
 abbrev pub Reason : Settings → ℕ → List Line → What → List Line → DiskOp → Type 0
-Reason s me past entry log op = BootReason s me past log entry op ⊎ LiveReason s past log entry op
+Reason s me past entry log op = BootReason s me past log entry op ⊎ LiveReason s me past log entry op
 
 pub record StartReason (s : Settings) (me : ℕ) (past log : List Line) : Type 0 where
   pub live : is_live (phase s past) ≡ true
@@ -118,43 +119,45 @@ now_or_later (Some other) over rank e = by_delay (over other) e
 to_reset_now_outside : (s : Settings) (log : List Line) (rank : ℕ) → to_reset_now s log ≡ Some rank → (is_in_view log rank ≡ false) × (rank < length s.nodes)
 to_reset_now_outside s log rank e = to_reset_outside s log rank (now_or_later (to_reset s log) (is_delay_over s log) rank e)
 
-fencing_state : (s : Settings) (log : List Line) (read reset : Option ℕ) (op : DiskOp)
+fencing_state : (s : Settings) (me : ℕ) (log : List Line) (read reset : Option ℕ) (op : DiskOp)
     → is_up (phase s log) ≡ true
+    → is_chosen s me log ≡ true
     → ((rank : ℕ) → read ≡ Some rank → (is_in_view log rank ≡ false) × (rank < length s.nodes))
     → ((rank : ℕ) → reset ≡ Some rank → (is_in_view log rank ≡ false) × (rank < length s.nodes))
     → option_or (option_map (λ rank. disk.ReadSlot (rank_of rank)) read) (option_map (λ rank. disk.WriteReset (rank_of rank)) reset) ≡ Some op
-    → LiveState s log op
-fencing_state s log (Some rank) reset op up p q e = subst (λ o. LiveState s log o) (same_Some _ _ e) (up, (p rank refl).0, (p rank refl).1)
-fencing_state s log None (Some rank) op up p q e = subst (λ o. LiveState s log o) (same_Some _ _ e) (up, (q rank refl).0, (q rank refl).1)
-fencing_state s log None None op up p q e = none_is_not_some op e
+    → LiveState s me log op
+fencing_state s me log (Some rank) reset op up first p q e = subst (λ o. LiveState s me log o) (same_Some _ _ e) (up, (p rank refl).0, (p rank refl).1)
+fencing_state s me log None (Some rank) op up first p q e = subst (λ o. LiveState s me log o) (same_Some _ _ e) (up, (q rank refl).0, (q rank refl).1, first)
+fencing_state s me log None None op up first p q e = none_is_not_some op e
 
-close_state : (s : Settings) (log : List Line) (number : Option ℕ) (op : DiskOp)
+close_state : (s : Settings) (me : ℕ) (log : List Line) (number : Option ℕ) (op : DiskOp)
     → incarnation log ≡ number → is_leaving (phase s log) ≡ true → holds log ≡ false
-    → option_map (λ n. disk.WriteClose n) number ≡ Some op → LiveState s log op
-close_state s log None op n leaving held e = none_is_not_some op e
-close_state s log (Some number) op n leaving held e = subst (λ o. LiveState s log o) (same_Some _ _ e) (leaving, held, n)
+    → option_map (λ n. disk.WriteClose n) number ≡ Some op → LiveState s me log op
+close_state s me log None op n leaving held e = none_is_not_some op e
+close_state s me log (Some number) op n leaving held e = subst (λ o. LiveState s me log o) (same_Some _ _ e) (leaving, held, n)
 
-wanted_cases : (s : Settings) (log : List Line) (op : DiskOp) (before : Option DiskOp) (due leaving held fence : Bool) (fencing closing : Option DiskOp)
-    → (leaving ≡ true → held ≡ false → closing ≡ Some op → LiveState s log op)
-    → (fence ≡ true → fencing ≡ Some op → LiveState s log op)
+wanted_cases : (s : Settings) (me : ℕ) (log : List Line) (op : DiskOp) (before : Option DiskOp) (due leaving held fence : Bool) (fencing closing : Option DiskOp)
+    → (leaving ≡ true → held ≡ false → closing ≡ Some op → LiveState s me log op)
+    → (fence ≡ true → fencing ≡ Some op → LiveState s me log op)
     → (if is_some before then None else (if due then Some disk.ReadMail else (if leaving && not held then closing else (if fence then fencing else None)))) ≡ Some op
-    → (before ≡ None) × LiveState s log op
-wanted_cases s log op (Some other) due leaving held fence fencing closing p q e = none_is_not_some op e
-wanted_cases s log op None true leaving held fence fencing closing p q e = (refl, subst (λ o. LiveState s log o) (same_Some _ _ e) tt)
-wanted_cases s log op None false true false fence fencing closing p q e = (refl, p refl refl e)
-wanted_cases s log op None false true true true fencing closing p q e = (refl, q refl e)
-wanted_cases s log op None false true true false fencing closing p q e = none_is_not_some op e
-wanted_cases s log op None false false held true fencing closing p q e = (refl, q refl e)
-wanted_cases s log op None false false held false fencing closing p q e = none_is_not_some op e
+    → (before ≡ None) × LiveState s me log op
+wanted_cases s me log op (Some other) due leaving held fence fencing closing p q e = none_is_not_some op e
+wanted_cases s me log op None true leaving held fence fencing closing p q e = (refl, subst (λ o. LiveState s me log o) (same_Some _ _ e) tt)
+wanted_cases s me log op None false true false fence fencing closing p q e = (refl, p refl refl e)
+wanted_cases s me log op None false true true true fencing closing p q e = (refl, q refl e)
+wanted_cases s me log op None false true true false fencing closing p q e = none_is_not_some op e
+wanted_cases s me log op None false false held true fencing closing p q e = (refl, q refl e)
+wanted_cases s me log op None false false held false fencing closing p q e = none_is_not_some op e
 
 -- what a node that takes part wants next, it wants for a reason
-pub wanted_by : (s : Settings) (me : ℕ) (log : List Line) (op : DiskOp) → wanted_with_delay s me log ≡ Some op → (op_out log ≡ None) × LiveState s log op
+pub wanted_by : (s : Settings) (me : ℕ) (log : List Line) (op : DiskOp) → wanted_with_delay s me log ≡ Some op → (op_out log ≡ None) × LiveState s me log op
 unfolding wanted_with_delay
 wanted_by s me log op e =
-    wanted_cases s log op (op_out log) (is_mail_due log) (is_leaving (phase s log)) (holds log) (may_fence s me log) (fencing_op_with_delay s log) (close_op log)
-    (λ leaving held closing. close_state s log (incarnation log) op refl leaving held closing)
-    (λ fence fencing. fencing_state s log (to_read s log) (to_reset_now s log) op
+    wanted_cases s me log op (op_out log) (is_mail_due log) (is_leaving (phase s log)) (holds log) (may_fence s me log) (fencing_op_with_delay s log) (close_op log)
+    (λ leaving held closing. close_state s me log (incarnation log) op refl leaving held closing)
+    (λ fence fencing. fencing_state s me log (to_read s log) (to_reset_now s log) op
     (first_of_both (is_up (phase s log)) (quorate_with_tie s log (now log)) (first_of_both _ (is_chosen s me log) fence))
+    (second_of_both (is_up (phase s log) && quorate_with_tie s log (now log)) (is_chosen s me log) fence)
     (to_read_outside s log) (to_reset_now_outside s log) fencing)
     e
 

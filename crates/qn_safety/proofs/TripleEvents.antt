@@ -30,36 +30,51 @@ use Rattle.qn_safety.specs.TripleSteps.{landed_on, failed_on, done_triple, lands
 use Rattle.qn_safety.specs.Earlier.{before_total}
 use Rattle.qn_safety.proofs.Runs.{boots_le}
 use Rattle.qn_safety.proofs.Seats.{running_allows}
-use Rattle.qn_safety.proofs.Events.{newest_state, only_nothing, answer_unsent, packet_sent}
+use Rattle.qn_safety.specs.TripleNumbers.{AllMayTriple, is_ranked_triple}
+use Rattle.qn_safety.proofs.Events.{newest_state, only_nothing, ranked_of, answer_unsent, packet_sent}
 use Rattle.qn_safety.proofs.TripleSeats.{Effect, effect}
 use Rattle.qn_safety.proofs.TripleRising.{Height, Growth, height_step, first_height, up_top}
 
 -- events that are each allowed in their turn, newest first
 pub data IsAllowed (s : Settings) (t : Timing) : List TripleEvent → Type 0 where
   NoEvent : IsAllowed s t []
-  OneEvent : {e : TripleEvent} {earlier : List TripleEvent} → is_well_formed_triple s e ≡ true → refusal_triple s t e (run_triple s t earlier) ≡ None → IsAllowed s t earlier → IsAllowed s t (e ∷ earlier)
+  OneEvent : {e : TripleEvent} {earlier : List TripleEvent} → is_ranked_triple s e ≡ true → refusal_triple s t e (run_triple s t earlier) ≡ None → IsAllowed s t earlier → IsAllowed s t (e ∷ earlier)
+
+-- a well formed event boots a configured node, where it boots one
+ranked_of_triple : (s : Settings) (e : TripleEvent) → is_well_formed_triple s e ≡ true → is_ranked_triple s e ≡ true
+unfolding is_well_formed_triple
+ranked_of_triple s (triple.One event) form = ranked_of s event form
+ranked_of_triple s (triple.LandOn rank image) form = refl
+ranked_of_triple s (triple.FailOn rank image) form = refl
+ranked_of_triple s (triple.LateOn rank image number) form = refl
+ranked_of_triple s (triple.OperatorOn rank image message) form = refl
 
 pub allowed_of : (s : Settings) (t : Timing) (events : List TripleEvent) → AllAllowedTriple s t events → IsAllowed s t events
 unfolding AllAllowedTriple
 allowed_of s t [] all = NoEvent
-allowed_of s t (e ∷ earlier) all = OneEvent all.0 all.1 (allowed_of s t earlier all.2)
+allowed_of s t (e ∷ earlier) all = OneEvent (ranked_of_triple s e all.0) all.1 (allowed_of s t earlier all.2)
+
+pub may_of : (s : Settings) (t : Timing) (events : List TripleEvent) → AllMayTriple s t events → IsAllowed s t events
+unfolding AllMayTriple
+may_of s t [] all = NoEvent
+may_of s t (e ∷ earlier) all = OneEvent all.0 all.1 (may_of s t earlier all.2)
 
 pub allowed_before : {s : Settings} {t : Timing} {old new : List TripleEvent} → Before old new → IsAllowed s t new → IsAllowed s t old
 allowed_before Itself allowed = allowed
 allowed_before (Later newest more) (OneEvent form ok allowed) = allowed_before more allowed
 
 -- each event that is allowed adds a moment that obeys the rules, or none
-ruled_step : (s : Settings) (t : Timing) (e : TripleEvent) (w : TripleWorld) → is_well_formed_triple s e ≡ true → refusal_triple s t e w ≡ None
+ruled_step : (s : Settings) (t : Timing) (e : TripleEvent) (w : TripleWorld) → is_ranked_triple s e ≡ true → refusal_triple s t e w ≡ None
     → AllRuled s t w.moments → AllRuled s t (step_triple s t e w).moments
-unfolding is_well_formed_triple refusal_triple step_triple is_well_formed refusal step
+unfolding refusal_triple step_triple refusal step
 ruled_step s t (triple.One (event.Pass dt clocks)) w form ok ruled =
     let may = allowed (may_pass s t dt clocks (nodes_of w)) 1 ok in
     OneRuled (λ rank below. each_in_range (λ r. passes t dt (advance_of dt clocks r) (time w.moments) (node s r w.moments)) (length s.nodes) 0 rank
     (second_of_both (list_all (λ clock. is_on s clock.0.0 (nodes_of w)) clocks) _ may) (omega arith) (omega arith)) ruled
 ruled_step s t (triple.One (event.Boot rank base)) w form ok ruled =
-    OneRuled (not-true (is_on s rank.0 (nodes_of w)) (allowed (not (is_on s rank.0 (nodes_of w))) 2 ok), ltb-true rank.0 (length s.nodes) (first_of_both (is_configured s rank.0) (nat_le base 1000000000000000) form)) ruled
+    OneRuled (not-true (is_on s rank.0 (nodes_of w)) (allowed (not (is_on s rank.0 (nodes_of w))) 2 ok), ltb-true rank.0 (length s.nodes) form) ruled
 ruled_step s t (triple.One (event.BootClean rank base)) w form ok ruled =
-    OneRuled (not-true (is_on s rank.0 (nodes_of w)) (allowed (not (is_on s rank.0 (nodes_of w))) 2 ok), ltb-true rank.0 (length s.nodes) (first_of_both (is_configured s rank.0) (nat_le base 1000000000000000) form)) ruled
+    OneRuled (not-true (is_on s rank.0 (nodes_of w)) (allowed (not (is_on s rank.0 (nodes_of w))) 2 ok), ltb-true rank.0 (length s.nodes) form) ruled
 ruled_step s t (triple.One (event.Crash rank)) w form ok ruled = OneRuled (running_allows (is_on s rank.0 (nodes_of w)) 3 ok) ruled
 ruled_step s t (triple.One (event.Land rank)) w form ok ruled = ruled
 ruled_step s t (triple.One (event.Fail rank)) w form ok ruled = ruled
@@ -156,7 +171,7 @@ pub record Stage (s : Settings) (t : Timing) (events : List TripleEvent) : Type 
   pub ruled : AllRuled s t (run_triple s t events).moments
   pub height : (j : ℕ) → Height s t j (run_triple s t events)
 
-stage_step : (s : Settings) (t : Timing) (e : TripleEvent) (w w' : TripleWorld) → w' ≡ step_triple s t e w → is_well_formed_triple s e ≡ true → refusal_triple s t e w ≡ None → AllRuled s t w.moments
+stage_step : (s : Settings) (t : Timing) (e : TripleEvent) (w w' : TripleWorld) → w' ≡ step_triple s t e w → is_ranked_triple s e ≡ true → refusal_triple s t e w ≡ None → AllRuled s t w.moments
     → ((j : ℕ) → Height s t j w) → (AllRuled s t w'.moments) × ((j : ℕ) → Height s t j w')
 stage_step s t e w w' same form ok ruled height =
     let ruled' : AllRuled s t (step_triple s t e w).moments = ruled_step s t e w form ok ruled in

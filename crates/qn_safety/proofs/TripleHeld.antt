@@ -52,7 +52,7 @@ pub record Next (s : Settings) (t : Timing) (j top : ℕ) (x x' : TripleSeat) : 
   pub rises : x'.on ≡ true → is_booting (phase s x'.log) ≡ false → ((x.on ≡ true) × (is_booting (phase s x.log) ≡ false)) ⊎ (top < now)
 
 -- the answer of the clear ends the boot
-cleared_phase : (s : Settings) (line : Line) (past : List Line) (ok : Bool) → line.what ≡ what.Cleared ok → is_booting (phase s (line ∷ past)) ≡ false
+pub cleared_phase : (s : Settings) (line : Line) (past : List Line) (ok : Bool) → line.what ≡ what.Cleared ok → is_booting (phase s (line ∷ past)) ≡ false
 cleared_phase s line past true reads = ap is_booting (phase_of s line past (what.Cleared true) reads)
 cleared_phase s line past false reads = ap is_booting (phase_of s line past (what.Cleared false) reads)
 

@@ -11,7 +11,8 @@ use Rattle.qn_safety.specs.TripleWorld.{nodes_of}
 use Rattle.qn_safety.specs.TripleSteps.{run_triple, AllAllowedTriple}
 use Rattle.qn_safety.proofs.Incarnations.{reported_holder}
 use Rattle.qn_safety.proofs.Pairs.{at_most_one}
-use Rattle.qn_safety.proofs.TripleEvents.{IsAllowed, allowed_of, stage, numbers_rise}
+use Rattle.qn_safety.specs.TripleNumbers.{OneMayHoldTriple}
+use Rattle.qn_safety.proofs.TripleEvents.{IsAllowed, allowed_of, may_of, stage, numbers_rise}
 use Rattle.qn_safety.proofs.TripleFacts.{headers_agree, clean_means_closed}
 use Rattle.qn_safety.proofs.TripleMail.{written_means_bad_mail}
 
@@ -37,3 +38,8 @@ one_triple_holder s t events i j safe all first second =
 pub one_triple_reported : OneTripleReported
 one_triple_reported s t events i j safe all first second =
     one_triple_holder s t events i j safe all (reported_holder s (nodes_of (run_triple s t events)) i first) (reported_holder s (nodes_of (run_triple s t events)) j second)
+
+-- the same of events with any numbers
+pub one_may_hold_triple : (s : Settings) (t : Timing) → is_safe t ≡ true → OneMayHoldTriple s t
+one_may_hold_triple s t safe events i j all first second =
+    at_most_one (timed (may_of s t events all)) safe (run_triple s t events).moments Itself i j first second

@@ -17,3 +17,4 @@ pub mod TripleReported
 pub mod AnyNumbers
 pub mod Boots
 pub mod NodeLogs
+pub mod TripleNumbers

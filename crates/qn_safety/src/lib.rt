@@ -11,7 +11,8 @@
 //! node that is up `law_up_nodes`, and what holds of the log of each configured node `law_node_logs`.
 //! The premises are met by a schedule in which two nodes hold, one after the other (`law_premises_are_met`). The same
 //! is said of a disk of three images, any one of which may fail: `law_triple_no_two_holders`,
-//! `law_triple_runs_are_timed`, `law_triple_premises_are_met`, over the world of `specs/TripleSteps`.
+//! `law_triple_runs_are_timed`, `law_triple_premises_are_met`, over the world of `specs/TripleSteps`; of events with any numbers
+//! `law_triple_any_numbers`, and of each node then `law_triple_nodes`.
 //!
 //! A crate above cites a law by a call of it; how a lemma under a proof takes a clause stands at the head of
 //! `specs/Reported`.
@@ -35,5 +36,6 @@ pub use log_laws::{law_boots, law_log_moves, law_node_logs, law_up_nodes};
 pub use part::Part;
 pub use triple_event::TripleEvent;
 pub use triple_laws::{
-    law_triple_no_two_holders, law_triple_premises_are_met, law_triple_runs_are_timed,
+    law_triple_any_numbers, law_triple_no_two_holders, law_triple_nodes,
+    law_triple_premises_are_met, law_triple_runs_are_timed,
 };

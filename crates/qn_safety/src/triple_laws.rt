@@ -8,6 +8,7 @@ ghost use Rattle.qn_model.specs.Steps.{holders};
 ghost use Rattle.qn_model.specs.Timing.{is_safe};
 ghost use Rattle.qn_safety.specs.declared.triple_event.TripleEvent.{TripleEvent};
 ghost use Rattle.qn_safety.specs.Timed.{IsTimedRun};
+ghost use Rattle.qn_safety.specs.TripleNumbers.{OneMayHoldTriple, TripleNodesHold};
 ghost use Rattle.qn_safety.specs.TriplePremises.{OneAfterAnotherOnTwo};
 ghost use Rattle.qn_safety.specs.TripleSteps.{AllAllowedTriple, run_triple};
 ghost use Rattle.qn_safety.specs.TripleWorld.{nodes_of};
@@ -42,4 +43,17 @@ pub fn law_triple_runs_are_timed()
 /// the three images is lost all the time, and two nodes hold the resource, one after the other.
 pub fn law_triple_premises_are_met()
     ensures { OneAfterAnotherOnTwo }
+{}
+
+/// In the world of three images after any events that the rules allow, whatever their numbers, at most one node holds the
+/// resource, for all settings and all safe timing: `law_triple_no_two_holders` is this law of well formed events.
+pub fn law_triple_any_numbers()
+    ensures { (s : Settings) (t : Timing) → IsTrue (is_safe t) → OneMayHoldTriple s t }
+{}
+
+/// What holds of each configured node in the world of three images after any events that the rules allow, whatever their
+/// numbers: its log is one as `law_node_logs` says, two of its images at least are good while it runs, and all three where it
+/// checks its mailbox for a clean start.
+pub fn law_triple_nodes()
+    ensures { (s : Settings) (t : Timing) → TripleNodesHold s t }
 {}

@@ -1,0 +1,230 @@
+-- The image that an operation is asked of, what its call did there, and what is left to be asked then.
+use Rattle.std.proofs.Common.{◌≡◌, ◌<◌, ◌≤◌, ◌+◌, ◌-◌, ◌*◌, ℕ, zero, suc, Bool, true, false, List, [], ◌∷◌, ◌++◌, Option, None, Some, ◌==◌, if◌then◌else◌, refl, sym, ap, subst, ◌∙◌, arith, ◌⊎◌, inl, inr}
+use Rattle.std.specs.Prelude.{◌^◌, length, nat_lt}
+use Rattle.std.specs.Option.{option_map_or}
+use Rattle.std.proofs.lemmas.Bool.{lt-ltb, ltb-true}
+use Rattle.qn_base.specs.declared.calls.Call.{Call}
+use Rattle.qn_base.specs.declared.calls.Call.TheVariants as call
+use Rattle.qn_base.specs.Calls.{blank, is_failed}
+use Rattle.qn_base.specs.Plans as plans
+use Rattle.qn_base.specs.Plans.{Plan, question}
+use Rattle.qn_io.specs.Answered.{bytes_read}
+use Rattle.qn_model.specs.declared.configuration.Settings.{Settings}
+use Rattle.qn_model.specs.declared.times.Timing.{Timing}
+use Rattle.qn_model.specs.declared.entries.What.{What}
+use Rattle.qn_model.specs.declared.outputs.DiskOp.{DiskOp}
+use Rattle.qn_model.specs.declared.outputs.DiskOp.TheVariants as disk
+use Rattle.qn_model.specs.declared.packets.Sent.{Sent}
+use Rattle.qn_model.specs.Log.{op_out}
+use Rattle.qn_model.specs.Moments.{Running}
+use Rattle.qn_model.specs.Sectors.{mail_place, slot_place}
+use Rattle.qn_model.specs.World.{put}
+use Rattle.qn_parts.specs.Parts.{is_good_on}
+use Rattle.qn_safety.specs.declared.part.Part.{Part}
+use Rattle.qn_safety.specs.declared.part.Part.TheVariants.{Pending, Landed, Failed}
+use Rattle.qn_safety.specs.NodeLogs.{IsNodeLog, IsOperation}
+use Rattle.qn_live.specs.Performing.{disk_call, done}
+use Rattle.qn_live.specs.TripleDisk.{Told, call_plan, part_of, sector_on}
+use Rattle.qn_joined.specs.Joints.{FitsImage, Host, is_disk, waits_for}
+use Rattle.qn_joined.specs.TripleJoints.{TripleHost, call_on_three, image_named, image_of_sector, image_waited}
+use Rattle.qn_joined.specs.TripleNodes.{AllAre, AreSilent, IsAhead, IsAsking, IsNodeOnThree, PartHere, PartsAre}
+use Rattle.qn_joined.specs.TripleWorldOf.{IsAnswered, IsEnough, IsHeld, IsHonest, IsLeft, ToldBy, all_told, image_before, none_told, on_image, told_also}
+use Rattle.qn_joined.specs.WorldOf.{IsNode, disk_ahead}
+use Rattle.qn_joined.proofs.Landing.{DiskWaits, disk_waits}
+
+-- ## Parts
+
+none_here : (s : Settings) (t : Timing) (op : DiskOp) (images : ℕ) (by : ToldBy) (parts : ℕ → Part) → AllAre by parts → AreSilent (suc images) by → PartsAre s t op images None by parts
+none_here s t op zero by parts are silent = (are.2 ∙ silent, are.0, are.1)
+none_here s t op (suc zero) by parts are silent = (are.1 ∙ silent.1, are.0, are.2)
+none_here s t op (suc (suc more)) by parts are silent = (are.0 ∙ silent.2, are.1, are.2)
+
+less_silent : (images : ℕ) (by : ToldBy) → AreSilent (suc images) by → AreSilent images by
+less_silent zero by silent = tt
+less_silent (suc zero) by silent = silent.0
+less_silent (suc (suc zero)) by silent = (silent.0, silent.1)
+less_silent (suc (suc (suc more))) by silent = silent
+
+told_silent : (images : ℕ) (part : Part) (by : ToldBy) → AreSilent (suc images) by → images < 3 → AreSilent images (told_also images part by)
+told_silent zero part by silent less = tt
+told_silent (suc zero) part by silent less = silent.0
+told_silent (suc (suc zero)) part by silent less = (silent.0, silent.1)
+told_silent (suc (suc (suc more))) part by silent less = absurd (omega (arith, less))
+
+-- what is left to be asked: an image is asked, or none and all told
+pub data Comes (s : Settings) (t : Timing) (rank number : ℕ) (op : DiskOp) (good : List Bool) (parts : ℕ → Part) (call : Plan Told) : Type 0 where
+  AsksOne : (asking : IsAsking s t rank op good None parts call) → asking.number ≡ number → Comes s t rank number op good parts call
+  AllTold : (told : Told) (by : ToldBy) → call ≡ plans.Ends told → IsAnswered s rank number op good by told → AllAre by parts → Comes s t rank number op good parts call
+
+pub comes_next : {s : Settings} {t : Timing} {rank number : ℕ} {op : DiskOp} {good : List Bool} {parts : ℕ → Part} (images : ℕ) (by : ToldBy) (call : Plan Told)
+    → IsLeft s t rank number op good images by call → images ≤ 3 → AllAre by parts → AreSilent images by → Comes s t rank number op good parts call
+comes_next zero by call is few are silent = AllTold is.0 by is.1 is.2 are
+comes_next {s} {t} {rank} {number} {op} {good} {parts} (suc images) by call is few are silent = by_asked is
+  where
+    by_asked : IsLeft s t rank number op good (suc images) by call → Comes s t rank number op good parts call
+    by_asked (inl rest) = comes_next images by call rest (omega (arith, few)) are (less_silent images by silent)
+    by_asked (inr asked) =
+        AsksOne (record { number = number; images = images; few = omega (arith, few); by = by; more = asked.0; asks = asked.1; next = asked.2; are = none_here s t op images by parts are silent; silent = silent }) refl
+
+-- ## Landing
+
+pub part_pending : {s : Settings} {t : Timing} {op : DiskOp} (images : ℕ) (by : ToldBy) (parts : ℕ → Part) → PartsAre s t op images None by parts → parts (image_before images) ≡ Pending
+part_pending zero by parts are = are.0
+part_pending (suc zero) by parts are = are.0
+part_pending (suc (suc more)) by parts are = are.0
+
+pub part_lands : {s : Settings} {t : Timing} {op : DiskOp} (images : ℕ) (by : ToldBy) (parts : ℕ → Part) (bytes : List ℕ) (value : What) → value ≡ done s op bytes → IsHeld s t op value → PartsAre s t op images None by parts
+    → PartsAre s t op images (Some bytes) by (put parts (image_before images) (Landed value))
+part_lands {s} {t} {op} zero by parts bytes value same held are = ((ap Landed same, subst (λ v. IsHeld s t op v) same held), are.1, are.2)
+part_lands {s} {t} {op} (suc zero) by parts bytes value same held are = ((ap Landed same, subst (λ v. IsHeld s t op v) same held), are.1, are.2)
+part_lands {s} {t} {op} (suc (suc more)) by parts bytes value same held are = ((ap Landed same, subst (λ v. IsHeld s t op v) same held), are.1, are.2)
+
+-- ## Returning
+
+pub told_failed : {s : Settings} {t : Timing} {op : DiskOp} {took : Option (List ℕ)} (images : ℕ) (by : ToldBy) (parts : ℕ → Part) (part : Part) → part ≡ Failed → PartsAre s t op images took by parts
+    → AllAre (told_also images part by) (put parts (image_before images) Failed)
+told_failed zero by parts part same are = (are.1, are.2, sym same)
+told_failed (suc zero) by parts part same are = (are.1, sym same, are.2)
+told_failed (suc (suc more)) by parts part same are = (sym same, are.1, are.2)
+
+pub told_landed : {s : Settings} {t : Timing} {op : DiskOp} {bytes : List ℕ} (images : ℕ) (by : ToldBy) (parts : ℕ → Part) (part : Part) → part ≡ Landed (done s op bytes) → PartsAre s t op images (Some bytes) by parts
+    → AllAre (told_also images part by) parts
+told_landed zero by parts part same are = (are.1, are.2, are.0.0 ∙ sym same)
+told_landed (suc zero) by parts part same are = (are.1, are.0.0 ∙ sym same, are.2)
+told_landed (suc (suc more)) by parts part same are = (are.0.0 ∙ sym same, are.1, are.2)
+
+-- ## The image that a call names
+
+named : (images sector : ℕ) → sector < 1024 → image_of_sector (sector_on (image_before images) sector) ≡ image_before images
+named zero sector small =
+    ap (λ b. if b then 1 else (if nat_lt (2048 + sector) 2048 then 2 else 3)) (not_under (2048 + sector) 1024 (omega arith))
+    ∙ ap (λ b. if b then 2 else 3) (not_under (2048 + sector) 2048 (omega arith))
+  where
+    not_under : (n m : ℕ) → m ≤ n → nat_lt n m ≡ false
+    not_under n m le = by_test (nat_lt n m) refl
+      where
+        by_test : (b : Bool) → nat_lt n m ≡ b → nat_lt n m ≡ false
+        by_test false e = e
+        by_test true e = absurd (let under = ltb-true n m e in omega (arith, under, le))
+named (suc zero) sector small =
+    ap (λ b. if b then 1 else (if nat_lt (1024 + sector) 2048 then 2 else 3)) (not_under (1024 + sector) 1024 (omega arith))
+    ∙ ap (λ b. if b then 2 else 3) (lt-ltb (1024 + sector) 2048 (omega (arith, small)))
+  where
+    not_under : (n m : ℕ) → m ≤ n → nat_lt n m ≡ false
+    not_under n m le = by_test (nat_lt n m) refl
+      where
+        by_test : (b : Bool) → nat_lt n m ≡ b → nat_lt n m ≡ false
+        by_test false e = e
+        by_test true e = absurd (let under = ltb-true n m e in omega (arith, under, le))
+named (suc (suc more)) sector small = ap (λ b. if b then 1 else (if nat_lt sector 2048 then 2 else 3)) (lt-ltb sector 1024 small)
+
+pub named_on : (s : Settings) (t : Timing) (rank number images : ℕ) (op : DiskOp) → FitsImage s t → rank < length s.nodes → IsOperation s op
+    → image_named (on_image (image_before images) (disk_call s rank number op)) ≡ image_before images
+unfolding disk_call
+named_on s t rank number images disk.ReadHeader fits below is = named images 0 (omega arith)
+named_on s t rank number images (disk.ReadSlot other) fits below is = named images (slot_place other.0) (omega (arith, is, fits.few))
+named_on s t rank number images disk.CheckMail fits below is = named images (mail_place rank) (omega (arith, below, fits.few))
+named_on s t rank number images disk.ReadMail fits below is = named images (mail_place rank) (omega (arith, below, fits.few))
+named_on s t rank number images (disk.WriteClaim next) fits below is = named images (slot_place rank) (omega (arith, below, fits.few))
+named_on s t rank number images (disk.WriteClose last) fits below is = named images (slot_place rank) (omega (arith, below, fits.few))
+named_on s t rank number images disk.WriteClear fits below is = named images (mail_place rank) (omega (arith, below, fits.few))
+named_on s t rank number images (disk.WriteReset other) fits below is = named images (mail_place other.0) (omega (arith, is, fits.few))
+
+-- ## The operation that a host asks for
+
+disk_on : (s : Settings) (rank number image : ℕ) (op : DiskOp) → is_disk (on_image image (disk_call s rank number op)) ≡ true
+unfolding disk_call
+disk_on s rank number image disk.ReadHeader = refl
+disk_on s rank number image (disk.ReadSlot other) = refl
+disk_on s rank number image disk.CheckMail = refl
+disk_on s rank number image disk.ReadMail = refl
+disk_on s rank number image (disk.WriteClaim next) = refl
+disk_on s rank number image (disk.WriteClose last) = refl
+disk_on s rank number image disk.WriteClear = refl
+disk_on s rank number image (disk.WriteReset other) = refl
+
+disk_once : (s : Settings) (rank number : ℕ) (op : DiskOp) → is_disk (disk_call s rank number op) ≡ true
+unfolding disk_call
+disk_once s rank number disk.ReadHeader = refl
+disk_once s rank number (disk.ReadSlot other) = refl
+disk_once s rank number disk.CheckMail = refl
+disk_once s rank number disk.ReadMail = refl
+disk_once s rank number (disk.WriteClaim next) = refl
+disk_once s rank number (disk.WriteClose last) = refl
+disk_once s rank number disk.WriteClear = refl
+disk_once s rank number (disk.WriteReset other) = refl
+
+-- a call that is none of the disk is made once
+pub once_made : (s : Settings) (rank : ℕ) (good : List Bool) (asked : Call) → is_disk asked ≡ false → call_plan s rank good asked ≡ plans.Asks asked (λ made. plans.Ends (made, good))
+once_made s rank good (call.Read sector bytes ok) none = absurd cc
+once_made s rank good (call.Write sector bytes ok) none = absurd cc
+once_made s rank good (call.Now tick) none = refl
+once_made s rank good (call.Receive got) none = refl
+once_made s rank good (call.Feed ok) none = refl
+once_made s rank good (call.Start ok) none = refl
+once_made s rank good (call.Stop ok) none = refl
+once_made s rank good (call.Send to bytes ok) none = refl
+once_made s rank good (call.Disarm ok) none = refl
+once_made s rank good (call.Halt code) none = refl
+once_made s rank good (call.OpenImage path ok) none = refl
+once_made s rank good (call.OpenNode images image watchdog resource port owner ok) none = refl
+
+plain_asked : (s : Settings) (rank : ℕ) (good : List Bool) (waiting : Option Call) → option_map_or is_disk waiting false ≡ false
+    → option_map_or is_disk (question (option_map_or (call_plan s rank good) waiting (plans.Ends (call.Now 0, good)))) false ≡ false
+plain_asked s rank good None none = refl
+plain_asked s rank good (Some asked) none = ap (λ p. option_map_or is_disk (question p) false) (once_made s rank good asked none) ∙ none
+
+-- a host asks for an operation of the disk, on an image
+pub record AsksDisk (s : Settings) (t : Timing) (rank : ℕ) (host : TripleHost) (n : Running) (took : Option What) (parts : ℕ → Part) (all : List Sent) : Type 0 where
+  pub waits : DiskWaits s rank host.one n took [] all
+  pub asking : IsAsking s t rank waits.op host.good host.took parts host.call
+  pub call : waits_for s rank host.one ≡ Some (disk_call s rank asking.number waits.op)
+
+module _ {s : Settings} {t : Timing} {rank : ℕ} {host : TripleHost} {n : Running} {parts : ℕ → Part} {left : ℕ → List DiskOp} {good : ℕ → Bool} {all : List Sent}
+    (is : IsNodeOnThree s t rank host n parts left good all) (on : host.one.on ≡ true)
+    (starts : (number : ℕ) (op : DiskOp) → n.on ≡ true → op_out n.log ≡ Some op → IsLeft s t rank number op host.good 3 none_told (call_plan s rank host.good (disk_call s rank number op))) where
+  some_call : {A : Type 0} {a b : A} → Some a ≡ Some b → a ≡ b
+  some_call e = cc
+
+  pub asks_disk : option_map_or is_disk (question host.call) false ≡ true → AsksDisk s t rank host n is.took parts all
+  asks_disk asks = by_call (option_map_or is_disk (waits_for s rank host.one) false) refl
+    where
+      by_disk : (d : DiskWaits s rank host.one n is.took [] all) → IsAhead s t rank host d.op parts → AsksDisk s t rank host n is.took parts all
+      by_disk d (inr asking) = record { waits = d; asking = asking.0; call = asking.1 }
+      by_disk d (inl fresh) =
+          by_next (comes_next 3 none_told (call_plan s rank host.good (disk_call s rank d.number d.op)) (starts d.number d.op d.lives d.out) (omega arith) fresh.0 (refl, refl, refl))
+        where
+          same : host.call ≡ call_plan s rank host.good (disk_call s rank d.number d.op)
+          same = fresh.2 ∙ ap (λ w. option_map_or (call_plan s rank host.good) w (plans.Ends (call.Now 0, host.good))) d.waits
+
+          by_next : Comes s t rank d.number d.op host.good parts (call_plan s rank host.good (disk_call s rank d.number d.op)) → AsksDisk s t rank host n is.took parts all
+          by_next (AllTold told by ends answered are) =
+              absurd (let none = sym asks ∙ ap (λ p. option_map_or is_disk (question p) false) (same ∙ ends) in cc)
+          by_next (AsksOne asking number) = record {
+            waits = d;
+            asking = subst (λ p. IsAsking s t rank d.op host.good host.took parts p) (sym same) (subst (λ k. IsAsking s t rank d.op host.good k parts (call_plan s rank host.good (disk_call s rank d.number d.op))) (sym fresh.1) asking);
+            call = d.waits ∙ ap (λ k. Some (disk_call s rank k d.op)) (sym (number_kept asking number));
+          }
+            where
+              number_kept : (a : IsAsking s t rank d.op host.good None parts (call_plan s rank host.good (disk_call s rank d.number d.op))) → a.number ≡ d.number
+                  → (subst (λ p. IsAsking s t rank d.op host.good host.took parts p) (sym same) (subst (λ k. IsAsking s t rank d.op host.good k parts (call_plan s rank host.good (disk_call s rank d.number d.op))) (sym fresh.1) a)).number ≡ d.number
+              number_kept a e = e
+
+      by_call : (b : Bool) → option_map_or is_disk (waits_for s rank host.one) false ≡ b → AsksDisk s t rank host n is.took parts all
+      by_call true disk = let d = disk_waits host.one n is.took [] all host.one.stand.spot is.one on disk in by_disk d (is.ahead d.lives d.op d.ahead)
+      by_call false plain = absurd (by_ahead (disk_ahead host.one.stand.spot) refl)
+        where
+          never : host.call ≡ call_on_three s rank host.good host.one → ⊥
+          never same = let none = sym asks ∙ ap (λ p. option_map_or is_disk (question p) false) same ∙ plain_asked s rank host.good (waits_for s rank host.one) plain in cc
+
+          by_ahead : (o : Option DiskOp) → disk_ahead host.one.stand.spot ≡ o → ⊥
+          by_ahead None e = never (is.idle e).1
+          by_ahead (Some op) e = by_lives n.on refl
+            where
+              by_how : IsAhead s t rank host op parts → ⊥
+              by_how (inl fresh) = never fresh.2
+              by_how (inr asking) = let both = sym plain ∙ ap (λ w. option_map_or is_disk w false) asking.1 ∙ disk_once s rank asking.0.number op in cc
+
+              by_lives : (b : Bool) → n.on ≡ b → ⊥
+              by_lives true lives = by_how (is.ahead lives op e)
+              by_lives false off = ahead_lives off e
