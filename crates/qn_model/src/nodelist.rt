@@ -1,6 +1,4 @@
 //! The configured nodes in ascending id, each with its votes.
-ghost use Rattle.std.specs.Prelude.{◌≡◌, ◌<◌, ◌==◌, IfSome, length, position};
-
 use arrayvec::ArrayVec;
 use qn_base::{Mask, NodeId, Rank};
 use std::marker::Model;
@@ -33,9 +31,7 @@ impl Model for Nodes {
 }
 
 impl Nodes {
-    ghost use Rattle.std.specs.Prelude.{◌≡◌, ◌<◌, ◌≤◌, ◌==◌, ◌*◌, [], ◌∷◌, ◌++◌, None, Some, IfNone, IfSome, length, position, slice_get, slice_index};
-    ghost use Rattle.qn_model.specs.Settings.{ids};
-    ghost use Rattle.qn_model.specs.Unmet.{id_from};
+    ghost use Rattle.std.specs.Prelude.{◌≡◌, ◌<◌, ◌≤◌, ◌==◌, ◌*◌, [], ◌∷◌, ◌++◌, Some, length, slice_get};
     ghost use Rattle.qn_model.specs.Votes.{are_all_in, votes_among};
 
     /// No nodes.
@@ -76,32 +72,6 @@ impl Nodes {
         ensures { slice_get self.now place ≡ Some result }
     {
         self.entries[place]
-    }
-
-    /// The id of the node of that rank, 0 where there is none.
-    pub fn id_of(&self, rank: Rank) -> NodeId
-        ensures id { result ≡ id_from self.now rank.0 }
-        ensures number { result.0 ≡ slice_index (ids self.now) rank.0 }
-        ensures few { rank.0 < length self.now → rank.0 < 32 }
-    {
-        let place = usize::from(rank.0);
-        if place < self.len() {
-            self.get(place).id
-        } else {
-            NodeId(0)
-        }
-    }
-
-    /// The rank of the node with that id.
-    pub fn rank_of(&self, id: u64) -> Option<Rank>
-        ensures named { IfSome result
-            (λ rank. position (λ node. node.id.0 == id) self.now ≡ Some rank.0) }
-        ensures unnamed { IfNone result (position (λ node. node.id.0 == id) self.now ≡ None) }
-        ensures within { IfSome result
-            (λ rank. (rank.0 < length self.now) × (rank.0 < 32)) }
-    {
-        let place = position_of(self.as_slice(), id)?;
-        Some(Rank(place as u8))
     }
 
     /// Adds a node after the others.
@@ -161,11 +131,4 @@ impl Nodes {
         }
         true
     }
-}
-
-fn position_of(nodes: &[NodeEntry], id: u64) -> Option<usize>
-    ensures value { result ≡ position (λ node. node.id.0 == id) nodes.now }
-    ensures within { IfSome result (λ place. place < length nodes.now) }
-{
-    nodes.iter().position(|node| u64::from(node.id.0) == id)
 }

@@ -1,11 +1,12 @@
 //! The first condition that blocks a start, by ranks.
 ghost use Rattle.std.specs.Prelude.{◌≡◌, ◌<◌, length};
+ghost use Rattle.qn_model.specs.Unmet.{id_of};
 ghost use Rattle.qn_plain.specs.Lack.{is_nothing, is_rank};
 
 use crate::past::Past;
 use crate::phases::is_up;
 use crate::sought::Sought;
-use qn_base::Rank;
+use qn_base::{NodeId, Rank};
 use qn_model::{Settings, Why};
 
 /// The first condition that blocks a start of the resource, by ranks.
@@ -116,13 +117,13 @@ impl Past {
                 }
             }
             Lack::NotChosen(rank) => Why::NotChosen {
-                id: settings.id_of(rank),
+                id: id_of(settings, rank),
             },
             Lack::HeldBy(rank) => Why::HeldBy {
-                id: settings.id_of(rank),
+                id: id_of(settings, rank),
             },
             Lack::Unheard(rank) => Why::Unheard {
-                id: settings.id_of(rank),
+                id: id_of(settings, rank),
             },
             Lack::Unfenced(rank) => self.why_unfenced(settings, tick, rank),
             Lack::Clear => Why::Clear,
@@ -135,7 +136,7 @@ impl Past {
         requires within { rank.0 < length settings.now.nodes }
         ensures { result ≡ why_by settings.now tick self.now (Lack.Unfenced rank) }
     {
-        let id = settings.id_of(rank);
+        let id = id_of(settings, rank);
         let peer = self.peers[usize::from(rank.0)];
         Why::Unfenced {
             id,
@@ -155,3 +156,12 @@ pub fn is_rank(me: Rank, found: Option<Rank>) -> bool
     }
 }
 
+/// The id of a configured rank.
+fn id_of(settings: &Settings, rank: Rank) -> NodeId
+    requires { rank.0 < length settings.now.nodes }
+    ensures id { result ≡ id_of settings.now rank.0 }
+    ensures few { rank.0 < 32 }
+{
+    let nodes = settings.nodes.as_slice();
+    nodes[usize::from(rank.0)].id
+}

@@ -1,5 +1,4 @@
 //! What keeps a command from its work.
-use qn_usage::{NO_MEMORY, WRITE_FAULT};
 use std::alloc::{AllocError, AllocFailed};
 use std::{fmt, io};
 
@@ -21,9 +20,9 @@ impl Trouble {
     pub fn status(&self) -> u8 {
         match self {
             Trouble::Input(_) => 6,
-            Trouble::Output(_) => WRITE_FAULT,
+            Trouble::Output(_) => 7,
             Trouble::System(_) => 8,
-            Trouble::NoMemory => NO_MEMORY,
+            Trouble::NoMemory => 11,
         }
     }
 }
