@@ -9,6 +9,7 @@
 mod calls;
 mod decimal;
 mod faults;
+mod fields;
 mod ids;
 mod limits;
 mod masks;
@@ -18,6 +19,7 @@ mod text;
 pub use calls::{Bytes, Call, Received};
 pub use decimal::{read_decimal, write_decimal};
 pub use faults::{Failed, NoMemory};
+pub use fields::{add_u16, add_u32, add_u64};
 pub use ids::{Mask, NodeId, Rank, View};
 pub use limits::{LATEST_TIME, LONGEST_PERIOD, MOST_EVENTS, MOST_LINE_BYTES};
 pub use members::{chosen, votes};

@@ -37,14 +37,14 @@ pub(crate) fn line_of(at: Moment, nodes: &Nodes, msgwait: u64, event: &Event) ->
             &mut line, &answer,
         ),
         Event::Why { why } => add_why(&mut line, &why),
-        Event::FenceAsked { of } => line.number(b"of", id_of(nodes, of)),
+        Event::FenceAsked { of } => line.number(b"of", u64::from(nodes.id_of(of).0)),
         Event::FenceWritten { of, ok } => {
-            line.number(b"of", id_of(nodes, of));
+            line.number(b"of", u64::from(nodes.id_of(of).0));
             line.truth(b"ok", ok);
             line.number(b"msgwait", msgwait);
         }
         Event::Licence { of } => {
-            line.number(b"of", id_of(nodes, of));
+            line.number(b"of", u64::from(nodes.id_of(of).0));
             line.word(b"by", b"clean-slot", 10);
         }
         Event::StartAnswered { ok } | Event::StopAnswered { ok } | Event::DisarmAnswered { ok } =>
@@ -99,12 +99,6 @@ fn level_of(event: &Event) -> u8 {
             if ok { NOTICE } else { ERROR },
         Event::Halt { .. } => ERROR,
     }
-}
-
-/// The id of the node of that rank, 0 where none is.
-pub(crate) fn id_of(nodes: &Nodes, rank: Rank) -> u64 {
-    let node = nodes.as_slice().get(usize::from(rank.0));
-    node.map_or(0, |node| u64::from(node.id.0))
 }
 
 /// Whether the node of that place is one of the members.

@@ -2,7 +2,7 @@
 ghost use Rattle.qn_io.specs.Receives.{FitsPacket};
 
 use crate::ending::end_text;
-use crate::event_words::{ERROR, INFORMATION, NOTICE, WARNING, id_of, line_of};
+use crate::event_words::{ERROR, INFORMATION, NOTICE, WARNING, line_of};
 use crate::mail::{MailNews, MailState, Mailbox};
 use crate::peers::Peers;
 use crate::seldom::Seldom;
@@ -112,7 +112,7 @@ impl<'a, R: Files<File = File> + Clock + Eprint> Journal<'a, R> {
         }
         if self.peers.hear(rank, tick) {
             let mut line = self.line(INFORMATION, b"peer-seen");
-            line.number(b"id", id_of(nodes, rank));
+            line.number(b"id", u64::from(nodes.id_of(rank).0));
             self.say(&line);
         }
     }

@@ -1,5 +1,5 @@
 //! The status of a running node as one object of JSON, with its keys in alphabetical order.
-use crate::event_words::{id_of, is_in};
+use crate::event_words::is_in;
 use crate::mail::{MailState, Mailbox};
 use crate::peers::Peers;
 use crate::text::Text;
@@ -64,7 +64,7 @@ fn add_dropped_to_loop(text: &mut Text, shown: &Shown<'_>) {
     text.add(b",\"format\":1,\"holds\":");
     text.truth(shown.standing.holds);
     text.add(b",\"id\":");
-    text.number(id_of(shown.nodes, shown.me));
+    text.number(u64::from(shown.nodes.id_of(shown.me).0));
     text.add(b",\"incarnation\":");
     text.maybe(shown.standing.incarnation);
     text.add(b",\"late\":");

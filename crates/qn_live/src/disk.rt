@@ -2,14 +2,13 @@
 //! each of them with the sectors of all three stands in `specs/TripleDisk`.
 ghost use Rattle.std.specs.Prelude.{◌≡◌, ◌≤◌, ◌<◌, false, length, if◌then◌else◌};
 ghost use Rattle.qn_model.specs.Settings.{IsValid};
-ghost use Rattle.qn_model.specs.Unmet.{id_of};
 ghost use Rattle.qn_model.specs.World.{failed};
 ghost use Rattle.qn_node.specs.Outputs.{IsNodeOutput};
 ghost use Rattle.qn_live.specs.Asking.{IsServed, IsWithin, is_look, question_of};
 ghost use Rattle.qn_live.specs.Performing.{disk_call, done, header_seen, mail_seen, reset_by, slot_seen, write_mail, write_slot};
 
 use crate::asked::{Asked, Room};
-use qn_base::{NodeId, Rank};
+use qn_base::Rank;
 use qn_io::SECTOR;
 use qn_model::{
     DiskOp, HeaderSeen, Mail, MailSeen, Message, Out, Sender, Settings, Slot, SlotSeen, What,
@@ -58,7 +57,7 @@ fn ask_slot(settings: &Settings, me: Rank, incarnation: u64, clean: bool, room: 
     ensures looks { is_look result ≡ false }
 {
     let slot = Slot { incarnation, clean };
-    put_slot(id_of(settings, me), &slot, &mut room.sector);
+    put_slot(settings.id_of(me), &slot, &mut room.sector);
     Asked::Write {
         sector: slot_sector(me),
     }
@@ -76,7 +75,7 @@ fn ask_reset(settings: &Settings, me: Rank, incarnation: u64, rank: Rank, room: 
     ensures looks { is_look result ≡ false }
 {
     let by = Some(Sender {
-        id: id_of(settings, me),
+        id: settings.id_of(me),
         incarnation,
     });
     let mail = Mail {
@@ -89,18 +88,6 @@ fn ask_reset(settings: &Settings, me: Rank, incarnation: u64, rank: Rank, room: 
     }
 }
 
-/// The id of a rank, 0 where it is not configured.
-pub fn id_of(settings: &Settings, rank: Rank) -> NodeId
-    ensures id { result ≡ id_of settings.now rank.0 }
-    ensures from_one { IsValid settings.now → rank.0 < length settings.now.nodes → 1 ≤ result.0 }
-{
-    if usize::from(rank.0) < settings.nodes.len() {
-        settings.nodes.get(usize::from(rank.0)).id
-    } else {
-        NodeId(0)
-    }
-}
-
 /// What the answer of a disk operation is to the node: `ok` says whether it was done, and `sector` is what it read.
 pub fn answer(settings: &Settings, op: DiskOp, ok: bool, sector: &[u8; SECTOR]) -> What
     ensures { result ≡ (if ok then done settings.now op sector.now else failed op) }
@@ -108,7 +95,7 @@ pub fn answer(settings: &Settings, op: DiskOp, ok: bool, sector: &[u8; SECTOR]) 
     if ok {
         done(settings, op, sector)
     } else {
-        failed(op)
+        op.failed()
     }
 }
 
@@ -129,22 +116,6 @@ pub fn done(settings: &Settings, op: DiskOp, sector: &[u8; SECTOR]) -> What
     }
 }
 
-#[tactic(auto, unfolding(qn_model::specs::World::failed))]
-fn failed(op: DiskOp) -> What
-    ensures { result ≡ failed op }
-{
-    match op {
-        DiskOp::ReadHeader => What::Header(HeaderSeen::Failed),
-        DiskOp::ReadSlot(rank) => What::SlotRead(rank, SlotSeen::Failed),
-        DiskOp::CheckMail => What::MailChecked(MailSeen::Failed),
-        DiskOp::ReadMail => What::MailRead(MailSeen::Failed),
-        DiskOp::WriteClaim(_) => What::Claimed(false),
-        DiskOp::WriteClose(_) => What::Closed(false),
-        DiskOp::WriteClear => What::Cleared(false),
-        DiskOp::WriteReset(rank) => What::MailWritten(rank, false),
-    }
-}
-
 fn header_seen(sector: &[u8; SECTOR]) -> HeaderSeen
     ensures { result ≡ header_seen sector.now }
 {
@@ -159,7 +130,7 @@ fn slot_seen(settings: &Settings, rank: Rank, sector: &[u8; SECTOR]) -> SlotSeen
     ensures { result ≡ slot_seen settings.now rank.0 sector.now }
 {
     match get_slot(sector) {
-        Some((id, slot)) if id.0 == id_of(settings, rank).0 => SlotSeen::Read(slot),
+        Some((id, slot)) if id.0 == settings.id_of(rank).0 => SlotSeen::Read(slot),
         _ => SlotSeen::Damaged,
     }
 }

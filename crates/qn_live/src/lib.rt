@@ -43,7 +43,7 @@ mod triple_running;
 
 pub use asked::{Asked, Given, Room};
 pub use calling::call;
-pub use disk::{answer, done, id_of};
+pub use disk::{answer, done};
 pub use images_run::ImagesRun;
 pub use laws::{
     law_boot_halted, law_end_causes, law_handed_history, law_one_end, law_one_history,

@@ -1,6 +1,7 @@
 //! The settings of a cluster, and the quorum for a number of expected votes.
 use crate::nodelist::Nodes;
 use crate::order::Order;
+use qn_base::{NodeId, Rank};
 
 /// The quorum device: its votes, and for how many milliseconds a yes of it counts
 /// (corosync.conf(5), `quorum`, `device`).
@@ -27,7 +28,9 @@ pub struct Settings {
 }
 
 impl Settings {
-    ghost use Rattle.std.specs.Prelude.{◌≡◌};
+    ghost use Rattle.std.specs.Prelude.{◌≡◌, ◌<◌, ◌≤◌, length};
+    ghost use Rattle.qn_model.specs.Settings.{IsValid};
+    ghost use Rattle.qn_model.specs.Unmet.{id_of};
     ghost use Rattle.qn_model.specs.Votes.{quorum_of};
 
     /// Equal settings.
@@ -44,6 +47,15 @@ impl Settings {
             expected: self.expected,
             tie: self.tie.as_ref().map(Order::copy),
         }
+    }
+
+    /// The id of a rank, 0 where it is not configured.
+    pub fn id_of(&self, rank: Rank) -> NodeId
+        ensures id { result ≡ id_of self.now rank.0 }
+        ensures from_one { IsValid self.now → rank.0 < length self.now.nodes → 1 ≤ result.0 }
+        ensures few { rank.0 < length self.now.nodes → rank.0 < 32 }
+    {
+        self.nodes.id_of(rank)
     }
 
     /// The votes that are needed where `expected` votes are expected: 1 with two_node, else more than half

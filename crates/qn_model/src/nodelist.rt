@@ -31,7 +31,9 @@ impl Model for Nodes {
 }
 
 impl Nodes {
-    ghost use Rattle.std.specs.Prelude.{◌≡◌, ◌<◌, ◌≤◌, ◌==◌, ◌*◌, [], ◌∷◌, ◌++◌, Some, length, slice_get};
+    ghost use Rattle.std.specs.Prelude.{◌≡◌, ◌<◌, ◌≤◌, ◌==◌, ◌*◌, [], ◌∷◌, ◌++◌, Some, length, slice_get, slice_index};
+    ghost use Rattle.qn_model.specs.Settings.{ids};
+    ghost use Rattle.qn_model.specs.Unmet.{id_from};
     ghost use Rattle.qn_model.specs.Votes.{are_all_in, votes_among};
 
     /// No nodes.
@@ -72,6 +74,20 @@ impl Nodes {
         ensures { slice_get self.now place ≡ Some result }
     {
         self.entries[place]
+    }
+
+    /// The id of the node of that rank, 0 where there is none.
+    pub fn id_of(&self, rank: Rank) -> NodeId
+        ensures id { result ≡ id_from self.now rank.0 }
+        ensures number { result.0 ≡ slice_index (ids self.now) rank.0 }
+        ensures few { rank.0 < length self.now → rank.0 < 32 }
+    {
+        let place = usize::from(rank.0);
+        if place < self.len() {
+            self.get(place).id
+        } else {
+            NodeId(0)
+        }
     }
 
     /// Adds a node after the others.

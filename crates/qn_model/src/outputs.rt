@@ -2,7 +2,9 @@
 ghost use Rattle.std.specs.Prelude.{◌≡◌, ◌<◌, ◌≤◌, ◌==◌, [], ◌∷◌, ◌++◌, Some, length, slice_get};
 
 use crate::disk::Message;
+use crate::entries::What;
 use crate::packets::Packet;
+use crate::seen::{HeaderSeen, MailSeen, SlotSeen};
 use arrayvec::ArrayVec;
 use qn_base::Rank;
 use std::marker::Model;
@@ -29,7 +31,24 @@ pub enum DiskOp {
 
 impl DiskOp {
     ghost use Rattle.std.specs.Prelude.{◌≡◌};
-    ghost use Rattle.qn_model.specs.World.{is_write};
+    ghost use Rattle.qn_model.specs.World.{failed, is_write};
+
+    /// The answer of the operation where it failed: Failed for a read, false for a write.
+    #[tactic(auto, unfolding(crate::specs::World::failed))]
+    pub fn failed(self) -> What
+        ensures { result ≡ failed self }
+    {
+        match self {
+            DiskOp::ReadHeader => What::Header(HeaderSeen::Failed),
+            DiskOp::ReadSlot(other) => What::SlotRead(other, SlotSeen::Failed),
+            DiskOp::CheckMail => What::MailChecked(MailSeen::Failed),
+            DiskOp::WriteClaim(_) => What::Claimed(false),
+            DiskOp::WriteClear => What::Cleared(false),
+            DiskOp::ReadMail => What::MailRead(MailSeen::Failed),
+            DiskOp::WriteReset(other) => What::MailWritten(other, false),
+            DiskOp::WriteClose(_) => What::Closed(false),
+        }
+    }
 
     /// Whether the operation writes, so that it can be left over where its node ends before it landed.
     pub fn is_write(self) -> bool

@@ -1,5 +1,5 @@
 //! Which node this is: its rank and its settings.
-use qn_base::{NodeId, Rank, View};
+use qn_base::{Rank, View};
 use qn_model::Settings;
 
 /// Which node this is: its rank, and the settings of its cluster.
@@ -12,7 +12,6 @@ pub struct Own {
 impl Own {
     ghost use Rattle.std.specs.Prelude.{◌≡◌, ◌<◌, ◌≤◌, ◌+◌, length, nat_le, nat_lt};
     ghost use Rattle.qn_model.specs.Fitting.{is_for, is_own_view};
-    ghost use Rattle.qn_model.specs.Unmet.{id_of};
     ghost use Rattle.qn_model.specs.Wanted.{fence_delay};
 
     /// How many nodes are configured.
@@ -28,17 +27,6 @@ impl Own {
         ensures { result ≡ nat_lt rank.0 (length self.now.settings.nodes) }
     {
         rank.0 < self.count()
-    }
-
-    /// The id of a rank, 0 where it is not configured.
-    pub fn id_of(&self, rank: Rank) -> NodeId
-        ensures { result ≡ id_of self.now.settings rank.0 }
-    {
-        if self.has(rank) {
-            self.settings.nodes.get(usize::from(rank.0)).id
-        } else {
-            NodeId(0)
-        }
     }
 
     /// How many milliseconds after a view a rank may be reset, 0 where it is not configured.

@@ -1,12 +1,11 @@
 //! The entry that answers an operation, and the good images after it.
 ghost use Rattle.std.specs.Prelude.{◌≡◌, ◌≤◌, ℕ, true, length, option_to_list};
-ghost use Rattle.qn_model.specs.World.{failed};
 ghost use Rattle.qn_parts.specs.Parts.{is_good_on, part_on};
 ghost use Rattle.qn_safety.specs.TripleRules.{is_image};
 ghost use Rattle.qn_safety.specs.TripleWorld.{answer_among, answer_of, counted, good_after, has_landed, needs_good};
 
 use crate::values::{header_of, message_among, slot_among};
-use qn_model::{DiskOp, HeaderSeen, MailSeen, SlotSeen, What};
+use qn_model::{DiskOp, MailSeen, What};
 use qn_safety::Part;
 
 /// The entry that answers an operation, by its parts on the images 1 to 3 and whether each image is a good one of its
@@ -22,10 +21,10 @@ pub fn answer_of(op: DiskOp, parts: &[Part; 3], good: &[bool; 3]) -> What
         (Some(first), Some(second), None) => together(op, &[first, second]),
         (Some(first), None, Some(third)) => together(op, &[first, third]),
         (None, Some(second), Some(third)) => together(op, &[second, third]),
-        (Some(_), None, None) => failed(op),
-        (None, Some(_), None) => failed(op),
-        (None, None, Some(_)) => failed(op),
-        (None, None, None) => failed(op),
+        (Some(_), None, None) => op.failed(),
+        (None, Some(_), None) => op.failed(),
+        (None, None, Some(_)) => op.failed(),
+        (None, None, None) => op.failed(),
     }
 }
 
@@ -91,19 +90,3 @@ fn together(op: DiskOp, values: &[What]) -> What
     }
 }
 
-/// The entry of an operation that failed.
-#[tactic(auto, unfolding(qn_model::specs::World::failed))]
-fn failed(op: DiskOp) -> What
-    ensures { result ≡ failed op }
-{
-    match op {
-        DiskOp::ReadHeader => What::Header(HeaderSeen::Failed),
-        DiskOp::ReadSlot(other) => What::SlotRead(other, SlotSeen::Failed),
-        DiskOp::CheckMail => What::MailChecked(MailSeen::Failed),
-        DiskOp::WriteClaim(_) => What::Claimed(false),
-        DiskOp::WriteClear => What::Cleared(false),
-        DiskOp::ReadMail => What::MailRead(MailSeen::Failed),
-        DiskOp::WriteReset(other) => What::MailWritten(other, false),
-        DiskOp::WriteClose(_) => What::Closed(false),
-    }
-}

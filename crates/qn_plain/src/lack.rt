@@ -1,12 +1,11 @@
 //! The first condition that blocks a start, by ranks.
 ghost use Rattle.std.specs.Prelude.{◌≡◌, ◌<◌, length};
-ghost use Rattle.qn_model.specs.Unmet.{id_of};
 ghost use Rattle.qn_plain.specs.Lack.{is_nothing, is_rank};
 
 use crate::past::Past;
 use crate::phases::is_up;
 use crate::sought::Sought;
-use qn_base::{NodeId, Rank};
+use qn_base::Rank;
 use qn_model::{Settings, Why};
 
 /// The first condition that blocks a start of the resource, by ranks.
@@ -117,13 +116,13 @@ impl Past {
                 }
             }
             Lack::NotChosen(rank) => Why::NotChosen {
-                id: id_of(settings, rank),
+                id: settings.id_of(rank),
             },
             Lack::HeldBy(rank) => Why::HeldBy {
-                id: id_of(settings, rank),
+                id: settings.id_of(rank),
             },
             Lack::Unheard(rank) => Why::Unheard {
-                id: id_of(settings, rank),
+                id: settings.id_of(rank),
             },
             Lack::Unfenced(rank) => self.why_unfenced(settings, tick, rank),
             Lack::Clear => Why::Clear,
@@ -136,7 +135,7 @@ impl Past {
         requires within { rank.0 < length settings.now.nodes }
         ensures { result ≡ why_by settings.now tick self.now (Lack.Unfenced rank) }
     {
-        let id = id_of(settings, rank);
+        let id = settings.id_of(rank);
         let peer = self.peers[usize::from(rank.0)];
         Why::Unfenced {
             id,
@@ -156,12 +155,3 @@ pub fn is_rank(me: Rank, found: Option<Rank>) -> bool
     }
 }
 
-/// The id of a configured rank.
-fn id_of(settings: &Settings, rank: Rank) -> NodeId
-    requires { rank.0 < length settings.now.nodes }
-    ensures id { result ≡ id_of settings.now rank.0 }
-    ensures few { rank.0 < 32 }
-{
-    let nodes = settings.nodes.as_slice();
-    nodes[usize::from(rank.0)].id
-}

@@ -1,5 +1,5 @@
 //! Reads ids and lists of members.
-ghost use Rattle.std.specs.Prelude.{◌≡◌, ◌<◌, ◌==◌, ◌&&◌, length, slice_index, position, IfOk, IfSome};
+ghost use Rattle.std.specs.Prelude.{◌≡◌, ◌<◌, ◌==◌, ◌&&◌, length, position, IfOk, IfSome};
 ghost use Rattle.qn_model.specs.Lines.{known_rank, members_of};
 ghost use Rattle.qn_model.specs.Settings.{ids};
 ghost use Rattle.qn_sched.specs.EventReading.{rank_of};
@@ -36,14 +36,6 @@ fn place_in(nodes: &[NodeEntry], id: u64) -> Option<usize>
     ensures within { IfSome result (λ place. place < length nodes.now) }
 {
     nodes.iter().position(|node| u64::from(node.id.0) == id)
-}
-
-/// The id of the node of this rank.
-fn id_of(nodes: &Nodes, rank: Rank) -> u32
-    requires { rank.0 < length nodes.now }
-    ensures { result ≡ slice_index (ids nodes.now) rank.0 }
-{
-    nodes.get(usize::from(rank.0)).id.0
 }
 
 /// A list of members while its parts are judged one by one.
@@ -83,7 +75,7 @@ impl MemberList {
             });
         }
         let rank = known_rank(nodes, part)?;
-        Ok(self.with_rank(rank, id_of(nodes, rank)))
+        Ok(self.with_rank(rank, nodes.id_of(rank).0))
     }
 
     /// With one more member.

@@ -1,5 +1,5 @@
 //! Writes ids and lists of numbers.
-ghost use Rattle.std.specs.Prelude.{◌≡◌, ◌≤◌, ◌<◌, ◌+◌, ◌*◌, ◌++◌, [], ◌∷◌, length, map, decimal, slice_index};
+ghost use Rattle.std.specs.Prelude.{◌≡◌, ◌≤◌, ◌+◌, ◌*◌, ◌++◌, [], ◌∷◌, length, map, decimal};
 ghost use Rattle.qn_model.specs.Settings.{ids};
 ghost use Rattle.qn_sched.specs.EventLines.{id_word, ids_from, joined};
 
@@ -13,19 +13,7 @@ pub(crate) fn add_id(into: &mut ArrayVec<u8, 4096>, nodes: &Nodes, rank: Rank)
     ensures text { into.new.items ≡ into.old.items ++ id_word (ids nodes.now) rank }
     ensures len { length into.new.items ≤ length into.old.items + 20 }
 {
-    add_number(into, id_of(nodes, rank));
-}
-
-/// The id of the node of that rank, 0 where there is none.
-fn id_of(nodes: &Nodes, rank: Rank) -> u64
-    ensures { result ≡ slice_index (ids nodes.now) rank.0 }
-{
-    let place = usize::from(rank.0);
-    if place < nodes.len() {
-        u64::from(nodes.get(place).id.0)
-    } else {
-        0
-    }
+    add_number(into, u64::from(nodes.id_of(rank).0));
 }
 
 /// The ids of the members, ascending.

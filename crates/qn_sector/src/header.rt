@@ -7,7 +7,7 @@ ghost use Rattle.qn_sector.specs.Reading.{header_in, header_of, header_of_1, is_
 
 use crate::fields::{self, Sector};
 use byteorder::{BigEndian, ByteOrder};
-use qn_base::add;
+use qn_base::{add, add_u16, add_u64};
 use qn_model::Timing;
 
 /// Writes the header of an image of version 2 for that many nodes, 1 to 32, with times of 1 to `LONGEST_PERIOD`
@@ -29,14 +29,14 @@ fn spell(version: u16, nodes: u32, timing: &Timing, into: &mut [u8; 512])
 {
     let mut sector = Sector::new();
     add(&mut sector, b"QNSBD001");
-    fields::add_u16(&mut sector, version);
-    fields::add_u16(&mut sector, nodes as u16);
+    add_u16(&mut sector, version);
+    add_u16(&mut sector, nodes as u16);
     fields::add_zeros(&mut sector, 4);
-    fields::add_u64(&mut sector, timing.watchdog);
-    fields::add_u64(&mut sector, timing.msgwait);
-    fields::add_u64(&mut sector, timing.loop_ms);
-    fields::add_u64(&mut sector, timing.read_limit);
-    fields::add_u64(&mut sector, timing.feed_delay);
+    add_u64(&mut sector, timing.watchdog);
+    add_u64(&mut sector, timing.msgwait);
+    add_u64(&mut sector, timing.loop_ms);
+    add_u64(&mut sector, timing.read_limit);
+    add_u64(&mut sector, timing.feed_delay);
     fields::add_zeros(&mut sector, 456);
     into.copy_from_slice(&sector);
 }

@@ -7,7 +7,7 @@ ghost use Rattle.qn_sector.specs.Reading.{mail_of, mail_of_1, message_of, sender
 
 use crate::fields::{self, Sector};
 use byteorder::{BigEndian, ByteOrder};
-use qn_base::{NodeId, add};
+use qn_base::{NodeId, add, add_u32, add_u64};
 use qn_model::{Mail, Message, Sender};
 
 /// Writes a mailbox of version 2 with that message and its sender, over all 512 bytes.
@@ -20,8 +20,8 @@ pub fn put_mail(mail: &Mail, into: &mut [u8; 512])
     add(&mut sector, b"MAIL");
     add(&mut sector, &[code_of(mail.message)]);
     fields::add_zeros(&mut sector, 3);
-    fields::add_u32(&mut sector, id_of(mail.by));
-    fields::add_u64(&mut sector, incarnation_of(mail.by));
+    add_u32(&mut sector, id_of(mail.by));
+    add_u64(&mut sector, incarnation_of(mail.by));
     fields::add_zeros(&mut sector, 492);
     into.copy_from_slice(&sector);
 }

@@ -7,7 +7,7 @@ ghost use Rattle.qn_sector.specs.Reading.{slot_of, SpellsSlot};
 
 use crate::fields::{self, Sector};
 use byteorder::{BigEndian, ByteOrder};
-use qn_base::{NodeId, add};
+use qn_base::{NodeId, add, add_u32, add_u64};
 use qn_model::Slot;
 
 /// Writes the slot of the node with that id, over all 512 bytes.
@@ -18,8 +18,8 @@ pub fn put_slot(id: NodeId, slot: &Slot, into: &mut [u8; 512])
 {
     let mut sector = Sector::new();
     add(&mut sector, b"SLOT");
-    fields::add_u32(&mut sector, id.0);
-    fields::add_u64(&mut sector, slot.incarnation);
+    add_u32(&mut sector, id.0);
+    add_u64(&mut sector, slot.incarnation);
     add(&mut sector, &[u8::from(slot.clean)]);
     fields::add_zeros(&mut sector, 495);
     into.copy_from_slice(&sector);

@@ -3,7 +3,6 @@ ghost use Rattle.std.specs.Prelude.{◌≡◌, ◌≤◌, ◌<◌, OnOk, OnErr, 
 ghost use Rattle.std.specs.Io.KnownBytes.{append_known};
 ghost use Rattle.qn_io.specs.Outside.{HasRisen};
 ghost use Rattle.qn_io.specs.Writes.{AppendsFront};
-ghost use Rattle.qn_model.specs.Unmet.{id_of};
 ghost use Rattle.qn_model.specs.World.{World as WorldBefore};
 ghost use Rattle.qn_status.specs.NodeStates.{node_state, node_states};
 ghost use Rattle.qn_status.specs.StatusJson.{status_json};
@@ -14,7 +13,7 @@ use crate::as_json::states_line;
 use crate::node_state::NodeState;
 use crate::text::write_lines;
 use arrayvec::ArrayVec;
-use qn_base::{Failed, NodeId, Rank};
+use qn_base::{Failed, Rank};
 use qn_io::{Sink, put_all};
 use qn_world::World;
 use std::alloc::Global;
@@ -85,7 +84,7 @@ fn node_state(world: &World, rank: Rank) -> NodeState
 {
     let seen = world.seen(rank);
     NodeState {
-        id: id_of(world, rank),
+        id: world.settings().id_of(rank),
         phase: seen.phase,
         holds: seen.holds,
         answer: seen.answer,
@@ -93,10 +92,3 @@ fn node_state(world: &World, rank: Rank) -> NodeState
     }
 }
 
-/// The id of a rank.
-fn id_of(world: &World, rank: Rank) -> NodeId
-    requires { rank.0 < length world.now.settings.nodes }
-    ensures { result ≡ id_of world.now.settings rank.0 }
-{
-    world.settings().nodes.get(usize::from(rank.0)).id
-}

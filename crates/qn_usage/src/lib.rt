@@ -7,6 +7,7 @@
 mod help;
 mod quorumd;
 mod refusal;
+mod statuses;
 mod synopsis;
 mod values;
 mod words;
@@ -14,5 +15,6 @@ mod words;
 pub use help::{help_text, version_text};
 pub use quorumd::{BEFORE, QUORUMD};
 pub use refusal::{Refusal, file_of, refusal_of};
+pub use statuses::{NO_MEMORY, USAGE, WRITE_FAULT, words_given};
 pub use synopsis::{Synopsis, Takes};
 pub use words::{has_word, value_of};

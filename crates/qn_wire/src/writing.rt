@@ -6,6 +6,7 @@ ghost use Rattle.qn_wire.specs.Packets.{packet_bytes, ask_fields, as_ask};
 use crate::fields::{self, Spelling};
 use crate::kinds::{ANNOUNCE, ASK, HELLO, TELL, VOTE};
 use arrayvec::ArrayVec;
+use qn_base::{add, add_u64};
 use qn_model::{Ask, Packet, Tell};
 
 /// Empties `into`, and writes the spelling of the packet: at most 34 bytes. A packet that is not well formed has a
@@ -23,20 +24,20 @@ pub fn put_packet(packet: &Packet, into: &mut ArrayVec<u8, 128>)
         Packet::Tell(tell) => {
             fields::begin(into, TELL);
             add_ask(into, &as_ask(tell));
-            fields::add(into, &[u8::from(tell.holds) + 2 * u8::from(tell.released)]);
+            add(into, &[u8::from(tell.holds) + 2 * u8::from(tell.released)]);
         }
         Packet::Hello { from } => {
             fields::begin(into, HELLO);
-            fields::add(into, &[from.0]);
+            add(into, &[from.0]);
         }
         Packet::Announce { from, view } => {
             fields::begin(into, ANNOUNCE);
-            fields::add(into, &[from.0]);
+            add(into, &[from.0]);
             fields::add_view(into, *view);
         }
         Packet::Vote { yes } => {
             fields::begin(into, VOTE);
-            fields::add(into, &[u8::from(*yes)]);
+            add(into, &[u8::from(*yes)]);
         }
     }
 }
@@ -45,9 +46,9 @@ fn add_ask(spelling: &mut Spelling, ask: &Ask)
     requires { array_vec_len spelling.old + 30 ≤ 128 }
     ensures { spelling.new.items ≡ spelling.old.items ++ ask_fields ask.now }
 {
-    fields::add(spelling, &[ask.from.0, ask.to.0]);
-    fields::add_u64(spelling, ask.incarnation);
-    fields::add_u64(spelling, ask.install);
+    add(spelling, &[ask.from.0, ask.to.0]);
+    add_u64(spelling, ask.incarnation);
+    add_u64(spelling, ask.install);
     fields::add_view(spelling, ask.view);
 }
 

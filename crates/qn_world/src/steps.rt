@@ -1,32 +1,12 @@
 //! The step of each event.
 ghost use Rattle.std.specs.Prelude.{◌≡◌};
-ghost use Rattle.qn_model.specs.World.{failed};
 
 use crate::state::State;
 use qn_base::{NoMemory, Rank};
 use qn_cluster::{Cluster, HasNodes, Leftovers, Sectors, Steps};
-use qn_model::{
-    DiskOp, Event, HeaderSeen, MailSeen, Message, Outs, Report, Settings, SlotSeen, Timing, What,
-};
+use qn_model::{Event, Message, Outs, Report, Settings, Timing};
 use qn_safety::law_no_two_holders;
 use std::alloc::Global;
-
-/// The entry of an operation that failed.
-#[tactic(auto, unfolding(qn_model::specs::World::failed))]
-fn failed(op: DiskOp) -> What
-    ensures { result ≡ failed op }
-{
-    match op {
-        DiskOp::ReadHeader => What::Header(HeaderSeen::Failed),
-        DiskOp::ReadSlot(other) => What::SlotRead(other, SlotSeen::Failed),
-        DiskOp::WriteClaim(_) => What::Claimed(false),
-        DiskOp::WriteClear => What::Cleared(false),
-        DiskOp::CheckMail => What::MailChecked(MailSeen::Failed),
-        DiskOp::ReadMail => What::MailRead(MailSeen::Failed),
-        DiskOp::WriteReset(other) => What::MailWritten(other, false),
-        DiskOp::WriteClose(_) => What::Closed(false),
-    }
-}
 
 impl Steps for State {
     fn first(alloc: Global, settings: Settings, timing: Timing) -> Result<State, NoMemory> {
@@ -184,7 +164,7 @@ impl State {
             let took = self.took(i);
             let before = self.left_count();
             self.give_up(i, Some(op), took)?;
-            if let Err(error) = self.hand(i, failed(op), outs) {
+            if let Err(error) = self.hand(i, op.failed(), outs) {
                 self.keep_left(before);
                 return Err(error);
             }

@@ -44,14 +44,12 @@ mod verdict;
 
 use images::{check, list, wait};
 use journals::history;
-use qn_usage::{has_word, help_text, refusal_of, value_of, version_text};
+use qn_usage::{USAGE, has_word, help_text, refusal_of, value_of, version_text, words_given};
 use status::status;
-use std::env;
 use std::fs::File;
-use std::io::ErrorKind;
 use std::net::{Net, TcpStream};
 use std::process::ExitCode;
-use std::rt::{Env, Files};
+use std::rt::Files;
 use std::time::Clock;
 use table::QUORUMCTL;
 use texts::{settings, timing};
@@ -63,14 +61,8 @@ const PROGRAM: &str = "quorumctl";
 
 const IS: &str = "looks at the settings, the times, the image and the nodes of a quorumd cluster";
 
-/// The status for words that are no command.
-const USAGE: u8 = 2;
-
-/// The status of a program that is out of memory.
-const NO_MEMORY: u8 = 11;
-
 fn main(rt: HostRuntime) -> ExitCode {
-    let words = match words(&rt) {
+    let words = match words_given(&rt) {
         Ok(words) => words,
         Err(status) => return ExitCode::from(status),
     };
@@ -133,14 +125,4 @@ fn version(rt: &(impl Print + AllocGlobal)) -> Result<u8, Trouble> {
     let text = version_text(rt.alloc(), PROGRAM)?;
     trouble::say(rt, text.as_str())?;
     Ok(0)
-}
-
-/// The words after the program's name, or the status to end with.
-fn words(rt: &(impl Env + AllocGlobal)) -> Result<Vec<String>, u8> {
-    let mut all = env::args(rt).map_err(|error| match error.kind() {
-        ErrorKind::InvalidData => USAGE,
-        _ => NO_MEMORY,
-    })?;
-    let _program = all.next();
-    all.collect(rt.alloc()).map_err(|_| NO_MEMORY)
 }

@@ -1,4 +1,5 @@
 //! What keeps a command from its work.
+use qn_usage::{NO_MEMORY, WRITE_FAULT};
 use std::alloc::{AllocError, AllocFailed};
 use std::{fmt, io};
 
@@ -20,9 +21,9 @@ impl Trouble {
     pub fn status(&self) -> u8 {
         match self {
             Trouble::Input(_) => 6,
-            Trouble::Output(_) => 7,
+            Trouble::Output(_) => WRITE_FAULT,
             Trouble::System(_) => 8,
-            Trouble::NoMemory => 11,
+            Trouble::NoMemory => NO_MEMORY,
         }
     }
 }

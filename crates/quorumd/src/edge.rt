@@ -1,13 +1,14 @@
 //! Reads the files that the words before the command name: the addresses and the digest of a settings text, and keys. Of the first that
 //! is wrong a line on standard error says what is; nothing was opened then but these files.
+use crate::PROGRAM;
 use crate::before::{Before, MOST_KEYS};
-use crate::{NO_MEMORY, PROGRAM, USAGE};
 use qn_commands::Fault;
 use qn_conf::{MOST_TEXT_BYTES, read_tree};
 use qn_io::{Edge, Guard};
 use qn_links::{Links, links_of, sections_of};
 use qn_seal::{Key, Keys, text_of};
 use qn_settings::settings;
+use qn_usage::{NO_MEMORY, USAGE};
 use std::fmt::Display;
 use std::fs::{self, File};
 use std::io::{self, Read};

@@ -16,31 +16,24 @@ use qn_base::read_decimal;
 use qn_io::{Edge, Lines, RealEnv, ReplacedFile, StdSink, StdSource, put_all};
 use qn_journal::Journal;
 use qn_top::top;
-use qn_usage::{BEFORE, QUORUMD, help_text, refusal_of, version_text};
-use std::env;
+use qn_usage::{
+    BEFORE, NO_MEMORY, QUORUMD, USAGE, WRITE_FAULT, help_text, refusal_of, version_text,
+    words_given,
+};
 use std::fs::File;
-use std::io::{self, ErrorKind};
 use std::process::{self, ExitCode};
-use std::rt::{Env, Files};
+use std::rt::Files;
+use std::{env, io};
 
 /// The name of the program, and what it is.
 const PROGRAM: &str = "quorumd";
 
 const IS: &str = "one member of a high-availability cluster";
 
-/// The status for words that are no command.
-const USAGE: u8 = 2;
-
-/// The status where standard output cannot be written.
-const WRITE_FAULT: u8 = 7;
-
-/// The status of a program that is out of memory.
-const NO_MEMORY: u8 = 11;
-
 fn main(rt: HostRuntime) -> ExitCode {
-    let words = match words(&rt) {
+    let words = match words_given(&rt) {
         Ok(words) => words,
-        Err(status) => return status,
+        Err(status) => return ExitCode::from(status),
     };
     if let Some(status) = answer_about(&rt, words.as_slice()) {
         return ExitCode::from(status);
@@ -136,15 +129,4 @@ fn say_what_is_wrong(rt: &impl Eprint, words: &[String]) {
         Some(refusal) => eprintln!(rt; "{PROGRAM}: {refusal}"),
         None => eprintln!(rt; "{PROGRAM}: these words are no command"),
     };
-}
-
-/// The words after the program's name, or the status to end with.
-fn words(rt: &(impl Env + AllocGlobal)) -> Result<Vec<String>, ExitCode> {
-    let mut all = env::args(rt).map_err(|error| match error.kind() {
-        ErrorKind::InvalidData => ExitCode::from(USAGE),
-        _ => ExitCode::from(NO_MEMORY),
-    })?;
-    let _program = all.next();
-    all.collect(rt.alloc())
-        .map_err(|_| ExitCode::from(NO_MEMORY))
 }

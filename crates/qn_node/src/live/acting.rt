@@ -162,7 +162,7 @@ impl Live {
     {
         match self.chosen(own) {
             Some(rank) if rank.0 != own.me.0 => Why::NotChosen {
-                id: own.id_of(rank),
+                id: own.settings.id_of(rank),
             },
             _ => self.lacks_of_others(own, tick),
         }
@@ -177,17 +177,17 @@ impl Live {
     {
         if let Some(rank) = self.heard.holder(own.count()) {
             return Why::HeldBy {
-                id: own.id_of(rank),
+                id: own.settings.id_of(rank),
             };
         }
         if let Some(rank) = self.heard.unheard(own.count()) {
             return Why::Unheard {
-                id: own.id_of(rank),
+                id: own.settings.id_of(rank),
             };
         }
         match self.fence.unfenced(tick) {
             Some(unfenced) => Why::Unfenced {
-                id: own.id_of(unfenced.rank),
+                id: own.settings.id_of(unfenced.rank),
                 written: unfenced.written,
                 left: unfenced.left,
             },

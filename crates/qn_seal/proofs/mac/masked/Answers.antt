@@ -1,7 +1,7 @@
 use Rattle.std.proofs.Common.{◌≡◌, length, map, bit_xor, arith}
 use Rattle.std.proofs.lemmas.Grind.{same_number_lists}
 use Rattle.std.proofs.lemmas.List.{get_or-map, length-map}
-use Rattle.qn_seal.proofs.masked.Goals as goal
+use Rattle.qn_seal.proofs.mac.masked.Goals as goal
 
 pub returns : goal.returns
 returns c =

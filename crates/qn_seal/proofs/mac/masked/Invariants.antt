@@ -1,5 +1,5 @@
 use Rattle.std.proofs.Common.{◌≡◌, bit_xor, ℕ, ◌<◌, ◌≤◌, slice_index_or}
-use Rattle.qn_seal.proofs.masked.Given as goal
+use Rattle.qn_seal.proofs.mac.masked.Given as goal
 
 abbrev pub invariant-loop-place : goal.invariant-loop-place
 invariant-loop-place l =

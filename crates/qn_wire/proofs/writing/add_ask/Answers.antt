@@ -11,5 +11,5 @@ pub returns : goal.returns
 returns c =
     let ask = c.args.ask.now in
     let ranks : List ℕ = ask.from.0 ∷ ask.to.0 ∷ [] in
-    rw (c.add_view.ensures, c.add_u64-2.ensures, c.add_u64.ensures, c.add.ensures)
+    rw (c.add_view.ensures, c.add_u64-2.ensures, c.add_u64.ensures, c.add.ensures.text)
     (four_parts c.args.spelling.now.items ranks (bytes_high_first 8 ask.incarnation) (bytes_high_first 8 ask.install) (view_bytes ask.view))
