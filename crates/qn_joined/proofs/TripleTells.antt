@@ -286,7 +286,7 @@ mail_kind x y z two = record { agree = agree; enough = enough x y z two }
 
 -- ## The calls of a read
 
-plain_held : (s : Settings) (t : Timing) (op : DiskOp) (value : What) → is_write op ≡ false → IsHeld s t op value → is_strange value ≡ false
+pub plain_held : (s : Settings) (t : Timing) (op : DiskOp) (value : What) → is_write op ≡ false → IsHeld s t op value → is_strange value ≡ false
 plain_held s t disk.ReadHeader value is held = ap is_strange held
 plain_held s t (disk.ReadSlot other) value is held = ap is_strange held.1
 plain_held s t disk.CheckMail value is held = ap is_strange held.1
