@@ -222,7 +222,7 @@ asking_for {s} {t} {rank} {number} {op} {good} {parts} {call} {call'} {took} is 
 module _ {s : Settings} {t : Timing} {rank : ℕ} {host : TripleHost} {n : Running} {parts : ℕ → Part} {left : ℕ → List DiskOp} {good : ℕ → Bool} {all : List Sent}
     (is : IsNodeOnThree s t rank host n parts left good all) (on : host.one.on ≡ true)
     (starts : (number : ℕ) (op : DiskOp) → n.on ≡ true → op_out n.log ≡ Some op → disk_ahead host.one.stand.spot ≡ Some op → is.took ≡ None
-        → IsLeft s t rank number op host.good 3 none_told (call_plan s rank host.good (disk_call s rank number op))) where
+    → IsLeft s t rank number op host.good 3 none_told (call_plan s rank host.good (disk_call s rank number op))) where
   pub asks_disk : option_map_or is_disk (question host.call) false ≡ true → AsksDisk s t rank host n is.took parts all
   asks_disk asks = by_call (option_map_or is_disk (waits_for s rank host.one) false) refl
     where

@@ -72,7 +72,7 @@ abbrev pub IsAhead : Settings → Timing → ℕ → TripleHost → DiskOp → (
 IsAhead s t rank host op parts =
     (AllAre none_told parts × (host.took ≡ None) × (host.call ≡ call_on_three s rank host.good host.one))
     ⊎ ((asking : IsAsking s t rank op host.good host.took parts host.call)
-      × (waits_for s rank host.one ≡ Some (disk_call s rank asking.number op)))
+    × (waits_for s rank host.one ≡ Some (disk_call s rank asking.number op)))
 
 -- the images told this together of the operation that is out
 pub record WasTold (n : Running) (parts : ℕ → Part) (good : ℕ → Bool) (answer : What) : Type 0 where
