@@ -21,7 +21,9 @@ mod Standing
 mod Stands
 mod Taking
 mod TripleAsking
+mod TripleEnds
 mod TripleFrames
+mod TripleMoves
 mod TripleSteps
 mod TripleTells
 mod Worlds

@@ -148,9 +148,9 @@ triple_moves {s} {t} {j} {w} rank w' host images sent is below changes here fed 
     by_fed r false = is.fed r
 
 -- nothing was written
-pub same_images : {s : Settings} {t : Timing} {images : ℕ → ℕ → List ℕ} {w : TripleWorld} → AreImages s t images w → FitsImage s t → (w' : TripleWorld) → w'.slots ≡ w.slots → w'.mailboxes ≡ w.mailboxes
+pub same_images : {s : Settings} {t : Timing} {images : ℕ → ℕ → List ℕ} (w : TripleWorld) → AreImages s t images w → FitsImage s t → (w' : TripleWorld) → w'.slots ≡ w.slots → w'.mailboxes ≡ w.mailboxes
     → AreImages s t images w'
-same_images is fits w' slots mails image in_range =
+same_images w is fits w' slots mails image in_range =
     same_image (is image in_range) fits (image_of image w') (ap (λ f. λ (r : ℕ). f r image) slots) (ap (λ f. λ (r : ℕ). f r image) mails)
 
 -- one host moved on, and nothing was written or sent
@@ -161,13 +161,13 @@ moved_triple {s} {t} {j} {events} rank host is fits below m fed =
       events = m.events';
       may = m.may;
       world =
-          triple_moves rank (run_triple s t m.events') host j.images j.sent is below m.changes m.node fed (same_images is.images fits (run_triple s t m.events') m.slots m.mailboxes)
+          triple_moves rank (run_triple s t m.events') host j.images j.sent is below m.changes m.node fed (same_images (run_triple s t events) is.images fits (run_triple s t m.events') m.slots m.mailboxes)
           (knows_grows j.sent (packets s (run_triple s t events).moments) (packets s (run_triple s t m.events').moments) m.changes.grows is.sent);
     }
 
 -- ## Writes
 
-image_alike : {s : Settings} {t : Timing} {image : ℕ → List ℕ} {w : World} (w' : World) → IsImage s t image w → ((r : ℕ) → w'.slots r ≡ w.slots r) → ((r : ℕ) → w'.mailboxes r ≡ w.mailboxes r) → IsImage s t image w'
+pub image_alike : {s : Settings} {t : Timing} {image : ℕ → List ℕ} {w : World} (w' : World) → IsImage s t image w → ((r : ℕ) → w'.slots r ≡ w.slots r) → ((r : ℕ) → w'.mailboxes r ≡ w.mailboxes r) → IsImage s t image w'
 image_alike {s} {t} {image} {w} w' is slots mails =
     record {
       header = is.header;
@@ -177,14 +177,14 @@ image_alike {s} {t} {image} {w} w' is slots mails =
           subst (λ m. (by : Option Sender) × IfSome by IsSender × (image (mail_place r) ≡ mail_bytes (record { message = m; by = by }))) (sym (mails r)) (is.mails r below);
     }
 
-put_here : {A : Type 0} (f : ℕ → ℕ → A) (rank image r : ℕ) (v : A) → put_on f rank image v r image ≡ put (λ k. f k image) rank v r
+pub put_here : {A : Type 0} (f : ℕ → ℕ → A) (rank image r : ℕ) (v : A) → put_on f rank image v r image ≡ put (λ k. f k image) rank v r
 put_here f rank image r v = by_owner (rank == r)
   where
     by_owner : (b : Bool) → (if b then put (f rank) image v else f r) image ≡ (if b then v else f r image)
     by_owner true = put_same (f rank) image v
     by_owner false = refl
 
-put_apart : {A : Type 0} (f : ℕ → ℕ → A) (rank image r k : ℕ) (v : A) → (image == k) ≡ false → put_on f rank image v r k ≡ f r k
+pub put_apart : {A : Type 0} (f : ℕ → ℕ → A) (rank image r k : ℕ) (v : A) → (image == k) ≡ false → put_on f rank image v r k ≡ f r k
 put_apart f rank image r k v apart = by_owner (rank == r) refl
   where
     by_owner : (b : Bool) → (rank == r) ≡ b → (if b then put (f rank) image v else f r) k ≡ f r k
@@ -232,11 +232,11 @@ mails_apart rank image disk.ReadMail mails r k e = refl
 mails_apart rank image (disk.WriteClose number) mails r k e = refl
 
 -- the call of an operation landed on an image
-pub images_land : {s : Settings} {t : Timing} {images : ℕ → ℕ → List ℕ} {w : TripleWorld} → AreImages s t images w → FitsImage s t → (w' : TripleWorld) (image rank number : ℕ) (op : DiskOp)
+pub images_land : {s : Settings} {t : Timing} {images : ℕ → ℕ → List ℕ} (w : TripleWorld) → AreImages s t images w → FitsImage s t → (w' : TripleWorld) (image rank number : ℕ) (op : DiskOp)
     → rank < length s.nodes → number < 2 ^ 64 → IsOperation s op
     → w'.slots ≡ slots_on rank image op w.slots → w'.mailboxes ≡ mailboxes_on rank image op w.mailboxes
     → AreImages s t (put images image (landed_image (disk_call s rank number op) (images image))) w'
-images_land {s} {t} {images} {w} is fits w' image rank number op below small is_op slots mails k in_range = by_image (image == k) refl
+images_land {s} {t} {images} w is fits w' image rank number op below small is_op slots mails k in_range = by_image (image == k) refl
   where
     landed : World
     landed = record (image_of k w) { slots = slots_with rank op (λ r. w.slots r k); mailboxes = mailboxes_with rank op (λ r. w.mailboxes r k) }

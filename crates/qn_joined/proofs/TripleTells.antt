@@ -286,7 +286,7 @@ mail_kind x y z two = record { agree = agree; enough = enough x y z two }
 
 -- ## The calls of a read
 
-plain_held : (s : Settings) (t : Timing) (op : DiskOp) (value : What) → is_write op ≡ false → IsHeld s t op value → is_strange value ≡ false
+pub plain_held : (s : Settings) (t : Timing) (op : DiskOp) (value : What) → is_write op ≡ false → IsHeld s t op value → is_strange value ≡ false
 plain_held s t disk.ReadHeader value is held = ap is_strange held
 plain_held s t (disk.ReadSlot other) value is held = ap is_strange held.1
 plain_held s t disk.CheckMail value is held = ap is_strange held.1
@@ -315,7 +315,7 @@ module _ (s : Settings) (t : Timing) (op : DiskOp) (A : Type 0) (value : A → W
   heard asked made (inr held) =
       let plain = plain_held s t op (done s op (bytes_read made)) reads held.1 in
       let is = ap (λ b. if b then Failed else (if is_strange (done s op (bytes_read made)) then Pending else Landed (done s op (bytes_read made)))) held.0
-              ∙ ap (λ b. if b then Pending else Landed (done s op (bytes_read made))) plain in
+      ∙ ap (λ b. if b then Pending else Landed (done s op (bytes_read made))) plain in
       let found = of_held (done s op (bytes_read made)) held.1 in
       record { says = Holds found.0; is = is ∙ ap Landed found.1; speaks = tt; told = subst (λ p. IsTold s op p) (sym is) (bytes_read made, refl, plain) }
 
@@ -446,10 +446,24 @@ module _ (s : Settings) (t : Timing) (rank number : ℕ) (check : CheckTells s) 
   unfolding disk_call read_plan parts_plan part_plan
   check_left =
       subst (λ o. IsLeft s t rank number disk.CheckMail all_good 3 none_told (mail_plan o)) (sym reads)
-      (inr (_, refl, λ one same honest. inr (_, refl, λ two same' honest'. inr (_, refl, λ three same'' honest''.
-      (mail_told one two three, refl,
-      check_ends one two three (check_heard one honest) (check_heard two honest') (check_heard three honest'')
-      (subst (λ o. Follows (mail_plan o) (one ∷ two ∷ three ∷ []) (mail_told one two three)) (sym reads) (same, (same', (same'', (refl, refl))))))))))
+      (inr (
+        _,
+        refl,
+        λ one same honest. inr (
+          _,
+          refl,
+          λ two same' honest'. inr (
+            _,
+            refl,
+            λ three same'' honest''. (
+              mail_told one two three,
+              refl,
+              check_ends one two three (check_heard one honest) (check_heard two honest') (check_heard three honest'')
+                  (subst (λ o. Follows (mail_plan o) (one ∷ two ∷ three ∷ []) (mail_told one two three)) (sym reads) (same, (same', (same'', (refl, refl))))),
+            ),
+          ),
+        ),
+      ))
 
 -- ## The calls of a write
 
@@ -493,17 +507,32 @@ module _ (s : Settings) (t : Timing) (rank number sector : ℕ) (bytes : List �
     unfolding write_plan images_plan image_plan
     write_left =
         subst (λ p. IsLeft s t rank number op good 3 none_told p) (sym (ap (λ c. call_plan s rank good c) asks))
-        (inr (_, ap (λ c. plans.Asks (on_image 1 c) (plans.left (write_plan rank good sector bytes))) (sym asks), λ one same honest.
-        inr (_, ap (λ c. plans.Asks (on_image 2 c) (plans.left (plans.left (write_plan rank good sector bytes) one))) (sym asks), λ two same' honest'.
-        inr (_, ap (λ c. plans.Asks (on_image 3 c) (plans.left (plans.left (plans.left (write_plan rank good sector bytes) one) two))) (sym asks), λ three same'' honest''.
-        (write_told one two three, refl, record {
-          call = sym asks;
-          answer = tells rank number op good (one ∷ two ∷ three ∷ []) (write_told one two three) write
-              (subst (λ c. Follows (call_plan s rank good c) (one ∷ two ∷ three ∷ []) (write_told one two three)) (sym asks)
-              (same ∙ ap (on_image 1) asks, (same' ∙ ap (on_image 2) asks, (same'' ∙ ap (on_image 3) asks, (refl, refl)))));
-          goods = goods one two three;
-          three = three_good (sector == mail_place rank) (done_on one two three) refl;
-        })))))
+        (inr (
+          _,
+          ap (λ c. plans.Asks (on_image 1 c) (plans.left (write_plan rank good sector bytes))) (sym asks),
+          λ one same honest.
+              inr (
+                _,
+                ap (λ c. plans.Asks (on_image 2 c) (plans.left (plans.left (write_plan rank good sector bytes) one))) (sym asks),
+                λ two same' honest'.
+                    inr (
+                      _,
+                      ap (λ c. plans.Asks (on_image 3 c) (plans.left (plans.left (plans.left (write_plan rank good sector bytes) one) two))) (sym asks),
+                      λ three same'' honest''. (
+                        write_told one two three,
+                        refl,
+                        record {
+                          call = sym asks;
+                          answer = tells rank number op good (one ∷ two ∷ three ∷ []) (write_told one two three) write
+                              (subst (λ c. Follows (call_plan s rank good c) (one ∷ two ∷ three ∷ []) (write_told one two three)) (sym asks)
+                              (same ∙ ap (on_image 1) asks, (same' ∙ ap (on_image 2) asks, (same'' ∙ ap (on_image 3) asks, (refl, refl)))));
+                          goods = goods one two three;
+                          three = three_good (sector == mail_place rank) (done_on one two three) refl;
+                        },
+                      ),
+                    ),
+              ),
+        ))
 
 -- ## Each operation
 

@@ -79,10 +79,10 @@ image_named other = 0
 abbrev pub image_waited : TripleHost → ℕ
 image_waited host = option_map_or image_named (question host.call) 0
 
--- what the call that a host waits for leaves over where it is given up, and all that is left over then
+-- what the disk call that a host waits for leaves over where it is given up, and by image all that is left over then
 abbrev pub given_up_now : Settings → ℕ → TripleHost → List Call
 given_up_now s rank host =
-    option_map_or (λ asked. given_up_by (waits_for s rank host.one) host.took) (question host.call) []
+    if option_map_or is_disk (question host.call) false then given_up_by (waits_for s rank host.one) host.took else []
 
 abbrev pub gives_up : Settings → ℕ → TripleHost → ℕ → List Call
 gives_up s rank host =

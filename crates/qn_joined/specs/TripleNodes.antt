@@ -1,5 +1,5 @@
 -- A host whose run is on three images, and the node of the world that it is: this project's profile.
-use Rattle.std.specs.Prelude.{◌≡◌, ◌<◌, ◌≤◌, ℕ, zero, suc, Bool, true, false, List, [], ◌∷◌, Option, None, Some, length, Contains, ◌⊎◌}
+use Rattle.std.specs.Prelude.{◌≡◌, ◌<◌, ◌≤◌, ℕ, zero, suc, Bool, true, false, List, [], ◌∷◌, Option, None, Some, is_some, length, Contains, ◌⊎◌}
 use Rattle.qn_base.specs.declared.calls.Call.{Call}
 use Rattle.qn_base.specs.Calls.{blank}
 use Rattle.qn_base.specs.Plans as plans
@@ -8,6 +8,7 @@ use Rattle.qn_model.specs.declared.configuration.Settings.{Settings}
 use Rattle.qn_model.specs.declared.times.Timing.{Timing}
 use Rattle.qn_model.specs.declared.entries.What.{What}
 use Rattle.qn_model.specs.declared.outputs.DiskOp.{DiskOp}
+use Rattle.qn_model.specs.declared.outputs.DiskOp.TheVariants as disk
 use Rattle.qn_model.specs.declared.packets.Packet.{Packet}
 use Rattle.qn_model.specs.declared.packets.Sent.{Sent}
 use Rattle.qn_model.specs.Log.{op_out}
@@ -24,8 +25,8 @@ use Rattle.qn_safety.specs.TripleWorld.{TripleWorld, answer_of, good_after, imag
 use Rattle.qn_live.specs.Performing.{disk_call, done}
 use Rattle.qn_live.specs.TripleDisk.{Told, part_of}
 use Rattle.qn_live.specs.TripleRuns.{all_good}
-use Rattle.qn_joined.specs.Joints.{counts, waits_for}
-use Rattle.qn_joined.specs.TripleJoints.{IsTripleJoined, TripleHappening, TripleHost, TripleJoint, call_on_three, triple_joint_after}
+use Rattle.qn_joined.specs.Joints.{FitsImage, counts, waits_for}
+use Rattle.qn_joined.specs.TripleJoints.{MayHappenTriple, TripleHappening, TripleHost, TripleJoint, call_on_three, happens_triple}
 use Rattle.qn_joined.specs.TripleWorldOf.{IsHeld, IsHonest, IsLeft, ToldBy, image_before, none_told, on_image, told_also}
 use Rattle.qn_joined.specs.WorldOf.{AreAmong, IsImage, IsNode, WasSentTo, disk_ahead}
 
@@ -55,6 +56,7 @@ AreSilent (suc (suc (suc more))) by = (by.three ≡ Pending) × (by.two ≡ Pend
 pub record IsAsking (s : Settings) (t : Timing) (rank : ℕ) (op : DiskOp) (good : List Bool) (took : Option (List ℕ)) (parts : ℕ → Part) (call : Plan Told) : Type 0 where
   pub number : ℕ
   pub images : ℕ
+  pub few : images < 3
   pub by : ToldBy
   pub more : Call → Plan Told
   pub asks : call ≡ plans.Asks (on_image (image_before images) (disk_call s rank number op)) more
@@ -70,7 +72,7 @@ abbrev pub IsAhead : Settings → Timing → ℕ → TripleHost → DiskOp → (
 IsAhead s t rank host op parts =
     (AllAre none_told parts × (host.took ≡ None) × (host.call ≡ call_on_three s rank host.good host.one))
     ⊎ ((asking : IsAsking s t rank op host.good host.took parts host.call)
-      × (waits_for s rank host.one ≡ Some (disk_call s rank asking.number op)))
+    × (waits_for s rank host.one ≡ Some (disk_call s rank asking.number op)))
 
 -- the images told this together of the operation that is out
 pub record WasTold (n : Running) (parts : ℕ → Part) (good : ℕ → Bool) (answer : What) : Type 0 where
@@ -85,14 +87,17 @@ good_told None took parts good image = good image
 good_told (Some op) None parts good image = good image
 good_told (Some op) (Some answer) parts good image = good_after op parts good image
 
--- a host and the node of the world that it is; of the node are given its parts, leftovers and good images
+-- A host and the node of the world that it is. A clear that failed ends the boot, and its good images no longer count. Of the node are given its parts, leftovers and good images
 pub record IsNodeOnThree (s : Settings) (t : Timing) (rank : ℕ) (host : TripleHost) (n : Running) (parts : ℕ → Part) (left : ℕ → List DiskOp) (good : ℕ → Bool) (all : List Sent) : Type 0 where
   pub took : Option What
   pub one : IsNode s rank host.one n took [] all
   pub told : (answer : What) → took ≡ Some answer → WasTold n parts good answer
   pub plain : (host.one.took ≡ None) × (host.one.left ≡ [])
   pub three : host.good ≡ is_good_on host.good 1 ∷ is_good_on host.good 2 ∷ is_good_on host.good 3 ∷ []
-  pub goods : n.on ≡ true → (image : ℕ) → is_image image ≡ true
+  pub goods : n.on ≡ true
+      → (op_out n.log ≡ Some disk.WriteClear → disk_ahead host.one.stand.spot ≡ None → is_some took ≡ true)
+      → (image : ℕ)
+      → is_image image ≡ true
       → is_good_on host.good image ≡ good_told (op_out n.log) took parts good image
   pub silent : n.on ≡ true → op_out n.log ≡ None → AllAre none_told parts
   pub ahead : n.on ≡ true → (op : DiskOp) → disk_ahead host.one.stand.spot ≡ Some op → IsAhead s t rank host op parts
@@ -119,9 +124,11 @@ pub record HasTripleWorld (s : Settings) (t : Timing) (j : TripleJoint) : Type 0
   pub may : AllMayTriple s t events
   pub world : IsTripleWorld s t j (run_triple s t events)
 
--- every joint has a world
-abbrev pub EveryTripleJointHasAWorld : Settings → Timing → Type 0
-EveryTripleJointHasAWorld s t =
-    (images : ℕ → ℕ → List ℕ) (happenings : List TripleHappening)
-    → IsTripleJoined s t images happenings
-    → HasTripleWorld s t (triple_joint_after s images happenings)
+-- where a joint has a world, it has one after what happened
+abbrev pub KeepsAWorld : Settings → Timing → TripleHappening → Type 0
+KeepsAWorld s t happening =
+    (j : TripleJoint)
+    → FitsImage s t
+    → HasTripleWorld s t j
+    → MayHappenTriple s t happening j
+    → HasTripleWorld s t (happens_triple s happening j)

@@ -94,11 +94,11 @@ IsLeft s t rank number op good zero by plan =
 IsLeft s t rank number op good (suc images) by plan =
     IsLeft s t rank number op good images by plan
     ⊎ ((more : Call → Plan Told)
-      × (plan ≡ plans.Asks (on_image (image_before images) (disk_call s rank number op)) more)
-      × ((made : Call)
-      → blank made ≡ on_image (image_before images) (disk_call s rank number op)
-      → IsHonest s t op made
-      → IsLeft s t rank number op good images (told_also images (part_of s op made) by) (more made)))
+    × (plan ≡ plans.Asks (on_image (image_before images) (disk_call s rank number op)) more)
+    × ((made : Call)
+    → blank made ≡ on_image (image_before images) (disk_call s rank number op)
+    → IsHonest s t op made
+    → IsLeft s t rank number op good images (told_also images (part_of s op made) by) (more made)))
 
 abbrev pub none_told : ToldBy
 none_told = record { one = Pending; two = Pending; three = Pending }

@@ -9,6 +9,13 @@
 //! (`law_processes`), a resource that runs is held by the log of its node (`law_owned`), and what the bytes of a sector give a node
 //! is what its operation takes in the world (`law_takes_alike`). The rules of what may happen are met by a run in which a
 //! node boots and starts its resource, and another one resets it and takes over (`law_joints_are_met`).
+//!
+//! Of nodes on three images `specs/TripleJoints` says what may happen to them, and `specs/TripleNodes` which world that is. The calls
+//! of a disk operation on the three end with the answer of the world of three images (`law_triple_calls`); and where a joint has a world,
+//! it has one after a disk call landed on an image (`law_triple_lands`), a write that was given up landed after all (`law_triple_late`),
+//! time passed, a process began, a feed took effect, a machine ended, or an operator wrote (`law_triple_passes`, `law_triple_begins`,
+//! `law_triple_feeds`, `law_triple_ends`, `law_triple_operates`). That it has one after a call returned is not proved, and so neither is
+//! that at most one resource runs.
 #![tactic(auto)]
 
 mod laws;
@@ -20,4 +27,7 @@ pub use laws::{
     law_owned, law_packets_read_back, law_processes, law_returns_as_node, law_returns_own,
     law_stands, law_takes_alike, law_worlds,
 };
-pub use triple_laws::law_triple_calls;
+pub use triple_laws::{
+    law_triple_begins, law_triple_calls, law_triple_ends, law_triple_feeds, law_triple_lands,
+    law_triple_late, law_triple_operates, law_triple_passes,
+};

@@ -1,11 +1,16 @@
 //! The laws of running nodes on three images that share one outside.
-ghost use Rattle.std.specs.Prelude.{ℕ};
+ghost use Rattle.std.specs.Prelude.{ℕ, Bool, List, Option};
+ghost use Rattle.qn_base.specs.declared.ids.Rank.{Rank};
 ghost use Rattle.qn_model.specs.declared.configuration.Settings.{Settings};
+ghost use Rattle.qn_model.specs.declared.disk.Message.{Message};
 ghost use Rattle.qn_model.specs.declared.times.Timing.{Timing};
-ghost use Rattle.qn_joined.specs.TripleJoints.{AtMostOneRunsOnThree};
+ghost use Rattle.qn_joined.specs.TripleJoints as joints;
+ghost use Rattle.qn_joined.specs.TripleNodes.{KeepsAWorld};
 ghost use Rattle.qn_joined.specs.TripleWorldOf.{CallsAnswer};
 
+use crate::laws::{law_mails_read_back, law_takes_alike};
 use qn_live::{law_triple_answers, law_triple_check, law_triple_writes};
+use qn_safety::law_triple_nodes;
 
 /// Law: the calls of a disk operation on three images, whatever each of them answers, end with the answer that the world of
 /// three images gives, and leave the good images that it leaves.
@@ -15,4 +20,49 @@ pub fn law_triple_calls()
     law_triple_answers();
     law_triple_check();
     law_triple_writes();
+}
+
+/// Law: where a joint of running nodes on three images is a world of three images, it is one after a disk call landed on the
+/// image that it is made on: that is one event, and the image holds what the image of the world holds.
+pub fn law_triple_lands()
+    ensures { (s : Settings) (t : Timing) (rank : ℕ) → KeepsAWorld s t (joints.Lands rank) }
+{
+    law_takes_alike();
+    law_triple_nodes();
+    law_triple_calls();
+}
+
+/// Law: the same after the machine of a host is off: that is one event where its node takes part in time, and else none.
+pub fn law_triple_ends()
+    ensures { (s : Settings) (t : Timing) (rank : ℕ) → KeepsAWorld s t (joints.Ends rank) }
+{
+    law_triple_nodes();
+    law_triple_calls();
+}
+
+/// Law: the same after a write that was given up on an image landed there after all.
+pub fn law_triple_late()
+    ensures { (s : Settings) (t : Timing) (rank image number : ℕ) → KeepsAWorld s t (joints.LandsLate rank image number) }
+{}
+
+/// Law: the same after time passed.
+pub fn law_triple_passes()
+    ensures { (s : Settings) (t : Timing) (dt : ℕ) (clocks : List (Rank × ℕ)) → KeepsAWorld s t (joints.Passes dt clocks) }
+{}
+
+/// Law: the same after a process began: its node is off.
+pub fn law_triple_begins()
+    ensures { (s : Settings) (t : Timing) (rank : ℕ) (clean : Bool) (leave : Option ℕ) (turns : ℕ) → KeepsAWorld s t (joints.Begins rank clean leave turns) }
+{}
+
+/// Law: the same after a feed took effect: that is one event where the node takes part in time, and else none.
+pub fn law_triple_feeds()
+    ensures { (s : Settings) (t : Timing) (rank : ℕ) → KeepsAWorld s t (joints.Feeds rank) }
+{}
+
+/// Law: the same after an operator wrote to a mailbox of an image.
+pub fn law_triple_operates()
+    ensures { (s : Settings) (t : Timing) (rank image : ℕ) (sent : Message) → KeepsAWorld s t (joints.Operates rank image sent) }
+{
+    law_mails_read_back();
 }

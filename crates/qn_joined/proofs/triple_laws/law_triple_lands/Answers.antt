@@ -1,0 +1,6 @@
+use Rattle.qn_joined.proofs.TripleSteps.{lands_on_three}
+use Rattle.qn_joined.proofs.triple_laws.law_triple_lands.Goals as goal
+
+pub returns : goal.returns
+returns c = λ s t rank.
+    lands_on_three s t (c.law_takes_alike.ensures s t) (c.law_triple_nodes.ensures s t) (c.law_triple_calls.ensures s t) rank
