@@ -1,3 +1,2 @@
 -- What the process of a node keeps: this project's profile.
 pub mod Asking
-pub mod Reading

@@ -9,7 +9,7 @@
 //! and before BEFORE are made. The status is 1 where a run is at fault, and 2 for other words.
 //!
 //! A run is at fault where the world refuses an event or gives other outputs for an entry, where a node stands otherwise than in the world or
-//! what is told of it is not what the definition of a journal says, where the resource runs at two hosts or at one whose node does not hold, where
+//! what is told of it is not what a second reading of its entries gives, where the resource runs at two hosts or at one whose node does not hold, where
 //! nodes with a majority are well and none holds for longer than docs/LIVE.md says, and where a node resets another one that it saw all the
 //! time or again within three loops.
 //!

@@ -136,38 +136,46 @@ impl Process {
         let given = given_for(asked, reply, sector, &mut self.room);
         self.run.answer(given, &self.room);
         self.next = self.run.asks(&mut self.room);
-        self.tell(asked, given)
-    }
-
-    /// How many events are told of a call: of a look at the clock those of the entry, which is read a second time.
-    fn tell(&mut self, asked: Asked, given: Given) -> Result<usize, Fault> {
-        match asked {
-            Asked::Now => self.tell_entry(given),
-            Asked::Start | Asked::Stop | Asked::Disarm => {
-                let told = self.observer.made(asked, given, self.run.node_run());
-                Ok(told.len())
-            }
-            Asked::Receive
-            | Asked::Read { .. }
-            | Asked::Write { .. }
-            | Asked::Feed
-            | Asked::Send { .. }
-            | Asked::Halt { .. } => Ok(0),
-        }
-    }
-
-    fn tell_entry(&mut self, given: Given) -> Result<usize, Fault> {
         let run = self.run.node_run();
-        let told = self.observer.made(Asked::Now, given, run);
-        let read = self.reader.read(Entry {
-            tick: given.tick,
-            what: run.entry(),
-        })?;
-        if told.as_slice() == read.as_slice() {
-            Ok(told.len())
-        } else {
-            Err(Fault::OtherJournal(run.rank()))
-        }
+        tell(&mut self.observer, &mut self.reader, asked, given, run)
+    }
+}
+
+/// How many events are told of a call that a run made: of a look at the clock those of the entry, which is read a second time.
+fn tell(
+    observer: &mut Observer,
+    reader: &mut Reader,
+    asked: Asked,
+    given: Given,
+    run: &NodeRun,
+) -> Result<usize, Fault> {
+    match asked {
+        Asked::Now => tell_entry(observer, reader, given, run),
+        Asked::Start | Asked::Stop | Asked::Disarm => Ok(observer.made(asked, given, run).len()),
+        Asked::Receive
+        | Asked::Read { .. }
+        | Asked::Write { .. }
+        | Asked::Feed
+        | Asked::Send { .. }
+        | Asked::Halt { .. } => Ok(0),
+    }
+}
+
+fn tell_entry(
+    observer: &mut Observer,
+    reader: &mut Reader,
+    given: Given,
+    run: &NodeRun,
+) -> Result<usize, Fault> {
+    let told = observer.made(Asked::Now, given, run);
+    let read = reader.read(Entry {
+        tick: given.tick,
+        what: run.entry(),
+    })?;
+    if told.as_slice() == read.as_slice() {
+        Ok(told.len())
+    } else {
+        Err(Fault::OtherJournal(run.rank()))
     }
 }
 

@@ -1,11 +1,6 @@
-//! A second reading of a running node: a node of its own is handed each entry, and the events of the entry are those of the
-//! definition of a journal.
-ghost use Rattle.std.specs.Prelude.{◌≡◌, ◌≤◌, ◌<◌, ℕ, List, [], IfOk, length};
-ghost use Rattle.qn_live.specs.Standings.{standing};
-ghost use Rattle.qn_model.specs.declared.configuration.Settings.{Settings};
-ghost use Rattle.qn_model.specs.Log.{Line, now};
-ghost use Rattle.qn_notice.specs.Journal.{told};
-ghost use Rattle.qn_soak_nodes.specs.Reading.{HasRead};
+//! A second reading of a running node: a node of its own is handed each entry, and the events of the entry are worked out from where
+//! it stood before it and stands after it.
+ghost use Rattle.std.specs.Prelude.{◌<◌, length};
 
 use crate::fault::Fault;
 use qn_base::Rank;
@@ -26,7 +21,6 @@ impl Reader {
     /// A second reading of the node of that rank before its first entry.
     pub fn new(settings: &Settings, me: Rank) -> Reader
         requires { me.0 < length settings.now.nodes }
-        ensures { HasRead result settings.now me.0 [] }
     {
         Reader {
             node: Node::new(settings, me),
@@ -36,12 +30,7 @@ impl Reader {
     }
 
     /// Reads the entry that comes next, and gives its events.
-    pub fn read(&mut self, entry: Entry) -> Result<EventList, Fault>
-        ensures { IfOk result (λ events. (s : Settings) (me : ℕ) (log : List Line)
-            → HasRead self.old s me log
-            → now log ≤ entry.tick
-            → events.items ≡ told s me log entry) }
-    {
+    pub fn read(&mut self, entry: Entry) -> Result<EventList, Fault> {
         if self.node.steps_left() == 0 {
             return Err(Fault::Spent);
         }
