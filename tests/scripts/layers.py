@@ -1,27 +1,44 @@
-"""No crate cites the proofs of another one, and each names every library of its line in crates.txt; and the table of crates in
-docs/ARCHITECTURE.md has the crates of crates.txt and what each stands on: a row names crates of its line there, and the
-others of that line stand below those. The row of a crate that is not built yet says so."""
+"""No crate cites the proofs of another one, and each names every library of its line in crates.txt. crates.txt stands in layers, each
+crate on crates that stand before it there; docs/ARCHITECTURE.md has the same layers with the same crates, and what each stands on: a row
+names crates of its line, and the others of that line stand below those."""
 import os
 import pathlib
 import re
 import sys
 
 TOP = pathlib.Path(os.environ["TOP"])
+LAYER = re.compile(r"# ([A-Z][\w ]*): (.*)")
 wrong = []
 
 
 def lines_of_crates():
-    """The crates of crates.txt, each with the libraries that it uses, of this repository and of the kit."""
+    """The crates of crates.txt in their order, each with the libraries that it uses, of this repository and of the kit."""
     lines = [line.split("#")[0].strip() for line in (TOP / "crates.txt").read_text().splitlines()]
     return {line.split(":")[0].split()[0]: {*line.split(":")[1].split()} for line in lines if line}
 
 
-def rows_of_crates():
-    """The rows of the table of crates: what each stands on, and whether it stands."""
-    page = (TOP / "docs" / "ARCHITECTURE.md").read_text()
-    table = page.split("\n## Crates\n")[1].split("\n## ")[0]
-    rows = [[cell.strip() for cell in line.strip("|").split("|")] for line in table.splitlines() if line.startswith("| `")]
-    return {row[0].strip("`"): (set(re.findall(r"`(\w+)`", row[2])), row[-1] != "no") for row in rows}
+def layers_of_crates():
+    """The layers of crates.txt, after its first line: of each its name, what it speaks of, and its crates."""
+    layers = []
+    for line in (TOP / "crates.txt").read_text().splitlines()[1:]:
+        named = LAYER.fullmatch(line)
+        if named:
+            layers.append((named[1], named[2], []))
+        elif line:
+            layers[-1][2].append(line.split(":")[0])
+    return layers
+
+
+def layers_of_page():
+    """The layers of the page: of each its name, what it speaks of, and its crates, each with what its row says that it stands on."""
+    part = (TOP / "docs" / "ARCHITECTURE.md").read_text().split("\n## Layers and crates\n")[1].split("\n### Crates with one user\n")[0]
+    layers = []
+    for text in part.split("\n### ")[1:]:
+        rows = [[cell.strip() for cell in line.strip("|").split("|")] for line in text.splitlines() if line.startswith("| `")]
+        of = re.search(r"^Speaks of (.*)\.$", text, re.M)
+        crates = {row[0].strip("`"): set(re.findall(r"`(\w+)`", row[-1])) for row in rows}
+        layers.append((text.splitlines()[0], of[1] if of else "", crates))
+    return layers
 
 
 def below(crates, uses):
@@ -32,15 +49,26 @@ def below(crates, uses):
     return found
 
 
+def look_at_layers(page):
+    if [(name, of, [*crates]) for name, of, crates in page] != layers_of_crates():
+        for there, here in zip(layers_of_crates(), page):
+            if there != (here[0], here[1], [*here[2]]):
+                wrong.append("docs/ARCHITECTURE.md has the layer %s (%s) with %s, and crates.txt %s (%s) with %s" % (
+                    here[0], here[1], " ".join(here[2]), there[0], there[1], " ".join(there[2])))
+        wrong.append("the layers of crates.txt and of docs/ARCHITECTURE.md are not the same ones")
+
+
+def look_at_order(uses):
+    before = set()
+    for crate, used in uses.items():
+        for other in sorted(used - before):
+            wrong.append("crates.txt has %s before %s, which it stands on" % (crate, other))
+        before.add(crate)
+
+
 def look_at_rows(uses, rows):
-    for crate in [*uses, *rows]:
-        if crate not in rows:
-            wrong.append("docs/ARCHITECTURE.md has no row for %s" % crate)
-        elif rows[crate][1] != (crate in uses):
-            wrong.append("docs/ARCHITECTURE.md says of %s that it %s, and crates.txt does not" % (
-                crate, "stands" if rows[crate][1] else "does not stand"))
     for crate in uses.keys() & rows.keys():
-        named = rows[crate][0]
+        named = rows[crate]
         for other in sorted(named - uses[crate]):
             wrong.append("docs/ARCHITECTURE.md says that %s stands on %s, and crates.txt does not" % (crate, other))
         for other in sorted(uses[crate] - below(named & uses.keys(), uses)):
@@ -67,7 +95,11 @@ def look_at_sources(libraries):
 
 
 libraries = lines_of_crates()
-look_at_rows({crate: used & libraries.keys() for crate, used in libraries.items()}, rows_of_crates())
+own = {crate: used & libraries.keys() for crate, used in libraries.items()}
+page = layers_of_page()
+look_at_layers(page)
+look_at_order(own)
+look_at_rows(own, {crate: stands for _, _, crates in page for crate, stands in crates.items()})
 look_at_sources(libraries)
 print("\n".join(dict.fromkeys(wrong)))
 sys.exit(1 if wrong else 0)
