@@ -89,4 +89,3 @@ fn together(op: DiskOp, values: &[What]) -> What
         DiskOp::WriteClose(_) => What::Closed(true),
     }
 }
-

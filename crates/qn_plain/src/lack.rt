@@ -154,4 +154,3 @@ pub fn is_rank(me: Rank, found: Option<Rank>) -> bool
         None => false,
     }
 }
-

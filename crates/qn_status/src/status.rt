@@ -91,4 +91,3 @@ fn node_state(world: &World, rank: Rank) -> NodeState
         why: seen.why,
     }
 }
-
