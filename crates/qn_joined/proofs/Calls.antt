@@ -54,7 +54,7 @@ received_may rank host sent (call.Halt code) bytes may e = absurd cc
 received_may rank host sent (call.OpenImage path ok) bytes may e = absurd cc
 received_may rank host sent (call.OpenNode images image watchdog resource port owner ok) bytes may e = absurd cc
 
-disk_is : (s : Settings) (rank number : ℕ) (op : DiskOp) → is_disk (disk_call s rank number op) ≡ true
+pub disk_is : (s : Settings) (rank number : ℕ) (op : DiskOp) → is_disk (disk_call s rank number op) ≡ true
 unfolding disk_call
 disk_is s rank number disk.ReadHeader = refl
 disk_is s rank number (disk.ReadSlot other) = refl

@@ -33,7 +33,7 @@ use Rattle.qn_model.specs.Moments.{Running, is_gone}
 use Rattle.qn_model.specs.Phases.{phase}
 use Rattle.qn_joined.specs.Stands.{Spot, Receiving, Looking, Acting, Saying, Parting, Ended, log_at}
 use Rattle.qn_joined.specs.WorldOf.{IsEnding, IsNode, TookAlike, disk_ahead}
-use Rattle.qn_joined.proofs.Calls.{timed_on}
+use Rattle.qn_joined.proofs.Calls.{disk_is, timed_on}
 use Rattle.qn_joined.proofs.Landing.{DiskWaits, disk_waits}
 
 -- ## Parts
@@ -148,17 +148,6 @@ disk_on s rank number image (disk.WriteClose last) = refl
 disk_on s rank number image disk.WriteClear = refl
 disk_on s rank number image (disk.WriteReset other) = refl
 
-pub disk_once : (s : Settings) (rank number : ℕ) (op : DiskOp) → is_disk (disk_call s rank number op) ≡ true
-unfolding disk_call
-disk_once s rank number disk.ReadHeader = refl
-disk_once s rank number (disk.ReadSlot other) = refl
-disk_once s rank number disk.CheckMail = refl
-disk_once s rank number disk.ReadMail = refl
-disk_once s rank number (disk.WriteClaim next) = refl
-disk_once s rank number (disk.WriteClose last) = refl
-disk_once s rank number disk.WriteClear = refl
-disk_once s rank number (disk.WriteReset other) = refl
-
 -- a call that is none of the disk is made once
 pub once_made : (s : Settings) (rank : ℕ) (good : List Bool) (asked : Call) → is_disk asked ≡ false → call_plan s rank good asked ≡ plans.Asks asked (λ made. plans.Ends (made, good))
 once_made s rank good (call.Read sector bytes ok) none = absurd cc
@@ -257,7 +246,7 @@ module _ {s : Settings} {t : Timing} {rank : ℕ} {host : TripleHost} {n : Runni
 
           by_how : (op : DiskOp) → IsAhead s t rank host op parts → ⊥
           by_how op (inl fresh) = never fresh.2
-          by_how op (inr asking) = let both = sym plain ∙ ap (λ w. option_map_or is_disk w false) asking.1 ∙ disk_once s rank asking.0.number op in cc
+          by_how op (inr asking) = let both = sym plain ∙ ap (λ w. option_map_or is_disk w false) asking.1 ∙ disk_is s rank asking.0.number op in cc
 
           by_ahead : (o : Option DiskOp) → disk_ahead host.one.stand.spot ≡ o → ⊥
           by_ahead None e = never (is.idle e).1

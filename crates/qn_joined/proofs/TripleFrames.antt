@@ -18,6 +18,7 @@ use Rattle.qn_model.specs.Unmet.{id_of}
 use Rattle.qn_model.specs.World.{World, mailboxes_with, put, slots_with}
 use Rattle.qn_safety.specs.declared.part.Part.{Part}
 use Rattle.qn_safety.specs.declared.triple_event.TripleEvent.{TripleEvent}
+use Rattle.qn_safety.specs.ImagesApart.{mailboxes_other, slots_other}
 use Rattle.qn_safety.specs.NodeLogs.{IsOperation}
 use Rattle.qn_safety.specs.TripleNumbers.{AllMayTriple}
 use Rattle.qn_safety.specs.TripleRules.{is_image}
@@ -201,16 +202,6 @@ slots_here rank image disk.WriteClear slots r = refl
 slots_here rank image disk.ReadMail slots r = refl
 slots_here rank image (disk.WriteReset other) slots r = refl
 
-slots_apart : (rank image : ℕ) (op : DiskOp) (slots : ℕ → ℕ → Slot) (r k : ℕ) → (image == k) ≡ false → slots_on rank image op slots r k ≡ slots r k
-slots_apart rank image (disk.WriteClaim number) slots r k e = put_apart slots rank image r k (record { incarnation = number; clean = false }) e
-slots_apart rank image (disk.WriteClose number) slots r k e = put_apart slots rank image r k (record { incarnation = number; clean = true }) e
-slots_apart rank image disk.ReadHeader slots r k e = refl
-slots_apart rank image (disk.ReadSlot other) slots r k e = refl
-slots_apart rank image disk.CheckMail slots r k e = refl
-slots_apart rank image disk.WriteClear slots r k e = refl
-slots_apart rank image disk.ReadMail slots r k e = refl
-slots_apart rank image (disk.WriteReset other) slots r k e = refl
-
 mails_here : (rank image : ℕ) (op : DiskOp) (mails : ℕ → ℕ → Message) (r : ℕ) → mailboxes_on rank image op mails r image ≡ mailboxes_with rank op (λ k. mails k image) r
 mails_here rank image disk.WriteClear mails r = put_here mails rank image r message.Empty
 mails_here rank image (disk.WriteReset other) mails r = put_here mails other.0 image r message.Reset
@@ -220,16 +211,6 @@ mails_here rank image disk.CheckMail mails r = refl
 mails_here rank image (disk.WriteClaim number) mails r = refl
 mails_here rank image disk.ReadMail mails r = refl
 mails_here rank image (disk.WriteClose number) mails r = refl
-
-mails_apart : (rank image : ℕ) (op : DiskOp) (mails : ℕ → ℕ → Message) (r k : ℕ) → (image == k) ≡ false → mailboxes_on rank image op mails r k ≡ mails r k
-mails_apart rank image disk.WriteClear mails r k e = put_apart mails rank image r k message.Empty e
-mails_apart rank image (disk.WriteReset other) mails r k e = put_apart mails other.0 image r k message.Reset e
-mails_apart rank image disk.ReadHeader mails r k e = refl
-mails_apart rank image (disk.ReadSlot other) mails r k e = refl
-mails_apart rank image disk.CheckMail mails r k e = refl
-mails_apart rank image (disk.WriteClaim number) mails r k e = refl
-mails_apart rank image disk.ReadMail mails r k e = refl
-mails_apart rank image (disk.WriteClose number) mails r k e = refl
 
 -- the call of an operation landed on an image
 pub images_land : {s : Settings} {t : Timing} {images : ℕ → ℕ → List ℕ} (w : TripleWorld) → AreImages s t images w → FitsImage s t → (w' : TripleWorld) (image rank number : ℕ) (op : DiskOp)
@@ -251,5 +232,5 @@ images_land {s} {t} {images} w is fits w' image rank number op below small is_op
         (λ r. ap (λ f. f r k) mails ∙ subst (λ i. mailboxes_on rank i op w.mailboxes r k ≡ mailboxes_with rank op (λ x. w.mailboxes x k) r) (sym same) (mails_here rank k op w.mailboxes r))
     by_image false e =
         image_alike (image_of k w') (is k in_range)
-        (λ r. ap (λ f. f r k) slots ∙ slots_apart rank image op w.slots r k e)
-        (λ r. ap (λ f. f r k) mails ∙ mails_apart rank image op w.mailboxes r k e)
+        (λ r. ap (λ f. f r k) slots ∙ slots_other rank image op w.slots r k e)
+        (λ r. ap (λ f. f r k) mails ∙ mailboxes_other rank image op w.mailboxes r k e)

@@ -33,6 +33,7 @@ use Rattle.qn_safety.specs.TripleNumbers.{is_two}
 use Rattle.qn_safety.specs.TripleRules.{is_image}
 use Rattle.qn_safety.specs.TripleWorld.{answer_of, good_after, has_failed, has_landed}
 use Rattle.qn_live.specs.Performing.{disk_answer, disk_call, done}
+use Rattle.qn_live.specs.PlacesRead.{mail_is_read, slot_is_read}
 use Rattle.qn_live.specs.TripleDisk.{Told, call_plan, differ, good_after_write, image_plan, images_plan, is_asked, is_failed_read, is_majority, is_strange, part_of, part_plan, parts_plan, read_entry, read_of, read_plan, reading, same_times, sector_of, sector_on, some_differ, strange, write_plan}
 use Rattle.qn_live.specs.TripleLaws.{IsTold, parts_told, taken_from}
 use Rattle.qn_live.specs.TripleRuns.{all_good}
@@ -536,24 +537,6 @@ module _ (s : Settings) (t : Timing) (rank number sector : ℕ) (bytes : List �
 
 -- ## Each operation
 
-mail_reads : (rank : ℕ) → reading (mail_place rank) ≡ disk.ReadMail
-mail_reads rank =
-    ap (λ b. if b then disk.ReadHeader else (if nat_lt (512 + rank) 512 then disk.ReadSlot (rank_of ((512 + rank - 1) / 2)) else disk.ReadMail)) (ne_eqb (512 + rank) 0 (λ e. omega arith))
-    ∙ by_test (nat_lt (512 + rank) 512) refl
-  where
-    by_test : (b : Bool) → nat_lt (512 + rank) 512 ≡ b → (if b then disk.ReadSlot (rank_of ((512 + rank - 1) / 2)) else disk.ReadMail) ≡ disk.ReadMail
-    by_test false e = refl
-    by_test true e = absurd (let under = ltb-true (512 + rank) 512 e in omega (arith, under))
-
-slot_reads : (other : Rank) → other.0 < 32 → reading (slot_place other.0) ≡ disk.ReadSlot other
-slot_reads other small =
-    ap (λ b. if b then disk.ReadHeader else (if nat_lt (1 + 2 * other.0) 512 then disk.ReadSlot (rank_of ((1 + 2 * other.0 - 1) / 2)) else disk.ReadMail)) (ne_eqb (1 + 2 * other.0) 0 (λ e. omega arith))
-    ∙ ap (λ b. if b then disk.ReadSlot (rank_of ((1 + 2 * other.0 - 1) / 2)) else disk.ReadMail) (lt-ltb (1 + 2 * other.0) 512 (omega (arith, small)))
-    ∙ ap (λ r. disk.ReadSlot (rank_of r)) half
-  where
-    half : (1 + 2 * other.0 - 1) / 2 ≡ other.0
-    half = omega arith
-
 apart_slot : (rank : ℕ) → rank < 32 → (1 + 2 * rank == 512 + rank) ≡ false
 apart_slot rank small = ne_eqb (1 + 2 * rank) (512 + rank) (λ e. omega (arith, small))
 
@@ -574,13 +557,13 @@ calls_answer s t tells rank number op good x y z fits below is_op shape enough =
         (λ parts good image. refl) refl
     by_op (disk.ReadSlot other) is e =
         read_left s t (disk.ReadSlot other) Slot (λ own. what.SlotRead other (slot.Read own)) refl (λ found held. held) rank number (slot_place other.0) refl x y z (slot_kind other x y z) (tells.slot other)
-        (λ parts good image. refl) (slot_reads other (omega (arith, is, fits.few)))
+        (λ parts good image. refl) (slot_is_read other (omega (arith, is, fits.few)))
     by_op disk.ReadMail is e =
         read_left s t disk.ReadMail Message (λ found. what.MailRead (mail.Read found)) refl (λ found held. held) rank number (mail_place rank) refl x y z (mail_kind x y z e) tells.mailbox
-        (λ parts good image. refl) (mail_reads rank)
+        (λ parts good image. refl) (mail_is_read rank)
     by_op disk.CheckMail is e =
         subst (λ g. IsLeft s t rank number disk.CheckMail g 3 none_told (call_plan s rank g (disk_call s rank number disk.CheckMail))) (sym e)
-        (check_left s t rank number tells.check (mail_reads rank))
+        (check_left s t rank number tells.check (mail_is_read rank))
     by_op (disk.WriteClaim next) is e =
         write_left s t rank number (slot_place rank) _ (disk.WriteClaim next) (x ∷ y ∷ z ∷ []) tells.writes refl refl refl
         (λ one two three image is. ap (λ g. is_good_on g image) (kept (slot_place rank) (not (is_failed one) ∷ not (is_failed two) ∷ not (is_failed three) ∷ []) (apart_slot rank small)))

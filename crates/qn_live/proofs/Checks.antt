@@ -26,7 +26,7 @@ use Rattle.qn_live.specs.TripleDisk.{Told, call_plan, differ, if_failed, part_of
 use Rattle.qn_live.specs.TripleLaws.{parts_told}
 use Rattle.qn_live.specs.TripleRuns.{all_good}
 use Rattle.qn_live.proofs.Answers.{ReadsMailBack, zeros_mail}
-use Rattle.qn_live.proofs.Operated.{mail_is_read}
+use Rattle.qn_live.specs.PlacesRead.{mail_is_read}
 
 -- what an image told of a mailbox
 data Heard : Type 0 where

@@ -20,6 +20,7 @@ use Rattle.qn_live.specs.declared.asked.Given.{Given}
 use Rattle.qn_live.specs.declared.asked.Room.{Room}
 use Rattle.qn_live.specs.Asking.{Tells}
 use Rattle.qn_live.specs.Performing.{disk_answer, disk_call, done}
+use Rattle.qn_live.specs.PlacesRead.{mail_is_read, slot_is_read}
 use Rattle.qn_live.specs.TripleDisk.{part_of, part_of_entry, read_entry, read_of, reading, sector_of}
 use Rattle.qn_live.specs.TripleLaws.{IsTold}
 use Rattle.qn_live.specs.TripleOperations.{answer_as, checked, place_of, read_as}
@@ -54,19 +55,6 @@ write_call s me number disk.CheckMail is = cc
 write_call s me number disk.ReadMail is = cc
 
 -- ## The operation that reads a sector
-
-pub mail_is_read : (me : ℕ) → reading (mail_place me) ≡ disk.ReadMail
-mail_is_read me =
-    let first : (512 + me == 0) ≡ false = grind (arith, nat_tests) in
-    let slots : nat_lt (512 + me) 512 ≡ false = grind (arith, nat_tests) in
-    rw (first, slots) refl
-
-slot_is_read : (rank : Rank) → rank.0 < 32 → reading (slot_place rank.0) ≡ disk.ReadSlot rank
-slot_is_read rank within =
-    let first : (1 + 2 * rank.0 == 0) ≡ false = grind (arith, nat_tests) in
-    let slots : nat_lt (1 + 2 * rank.0) 512 ≡ true = grind (arith, nat_tests, within) in
-    let half : (1 + 2 * rank.0 - 1) / 2 ≡ rank.0 = omega arith in
-    rw (first, slots, half) refl
 
 pub place_is_read : (s : Settings) (me : ℕ) (op : DiskOp) → length s.nodes ≤ 32 → IsNodeOutput s (out.Disk op) → is_write op ≡ false
     → reading (place_of me op) ≡ read_as op

@@ -11,6 +11,7 @@ pub mod Laws
 pub mod Machine
 pub mod Performing
 pub mod Places
+pub mod PlacesRead
 pub mod Running
 pub mod Runs
 pub mod Standings

@@ -18,6 +18,7 @@ use Rattle.qn_model.specs.Moments.{Moment}
 use Rattle.qn_model.specs.World.{mailboxes_with, put, slots_with}
 use Rattle.qn_parts.specs.Parts.{is_good_on, part_on}
 use Rattle.qn_safety.specs.declared.part.Part.{Part}
+use Rattle.qn_safety.specs.ImagesApart.{mailboxes_other, put_on_other, slots_other}
 use Rattle.qn_safety.specs.TripleRules.{is_image, none_pending}
 use Rattle.qn_safety.specs.TripleSteps.{written_on}
 use Rattle.qn_safety.specs.TripleWorld.{TripleWorld, all_pending, answer_of, good_after, has_landed, is_pending, mailboxes_on, put_on, slots_on}
@@ -174,12 +175,6 @@ put_on_own f i image value rank true e =
 put_on_own f i image value rank false e =
     ap (λ b. if b then value else f rank image) e ∙ sym (ap (λ b. (if b then put (f i) image value else f rank) image) e)
 
-pub put_on_other : {A : Type 0} (f : ℕ → ℕ → A) (i image : ℕ) (value : A) (rank k : ℕ) (b : Bool) → (i == rank) ≡ b → (image == k) ≡ false
-    → put_on f i image value rank k ≡ f rank k
-put_on_other f i image value rank k true e apart =
-    ap (λ b. (if b then put (f i) image value else f rank) k) e ∙ (ap (λ b. if b then value else f i k) apart ∙ ap (λ r. f r k) (eqb-true i rank e))
-put_on_other f i image value rank k false e apart = ap (λ b. (if b then put (f i) image value else f rank) k) e
-
 slots_own : (i image : ℕ) (op : DiskOp) (slots : ℕ → ℕ → Slot) (rank : ℕ) → slots_with i op (λ r. slots r image) rank ≡ slots_on i image op slots rank image
 slots_own i image (disk.WriteClaim number) slots rank = put_on_own slots i image (record { incarnation = number; clean = false }) rank (i == rank) refl
 slots_own i image (disk.WriteClose number) slots rank = put_on_own slots i image (record { incarnation = number; clean = true }) rank (i == rank) refl
@@ -189,16 +184,6 @@ slots_own i image disk.CheckMail slots rank = refl
 slots_own i image disk.WriteClear slots rank = refl
 slots_own i image disk.ReadMail slots rank = refl
 slots_own i image (disk.WriteReset other) slots rank = refl
-
-slots_other : (i image : ℕ) (op : DiskOp) (slots : ℕ → ℕ → Slot) (rank k : ℕ) → (image == k) ≡ false → slots_on i image op slots rank k ≡ slots rank k
-slots_other i image (disk.WriteClaim number) slots rank k apart = put_on_other slots i image (record { incarnation = number; clean = false }) rank k (i == rank) refl apart
-slots_other i image (disk.WriteClose number) slots rank k apart = put_on_other slots i image (record { incarnation = number; clean = true }) rank k (i == rank) refl apart
-slots_other i image disk.ReadHeader slots rank k apart = refl
-slots_other i image (disk.ReadSlot other) slots rank k apart = refl
-slots_other i image disk.CheckMail slots rank k apart = refl
-slots_other i image disk.WriteClear slots rank k apart = refl
-slots_other i image disk.ReadMail slots rank k apart = refl
-slots_other i image (disk.WriteReset other) slots rank k apart = refl
 
 mailboxes_own : (i image : ℕ) (op : DiskOp) (mailboxes : ℕ → ℕ → Message) (rank : ℕ)
     → mailboxes_with i op (λ r. mailboxes r image) rank ≡ mailboxes_on i image op mailboxes rank image
@@ -210,17 +195,6 @@ mailboxes_own i image disk.CheckMail mailboxes rank = refl
 mailboxes_own i image (disk.WriteClaim number) mailboxes rank = refl
 mailboxes_own i image disk.ReadMail mailboxes rank = refl
 mailboxes_own i image (disk.WriteClose number) mailboxes rank = refl
-
-mailboxes_other : (i image : ℕ) (op : DiskOp) (mailboxes : ℕ → ℕ → Message) (rank k : ℕ) → (image == k) ≡ false
-    → mailboxes_on i image op mailboxes rank k ≡ mailboxes rank k
-mailboxes_other i image disk.WriteClear mailboxes rank k apart = put_on_other mailboxes i image _ rank k (i == rank) refl apart
-mailboxes_other i image (disk.WriteReset other) mailboxes rank k apart = put_on_other mailboxes other.0 image _ rank k (other.0 == rank) refl apart
-mailboxes_other i image disk.ReadHeader mailboxes rank k apart = refl
-mailboxes_other i image (disk.ReadSlot other) mailboxes rank k apart = refl
-mailboxes_other i image disk.CheckMail mailboxes rank k apart = refl
-mailboxes_other i image (disk.WriteClaim number) mailboxes rank k apart = refl
-mailboxes_other i image disk.ReadMail mailboxes rank k apart = refl
-mailboxes_other i image (disk.WriteClose number) mailboxes rank k apart = refl
 
 -- the sectors stand for values that are equal
 pub sectors_same : (c : Sectors) (slots slots_too : ℕ → Slot) (mailboxes mailboxes_too : ℕ → Message) → SectorsFor c slots mailboxes
