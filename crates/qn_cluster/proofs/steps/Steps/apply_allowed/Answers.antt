@@ -1,5 +1,6 @@
 use Rattle.std.proofs.Common.{◌<◌, ◌∙◌, subst, sym}
-use Rattle.qn_cluster.specs.ResultLaws.{err_holds, ok_holds}
+use Rattle.qn_base.specs.lemmas.Results.{ok_holds}
+use Rattle.qn_cluster.specs.ResultLaws.{err_holds}
 use Rattle.qn_cluster.specs.WorldStepLaws.{made, spent_ready, starved}
 use Rattle.qn_cluster.proofs.steps.Steps.apply_allowed.Goals as goal
 
