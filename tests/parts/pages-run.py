@@ -11,6 +11,8 @@ PAGES = sorted([TOP / "README.md", *TOP.glob("docs/*.md"), *TOP.glob("bench/*.md
                 *TOP.glob("examples/**/*.md")])
 # tools that a machine may lack, and the Debian package of each
 PACKAGES = {"jq": "jq", "xxd": "xxd", "flock": "util-linux"}
+# the scripts that run blocks of pages
+LABS = (TOP / "tests" / "hosts" / "page.sh").read_text()
 wrong = []
 
 
@@ -74,8 +76,17 @@ def try_unrun(place, lines):
         words = line.split("#")[0].split()
         if re.search(r"bin/quorumd|\$ ", line):
             wrong.append("%s: %s: a call of the program is run" % (place, line))
-        elif words and not ((TOP / words[0]).is_file() or words[0] in ("cd", "git", "rt", "source", "man")):
+        elif words and not ((TOP / words[0]).is_file() or words[0] in ("apt", "cd", "git", "rt", "source", "man")):
             wrong.append("%s: %s: no such command" % (place, line))
+
+
+def try_run_by_lab(place, kind, text):
+    """Commands that a lab takes from the page and runs: bash takes them, and the lab names the block."""
+    read = subprocess.run(["bash", "-n"], input=text, stderr=subprocess.PIPE, text=True)
+    if read.returncode != 0:
+        wrong.append("%s: %s: %s" % (place, kind, read.stderr))
+    if not re.search(r"\b%s\b" % re.escape(kind.split()[1]), LABS):
+        wrong.append("%s: no lab runs the block %s" % (place, kind))
 
 
 def try_blocks(page, folder):
@@ -93,6 +104,10 @@ def try_blocks(page, folder):
             differs(place, "replay", run(folder, "bin/quorumd replay", text + "----\ntiming 5000 10000 1000 2000 1000\n"), "end 0\n")
         elif kind == "trace":
             differs(place, "replay", run(folder, "bin/quorumd replay", schedule or ""), text)
+        elif kind.startswith("file "):
+            (folder / pathlib.Path(kind).name).write_text(text)
+        elif kind.startswith("run "):
+            try_run_by_lab(place, kind, text)
         elif kind == "text":
             if re.search(r"(?m)^(\$ |bin/|quorumd [a-z]+ --|rt )", text):
                 wrong.append("%s: a command in a block that is none" % place)
