@@ -11,8 +11,6 @@ PAGES = sorted([TOP / "README.md", *TOP.glob("docs/*.md"), *TOP.glob("bench/*.md
                 *TOP.glob("examples/**/*.md")])
 # tools that a machine may lack, and the Debian package of each
 PACKAGES = {"jq": "jq", "xxd": "xxd", "flock": "util-linux"}
-# the scripts that run blocks of pages
-LABS = (TOP / "tests" / "hosts" / "page.sh").read_text()
 wrong = []
 
 
@@ -81,12 +79,10 @@ def try_unrun(place, lines):
 
 
 def try_run_by_lab(place, kind, text):
-    """Commands that a lab takes from the page and runs: bash takes them, and the lab names the block."""
+    """Commands that a lab takes from the page and runs: bash reads them."""
     read = subprocess.run(["bash", "-n"], input=text, stderr=subprocess.PIPE, text=True)
     if read.returncode != 0:
         wrong.append("%s: %s: %s" % (place, kind, read.stderr))
-    if not re.search(r"\b%s\b" % re.escape(kind.split()[1]), LABS):
-        wrong.append("%s: no lab runs the block %s" % (place, kind))
 
 
 def try_blocks(page, folder):
