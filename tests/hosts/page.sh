@@ -27,7 +27,7 @@ each_host() {
 
 # adapted N: the commands of a block for host N
 adapted() {
-    sed -e "s/quorumd@1\\.service/quorumd@$1.service/g" -e 's/\beth0\b/host0/g'
+    sed -e "s/quorumd@1\\.service/quorumd@$1.service/g; s/node-1\\.env/node-$1.env/g" -e 's/\beth0\b/host0/g'
 }
 
 # run NAME.. N: these blocks, one script, on host N
@@ -49,10 +49,12 @@ image_device() {
     each_host file /etc/systemd/system/quorumd-disk.service && each_host file '/etc/systemd/system/quorumd@.service.d/disk.conf' && each_host run device
 }
 image_servers() {
-    each_host file /etc/systemd/system/quorumd-server.service && each_host file /etc/nftables.conf && each_host run server
+    each_host file /etc/systemd/system/quorumd-server.service && each_host file '/etc/systemd/system/quorumd@.service.d/server.conf' &&
+        each_host file /etc/nftables.conf && each_host run server
 }
 image_etcd() {
     local n
+    each_host file '/etc/systemd/system/quorumd@.service.d/etcd.conf' || return 1
     for n in 1 2 3; do
         on "$n" systemctl -q enable --now etcd.service # as the package does it
         block 'file /etc/default/etcd' | sed -e "s/^ETCD_NAME=.*/ETCD_NAME=db$n/" -e "/^ETCD_INITIAL_CLUSTER=/!s/192\\.0\\.2\\.1:/192.0.2.$n:/" |
@@ -126,26 +128,84 @@ power_cut() {
     until_true 10 nobody_owns && until_true 120 owner && load_goes_on 60 && each_host well_again
 }
 
+# rebooted: the host that holds is rebooted: its node leaves in order, another one takes over, and it is a standby then
+rebooted() {
+    local who
+    who=$(owner) || return 1
+    echo "-- test-reboot on host $who"
+    run test-reboot "$who"
+    until_true 30 another_owns "$who" && load_goes_on 60 && well_again "$who" && said "$who" 'event=disarm ok=yes' -b -1 -u "quorumd@$who.service"
+}
+
+# one_by_one NAME: that block on each host, the one that holds last
+one_by_one() {
+    local n who
+    who=$(owner) || return 1
+    for n in 1 2 3; do [ "$n" = "$who" ] || { run "$1" "$n" && well_again "$n" || return 1; }; done
+    run "$1" "$who" && until_true 60 owner && well_again "$who" && load_goes_on
+}
+
+# copied PATH: that file of host 1, on the others too
+copied() {
+    local n
+    for n in 2 3; do cp -p "$room/host1$1" "$room/host$n$1" || return 1; done
+}
+
+# stop_all: the nodes of all hosts, the one that holds last
+stop_all() {
+    local n who
+    who=$(owner) || return 1
+    for n in 1 2 3; do [ "$n" = "$who" ] || run stop "$n" || return 1; done
+    run stop "$who"
+}
+
+# anew WAY: a new image, while all nodes are off
+anew() {
+    echo '-- a new image'
+    stop_all && run "${words[$1]}" new-image 1 && copied /etc/quorumd/key && each_host run start && until_true 60 owner && load_goes_on 60 &&
+        on 1 quorumd list --image nbd:unix:/run/quorumd-disk/socket
+}
+
+# another_machine: host 3 is lost, and another one takes its place, with the same disk
+another_machine() {
+    echo '-- another machine is node 3'
+    printf '%032d\n' 3 > "$room/host3/etc/machine-id"
+    kill -KILL "$(lead 3)"
+    until_true 90 said 3 'quorumd/writer/02 is of machine' && run forget 1 && well_again 3
+}
+
+upgraded() {
+    echo '-- a package installed anew'
+    each_host run upgrade && each_host unit_active && one_by_one restart
+}
+
+# new_key: three rounds
+new_key() {
+    local round
+    echo '-- a new key'
+    run new-key 1 && copied /etc/quorumd/key.new || return 1
+    for round in rotate-1 rotate-2 rotate-3; do one_by_one "$round" || return 1; done
+    for n in 1 2 3; do on "$n" ls /etc/quorumd | grep -x key.new && return 1; done
+    return 0
+}
+
+# ended: what each host saw, and that no row is lost
+ended() {
+    each_host run history && judge_rows
+}
+
 scene_page_device() {
     FIRMWARE=20 from_nothing device || return 1
     test_of test-move 0 && test_stays test-database && test_of test-hang 1 && test_of test-kill 1 && test_of test-cable 1 && test_of test-disk 1 &&
-        test_stays test-server && full && power_cut && judge_rows
-}
-
-# one_by_one: the new package, and the nodes started anew, the holder last
-one_by_one() {
-    local n who
-    each_host run upgrade && each_host unit_active && who=$(owner) || return 1
-    for n in 1 2 3; do [ "$n" = "$who" ] || { run restart "$n" && well_again "$n" || return 1; }; done
-    run restart "$who" && well_again "$who" && load_goes_on
+        test_stays test-server && full && rebooted && power_cut && anew device && ended
 }
 
 scene_page_servers() {
     FIRMWARE=20 from_nothing servers || return 1
-    test_of test-kill 1 && test_of test-cable 1 && one_by_one && judge_rows
+    test_of test-kill 1 && test_of test-cable 1 && rebooted && new_key && ended
 }
 
 scene_page_etcd() {
     FIRMWARE=20 from_nothing etcd || return 1
-    test_of test-kill 1 && test_of test-cable 1 && one_by_one && judge_rows
+    test_of test-kill 1 && test_of test-cable 1 && rebooted && another_machine && upgraded && ended
 }

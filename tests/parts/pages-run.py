@@ -134,6 +134,17 @@ PLACES = [
 ]
 
 
+# the pages that a newcomer tries in a clone: their examples take away what they made
+TIDY = ("README.md", "docs/README.md", "docs/TRY.md", "docs/STORIES.md", "docs/STATUS.md", "docs/LIVE.md", "docs/MACHINES.md")
+
+
+def look_for_leftovers(page, folder):
+    files = {pathlib.Path(kind).name for _, kind, _ in blocks_of(page) if kind.startswith("file ")}
+    left = {there.name for there in folder.iterdir() if not there.is_symlink()} - files - {"bin"}
+    if str(page.relative_to(TOP)) in TIDY and left:
+        wrong.append("%s leaves %s" % (page.relative_to(TOP), " ".join(sorted(left))))
+
+
 def look_at_places():
     for pattern, place, what in PLACES:
         found = [str(page.relative_to(TOP)) for page in PAGES for _ in re.findall("(?m)" + pattern, page.read_text())]
@@ -168,7 +179,9 @@ def look_at_examples():
 
 
 for page in PAGES:
-    try_blocks(page, folder_of(page))
+    place = folder_of(page)
+    try_blocks(page, place)
+    look_for_leftovers(page, place)
 look_at_places()
 look_at_links()
 look_at_examples()
