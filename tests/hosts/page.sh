@@ -166,6 +166,13 @@ anew() {
         on 1 quorumd list --image nbd:unix:/run/quorumd-disk/socket
 }
 
+# without_nodes: the database runs on host 2 by hand, and then in the cluster again
+without_nodes() {
+    echo '-- without nodes'
+    each_host run off && until_true 10 nobody_owns && run by-hand 2 && load_goes_on 60 && run by-hand-end 2 && each_host run start &&
+        until_true 60 owner && load_goes_on 60
+}
+
 # another_machine: host 3 is lost, and another one takes its place, with the same disk
 another_machine() {
     echo '-- another machine is node 3'
@@ -197,7 +204,7 @@ ended() {
 scene_page_device() {
     FIRMWARE=20 from_nothing device || return 1
     test_of test-move 0 && test_stays test-database && test_of test-hang 1 && test_of test-kill 1 && test_of test-cable 1 && test_of test-disk 1 &&
-        test_stays test-server && full && rebooted && power_cut && anew device && ended
+        test_stays test-server && full && rebooted && power_cut && anew device && without_nodes && ended
 }
 
 scene_page_servers() {
