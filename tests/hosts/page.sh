@@ -151,25 +151,24 @@ copied() {
     for n in 2 3; do cp -p "$room/host1$1" "$room/host$n$1" || return 1; done
 }
 
-# stop_all: the nodes of all hosts, the one that holds last
+# stop_all NAME: that block on a standby, on the host that holds, and on the other standby: the resource does not move
 stop_all() {
-    local n who
+    local who
     who=$(owner) || return 1
-    for n in 1 2 3; do [ "$n" = "$who" ] || run stop "$n" || return 1; done
-    run stop "$who"
+    run "$1" $((1 + who % 3)) && run "$1" "$who" && nobody_owns && run "$1" $((1 + (who + 1) % 3)) && nobody_owns
 }
 
 # anew WAY: a new image, while all nodes are off
 anew() {
     echo '-- a new image'
-    stop_all && run "${words[$1]}" new-image 1 && copied /etc/quorumd/key && each_host run start && until_true 60 owner && load_goes_on 60 &&
+    stop_all stop && run "${words[$1]}" new-image 1 && copied /etc/quorumd/key && each_host run start && until_true 60 owner && load_goes_on 60 &&
         on 1 quorumd list --image nbd:unix:/run/quorumd-disk/socket
 }
 
 # without_nodes: the database runs on host 2 by hand, and then in the cluster again
 without_nodes() {
     echo '-- without nodes'
-    each_host run off && until_true 10 nobody_owns && run by-hand 2 && load_goes_on 60 && run by-hand-end 2 && each_host run start &&
+    stop_all off && run by-hand 2 && load_goes_on 60 && run by-hand-end 2 && each_host run start &&
         until_true 60 owner && load_goes_on 60
 }
 
