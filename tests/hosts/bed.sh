@@ -1,17 +1,20 @@
 # The bed of containers: a base system, three hosts on it, their network, their watchdogs. Sourced by `containers`.
 
-# make_base: a Debian 12 with systemd, what the package needs, and PostgreSQL and OCF agents; kept for the next run
+# what the hosts need beside the package: PostgreSQL, OCF agents, and what a disk image can lie behind
+PACKAGES='resource-agents postgresql e2fsprogs libpam-systemd iputils-arping psmisc kmod qemu-utils etcd-server etcd-client nftables'
+
+# make_base: a Debian 12 with systemd and these packages, kept for the next run
 make_base() {
     base=$cache/base
-    [ -e "$cache/complete" ] && return
+    [ "$(cat "$cache/complete" 2> /dev/null)" = "$PACKAGES" ] && return
     echo "containers: making a Debian in $cache: some minutes, once" >&2
     rm -rf "$cache"
     mkdir -p "$cache"
+    # shellcheck disable=SC2086
     debootstrap --variant=minbase --include=systemd,systemd-sysv,dbus,iproute2,procps,python3 bookworm "$base" ${mirror:+"$mirror"} > "$cache/log" 2>&1 &&
         printf '#!/bin/sh\nexit 101\n' > "$base/usr/sbin/policy-rc.d" && chmod 755 "$base/usr/sbin/policy-rc.d" &&
-        DEBIAN_FRONTEND=noninteractive chroot "$base" apt-get install --no-install-recommends -y \
-            resource-agents postgresql e2fsprogs libpam-systemd iputils-arping psmisc kmod >> "$cache/log" 2>&1 &&
-        rm "$base/usr/sbin/policy-rc.d" && touch "$cache/complete" || { tail "$cache/log" >&2; exit 1; }
+        DEBIAN_FRONTEND=noninteractive chroot "$base" apt-get install --no-install-recommends -y $PACKAGES >> "$cache/log" 2>&1 &&
+        rm "$base/usr/sbin/policy-rc.d" && echo "$PACKAGES" > "$cache/complete" || { tail "$cache/log" >&2; exit 1; }
 }
 
 in_root() { chroot "$1" env PATH=/usr/sbin:/usr/bin:/sbin:/bin DEBIAN_FRONTEND=noninteractive "${@:2}"; }
@@ -36,23 +39,25 @@ set_up() {
     : > "$room/events"
     {
         echo 'nodelist {'
-        for n in 1 2 3; do printf ' node {\n  nodeid: %s\n  ring0_addr: 10.77.0.%s\n }\n' "$n" "$n"; done
+        for n in 1 2 3; do printf ' node {\n  nodeid: %s\n  ring0_addr: 192.0.2.%s\n }\n' "$n" "$n"; done
         printf '}\nquorum {\n provider: corosync_votequorum\n}\n'
     } > "$conf"
     (umask 077 && head -c 32 /dev/urandom > "$room/key")
     rm -f "$shared/disk"
     # a disk for the resource's file system, which all hosts see
-    rm -f "$room/store"
+    rm -f "$room/store" "$room/image"
     truncate -s 256M "$room/store"
     mkfs.ext4 -q "$room/store"
+    # and one for an image that lies behind a block server on each host
+    truncate -s 4M "$room/image"
     ip netns add "$tag"
     ip -n "$tag" link add br0 type bridge
-    ip -n "$tag" address add 10.77.0.254/24 dev br0
+    ip -n "$tag" address add 192.0.2.254/24 dev br0
     ip -n "$tag" link set br0 up
     ip -n "$tag" link set lo up
     for n in 1 2 3; do
         # a loop device for each host: a cache of its own, as hosts have of a shared disk
-        loops[n]=$(losetup --find --show "$room/store") || exit 1
+        loops[n]=$(losetup --find --show "$room/store") && loops[n + 3]=$(losetup --find --show "$room/image") || exit 1
         mkdir -p "$room/host$n" "$room/host$n.upper" "$room/host$n.work" "$room/wd$n"
         mkfifo "$room/wd$n/watchdog"
         mount -t overlay "$tag-$n" -o "lowerdir=$room/installed:$base,upperdir=$room/host$n.upper,workdir=$room/host$n.work" "$room/host$n"
@@ -61,13 +66,19 @@ set_up() {
     chroot "$room/host1" /usr/sbin/quorumd create --image /var/tmp/disk < "$conf" > /dev/null && mv "$room/host1/var/tmp/disk" "$shared/disk"
 }
 
+# make_node PATH DEVICE: the same device at that path
+make_node() {
+    mknod "$1" b $((0x$(stat -c %t "$2"))) $((0x$(stat -c %T "$2")))
+}
+
 # fill_host N ROOT: what an operator does on host N
 fill_host() {
     local n=$1 root=$2
     echo "host$n" > "$root/etc/hostname"
     : > "$root/etc/machine-id"
     mkdir -p "$root/var/log/journal" "$root/srv/cluster" "$root/srv/watchdog" "$root/srv/db"
-    mknod "$root/srv/store" b $((0x$(stat -c %t "${loops[n]}"))) $((0x$(stat -c %T "${loops[n]}")))
+    make_node "$root/srv/store" "${loops[n]}"
+    make_node "$root/srv/image" "${loops[n + 3]}"
     cp "$room/corosync.conf" "$room/key" "$root/etc/quorumd/"
     sed -e 's#^WATCHDOG=.*#WATCHDOG=/srv/watchdog/watchdog#' -e 's#^EDGE=.*#EDGE=--links /etc/quorumd/corosync.conf --key /etc/quorumd/key#' "$root/etc/quorumd/node.env" > "$root/etc/quorumd/node-$n.env"
     # no kernel watchdog in a container: the check of the package is told so
@@ -76,6 +87,7 @@ fill_host() {
     cp "$here/test-network.service" "$here/database.service" "$root/etc/systemd/system/"
     sed -i "s/@N@/$n/" "$root/etc/systemd/system/test-network.service" "$root/usr/local/bin/database"
     in_root "$root" systemctl -q enable test-network.service "quorumd@$n.service" || return 1
+    in_root "$root" systemctl -q disable etcd.service || return 1
     in_root "$root" systemctl -q mask postgresql.service systemd-logind-varlink.socket e2scrub_reap.service || return 1
     [ -e "$root/usr/sbin/quorumd-resource" ] && cp "$here/resources.conf" "$root/etc/quorumd/resources.conf"
     return 0

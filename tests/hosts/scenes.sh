@@ -1,7 +1,7 @@
 # The scenes. Each is a function that fails where something else came than should. Sourced by `containers`.
 all_scenes='clean_stop exit_message off_message reboot_of_holder poweroff_of_holder kill_node hang_node no_image other_image slow_stop stuck_stop
 by_hand supervisor_dies stop_while_starting edited start_mode resource_dies start_fails maintenance planned_handover third_handover turns_used renewed three_images confined
-postgres pgsql upgrade purge setup'
+postgres pgsql upgrade purge setup page_device page_servers page_etcd'
 
 # begun [HOST]: the cluster is up and this host holds
 begun() {
@@ -328,7 +328,7 @@ database_on_store() {
         rm -rf "$root/var/lib/postgresql/15"
         echo manual > "$etc/start.conf"
         echo "listen_addresses = '*'" >> "$etc/postgresql.conf"
-        echo 'host all all 10.77.0.0/24 trust' >> "$etc/pg_hba.conf"
+        echo 'host all all 192.0.2.0/24 trust' >> "$etc/pg_hba.conf"
         sed -i 's#directory = .*#directory = /var/lib/postgresql#; /^\[database\]/,$d' "$root/etc/quorumd/resources.conf"
         printf '[postgres]\n%s\nmonitor-interval = 2\n\n[database]\nagent = systemd:database.service\nmonitor-interval = 2\n' "$1" >> "$root/etc/quorumd/resources.conf"
     done
@@ -345,7 +345,7 @@ logfile = /var/log/postgresql/ocf.log'
 
 # sql STATEMENT: a client of the cluster's address, who waits for no more than three seconds
 sql() {
-    timeout 3 ip netns exec "$tag" chroot "$base" /usr/lib/postgresql/15/bin/psql -h 10.77.0.100 -U postgres -qAtc "$1" 2> /dev/null
+    timeout 3 ip netns exec "$tag" chroot "$base" /usr/lib/postgresql/15/bin/psql -h 192.0.2.100 -U postgres -qAtc "$1" 2> /dev/null
 }
 
 # write_rows: writes the numbers from 1 on, one commit each, and keeps those that were acknowledged, with the time of that
@@ -396,7 +396,7 @@ postgres_scene() {
     until_true 40 another_owns 1 || return 1
     who=$(owner)
     writes_again 40 || return 1
-    on "$who" ip -4 -o addr show dev host0 | grep 10.77.0.100 || return 1
+    on "$who" ip -4 -o addr show dev host0 | grep 192.0.2.100 || return 1
     until_true 60 unit_is 1 active || return 1
     on "$who" systemctl reboot
     until_true 40 another_owns "$who" || return 1

@@ -10,6 +10,13 @@ WATCHDOG=$((${TIMES%%,*} / 1000))
 ACCEL=${QUORUMD_TEST_ACCEL:-$(if [ -w /dev/kvm ] && grep -qwE 'vmx|svm' /proc/cpuinfo; then echo kvm; else echo tcg,tb-size=64; fi)}
 MODULES='watchdog virtio_ring virtio virtio_pci_legacy_dev virtio_pci_modern_dev virtio_pci failover net_failover virtio_net virtio_blk i6300esb'
 
+# the commands of the block servers and the options of the watchdog are those of the page for operators
+page=$here/../../docs/MACHINES.md
+. "$here/../page.bash"
+
+# server_words UNIT: the command of that unit of the page
+server_words() { block "file /etc/systemd/system/$1" | sed -n 's|^ExecStart=/usr/bin/||p'; }
+
 # make_kernel: Debian's kernel and the drivers that the machines need; kept for the next run
 make_kernel() {
     [ -e "$cache/complete" ] && return
@@ -43,6 +50,8 @@ make_root() {
     cp "$(command -v busybox)" "$root/bin/busybox" && cp "$here/init" "$root/init" || exit 1
     cp "$program" "$root/bin/quorumd" && cp "$(command -v qemu-nbd)" "$(command -v socat)" "$root/bin/" || exit 1
     echo "$MODULES" > "$root/modules"
+    server_words quorumd-disk.service | sed 's|/run/quorumd-disk/socket|/run/disk.sock|; s|/dev/mapper/quorumd|/dev/vda|' > "$root/server" &&
+        block 'file /etc/modprobe.d/quorumd.conf' | sed -n 's/^options i6300esb //p' > "$root/watchdog" && [ -s "$root/server" ] && [ -s "$root/watchdog" ] || exit 1
     for name in $MODULES; do
         cp "$(find "$cache/tree" -name "$name.ko" | head -n 1)" "$root/mod/" || exit 1
     done
@@ -123,7 +132,9 @@ disk_three() {
 
 # serve NUMBER: the block server of that number begins
 serve() {
-    quickly qemu-nbd -f raw --cache=none --persistent --shared=0 -b 10.7.0.254 -p "1080$1" "$room/disk.$1" > "$room/server.$1.log" 2>&1 &
+    local words
+    read -ra words < <(server_words quorumd-server.service | sed "s|--port=10809|--bind=10.7.0.254 --port=1080$1|; s|/var/lib/quorumd-image|$room/disk.$1|")
+    quickly "${words[@]}" > "$room/server.$1.log" 2>&1 &
     servers[$1]=$!
     disown
 }

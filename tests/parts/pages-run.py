@@ -74,8 +74,15 @@ def try_unrun(place, lines):
         words = line.split("#")[0].split()
         if re.search(r"bin/quorumd|\$ ", line):
             wrong.append("%s: %s: a call of the program is run" % (place, line))
-        elif words and not ((TOP / words[0]).is_file() or words[0] in ("cd", "git", "rt", "source", "man")):
+        elif words and not ((TOP / words[0]).is_file() or words[0] in ("apt", "cd", "git", "rt", "source", "man")):
             wrong.append("%s: %s: no such command" % (place, line))
+
+
+def try_run_by_lab(place, kind, text):
+    """Commands that a lab takes from the page and runs: bash reads them."""
+    read = subprocess.run(["bash", "-n"], input=text, stderr=subprocess.PIPE, text=True)
+    if read.returncode != 0:
+        wrong.append("%s: %s: %s" % (place, kind, read.stderr))
 
 
 def try_blocks(page, folder):
@@ -93,6 +100,10 @@ def try_blocks(page, folder):
             differs(place, "replay", run(folder, "bin/quorumd replay", text + "----\ntiming 5000 10000 1000 2000 1000\n"), "end 0\n")
         elif kind == "trace":
             differs(place, "replay", run(folder, "bin/quorumd replay", schedule or ""), text)
+        elif kind.startswith("file "):
+            (folder / pathlib.Path(kind).name).write_text(text)
+        elif kind.startswith("run "):
+            try_run_by_lab(place, kind, text)
         elif kind == "text":
             if re.search(r"(?m)^(\$ |bin/|quorumd [a-z]+ --|rt )", text):
                 wrong.append("%s: a command in a block that is none" % place)
@@ -121,6 +132,17 @@ PLACES = [
     (r"^\| 16 \| `fault", "docs/FORMATS.md", "the table of exit statuses"),
     (r"99 \*? ?\((M|msgwait) - 1\) >= 101", "docs/SAFETY.md", "the rule of safe times"),
 ]
+
+
+# the pages that a newcomer tries in a clone: their examples take away what they made
+TIDY = ("README.md", "docs/README.md", "docs/TRY.md", "docs/STORIES.md", "docs/STATUS.md", "docs/LIVE.md", "docs/MACHINES.md")
+
+
+def look_for_leftovers(page, folder):
+    files = {pathlib.Path(kind).name for _, kind, _ in blocks_of(page) if kind.startswith("file ")}
+    left = {there.name for there in folder.iterdir() if not there.is_symlink()} - files - {"bin"}
+    if str(page.relative_to(TOP)) in TIDY and left:
+        wrong.append("%s leaves %s" % (page.relative_to(TOP), " ".join(sorted(left))))
 
 
 def look_at_places():
@@ -157,7 +179,9 @@ def look_at_examples():
 
 
 for page in PAGES:
-    try_blocks(page, folder_of(page))
+    place = folder_of(page)
+    try_blocks(page, place)
+    look_for_leftovers(page, place)
 look_at_places()
 look_at_links()
 look_at_examples()

@@ -84,5 +84,5 @@ for name in MOMENTS:
     for form, words in (("text", ()), ("metrics", ("--prometheus",))):
         try_text(place, form, words)
     try_json(place)
-for name in ("take-over", "paused-holder"):
-    try_journals(TOP / "tests" / "cluster" / "journals" / name)
+for folder in (TOP / "examples" / "journals" / "take-over", TOP / "tests" / "cluster" / "journals" / "paused-holder"):
+    try_journals(folder)

@@ -43,4 +43,4 @@ judged 1 '1.000 1 sign 1 1\n5.000 1 sign 7\n5.100 2 sign 1 1\n' \
     '0.00 machine 1 holds until 4.00: 2 signs, 0 lost|4.10 machine 2 holds until 4.10: 1 signs, 0 lost|TWO OWNERS: 1 and 2, from 4.00 to 4.10'
 judged 0 '1.000 1 sign \n' '0.00 machine 1 holds until 0.00: 1 signs, 0 lost'
 
-"$TOP/bin/timeline" --title 'The node of the holder is killed' --journal "$TOP/tests/machines/take-over.journal" | cmp - "$TOP/tests/machines/take-over.svg"
+"$TOP/bin/timeline" --title 'The node of the holder is killed' --journal "$TOP/tests/machines/take-over.journal" | cmp - "$TOP/docs/take-over.svg"

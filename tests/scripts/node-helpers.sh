@@ -147,6 +147,21 @@ ended exited/8 '' $'fault EnvFault\n'
 ended killed/KILL "$reset" ''
 [ ! -e state/halted-2 ]
 
+# images on a server and at places of 4096 bytes take part in a stop and in what becomes of it: no file is looked for under their words
+mkdir served
+printf '#!/bin/sh\necho "$@" >> asked\n' > served/quorumd
+printf '#!/bin/sh\necho "node 2 incarnation 3 clean mail $MAIL"\n' > served/quorumctl
+chmod 755 served/*
+cp d long
+three=nbd:unix:/run/socket,long@4096,etcd:127.0.0.1:2379/prefix,none
+sleep 2 &
+PATH=$PWD/served:$PATH MAINPID=$! RESOURCE=file COMMAND=node3 IMAGE=$three "$TOP/packaging/node-leave" 2
+same "$(sed 's/^message --image \(.*\) --id 2 --kind exit$/\1/' asked | xargs)" 'nbd:unix:/run/socket long@4096 etcd:127.0.0.1:2379/prefix'
+for image in nbd:192.0.2.1:10809 etcd:127.0.0.1:2379/prefix long@4096; do
+    PATH=$PWD/served:$PATH MAIL=empty IMAGE=$image ended exited/0 'start --no-block quorumd@2.service' $'left clean\n'
+    PATH=$PWD/served:$PATH MAIL=exit IMAGE=$image ended exited/0 '' $'left clean\n'
+done
+
 # words that are none
 for helper in check opened leave ended; do
     for words in '' '1 2'; do

@@ -1,4 +1,4 @@
-# packaging/build-deb: the package is unpacked into an empty root, and README's first commands and a story are run there. The same
+# packaging/build-deb: the package is unpacked into an empty root, and the four commands of docs/README.md and a story are run there. The same
 # sources give the same bytes; the program is the one that was built.
 . "$TOP/tests/expect.sh"
 
@@ -89,7 +89,7 @@ cd "$(mktemp -d -p .)"
 ln -s "$doc/examples" examples
 PATH=$(dirname "$doc")/../../sbin:$(dirname "$doc")/../quorumd/bin:$PATH
 unset QUORUMD
-python3 -B "$TOP/tests/parts/package.py" "$doc/README.md"
+python3 -B "$TOP/tests/parts/package.py" "$doc/docs/README.md"
 story --keep kept examples/try.story > account
 grep -q ' STARTS the resource$' account
 timeline --title 'The holder is killed' kept | cmp - examples/try.svg

@@ -93,6 +93,14 @@ setup 0 'node 3 of three.conf is set up: systemctl enable --now quorumd@3.servic
 cmp key etc/quorumd/key
 same "$(stat -c %a etc/quorumd/key) $(grep ^EDGE etc/quorumd/node-3.env)" '600 EDGE=--links /etc/quorumd/corosync.conf --key /etc/quorumd/key'
 
+# an image in an etcd cluster, which answers: the node may read which boot of the machine this is
+mkdir played
+printf '#!/bin/sh\n[ "$1" != settings ] || exec "%s" "$@"\n' "$QUORUMCTL" > played/quorumctl
+chmod 755 played/quorumctl
+rm -r etc/quorumd/node-1.env etc/systemd
+PATH=$PWD/played:$PATH setup 0 'node 1 of three.conf is set up: systemctl enable --now quorumd@1.service' three.conf --image etcd:127.0.0.1:2379/quorumd --id 1
+same "$(grep -v '^#' 'etc/systemd/system/quorumd@1.service.d/setup.conf' | xargs)" '[Unit] [Service] ProcSubset=all'
+
 # three images, of which two are there, and a device
 rm -r etc/quorumd/node-2.env etc/systemd
 "$QUORUMD" create --image e < three.conf > sent
