@@ -57,7 +57,7 @@ same "$(sed -n '/data-lane="arbiter"/,$p' drawn.svg | grep -o 'data-kind="[a-z]*
 # a picture that cannot be written
 status=0
 timeline "$TOP/examples/letting-time-pass.schedule" > /dev/full 2> errors || status=$?
-same "$status $(cat errors)" '2 timeline: [Errno 28] No space left on device'
+same "$status $(cat errors)" '2 timeline: No space left on device'
 same "$(timeline "$TOP/examples/letting-time-pass.schedule" 2>&1 | head -c 4)" '<svg'
 
 # a journal: who signs again within a second went on, and the lines need not stand in their order
