@@ -156,10 +156,27 @@ def look_at_examples():
             wrong.append("%s has no example that is run" % page.relative_to(TOP))
 
 
+# a cell of a table has at most so many letters: what is longer is a paragraph
+CELL = 250
+# pages with longer cells, which are being written anew: take each out of here once it has none
+LONG_CELLS = {"docs/ARCHITECTURE.md", "docs/LIVE.md", "docs/PROVED.md", "docs/STATUS.md"}
+
+
+def look_at_cells():
+    for page in [*PAGES, *TOP.glob("tests/*/README.md")]:
+        place = str(page.relative_to(TOP))
+        text = re.sub(r"(?ms)^```.*?^```", lambda block: "\n" * block[0].count("\n"), page.read_text())
+        for number, line in enumerate(text.splitlines(), 1):
+            cells = re.split(r"(?<!\\)\|", line) if line.startswith("|") else []
+            if place not in LONG_CELLS and any(len(cell.strip()) > CELL for cell in cells):
+                wrong.append("%s:%d: a cell of a table with more than %d letters" % (place, number, CELL))
+
+
 for page in PAGES:
     try_blocks(page, folder_of(page))
 look_at_places()
 look_at_links()
+look_at_cells()
 look_at_examples()
 print("\n".join(wrong))
 sys.exit(1 if wrong else 0)

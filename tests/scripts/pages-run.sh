@@ -6,7 +6,8 @@
 #   schedule, trace  a schedule, and after it the trace that `replay` writes of it
 #   text             no command
 #
-# And what has one place stands there alone: the table of conditions, the exit statuses, the rule of safe times.
+# And what has one place stands there alone: the table of conditions, the exit statuses, the rule of safe times. Each link leads somewhere, and no
+# cell of a table is a paragraph.
 . "$TOP/tests/expect.sh"
 
 python3 -B "$TOP/tests/parts/pages-run.py"
