@@ -11,6 +11,10 @@ PAGES = sorted([TOP / "README.md", *TOP.glob("docs/*.md"), *TOP.glob("bench/*.md
                 *TOP.glob("examples/**/*.md")])
 # tools that a machine may lack, and the Debian package of each
 PACKAGES = {"jq": "jq", "xxd": "xxd", "flock": "util-linux"}
+# how a page begins whose commands make files: the folder of a page is such a one
+NEW_FOLDER = 'cd "$(mktemp -d)" && ln -s "$OLDPWD"/* .'
+# pages that make files and are being written anew: take each out of here once it begins so
+OLD_FOLDER = {"README.md", "docs/LIVE.md", "docs/STATUS.md"}
 wrong = []
 
 
@@ -61,6 +65,8 @@ def try_console(folder, place, lines):
     if not lines or not lines[0].startswith("$ "):
         wrong.append("%s: a console block begins with a line `$ COMMAND`" % place)
     for command, wanted in commands_of(lines):
+        if command == NEW_FOLDER:
+            continue
         package = missing_tool(command)
         if package:
             print("skipped: %s: not installed (Debian: %s), for: %s" % (place, package, command))
@@ -76,6 +82,21 @@ def try_unrun(place, lines):
             wrong.append("%s: %s: a call of the program is run" % (place, line))
         elif words and not ((TOP / words[0]).is_file() or words[0] in ("cd", "git", "rt", "source", "man")):
             wrong.append("%s: %s: no such command" % (place, line))
+
+
+def look_at_folder(page, folder, before):
+    """A page whose commands made files begins in a new folder."""
+    place, made = str(page.relative_to(TOP)), sorted({path.name for path in folder.iterdir()} - before)
+    first = next((lines[0][2:] for _, kind, lines in blocks_of(page) if kind == "console" and lines), "")
+    if made and first != NEW_FOLDER and place not in OLD_FOLDER:
+        wrong.append("%s makes %s, and does not begin with $ %s" % (place, ", ".join(made), NEW_FOLDER))
+
+
+def try_page(page):
+    folder = folder_of(page)
+    before = {path.name for path in folder.iterdir()}
+    try_blocks(page, folder)
+    look_at_folder(page, folder, before)
 
 
 def try_blocks(page, folder):
@@ -173,7 +194,7 @@ def look_at_cells():
 
 
 for page in PAGES:
-    try_blocks(page, folder_of(page))
+    try_page(page)
 look_at_places()
 look_at_links()
 look_at_cells()
