@@ -5,7 +5,7 @@ zpty shell zsh -f -i
 print -r -- "fpath=(${(q)1} \$fpath)" '
 PROMPT=
 autoload -U compinit
-compinit -u -D
+compinit -C -u -d ./dump
 bindkey "^I" complete-word
 mark() { print -r -- $'\''\0'\'' }
 compprefuncs=(mark)

@@ -132,33 +132,31 @@ offers '' list --image files/x
 offers 'files/other' status '<' files/o
 offers 'files/other' status --form json '>' files/o
 
-# the same words in the three shells, in any order
+# the same words in the three shells, in any order: what is offered for row N goes into NAME.N
 bash_offers() {
-    local words
-    read -ra words <<< "$1"
-    [[ $1 != *' ' ]] || words+=('')
-    bash -c 'source "$1" && shift && COMP_WORDS=("$@") COMP_CWORD=$(($# - 1)) && _quorumd && printf "%s\n" "${COMPREPLY[@]}"' - \
-        "$TOP/completions/quorumd.bash" "${words[@]}"
+    local words row
+    for row in "${!rows[@]}"; do
+        read -ra words <<< "${rows[row]}"
+        [[ ${rows[row]} != *' ' ]] || words+=('')
+        bash -c 'source "$1" && shift && COMP_WORDS=("$@") COMP_CWORD=$(($# - 1)) && _quorumd && printf "%s\n" "${COMPREPLY[@]}"' - \
+            "$TOP/completions/quorumd.bash" "${words[@]}" > "bash.$row"
+    done
 }
 zsh_offers() {
-    HOME=$PWD timeout 20 zsh -f "$TOP/tests/parts/offers.zsh" "$TOP/completions" "$1"
+    local row
+    for row in "${!rows[@]}"; do
+        HOME=$PWD timeout 60 zsh -f "$TOP/tests/parts/offers.zsh" "$TOP/completions" "${rows[row]}" > "zsh.$row"
+    done
 }
 fish_offers() {
     # shellcheck disable=SC2016
-    HOME=$PWD timeout 20 fish --no-config -c 'source $argv[1]; complete -C $argv[2]' "$TOP/completions/quorumd.fish" "$1" | cut -f 1
+    HOME=$PWD timeout 60 fish --no-config -c 'source $argv[1]; for row in (seq 2 (count $argv)); complete -C $argv[$row] | cut -f 1 > fish.(math $row - 2); end' \
+        "$TOP/completions/quorumd.fish" "${rows[@]}"
 }
-shells=(bash)
-for shell in zsh fish; do
-    if command -v "$shell" > /dev/null; then
-        shells+=("$shell")
-    else
-        printf 'skipped: not installed (Debian: %s), so its completion was not tried\n' "$shell"
-    fi
-done
-while IFS='>' read -r line wanted; do
-    for shell in "${shells[@]}"; do
-        same "$shell, $line: $("${shell}_offers" "${line%;}" | sed -e 's|/$||' -e 's|.*/||' | sort -u | xargs)" "$shell, $line: $(tr ' ' '\n' <<< "$wanted" | sort -u | xargs)"
-    done
+rows=() wanted=()
+while IFS='>' read -r line offered; do
+    rows+=("${line%;}")
+    wanted+=("$offered")
 done << END
 quorumd ;> $commands
 quorumd st;> status
@@ -179,6 +177,17 @@ timeline --journal --;> --title
 timeline --record --;> --title --id --settings
 examples/live/scenario files/;> folder
 END
+for shell in bash zsh fish; do
+    if ! command -v "$shell" > /dev/null; then
+        printf 'skipped: not installed (Debian: %s), so its completion was not tried\n' "$shell"
+        continue
+    fi
+    "${shell}_offers"
+    for row in "${!rows[@]}"; do
+        same "$shell, ${rows[row]}: $(sed -e 's|/$||' -e 's|.*/||' "$shell.$row" | sort -u | xargs)" \
+            "$shell, ${rows[row]}: $(tr ' ' '\n' <<< "${wanted[row]}" | sort -u | xargs)"
+    done
+done
 
 # the program takes the words that are offered
 { cat "$TOP/examples/two-node.conf"; printf -- '----\ntiming 5000 10000 1000 2000 1000\n'; } > schedule
