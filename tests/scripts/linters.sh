@@ -1,21 +1,18 @@
 # Each script of the repository is read by shellcheck, and each Python file, and the Python inside of a script, by pyflakes, where they are installed.
 
-# what the first lines of a file say it is
-begins() {
-    head -c 64 "$1" | head -n 1 | grep -qE "$2"
-}
-
 python=() shell=() plain=()
 while IFS= read -r -d '' file; do
     case $file in
         *.py) python+=("$file") ;;
         *.sh | *.bash) shell+=("$file") ;;
         *)
-            if begins "$file" '^#!.*python3'; then
+            # what its first line says it is
+            IFS= read -r -n 64 first < "$file" || true
+            if [[ $first =~ ^#!.*python3 ]]; then
                 python+=("$file")
-            elif begins "$file" '^#!.*bash'; then
+            elif [[ $first =~ ^#!.*bash ]]; then
                 shell+=("$file")
-            elif begins "$file" '^#!.*[ /]sh'; then
+            elif [[ $first =~ ^#!.*[\ /]sh ]]; then
                 plain+=("$file")
             fi
             ;;
@@ -24,10 +21,9 @@ done < <(find "$TOP" \( -name .git -o -name out -o -name crates \) -prune -o -ty
 [ "${#python[@]}" -gt 20 ] && [ "${#shell[@]}" -gt 50 ] && [ "${#plain[@]}" -gt 10 ]
 # what stands in a script between <<'PY' and PY
 mkdir inside
-for file in "${shell[@]}"; do
+grep -lE '<<.PY.$' "${shell[@]}" | while IFS= read -r file; do
     awk '/^PY$/ { inside = 0 } inside { print } /<<.PY.$/ { inside = 1 }' "$file" > "inside/${file//\//-}.py"
 done
-find inside -empty -delete
 
 if command -v pyflakes3 > /dev/null; then
     pyflakes3 "${python[@]}" inside/*
@@ -40,7 +36,7 @@ fi
 if command -v shellcheck > /dev/null; then
     left_out=2034,2154,2120,2164,2010,2011,2097,2098,2238
     printf '%s\0' "${shell[@]}" | xargs -0 -n 8 -P 4 shellcheck -s bash -S warning -e $left_out
-    shellcheck -s dash -S warning -e $left_out "${plain[@]}"
+    printf '%s\0' "${plain[@]}" | xargs -0 -n 8 -P 4 shellcheck -s dash -S warning -e $left_out
 else
     echo 'skipped: not installed (Debian: shellcheck), to read the scripts'
 fi
