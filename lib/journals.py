@@ -4,7 +4,7 @@ owner was reset then."""
 import re
 from collections import namedtuple
 
-from lanes import LaneMaker, Timeline
+from lanes import LaneMaker, Overlap, Timeline
 
 PAUSE = 1000  # milliseconds; an owner that signs again within them went on
 
@@ -34,7 +34,11 @@ def entries_of(text):
 
 def signatures_of(text):
     """The signatures in the order of their times, each as milliseconds and an id."""
-    return [(entry.time, entry.ident) for entry in entries_of(text) if not entry.is_reset]
+    return signed(entries_of(text))
+
+
+def signed(entries):
+    return [(entry.time, entry.ident) for entry in entries if not entry.is_reset]
 
 
 def holdings_of(signatures):
@@ -72,7 +76,17 @@ def journal_lanes(title, text):
         else:
             last[ident] = (time, point)
     times = [entry.time for entry in entries[:1] + entries] or [0]
-    return Timeline(title, "line", times, [maker.ended(len(times)) for maker in makers.values()])
+    return Timeline(title, "line", times, [maker.ended(len(times)) for maker in makers.values()], signed_at_once(entries))
+
+
+def signed_at_once(entries):
+    """Where two owners overlap, from the first signature of the later one to the last one of the one that ends first."""
+    points = {(entry.ident, entry.time): point for point, entry in enumerate(entries, 1)}
+    found = []
+    for one, later in overlaps_of(holdings_of(signed(entries))):
+        shorter = min(one, later, key=lambda holding: holding.last)
+        found.append(Overlap(points[later.ident, later.first], points[shorter.ident, shorter.last], "node %d and node %d sign" % (one.ident, later.ident)))
+    return found
 
 
 def end_pauses(makers, last, now):

@@ -6,21 +6,34 @@ from collections import namedtuple
 
 from nodes import Node, without_wait
 
-# What is drawn: a title, the name of the points, the time at each point in milliseconds, and the lanes from top to bottom.
-Timeline = namedtuple("Timeline", "title points times lanes")
+# What is drawn: a title, the name of the points, the time at each point in milliseconds, the lanes from top to bottom, where two of them hold at
+# once, and what stands under the picture.
+Timeline = namedtuple("Timeline", "title points times lanes overlaps notes", defaults=((), ()))
 Lane = namedtuple("Lane", "name spans marks")
 
 # Something that lasts: from one point to another, which is one past the last point where it goes on at the end. Kinds: those of PHASES;
 # `holds`; `quorate`, whose text is the votes and the quorum; `blocked`, whose text is the first condition that blocks a start; and of an
-# arbiter `bound`, whose text is the node that it gave its yes to, and `waits`, where it gives no yes since it has just booted.
+# arbiter `bound`, whose text is the node that it gave its yes to, and `waits`, where it gives no yes since it has just booted. Of a journal that
+# breaks off: `silent`, a node that says nothing more, and `held`, where it held by its last word.
 Span = namedtuple("Span", "kind first last text")
 
 # Something that happens at a point. Kinds: view, asked, landed, message, halts, crashes, left, poll, with texts as in nodes.Deed; reply,
-# which a node is told of, whose text is yes or no; of an arbiter yes and no, whose text is the node that it answers; and of a journal reset.
+# which a node is told of, whose text is yes or no; of an arbiter yes and no, whose text is the node that it answers; of a journal reset; and of a
+# record cut, where it ends and the node did not say that it ended.
 Mark = namedtuple("Mark", "kind point text")
+
+# Where two lanes hold at once, from one point to another, and who they are.
+Overlap = namedtuple("Overlap", "first last text")
 
 PHASES = ("booting", "up", "leaving", "dying")
 MARKED = ("view", "asked", "landed", "message", "halts", "crashes", "left", "poll")
+
+
+def overlaps_of(lanes):
+    """Where two of the lanes hold at once: both after a point, as it was before the next one."""
+    holds = sorted((span.first, span.last, lane.name) for lane in lanes for span in lane.spans if span.kind == "holds")
+    return [Overlap(first, min(last, other_last), "%s and %s hold" % (other, name)) for place, (first, last, name) in enumerate(holds)
+            for _, other_last, other in holds[:place] if other != name and first < other_last and first < last]
 
 
 class LaneMaker:
@@ -92,7 +105,8 @@ class ClusterLanes:
         maker.state("blocked", self.shown[ident] and "blocked", point, self.shown[ident] or "")
 
     def timeline(self, title):
-        return Timeline(title, "event", self.times, [maker.ended(len(self.times)) for maker in self.makers.values()])
+        lanes = [maker.ended(len(self.times)) for maker in self.makers.values()]
+        return Timeline(title, "event", self.times, lanes, overlaps_of(lanes))
 
 
 def lanes_of(title, ids, events, reports, node=Node):

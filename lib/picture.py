@@ -1,8 +1,10 @@
-"""Draws a timeline of lanes.py as one SVG, in black and white, the same bytes for the same timeline.
+"""Draws a timeline of lanes.py as one SVG, in black and white, or white and black where the reader's screen is dark; the same bytes for the same
+timeline.
 
-From left to right stand the points. Time that passes has its width; so have the points at which something is seen to change, since much
-happens at one moment: such a moment is a grey column, in which its points stand side by side. A lane has, from top to bottom: rows of
-marks; a bar, with the node's phase and whether it holds; a strip where it is quorate; and rows of lines: the conditions that block a
+From left to right stand the points, as their times do where there is room for that. Else the points at which something is seen to change have a
+width too, since much happens at one moment: such a moment is a grey column, in which its points stand side by side. A line under the picture then says
+that it is not to scale. It is no wider than a page, unless it has too many points for that. Where two hold at once, a frame in red goes over all lanes,
+and their names stand over it. A lane has, from top to bottom: rows of marks; a bar, with the node's phase and whether it holds; a strip where it is quorate; and rows of lines: the conditions that block a
 start, and in the lane of an arbiter whom its yes binds it to.
 
 Each element says in data- attributes of which point it is, so that a program can read a picture too."""
@@ -11,39 +13,42 @@ import math
 from collections import namedtuple
 from xml.sax.saxutils import escape
 
+from lanes import Span
+
 LETTER = 6.1  # the width of a letter of a monospaced font of 10 pixels
 ROW = 14  # the height of a row of text
 BAR = 20  # the height of the bar of a lane
 STRIP = 4  # the height of the strip under it
 MOST_ROWS = 4  # of marks, unless they lie over one another
 EDGE = 10  # what is left free at each edge
-TIME_WIDTH = 360  # of all time together
-STEP, LEAST_STEP, STEPS_WIDTH = 24, 5, 1200  # of a point; of many points together
+WIDEST = 718  # the width of a page of A4 within edges of a centimetre, so that letters of 10 pixels stay so there, and in a column of a page on a screen
+TIME_WIDTH = 360  # of all time together, at most, where points have a width too
+STEP, LEAST_STEP, STEPS_SHARE = 24, 5, 0.6  # the width of a point; that of each of many points; how much of the width they have together, at most
+APART = 6  # the least width between two changes in a picture to scale
 TAIL = 24  # what the last state is drawn beyond the last point
 LEAST_WIDTH = 560
 SHAPE = 8  # the width and height of a shape
 BESIDE = 7  # from the middle of a shape to the text beside it
 
-STYLE = """text{font:10px monospace;fill:#000;stroke:#fff;stroke-width:2.5;paint-order:stroke}
-.title{font-weight:bold;font-size:12px}.moment{fill:#eee}.line{stroke:#888;stroke-dasharray:1 3}.lead{stroke:#bbb}
-.up,.booting,.leaving,.dying{stroke:#000;fill:#fff}.booting{stroke-dasharray:3 2}.leaving{fill:url(#bars)}.dying{fill:url(#hatch)}
-.holds,.landed,.crashes,.message{fill:#000}.quorate{fill:#777}.blocked{stroke:#000;stroke-width:1.5}
-.asked,.halts,.left,.view{fill:#fff;stroke:#000}.halts{stroke-width:2}"""
-
-# of what only a picture with an arbiter has
-ARBITER_STYLE = """
-.poll,.reply,.no{fill:#fff;stroke:#000}.no{stroke-width:2}.yes{fill:#000}
-.bound{stroke:#000;stroke-width:3}.waits{stroke:#000;stroke-width:1.5;stroke-dasharray:4 3}"""
-# of what only the picture of a journal has
-JOURNAL_STYLE = """
-.reset{fill:#fff;stroke:#000;stroke-width:2}"""
-
-ARBITER_KINDS = {"poll", "reply", "yes", "no", "bound", "waits"}
+# What is drawn has the colour of the text, which a dark screen turns round; what is empty has that of the paper.
+STYLE = """svg{color:#000}text{font:10px monospace;fill:currentColor;stroke:#fff;stroke-width:2.5;paint-order:stroke}
+.title{font-weight:bold;font-size:12px}.paper{fill:#fff}.ink{fill:currentColor}.moment{fill:#eee}
+.line{stroke:#888;stroke-dasharray:1 3}.lead{stroke:#bbb}
+.up,.booting,.leaving,.dying,.silent{stroke:currentColor;fill:#fff}.booting{stroke-dasharray:3 2}
+.silent{stroke-dasharray:1 2}.leaving{fill:url(#bars)}.dying{fill:url(#hatch)}
+.holds,.landed,.crashes,.message,.yes{fill:currentColor}.quorate{fill:#777}.held{fill:#bbb}.blocked{stroke:currentColor;stroke-width:1.5}
+.asked,.halts,.left,.view,.poll,.reply,.no,.reset,.cut{fill:#fff;stroke:currentColor}.halts,.no,.reset{stroke-width:2}
+.bound{stroke:currentColor;stroke-width:3}.waits{stroke:currentColor;stroke-width:1.5;stroke-dasharray:4 3}
+.overlap{fill:none;stroke:#d11;stroke-width:2}.alarm{font-weight:bold;fill:#d11}
+@media(prefers-color-scheme:dark){svg{color:#ddd}text{stroke:#111}.moment{fill:#2a2a2a}.lead{stroke:#555}.held{fill:#666}
+.paper,.up,.booting,.silent,.asked,.halts,.left,.view,.poll,.reply,.no,.reset,.cut{fill:#111}
+.overlap{stroke:#f55}.alarm{fill:#f55}}"""
 
 PATTERNS = """<pattern id="hatch" width="4" height="4" patternUnits="userSpaceOnUse" patternTransform="rotate(45)">\
-<rect width="4" height="4" fill="#fff"/><rect width="1.5" height="4"/></pattern>
-<pattern id="bars" width="6" height="4" patternUnits="userSpaceOnUse"><rect width="6" height="4" fill="#fff"/>\
-<rect width="1" height="4"/></pattern>"""
+<rect class="ink" width="1.5" height="4"/></pattern>
+<pattern id="bars" width="6" height="4" patternUnits="userSpaceOnUse"><rect class="ink" width="1" height="4"/></pattern>"""
+
+NOT_TO_SCALE = "Not to scale: beside the time that passes, each change has a width of its own."
 
 # The shape of a mark, drawn from its upper middle; the points of the four sides are at most 4 pixels from the middle.
 SHAPES = {
@@ -54,6 +59,7 @@ SHAPES = {
     "halts": "m-4 0l8 8m0 -8l-8 8",
     "crashes": "m-2 0h4v8h-4z",
     "reset": "m-4 0l8 8m0 -8l-8 8",
+    "cut": "m-2 0v8m4 -8v8",
     "left": "a4 4 0 0 1 0 8a4 4 0 0 1 0 -8",
     "poll": "l4 8h-8z",
     "reply": "m-4 0h8v8h-8z",
@@ -64,7 +70,7 @@ SHAPES = {
 # What a mark says beside its shape.
 SAYS = {
     "view": "view %s", "asked": "by %s", "landed": "by %s", "message": "%s", "halts": "halt:%s", "crashes": "crash%s", "left": "left%s",
-    "reset": "reset%s",
+    "reset": "reset%s", "cut": "record ends%s",
     "poll": "poll %s", "reply": "told %s", "yes": "yes to %s", "no": "no to %s",
 }
 
@@ -74,7 +80,9 @@ LEGEND = {
     "up": "up",
     "leaving": "leaving",
     "dying": "halted, still on",
+    "silent": "says nothing more",
     "holds": "holds the resource",
+    "held": "held it by its last word",
     "quorate": "quorate, with votes/quorum",
     "blocked": "blocks a start",
     "view": "is told a view of these",
@@ -84,6 +92,7 @@ LEGEND = {
     "halts": "halts",
     "crashes": "goes down",
     "reset": "its machine is reset",
+    "cut": "its record ends, without an end of the node",
     "left": "left cleanly",
     "poll": "polls the arbiter",
     "reply": "is told its answer",
@@ -92,6 +101,7 @@ LEGEND = {
     "bound": "its yes is leased to this node",
     "waits": "has not run for a lease",
     "moment": "one moment",
+    "overlap": "TWO AT ONCE",
 }
 
 # The spans that are drawn as a line with their text above it, in the rows below the bar.
@@ -136,19 +146,24 @@ def rows_of(placed):
 
 
 class Scale:
-    """Where each point of a timeline stands from left to right."""
+    """Where each point of a timeline stands from left to right, within so many pixels from the left."""
 
-    def __init__(self, timeline, left):
+    def __init__(self, timeline, left, room):
         times = timeline.times
         spans = [point for lane in timeline.lanes for span in lane.spans for point in (span.first, span.last) if point < len(times)]
         self.changes = sorted({*spans, *(mark.point for lane in timeline.lanes for mark in lane.marks)})
-        step = max(LEAST_STEP, min(STEP, STEPS_WIDTH / max(1, len(self.changes))))
-        pixels = TIME_WIDTH / max(1, times[-1] - times[0])
+        pixels = room / max(1, times[-1] - times[0])
+        at = [times[point] for point in self.changes]
+        self.is_to_scale = all((later - one) * pixels >= APART for one, later in zip(at, at[1:]))
+        self.step = 0
+        if not self.is_to_scale:
+            self.step = max(LEAST_STEP, min(STEP, STEPS_SHARE * room / len(self.changes)))
+            pixels *= max(0, min(TIME_WIDTH, room - self.step * len(self.changes)) / room)
         seen, steps = set(self.changes), 0
         self.places = []
         for point, time in enumerate(times):
             steps += point in seen and point > 0
-            self.places.append(round(left + step * steps + pixels * (time - times[0])))
+            self.places.append(round(left + self.step * steps + pixels * (time - times[0])))
 
     def x(self, point):
         return self.places[point]
@@ -212,6 +227,10 @@ class LaneDrawing:
         x = self.scale.x(span.first)
         return x, max(self.scale.right(span.last), x + 3 + width_of(span.text))
 
+    def right(self):
+        """How far what stands beside the bar reaches."""
+        return max([self.scale.end(), *(placed.right for placed in self.marks + self.lines)])
+
     def height(self):
         return ROW * (rows_of(self.marks) + rows_of(self.lines)) + self.bar
 
@@ -237,8 +256,8 @@ class LaneDrawing:
             drawing.text(x + BESIDE, top + 10, SAYS[mark.kind] % mark.text)
 
     def draw_bars(self, drawing, bar):
-        inside = {"quorate": (BAR + 1, STRIP - 1), "holds": (BAR - 8, 6)}
-        order = {"holds": 1, "quorate": 2}
+        inside = {"quorate": (BAR + 1, STRIP - 1), "holds": (BAR - 8, 6), "held": (BAR - 8, 6)}
+        order = {"holds": 1, "held": 1, "quorate": 2}
         spans = [span for span in self.lane.spans if span.kind not in LINES]
         for span in sorted(spans, key=lambda span: (order.get(span.kind, 0), span.first)):
             down, height = inside.get(span.kind, (0, BAR))
@@ -269,6 +288,14 @@ def draw_axis(drawing, timeline, scale, top, bottom):
     drawing.text(EDGE, top + ROW + 14, timeline.points)
     draw_where_room(drawing, top + 10, [(places[0], str(time), ' data-time="%d"' % time) for time, places in moments.items()])
     draw_where_room(drawing, top + ROW + 14, [(scale.x(point), str(point), ' data-point="%d"' % point) for point in scale.changes])
+
+
+def draw_overlaps(drawing, overlaps, scale, top, bottom):
+    """A frame round all lanes where two hold at once, with their names over it."""
+    for overlap, left, _, row in overlaps:
+        under = top + ROW * (row + 1)
+        drawing.box("overlap", left, under, scale.right(overlap.last) + 3, bottom - under, of_span(Span("overlap", *overlap)))
+        drawing.text(left, under - 3, overlap.text, "alarm")
 
 
 def draw_where_room(drawing, y, texts):
@@ -305,26 +332,53 @@ def draw_sample(drawing, kind, x, top):
         drawing.box(kind, x, top + 1, x + 18, 10)
 
 
+def fitted(timeline, left):
+    """The scale and the lanes of a picture that is no wider than a page, where its points have room for that."""
+    room = WIDEST - left - TAIL - EDGE
+    while True:
+        scale = Scale(timeline, left, room)
+        lanes = [LaneDrawing(lane, scale) for lane in timeline.lanes]
+        times = [scale.x(point) + width_of(str(timeline.times[point])) for point in scale.changes[-1:]]
+        over = max([0, *times, *(lane.right() for lane in lanes)]) + EDGE - WIDEST
+        if over <= 0 or room <= 0 or scale.step == LEAST_STEP:
+            return scale, lanes
+        room -= over
+
+
+def notes_of(timeline, scale):
+    """What stands under the legend."""
+    is_said = not scale.is_to_scale and timeline.times[0] != timeline.times[-1]
+    return [*timeline.notes, *[NOT_TO_SCALE] * is_said]
+
+
 def svg_of(timeline):
     """The timeline as the text of an SVG."""
     left = EDGE + max(width_of(name) for name in [timeline.points] + [lane.name for lane in timeline.lanes]) + 14
-    scale = Scale(timeline, left)
-    lanes = [LaneDrawing(lane, scale) for lane in timeline.lanes]
+    scale, lanes = fitted(timeline, left)
     drawing, axis, top = Drawing(), 26, 26 + 2 * ROW + 12
     drawing.width = max(drawing.width, scale.end() + EDGE)
     drawing.text(EDGE, 16, timeline.title, "title")
-    bottom = top + sum(lane.height() + 8 for lane in lanes)
+    overlaps = spans_in_rows(timeline.overlaps, lambda overlap: (scale.x(overlap.first) - 3, scale.x(overlap.first) + width_of(overlap.text)))
+    begin = top + ROW * rows_of(overlaps)
+    bottom = begin + sum(lane.height() + 8 for lane in lanes)
     draw_axis(drawing, timeline, scale, axis, bottom)
+    draw_overlaps(drawing, overlaps, scale, top, bottom)
+    top = begin
     for lane in lanes:
         lane.draw(drawing, top)
         top += lane.height() + 8
-    kinds = {"moment", *(thing.kind for lane in timeline.lanes for thing in lane.spans + lane.marks)}
-    height = draw_legend(drawing, kinds, top + 6) + EDGE
+    kinds = {"moment", *(thing.kind for lane in timeline.lanes for thing in lane.spans + lane.marks), *["overlap"] * bool(timeline.overlaps)}
+    height = draw_legend(drawing, kinds, top + 6)
+    for note in notes_of(timeline, scale):
+        drawing.text(EDGE, height + 14, note)
+        height += ROW + 4
+    height += EDGE
     return "\n".join([
-        '<svg xmlns="http://www.w3.org/2000/svg" width="%d" height="%d" viewBox="0 0 %d %d" role="img">' % ((drawing.width, height) * 2),
+        '<svg xmlns="http://www.w3.org/2000/svg" width="%d" height="%d" viewBox="0 0 %d %d" role="img"%s>'
+        % (*(drawing.width, height) * 2, ' data-scale="time"' if scale.is_to_scale else ""),
         "<title>%s</title>" % escape(timeline.title),
-        "<style>%s%s%s</style>" % (STYLE, ARBITER_STYLE if kinds & ARBITER_KINDS else "", JOURNAL_STYLE if "reset" in kinds else ""),
+        "<style>%s</style>" % STYLE,
         "<defs>%s</defs>" % PATTERNS,
-        '<rect width="%d" height="%d" fill="#fff"/>' % (drawing.width, height),
+        '<rect class="paper" width="%d" height="%d"/>' % (drawing.width, height),
         *drawing.elements,
         "</svg>\n"])

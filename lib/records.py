@@ -36,16 +36,30 @@ class RecordLane:
         elif call["code"]:
             self.maker.mark("halts", point, call["code"])
 
+    def cut(self):
+        """The record ends, and the node did not say that it ended."""
+        point = max(len(self.times) - 1, 0)
+        self.maker.mark("cut", point, "")
+        self.maker.state("holds", None, point)
+
+
+def whole_lines(text):
+    """The lines of a record, without one that was cut when its node was killed."""
+    return text[:text.rfind("\n") + 1].splitlines()
+
 
 def record_lanes(title, text):
     """The timeline of a record, with or without the line of the node at its end."""
-    lane, lines = RecordLane(), text.splitlines()
-    if lines and END.fullmatch(lines[-1]):
+    lane, lines = RecordLane(), whole_lines(text)
+    has_ended = bool(lines) and END.fullmatch(lines[-1]) is not None
+    if has_ended:
         lines.pop()
     for number, line in enumerate(lines, 1):
         call = LINE.fullmatch(line)
         if not call:
             raise RecordFault("line %d: %.40s: no line of a record" % (number, line))
         lane.take(call)
+    if lines and not has_ended and not re.match("disarm|halt", lines[-1]):
+        lane.cut()
     times = lane.times or [0]
     return Timeline(title, "turn", times, [lane.maker.ended(len(times))])

@@ -5,6 +5,7 @@ import struct
 from collections import namedtuple
 
 from members import Member, View
+from records import whole_lines
 
 ERROR, WARNING, NOTICE, INFORMATION = 3, 4, 5, 6
 MESSAGES = ("empty", "test", "reset", "off", "exit", "crashdump")
@@ -407,9 +408,14 @@ def has_plain_votes(settings):
 
 
 def journal_of(record, ids, ident):
-    """The journal of a record, by the ticks of the node in place of the time."""
-    lines = []
-    for line in told_of(record, ids, ident):
+    """The journal of a record, by the ticks of the node in place of the time. Where the node did not say that it ended, a line at its last tick says
+    that the record does."""
+    whole, lines = whole_lines(record), []
+    said = told_of("\n".join(whole), ids, ident)
+    ticks = [line.split(" ")[1] for line in whole if line.startswith("now ")]
+    if ticks and not re.match("turns |left |fault ", whole[-1]):
+        said.append("tick=%s event=record-ends" % ticks[-1])
+    for line in said:
         tick = int(re.match(r"tick=(\d+)", line)[1])
         lines.append("quorumd: node=%d time=%d.%03d %s\n" % (ident, tick // 1000, tick % 1000, line))
     return "".join(lines)

@@ -10,8 +10,12 @@ import subprocess
 import sys
 import time
 
+sys.dont_write_bytecode = True
+sys.path[:0] = [str(pathlib.Path(__file__).resolve().parents[2] / "lib"), "/usr/share/quorumd/lib"]
+import usage
+from traces import program
+
 HERE = pathlib.Path(__file__).resolve().parent
-TOP = HERE.parents[1]
 IDS = (1, 2, 3)
 TIMES = "2500,3900,400,800,500"  # short ones; a take-over takes some six seconds, and a resource goes on for more than three loops
 WATCHDOG = "2.5"  # seconds, as the times say
@@ -34,14 +38,23 @@ def wait_for(what, test):
     return found
 
 
+def new_folder(word):
+    """The folder of this name, which is made."""
+    folder = pathlib.Path(word)
+    try:
+        folder.mkdir()
+    except FileExistsError:
+        raise usage.WrongWords("%s is there: say a new folder" % word) from None
+    return folder
+
+
 class Hosts:
     """Three hosts, in a folder. `with Hosts(folder) as hosts:` switches them on, and all off at its end. `reboots` has for each the seconds
     after which it boots again; where there are none it stays off until it is switched on."""
 
     def __init__(self, folder, reboots=None):
-        self.folder, self.reboots = pathlib.Path(folder), reboots or {}
-        self.folder.mkdir()
-        self.program = os.environ.get("QUORUMD") or str(TOP / "bin" / "quorumd")
+        self.program = program()
+        self.folder, self.reboots = new_folder(folder), reboots or {}
         nodes = "".join(" node {\n  nodeid: %d\n }\n" % ident for ident in IDS)
         (self.folder / "conf").write_text("nodelist {\n%s}\nquorum {\n provider: corosync_votequorum\n}\n" % nodes)
         with open(self.folder / "conf") as settings:
@@ -125,8 +138,16 @@ class Hosts:
         self.quorumd("message", "--id", str(ident), "--kind", kind)
 
 
-def main(folder):
-    with Hosts(folder, REBOOTS) as hosts:
+def started(main, text, words):
+    """The status of a script of hosts, as `usage.started`; what was waited for in vain is said."""
+    try:
+        usage.started(main, text, words)
+    except NotSo as wrong:
+        sys.exit("%s: %s" % (pathlib.Path(sys.argv[0]).name, wrong))
+
+
+def main(words):
+    with Hosts(*usage.counted(words, 1, 1), REBOOTS) as hosts:
         try:
             signal.pause()
         except KeyboardInterrupt:
@@ -134,4 +155,4 @@ def main(folder):
 
 
 if __name__ == "__main__":
-    main(*sys.argv[1:])
+    started(main, __doc__, sys.argv[1:])

@@ -11,6 +11,10 @@ PAGES = sorted([TOP / "README.md", *TOP.glob("docs/*.md"), *TOP.glob("bench/*.md
                 *TOP.glob("examples/**/*.md")])
 # tools that a machine may lack, and the Debian package of each
 PACKAGES = {"jq": "jq", "xxd": "xxd", "flock": "util-linux"}
+# how a page begins whose commands make files: the folder of a page is such a one
+NEW_FOLDER = 'cd "$(mktemp -d)" && ln -s "$OLDPWD"/* .'
+# pages that make files and are being written anew: take each out of here once it begins so
+OLD_FOLDER = {"README.md", "docs/LIVE.md", "docs/STATUS.md"}
 wrong = []
 
 
@@ -61,6 +65,8 @@ def try_console(folder, place, lines):
     if not lines or not lines[0].startswith("$ "):
         wrong.append("%s: a console block begins with a line `$ COMMAND`" % place)
     for command, wanted in commands_of(lines):
+        if command == NEW_FOLDER:
+            continue
         package = missing_tool(command)
         if package:
             print("skipped: %s: not installed (Debian: %s), for: %s" % (place, package, command))
@@ -83,6 +89,22 @@ def try_run_by_lab(place, kind, text):
     read = subprocess.run(["bash", "-n"], input=text, stderr=subprocess.PIPE, text=True)
     if read.returncode != 0:
         wrong.append("%s: %s: %s" % (place, kind, read.stderr))
+
+
+def look_at_folder(page, folder, before):
+    """A page whose commands made files begins in a new folder."""
+    place, made = str(page.relative_to(TOP)), sorted({path.name for path in folder.iterdir()} - before)
+    first = next((lines[0][2:] for _, kind, lines in blocks_of(page) if kind == "console" and lines), "")
+    if made and first != NEW_FOLDER and place not in OLD_FOLDER:
+        wrong.append("%s makes %s, and does not begin with $ %s" % (place, ", ".join(made), NEW_FOLDER))
+
+
+def try_page(page):
+    folder = folder_of(page)
+    before = {path.name for path in folder.iterdir()}
+    try_blocks(page, folder)
+    look_for_leftovers(page, folder)
+    look_at_folder(page, folder, before)
 
 
 def try_blocks(page, folder):
@@ -178,12 +200,27 @@ def look_at_examples():
             wrong.append("%s has no example that is run" % page.relative_to(TOP))
 
 
+# a cell of a table has at most so many letters: what is longer is a paragraph
+CELL = 250
+# pages with longer cells, which are being written anew: take each out of here once it has none
+LONG_CELLS = {"docs/ARCHITECTURE.md", "docs/LIVE.md", "docs/PROVED.md", "docs/STATUS.md"}
+
+
+def look_at_cells():
+    for page in [*PAGES, *TOP.glob("tests/*/README.md")]:
+        place = str(page.relative_to(TOP))
+        text = re.sub(r"(?ms)^```.*?^```", lambda block: "\n" * block[0].count("\n"), page.read_text())
+        for number, line in enumerate(text.splitlines(), 1):
+            cells = re.split(r"(?<!\\)\|", line) if line.startswith("|") else []
+            if place not in LONG_CELLS and any(len(cell.strip()) > CELL for cell in cells):
+                wrong.append("%s:%d: a cell of a table with more than %d letters" % (place, number, CELL))
+
+
 for page in PAGES:
-    place = folder_of(page)
-    try_blocks(page, place)
-    look_for_leftovers(page, place)
+    try_page(page)
 look_at_places()
 look_at_links()
+look_at_cells()
 look_at_examples()
 print("\n".join(wrong))
 sys.exit(1 if wrong else 0)

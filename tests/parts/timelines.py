@@ -9,6 +9,7 @@ import xml.etree.ElementTree as ElementTree
 TOP, QUORUMD = pathlib.Path(os.environ["TOP"]), os.environ["QUORUMD"]
 SVG = "{http://www.w3.org/2000/svg}"
 LETTER, SHAPE = 6.02, 4
+PAGE = 718  # pixels: a page of A4, at 96 to the inch, within edges of a centimetre
 wrong = []
 
 
@@ -135,6 +136,21 @@ def try_texts(where, picture):
             demand(right <= left2 or right2 <= left or bottom <= top2 or bottom2 <= top, where, "%r lies over %r" % (other, text))
 
 
+def try_width(where, picture):
+    """A letter keeps its size on a page; and where the picture is not to scale, it says so."""
+    demand(int(picture.root.get("width")) <= PAGE, where, "wider than a page: %s" % picture.root.get("width"))
+    says = any((text.text or "").startswith("Not to scale: ") for text in picture.root.iter(SVG + "text"))
+    demand(says == (picture.root.get("data-scale") is None and len(picture.labels("data-time")) > 1), where, "what it says of its scale: %s" % says)
+
+
+def try_scale(where, picture):
+    """A picture to scale has each time where it is in proportion."""
+    demand(picture.root.get("data-scale") == "time", where, "not to scale")
+    (x, begin), *_, (right, end) = times = picture.labels("data-time")
+    for place, time in times:
+        demand(abs(place - x - (right - x) * (time - begin) / (end - begin)) <= 1, where, "time %d at %d" % (time, place))
+
+
 def try_votes(where, picture, events, trace):
     """Each poll, answer and reply is marked, and where a node is quorate the arbiter is bound to no other one."""
     polls, answers, wanted = [], [], []
@@ -168,6 +184,7 @@ def try_picture(folder):
     demand(picture.marks("landed") == landed, where, "resets that landed: %r" % landed)
     try_axis(where, picture, trace)
     try_texts(where, picture)
+    try_width(where, picture)
     return picture, head, events, trace
 
 
@@ -181,5 +198,11 @@ for folder in folders("incidents"):
 for folder in folders("arbiter"):
     picture, _, events, trace = try_picture(folder)
     try_votes(folder.name, picture, events, trace)
+for path in "examples/try.svg", "examples/three-images/an-image-is-lost/timeline.svg", "examples/live/journal.svg", "tests/machines/take-over.svg", *sys.argv[1:]:
+    picture = Picture(TOP / path)
+    try_texts(path, picture)
+    try_width(path, picture)
+    if "journal" in path or "take-over" in path:
+        try_scale(path, picture)
 print("\n".join(wrong[:40]))
 sys.exit(1 if wrong else 0)

@@ -82,5 +82,5 @@ grep -qE '^story: quorumd replay[a-z0-9-]* ended with status 9$' errors
 for words in '' x '1 x' '1 2 3' '--story' '--story x' '--story 1 2' '--other'; do
     status=0
     campaign $words > said 2> errors || status=$?
-    same "$words: $status $(head -n 1 errors)" "$words: 2 usage: bench/campaign SECONDS [SEED]"
+    same "$words: $status $(sed -n 2p errors)" "$words: 2 usage: bench/campaign SECONDS [SEED]"
 done

@@ -1,6 +1,34 @@
-# completions/quorumd.bash in a bash of its own: what it offers after which words. It names the commands that the program
-# names, and the program takes the words that it offers.
+# The completions of bash, zsh and fish, each in a shell of its own: what is offered after which words. They are what completions/make writes from
+# the table completions/words, each line of which is what the program itself says that it takes.
 . "$TOP/tests/expect.sh"
+
+mkdir written
+"$TOP/completions/make" written
+for file in quorumd.bash _quorumd quorumd.fish; do
+    cmp "written/$file" "$TOP/completions/$file"
+done
+
+# taken PROGRAM: its lines of the table
+taken() {
+    grep "^$1 " "$TOP/completions/words"
+}
+
+# the help of the two programs has these lines, each with what it reads behind it
+for program in "$QUORUMD" "$QUORUMCTL"; do
+    name=$(basename "$program")
+    "$program" --help | sed -n -e 's/ < .*//' -e '/--help/d' -e "/^$name [0-9]/d" -e "/^$name \\[/p" -e "/^$name [a-z]/{p;n;p}" | sort > said
+    grep -v '^#' "$TOP/completions/words" | sed -n -e "/^$name \\[/p" -e "/^$name [a-z]/{p;n;p}" | sort | cmp said -
+done
+
+# a script says them of words that it does not take
+scripts=(packaging/quorumd-setup contrib/quorumd-resource bin/story bin/timeline examples/live/scenario examples/live/storm bench/campaign bench/soak-nodes)
+for script in "${scripts[@]}"; do
+    status=0
+    "$TOP/$script" --no-such-word > said 2>&1 || status=$?
+    same "$script $status $(sed -n '/^usage: /,$p' said | sed -e 's/^usage: //' -e 's/^ *//' -e "s|^$script|$(basename "$script")|")" \
+        "$script 2 $(taken "$(basename "$script")")"
+done
+same "$(grep -v '^[# ]' "$TOP/completions/words" | cut -d ' ' -f 1 | grep . | sort -u | xargs)" "$(printf '%s\n' quorumd quorumctl "${scripts[@]##*/}" | sort | xargs)"
 
 # offers WANTED WORD..: what is offered for the last of these words after the program's name, whatever the shell's IFS
 cat > offers.bash <<'END'
@@ -22,7 +50,9 @@ offers() {
     done
 }
 
-same "$(bash -c 'source "$1" && complete -p quorumd' - "$TOP/completions/quorumd.bash")" 'complete -F _quorumd quorumd'
+for name in quorumd quorumctl quorumd-setup quorumd-resource story timeline; do
+    same "$(bash -c 'source "$1" && complete -p "$2"' - "$TOP/completions/quorumd.bash" "$name")" "complete -F _quorumd $name"
+done
 
 # commands
 commands='count replay status soak create dump list message node migrate replay3 node3 replay-arbiter node-logged audit node3-logged help'
@@ -101,6 +131,63 @@ offers 'files/other' node --id 2 --resource files/o
 offers '' list --image files/x
 offers 'files/other' status '<' files/o
 offers 'files/other' status --form json '>' files/o
+
+# the same words in the three shells, in any order: what is offered for row N goes into NAME.N
+bash_offers() {
+    local words row
+    for row in "${!rows[@]}"; do
+        read -ra words <<< "${rows[row]}"
+        [[ ${rows[row]} != *' ' ]] || words+=('')
+        bash -c 'source "$1" && shift && COMP_WORDS=("$@") COMP_CWORD=$(($# - 1)) && _quorumd && printf "%s\n" "${COMPREPLY[@]}"' - \
+            "$TOP/completions/quorumd.bash" "${words[@]}" > "bash.$row"
+    done
+}
+zsh_offers() {
+    local row
+    for row in "${!rows[@]}"; do
+        HOME=$PWD timeout 60 zsh -f "$TOP/tests/parts/offers.zsh" "$TOP/completions" "${rows[row]}" > "zsh.$row"
+    done
+}
+fish_offers() {
+    # shellcheck disable=SC2016
+    HOME=$PWD timeout 60 fish --no-config -c 'source $argv[1]; for row in (seq 2 (count $argv)); complete -C $argv[$row] | cut -f 1 > fish.(math $row - 2); end' \
+        "$TOP/completions/quorumd.fish" "${rows[@]}"
+}
+rows=() wanted=()
+while IFS='>' read -r line offered; do
+    rows+=("${line%;}")
+    wanted+=("$offered")
+done << END
+quorumd ;> $commands
+quorumd st;> status
+quorumd --;> --links --key --open --halt --status
+quorumd --links files/other --open --key files/other --;> --key --halt --status
+quorumd --status files/other status --;> --form
+quorumd audit --images ;> 1 3
+quorumd message --kind off --;> --image --id
+quorumd dump --image files/di;> disk disk.old
+quorumctl ;> settings timing check list wait status history
+quorumctl status --json --;> --image
+quorumctl status files/;> disk disk.old folder other
+quorumd-setup files/other --key files/other --;> --image --id --watchdog --port --create
+quorumd-resource ;> run stop status check maintenance
+quorumd-resource maintenance ;> on off
+/usr/share/quorumd/bin/story --;> --keep
+timeline --journal --;> --title
+timeline --record --;> --title --id --settings
+examples/live/scenario files/;> folder
+END
+for shell in bash zsh fish; do
+    if ! command -v "$shell" > /dev/null; then
+        printf 'skipped: not installed (Debian: %s), so its completion was not tried\n' "$shell"
+        continue
+    fi
+    "${shell}_offers"
+    for row in "${!rows[@]}"; do
+        same "$shell, ${rows[row]}: $(sed -e 's|/$||' -e 's|.*/||' "$shell.$row" | sort -u | xargs)" \
+            "$shell, ${rows[row]}: $(tr ' ' '\n' <<< "${wanted[row]}" | sort -u | xargs)"
+    done
+done
 
 # the program takes the words that are offered
 { cat "$TOP/examples/two-node.conf"; printf -- '----\ntiming 5000 10000 1000 2000 1000\n'; } > schedule

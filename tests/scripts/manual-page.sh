@@ -1,11 +1,22 @@
-# The manual pages have no warning, and their examples, taken from the pages as they are shown, write what they say.
+# The manual pages have no warning, name all options of their programs, and their examples, taken from the pages as they are shown, write what they
+# say.
 . "$TOP/tests/expect.sh"
 
 if command -v mandoc > /dev/null; then
-    mandoc -T lint -W warning "$TOP"/man/*.8
+    mandoc -T lint -W warning "$TOP"/man/*.[18]
 else
     echo 'skipped: not installed (Debian: mandoc), to look for warnings in the manual pages'
 fi
+# each program of the table has a page, which names its options
+grep -v '^[# ]' "$TOP/completions/words" | grep . > lines
+while read -r program words; do
+    page=$(grep -lE "^\.Nm $program( ,)?\$" "$TOP"/man/*.[18] | head -n 1)
+    [ "$page" ] || { printf '%s has no manual page\n' "$program"; exit 1; }
+    for option in $(grep -o -- '--[a-z-]*' <<< "$words"); do
+        grep -qE "Fl -?${option#-}( |\$)|Fl .*[|] ${option#-}( |\$)" "$page" || { printf '%s does not name %s\n' "$page" "$option"; exit 1; }
+    done
+done < lines
+
 for tool in man:man-db groff:groff-base col:bsdextrautils; do
     if ! command -v "${tool%:*}" > /dev/null; then
         echo "skipped: not installed (Debian: ${tool#*:}), to show the manual pages and run their examples"
@@ -16,6 +27,7 @@ done
 mkdir bin
 ln -s "$QUORUMD" bin/quorumd
 ln -s "$QUORUMCTL" bin/quorumctl
+ln -s "$TOP/bin/story" "$TOP/bin/timeline" "$TOP/examples/live/check" "$TOP/contrib/quorumd-agent" bin
 PATH=$PWD/bin:$PATH
 
 # examples PAGE: in a folder of its own, each line `$ COMMAND` goes into N.command, with the lines after it while a bracket is open, and the
@@ -32,7 +44,7 @@ examples() {
 
 # page_runs NAME COUNT: the page of that name has at least so many examples
 page_runs() {
-    local page=$TOP/man/$1.8 command found=0
+    local page=$TOP/man/$1 command found=0
     same "$(man --warnings -E UTF-8 -l "$page" 2>&1 > /dev/null)" ""
     mkdir "$1"
     cd "$1"
@@ -50,5 +62,9 @@ page_runs() {
     cd ..
 }
 
-page_runs quorumd 7
-page_runs quorumctl 8
+page_runs quorumd.8 7
+page_runs quorumctl.8 8
+page_runs quorumd-agent.8 2
+page_runs story.1 1
+page_runs timeline.1 3
+page_runs scenario.1 1

@@ -31,10 +31,14 @@ dpkg-deb --control "$package" control
 same "$(cd root && find . -type f | wc -l)" "$(cat control/md5sums control/conffiles | wc -l)"
 cmp root/usr/sbin/quorumd "$built"
 cmp root/usr/sbin/quorumctl "$companion"
-zcat root/usr/share/man/man8/quorumctl.8.gz | cmp - "$TOP/man/quorumctl.8"
-cmp root/usr/share/bash-completion/completions/quorumctl "$TOP/completions/quorumctl.bash"
-zcat root/usr/share/man/man8/quorumd.8.gz | cmp - "$TOP/man/quorumd.8"
-cmp root/usr/share/bash-completion/completions/quorumd "$TOP/completions/quorumd.bash"
+for page in root/usr/share/man/man?/*.gz; do
+    zcat "$page" | cmp - "$TOP/man/$(basename "$page" .gz)"
+done
+for name in quorumd quorumctl quorumd-setup quorumd-resource story timeline; do
+    cmp "root/usr/share/bash-completion/completions/$name" "$TOP/completions/quorumd.bash"
+    cmp "root/usr/share/fish/vendor_completions.d/$name.fish" "$TOP/completions/quorumd.fish"
+done
+cmp root/usr/share/zsh/vendor-completions/_quorumd "$TOP/completions/_quorumd"
 doc=$PWD/root/usr/share/doc/quorumd
 diff -r "$doc/examples" "$TOP/examples"
 grep -q '^License: Apache-2.0$' "$doc/copyright"
@@ -44,7 +48,8 @@ same "$(xargs < control/conffiles)" '/etc/quorumd/agent.env /etc/quorumd/node.en
 same "$(ls root/lib/systemd/system | xargs)" 'quorumd-agent.socket quorumd-agent@.service quorumd-handover.service quorumd-renew@.service quorumd-renew@.timer quorumd-resource.service quorumd@.service'
 same "$(ls root/usr/libexec/quorumd | xargs)" 'hand-over node-check node-ended node-images node-leave node-opened quorumd-agent'
 same "$(ls root/usr/sbin | xargs)" 'quorumctl quorumd quorumd-resource quorumd-setup'
-same "$(ls root/usr/share/man/man8 | xargs)" 'quorumctl.8.gz quorumd-resource.8.gz quorumd-setup.8.gz quorumd.8.gz'
+same "$(ls root/usr/share/man/man1 root/usr/share/man/man8 | grep gz | xargs)" \
+    'scenario.1.gz story.1.gz timeline.1.gz quorumctl.8.gz quorumd-agent.8.gz quorumd-resource.8.gz quorumd-setup.8.gz quorumd.8.gz'
 # systemd takes the units; what they call is where they say
 if command -v systemd-analyze > /dev/null; then
     same "$(systemd-analyze verify --man=no root/lib/systemd/system/quorumd* 2>&1 | grep -v ': Command /usr/[^ ]* is not executable' || true)" ''
@@ -95,7 +100,7 @@ grep -q ' STARTS the resource$' account
 timeline --title 'The holder is killed' kept | cmp - examples/try.svg
 
 # words that are none
-for words in --help 'one two' no-such-folder; do
+for words in --no-such-word 'one two' no-such-folder; do
     status=0
     "$TOP/packaging/build-deb" $words > said 2> errors || status=$?
     same "$status $(tail -n 1 errors)" '2 usage: packaging/build-deb [FOLDER]'

@@ -9,7 +9,8 @@
 #   text             no command
 #
 # And what has one place stands there alone: the table of conditions, the exit statuses, the rule of safe times. What `quorumctl status` can say,
-# docs/MACHINES.md says what to do about.
+# docs/MACHINES.md says what to do about. Each link leads somewhere, and no cell
+# of a table is a paragraph.
 . "$TOP/tests/expect.sh"
 
 python3 -B "$TOP/tests/parts/pages-run.py"

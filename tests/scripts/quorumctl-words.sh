@@ -56,13 +56,13 @@ source "$1"
 shift
 COMP_WORDS=(quorumctl "$@")
 COMP_CWORD=$#
-_quorumctl quorumctl "${COMP_WORDS[COMP_CWORD]}" "${COMP_WORDS[COMP_CWORD - 1]}"
+_quorumd quorumctl "${COMP_WORDS[COMP_CWORD]}" "${COMP_WORDS[COMP_CWORD - 1]}"
 printf '%s\n' "${COMPREPLY[@]}"
 OFFERS
 offers() {
     local wanted=$1
     shift
-    same "$*: $(bash offers.bash "$TOP/completions/quorumctl.bash" "$@" | xargs)" "$*: $wanted"
+    same "$*: $(bash offers.bash "$TOP/completions/quorumd.bash" "$@" | xargs)" "$*: $wanted"
 }
 offers 'settings timing check list wait status history' ''
 offers 'settings status' s

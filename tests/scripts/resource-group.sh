@@ -43,8 +43,8 @@ unit='[u]\nagent = systemd:x.service\n'
 
 # a file at fault
 rm -f conf
-same "$("$program" check 2>&1; echo $?)" "quorumd-resource: [Errno 2] No such file or directory: '$PWD/conf'"$'\n1'
-same "$("$program" run 2>&1; echo $?)" "quorumd-resource: [Errno 2] No such file or directory: '$PWD/conf'"$'\n1'
+same "$("$program" check 2>&1; echo $?)" "quorumd-resource: $PWD/conf: No such file or directory"$'\n1'
+same "$("$program" run 2>&1; echo $?)" "quorumd-resource: $PWD/conf: No such file or directory"$'\n1'
 said 1 'quorumd-resource: HERE/conf names no resource' '' check
 said 1 'quorumd-resource: a: agent = ' '[a]\n' check
 said 1 'quorumd-resource: a: agent = lsb:x' '[a]\nagent = lsb:x\n' check

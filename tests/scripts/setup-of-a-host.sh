@@ -43,7 +43,10 @@ for words in three.conf '--image /d' 'three.conf --image' 'three.conf --image d'
 done
 setup 2 "$usage" three.conf --image "/a b"
 # the settings text, and the id of this host in it
-setup 1 'quorumd-setup: absent.conf cannot be read' absent.conf --image "$disk"
+for conf in absent.conf etc; do
+    setup 2 "$usage" $conf --image "$disk"
+    same "$(head -n 1 said)" "quorumd-setup: $conf is no file that can be read"
+done
 echo 'nodelist {' > wrong.conf
 setup 1 "$("$QUORUMCTL" settings < wrong.conf | sed '1s/^/quorumd-setup: wrong.conf: /' | tail -n 1)" wrong.conf --image "$disk"
 setup 1 'quorumd-setup: none.conf has not one node with a name or an address of this host: say --id N' none.conf --image "$disk"

@@ -163,10 +163,10 @@ same "$(holders trace)" 'holders=- holders=2'
 # an account or a schedule that cannot be written, and a reader that goes
 status=0
 story "$TOP/examples/try.story" > /dev/full 2> errors || status=$?
-same "$status $(cat errors)" '2 story: [Errno 28] No space left on device'
+same "$status $(cat errors)" '2 story: No space left on device'
 status=0
 story --keep /dev/full "$TOP/examples/try.story" > account 2> errors || status=$?
-same "$status $(cat errors)" '2 story: [Errno 28] No space left on device'
+same "$status $(cat errors)" '2 story: No space left on device'
 same "$(story "$TOP/examples/try.story" 2>&1 | head -n 1)" '       0 ms  > up 1 2 3'
 
 # a comment of the settings is kept as it is

@@ -27,8 +27,6 @@ for folder in "$TOP"/examples/arbiter/*/; do
     is_shown "$folder" --arbiter
 done
 
-TOP=$TOP "$python" -S -B "$TOP/tests/parts/timelines.py"
-
 # refused STATUS PATTERN WORD..: bin/timeline ends with this status, writes no picture, and says this on standard error
 refused() {
     local wanted=$1 pattern=$2 status=0
@@ -57,7 +55,7 @@ same "$(sed -n '/data-lane="arbiter"/,$p' drawn.svg | grep -o 'data-kind="[a-z]*
 # a picture that cannot be written
 status=0
 timeline "$TOP/examples/letting-time-pass.schedule" > /dev/full 2> errors || status=$?
-same "$status $(cat errors)" '2 timeline: [Errno 28] No space left on device'
+same "$status $(cat errors)" '2 timeline: No space left on device'
 same "$(timeline "$TOP/examples/letting-time-pass.schedule" 2>&1 | head -c 4)" '<svg'
 
 # a journal: who signs again within a second went on, and the lines need not stand in their order
@@ -97,6 +95,45 @@ timeline --journal journal > drawn.svg
 same "$(grep -o 'data-lane="[^"]*"\|data-kind="[a-z]*" data-\(first="[0-9]*" data-last\|point\)="[0-9]*"' drawn.svg | tr -d '"' | xargs)" \
     'data-lane=node 1 data-kind=landed data-point=5 data-kind=message data-point=7 data-kind=halts data-point=8 data-kind=booting data-first=1 data-last=8 data-lane=node 2 data-kind=view data-point=3 data-kind=left data-point=9 data-kind=up data-first=2 data-last=9 data-kind=holds data-first=6 data-last=9 data-kind=quorate data-first=3 data-last=9 data-kind=blocked data-first=4 data-last=9'
 
+# drawn_as WANTED: what the lanes of drawn.svg have, and who holds at once
+drawn_as() {
+    same "$(grep -o 'data-lane="[^"]*"\|data-kind="[a-z]*" data-\(first="[0-9]*" data-last\|point\)="[0-9]*"' drawn.svg | tr -d '"' | sed 's/data-//g' | xargs)" "$1"
+}
+# two owners at once are framed, and named
+printf '%s\n' '2.40 1' '2.90 1' '9.51 2' '10.02 2' '9.70 1' '9.90 1' | timeline --journal > drawn.svg
+drawn_as 'kind=overlap first=4 last=5 lane=node 1 kind=holds first=1 last=2 kind=holds first=4 last=7 lane=node 2 kind=holds first=3 last=7'
+grep -qF 'data-kind="overlap" data-first="4" data-last="5" data-text="node 2 and node 1 sign"' drawn.svg
+grep -qF '>TWO AT ONCE<' drawn.svg
+printf '%s\n' '1 1' '1 2' | timeline --journal | grep -qF 'data-text="node 1 and node 2 sign"'
+printf '%s\n' '1 1' '1.1 2' | timeline --journal > drawn.svg
+same "$(grep -c 'data-kind="overlap"' drawn.svg)" 0
+# so are two nodes that hold by their own words; a halt and the end after it are one mark
+{
+    said 1 100 'hold-won'
+    said 2 200 'hold-won'
+    said 1 300 'hold-lost'
+    said 1 400 'halt cause=reset'
+    said 1 401 'end end="fault SelfReset reset"'
+} > journal
+timeline --journal journal > drawn.svg
+drawn_as 'kind=overlap first=2 last=3 lane=node 1 kind=halts point=4 kind=holds first=1 last=3 lane=node 2 kind=holds first=2 last=6'
+grep -qF 'data-text="node 1 and node 2 hold"' drawn.svg
+grep -qF '>0 ms is 2026-11-28 21:03:57.100 UTC<' drawn.svg
+# a node that was killed says no end: it is silent from where another one resets it; where none does, from its last line on, once it opens again
+{
+    said 1 100 'open port=7400 image=d resource=r watchdog=w ok=yes'
+    said 1 200 'phase from=booting to=up'
+    said 1 210 'hold-won'
+    said 2 300 'phase from=booting to=up'
+    said 2 400 'fence-written of=1 ok=yes msgwait=10000'
+    said 2 500 'hold-won'
+    said 1 600 'open port=7400 image=d resource=r watchdog=w ok=yes'
+    said 1 700 'phase from=booting to=up'
+    said 1 800 'open port=7400 image=d resource=r watchdog=w ok=yes'
+} > journal
+timeline --journal journal > drawn.svg
+drawn_as 'lane=node 1 kind=landed point=5 kind=booting first=1 last=2 kind=up first=2 last=5 kind=silent first=5 last=7 kind=booting first=7 last=8 kind=up first=8 last=8 kind=silent first=8 last=9 kind=booting first=9 last=10 kind=holds first=3 last=5 kind=held first=5 last=7 lane=node 2 kind=up first=4 last=10 kind=holds first=6 last=10'
+
 # a record of a node: from its start to its stop, and its end; its own line at the end is passed over
 printf '%s\n' 'now 100' 'read 0 failed' 'now 200' 'feed ok' 'start ok' 'now 300' 'receive nothing' 'now 400' 'stop failed' 'now 500' 'stop ok' \
     'write 1 00ff ok' 'now 600' 'send 1 - failed' 'disarm ok' 'left clean' > record
@@ -104,6 +141,11 @@ timeline --record record > drawn.svg
 same "$(grep -o 'data-lane="[^"]*"\|data-kind="[a-z]*" data-\(first="[0-9]*" data-last\|point\)="[0-9]*"' drawn.svg | tr -d '"' | xargs)" \
     'data-lane=node data-kind=left data-point=6 data-kind=holds data-first=2 data-last=5'
 timeline --record < /dev/null | grep -q '<title>record</title>'
+# one of a node that was killed ends at its last look, without the line that was cut
+head -n 7 record | cat - <(printf 'now 40') > cut
+timeline --record cut > drawn.svg
+drawn_as 'lane=node kind=cut point=3 kind=holds first=2 last=3'
+grep -qF 'its record ends, without an end of the node' drawn.svg
 for line in 'now x' 'feed' 'FEED ok' '' 'read 1 0G' 'left clean'; do
     refused 2 "^timeline: line 2: $line: no line of a record$" --record < <(printf 'now 1\n%s\nnow 2\n' "$line")
 done
@@ -119,10 +161,21 @@ grep -v event=open said | timeline --title one --journal > wanted.svg
 grep -q 'view 1' drawn.svg
 grep -q '1/1' drawn.svg
 same "$(grep -o 'data-kind=.*' drawn.svg)" "$(grep -o 'data-kind=.*' wanted.svg)"
+sed '/^now/h;$d' ran | head -n -3 > cut
+printf 'now 99' >> cut
+timeline --title one --record --id 1 --settings "$TOP/examples/one-node.conf" cut > drawn.svg
+grep -qE 'data-kind="cut" data-point="[0-9]+" data-text=""' drawn.svg
+for kind in view quorate holds up; do
+    grep -q "data-kind=\"$kind\"" drawn.svg
+done
 refused 2 '^timeline: --id 2: no node of ' --record --id 2 --settings "$TOP/examples/one-node.conf" ran
 refused 2 ': settings that say something of votes: draw the journal of the node$' --record --id 1 --settings "$TOP/examples/two-node.conf" ran
 refused 2 '^usage: timeline ' --record --id 1 ran
 refused 2 '^usage: timeline ' --journal --id 1 --settings "$TOP/examples/one-node.conf" said
+
+# each picture as a picture: its letters, its width and its scale
+cat "$TOP"/tests/cluster/journals/take-over/node-? | timeline --journal > nodes.svg
+TOP=$TOP "$python" -S -B "$TOP/tests/parts/timelines.py" "$PWD/nodes.svg"
 
 # it can be called itself, and through a link
 ln -s "$TOP/bin/timeline" link
