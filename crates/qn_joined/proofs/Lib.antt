@@ -24,6 +24,7 @@ mod TripleAsking
 mod TripleEnds
 mod TripleFrames
 mod TripleMoves
+mod TripleStands
 mod TripleSteps
 mod TripleTells
 mod Worlds

@@ -1,16 +1,35 @@
 //! The laws of running nodes on three images that share one outside.
-ghost use Rattle.std.specs.Prelude.{ℕ, Bool, List, Option};
+ghost use Rattle.std.specs.Prelude.{◌≡◌, ℕ, Bool, IsTrue, List, Option, Some, is_some};
+ghost use Rattle.qn_base.specs.declared.calls.Call.{Call};
 ghost use Rattle.qn_base.specs.declared.ids.Rank.{Rank};
+ghost use Rattle.qn_base.specs.Calls.{blank};
+ghost use Rattle.qn_base.specs.Plans.{left, question};
 ghost use Rattle.qn_model.specs.declared.configuration.Settings.{Settings};
 ghost use Rattle.qn_model.specs.declared.disk.Message.{Message};
 ghost use Rattle.qn_model.specs.declared.times.Timing.{Timing};
+ghost use Rattle.qn_live.specs.TripleRuns.{triple_plan};
+ghost use Rattle.qn_joined.specs.Joints.{waits_for};
 ghost use Rattle.qn_joined.specs.TripleJoints as joints;
+ghost use Rattle.qn_joined.specs.TripleJoints.{TripleHost, began_triple, plan_left, returned_triple};
 ghost use Rattle.qn_joined.specs.TripleNodes.{KeepsAWorld};
 ghost use Rattle.qn_joined.specs.TripleWorldOf.{CallsAnswer};
 
 use crate::laws::{law_mails_read_back, law_takes_alike};
 use qn_live::{law_triple_answers, law_triple_check, law_triple_writes};
 use qn_safety::law_triple_nodes;
+
+/// Law: a process of a joined run on three images makes the calls of the run of its node on three images: it begins with what
+/// is left of that run where its host stands, and after each call of a run that is not over what is left is what is left where its
+/// host stands then.
+pub fn law_triple_stands()
+    ensures begins { (s : Settings) (me : ℕ) (clean : Bool) (leave : Option ℕ) (turns time : ℕ)
+        → triple_plan s me clean leave turns
+        ≡ plan_left s me (began_triple s me clean leave turns time) }
+    ensures goes_on { (s : Settings) (me : ℕ) (host : TripleHost) (made : Call) (time : ℕ)
+        → IsTrue (is_some (waits_for s me host.one))
+        → question host.call ≡ Some (blank made)
+        → left (plan_left s me host) made ≡ plan_left s me (returned_triple s me made time host) }
+{}
 
 /// Law: the calls of a disk operation on three images, whatever each of them answers, end with the answer that the world of
 /// three images gives, and leave the good images that it leaves.
