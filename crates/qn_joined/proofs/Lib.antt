@@ -21,10 +21,13 @@ mod Standing
 mod Stands
 mod Taking
 mod TripleAsking
+mod TripleClosing
 mod TripleEnds
 mod TripleFrames
 mod TripleMoves
+mod TripleReturns
 mod TripleStands
 mod TripleSteps
 mod TripleTells
+mod TripleTold
 mod Worlds

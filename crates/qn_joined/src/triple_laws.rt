@@ -8,7 +8,7 @@ ghost use Rattle.qn_model.specs.declared.configuration.Settings.{Settings};
 ghost use Rattle.qn_model.specs.declared.disk.Message.{Message};
 ghost use Rattle.qn_model.specs.declared.times.Timing.{Timing};
 ghost use Rattle.qn_live.specs.TripleRuns.{triple_plan};
-ghost use Rattle.qn_joined.specs.Joints.{waits_for};
+ghost use Rattle.qn_joined.specs.Joints.{is_disk, waits_for};
 ghost use Rattle.qn_joined.specs.TripleJoints as joints;
 ghost use Rattle.qn_joined.specs.TripleJoints.{TripleHost, began_triple, plan_left, returned_triple};
 ghost use Rattle.qn_joined.specs.TripleNodes.{KeepsAWorld};
@@ -84,4 +84,13 @@ pub fn law_triple_operates()
     ensures { (s : Settings) (t : Timing) (rank image : ℕ) (sent : Message) → KeepsAWorld s t (joints.Operates rank image sent) }
 {
     law_mails_read_back();
+}
+
+/// Law: the same after a disk call on an image returned: where it failed its part fails in the world, and once all images told
+/// those that were not asked fail too, and the node takes the answer that the world gives.
+pub fn law_triple_tells()
+    ensures { (s : Settings) (t : Timing) (rank : ℕ) (made : Call) → IsTrue (is_disk made) → KeepsAWorld s t (joints.Returns rank made) }
+{
+    law_triple_nodes();
+    law_triple_calls();
 }
