@@ -25,6 +25,7 @@ mod TripleClosing
 mod TripleEnds
 mod TripleFrames
 mod TripleMoves
+mod TriplePlain
 mod TripleReturns
 mod TripleStands
 mod TripleSteps

@@ -11,10 +11,10 @@ ghost use Rattle.qn_live.specs.TripleRuns.{triple_plan};
 ghost use Rattle.qn_joined.specs.Joints.{is_disk, waits_for};
 ghost use Rattle.qn_joined.specs.TripleJoints as joints;
 ghost use Rattle.qn_joined.specs.TripleJoints.{TripleHost, began_triple, plan_left, returned_triple};
-ghost use Rattle.qn_joined.specs.TripleNodes.{KeepsAWorld};
+ghost use Rattle.qn_joined.specs.TripleNodes.{KeepsAWorld, ReturnsPlainly};
 ghost use Rattle.qn_joined.specs.TripleWorldOf.{CallsAnswer};
 
-use crate::laws::{law_mails_read_back, law_takes_alike};
+use crate::laws::{law_mails_read_back, law_packets_read_back, law_takes_alike};
 use qn_live::{law_triple_answers, law_triple_check, law_triple_writes};
 use qn_safety::law_triple_nodes;
 
@@ -93,4 +93,13 @@ pub fn law_triple_tells()
 {
     law_triple_nodes();
     law_triple_calls();
+}
+
+/// Law: the same after a call returned that is none of the disk and no look at the clock.
+pub fn law_triple_returns()
+    ensures { (s : Settings) (t : Timing) (rank : ℕ) (made : Call) → ReturnsPlainly s t rank made }
+{
+    law_triple_nodes();
+    law_triple_calls();
+    law_packets_read_back();
 }
