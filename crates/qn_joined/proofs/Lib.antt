@@ -21,9 +21,14 @@ mod Standing
 mod Stands
 mod Taking
 mod TripleAsking
+mod TripleClosing
 mod TripleEnds
 mod TripleFrames
 mod TripleMoves
+mod TriplePlain
+mod TripleReturns
+mod TripleStands
 mod TripleSteps
 mod TripleTells
+mod TripleTold
 mod Worlds

@@ -58,7 +58,7 @@ part_left s t rank number op (Some bytes) part {calls} {ops} small fits here amo
 module _ {s : Settings} {t : Timing} {rank : ℕ} {host : TripleHost} {w : TripleWorld} (is : IsNodeIn3 s t rank host w) (on : host.one.on ≡ true) (calls : CallsAnswer s t) (fits : FitsImage s t) (below : rank < length s.nodes)
     (known : IsTripleNode s rank w) where
   -- a host that asks for no operation gives nothing up
-  gives_nothing : option_map_or is_disk (question host.call) false ≡ false → (image : ℕ) → AreAmong s rank (gives_up s rank host image) (w.left rank image)
+  pub gives_nothing : option_map_or is_disk (question host.call) false ≡ false → (image : ℕ) → AreAmong s rank (gives_up s rank host image) (w.left rank image)
   gives_nothing plain image = by_image (image_waited host == image) refl
     where
       by_image : (b : Bool) → (image_waited host == image) ≡ b → AreAmong s rank (if b then host.left (image_waited host) ++ given_up_now s rank host else host.left image) (w.left rank image)

@@ -25,7 +25,9 @@ use Rattle.qn_safety.specs.TripleWorld.{TripleWorld, answer_of, good_after, imag
 use Rattle.qn_live.specs.Performing.{disk_call, done}
 use Rattle.qn_live.specs.TripleDisk.{Told, part_of}
 use Rattle.qn_live.specs.TripleRuns.{all_good}
-use Rattle.qn_joined.specs.Joints.{FitsImage, counts, waits_for}
+use Rattle.qn_joined.specs.Joints.{FitsImage, counts, is_disk, waits_for}
+use Rattle.qn_joined.specs.Nodes.{is_looking}
+use Rattle.qn_joined.specs.TripleJoints as joints
 use Rattle.qn_joined.specs.TripleJoints.{MayHappenTriple, TripleHappening, TripleHost, TripleJoint, call_on_three, happens_triple}
 use Rattle.qn_joined.specs.TripleWorldOf.{IsHeld, IsHonest, IsLeft, ToldBy, image_before, none_told, on_image, told_also}
 use Rattle.qn_joined.specs.WorldOf.{AreAmong, IsImage, IsNode, WasSentTo, disk_ahead}
@@ -132,3 +134,14 @@ KeepsAWorld s t happening =
     → HasTripleWorld s t j
     → MayHappenTriple s t happening j
     → HasTripleWorld s t (happens_triple s happening j)
+
+-- the same after a call returned that is none of the disk, of a host that does not look at its clock
+abbrev pub ReturnsPlainly : Settings → Timing → ℕ → Call → Type 0
+ReturnsPlainly s t rank made =
+    (j : TripleJoint)
+    → FitsImage s t
+    → HasTripleWorld s t j
+    → MayHappenTriple s t (joints.Returns rank made) j
+    → is_disk made ≡ false
+    → is_looking (j.hosts rank).one.stand.spot ≡ false
+    → HasTripleWorld s t (happens_triple s (joints.Returns rank made) j)

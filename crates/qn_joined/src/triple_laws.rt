@@ -1,16 +1,35 @@
 //! The laws of running nodes on three images that share one outside.
-ghost use Rattle.std.specs.Prelude.{ℕ, Bool, List, Option};
+ghost use Rattle.std.specs.Prelude.{◌≡◌, ℕ, Bool, IsTrue, List, Option, Some, is_some};
+ghost use Rattle.qn_base.specs.declared.calls.Call.{Call};
 ghost use Rattle.qn_base.specs.declared.ids.Rank.{Rank};
+ghost use Rattle.qn_base.specs.Calls.{blank};
+ghost use Rattle.qn_base.specs.Plans.{left, question};
 ghost use Rattle.qn_model.specs.declared.configuration.Settings.{Settings};
 ghost use Rattle.qn_model.specs.declared.disk.Message.{Message};
 ghost use Rattle.qn_model.specs.declared.times.Timing.{Timing};
+ghost use Rattle.qn_live.specs.TripleRuns.{triple_plan};
+ghost use Rattle.qn_joined.specs.Joints.{is_disk, waits_for};
 ghost use Rattle.qn_joined.specs.TripleJoints as joints;
-ghost use Rattle.qn_joined.specs.TripleNodes.{KeepsAWorld};
+ghost use Rattle.qn_joined.specs.TripleJoints.{TripleHost, began_triple, plan_left, returned_triple};
+ghost use Rattle.qn_joined.specs.TripleNodes.{KeepsAWorld, ReturnsPlainly};
 ghost use Rattle.qn_joined.specs.TripleWorldOf.{CallsAnswer};
 
-use crate::laws::{law_mails_read_back, law_takes_alike};
+use crate::laws::{law_mails_read_back, law_packets_read_back, law_takes_alike};
 use qn_live::{law_triple_answers, law_triple_check, law_triple_writes};
 use qn_safety::law_triple_nodes;
+
+/// Law: a process of a joined run on three images makes the calls of the run of its node on three images: it begins with what
+/// is left of that run where its host stands, and after each call of a run that is not over what is left is what is left where its
+/// host stands then.
+pub fn law_triple_stands()
+    ensures begins { (s : Settings) (me : ℕ) (clean : Bool) (leave : Option ℕ) (turns time : ℕ)
+        → triple_plan s me clean leave turns
+        ≡ plan_left s me (began_triple s me clean leave turns time) }
+    ensures goes_on { (s : Settings) (me : ℕ) (host : TripleHost) (made : Call) (time : ℕ)
+        → IsTrue (is_some (waits_for s me host.one))
+        → question host.call ≡ Some (blank made)
+        → left (plan_left s me host) made ≡ plan_left s me (returned_triple s me made time host) }
+{}
 
 /// Law: the calls of a disk operation on three images, whatever each of them answers, end with the answer that the world of
 /// three images gives, and leave the good images that it leaves.
@@ -65,4 +84,22 @@ pub fn law_triple_operates()
     ensures { (s : Settings) (t : Timing) (rank image : ℕ) (sent : Message) → KeepsAWorld s t (joints.Operates rank image sent) }
 {
     law_mails_read_back();
+}
+
+/// Law: the same after a disk call on an image returned: where it failed its part fails in the world, and once all images told
+/// those that were not asked fail too, and the node takes the answer that the world gives.
+pub fn law_triple_tells()
+    ensures { (s : Settings) (t : Timing) (rank : ℕ) (made : Call) → IsTrue (is_disk made) → KeepsAWorld s t (joints.Returns rank made) }
+{
+    law_triple_nodes();
+    law_triple_calls();
+}
+
+/// Law: the same after a call returned that is none of the disk and no look at the clock.
+pub fn law_triple_returns()
+    ensures { (s : Settings) (t : Timing) (rank : ℕ) (made : Call) → ReturnsPlainly s t rank made }
+{
+    law_triple_nodes();
+    law_triple_calls();
+    law_packets_read_back();
 }

@@ -1,0 +1,6 @@
+use Rattle.qn_joined.proofs.TriplePlain.{returns_on_three}
+use Rattle.qn_joined.proofs.triple_laws.law_triple_returns.Goals as goal
+
+pub returns : goal.returns
+returns c = λ s t rank made.
+    returns_on_three s t (c.law_triple_nodes.ensures s t) (c.law_triple_calls.ensures s t) c.law_packets_read_back.ensures rank made
