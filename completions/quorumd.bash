@@ -96,7 +96,8 @@ _quorumd_takes() {
         options=(--story/none/--story)
         ;;
     soak-nodes)
-        operands=(none none)
+        operands=(none none none none none none none none)
+        options=(--written/folder/--written)
         ;;
     esac
 }

@@ -70,7 +70,8 @@ function __quorumd_takes
             set -g __quorumd_operands none none
             set -g __quorumd_options --story/none/--story/SEED
         case soak-nodes
-            set -g __quorumd_operands none none
+            set -g __quorumd_operands none none none none none none none none
+            set -g __quorumd_options --written/folder/--written/FOLDER
     end
 end
 

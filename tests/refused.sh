@@ -39,7 +39,7 @@ wrong() {
 # refused FILE WORD..: the program with these words, which reads FILE, is refused one allocation after the other, until it has
 # them all. Where $needs_none is yes it may be that none is refused. The file `whole` has then what it writes, and `places` gets how many lines stand before the fault line of each other run.
 refused() {
-    local begun=no
+    local begun=no stack=0
     input=$1
     shift
     before_each
@@ -55,6 +55,11 @@ refused() {
             cmp -s -n "$(stat -c %s before)" before whole || wrong "$@"
             wc -l < before >> places
             after_refusal
+            ;;
+        # the system had an allocation's page, and none for the stack to grow by: it ends the program by a signal, at a few limits in a row
+        139*)
+            stack=$((stack + 1))
+            [ "$stack" -le 8 ] || wrong "$@"
             ;;
         # the system could not load the program
         *) [ "$begun" = no ] || wrong "$@" ;;
