@@ -198,7 +198,7 @@ for folder in folders("incidents"):
 for folder in folders("arbiter"):
     picture, _, events, trace = try_picture(folder)
     try_votes(folder.name, picture, events, trace)
-for path in "examples/try.svg", "examples/three-images/an-image-is-lost/timeline.svg", "examples/live/journal.svg", "tests/machines/take-over.svg", *sys.argv[1:]:
+for path in "examples/try.svg", "examples/three-images/an-image-is-lost/timeline.svg", "examples/live/journal.svg", "docs/take-over.svg", *sys.argv[1:]:
     picture = Picture(TOP / path)
     try_texts(path, picture)
     try_width(path, picture)
