@@ -1,5 +1,6 @@
 """`quorumctl status` over files that are no status files: each is a line and keeps the cluster from being healthy, and what stands in a
 file never reaches a terminal as it is. `--image` beside them, and `--watch`."""
+import functools
 import json
 import os
 import pathlib
@@ -127,7 +128,10 @@ def try_image():
 def try_watch():
     """`--watch` erases and writes again, sees a file that changed, and ends at an interrupt without a word."""
     path, = written([holder(1, ids=(1,), votes=1, quorum=1)])
-    with subprocess.Popen([QUORUMCTL, "status", "--watch", path], stdout=subprocess.PIPE, stderr=subprocess.PIPE) as watch:
+    # a shell has what it starts in the background ignore an interrupt
+    heeds = functools.partial(signal.signal, signal.SIGINT, signal.SIG_DFL)
+    words = [QUORUMCTL, "status", "--watch", path]
+    with subprocess.Popen(words, stdout=subprocess.PIPE, stderr=subprocess.PIPE, preexec_fn=heeds) as watch:
         got = b""
         while got.count(b"\x1b[H\x1b[J") < 2:
             got += watch.stdout.read1()
