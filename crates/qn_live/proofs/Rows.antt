@@ -14,6 +14,8 @@ use Rattle.qn_model.specs.declared.entries.What.{What}
 use Rattle.qn_model.specs.declared.entries.What.TheVariants as what
 use Rattle.qn_model.specs.declared.outputs.BootCause.TheVariants as cause
 use Rattle.qn_model.specs.Log.{op_out, ask_place, ask_tick, begins_clean, claimed, slot_number, timing}
+use Rattle.qn_model.specs.lemmas.TwoNodes.{one_node}
+use Rattle.qn_model.specs.Timing.{usual_times}
 use Rattle.qn_model.specs.NodeVotes.{view, install, votes}
 use Rattle.qn_model.specs.Votes.{answer_at, present_view, view_tick, is_released, expected_votes, device_yes}
 use Rattle.qn_model.specs.Phases.{phase}
@@ -32,24 +34,6 @@ use Rattle.qn_live.specs.Choosing.{choice_plan}
 use Rattle.qn_live.specs.Greetings.{sends_plan}
 use Rattle.qn_live.specs.Performing.{disk_call, done, out_call, outs_plan, waits_after}
 use Rattle.qn_live.specs.Runs.{clocked, greeted, handled, live_plan, parted, run_plan, settled, turns_end}
-
--- one node of one vote, with id 1
-abbrev one_node : Settings
-one_node =
-    record {
-      nodes = record { id = record { 0 = 1 }; votes = 1; fence_delay = 0 } ∷ [];
-      two_node = false;
-      wait_for_all = false;
-      last_man_standing = false;
-      window = 10000;
-      device = None;
-      expected = 1;
-      tie = None;
-    }
-
--- watchdog 5000, msgwait 10000, loop 1000, read limit 2000, feed delay 1000
-abbrev usual : Timing
-usual = record { watchdog = 5000; msgwait = 10000; loop_ms = 1000; read_limit = 2000; feed_delay = 1000 }
 
 abbrev at : ℕ → What → Entry
 at tick entry = record { tick = tick; what = entry }
@@ -75,7 +59,7 @@ clock_goes_back = (refl, (refl, (refl, (refl, refl))))
 abbrev seven_entries : List Entry
 seven_entries =
     at 0 what.Begin
-    ∷ at 10 (what.Header (header.Read 1 usual))
+    ∷ at 10 (what.Header (header.Read 1 usual_times))
     ∷ at 20 (what.SlotRead (record { 0 = 0 }) (slot.Read (record { incarnation = 0; clean = true })))
     ∷ at 30 (what.Claimed true)
     ∷ at 40 (what.Cleared true)
@@ -85,7 +69,7 @@ seven_entries =
 
 -- seven turns of one node: it boots, installs its first view at the first turn that receives, and starts the resource
 starts_in_seven_turns : Follows (live_plan one_node 0 false None 7)
-    (call.Now 0 ∷ call.Read 0 (header_bytes 1 usual) true
+    (call.Now 0 ∷ call.Read 0 (header_bytes 1 usual_times) true
     ∷ call.Now 10 ∷ call.Feed true ∷ call.Read 1 (slot_bytes 1 (record { incarnation = 0; clean = true })) true
     ∷ call.Now 20 ∷ call.Feed true ∷ call.Write 1 (slot_bytes 1 (record { incarnation = 1; clean = false })) true
     ∷ call.Now 30 ∷ call.Feed true ∷ call.Write 512 (mail_bytes (anonymous message.Empty)) true

@@ -16,8 +16,9 @@ use Rattle.qn_model.specs.declared.life.Why.TheVariants as why
 use Rattle.qn_model.specs.declared.events.Event.{Event}
 use Rattle.qn_model.specs.declared.events.Event.TheVariants as event
 use Rattle.qn_model.specs.declared.reports.Report.{Report}
+use Rattle.qn_model.specs.Timing.{usual_times}
 use Rattle.qn_model.specs.lemmas.WorldSteps.{world_steps}
-use Rattle.qn_model.specs.lemmas.TwoNodes.{two_nodes}
+use Rattle.qn_model.specs.lemmas.TwoNodes.{first, one_node, second, two_nodes}
 use Rattle.qn_model.specs.NodeVotes.{votes}
 use Rattle.qn_model.specs.Phases.{phase}
 use Rattle.qn_model.specs.NodeOutputs.{outs_at, with_entry}
@@ -25,30 +26,6 @@ use Rattle.qn_model.specs.Moments.{logged, handed, booted, time, node}
 use Rattle.qn_model.specs.World.{World, first_world}
 use Rattle.qn_model.specs.Rules.{is_well_formed, refusal}
 use Rattle.qn_model.specs.Steps.{step, run_from, report}
-
--- watchdog 5000, msgwait 10000, loop 1000, read limit 2000, feed delay 1000
-abbrev usual : Timing
-usual = record { watchdog = 5000; msgwait = 10000; loop_ms = 1000; read_limit = 2000; feed_delay = 1000 }
-
--- one node of one vote, with id 1
-abbrev one_node : Settings
-one_node =
-    record {
-      nodes = record { id = record { 0 = 1 }; votes = 1; fence_delay = 0 } ∷ [];
-      two_node = false;
-      wait_for_all = false;
-      last_man_standing = false;
-      window = 10000;
-      device = None;
-      expected = 1;
-      tie = None;
-    }
-
-abbrev first : Rank
-first = record { 0 = 0 }
-
-abbrev second : Rank
-second = record { 0 = 1 }
 
 abbrev sees : ℕ → ℕ → View
 sees id members = record { id = id; members = record { 0 = members } }
@@ -65,10 +42,10 @@ boot_of rank =
 abbrev all_allowed : Settings → World → List Event → Bool
 all_allowed s w [] = true
 all_allowed s w (event ∷ later) =
-    is_well_formed s event && is_none (refusal s usual event w) && all_allowed s (step s usual event w) later
+    is_well_formed s event && is_none (refusal s usual_times event w) && all_allowed s (step s usual_times event w) later
 
 abbrev world_after : Settings → List Event → World
-world_after s events = run_from s usual first_world events
+world_after s events = run_from s usual_times first_world events
 
 -- what a last event reports, after others
 abbrev reported : Settings → List Event → Event → Report
@@ -169,11 +146,11 @@ reset_is_erased = refl
 abbrev booting : World
 booting = world_after one_node (event.Boot first 0 ∷ [])
 
-watchdog_holds : refusal one_node usual (event.Pass 5050 []) booting ≡ None
+watchdog_holds : refusal one_node usual_times (event.Pass 5050 []) booting ≡ None
 unfolding phase outs_at with_entry logged handed booted time node refusal step run_from
 watchdog_holds = refl
 
-watchdog_ends : refusal one_node usual (event.Pass 5051 []) booting ≡ Some 1
+watchdog_ends : refusal one_node usual_times (event.Pass 5051 []) booting ≡ Some 1
 unfolding phase outs_at with_entry logged handed booted time node refusal step run_from
 watchdog_ends = refl
 
@@ -181,29 +158,29 @@ watchdog_ends = refl
 abbrev clock_advances : ℕ → Event
 clock_advances advance = event.Pass 1 ((first, advance) ∷ [])
 
-clock_too_slow : refusal one_node usual (clock_advances 98) booting ≡ Some 1
+clock_too_slow : refusal one_node usual_times (clock_advances 98) booting ≡ Some 1
 unfolding phase outs_at with_entry logged handed booted time node refusal step run_from
 clock_too_slow = refl
 
-clock_slow : refusal one_node usual (clock_advances 99) booting ≡ None
+clock_slow : refusal one_node usual_times (clock_advances 99) booting ≡ None
 unfolding phase outs_at with_entry logged handed booted time node refusal step run_from
 clock_slow = refl
 
-clock_fast : refusal one_node usual (clock_advances 101) booting ≡ None
+clock_fast : refusal one_node usual_times (clock_advances 101) booting ≡ None
 unfolding phase outs_at with_entry logged handed booted time node refusal step run_from
 clock_fast = refl
 
-clock_too_fast : refusal one_node usual (clock_advances 102) booting ≡ Some 1
+clock_too_fast : refusal one_node usual_times (clock_advances 102) booting ≡ Some 1
 unfolding phase outs_at with_entry logged handed booted time node refusal step run_from
 clock_too_fast = refl
 
 -- a clock is named only of a node that is running
-clock_of_none : refusal one_node usual (clock_advances 100) first_world ≡ Some 1
+clock_of_none : refusal one_node usual_times (clock_advances 100) first_world ≡ Some 1
 unfolding time node refusal
 clock_of_none = refl
 
 -- a node that never booted does not crash
-no_crash : refusal one_node usual (event.Crash first) first_world ≡ Some 3
+no_crash : refusal one_node usual_times (event.Crash first) first_world ≡ Some 3
 unfolding node refusal
 no_crash = refl
 
@@ -296,7 +273,7 @@ exit_disarms = refl
 abbrev told_to_stop : List Event
 told_to_stop = holding ++ event.Operator first message.Off ∷ []
 
-not_taken_back : refusal one_node usual (event.Operator first message.Empty) (world_after one_node told_to_stop)
+not_taken_back : refusal one_node usual_times (event.Operator first message.Empty) (world_after one_node told_to_stop)
     ≡ Some 10
 unfolding world_steps run_from report
 not_taken_back = refl
@@ -348,7 +325,7 @@ unfolding world_steps run_from report
 clean_start_goes_on = refl
 
 -- a check is no write, so a crash leaves none over
-check_is_not_left_over : refusal one_node usual (event.Late first 1)
+check_is_not_left_over : refusal one_node usual_times (event.Late first 1)
     (world_after one_node (clean_start ++ done_at_once first ++ event.Crash first ∷ [])) ≡ Some 6
 unfolding world_steps run_from report
 check_is_not_left_over = refl

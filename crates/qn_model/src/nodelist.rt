@@ -1,4 +1,6 @@
 //! The configured nodes in ascending id, each with its votes.
+ghost use Rattle.std.specs.Prelude.{◌≡◌, ◌<◌, ◌==◌, length, position, IfSome};
+
 use arrayvec::ArrayVec;
 use qn_base::{Mask, NodeId, Rank};
 use std::marker::Model;
@@ -31,7 +33,24 @@ impl Model for Nodes {
 }
 
 impl Nodes {
-    ghost use Rattle.std.specs.Prelude.{◌≡◌, ◌<◌, ◌≤◌, ◌==◌, ◌*◌, [], ◌∷◌, ◌++◌, Some, length, slice_get, slice_index};
+    ghost use Rattle.std.specs.Prelude.{
+      ◌≡◌,
+      ◌<◌,
+      ◌≤◌,
+      ◌==◌,
+      ◌*◌,
+      [],
+      ◌∷◌,
+      ◌++◌,
+      Some,
+      None,
+      IfSome,
+      IfNone,
+      length,
+      position,
+      slice_get,
+      slice_index,
+    };
     ghost use Rattle.qn_model.specs.Settings.{ids};
     ghost use Rattle.qn_model.specs.Unmet.{id_from};
     ghost use Rattle.qn_model.specs.Votes.{are_all_in, votes_among};
@@ -88,6 +107,17 @@ impl Nodes {
         } else {
             NodeId(0)
         }
+    }
+
+    /// The rank of the node with this number as its id.
+    pub fn rank_of(&self, id: u64) -> Option<Rank>
+        ensures named { IfSome result
+            (λ rank. position (λ node. node.id.0 == id) self.now ≡ Some rank.0) }
+        ensures unnamed { IfNone result (position (λ node. node.id.0 == id) self.now ≡ None) }
+        ensures within { IfSome result (λ rank. (rank.0 < length self.now) × (rank.0 < 32)) }
+    {
+        let place = place_in(self.as_slice(), id)?;
+        Some(Rank(place as u8))
     }
 
     /// Adds a node after the others.
@@ -147,4 +177,11 @@ impl Nodes {
         }
         true
     }
+}
+
+fn place_in(nodes: &[NodeEntry], id: u64) -> Option<usize>
+    ensures value { result ≡ position (λ node. node.id.0 == id) nodes.now }
+    ensures within { IfSome result (λ place. place < length nodes.now) }
+{
+    nodes.iter().position(|node| u64::from(node.id.0) == id)
 }

@@ -13,19 +13,13 @@ use Rattle.qn_model.specs.declared.seen.MailSeen.TheVariants as mail
 use Rattle.qn_model.specs.declared.seen.SlotSeen.TheVariants as slot
 use Rattle.qn_model.specs.declared.seen.HeaderSeen.TheVariants as header
 use Rattle.qn_model.specs.lemmas.WorldSteps.{world_steps}
-use Rattle.qn_model.specs.lemmas.TwoNodes.{two_nodes, two_nodes_valid}
+use Rattle.qn_model.specs.lemmas.TwoNodes.{first, second, two_nodes, two_nodes_valid}
 use Rattle.qn_model.specs.Moments.{Moment, Passes, Boots, Adds, Feeds, Ends, tick_of, time, node, is_holder}
 use Rattle.qn_model.specs.Steps.{run, AllAllowed}
 use Rattle.qn_progress.specs.Pace.{Pace, total, outside, take_over_ticks}
 use Rattle.qn_progress.specs.Quiet.{IsQuiet, QuietSince, FromHere, AndThen, DelaysOver, HasHeardAll, HasTakenTime, StaysQuiet}
 use Rattle.qn_progress.proofs.Over.{start_of}
 use Rattle.qn_progress.specs.Premises.{TakesOver}
-
-abbrev first : Rank
-first = record { 0 = 0 }
-
-abbrev second : Rank
-second = record { 0 = 1 }
 
 abbrev sees : ℕ → View
 sees members = record { id = 1; members = record { 0 = members } }

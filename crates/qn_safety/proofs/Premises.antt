@@ -10,19 +10,13 @@ use Rattle.qn_model.specs.declared.events.Event.TheVariants as event
 use Rattle.qn_model.specs.declared.times.Timing.{Timing}
 use Rattle.qn_model.specs.lemmas.Rules.{allowed_in_turn}
 use Rattle.qn_model.specs.lemmas.WorldSteps.{world_steps}
-use Rattle.qn_model.specs.lemmas.TwoNodes.{two_nodes, two_nodes_valid}
+use Rattle.qn_model.specs.lemmas.TwoNodes.{first, second, two_nodes, two_nodes_valid}
 use Rattle.qn_model.specs.Timing.{usual_times}
 use Rattle.qn_model.specs.Moments.{is_holder}
 use Rattle.qn_model.specs.Rules.{is_well_formed, refusal}
 use Rattle.qn_model.specs.Steps.{run, AllAllowed}
 use Rattle.qn_safety.specs.Earlier.{before_joined}
 use Rattle.qn_safety.specs.Premises.{OneAfterAnother}
-
-abbrev first : Rank
-first = record { 0 = 0 }
-
-abbrev second : Rank
-second = record { 0 = 1 }
 
 abbrev sees : ℕ → View
 sees members = record { id = 1; members = record { 0 = members } }

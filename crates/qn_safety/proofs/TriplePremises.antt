@@ -10,7 +10,7 @@ use Rattle.qn_model.specs.declared.times.Timing.{Timing}
 use Rattle.qn_model.specs.declared.events.Event.TheVariants as event
 use Rattle.qn_model.specs.lemmas.Rules.{allowed_in_turn}
 use Rattle.qn_model.specs.lemmas.WorldSteps.{world_steps}
-use Rattle.qn_model.specs.lemmas.TwoNodes.{two_nodes, two_nodes_valid}
+use Rattle.qn_model.specs.lemmas.TwoNodes.{first, second, two_nodes, two_nodes_valid}
 use Rattle.qn_model.specs.Timing.{usual_times}
 use Rattle.qn_model.specs.Moments.{is_holder}
 use Rattle.qn_safety.specs.declared.triple_event.TripleEvent.{TripleEvent}
@@ -20,12 +20,6 @@ use Rattle.qn_safety.specs.TripleRules.{is_well_formed_triple, refusal_triple}
 use Rattle.qn_safety.specs.TripleSteps.{step_triple, run_triple, AllAllowedTriple}
 use Rattle.qn_safety.specs.Earlier.{before_joined}
 use Rattle.qn_safety.specs.TriplePremises.{OneAfterAnotherOnTwo}
-
-abbrev first : Rank
-first = record { 0 = 0 }
-
-abbrev second : Rank
-second = record { 0 = 1 }
 
 abbrev sees : ℕ → View
 sees members = record { id = 1; members = record { 0 = members } }

@@ -14,7 +14,7 @@ use Rattle.qn_model.specs.declared.life.Why.TheVariants as why
 use Rattle.qn_model.specs.declared.events.Event.TheVariants as event
 use Rattle.qn_model.specs.declared.reports.Report.{Report}
 use Rattle.qn_model.specs.lemmas.WorldSteps.{world_steps}
-use Rattle.qn_model.specs.lemmas.TwoNodes.{two_nodes}
+use Rattle.qn_model.specs.lemmas.TwoNodes.{first, one_node, second, two_nodes}
 use Rattle.qn_model.specs.NodeVotes.{votes}
 use Rattle.qn_model.specs.Timing.{usual_times}
 use Rattle.qn_model.specs.Steps.{report}
@@ -23,26 +23,6 @@ use Rattle.qn_safety.specs.declared.triple_event.TripleEvent.TheVariants as trip
 use Rattle.qn_safety.specs.TripleWorld.{TripleWorld, first_triple, answer_of}
 use Rattle.qn_safety.specs.TripleRules.{is_well_formed_triple, refusal_triple}
 use Rattle.qn_safety.specs.TripleSteps.{step_triple, report_triple}
-
--- one node of one vote, with id 1
-abbrev one_node : Settings
-one_node =
-    record {
-      nodes = record { id = record { 0 = 1 }; votes = 1; fence_delay = 0 } ∷ [];
-      two_node = false;
-      wait_for_all = false;
-      last_man_standing = false;
-      window = 10000;
-      device = None;
-      expected = 1;
-      tie = None;
-    }
-
-abbrev first : Rank
-first = record { 0 = 0 }
-
-abbrev second : Rank
-second = record { 0 = 1 }
 
 abbrev view_of : Rank → ℕ → TripleEvent
 view_of rank members = triple.One (event.View rank (record { id = 1; members = record { 0 = members } }))

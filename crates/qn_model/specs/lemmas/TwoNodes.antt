@@ -1,7 +1,8 @@
--- Two nodes of one vote each, with ids 1 and 2, as worked schedules have them.
+-- One node, or two nodes, of one vote each, with ids 1 and 2, as worked schedules have them.
 use Rattle.std.proofs.Common.{◌≡◌, ◌≤◌, ◌<◌, ◌+◌, ℕ, true, false, List, [], ◌∷◌, None, slice_index, All, refl, sym, subst, arith}
 use Rattle.std.proofs.lemmas.Bool.{false≢true}
 use Rattle.std.proofs.lemmas.List.Elements.{All-nil, All-cons}
+use Rattle.qn_base.specs.declared.ids.Rank.{Rank}
 use Rattle.qn_model.specs.declared.configuration.Settings.{Settings}
 use Rattle.qn_model.specs.declared.nodelist.NodeEntry.{NodeEntry}
 use Rattle.qn_model.specs.Settings.{IsValid, ids}
@@ -11,6 +12,25 @@ first_node = record { id = record { 0 = 1 }; votes = 1; fence_delay = 0 }
 
 abbrev pub second_node : NodeEntry
 second_node = record { id = record { 0 = 2 }; votes = 1; fence_delay = 0 }
+
+abbrev pub first : Rank
+first = record { 0 = 0 }
+
+abbrev pub second : Rank
+second = record { 0 = 1 }
+
+abbrev pub one_node : Settings
+one_node =
+    record {
+      nodes = first_node ∷ [];
+      two_node = false;
+      wait_for_all = false;
+      last_man_standing = false;
+      window = 10000;
+      device = None;
+      expected = 1;
+      tie = None;
+    }
 
 -- with two_node and without wait_for_all
 abbrev pub two_nodes : Settings
