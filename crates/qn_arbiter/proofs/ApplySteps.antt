@@ -1,12 +1,12 @@
 -- The first world, the step of an event that is allowed, and the worlds that events lead to.
 use Rattle.std.proofs.Common.{◌≡◌, ◌-◌, ◌<◌, ◌≤◌, true, [], ◌∷◌, None, refl, sym, ◌∙◌, ap, subst, arith}
-use Rattle.qn_lease.specs.declared.events.ArbiterEvent.{ArbiterEvent}
-use Rattle.qn_lease.specs.declared.lease.Lease.{Lease}
-use Rattle.qn_lease.specs.declared.reports.ArbiterReport.{ArbiterReport}
-use Rattle.qn_lease.specs.ArbiterRules.{is_well_formed_beside, refusal_beside}
-use Rattle.qn_lease.specs.ArbiterSteps.{AllAllowedBeside, run_beside, step_beside}
-use Rattle.qn_lease.specs.ArbiterWorld.{ArbiterWorld, first_arbiter_world}
-use Rattle.qn_lease.specs.Law.{IsQuorateIn, OneLeasedVote}
+use Rattle.qn_safety.specs.declared.arbiter_event.ArbiterEvent.{ArbiterEvent}
+use Rattle.qn_safety.specs.declared.lease.Lease.{Lease}
+use Rattle.qn_safety.specs.declared.arbiter_reports.ArbiterReport.{ArbiterReport}
+use Rattle.qn_safety.specs.ArbiterRules.{is_well_formed_beside, refusal_beside}
+use Rattle.qn_safety.specs.ArbiterSteps.{AllAllowedBeside, run_beside, step_beside}
+use Rattle.qn_safety.specs.ArbiterWorld.{ArbiterWorld, first_arbiter_world}
+use Rattle.qn_safety.specs.ArbiterLaws.{IsQuorateIn, OneLeasedVote}
 use Rattle.qn_model.specs.declared.configuration.Settings.{Settings}
 use Rattle.qn_model.specs.declared.times.Timing.{Timing}
 use Rattle.qn_arbiter.specs.Standing.{ArbiterFor, IsRunTo, KeptFor}

@@ -5,9 +5,9 @@ use Rattle.std.specs.Prelude.{nat_le, slice_get, unwrap_or}
 use Rattle.std.specs.List.{list_all}
 use Rattle.std.specs.Option.{option_map, option_map_or}
 use Rattle.qn_base.specs.lemmas.Bools.{first_of_both, second_of_both}
-use Rattle.qn_lease.specs.ArbiterRules.{pass_of}
-use Rattle.qn_lease.specs.ArbiterSteps.{advanced_arbiter}
-use Rattle.qn_lease.specs.ArbiterWorld.{Arbiter}
+use Rattle.qn_safety.specs.ArbiterRules.{pass_of}
+use Rattle.qn_safety.specs.ArbiterSteps.{advanced_arbiter}
+use Rattle.qn_safety.specs.ArbiterWorld.{Arbiter}
 use Rattle.qn_model.specs.declared.configuration.Settings.{Settings}
 use Rattle.qn_model.specs.declared.events.Event.{Event}
 use Rattle.qn_model.specs.declared.events.Event.TheVariants as event

@@ -20,9 +20,9 @@ use Rattle.qn_model.specs.lemmas.Lines.{bind_ok, same_ok}
 use Rattle.qn_model.specs.Lines.{◌>>=◌, number_between, words_of}
 use Rattle.qn_model.specs.Rules.{is_configured, is_well_formed}
 use Rattle.qn_model.specs.Settings.{IsValid, ids}
-use Rattle.qn_lease.specs.declared.events.ArbiterEvent.{ArbiterEvent}
-use Rattle.qn_lease.specs.declared.events.ArbiterEvent.TheVariants as beside
-use Rattle.qn_lease.specs.ArbiterRules.{is_well_formed_beside}
+use Rattle.qn_safety.specs.declared.arbiter_event.ArbiterEvent.{ArbiterEvent}
+use Rattle.qn_safety.specs.declared.arbiter_event.ArbiterEvent.TheVariants as beside
+use Rattle.qn_safety.specs.ArbiterRules.{is_well_formed_beside}
 use Rattle.qn_sched.specs.EventLines.{clock_word, event_line, id_word}
 use Rattle.qn_sched.specs.EventNames.{event_name}
 use Rattle.qn_sched.specs.EventReading.{clocks_of, event_named, event_of, event_of_words, node_event_of, pass_of, rank_of}

@@ -6,13 +6,13 @@ use Rattle.std.specs.Option.{option_map, option_map_or, option_or}
 use Rattle.qn_base.specs.declared.ids.Rank.{Rank}
 use Rattle.qn_base.specs.declared.limits.TheConstants.{LATEST_TIME}
 use Rattle.qn_base.specs.lemmas.Bools.{first_of_both, second_of_both}
-use Rattle.qn_lease.specs.declared.events.ArbiterEvent.TheVariants as beside
-use Rattle.qn_lease.specs.declared.lease.Lease.{Lease}
-use Rattle.qn_lease.specs.declared.polls.Reply.{Reply}
-use Rattle.qn_lease.specs.ArbiterRules.{is_well_formed_beside, may_pass_with, may_reply, pass_of}
-use Rattle.qn_lease.specs.ArbiterSteps.{advanced_arbiter, device_event, played, pollers_with, reply_event, said_at}
-use Rattle.qn_lease.specs.ArbiterWorld.{Arbiter, ArbiterWorld, reply_at}
-use Rattle.qn_lease.specs.Poller.{Poller, answer_taken, fresh_poller, without_last}
+use Rattle.qn_safety.specs.declared.arbiter_event.ArbiterEvent.TheVariants as beside
+use Rattle.qn_safety.specs.declared.lease.Lease.{Lease}
+use Rattle.qn_safety.specs.declared.polls.Reply.{Reply}
+use Rattle.qn_safety.specs.ArbiterRules.{is_well_formed_beside, may_pass_with, may_reply, pass_of}
+use Rattle.qn_safety.specs.ArbiterSteps.{advanced_arbiter, device_event, played, pollers_with, reply_event, said_at}
+use Rattle.qn_safety.specs.ArbiterWorld.{Arbiter, ArbiterWorld, reply_at}
+use Rattle.qn_safety.specs.Poller.{Poller, answer_taken, fresh_poller, without_last}
 use Rattle.qn_model.specs.declared.configuration.Settings.{Settings}
 use Rattle.qn_model.specs.declared.events.Event.{Event}
 use Rattle.qn_model.specs.declared.events.Event.TheVariants as event

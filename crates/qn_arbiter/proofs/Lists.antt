@@ -4,7 +4,7 @@ use Rattle.std.specs.Prelude.{replicate, slice_get, slice_set}
 use Rattle.std.proofs.lemmas.Option.{slice_get_within}
 use Rattle.qn_arbiter.specs.declared.poller.Poller.{Poller as CodePoller}
 use Rattle.qn_arbiter.specs.Poller.{poller_of}
-use Rattle.qn_lease.specs.Poller.{Poller}
+use Rattle.qn_safety.specs.Poller.{Poller}
 use Rattle.qn_model.specs.World.{put}
 use Rattle.qn_cluster.specs.ListLaws.{rank_put}
 use Rattle.qn_arbiter.specs.Standing.{PollersFor}

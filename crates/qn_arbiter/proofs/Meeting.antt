@@ -2,12 +2,12 @@
 use Rattle.std.proofs.Common.{◌≡◌, ℕ, ◌+◌, ◌≤◌, Bool, true, false, List, Option, None, Some, length, refl, ◌||◌, sym, ◌∙◌, ap, ap₂, subst, arith}
 use Rattle.std.specs.Prelude.{All, is_some}
 use Rattle.std.specs.Option.{option_map_or}
-use Rattle.qn_lease.specs.declared.events.ArbiterEvent.{ArbiterEvent}
-use Rattle.qn_lease.specs.declared.reports.Said.TheVariants.{Nothing}
-use Rattle.qn_lease.specs.ArbiterRules.{refusal_beside}
-use Rattle.qn_lease.specs.ArbiterSteps.{played, poll_sent, polling, quiet_report, reply_sent, report_beside, said_at, step_beside}
-use Rattle.qn_lease.specs.ArbiterWorld.{Arbiter, ArbiterWorld}
-use Rattle.qn_lease.specs.Poller.{Poller}
+use Rattle.qn_safety.specs.declared.arbiter_event.ArbiterEvent.{ArbiterEvent}
+use Rattle.qn_safety.specs.declared.arbiter_reports.Said.TheVariants.{Nothing}
+use Rattle.qn_safety.specs.ArbiterRules.{refusal_beside}
+use Rattle.qn_safety.specs.ArbiterSteps.{played, poll_sent, polling, quiet_report, reply_sent, report_beside, said_at, step_beside}
+use Rattle.qn_safety.specs.ArbiterWorld.{Arbiter, ArbiterWorld}
+use Rattle.qn_safety.specs.Poller.{Poller}
 use Rattle.qn_model.specs.declared.events.Event.{Event}
 use Rattle.qn_model.specs.declared.reports.Refused.{Refused}
 use Rattle.qn_model.specs.declared.reports.Refused.TheVariants as refused

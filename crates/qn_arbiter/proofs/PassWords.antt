@@ -1,7 +1,7 @@
 -- The words of a pass in which the arbiter's clock advances, judged from left to right.
 use Rattle.std.proofs.Common.{◌≡◌, ◌<◌, ℕ, List, [], ◌∷◌, length, Result, Ok, refl, arith}
-use Rattle.qn_lease.specs.declared.events.ArbiterEvent.{ArbiterEvent}
-use Rattle.qn_lease.specs.declared.events.ArbiterEvent.TheVariants.{PassWith}
+use Rattle.qn_safety.specs.declared.arbiter_event.ArbiterEvent.{ArbiterEvent}
+use Rattle.qn_safety.specs.declared.arbiter_event.ArbiterEvent.TheVariants.{PassWith}
 use Rattle.qn_model.specs.declared.line_fault.LineFault.{LineFault}
 use Rattle.qn_model.specs.Lines.{◌>>=◌, number_between, parts}
 use Rattle.qn_sched.specs.EventReading.{pass_of}

@@ -5,17 +5,17 @@ use Rattle.std.proofs.lemmas.Bool.{false≢true, ltb-true, leb-true}
 use Rattle.std.specs.Option.{option_map, option_map_or}
 use Rattle.std.proofs.lemmas.List.Elements.{All-nil}
 use Rattle.qn_base.specs.declared.ids.Rank.{Rank}
-use Rattle.qn_lease.specs.declared.events.ArbiterEvent.{ArbiterEvent}
-use Rattle.qn_lease.specs.declared.events.ArbiterEvent.TheVariants as beside
-use Rattle.qn_lease.specs.declared.polls.Poll.{Poll}
-use Rattle.qn_lease.specs.declared.polls.Reply.{Reply}
-use Rattle.qn_lease.specs.declared.reports.ArbiterReport.{ArbiterReport}
-use Rattle.qn_lease.specs.declared.reports.Said.{Said}
-use Rattle.qn_lease.specs.declared.reports.Said.TheVariants.{Nothing, Polled, Answered}
-use Rattle.qn_lease.specs.ArbiterRules.{is_well_formed_beside, refusal_beside}
-use Rattle.qn_lease.specs.ArbiterSteps.{booted_arbiter, hearing, played, poll_sent, polling, quiet_report, reply_sent, report_beside, said_at, step_beside}
-use Rattle.qn_lease.specs.ArbiterWorld.{Arbiter, ArbiterWorld, poll_at, standing_at}
-use Rattle.qn_lease.specs.Poller.{Standing, next_poll, with_sent}
+use Rattle.qn_safety.specs.declared.arbiter_event.ArbiterEvent.{ArbiterEvent}
+use Rattle.qn_safety.specs.declared.arbiter_event.ArbiterEvent.TheVariants as beside
+use Rattle.qn_safety.specs.declared.polls.Poll.{Poll}
+use Rattle.qn_safety.specs.declared.polls.Reply.{Reply}
+use Rattle.qn_safety.specs.declared.arbiter_reports.ArbiterReport.{ArbiterReport}
+use Rattle.qn_safety.specs.declared.arbiter_reports.Said.{Said}
+use Rattle.qn_safety.specs.declared.arbiter_reports.Said.TheVariants.{Nothing, Polled, Answered}
+use Rattle.qn_safety.specs.ArbiterRules.{is_well_formed_beside, refusal_beside}
+use Rattle.qn_safety.specs.ArbiterSteps.{booted_arbiter, hearing, played, poll_sent, polling, quiet_report, reply_sent, report_beside, said_at, step_beside}
+use Rattle.qn_safety.specs.ArbiterWorld.{Arbiter, ArbiterWorld, poll_at, standing_at}
+use Rattle.qn_safety.specs.Poller.{Standing, next_poll, with_sent}
 use Rattle.qn_model.specs.declared.configuration.Settings.{Settings}
 use Rattle.qn_model.specs.declared.reports.Refused.{Refused}
 use Rattle.qn_model.specs.declared.reports.Refused.TheVariants as refused

@@ -1,10 +1,10 @@
 -- The rules of a world beside an arbiter are its own, and then those of its nodes.
 use Rattle.std.proofs.Common.{◌≡◌, ℕ, Option, None, Some, refl, sym, ◌∙◌, ap}
 use Rattle.std.specs.Option.{option_or}
-use Rattle.qn_lease.specs.declared.events.ArbiterEvent.{ArbiterEvent}
-use Rattle.qn_lease.specs.declared.events.ArbiterEvent.TheVariants as beside
-use Rattle.qn_lease.specs.ArbiterRules.{refusal_beside}
-use Rattle.qn_lease.specs.ArbiterWorld.{ArbiterWorld}
+use Rattle.qn_safety.specs.declared.arbiter_event.ArbiterEvent.{ArbiterEvent}
+use Rattle.qn_safety.specs.declared.arbiter_event.ArbiterEvent.TheVariants as beside
+use Rattle.qn_safety.specs.ArbiterRules.{refusal_beside}
+use Rattle.qn_safety.specs.ArbiterWorld.{ArbiterWorld}
 use Rattle.qn_model.specs.declared.configuration.Settings.{Settings}
 use Rattle.qn_model.specs.declared.times.Timing.{Timing}
 use Rattle.qn_arbiter.specs.OwnRules.{nodes_refusal, own_refusal}

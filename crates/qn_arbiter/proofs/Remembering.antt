@@ -6,9 +6,9 @@ use Rattle.std.specs.Option.{option_map, option_map_or}
 use Rattle.std.proofs.lemmas.Bool.Decides.{nat_tests}
 use Rattle.std.proofs.lemmas.Bool.{eqb-true}
 use Rattle.qn_base.specs.lemmas.Lists.{get_set_same, get_set_other}
-use Rattle.qn_lease.specs.declared.polls.Poll.{Poll}
-use Rattle.qn_lease.specs.Arbiter.{HeardPoll, Memory, do_meet, gives_yes, is_newest, is_vote_left, last_yes, with_poll}
-use Rattle.qn_lease.specs.Arbiter as lease
+use Rattle.qn_safety.specs.declared.polls.Poll.{Poll}
+use Rattle.qn_safety.specs.Arbiter.{HeardPoll, Memory, do_meet, gives_yes, is_newest, is_vote_left, last_yes, with_poll}
+use Rattle.qn_safety.specs.Arbiter as lease
 use Rattle.qn_arbiter.specs.declared.arbiter.Arbiter.{Arbiter}
 use Rattle.qn_arbiter.specs.declared.arbiter.Installed.{Installed}
 use Rattle.qn_arbiter.specs.Arbiter.{ArbiterFor, installed_in, is_allowed_by, is_before, later_of, leaves_vote, leaves_vote_at, newest_of, remembered_of, with_answer, with_heard, yes_in, yes_leaves}

@@ -4,14 +4,14 @@ use Rattle.std.specs.Prelude.{unwrap_or}
 use Rattle.std.specs.Option.{option_map, option_map_or, option_to_list}
 use Rattle.std.proofs.lemmas.List.{append-nil}
 use Rattle.qn_base.specs.declared.ids.Rank.{Rank}
-use Rattle.qn_lease.specs.declared.events.ArbiterEvent.TheVariants as beside
-use Rattle.qn_lease.specs.declared.lease.Lease.{Lease}
-use Rattle.qn_lease.specs.declared.polls.Poll.{Poll}
-use Rattle.qn_lease.specs.declared.polls.Reply.{Reply}
-use Rattle.qn_lease.specs.ArbiterRules.{pass_of}
-use Rattle.qn_lease.specs.ArbiterSteps.{advanced_arbiter, arbiter_after, booted_arbiter, hearing, played, poll_sent, pollers_after, pollers_with, reply_sent, reply_to, step_beside}
-use Rattle.qn_lease.specs.ArbiterWorld.{Arbiter, ArbiterWorld, poll_at, standing_at}
-use Rattle.qn_lease.specs.Poller.{Standing, next_poll, with_sent}
+use Rattle.qn_safety.specs.declared.arbiter_event.ArbiterEvent.TheVariants as beside
+use Rattle.qn_safety.specs.declared.lease.Lease.{Lease}
+use Rattle.qn_safety.specs.declared.polls.Poll.{Poll}
+use Rattle.qn_safety.specs.declared.polls.Reply.{Reply}
+use Rattle.qn_safety.specs.ArbiterRules.{pass_of}
+use Rattle.qn_safety.specs.ArbiterSteps.{advanced_arbiter, arbiter_after, booted_arbiter, hearing, played, poll_sent, pollers_after, pollers_with, reply_sent, reply_to, step_beside}
+use Rattle.qn_safety.specs.ArbiterWorld.{Arbiter, ArbiterWorld, poll_at, standing_at}
+use Rattle.qn_safety.specs.Poller.{Standing, next_poll, with_sent}
 use Rattle.qn_model.specs.declared.configuration.Settings.{Settings}
 use Rattle.qn_model.specs.declared.events.Event.{Event}
 use Rattle.qn_model.specs.declared.times.Timing.{Timing}

@@ -2,8 +2,8 @@
 -- first.
 use Rattle.std.specs.Prelude.{◌≡◌, ◌<◌, ℕ, Bool, true, List, [], ◌∷◌, Option, None, Some, ◌+◌, ◌==◌, ◌&&◌, ◌||◌, length, nat_lt, not, slice_get, slice_set, if◌then◌else◌}
 use Rattle.std.specs.Option.{option_map, option_map_or}
-use Rattle.qn_lease.specs.declared.polls.Poll.{Poll}
-use Rattle.qn_lease.specs.Arbiter.{HeardPoll, Memory, do_meet, last_yes}
+use Rattle.qn_safety.specs.declared.polls.Poll.{Poll}
+use Rattle.qn_safety.specs.Arbiter.{HeardPoll, Memory, do_meet, last_yes}
 use Rattle.qn_arbiter.specs.declared.arbiter.Arbiter.{Arbiter}
 use Rattle.qn_arbiter.specs.declared.arbiter.Installed.{Installed}
 use Rattle.qn_arbiter.specs.declared.arbiter.Remembered.{Remembered}

@@ -3,9 +3,9 @@ use Rattle.std.specs.Prelude.{ℕ, List, [], ◌∷◌, Option, None, Some, code
 use Rattle.std.specs.List.{join_with_byte}
 use Rattle.std.specs.Option.{option_map}
 use Rattle.qn_model.specs.declared.events.Event.{Event}
-use Rattle.qn_lease.specs.declared.events.ArbiterEvent.{ArbiterEvent}
-use Rattle.qn_lease.specs.declared.events.ArbiterEvent.TheVariants.{One, PassWith, ArbiterBoot, ArbiterCrash, Poll, Hear, Reply}
-use Rattle.qn_lease.specs.ArbiterRules.{pass_of}
+use Rattle.qn_safety.specs.declared.arbiter_event.ArbiterEvent.{ArbiterEvent}
+use Rattle.qn_safety.specs.declared.arbiter_event.ArbiterEvent.TheVariants.{One, PassWith, ArbiterBoot, ArbiterCrash, Poll, Hear, Reply}
+use Rattle.qn_safety.specs.ArbiterRules.{pass_of}
 use Rattle.qn_sched.specs.EventLines.{event_words, id_word}
 
 -- the words of a pass after its first, None where the event is no pass

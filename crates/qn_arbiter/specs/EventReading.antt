@@ -5,8 +5,8 @@ use Rattle.qn_base.specs.declared.limits.TheConstants.{MOST_LINE_BYTES}
 use Rattle.qn_model.specs.declared.line_fault.LineFault.{LineFault}
 use Rattle.qn_model.specs.declared.line_fault.LineFault.TheVariants.{UnknownWord, BadCount, TooLong}
 use Rattle.qn_model.specs.Lines.{◌>>=◌, number_between, words_of}
-use Rattle.qn_lease.specs.declared.events.ArbiterEvent.{ArbiterEvent}
-use Rattle.qn_lease.specs.declared.events.ArbiterEvent.TheVariants as beside
+use Rattle.qn_safety.specs.declared.arbiter_event.ArbiterEvent.{ArbiterEvent}
+use Rattle.qn_safety.specs.declared.arbiter_event.ArbiterEvent.TheVariants as beside
 use Rattle.qn_sched.specs.EventReading.{event_of, pass_of, rank_of}
 use Rattle.qn_sched.specs.Words.{one_word}
 use Rattle.qn_arbiter.specs.declared.event_name.ArbiterName.{ArbiterName}

@@ -6,8 +6,8 @@ use Rattle.qn_base.specs.declared.limits.TheConstants.{LONGEST_PERIOD, MOST_LINE
 use Rattle.qn_model.specs.declared.line_fault.LineFault.{LineFault}
 use Rattle.qn_model.specs.declared.line_fault.LineFault.TheVariants.{UnknownWord, TooLong}
 use Rattle.qn_model.specs.Lines.{◌>>=◌, number_between, two_words, words_of}
-use Rattle.qn_lease.specs.declared.lease.Lease.{Lease}
-use Rattle.qn_lease.specs.declared.lease.TheConstants.{LONGEST_LEASE}
+use Rattle.qn_safety.specs.declared.lease.Lease.{Lease}
+use Rattle.qn_safety.specs.declared.lease.TheConstants.{LONGEST_LEASE}
 
 -- the spelling of a lease line, without its end
 abbrev pub lease_line : Lease → List ℕ

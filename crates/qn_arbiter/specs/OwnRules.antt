@@ -1,10 +1,10 @@
 -- The rules of a world beside an arbiter that are not those of its nodes: 11 to 15.
 use Rattle.std.specs.Prelude.{ℕ, Option, None, Some, not}
 use Rattle.std.specs.Option.{option_map_or, option_or}
-use Rattle.qn_lease.specs.declared.events.ArbiterEvent.{ArbiterEvent}
-use Rattle.qn_lease.specs.declared.events.ArbiterEvent.TheVariants as beside
-use Rattle.qn_lease.specs.ArbiterRules.{is_arbiter_on, is_yes_of_device, may_hear, may_pass_with, may_poll, may_reply}
-use Rattle.qn_lease.specs.ArbiterWorld.{ArbiterWorld}
+use Rattle.qn_safety.specs.declared.arbiter_event.ArbiterEvent.{ArbiterEvent}
+use Rattle.qn_safety.specs.declared.arbiter_event.ArbiterEvent.TheVariants as beside
+use Rattle.qn_safety.specs.ArbiterRules.{is_arbiter_on, is_yes_of_device, may_hear, may_pass_with, may_poll, may_reply}
+use Rattle.qn_safety.specs.ArbiterWorld.{ArbiterWorld}
 use Rattle.qn_model.specs.declared.configuration.Settings.{Settings}
 use Rattle.qn_model.specs.declared.events.Event.{Event}
 use Rattle.qn_model.specs.declared.times.Timing.{Timing}

@@ -1,6 +1,6 @@
 -- Which poller of the definition a poller in fixed memory is.
 use Rattle.std.specs.Option.{option_map}
-use Rattle.qn_lease.specs.Poller as lease
+use Rattle.qn_safety.specs.Poller as lease
 use Rattle.qn_arbiter.specs.declared.poller.Poller.{Poller}
 use Rattle.qn_arbiter.specs.declared.poller.SentPoll.{SentPoll}
 use Rattle.qn_arbiter.specs.declared.poller.Standing.{Standing}

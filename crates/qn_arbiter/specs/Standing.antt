@@ -3,13 +3,13 @@ use Rattle.std.specs.Prelude.{◌≡◌, ◌<◌, ◌≤◌, ◌+◌, ◌^◌, �
 use Rattle.qn_arbiter.specs.Arbiter.{ArbiterFor as MemoryFor}
 use Rattle.qn_base.specs.declared.ids.Rank.{Rank}
 use Rattle.qn_cluster.specs.Standing.{latest_clock}
-use Rattle.qn_lease.specs.declared.events.ArbiterEvent.{ArbiterEvent}
-use Rattle.qn_lease.specs.declared.lease.Lease.{Lease}
-use Rattle.qn_lease.specs.declared.polls.Poll.{Poll}
-use Rattle.qn_lease.specs.declared.polls.Reply.{Reply}
-use Rattle.qn_lease.specs.ArbiterSteps.{AllAllowedBeside, run_beside}
-use Rattle.qn_lease.specs.ArbiterWorld.{Arbiter, ArbiterWorld}
-use Rattle.qn_lease.specs.Poller.{Poller}
+use Rattle.qn_safety.specs.declared.arbiter_event.ArbiterEvent.{ArbiterEvent}
+use Rattle.qn_safety.specs.declared.lease.Lease.{Lease}
+use Rattle.qn_safety.specs.declared.polls.Poll.{Poll}
+use Rattle.qn_safety.specs.declared.polls.Reply.{Reply}
+use Rattle.qn_safety.specs.ArbiterSteps.{AllAllowedBeside, run_beside}
+use Rattle.qn_safety.specs.ArbiterWorld.{Arbiter, ArbiterWorld}
+use Rattle.qn_safety.specs.Poller.{Poller}
 use Rattle.qn_model.specs.declared.configuration.Settings.{Settings}
 use Rattle.qn_model.specs.declared.times.Timing.{Timing}
 use Rattle.qn_model.specs.Moments.{time}

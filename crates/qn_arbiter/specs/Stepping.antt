@@ -5,17 +5,17 @@ use Rattle.qn_base.specs.declared.ids.Rank.{Rank}
 use Rattle.qn_base.specs.declared.ids.View.{View}
 use Rattle.qn_base.specs.declared.limits.TheConstants.{LATEST_TIME}
 use Rattle.qn_base.specs.Members.{is_member}
-use Rattle.qn_lease.specs.declared.events.ArbiterEvent.{ArbiterEvent}
-use Rattle.qn_lease.specs.declared.lease.Lease.{Lease}
-use Rattle.qn_lease.specs.declared.polls.Poll.{Poll}
-use Rattle.qn_lease.specs.declared.polls.Reply.{Reply}
-use Rattle.qn_lease.specs.declared.reports.ArbiterReport.{ArbiterReport}
-use Rattle.qn_lease.specs.declared.reports.Said.TheVariants.{Nothing}
-use Rattle.qn_lease.specs.ArbiterRules.{is_well_formed_beside, refusal_beside}
-use Rattle.qn_lease.specs.ArbiterSteps.{hearing, reply_to, report_beside, step_beside}
-use Rattle.qn_lease.specs.ArbiterWorld.{Arbiter, ArbiterWorld, poll_at}
-use Rattle.qn_lease.specs.Poller.{Standing, next_poll, with_sent}
-use Rattle.qn_lease.specs.Law.{IsQuorateIn, LeasesVote}
+use Rattle.qn_safety.specs.declared.arbiter_event.ArbiterEvent.{ArbiterEvent}
+use Rattle.qn_safety.specs.declared.lease.Lease.{Lease}
+use Rattle.qn_safety.specs.declared.polls.Poll.{Poll}
+use Rattle.qn_safety.specs.declared.polls.Reply.{Reply}
+use Rattle.qn_safety.specs.declared.arbiter_reports.ArbiterReport.{ArbiterReport}
+use Rattle.qn_safety.specs.declared.arbiter_reports.Said.TheVariants.{Nothing}
+use Rattle.qn_safety.specs.ArbiterRules.{is_well_formed_beside, refusal_beside}
+use Rattle.qn_safety.specs.ArbiterSteps.{hearing, reply_to, report_beside, step_beside}
+use Rattle.qn_safety.specs.ArbiterWorld.{Arbiter, ArbiterWorld, poll_at}
+use Rattle.qn_safety.specs.Poller.{Standing, next_poll, with_sent}
+use Rattle.qn_safety.specs.ArbiterLaws.{IsQuorateIn, LeasesVote}
 use Rattle.qn_model.specs.declared.configuration.Settings.{Settings}
 use Rattle.qn_model.specs.declared.reports.Refused.{Refused}
 use Rattle.qn_model.specs.declared.reports.Refused.TheVariants as refused

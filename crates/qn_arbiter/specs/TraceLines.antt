@@ -1,11 +1,11 @@
 -- The lines that a replay beside an arbiter writes for its events: this project's profile.
 use Rattle.std.specs.Prelude.{ℕ, List, ◌++◌, codes, decimal}
 use Rattle.qn_base.specs.Text.{yes_no}
-use Rattle.qn_lease.specs.declared.events.ArbiterEvent.{ArbiterEvent}
-use Rattle.qn_lease.specs.declared.events.ArbiterEvent.TheVariants.{One, PassWith, ArbiterBoot, ArbiterCrash, Poll, Hear, Reply}
-use Rattle.qn_lease.specs.declared.reports.ArbiterReport.{ArbiterReport}
-use Rattle.qn_lease.specs.declared.reports.Said.{Said}
-use Rattle.qn_lease.specs.declared.reports.Said.TheVariants.{Nothing, Polled, Answered}
+use Rattle.qn_safety.specs.declared.arbiter_event.ArbiterEvent.{ArbiterEvent}
+use Rattle.qn_safety.specs.declared.arbiter_event.ArbiterEvent.TheVariants.{One, PassWith, ArbiterBoot, ArbiterCrash, Poll, Hear, Reply}
+use Rattle.qn_safety.specs.declared.arbiter_reports.ArbiterReport.{ArbiterReport}
+use Rattle.qn_safety.specs.declared.arbiter_reports.Said.{Said}
+use Rattle.qn_safety.specs.declared.arbiter_reports.Said.TheVariants.{Nothing, Polled, Answered}
 use Rattle.qn_sched.specs.TraceLines.{trace_line, trace_line_with}
 
 -- what was sent between nodes and the arbiter

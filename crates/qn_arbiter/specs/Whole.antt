@@ -1,9 +1,9 @@
 -- What a world beside an arbiter keeps.
 use Rattle.std.specs.Prelude.{ℕ, List, Option}
-use Rattle.qn_lease.specs.declared.lease.Lease.{Lease}
-use Rattle.qn_lease.specs.declared.polls.Poll.{Poll}
-use Rattle.qn_lease.specs.declared.polls.Reply.{Reply}
-use Rattle.qn_lease.specs.Poller.{Poller}
+use Rattle.qn_safety.specs.declared.lease.Lease.{Lease}
+use Rattle.qn_safety.specs.declared.polls.Poll.{Poll}
+use Rattle.qn_safety.specs.declared.polls.Reply.{Reply}
+use Rattle.qn_safety.specs.Poller.{Poller}
 use Rattle.qn_model.specs.declared.configuration.Settings.{Settings}
 use Rattle.qn_model.specs.declared.times.Timing.{Timing}
 use Rattle.qn_world.specs.Whole.{Whole as World}

@@ -2,10 +2,10 @@
 ghost use Rattle.std.specs.Prelude.{◌≡◌, ◌<◌, ℕ, ◌&&◌};
 ghost use Rattle.std.specs.List.{list_any, range_with_len};
 ghost use Rattle.qn_base.specs.Members.{is_member};
-ghost use Rattle.qn_lease.specs.Arbiter.{do_meet};
+ghost use Rattle.qn_safety.specs.Arbiter.{do_meet};
 
 use qn_base::{Mask, Rank};
-use qn_lease::Poll;
+use qn_safety::Poll;
 
 /// How many ranks there can be.
 const RANKS: usize = 32;
@@ -117,7 +117,7 @@ impl Remembered {
 impl Arbiter {
     ghost use Rattle.std.specs.Prelude.{◌≡◌, ◌<◌, ◌+◌, ℕ, Some, nat_le, slice_get};
     ghost use Rattle.std.specs.List.{list_all, range_with_len};
-    ghost use Rattle.qn_lease.specs.Arbiter.{Memory, fresh_memory, gives_yes, with_poll};
+    ghost use Rattle.qn_safety.specs.Arbiter.{Memory, fresh_memory, gives_yes, with_poll};
     ghost use Rattle.qn_arbiter.specs.Arbiter.{ArbiterFor, leaves_vote_at, with_answer};
 
     /// An arbiter that boots at this tick with a lease in milliseconds: it remembers nothing.

@@ -1,8 +1,8 @@
 //! Reads the line of an event beside an arbiter, or names its first fault.
 ghost use Rattle.std.specs.Prelude.{◌≡◌, ◌↔◌, IsTrue, Ok, Some};
 ghost use Rattle.std.specs.Option.{option_copied};
-ghost use Rattle.qn_lease.specs.declared.events.ArbiterEvent.{ArbiterEvent};
-ghost use Rattle.qn_lease.specs.ArbiterRules.{is_well_formed_beside};
+ghost use Rattle.qn_safety.specs.declared.arbiter_event.ArbiterEvent.{ArbiterEvent};
+ghost use Rattle.qn_safety.specs.ArbiterRules.{is_well_formed_beside};
 ghost use Rattle.qn_model.specs.Settings.{IsValid, ids};
 ghost use Rattle.qn_sched.specs.Words.{parts_left};
 ghost use Rattle.qn_arbiter.specs.EventReading.{arbiter_boot_of, arbiter_crash_of, arbiter_event_named, arbiter_event_of, event_alone_of, hear_of, pass_with_of, poll_of, reply_of};
@@ -11,8 +11,8 @@ ghost use Rattle.qn_arbiter.specs.EventLines.{arbiter_line};
 use crate::event_name::{ArbiterName, arbiter_name};
 use crate::laws::law_arbiter_lines;
 use qn_base::{MOST_LINE_BYTES, Rank};
-use qn_lease::ArbiterEvent;
 use qn_model::{Event, LineFault, Nodes, Settings};
+use qn_safety::ArbiterEvent;
 use qn_sched::{
     first_part, known_rank, next_word, no_more_words, number_between, one_word, read_line,
     read_pass,

@@ -1,6 +1,6 @@
 //! What an event of the nodes is to the arbiter and to its rules.
 ghost use Rattle.std.specs.Prelude.{◌≡◌};
-ghost use Rattle.qn_lease.specs.ArbiterRules.{is_yes_of_device, pass_of};
+ghost use Rattle.qn_safety.specs.ArbiterRules.{is_yes_of_device, pass_of};
 
 use qn_model::Event;
 

@@ -1,7 +1,7 @@
 //! The law that a line beside an arbiter says an event exactly where it is its spelling.
 ghost use Rattle.std.specs.Prelude.{◌≡◌, ◌↔◌, ℕ, List, Ok, Some, IsTrue};
-ghost use Rattle.qn_lease.specs.declared.events.ArbiterEvent.{ArbiterEvent};
-ghost use Rattle.qn_lease.specs.ArbiterRules.{is_well_formed_beside};
+ghost use Rattle.qn_safety.specs.declared.arbiter_event.ArbiterEvent.{ArbiterEvent};
+ghost use Rattle.qn_safety.specs.ArbiterRules.{is_well_formed_beside};
 ghost use Rattle.qn_model.specs.declared.configuration.Settings.{Settings};
 ghost use Rattle.qn_model.specs.Settings.{IsValid, ids};
 ghost use Rattle.qn_arbiter.specs.EventReading.{arbiter_event_of};

@@ -1,14 +1,14 @@
 //! Reads the line of a schedule that gives the two times of a lease.
 ghost use Rattle.std.specs.Prelude.{◌≡◌, ◌↔◌, Ok, IsTrue};
 ghost use Rattle.std.specs.Option.{option_copied};
-ghost use Rattle.qn_lease.specs.declared.lease.Lease.{Lease};
-ghost use Rattle.qn_lease.specs.Lease.{is_in_range};
+ghost use Rattle.qn_safety.specs.declared.lease.Lease.{Lease};
+ghost use Rattle.qn_safety.specs.Lease.{is_in_range};
 ghost use Rattle.qn_sched.specs.Words.{parts_left};
 ghost use Rattle.qn_arbiter.specs.LeaseLine.{lease_line, lease_of, times_of_words};
 
 use qn_base::{LONGEST_PERIOD, MOST_LINE_BYTES};
-use qn_lease::{LONGEST_LEASE, Lease};
 use qn_model::LineFault;
+use qn_safety::{LONGEST_LEASE, Lease};
 use qn_sched::{first_part, number_between, two_words};
 
 /// The two times that a lease line gives, in milliseconds: a limit from 1 to `LONGEST_PERIOD` and a lease from 1 to

@@ -1,9 +1,9 @@
 //! The poller of a node: its polls, and the replies that it takes.
 ghost use Rattle.std.specs.Prelude.{◌≡◌};
-ghost use Rattle.qn_lease.specs.Poller.{is_reply_to};
+ghost use Rattle.qn_safety.specs.Poller.{is_reply_to};
 
 use qn_base::{Rank, View};
-use qn_lease::{Poll, Reply};
+use qn_safety::{Poll, Reply};
 
 /// What a node that may poll shows of itself: the tick of its clock in milliseconds, its incarnation, its install number and
 /// its view.
@@ -33,7 +33,7 @@ pub struct Poller {
 
 impl Poller {
     ghost use Rattle.std.specs.Prelude.{◌≡◌, ◌<◌, ◌+◌};
-    ghost use Rattle.qn_lease.specs.Poller.{answer_taken, fresh_poller, is_reply_to, next_poll, with_sent, without_last};
+    ghost use Rattle.qn_safety.specs.Poller.{answer_taken, fresh_poller, is_reply_to, next_poll, with_sent, without_last};
     ghost use Rattle.qn_arbiter.specs.Poller.{poller_of, standing_of};
 
     /// The poller of a node that boots.

@@ -3,14 +3,14 @@ use crate::kinds::{is_yes_of_device, pass_of};
 use crate::state::State;
 use qn_base::Rank;
 use qn_cluster::unless;
-use qn_lease::ArbiterEvent;
 use qn_model::{Event, Rule};
+use qn_safety::ArbiterEvent;
 
 impl State {
     ghost use Rattle.std.specs.Prelude.{◌≡◌, ◌<◌, ◌≤◌, true, None, Some, MatchResult, length};
     ghost use Rattle.qn_base.specs.declared.limits.TheConstants.{LATEST_TIME};
-    ghost use Rattle.qn_lease.specs.ArbiterRules.{is_arbiter_on, is_well_formed_beside, may_hear, may_pass_with, may_poll, may_reply, refusal_beside};
-    ghost use Rattle.qn_lease.specs.ArbiterWorld.{ArbiterWorld};
+    ghost use Rattle.qn_safety.specs.ArbiterRules.{is_arbiter_on, is_well_formed_beside, may_hear, may_pass_with, may_poll, may_reply, refusal_beside};
+    ghost use Rattle.qn_safety.specs.ArbiterWorld.{ArbiterWorld};
     ghost use Rattle.qn_model.specs.Rules.{is_well_formed};
     ghost use Rattle.qn_arbiter.specs.OwnRules.{own_refusal};
     ghost use Rattle.qn_arbiter.specs.Standing.{IsStanding, KeptFor};

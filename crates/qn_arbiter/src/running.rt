@@ -1,12 +1,12 @@
 //! An arbiter that runs, with its clock.
 ghost use Rattle.std.specs.Prelude.{◌≡◌, ◌<◌, ◌+◌, ◌^◌, Option};
 ghost use Rattle.std.specs.Option.{option_map};
-ghost use Rattle.qn_lease.specs.ArbiterSteps.{advanced_arbiter, hearing, reply_to};
-ghost use Rattle.qn_lease.specs.ArbiterWorld.{Arbiter as DefinedArbiter};
+ghost use Rattle.qn_safety.specs.ArbiterSteps.{advanced_arbiter, hearing, reply_to};
+ghost use Rattle.qn_safety.specs.ArbiterWorld.{Arbiter as DefinedArbiter};
 ghost use Rattle.qn_arbiter.specs.Standing.{HasRoomFor, RunsOrOff};
 
 use crate::Arbiter;
-use qn_lease::{Poll, Reply};
+use qn_safety::{Poll, Reply};
 
 /// An arbiter that runs. Its clock is in hundredths of a millisecond.
 #[derive(Clone, Copy)]
@@ -17,8 +17,8 @@ pub(crate) struct RunningArbiter {
 
 impl RunningArbiter {
     ghost use Rattle.std.specs.Prelude.{◌≡◌, ◌<◌, ◌+◌, ◌^◌};
-    ghost use Rattle.qn_lease.specs.ArbiterSteps.{advanced_arbiter, booted_arbiter, hearing, reply_to};
-    ghost use Rattle.qn_lease.specs.ArbiterWorld.{Arbiter as DefinedArbiter};
+    ghost use Rattle.qn_safety.specs.ArbiterSteps.{advanced_arbiter, booted_arbiter, hearing, reply_to};
+    ghost use Rattle.qn_safety.specs.ArbiterWorld.{Arbiter as DefinedArbiter};
     ghost use Rattle.qn_model.specs.Moments.{tick_of};
     ghost use Rattle.qn_arbiter.specs.Standing.{RunsFor};
 

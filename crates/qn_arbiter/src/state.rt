@@ -1,13 +1,13 @@
 //! What a world beside an arbiter keeps, and what it shows.
 ghost use Rattle.std.specs.Prelude.{◌≡◌, ◌++◌, ◌∷◌, [], OnErr, OnOk, slice_get};
-ghost use Rattle.qn_lease.specs.ArbiterSteps.{device_event};
+ghost use Rattle.qn_safety.specs.ArbiterSteps.{device_event};
 
 use crate::Standing;
 use crate::pollers::Pollers;
 use crate::running::RunningArbiter;
 use qn_base::{Mask, NoMemory, Rank};
-use qn_lease::{ArbiterReport, Lease, Poll, Reply, Said};
 use qn_model::{Event, Settings, Timing};
+use qn_safety::{ArbiterReport, Lease, Poll, Reply, Said};
 use qn_world::World;
 use std::alloc::Global;
 use std::marker::Model;
@@ -79,11 +79,11 @@ impl State {
     ghost use Rattle.std.specs.Option.{option_map};
     ghost use Rattle.qn_arbiter.specs.Poller.{standing_of};
     ghost use Rattle.qn_base.specs.Members.{is_member};
-    ghost use Rattle.qn_lease.specs.declared.events.ArbiterEvent.TheVariants as beside;
-    ghost use Rattle.qn_lease.specs.declared.lease.Lease.{Lease};
-    ghost use Rattle.qn_lease.specs.ArbiterRules.{may_reply};
-    ghost use Rattle.qn_lease.specs.ArbiterSteps.{played, quiet_report};
-    ghost use Rattle.qn_lease.specs.ArbiterWorld.{ArbiterWorld, first_arbiter_world, poll_at, reply_at, standing_at};
+    ghost use Rattle.qn_safety.specs.declared.arbiter_event.ArbiterEvent.TheVariants as beside;
+    ghost use Rattle.qn_safety.specs.declared.lease.Lease.{Lease};
+    ghost use Rattle.qn_safety.specs.ArbiterRules.{may_reply};
+    ghost use Rattle.qn_safety.specs.ArbiterSteps.{played, quiet_report};
+    ghost use Rattle.qn_safety.specs.ArbiterWorld.{ArbiterWorld, first_arbiter_world, poll_at, reply_at, standing_at};
     ghost use Rattle.qn_model.specs.Settings.{IsValid};
     ghost use Rattle.qn_model.specs.Steps.{holders};
     ghost use Rattle.qn_model.specs.Timing.{is_safe};

@@ -5,8 +5,8 @@ ghost use Rattle.qn_arbiter.specs.TraceLines.{arbiter_trace_line, said_word};
 
 use arrayvec::ArrayVec;
 use qn_base::{ShortText, yes_no};
-use qn_lease::{ArbiterEvent, ArbiterReport, Said};
 use qn_model::Settings;
+use qn_safety::{ArbiterEvent, ArbiterReport, Said};
 use qn_sched::{write_trace, write_trace_with};
 
 /// Empties `into` and writes the trace line of the event of that number, without its end. At an event of the arbiter

@@ -4,8 +4,8 @@ ghost use Rattle.qn_arbiter.specs.Stepping.{blank_report};
 
 use crate::state::State;
 use qn_base::{Mask, NoMemory};
-use qn_lease::{ArbiterEvent, ArbiterReport, Lease, Said, law_one_lease};
 use qn_model::{Refused, Rule, Settings, Timing};
+use qn_safety::{ArbiterEvent, ArbiterReport, Lease, Said, law_one_lease};
 use std::alloc::Global;
 use std::marker::Model;
 
@@ -33,10 +33,10 @@ impl ArbiterWorld {
     ghost use Rattle.std.specs.Prelude.{◌≡◌, ◌<◌, ◌≤◌, ◌+◌, ℕ, true, None, Some, All, IfErr, IfOk, IsTrue, MatchResult, OnErr, OnOk};
     ghost use Rattle.qn_base.specs.declared.limits.TheConstants.{LATEST_TIME};
     ghost use Rattle.qn_base.specs.Members.{is_member};
-    ghost use Rattle.qn_lease.specs.ArbiterRules.{is_well_formed_beside, refusal_beside};
-    ghost use Rattle.qn_lease.specs.ArbiterSteps.{report_beside, step_beside};
-    ghost use Rattle.qn_lease.specs.ArbiterWorld.{ArbiterWorld as World, first_arbiter_world};
-    ghost use Rattle.qn_lease.specs.Lease.{is_safe_lease};
+    ghost use Rattle.qn_safety.specs.ArbiterRules.{is_well_formed_beside, refusal_beside};
+    ghost use Rattle.qn_safety.specs.ArbiterSteps.{report_beside, step_beside};
+    ghost use Rattle.qn_safety.specs.ArbiterWorld.{ArbiterWorld as World, first_arbiter_world};
+    ghost use Rattle.qn_safety.specs.Lease.{is_safe_lease};
     ghost use Rattle.qn_model.specs.Settings.{IsValid};
     ghost use Rattle.qn_model.specs.Steps.{holders};
     ghost use Rattle.qn_model.specs.Timing.{is_safe};

@@ -11,9 +11,9 @@ ghost use Rattle.qn_model.specs.Steps.{AllAllowed, run};
 ghost use Rattle.qn_safety.specs.declared.triple_event.TripleEvent.{TripleEvent};
 ghost use Rattle.qn_safety.specs.Timed.{IsTimedRun};
 ghost use Rattle.qn_safety.specs.TripleSteps.{AllAllowedTriple, run_triple};
-ghost use Rattle.qn_lease.specs.declared.events.ArbiterEvent.{ArbiterEvent};
-ghost use Rattle.qn_lease.specs.declared.lease.Lease.{Lease};
-ghost use Rattle.qn_lease.specs.ArbiterSteps.{AllAllowedBeside, run_beside};
+ghost use Rattle.qn_safety.specs.declared.arbiter_event.ArbiterEvent.{ArbiterEvent};
+ghost use Rattle.qn_safety.specs.declared.lease.Lease.{Lease};
+ghost use Rattle.qn_safety.specs.ArbiterSteps.{AllAllowedBeside, run_beside};
 ghost use Rattle.qn_progress.specs.Hearing.{HasHeld, HearsQuietly, StaysHeard};
 ghost use Rattle.qn_progress.specs.Pace.{Pace, outside, take_over_ticks};
 ghost use Rattle.qn_progress.specs.Premises.{TakesOver};
@@ -26,9 +26,9 @@ ghost use Rattle.qn_progress.specs.Quiet.{
   StaysQuiet,
 };
 
-use qn_lease::law_runs_beside_are_timed;
 use qn_safety::{
-    law_boots, law_clocks, law_runs_are_timed, law_triple_runs_are_timed, law_up_nodes,
+    law_boots, law_clocks, law_runs_are_timed, law_runs_beside_are_timed,
+    law_triple_runs_are_timed, law_up_nodes,
 };
 
 /// In a quiet world the least member of a view holds the resource after a bounded time, and from then on: once the nodes

@@ -5,14 +5,14 @@ use Rattle.std.proofs.lemmas.Bool.{and_parts}
 use Rattle.qn_arbiter.specs.Standing.{ArbiterFor}
 use Rattle.qn_arbiter.specs.Whole.{Whole}
 use Rattle.qn_base.specs.declared.ids.Rank.{Rank}
-use Rattle.qn_lease.specs.declared.events.ArbiterEvent.{ArbiterEvent}
-use Rattle.qn_lease.specs.declared.events.ArbiterEvent.TheVariants as beside
-use Rattle.qn_lease.specs.declared.lease.Lease.{Lease}
-use Rattle.qn_lease.specs.declared.polls.Reply.{Reply}
-use Rattle.qn_lease.specs.ArbiterRules.{is_well_formed_beside}
-use Rattle.qn_lease.specs.ArbiterSteps.{device_event, played, reply_event, step_beside}
-use Rattle.qn_lease.specs.ArbiterWorld.{ArbiterWorld, first_arbiter_world, reply_at}
-use Rattle.qn_lease.specs.Poller.{answer_taken}
+use Rattle.qn_safety.specs.declared.arbiter_event.ArbiterEvent.{ArbiterEvent}
+use Rattle.qn_safety.specs.declared.arbiter_event.ArbiterEvent.TheVariants as beside
+use Rattle.qn_safety.specs.declared.lease.Lease.{Lease}
+use Rattle.qn_safety.specs.declared.polls.Reply.{Reply}
+use Rattle.qn_safety.specs.ArbiterRules.{is_well_formed_beside}
+use Rattle.qn_safety.specs.ArbiterSteps.{device_event, played, reply_event, step_beside}
+use Rattle.qn_safety.specs.ArbiterWorld.{ArbiterWorld, first_arbiter_world, reply_at}
+use Rattle.qn_safety.specs.Poller.{answer_taken}
 use Rattle.qn_model.specs.declared.configuration.Settings.{Settings}
 use Rattle.qn_model.specs.declared.times.Timing.{Timing}
 use Rattle.qn_model.specs.Moments.{tick_of, time}

@@ -13,13 +13,13 @@ use Rattle.qn_playback.specs.HeadLaws as heads
 use Rattle.qn_playback.specs.HeadLaws.{TreesAreValid, head_good}
 use Rattle.qn_playback.specs.Parts.{Given, then_given}
 use Rattle.qn_playback.specs.Replays.{after_head}
-use Rattle.qn_lease.specs.declared.events.ArbiterEvent.{ArbiterEvent}
-use Rattle.qn_lease.specs.declared.lease.Lease.{Lease}
-use Rattle.qn_lease.specs.ArbiterRules.{is_well_formed_beside, refusal_beside}
-use Rattle.qn_lease.specs.ArbiterSteps.{AllAllowedBeside, played, polling, quiet_report, report_beside, run_beside, step_beside}
-use Rattle.qn_lease.specs.ArbiterWorld.{ArbiterWorld}
-use Rattle.qn_lease.specs.Law.{OneHolderBeside}
-use Rattle.qn_lease.specs.Lease.{is_safe_lease}
+use Rattle.qn_safety.specs.declared.arbiter_event.ArbiterEvent.{ArbiterEvent}
+use Rattle.qn_safety.specs.declared.lease.Lease.{Lease}
+use Rattle.qn_safety.specs.ArbiterRules.{is_well_formed_beside, refusal_beside}
+use Rattle.qn_safety.specs.ArbiterSteps.{AllAllowedBeside, played, polling, quiet_report, report_beside, run_beside, step_beside}
+use Rattle.qn_safety.specs.ArbiterWorld.{ArbiterWorld}
+use Rattle.qn_safety.specs.ArbiterLaws.{OneHolderBeside}
+use Rattle.qn_safety.specs.Lease.{is_safe_lease}
 use Rattle.qn_model.specs.declared.configuration.Settings.{Settings}
 use Rattle.qn_model.specs.declared.events.Event.{Event}
 use Rattle.qn_model.specs.declared.reports.Report.{Report}

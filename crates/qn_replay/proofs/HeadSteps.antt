@@ -5,8 +5,8 @@ use Rattle.qn_playback.specs.declared.head.Head.{Head}
 use Rattle.qn_playback.specs.Heads.{head_part, line_part}
 use Rattle.qn_playback.specs.Parts.{Gives, Leads, Part, Refuses, whole}
 use Rattle.qn_playback.specs.PartLaws.{leads_judged, leads_then, leads_to_next, refuses_first, refuses_judged, refuses_then}
-use Rattle.qn_lease.specs.declared.lease.Lease.{Lease}
-use Rattle.qn_lease.specs.Lease.{is_safe_lease}
+use Rattle.qn_safety.specs.declared.lease.Lease.{Lease}
+use Rattle.qn_safety.specs.Lease.{is_safe_lease}
 use Rattle.qn_model.specs.declared.configuration.Settings.{Settings}
 use Rattle.qn_model.specs.declared.line_fault.LineFault.{LineFault}
 use Rattle.qn_model.specs.Lines.{lines_of}

@@ -7,8 +7,8 @@ use Rattle.qn_playback.specs.Heads.{head_part, line_lines}
 use Rattle.qn_playback.specs.HeadLaws.{head_fits, head_open, line_fits}
 use Rattle.qn_playback.specs.Parts.{Given, then_given}
 use Rattle.qn_playback.specs.ReplayLaws.{answer_fits}
-use Rattle.qn_lease.specs.declared.lease.Lease.{Lease}
-use Rattle.qn_lease.specs.Lease.{is_safe_lease}
+use Rattle.qn_safety.specs.declared.lease.Lease.{Lease}
+use Rattle.qn_safety.specs.Lease.{is_safe_lease}
 use Rattle.qn_model.specs.declared.line_fault.LineFault.{LineFault}
 use Rattle.qn_model.specs.Lines.{Ending, ReadFailed}
 use Rattle.qn_playback.specs.Endings.{EndFits, FitsWith, fits_beside}

@@ -5,8 +5,8 @@ use Rattle.std.specs.Option.{option_map_or}
 use Rattle.qn_playback.specs.declared.head.Head.{Head}
 use Rattle.qn_playback.specs.Heads.{head_part, line_lines}
 use Rattle.qn_playback.specs.Parts.{Given, Part, then_given}
-use Rattle.qn_lease.specs.declared.lease.Lease.{Lease}
-use Rattle.qn_lease.specs.Lease.{is_safe_lease}
+use Rattle.qn_safety.specs.declared.lease.Lease.{Lease}
+use Rattle.qn_safety.specs.Lease.{is_safe_lease}
 use Rattle.qn_model.specs.declared.configuration.Settings.{Settings}
 use Rattle.qn_model.specs.declared.line_fault.LineFault.{LineFault}
 use Rattle.qn_model.specs.Lines.{Ending}

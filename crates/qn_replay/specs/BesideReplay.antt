@@ -7,12 +7,12 @@ use Rattle.qn_arbiter.specs.Standing.{ArbiterFor}
 use Rattle.qn_arbiter.specs.Whole.{Whole}
 use Rattle.qn_playback.specs.Replays as kinds
 use Rattle.qn_playback.specs.Replays.{ReplayKind, answer_of}
-use Rattle.qn_lease.specs.declared.events.ArbiterEvent.{ArbiterEvent}
-use Rattle.qn_lease.specs.declared.lease.Lease.{Lease}
-use Rattle.qn_lease.specs.declared.reports.ArbiterReport.{ArbiterReport}
-use Rattle.qn_lease.specs.ArbiterRules.{is_well_formed_beside, refusal_beside}
-use Rattle.qn_lease.specs.ArbiterSteps.{report_beside, step_beside}
-use Rattle.qn_lease.specs.ArbiterWorld.{ArbiterWorld, first_arbiter_world}
+use Rattle.qn_safety.specs.declared.arbiter_event.ArbiterEvent.{ArbiterEvent}
+use Rattle.qn_safety.specs.declared.lease.Lease.{Lease}
+use Rattle.qn_safety.specs.declared.arbiter_reports.ArbiterReport.{ArbiterReport}
+use Rattle.qn_safety.specs.ArbiterRules.{is_well_formed_beside, refusal_beside}
+use Rattle.qn_safety.specs.ArbiterSteps.{report_beside, step_beside}
+use Rattle.qn_safety.specs.ArbiterWorld.{ArbiterWorld, first_arbiter_world}
 use Rattle.qn_model.specs.Lines.{Ending}
 use Rattle.qn_model.specs.Settings.{ids}
 use Rattle.qn_playback.specs.Played.{Played}

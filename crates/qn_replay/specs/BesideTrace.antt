@@ -2,11 +2,11 @@
 use Rattle.std.specs.Prelude.{◌≡◌, ℕ, ◌+◌, true, List, [], ◌∷◌, ◌++◌, length}
 use Rattle.qn_arbiter.specs.TraceLines.{arbiter_trace_line}
 use Rattle.qn_base.specs.Members.{is_member}
-use Rattle.qn_lease.specs.declared.events.ArbiterEvent.{ArbiterEvent}
-use Rattle.qn_lease.specs.declared.lease.Lease.{Lease}
-use Rattle.qn_lease.specs.declared.reports.ArbiterReport.{ArbiterReport}
-use Rattle.qn_lease.specs.ArbiterSteps.{AllAllowedBeside, report_beside, run_beside}
-use Rattle.qn_lease.specs.Lease.{is_safe_lease}
+use Rattle.qn_safety.specs.declared.arbiter_event.ArbiterEvent.{ArbiterEvent}
+use Rattle.qn_safety.specs.declared.lease.Lease.{Lease}
+use Rattle.qn_safety.specs.declared.arbiter_reports.ArbiterReport.{ArbiterReport}
+use Rattle.qn_safety.specs.ArbiterSteps.{AllAllowedBeside, report_beside, run_beside}
+use Rattle.qn_safety.specs.Lease.{is_safe_lease}
 use Rattle.qn_model.specs.declared.configuration.Settings.{Settings}
 use Rattle.qn_model.specs.declared.times.Timing.{Timing}
 use Rattle.qn_model.specs.Lines.{Ending}

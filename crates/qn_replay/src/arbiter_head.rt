@@ -5,15 +5,15 @@ ghost use Rattle.qn_io.specs.Outside.{HasRisen};
 ghost use Rattle.qn_model.specs.Settings.{IsValid};
 ghost use Rattle.qn_model.specs.Timing.{is_safe};
 ghost use Rattle.qn_playback.specs.Parts.{Gives, Refuses};
-ghost use Rattle.qn_lease.specs.Lease.{is_safe_lease};
+ghost use Rattle.qn_safety.specs.Lease.{is_safe_lease};
 ghost use Rattle.qn_replay.specs.BesideHeads.{arbiter_head_part, lease_in, unsafe_end};
 
 use arrayvec::ArrayVec;
 use qn_arbiter::read_lease;
 use qn_io::{PIECE, Pieces, Source};
-use qn_lease::{Lease, lease_safe};
 use qn_model::{Settings, Timing};
 use qn_playback::{read_head, read_head_line};
+use qn_safety::{Lease, lease_safe};
 use qn_sched::ReplayEnd;
 use std::alloc::Global;
 

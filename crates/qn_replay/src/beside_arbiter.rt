@@ -5,13 +5,13 @@ use arrayvec::ArrayVec;
 use qn_arbiter::{ArbiterWorld, blank_report, read_arbiter_line, write_arbiter_trace};
 use qn_base::{MOST_LINE_BYTES, NoMemory};
 use qn_io::{Pieces, Source};
-use qn_lease::{ArbiterEvent, ArbiterReport};
 use qn_model::{LineFault, Refused};
+use qn_safety::{ArbiterEvent, ArbiterReport};
 use qn_sched::ReplayEnd;
 use std::alloc::Global;
 
 impl TakesEvents for ArbiterWorld {
-    ghost use Rattle.qn_lease.specs.ArbiterWorld.{ArbiterWorld as Defined};
+    ghost use Rattle.qn_safety.specs.ArbiterWorld.{ArbiterWorld as Defined};
     ghost use Rattle.qn_replay.specs.BesideEndings.{arbiter_head_fits, arbiter_head_open};
     ghost use Rattle.qn_replay.specs.BesideHeads.{IsGoodArbiterHead};
     ghost use Rattle.qn_replay.specs.BesideReplay.{beside_replay, beside_world};

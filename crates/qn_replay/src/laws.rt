@@ -5,8 +5,7 @@ ghost use Rattle.qn_replay.specs.TripleEndings.{Replay3Fits};
 ghost use Rattle.qn_replay.specs.TripleTrace.{TracesAreRuns as TripleTracesAreRuns};
 
 use qn_arbiter::law_arbiter_lines;
-use qn_lease::law_one_holder_beside;
-use qn_safety::law_triple_no_two_holders;
+use qn_safety::{law_one_holder_beside, law_triple_no_two_holders};
 use qn_settings::law_valid_settings;
 use qn_triple::law_triple_lines;
 

@@ -45,3 +45,17 @@ pub mod LogMoves
 pub mod UpNodes
 pub mod NodeLogs
 pub mod TripleNodes
+mod ArbiterRows
+mod ArbiterHolding
+pub mod ArbiterTools
+pub mod ArbiterMemories
+pub mod ArbiterBelow
+pub mod ArbiterPlaying
+pub mod ArbiterCounting
+pub mod ArbiterSendings
+pub mod ArbiterStandings
+pub mod ArbiterRemembering
+pub mod ArbiterGranting
+pub mod ArbiterLeases
+pub mod ArbiterPremises
+mod ArbiterHolder

@@ -1,7 +1,7 @@
 use Rattle.std.proofs.Common.{◌≡◌, ◌-◌, ◌&&◌}
 use Rattle.std.specs.List.{list_any, range_with_len}
 use Rattle.qn_base.specs.Members.{is_member}
-use Rattle.qn_lease.specs.Arbiter.{do_meet}
+use Rattle.qn_safety.specs.Arbiter.{do_meet}
 use Rattle.qn_arbiter.proofs.arbiter.do_meet.Given as goal
 
 abbrev pub invariant-loop-rank : goal.invariant-loop-rank

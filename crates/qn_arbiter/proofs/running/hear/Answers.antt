@@ -1,4 +1,4 @@
-use Rattle.qn_lease.specs.ArbiterSteps.{hearing}
+use Rattle.qn_safety.specs.ArbiterSteps.{hearing}
 use Rattle.qn_arbiter.proofs.Clocks.{runs_on}
 use Rattle.qn_arbiter.proofs.running.hear.Goals as goal
 

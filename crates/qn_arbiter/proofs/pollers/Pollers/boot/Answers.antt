@@ -1,4 +1,4 @@
-use Rattle.qn_lease.specs.Poller.{fresh_poller}
+use Rattle.qn_safety.specs.Poller.{fresh_poller}
 use Rattle.qn_arbiter.proofs.Lists.{poller_put}
 use Rattle.qn_arbiter.proofs.pollers.Pollers.boot.Goals as goal
 

@@ -1,5 +1,5 @@
 use Rattle.std.proofs.Common.{◌∙◌, ap}
-use Rattle.qn_lease.specs.Poller.{without_last}
+use Rattle.qn_safety.specs.Poller.{without_last}
 use Rattle.qn_arbiter.proofs.Lists.{poller_put, poller_read}
 use Rattle.qn_arbiter.proofs.pollers.Pollers.on_view.Goals as goal
 

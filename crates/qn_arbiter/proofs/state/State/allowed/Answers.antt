@@ -1,6 +1,6 @@
 use Rattle.std.proofs.Common.{◌≡◌, ◌∙◌, None, Some, ap, subst, sym, true}
 use Rattle.std.specs.Prelude.{MatchResult}
-use Rattle.qn_lease.specs.ArbiterRules.{is_well_formed_beside}
+use Rattle.qn_safety.specs.ArbiterRules.{is_well_formed_beside}
 use Rattle.qn_model.specs.Rules.{is_well_formed, refusal}
 use Rattle.qn_model.specs.World.{World}
 use Rattle.qn_world.specs.Standing.{WorldFor}

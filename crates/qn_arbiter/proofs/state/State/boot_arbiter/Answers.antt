@@ -1,7 +1,7 @@
 use Rattle.std.proofs.Common.{None, Some, ap, subst, sym}
-use Rattle.qn_lease.specs.declared.events.ArbiterEvent.TheVariants as beside
-use Rattle.qn_lease.specs.declared.reports.Said.TheVariants.{Nothing}
-use Rattle.qn_lease.specs.ArbiterSteps.{booted_arbiter}
+use Rattle.qn_safety.specs.declared.arbiter_event.ArbiterEvent.TheVariants as beside
+use Rattle.qn_safety.specs.declared.arbiter_reports.Said.TheVariants.{Nothing}
+use Rattle.qn_safety.specs.ArbiterSteps.{booted_arbiter}
 use Rattle.qn_arbiter.specs.Standing.{IsStanding, RunsFor}
 use Rattle.qn_arbiter.specs.Stepping.{Stepped}
 use Rattle.qn_arbiter.specs.Whole.{Kept}

@@ -1,6 +1,6 @@
 use Rattle.std.proofs.Common.{None, ap, subst, sym}
-use Rattle.qn_lease.specs.declared.events.ArbiterEvent.TheVariants as beside
-use Rattle.qn_lease.specs.declared.reports.Said.TheVariants.{Nothing}
+use Rattle.qn_safety.specs.declared.arbiter_event.ArbiterEvent.TheVariants as beside
+use Rattle.qn_safety.specs.declared.arbiter_reports.Said.TheVariants.{Nothing}
 use Rattle.qn_arbiter.specs.Standing.{IsStanding}
 use Rattle.qn_arbiter.specs.Stepping.{Stepped}
 use Rattle.qn_arbiter.specs.Whole.{Kept}

@@ -1,6 +1,6 @@
 use Rattle.std.proofs.Common.{◌≡◌, ◌∙◌, ap, arith, length, sym}
 use Rattle.std.proofs.lemmas.Result.{err_from_is_err_and}
-use Rattle.qn_lease.specs.declared.reports.Said.TheVariants.{Answered}
+use Rattle.qn_safety.specs.declared.arbiter_reports.Said.TheVariants.{Answered}
 use Rattle.qn_arbiter.specs.Whole.{Kept}
 use Rattle.qn_arbiter.proofs.Quiet.{HearsAt, hear_few, hear_made, hear_standing, hear_starved, hears_some}
 use Rattle.qn_arbiter.proofs.state.State.hear.Goals as goal

@@ -2,11 +2,11 @@ use Rattle.std.proofs.Common.{◌≡◌, ◌*◌, ◌≤◌, ℕ, Option, ap, su
 use Rattle.std.specs.Prelude.{Err, unwrap_or}
 use Rattle.std.specs.Option.{option_map}
 use Rattle.std.proofs.lemmas.Result.{err_from_is_err_and}
-use Rattle.qn_lease.specs.declared.events.ArbiterEvent.TheVariants as beside
-use Rattle.qn_lease.specs.declared.reports.Said.TheVariants.{Nothing}
-use Rattle.qn_lease.specs.ArbiterSteps.{advanced_arbiter, pollers_with}
-use Rattle.qn_lease.specs.ArbiterWorld.{Arbiter}
-use Rattle.qn_lease.specs.Poller.{Poller}
+use Rattle.qn_safety.specs.declared.arbiter_event.ArbiterEvent.TheVariants as beside
+use Rattle.qn_safety.specs.declared.arbiter_reports.Said.TheVariants.{Nothing}
+use Rattle.qn_safety.specs.ArbiterSteps.{advanced_arbiter, pollers_with}
+use Rattle.qn_safety.specs.ArbiterWorld.{Arbiter}
+use Rattle.qn_safety.specs.Poller.{Poller}
 use Rattle.qn_model.specs.Rules.{is_well_formed}
 use Rattle.qn_arbiter.specs.Standing.{HasRoomFor, PollersFor, RunsOrOff}
 use Rattle.qn_arbiter.specs.Stepping.{Refuses, Stepped}

@@ -2,10 +2,10 @@ use Rattle.std.proofs.Common.{◌≡◌, Option, ap, subst, sym, true}
 use Rattle.std.specs.Prelude.{Err}
 use Rattle.std.specs.Option.{option_map}
 use Rattle.std.proofs.lemmas.Result.{err_from_is_err_and}
-use Rattle.qn_lease.specs.declared.events.ArbiterEvent.TheVariants as beside
-use Rattle.qn_lease.specs.declared.reports.Said.TheVariants.{Nothing}
-use Rattle.qn_lease.specs.ArbiterSteps.{advanced_arbiter}
-use Rattle.qn_lease.specs.ArbiterWorld.{Arbiter}
+use Rattle.qn_safety.specs.declared.arbiter_event.ArbiterEvent.TheVariants as beside
+use Rattle.qn_safety.specs.declared.arbiter_reports.Said.TheVariants.{Nothing}
+use Rattle.qn_safety.specs.ArbiterSteps.{advanced_arbiter}
+use Rattle.qn_safety.specs.ArbiterWorld.{Arbiter}
 use Rattle.qn_model.specs.Rules.{is_well_formed}
 use Rattle.qn_arbiter.specs.Standing.{HasRoomFor, RunsOrOff}
 use Rattle.qn_arbiter.specs.Stepping.{Refuses, Stepped}

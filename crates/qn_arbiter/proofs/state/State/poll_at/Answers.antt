@@ -1,6 +1,6 @@
 use Rattle.std.proofs.Common.{◌<◌, ◌∙◌, ap, arith, sym}
 use Rattle.std.specs.Prelude.{slice_get}
-use Rattle.qn_lease.specs.declared.polls.Poll.{Poll}
+use Rattle.qn_safety.specs.declared.polls.Poll.{Poll}
 use Rattle.qn_arbiter.specs.Whole.{Kept}
 use Rattle.qn_arbiter.proofs.RuleTests.{if_some}
 use Rattle.qn_arbiter.proofs.state.State.poll_at.Goals as goal

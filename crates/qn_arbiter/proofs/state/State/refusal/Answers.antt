@@ -1,6 +1,6 @@
 use Rattle.std.proofs.Common.{◌≡◌, ◌∙◌, ap, ap₂, not, subst, sym, true}
 use Rattle.std.specs.Option.{option_or}
-use Rattle.qn_lease.specs.ArbiterRules.{is_well_formed_beside}
+use Rattle.qn_safety.specs.ArbiterRules.{is_well_formed_beside}
 use Rattle.qn_model.specs.Rules.{unless}
 use Rattle.qn_arbiter.specs.OwnRules.{own_refusal}
 use Rattle.qn_arbiter.proofs.Following.{pass_formed}

@@ -1,7 +1,7 @@
 use Rattle.std.proofs.Common.{◌≡◌, ◌∙◌, Some, ap, subst, sym}
 use Rattle.std.specs.Option.{option_map}
-use Rattle.qn_lease.specs.ArbiterSteps.{device_event, played, reply_event}
-use Rattle.qn_lease.specs.Poller.{answer_taken}
+use Rattle.qn_safety.specs.ArbiterSteps.{device_event, played, reply_event}
+use Rattle.qn_safety.specs.Poller.{answer_taken}
 use Rattle.qn_model.specs.World.{World, node_at}
 use Rattle.qn_world.specs.Seen.{tick_now}
 use Rattle.qn_world.specs.Standing.{WorldFor}

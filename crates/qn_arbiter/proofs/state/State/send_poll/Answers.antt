@@ -1,7 +1,7 @@
 use Rattle.std.proofs.Common.{◌≡◌, ◌<◌, ◌+◌, ◌∷◌, ◌∙◌, Some, [], ap, arith, length, length-append, subst, sym}
 use Rattle.std.specs.Prelude.{slice_get}
 use Rattle.qn_base.specs.lemmas.Results.{ok_holds}
-use Rattle.qn_lease.specs.Poller.{Poller}
+use Rattle.qn_safety.specs.Poller.{Poller}
 use Rattle.qn_arbiter.specs.Whole.{Kept}
 use Rattle.qn_arbiter.proofs.Quiet.{poll_few}
 use Rattle.qn_arbiter.proofs.StepForms.{some_same}

@@ -1,10 +1,10 @@
 use Rattle.std.proofs.Common.{◌≡◌, Some, ap, subst, sym, true, ◌∙◌}
 use Rattle.std.specs.Prelude.{Err}
 use Rattle.std.proofs.lemmas.Result.{err_from_is_err_and}
-use Rattle.qn_lease.specs.declared.events.ArbiterEvent.TheVariants as beside
-use Rattle.qn_lease.specs.declared.reports.Said.TheVariants.{Nothing}
-use Rattle.qn_lease.specs.ArbiterSteps.{played}
-use Rattle.qn_lease.specs.ArbiterWorld.{ArbiterWorld}
+use Rattle.qn_safety.specs.declared.arbiter_event.ArbiterEvent.TheVariants as beside
+use Rattle.qn_safety.specs.declared.arbiter_reports.Said.TheVariants.{Nothing}
+use Rattle.qn_safety.specs.ArbiterSteps.{played}
+use Rattle.qn_safety.specs.ArbiterWorld.{ArbiterWorld}
 use Rattle.qn_model.specs.Rules.{is_well_formed}
 use Rattle.qn_arbiter.specs.Standing.{KeptFor}
 use Rattle.qn_arbiter.specs.Stepping.{Refuses, Stepped}

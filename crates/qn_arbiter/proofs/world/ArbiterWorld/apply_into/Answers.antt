@@ -1,7 +1,7 @@
 use Rattle.std.proofs.Common.{◌≡◌, subst, sym, true}
-use Rattle.qn_lease.specs.ArbiterRules.{is_well_formed_beside}
-use Rattle.qn_lease.specs.ArbiterSteps.{step_beside}
-use Rattle.qn_lease.specs.ArbiterWorld.{ArbiterWorld}
+use Rattle.qn_safety.specs.ArbiterRules.{is_well_formed_beside}
+use Rattle.qn_safety.specs.ArbiterSteps.{step_beside}
+use Rattle.qn_safety.specs.ArbiterWorld.{ArbiterWorld}
 use Rattle.qn_arbiter.specs.Standing.{ArbiterFor}
 use Rattle.qn_arbiter.specs.Stepping.{OneVoteIn}
 use Rattle.qn_arbiter.specs.Whole.{Whole, whole_of}

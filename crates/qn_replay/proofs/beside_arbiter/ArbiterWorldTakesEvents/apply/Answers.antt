@@ -1,7 +1,7 @@
 use Rattle.std.proofs.Common.{ap}
 use Rattle.qn_arbiter.specs.TraceLines.{arbiter_trace_line}
 use Rattle.qn_arbiter.specs.Standing.{ArbiterFor}
-use Rattle.qn_lease.specs.ArbiterRules.{refusal_beside}
+use Rattle.qn_safety.specs.ArbiterRules.{refusal_beside}
 use Rattle.qn_model.specs.Settings.{ids}
 use Rattle.qn_replay.specs.BesideReplay.{beside_rules}
 use Rattle.qn_replay.proofs.ArbiterTimes.{arbiter_steps_later}

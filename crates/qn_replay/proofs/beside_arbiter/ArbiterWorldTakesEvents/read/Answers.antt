@@ -1,6 +1,6 @@
 use Rattle.std.proofs.Common.{◌≡◌, ◌∙◌, true, ap, refl, subst}
 use Rattle.qn_arbiter.specs.EventReading.{arbiter_event_of}
-use Rattle.qn_lease.specs.ArbiterRules.{is_well_formed_beside}
+use Rattle.qn_safety.specs.ArbiterRules.{is_well_formed_beside}
 use Rattle.qn_model.specs.declared.configuration.Settings.{Settings}
 use Rattle.qn_model.specs.Settings.{ids}
 use Rattle.qn_replay.proofs.beside_arbiter.ArbiterWorldTakesEvents.read.Goals as goal

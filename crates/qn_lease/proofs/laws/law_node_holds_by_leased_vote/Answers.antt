@@ -1,5 +1,0 @@
-use Rattle.qn_lease.proofs.Holder.{holds_by_vote}
-use Rattle.qn_lease.proofs.laws.law_node_holds_by_leased_vote.Goals as goal
-
-pub returns : goal.returns
-returns c = holds_by_vote

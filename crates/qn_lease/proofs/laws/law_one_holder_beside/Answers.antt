@@ -1,5 +1,0 @@
-use Rattle.qn_lease.proofs.Holding.{one_holder_beside}
-use Rattle.qn_lease.proofs.laws.law_one_holder_beside.Goals as goal
-
-pub returns : goal.returns
-returns c = one_holder_beside c.law_no_two_holders.ensures.reported

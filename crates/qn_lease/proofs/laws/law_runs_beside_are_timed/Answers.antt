@@ -1,5 +1,0 @@
-use Rattle.qn_lease.proofs.Holding.{run_timed_beside}
-use Rattle.qn_lease.proofs.laws.law_runs_beside_are_timed.Goals as goal
-
-pub returns : goal.returns
-returns c = run_timed_beside c.law_runs_are_timed.ensures
