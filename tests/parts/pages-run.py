@@ -204,8 +204,6 @@ def look_at_examples():
 
 # a cell of a table has at most so many letters: what is longer is a paragraph
 CELL = 250
-# pages with longer cells, which are being written anew: take each out of here once it has none
-LONG_CELLS = {"docs/PROVED.md"}
 
 
 def look_at_cells():
@@ -214,7 +212,7 @@ def look_at_cells():
         text = re.sub(r"(?ms)^```.*?^```", lambda block: "\n" * block[0].count("\n"), page.read_text())
         for number, line in enumerate(text.splitlines(), 1):
             cells = re.split(r"(?<!\\)\|", line) if line.startswith("|") else []
-            if place not in LONG_CELLS and any(len(cell.strip()) > CELL for cell in cells):
+            if any(len(cell.strip()) > CELL for cell in cells):
                 wrong.append("%s:%d: a cell of a table with more than %d letters" % (place, number, CELL))
 
 
