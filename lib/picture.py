@@ -115,29 +115,18 @@ def width_of(text):
     return math.ceil(LETTER * len(text))
 
 
-def spans_in_rows(spans, extent):
-    """Spans from left to right, each in the first row where nothing is in its way."""
-    placed, ends = [], []
-    for span in spans:
-        left, right = extent(span)
-        row = next((row for row, end in enumerate(ends) if end + 3 <= left), len(ends))
-        ends[row:row + 1] = [right]
-        placed.append(Placed(span, left, right, row))
-    return placed
-
-
-def marks_in_rows(marks, extent):
-    """Marks, from right to left: each above those that stand over its text, so that no line to the bar crosses a text. Where that makes
-    too many rows, in the first where nothing is in its way."""
+def in_rows(things, extent):
+    """Marks or spans, from right to left: each further from the bar than those that its text reaches, so that no line to the bar crosses a text.
+    Where that makes too many rows, in the first where nothing is in its way."""
     placed, begins = [], []
-    for mark in reversed(marks):
-        left, right = extent(mark)
-        over = itertools.takewhile(lambda other, right=right: other.left <= right, reversed(placed))
+    for thing in reversed(things):
+        left, right = extent(thing)
+        over = itertools.takewhile(lambda other, right=right: other.left < right, reversed(placed))
         above = max((other.row + 1 for other in over), default=0)
         free = [row for row, begin in enumerate(begins) if right + 3 <= begin] + [len(begins)]
         row = next((row for row in free if above <= row < MOST_ROWS), free[0])
         begins[row:row + 1] = [left]
-        placed.append(Placed(mark, left, right, row))
+        placed.append(Placed(thing, left, right, row))
     return placed[::-1]
 
 
@@ -214,9 +203,9 @@ class LaneDrawing:
 
     def __init__(self, lane, scale):
         self.lane, self.scale = lane, scale
-        self.marks = marks_in_rows(sorted(lane.marks, key=lambda mark: mark.point), self.mark_extent)
+        self.marks = in_rows(sorted(lane.marks, key=lambda mark: mark.point), self.mark_extent)
         lines = sorted((span for span in lane.spans if span.kind in LINES), key=lambda span: span.first)
-        self.lines = spans_in_rows(lines, self.line_extent)
+        self.lines = in_rows(lines, self.line_extent)
         self.bar = (BAR if lane.spans else ROW) + STRIP  # with the strip
 
     def mark_extent(self, mark):
@@ -358,7 +347,7 @@ def svg_of(timeline):
     drawing, axis, top = Drawing(), 26, 26 + 2 * ROW + 12
     drawing.width = max(drawing.width, scale.end() + EDGE)
     drawing.text(EDGE, 16, timeline.title, "title")
-    overlaps = spans_in_rows(timeline.overlaps, lambda overlap: (scale.x(overlap.first) - 3, scale.x(overlap.first) + width_of(overlap.text)))
+    overlaps = in_rows(timeline.overlaps, lambda overlap: (scale.x(overlap.first) - 3, scale.x(overlap.first) + width_of(overlap.text)))
     begin = top + ROW * rows_of(overlaps)
     bottom = begin + sum(lane.height() + 8 for lane in lanes)
     draw_axis(drawing, timeline, scale, axis, bottom)
