@@ -40,6 +40,13 @@ class Picture:
         """The numbers of the axis: x and number."""
         return [(int(text.get("x")), int(text.text)) for text in self.root.iter(SVG + "text") if text.get(kind)]
 
+    def leads(self):
+        """The lines from a bar to what is said of it: x, top and bottom."""
+        for path in self.root.iter(SVG + "path"):
+            if path.get("class") == "lead":
+                left, top, bottom = re.fullmatch(r"M(\d+) (\d+)L\1 (\d+)", path.get("d")).groups()
+                yield int(left), int(top), int(bottom)
+
     def texts(self):
         """Each text, and each shape of a mark, with the box that it fills."""
         for text in self.root.iter(SVG + "text"):
@@ -127,13 +134,15 @@ def try_axis(where, picture, trace):
 
 
 def try_texts(where, picture):
-    """No text and no shape lies over another one, or beyond the edge."""
+    """No text and no shape lies over another one, or beyond the edge, and no line from a bar crosses a text."""
     boxes = list(picture.texts())
     width, height = int(picture.root.get("width")), int(picture.root.get("height"))
     for place, (text, (left, top, right, bottom)) in enumerate(boxes):
         demand(left >= 0 and top >= 0 and right <= width and bottom <= height, where, "%r lies beyond the edge" % text)
         for other, (left2, top2, right2, bottom2) in boxes[place + 1:]:
             demand(right <= left2 or right2 <= left or bottom <= top2 or bottom2 <= top, where, "%r lies over %r" % (other, text))
+        for x, begin, end in picture.leads():
+            demand(not (left + 1 < x < right - 1 and begin < bottom and top < end), where, "a line crosses %r" % text)
 
 
 def try_width(where, picture):

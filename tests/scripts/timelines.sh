@@ -1,5 +1,5 @@
 # bin/timeline: the picture of each incident is the one beside its story, which shows it; its lanes are those of the trace, as this script
-# reads it, and of `quorumd status` wherever they change; no text lies over another one. And what it says of words and schedules at fault.
+# reads it, and of `quorumd status` wherever they change; no text lies over another one, and no line crosses one. And what it says of words and schedules at fault.
 . "$TOP/tests/expect.sh"
 
 export QUORUMD
