@@ -37,7 +37,7 @@ make_kernel() {
 unpack_kernel() {
     local at
     while IFS=: read -r at _; do
-        tail -c +$((at + 1)) "$1" | xz -dc > "$2" 2> /dev/null
+        tail -c +$((at + 1)) "$1" 2> /dev/null | xz -dc > "$2" 2> /dev/null
         [ "$(head -c 4 "$2" | tail -c 3)" = ELF ] && return
     done < <(LC_ALL=C grep -abo $'\xfd7zXZ' "$1")
     return 1
