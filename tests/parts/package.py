@@ -1,16 +1,51 @@
-"""For tests/scripts/package.sh, which says what is tested."""
+"""For tests/scripts/package.sh, which says what is tested: package.py FOLDER PAGE.. runs the examples of these pages where the package has what a
+clone has at its top."""
+import os
+import pathlib
 import re
+import shutil
 import subprocess
 import sys
+import tempfile
 
-text = open(sys.argv[1]).read().partition("\n## Four commands\n")[2].partition("\n## ")[0]
-blocks = re.findall(r"(?ms)^```console\n(.*?)^```$", text)
-ran = 0
-for block in blocks:
-    for command, wanted in re.findall(r"(?m)^\$ (.*)\n((?:[^$\n].*\n)*)", block):
-        said = subprocess.run(command.replace("bin/quorumd", "quorumd"), shell=True, stdout=subprocess.PIPE, stderr=subprocess.STDOUT, text=True).stdout
+NEW_FOLDER = 'cd "$(mktemp -d)" && ln -s "$OLDPWD"/* .'
+TOOLS = ("jq", "xxd", "flock")
+
+
+def examples_of(page):
+    """The commands of a page, each with what it writes."""
+    for block in re.findall(r"(?ms)^```console\n(.*?)^```$", page.read_text()):
+        yield from re.findall(r"(?m)^\$ (.*)\n((?:(?!\$ ).*\n)*)", block)
+
+
+def new_folder(top):
+    folder = pathlib.Path(tempfile.mkdtemp(dir="."))
+    for there in top.iterdir():
+        (folder / there.name).symlink_to(there)
+    return folder
+
+
+def try_page(top, page):
+    """How many commands of the page were run."""
+    ran, folder = 0, top
+    for command, wanted in examples_of(top / page):
+        if command == NEW_FOLDER:
+            folder = new_folder(top)
+            continue
+        if any(re.search(r"\b%s\b" % tool, command) and not shutil.which(tool) for tool in TOOLS):
+            continue
+        said = subprocess.run(["bash", "-c", command], cwd=folder, stdout=subprocess.PIPE, stderr=subprocess.STDOUT, text=True).stdout
         ran += 1
         if said != wanted:
-            sys.exit("%s: wanted %s, got %s" % (command, wanted, said))
-if ran < 5:
-    sys.exit("only %d commands" % ran)
+            sys.exit("%s: %s: wanted %s, got %s" % (page, command, wanted, said))
+    return ran
+
+
+def main():
+    top = pathlib.Path(os.path.abspath(sys.argv[1]))
+    for page in sys.argv[2:]:
+        if try_page(top, page) < 3:
+            sys.exit("%s: fewer than three commands" % page)
+
+
+main()

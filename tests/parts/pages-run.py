@@ -13,10 +13,9 @@ PAGES = sorted([TOP / "README.md", *TOP.glob("docs/*.md"), *TOP.glob("bench/*.md
 PACKAGES = {"jq": "jq", "xxd": "xxd", "flock": "util-linux"}
 # how a page begins whose commands make files: the folder of a page is such a one
 NEW_FOLDER = 'cd "$(mktemp -d)" && ln -s "$OLDPWD"/* .'
-# pages that make files and are being written anew: take each out of here once it begins so
-OLD_FOLDER = {"README.md", "docs/LIVE.md", "docs/STATUS.md"}
-# a page whose files are those of machines, which the labs write
-OF_MACHINES = {"docs/MACHINES.md"}
+# what a clone has at its top and the package in /usr/share/quorumd: the examples of all pages but those for whoever changes the program use nothing else
+PACKED = ("README.md", "contrib", "docs", "examples", "lib")
+OF_SOURCES = {"docs/ARCHITECTURE.md", "docs/CHANGING.md", "docs/DECISIONS.md", "docs/PACKETS.md", "docs/PROVED.md", "bench/README.md"}
 wrong = []
 
 
@@ -54,7 +53,9 @@ def missing_tool(command):
 
 def run(folder, command, text=""):
     """What a command writes, in the folder of its page."""
-    done = subprocess.run(["bash", "-c", command], cwd=folder, input=text, stdout=subprocess.PIPE, stderr=subprocess.STDOUT, text=True)
+    path = "%s:%s" % ((folder / "bin").resolve(), os.environ["PATH"])
+    done = subprocess.run(["bash", "-c", command], cwd=folder, input=text, stdout=subprocess.PIPE, stderr=subprocess.STDOUT, text=True,
+                          env={**os.environ, "PATH": path})
     return done.stdout
 
 
@@ -63,7 +64,11 @@ def differs(place, command, got, wanted):
         wrong.append("%s: %s\nwanted %s\ngot    %s" % (place, command, wanted, got))
 
 
-def try_console(folder, place, lines):
+def names_in(folder):
+    return {path.name for path in folder.iterdir()}
+
+
+def try_console(folder, place, lines, made):
     if not lines or not lines[0].startswith("$ "):
         wrong.append("%s: a console block begins with a line `$ COMMAND`" % place)
     for command, wanted in commands_of(lines):
@@ -74,6 +79,7 @@ def try_console(folder, place, lines):
             print("skipped: %s: not installed (Debian: %s), for: %s" % (place, package, command))
         else:
             differs(place, command, run(folder, command), "".join(line + "\n" for line in wanted))
+            made |= names_in(folder)
 
 
 def try_unrun(place, lines):
@@ -93,31 +99,35 @@ def try_run_by_lab(place, kind, text):
         wrong.append("%s: %s: %s" % (place, kind, read.stderr))
 
 
-def look_at_folder(page, folder, before):
-    """A page whose commands made files begins in a new folder."""
-    place, made = str(page.relative_to(TOP)), sorted({path.name for path in folder.iterdir()} - before)
+def look_at_folder(page, made):
+    """A page whose commands make files, also such as they take away again, begins in a new folder; but not one for a machine of its own."""
     first = next((lines[0][2:] for _, kind, lines in blocks_of(page) if kind == "console" and lines), "")
-    if made and first != NEW_FOLDER and place not in OLD_FOLDER | OF_MACHINES:
-        wrong.append("%s makes %s, and does not begin with $ %s" % (place, ", ".join(made), NEW_FOLDER))
+    if made and first != NEW_FOLDER and not files_of(page):
+        wrong.append("%s makes %s, and does not begin with $ %s" % (page.relative_to(TOP), ", ".join(sorted(made)), NEW_FOLDER))
 
 
 def try_page(page):
     folder = folder_of(page)
-    before = {path.name for path in folder.iterdir()}
-    try_blocks(page, folder)
+    before = names_in(folder) | files_of(page)
+    look_at_folder(page, try_blocks(page, folder) - before)
     look_for_leftovers(page, folder)
-    look_at_folder(page, folder, before)
+
+
+def files_of(page):
+    """The files of a machine that a page shows, which the one who reads it does not make."""
+    return {pathlib.Path(kind).name for _, kind, _ in blocks_of(page) if kind.startswith("file ")}
 
 
 def try_blocks(page, folder):
-    schedule = None
+    """Tries the blocks of a page, and returns what stood in its folder after each command."""
+    schedule, made = None, set()
     for number, kind, lines in blocks_of(page):
         place = "%s:%d" % (page.relative_to(TOP), number)
         text = "".join(line + "\n" for line in lines)
         if (kind == "trace") != (schedule is not None):
             wrong.append("%s: a schedule and its trace stand one after the other" % place)
         if kind == "console":
-            try_console(folder, place, lines)
+            try_console(folder, place, lines, made)
         elif kind == "console not-run":
             try_unrun(place, lines)
         elif kind == "conf":
@@ -134,18 +144,20 @@ def try_blocks(page, folder):
         elif kind != "schedule":
             wrong.append("%s: a block of no kind: %r" % (place, kind))
         schedule = text if kind == "schedule" else None
+    return made
 
 
 def folder_of(page):
-    """An empty folder in which the repository's files stand, with the program as bin/quorumd."""
+    """A new folder in which what the page may use stands, with the program as bin/quorumd."""
     folder = pathlib.Path("run", str(page.relative_to(TOP)).replace("/", "-"))
     (folder / "bin").mkdir(parents=True)
     (folder / "bin" / "quorumd").symlink_to(os.environ["QUORUMD"])
     for script in (TOP / "bin").iterdir():
         if script.name != "quorumd":
             (folder / "bin" / script.name).symlink_to(script)
+    of_sources = str(page.relative_to(TOP)) in OF_SOURCES
     for there in TOP.iterdir():
-        if there.name not in ("bin", "out") and not there.name.startswith("."):
+        if there.name in PACKED or of_sources and there.name not in ("bin", "out") and not there.name.startswith("."):
             (folder / there.name).symlink_to(there)
     return folder
 
@@ -163,8 +175,7 @@ TIDY = ("README.md", "docs/README.md", "docs/TRY.md", "docs/STORIES.md", "docs/S
 
 
 def look_for_leftovers(page, folder):
-    files = {pathlib.Path(kind).name for _, kind, _ in blocks_of(page) if kind.startswith("file ")}
-    left = {there.name for there in folder.iterdir() if not there.is_symlink()} - files - {"bin"}
+    left = {there.name for there in folder.iterdir() if not there.is_symlink()} - files_of(page) - {"bin"}
     if str(page.relative_to(TOP)) in TIDY and left:
         wrong.append("%s leaves %s" % (page.relative_to(TOP), " ".join(sorted(left))))
 
@@ -204,8 +215,6 @@ def look_at_examples():
 
 # a cell of a table has at most so many letters: what is longer is a paragraph
 CELL = 250
-# pages with longer cells, which are being written anew: take each out of here once it has none
-LONG_CELLS = {"docs/PROVED.md"}
 
 
 def look_at_cells():
@@ -214,7 +223,7 @@ def look_at_cells():
         text = re.sub(r"(?ms)^```.*?^```", lambda block: "\n" * block[0].count("\n"), page.read_text())
         for number, line in enumerate(text.splitlines(), 1):
             cells = re.split(r"(?<!\\)\|", line) if line.startswith("|") else []
-            if place not in LONG_CELLS and any(len(cell.strip()) > CELL for cell in cells):
+            if any(len(cell.strip()) > CELL for cell in cells):
                 wrong.append("%s:%d: a cell of a table with more than %d letters" % (place, number, CELL))
 
 

@@ -1,5 +1,5 @@
-# packaging/build-deb: the package is unpacked into an empty root, and the four commands of docs/README.md and a story are run there. The same
-# sources give the same bytes; the program is the one that was built.
+# packaging/build-deb: the package is unpacked into an empty root, and the examples of its pages are run there. The same sources give the same bytes;
+# the program is the one that was built.
 . "$TOP/tests/expect.sh"
 
 if ! command -v dpkg-deb > /dev/null; then
@@ -89,15 +89,13 @@ else
     printf 'skipped: only root can install a package, so it was unpacked alone\n'
 fi
 
-# all that a newcomer runs is that of the package
+# all that a newcomer runs is that of the package, and nothing is written into it
+unset QUORUMD QUORUMCTL
+chmod -R a-w root/usr/share
+python3 -B "$TOP/tests/parts/package.py" root/usr/share/quorumd docs/README.md docs/TRY.md docs/SCHEDULES.md docs/STATUS.md contrib/README.md
+chmod -R u+w root/usr/share
+(cd root && md5sum --quiet -c ../control/md5sums)
 cd "$(mktemp -d -p .)"
-ln -s "$doc/examples" examples
-PATH=$(dirname "$doc")/../../sbin:$(dirname "$doc")/../quorumd/bin:$PATH
-unset QUORUMD
-python3 -B "$TOP/tests/parts/package.py" "$doc/docs/README.md"
-story --keep kept examples/try.story > account
-grep -q ' STARTS the resource$' account
-timeline --title 'The holder is killed' kept | cmp - examples/try.svg
 
 # words that are none
 for words in --no-such-word 'one two' no-such-folder; do
