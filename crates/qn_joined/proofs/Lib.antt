@@ -23,7 +23,9 @@ mod Taking
 mod TripleAsking
 mod TripleClosing
 mod TripleEnds
+mod TripleEvents
 mod TripleFrames
+mod TripleLooks
 mod TripleMoves
 mod TriplePlain
 mod TripleReturns

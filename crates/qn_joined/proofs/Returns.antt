@@ -148,7 +148,7 @@ module _ (s : Settings) (rank : ℕ) (host : Host) (n : Running) (took : Option 
       lives = by_gone (is_gone (phase s st.log)) refl
 
 -- a look at the clock
-now_made : (made : Call) → Some (call.Now 0) ≡ Some (blank made) → (tick : ℕ) × (made ≡ call.Now tick)
+pub now_made : (made : Call) → Some (call.Now 0) ≡ Some (blank made) → (tick : ℕ) × (made ≡ call.Now tick)
 now_made (call.Now tick) e = (tick, refl)
 now_made (call.Receive got) e = absurd cc
 now_made (call.Read sector read ok) e = absurd cc

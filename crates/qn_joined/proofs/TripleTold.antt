@@ -21,7 +21,7 @@ use Rattle.qn_model.specs.declared.outputs.Out.TheVariants as out
 use Rattle.qn_model.specs.declared.packets.Packet.{Packet}
 use Rattle.qn_model.specs.declared.packets.Sent.{Sent}
 use Rattle.qn_model.specs.Log.{op_out}
-use Rattle.qn_model.specs.Moments.{Running, node, packets, time}
+use Rattle.qn_model.specs.Moments.{Running, node, packets}
 use Rattle.qn_model.specs.NodeOutputs.{newest_outs}
 use Rattle.qn_model.specs.World.{failed}
 use Rattle.qn_live.specs.Greetings.{sends_plan}
@@ -50,13 +50,13 @@ use Rattle.qn_joined.proofs.Moving.{EndsDisk, disk_blank, disk_effect, node_move
 use Rattle.qn_joined.proofs.Standing.{acts_ahead}
 use Rattle.qn_joined.proofs.Returns.{returned_fed}
 use Rattle.qn_joined.proofs.TripleAsking.{AllTold, AsksDisk, AsksOne, Comes, asks_disk, comes_next, told_silent}
-use Rattle.qn_joined.proofs.TripleClosing.{Closing, Settled, closed_answer, closes, settled_landed}
+use Rattle.qn_joined.proofs.TripleClosing.{Closing, Settled, closed_answer, closes, pending_is, settled_landed}
 use Rattle.qn_joined.proofs.TripleFrames.{ChangesOnThree, IsNodeIn3, same_images, then_changes, triple_moves}
 use Rattle.qn_joined.proofs.TripleReturns.{HasHeard, hears, honest}
 use Rattle.qn_joined.proofs.TripleSteps.{configured_triple, good_same, starts_of, told_none}
 
 -- what landed on an image is what the image told
-clear_closed : (by : ToldBy) (parts parts' : ℕ → Part) → AllAre by parts → ((image : ℕ) → Settled (parts image) (parts' image)) → (image : ℕ) → is_image image ≡ true → has_landed (part_on (all_told by) image) ≡ has_landed (parts' image)
+clear_closed : (by : ToldBy) (parts parts' : ℕ → Part) → AllAre by parts → ((image : ℕ) → Settled is_pending (parts image) (parts' image)) → (image : ℕ) → is_image image ≡ true → has_landed (part_on (all_told by) image) ≡ has_landed (parts' image)
 clear_closed by parts parts' are settled zero is = absurd (let under = leb-true 1 0 (first_of_both (nat_le 1 0) (nat_le 0 3) is) in omega (arith, under))
 clear_closed by parts parts' are settled (suc zero) is = ap has_landed (sym are.0) ∙ settled_landed (parts 1) (parts' 1) (settled 1)
 clear_closed by parts parts' are settled (suc (suc zero)) is = ap has_landed (sym are.1) ∙ settled_landed (parts 2) (parts' 2) (settled 2)
@@ -64,7 +64,7 @@ clear_closed by parts parts' are settled (suc (suc (suc zero))) is = ap has_land
 clear_closed by parts parts' are settled (suc (suc (suc (suc more)))) is =
     absurd (let under = leb-true (suc (suc (suc (suc more)))) 3 (second_of_both (nat_le 1 (suc (suc (suc (suc more))))) (nat_le (suc (suc (suc (suc more)))) 3) is) in omega (arith, under))
 
-closed_good : (op : DiskOp) (by : ToldBy) (good good' : ℕ → Bool) (parts parts' : ℕ → Part) → AllAre by parts → ((image : ℕ) → Settled (parts image) (parts' image)) → ((image : ℕ) → is_image image ≡ true → good image ≡ good' image)
+closed_good : (op : DiskOp) (by : ToldBy) (good good' : ℕ → Bool) (parts parts' : ℕ → Part) → AllAre by parts → ((image : ℕ) → Settled is_pending (parts image) (parts' image)) → ((image : ℕ) → is_image image ≡ true → good image ≡ good' image)
     → (image : ℕ) → is_image image ≡ true → good_after op (part_on (all_told by)) good image ≡ good_after op parts' good' image
 closed_good disk.WriteClear by good good' parts parts' are settled same image in_range = clear_closed by parts parts' are settled image in_range
 closed_good disk.ReadHeader by good good' parts parts' are settled same image in_range = same image in_range
@@ -76,7 +76,7 @@ closed_good (disk.WriteClose last) by good good' parts parts' are settled same i
 closed_good (disk.WriteReset other) by good good' parts parts' are settled same image in_range = same image in_range
 
 -- no operation but a clear changes the good images
-kept_good : (op : DiskOp) (parts : ℕ → Part) (good good' : ℕ → Bool) (image : ℕ) → (op ≡ disk.WriteClear → ⊥) → good image ≡ good' image → good_after op parts good image ≡ good' image
+pub kept_good : (op : DiskOp) (parts : ℕ → Part) (good good' : ℕ → Bool) (image : ℕ) → (op ≡ disk.WriteClear → ⊥) → good image ≡ good' image → good_after op parts good image ≡ good' image
 kept_good disk.WriteClear parts good good' image never same = absurd (never refl)
 kept_good disk.ReadHeader parts good good' image never same = same
 kept_good (disk.ReadSlot other) parts good good' image never same = same
@@ -295,7 +295,7 @@ module _ (s : Settings) (t : Timing) (rank : ℕ) (made : Call) (j : TripleJoint
   abbrev end_host : Told → TripleHost
   end_host told = stands_at s rank told.1 (returned_one s rank told.0 j.time tells_host.one) (record tells_host { left = gives_up s rank tells_host })
 
-  module _ (told : Told) (by' : ToldBy) (answered : IsAnswered s rank d.asking.number d.waits.op tells_host.good by' told) (are : AllAre by' ((run_triple s t h.events').parts rank)) (c : Closing s t rank h.events')
+  module _ (told : Told) (by' : ToldBy) (answered : IsAnswered s rank d.asking.number d.waits.op tells_host.good by' told) (are : AllAre by' ((run_triple s t h.events').parts rank)) (c : Closing s t rank is_pending h.events')
       (over : none_pending (λ image. is_pending ((run_triple s t c.events').parts rank image)) ≡ true) where
     abbrev end_world : TripleWorld
     end_world = run_triple s t c.events'
@@ -372,7 +372,7 @@ module _ (s : Settings) (t : Timing) (rank : ℕ) (made : Call) (j : TripleJoint
   ends_with : (told : Told) (by' : ToldBy) → IsAnswered s rank d.asking.number d.waits.op tells_host.good by' told → AllAre by' ((run_triple s t h.events').parts rank)
       → HasTripleWorld s t (record (with_triple rank (end_host told) j) { sent = j.sent ++ sent_by made })
   ends_with told by' answered are =
-      let c = closes s t rank h.events' d.waits.op (ap (λ ms. (node s rank ms).on) h.moments ∙ d.waits.lives) (ap (λ ms. op_out (node s rank ms).log) h.moments ∙ d.waits.out) h.may in
+      let c = closes s t rank is_pending (λ part e. (pending_is part e).1) h.events' d.waits.op (ap (λ ms. (node s rank ms).on) h.moments ∙ d.waits.lives) (ap (λ ms. op_out (node s rank ms).log) h.moments ∙ d.waits.out) h.may in
       world_of (end_host told) c.0.events' c.0.may (then_changes h.changes c.0.changes) (c.0.slots ∙ h.slots) (c.0.mailboxes ∙ h.mailboxes) (c.0.moments ∙ h.moments)
       (end_node told by' answered are c.0 c.1)
       (subst (λ f. f ≤ j.time) (sym (returned_fed s rank told.0 j.time tells_host.one)) (has.world.fed rank))

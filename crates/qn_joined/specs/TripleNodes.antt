@@ -145,3 +145,13 @@ ReturnsPlainly s t rank made =
     → is_disk made ≡ false
     → is_looking (j.hosts rank).one.stand.spot ≡ false
     → HasTripleWorld s t (happens_triple s (joints.Returns rank made) j)
+
+-- the same after a look at the clock returned, of a process that has looked before
+abbrev pub ReturnsALook : Settings → Timing → ℕ → Call → Type 0
+ReturnsALook s t rank made =
+    (j : TripleJoint)
+    → FitsImage s t
+    → HasTripleWorld s t j
+    → MayHappenTriple s t (joints.Returns rank made) j
+    → is_looking (j.hosts rank).one.stand.spot ≡ true
+    → HasTripleWorld s t (happens_triple s (joints.Returns rank made) j)

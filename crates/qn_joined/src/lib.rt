@@ -13,11 +13,11 @@
 //! Of nodes on three images `specs/TripleJoints` says what may happen to them, and `specs/TripleNodes` which world that is. A process
 //! of theirs makes the calls of the run of its node on three images (`law_triple_stands`). The calls of a disk operation on the three
 //! end with the answer of the world of three images (`law_triple_calls`); and where a joint has a world, it has one after a disk call
-//! landed on an image (`law_triple_lands`) or returned (`law_triple_tells`), a call returned that is none of the disk and no look at
-//! the clock (`law_triple_returns`), a write that was given up landed after all (`law_triple_late`), time passed, a process began, a
-//! feed took effect, a machine ended, or an operator wrote (`law_triple_passes`, `law_triple_begins`, `law_triple_feeds`,
-//! `law_triple_ends`, `law_triple_operates`). That it has one after a look at the clock returned or a node looked at its outside for
-//! the first time is not proved, and so neither is that at most one resource runs.
+//! landed on an image (`law_triple_lands`) or returned (`law_triple_tells`), a look at the clock returned
+//! (`law_triple_looks_return`), another call returned (`law_triple_returns`), so any call (`law_triple_returns_any`), a write that was
+//! given up landed after all (`law_triple_late`), time passed, a process began, a feed took effect, a machine ended, or an operator
+//! wrote (`law_triple_passes`, `law_triple_begins`, `law_triple_feeds`, `law_triple_ends`, `law_triple_operates`). That it has one
+//! after a node looked at its outside for the first time is not proved, and so neither is that at most one resource runs.
 #![tactic(auto)]
 
 mod laws;
@@ -31,6 +31,6 @@ pub use laws::{
 };
 pub use triple_laws::{
     law_triple_begins, law_triple_calls, law_triple_ends, law_triple_feeds, law_triple_lands,
-    law_triple_late, law_triple_operates, law_triple_passes, law_triple_returns, law_triple_stands,
-    law_triple_tells,
+    law_triple_late, law_triple_looks_return, law_triple_operates, law_triple_passes,
+    law_triple_returns, law_triple_returns_any, law_triple_stands, law_triple_tells,
 };

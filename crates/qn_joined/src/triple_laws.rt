@@ -11,7 +11,7 @@ ghost use Rattle.qn_live.specs.TripleRuns.{triple_plan};
 ghost use Rattle.qn_joined.specs.Joints.{is_disk, waits_for};
 ghost use Rattle.qn_joined.specs.TripleJoints as joints;
 ghost use Rattle.qn_joined.specs.TripleJoints.{TripleHost, began_triple, plan_left, returned_triple};
-ghost use Rattle.qn_joined.specs.TripleNodes.{KeepsAWorld, ReturnsPlainly};
+ghost use Rattle.qn_joined.specs.TripleNodes.{KeepsAWorld, ReturnsALook, ReturnsPlainly};
 ghost use Rattle.qn_joined.specs.TripleWorldOf.{CallsAnswer};
 
 use crate::laws::{law_mails_read_back, law_packets_read_back, law_takes_alike};
@@ -102,4 +102,22 @@ pub fn law_triple_returns()
     law_triple_nodes();
     law_triple_calls();
     law_packets_read_back();
+}
+
+/// Law: the same after a look at the clock returned, of a process that has looked before: that is the event of the entry that the
+/// node is handed, and the parts of an operation that failed fail before it is answered.
+pub fn law_triple_looks_return()
+    ensures { (s : Settings) (t : Timing) (rank : ℕ) (made : Call) → ReturnsALook s t rank made }
+{
+    law_triple_nodes();
+    law_triple_calls();
+}
+
+/// Law: the same after any call returned.
+pub fn law_triple_returns_any()
+    ensures { (s : Settings) (t : Timing) (rank : ℕ) (made : Call) → KeepsAWorld s t (joints.Returns rank made) }
+{
+    law_triple_tells();
+    law_triple_returns();
+    law_triple_looks_return();
 }
