@@ -61,17 +61,20 @@ pub fn law_triple_ends()
 
 /// Law: the same after a write that was given up on an image landed there after all.
 pub fn law_triple_late()
-    ensures { (s : Settings) (t : Timing) (rank image number : ℕ) → KeepsAWorld s t (joints.LandsLate rank image number) }
+    ensures { (s : Settings) (t : Timing) (rank image number : ℕ)
+        → KeepsAWorld s t (joints.LandsLate rank image number) }
 {}
 
 /// Law: the same after time passed.
 pub fn law_triple_passes()
-    ensures { (s : Settings) (t : Timing) (dt : ℕ) (clocks : List (Rank × ℕ)) → KeepsAWorld s t (joints.Passes dt clocks) }
+    ensures { (s : Settings) (t : Timing) (dt : ℕ) (clocks : List (Rank × ℕ))
+        → KeepsAWorld s t (joints.Passes dt clocks) }
 {}
 
 /// Law: the same after a process began: its node is off.
 pub fn law_triple_begins()
-    ensures { (s : Settings) (t : Timing) (rank : ℕ) (clean : Bool) (leave : Option ℕ) (turns : ℕ) → KeepsAWorld s t (joints.Begins rank clean leave turns) }
+    ensures { (s : Settings) (t : Timing) (rank : ℕ) (clean : Bool) (leave : Option ℕ) (turns : ℕ)
+        → KeepsAWorld s t (joints.Begins rank clean leave turns) }
 {}
 
 /// Law: the same after a feed took effect: that is one event where the node takes part in time, and else none.
@@ -81,7 +84,8 @@ pub fn law_triple_feeds()
 
 /// Law: the same after an operator wrote to a mailbox of an image.
 pub fn law_triple_operates()
-    ensures { (s : Settings) (t : Timing) (rank image : ℕ) (sent : Message) → KeepsAWorld s t (joints.Operates rank image sent) }
+    ensures { (s : Settings) (t : Timing) (rank image : ℕ) (sent : Message)
+        → KeepsAWorld s t (joints.Operates rank image sent) }
 {
     law_mails_read_back();
 }
@@ -89,7 +93,8 @@ pub fn law_triple_operates()
 /// Law: the same after a disk call on an image returned: where it failed its part fails in the world, and once all images told
 /// those that were not asked fail too, and the node takes the answer that the world gives.
 pub fn law_triple_tells()
-    ensures { (s : Settings) (t : Timing) (rank : ℕ) (made : Call) → IsTrue (is_disk made) → KeepsAWorld s t (joints.Returns rank made) }
+    ensures { (s : Settings) (t : Timing) (rank : ℕ) (made : Call)
+        → IsTrue (is_disk made) → KeepsAWorld s t (joints.Returns rank made) }
 {
     law_triple_nodes();
     law_triple_calls();
@@ -115,7 +120,8 @@ pub fn law_triple_looks_return()
 
 /// Law: the same after any call returned.
 pub fn law_triple_returns_any()
-    ensures { (s : Settings) (t : Timing) (rank : ℕ) (made : Call) → KeepsAWorld s t (joints.Returns rank made) }
+    ensures { (s : Settings) (t : Timing) (rank : ℕ) (made : Call)
+        → KeepsAWorld s t (joints.Returns rank made) }
 {
     law_triple_tells();
     law_triple_returns();
