@@ -21,6 +21,7 @@ mod Standing
 mod Stands
 mod Taking
 mod TripleAsking
+mod TripleBoots
 mod TripleClosing
 mod TripleEnds
 mod TripleEvents

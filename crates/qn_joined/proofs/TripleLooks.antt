@@ -73,7 +73,7 @@ module _ (s : Settings) (t : Timing) (rank : ℕ) (j : TripleJoint) (nodes : Tri
   -- the look is made once
   call_once : host.call ≡ plans.Asks (call.Now 0) (λ made. plans.Ends (made, host.good))
   call_once =
-      (is.idle (ap disk_ahead looking)).1 ∙ ap (λ q. option_map_or (call_plan s rank host.good) q (plans.Ends (call.Now 0, host.good))) waits_now
+      (is.idle running (ap disk_ahead looking)).1 ∙ ap (λ q. option_map_or (call_plan s rank host.good) q (plans.Ends (call.Now 0, host.good))) waits_now
       ∙ once_made s rank host.good (call.Now 0) refl
 
   module _ (tick : ℕ) (may : joints.MayReturnTriple s rank (call.Now tick) j) where
@@ -233,7 +233,7 @@ module _ (s : Settings) (t : Timing) (rank : ℕ) (j : TripleJoint) (nodes : Tri
       goods = λ on clear image in_range. goods' on (λ out none. clear out (ahead_is ∙ none)) image in_range;
       silent = λ on none. no_parts (λ plain. none_before plain none);
       ahead = λ on op e. inl (no_parts (λ plain. none_ahead plain op (sym ahead_is ∙ e)), refl, refl);
-      idle = λ none. (refl, refl);
+      idle = λ on none. (refl, refl);
       among = λ image. h.left image (gives_up s rank host image) (gives_nothing is may.on calls fits below known (ap (λ q. option_map_or is_disk q false) may.waits) image);
       fresh = λ on unasked. absurd (let asked = still_asked in let both = sym asked ∙ unasked in cc);
     }

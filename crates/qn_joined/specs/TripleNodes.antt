@@ -103,10 +103,10 @@ pub record IsNodeOnThree (s : Settings) (t : Timing) (rank : ℕ) (host : Triple
       → is_good_on host.good image ≡ good_told (op_out n.log) took parts good image
   pub silent : n.on ≡ true → op_out n.log ≡ None → AllAre none_told parts
   pub ahead : n.on ≡ true → (op : DiskOp) → disk_ahead host.one.stand.spot ≡ Some op → IsAhead s t rank host op parts
-  pub idle : disk_ahead host.one.stand.spot ≡ None
+  pub idle : host.one.on ≡ true → disk_ahead host.one.stand.spot ≡ None
       → (host.took ≡ None) × (host.call ≡ call_on_three s rank host.good host.one)
   pub among : (image : ℕ) → AreAmong s rank (host.left image) (left image)
-  pub fresh : host.one.on ≡ true → host.one.asked ≡ false → host.good ≡ all_good
+  pub fresh : host.one.on ≡ true → host.one.asked ≡ false → (host.good ≡ all_good) × ((image : ℕ) → host.left image ≡ [])
 
 -- the joint is this world
 pub record IsTripleWorld (s : Settings) (t : Timing) (j : TripleJoint) (w : TripleWorld) : Type 0 where

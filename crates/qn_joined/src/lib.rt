@@ -16,8 +16,9 @@
 //! landed on an image (`law_triple_lands`) or returned (`law_triple_tells`), a look at the clock returned
 //! (`law_triple_looks_return`), another call returned (`law_triple_returns`), so any call (`law_triple_returns_any`), a write that was
 //! given up landed after all (`law_triple_late`), time passed, a process began, a feed took effect, a machine ended, or an operator
-//! wrote (`law_triple_passes`, `law_triple_begins`, `law_triple_feeds`, `law_triple_ends`, `law_triple_operates`). That it has one
-//! after a node looked at its outside for the first time is not proved, and so neither is that at most one resource runs.
+//! wrote (`law_triple_passes`, `law_triple_begins`, `law_triple_feeds`, `law_triple_ends`, `law_triple_operates`). It has
+//! one after a process looked at its clock for the first time too (`law_triple_looks`): that is the boot of its node. That at most one
+//! resource runs is not proved.
 #![tactic(auto)]
 
 mod laws;
@@ -31,6 +32,7 @@ pub use laws::{
 };
 pub use triple_laws::{
     law_triple_begins, law_triple_calls, law_triple_ends, law_triple_feeds, law_triple_lands,
-    law_triple_late, law_triple_looks_return, law_triple_operates, law_triple_passes,
-    law_triple_returns, law_triple_returns_any, law_triple_stands, law_triple_tells,
+    law_triple_late, law_triple_looks, law_triple_looks_return, law_triple_operates,
+    law_triple_passes, law_triple_returns, law_triple_returns_any, law_triple_stands,
+    law_triple_tells,
 };

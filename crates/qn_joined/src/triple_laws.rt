@@ -77,6 +77,13 @@ pub fn law_triple_begins()
         → KeepsAWorld s t (joints.Begins rank clean leave turns) }
 {}
 
+/// Law: the same after a process looked at its clock for the first time: that is the boot of its node, on three good images.
+pub fn law_triple_looks()
+    ensures { (s : Settings) (t : Timing) (rank base : ℕ) → KeepsAWorld s t (joints.Looks rank base) }
+{
+    law_triple_nodes();
+}
+
 /// Law: the same after a feed took effect: that is one event where the node takes part in time, and else none.
 pub fn law_triple_feeds()
     ensures { (s : Settings) (t : Timing) (rank : ℕ) → KeepsAWorld s t (joints.Feeds rank) }
