@@ -28,10 +28,13 @@ mod TripleEvents
 mod TripleFrames
 mod TripleLooks
 mod TripleMoves
+mod TripleOwners
 mod TriplePlain
 mod TripleReturns
+mod TripleRows
 mod TripleStands
 mod TripleSteps
 mod TripleTells
 mod TripleTold
+mod TripleWorlds
 mod Worlds

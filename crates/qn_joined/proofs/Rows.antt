@@ -134,6 +134,11 @@ take_over = waits ++ fences ++ is_alone 0 1 ++ comes_up 0 1 ++ claims 0 ++ Ends 
 abbrev May : List Happening → Type 0
 May happenings = AllMayHappen two_nodes short_times new_image happenings
 
+-- the newest happening may happen, and so might the earlier ones
+infixr 5 ◌▸◌
+pub ◌▸◌ : {A B : Type 0} → A → B → A × B
+newest ▸ earlier = (newest, earlier)
+
 -- what the rows compute with
 unfoldable pub joint_steps : Bool
 unfolding node_steps log_from header_bytes_in mail_bytes slot_bytes header_in mail_of slot_of failed ranks_that view_at after_tick choice_plan sends_plan disk_call done out_call outs_plan waits_after clocked greeted handled settled live_plan parted run_plan left_plan after_spot returned looked_first happens joint_after AllMayHappen packet_bytes
@@ -141,315 +146,141 @@ joint_steps = true
 
 claims_first : May (claims 1)
 unfolding joint_steps
-claims_first = (
-  record { on = refl; asked = refl; waits = refl; answer = tt; spells = refl },
-  (
-    record { on = refl; asked = refl; waits = refl; answer = refl; spells = refl },
-    (
-      record { on = refl; asked = refl; waits = refl; answer = λ ok. refl; spells = refl },
-      (
-        (refl, refl, refl),
-        (
-          record { on = refl; asked = refl; waits = refl; answer = tt; spells = refl },
-          (
-            record { on = refl; asked = refl; waits = refl; answer = refl; spells = refl },
-            (
-              record { on = refl; asked = refl; waits = refl; answer = λ ok. refl; spells = refl },
-              (
-                (refl, refl, refl),
-                (
-                  record { on = refl; asked = refl; waits = refl; answer = tt; spells = refl },
-                  (
-                    record { on = refl; asked = refl; waits = refl; answer = refl; spells = refl },
-                    (
-                      record { on = refl; asked = refl; waits = refl; answer = λ ok. refl; spells = refl },
-                      (
-                        (refl, refl, refl),
-                        (
-                          (refl, refl, refl),
-                          (
-                            (omega arith, omega arith, refl),
-                            tt,
-                          ),
-                        ),
-                      ),
-                    ),
-                  ),
-                ),
-              ),
-            ),
-          ),
-        ),
-      ),
-    ),
-  ),
-)
+claims_first =
+    record { on = refl; asked = refl; waits = refl; answer = tt; spells = refl } ▸
+    record { on = refl; asked = refl; waits = refl; answer = refl; spells = refl } ▸
+    record { on = refl; asked = refl; waits = refl; answer = λ ok. refl; spells = refl } ▸
+    (refl, refl, refl) ▸
+    record { on = refl; asked = refl; waits = refl; answer = tt; spells = refl } ▸
+    record { on = refl; asked = refl; waits = refl; answer = refl; spells = refl } ▸
+    record { on = refl; asked = refl; waits = refl; answer = λ ok. refl; spells = refl } ▸
+    (refl, refl, refl) ▸
+    record { on = refl; asked = refl; waits = refl; answer = tt; spells = refl } ▸
+    record { on = refl; asked = refl; waits = refl; answer = refl; spells = refl } ▸
+    record { on = refl; asked = refl; waits = refl; answer = λ ok. refl; spells = refl } ▸
+    (refl, refl, refl) ▸
+    (refl, refl, refl) ▸
+    (omega arith, omega arith, refl) ▸
+    tt
 
 comes_up_first : May (comes_up 1 0 ++ claims 1)
 unfolding joint_steps
-comes_up_first = (
-  record { on = refl; asked = refl; waits = refl; answer = tt; spells = refl },
-  (
-    record { on = refl; asked = refl; waits = refl; answer = refl; spells = refl },
-    (
-      record { on = refl; asked = refl; waits = refl; answer = tt; spells = refl },
-      (
-        record { on = refl; asked = refl; waits = refl; answer = λ ok. refl; spells = refl },
-        (
-          (refl, refl, refl),
-          (
-            record { on = refl; asked = refl; waits = refl; answer = tt; spells = refl },
-            (
-              record { on = refl; asked = refl; waits = refl; answer = refl; spells = refl },
-              (
-                record { on = refl; asked = refl; waits = refl; answer = λ ok. refl; spells = refl },
-                (
-                  (refl, refl, refl),
-                  claims_first,
-                ),
-              ),
-            ),
-          ),
-        ),
-      ),
-    ),
-  ),
-)
+comes_up_first =
+    record { on = refl; asked = refl; waits = refl; answer = tt; spells = refl } ▸
+    record { on = refl; asked = refl; waits = refl; answer = refl; spells = refl } ▸
+    record { on = refl; asked = refl; waits = refl; answer = tt; spells = refl } ▸
+    record { on = refl; asked = refl; waits = refl; answer = λ ok. refl; spells = refl } ▸
+    (refl, refl, refl) ▸
+    record { on = refl; asked = refl; waits = refl; answer = tt; spells = refl } ▸
+    record { on = refl; asked = refl; waits = refl; answer = refl; spells = refl } ▸
+    record { on = refl; asked = refl; waits = refl; answer = λ ok. refl; spells = refl } ▸
+    (refl, refl, refl) ▸
+    claims_first
 
 alone_first : May (is_alone 1 0 ++ comes_up 1 0 ++ claims 1)
 unfolding joint_steps
-alone_first = (
-  (refl, refl),
-  (
-    record { on = refl; asked = refl; waits = refl; answer = tt; spells = refl },
-    (
-      record { on = refl; asked = refl; waits = refl; answer = refl; spells = refl },
-      (
-        record { on = refl; asked = refl; waits = refl; answer = tt; spells = refl },
-        (
-          record { on = refl; asked = refl; waits = refl; answer = tt; spells = refl },
-          (
-            record { on = refl; asked = refl; waits = refl; answer = λ ok. refl; spells = refl },
-            (
-              (refl, refl, refl),
-              (
-                record { on = refl; asked = refl; waits = refl; answer = refl; spells = refl },
-                (
-                  record { on = refl; asked = refl; waits = refl; answer = tt; spells = refl },
-                  (
-                    (of_two _ refl refl, refl),
-                    (
-                      record { on = refl; asked = refl; waits = refl; answer = refl; spells = refl },
-                      (
-                        record { on = refl; asked = refl; waits = refl; answer = tt; spells = refl },
-                        comes_up_first,
-                      ),
-                    ),
-                  ),
-                ),
-              ),
-            ),
-          ),
-        ),
-      ),
-    ),
-  ),
-)
+alone_first =
+    (refl, refl) ▸
+    record { on = refl; asked = refl; waits = refl; answer = tt; spells = refl } ▸
+    record { on = refl; asked = refl; waits = refl; answer = refl; spells = refl } ▸
+    record { on = refl; asked = refl; waits = refl; answer = tt; spells = refl } ▸
+    record { on = refl; asked = refl; waits = refl; answer = tt; spells = refl } ▸
+    record { on = refl; asked = refl; waits = refl; answer = λ ok. refl; spells = refl } ▸
+    (refl, refl, refl) ▸
+    record { on = refl; asked = refl; waits = refl; answer = refl; spells = refl } ▸
+    record { on = refl; asked = refl; waits = refl; answer = tt; spells = refl } ▸
+    (of_two _ refl refl, refl) ▸
+    record { on = refl; asked = refl; waits = refl; answer = refl; spells = refl } ▸
+    record { on = refl; asked = refl; waits = refl; answer = tt; spells = refl } ▸
+    comes_up_first
 
 start_may : May start_alone
 unfolding joint_steps
-start_may = (
-  record { on = refl; asked = refl; waits = refl; answer = refl; spells = refl },
-  (
-    record { on = refl; asked = refl; waits = refl; answer = λ ok. refl; spells = refl },
-    (
-      (refl, refl, refl),
-      alone_first,
-    ),
-  ),
-)
+start_may =
+    record { on = refl; asked = refl; waits = refl; answer = refl; spells = refl } ▸
+    record { on = refl; asked = refl; waits = refl; answer = λ ok. refl; spells = refl } ▸
+    (refl, refl, refl) ▸
+    alone_first
 
 claims_second : May (claims 0 ++ Ends 1 ∷ start_alone)
 unfolding joint_steps
-claims_second = (
-  record { on = refl; asked = refl; waits = refl; answer = tt; spells = refl },
-  (
-    record { on = refl; asked = refl; waits = refl; answer = refl; spells = refl },
-    (
-      record { on = refl; asked = refl; waits = refl; answer = λ ok. refl; spells = refl },
-      (
-        (refl, refl, refl),
-        (
-          record { on = refl; asked = refl; waits = refl; answer = tt; spells = refl },
-          (
-            record { on = refl; asked = refl; waits = refl; answer = refl; spells = refl },
-            (
-              record { on = refl; asked = refl; waits = refl; answer = λ ok. refl; spells = refl },
-              (
-                (refl, refl, refl),
-                (
-                  record { on = refl; asked = refl; waits = refl; answer = tt; spells = refl },
-                  (
-                    record { on = refl; asked = refl; waits = refl; answer = refl; spells = refl },
-                    (
-                      record { on = refl; asked = refl; waits = refl; answer = λ ok. refl; spells = refl },
-                      (
-                        (refl, refl, refl),
-                        (
-                          (refl, refl, refl),
-                          (
-                            (omega arith, omega arith, refl),
-                            (refl, start_may),
-                          ),
-                        ),
-                      ),
-                    ),
-                  ),
-                ),
-              ),
-            ),
-          ),
-        ),
-      ),
-    ),
-  ),
-)
+claims_second =
+    record { on = refl; asked = refl; waits = refl; answer = tt; spells = refl } ▸
+    record { on = refl; asked = refl; waits = refl; answer = refl; spells = refl } ▸
+    record { on = refl; asked = refl; waits = refl; answer = λ ok. refl; spells = refl } ▸
+    (refl, refl, refl) ▸
+    record { on = refl; asked = refl; waits = refl; answer = tt; spells = refl } ▸
+    record { on = refl; asked = refl; waits = refl; answer = refl; spells = refl } ▸
+    record { on = refl; asked = refl; waits = refl; answer = λ ok. refl; spells = refl } ▸
+    (refl, refl, refl) ▸
+    record { on = refl; asked = refl; waits = refl; answer = tt; spells = refl } ▸
+    record { on = refl; asked = refl; waits = refl; answer = refl; spells = refl } ▸
+    record { on = refl; asked = refl; waits = refl; answer = λ ok. refl; spells = refl } ▸
+    (refl, refl, refl) ▸
+    (refl, refl, refl) ▸
+    (omega arith, omega arith, refl) ▸
+    refl ▸
+    start_may
 
 comes_up_second : May (comes_up 0 1 ++ claims 0 ++ Ends 1 ∷ start_alone)
 unfolding joint_steps
-comes_up_second = (
-  record { on = refl; asked = refl; waits = refl; answer = tt; spells = refl },
-  (
-    record { on = refl; asked = refl; waits = refl; answer = refl; spells = refl },
-    (
-      record { on = refl; asked = refl; waits = refl; answer = tt; spells = refl },
-      (
-        record { on = refl; asked = refl; waits = refl; answer = λ ok. refl; spells = refl },
-        (
-          (refl, refl, refl),
-          (
-            record { on = refl; asked = refl; waits = refl; answer = tt; spells = refl },
-            (
-              record { on = refl; asked = refl; waits = refl; answer = refl; spells = refl },
-              (
-                record { on = refl; asked = refl; waits = refl; answer = λ ok. refl; spells = refl },
-                (
-                  (refl, refl, refl),
-                  claims_second,
-                ),
-              ),
-            ),
-          ),
-        ),
-      ),
-    ),
-  ),
-)
+comes_up_second =
+    record { on = refl; asked = refl; waits = refl; answer = tt; spells = refl } ▸
+    record { on = refl; asked = refl; waits = refl; answer = refl; spells = refl } ▸
+    record { on = refl; asked = refl; waits = refl; answer = tt; spells = refl } ▸
+    record { on = refl; asked = refl; waits = refl; answer = λ ok. refl; spells = refl } ▸
+    (refl, refl, refl) ▸
+    record { on = refl; asked = refl; waits = refl; answer = tt; spells = refl } ▸
+    record { on = refl; asked = refl; waits = refl; answer = refl; spells = refl } ▸
+    record { on = refl; asked = refl; waits = refl; answer = λ ok. refl; spells = refl } ▸
+    (refl, refl, refl) ▸
+    claims_second
 
 alone_second : May (is_alone 0 1 ++ comes_up 0 1 ++ claims 0 ++ Ends 1 ∷ start_alone)
 unfolding joint_steps
-alone_second = (
-  (refl, refl),
-  (
-    record { on = refl; asked = refl; waits = refl; answer = tt; spells = refl },
-    (
-      record { on = refl; asked = refl; waits = refl; answer = refl; spells = refl },
-      (
-        record { on = refl; asked = refl; waits = refl; answer = tt; spells = refl },
-        (
-          record { on = refl; asked = refl; waits = refl; answer = tt; spells = refl },
-          (
-            record { on = refl; asked = refl; waits = refl; answer = λ ok. refl; spells = refl },
-            (
-              (refl, refl, refl),
-              (
-                record { on = refl; asked = refl; waits = refl; answer = refl; spells = refl },
-                (
-                  record { on = refl; asked = refl; waits = refl; answer = tt; spells = refl },
-                  (
-                    (of_two _ refl refl, refl),
-                    (
-                      record { on = refl; asked = refl; waits = refl; answer = refl; spells = refl },
-                      (
-                        record { on = refl; asked = refl; waits = refl; answer = tt; spells = refl },
-                        comes_up_second,
-                      ),
-                    ),
-                  ),
-                ),
-              ),
-            ),
-          ),
-        ),
-      ),
-    ),
-  ),
-)
+alone_second =
+    (refl, refl) ▸
+    record { on = refl; asked = refl; waits = refl; answer = tt; spells = refl } ▸
+    record { on = refl; asked = refl; waits = refl; answer = refl; spells = refl } ▸
+    record { on = refl; asked = refl; waits = refl; answer = tt; spells = refl } ▸
+    record { on = refl; asked = refl; waits = refl; answer = tt; spells = refl } ▸
+    record { on = refl; asked = refl; waits = refl; answer = λ ok. refl; spells = refl } ▸
+    (refl, refl, refl) ▸
+    record { on = refl; asked = refl; waits = refl; answer = refl; spells = refl } ▸
+    record { on = refl; asked = refl; waits = refl; answer = tt; spells = refl } ▸
+    (of_two _ refl refl, refl) ▸
+    record { on = refl; asked = refl; waits = refl; answer = refl; spells = refl } ▸
+    record { on = refl; asked = refl; waits = refl; answer = tt; spells = refl } ▸
+    comes_up_second
 
 fences_second : May (fences ++ is_alone 0 1 ++ comes_up 0 1 ++ claims 0 ++ Ends 1 ∷ start_alone)
 unfolding joint_steps
-fences_second = (
-  record { on = refl; asked = refl; waits = refl; answer = refl; spells = refl },
-  (
-    record { on = refl; asked = refl; waits = refl; answer = λ ok. refl; spells = refl },
-    (
-      (refl, refl, refl),
-      (
-        record { on = refl; asked = refl; waits = refl; answer = refl; spells = refl },
-        (
-          record { on = refl; asked = refl; waits = refl; answer = λ ok. refl; spells = refl },
-          (
-            (refl, refl, refl),
-            alone_second,
-          ),
-        ),
-      ),
-    ),
-  ),
-)
+fences_second =
+    record { on = refl; asked = refl; waits = refl; answer = refl; spells = refl } ▸
+    record { on = refl; asked = refl; waits = refl; answer = λ ok. refl; spells = refl } ▸
+    (refl, refl, refl) ▸
+    record { on = refl; asked = refl; waits = refl; answer = refl; spells = refl } ▸
+    record { on = refl; asked = refl; waits = refl; answer = λ ok. refl; spells = refl } ▸
+    (refl, refl, refl) ▸
+    alone_second
 
 take_over_may : May (take_over ++ start_alone)
 unfolding joint_steps
-take_over_may = (
-  record { on = refl; asked = refl; waits = refl; answer = refl; spells = refl },
-  (
-    record { on = refl; asked = refl; waits = refl; answer = tt; spells = refl },
-    (
-      (of_two _ refl refl, refl),
-      (
-        (refl, refl),
-        (
-          record { on = refl; asked = refl; waits = refl; answer = tt; spells = refl },
-          (
-            record { on = refl; asked = refl; waits = refl; answer = refl; spells = refl },
-            (
-              record { on = refl; asked = refl; waits = refl; answer = tt; spells = refl },
-              (
-                record { on = refl; asked = refl; waits = refl; answer = tt; spells = refl },
-                (
-                  record { on = refl; asked = refl; waits = refl; answer = λ ok. refl; spells = refl },
-                  (
-                    (refl, refl, refl),
-                    (
-                      record { on = refl; asked = refl; waits = refl; answer = refl; spells = refl },
-                      (
-                        record { on = refl; asked = refl; waits = refl; answer = tt; spells = refl },
-                        (
-                          (of_two _ refl refl, refl),
-                          fences_second,
-                        ),
-                      ),
-                    ),
-                  ),
-                ),
-              ),
-            ),
-          ),
-        ),
-      ),
-    ),
-  ),
-)
+take_over_may =
+    record { on = refl; asked = refl; waits = refl; answer = refl; spells = refl } ▸
+    record { on = refl; asked = refl; waits = refl; answer = tt; spells = refl } ▸
+    (of_two _ refl refl, refl) ▸
+    (refl, refl) ▸
+    record { on = refl; asked = refl; waits = refl; answer = tt; spells = refl } ▸
+    record { on = refl; asked = refl; waits = refl; answer = refl; spells = refl } ▸
+    record { on = refl; asked = refl; waits = refl; answer = tt; spells = refl } ▸
+    record { on = refl; asked = refl; waits = refl; answer = tt; spells = refl } ▸
+    record { on = refl; asked = refl; waits = refl; answer = λ ok. refl; spells = refl } ▸
+    (refl, refl, refl) ▸
+    record { on = refl; asked = refl; waits = refl; answer = refl; spells = refl } ▸
+    record { on = refl; asked = refl; waits = refl; answer = tt; spells = refl } ▸
+    (of_two _ refl refl, refl) ▸
+    fences_second
 
 first_runs : runs_at two_nodes new_image start_alone 1 ≡ true
 unfolding joint_steps
