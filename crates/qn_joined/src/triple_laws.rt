@@ -81,7 +81,8 @@ pub fn law_triple_begins()
 
 /// Law: the same after a process looked at its clock for the first time: that is the boot of its node, on three good images.
 pub fn law_triple_looks()
-    ensures { (s : Settings) (t : Timing) (rank base : ℕ) → KeepsAWorld s t (joints.Looks rank base) }
+    ensures { (s : Settings) (t : Timing) (rank base : ℕ)
+        → KeepsAWorld s t (joints.Looks rank base) }
 {
     law_triple_nodes();
 }
