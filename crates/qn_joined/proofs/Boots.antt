@@ -64,7 +64,7 @@ begins_as_node s rank host n took left all clean leave turns begun is off =
     lives : n.on ≡ true → ⊥
     lives on = let both = sym off_now ∙ on in cc
 
-pub said_at_boot : (s : Settings) (rank base : ℕ) (clean : Bool) (ms : List Moment)
+said_at_boot : (s : Settings) (rank base : ℕ) (clean : Bool) (ms : List Moment)
     → AllSaid (packets s (Boots rank base clean ∷ ms)) (newest_outs (node s rank (Boots rank base clean ∷ ms)).log)
 unfolding packets given_out
 said_at_boot s rank base clean ms =
@@ -100,24 +100,15 @@ boots_changes s rank base clean w =
       left = λ r apart. put_other w.left rank r [] apart;
     }
 
-pub first_is : (s : Settings) (rank base now : ℕ) (host : Host) (stand : Stand)
+first_is : (s : Settings) (rank base now : ℕ) (host : Host) (stand : Stand)
     → looked_first s rank base now (record host { stand = stand }) ≡ returned s rank (call.Now (tick_of base)) now (record host { asked = true; clock = base; stand = stand })
 unfolding looked_first returned
 first_is s rank base now host stand = refl
 
-module _ (s : Settings) (t : Timing) (rank : ℕ) (events : List Event) (host : Host) (base : ℕ) (logs : LogsHold s t) (below : rank < length s.nodes) (may : AllMay s t events)
-    (is : IsNodeIn s rank host (run s t events)) (on : host.on ≡ true) (unasked : host.asked ≡ false) (fed : host.fed ≤ time (run s t events).moments) where
-  abbrev w : World
-  w = run s t events
-
-  fresh : IsFresh host
-  fresh = is.fresh on unasked
-
-  off_now : (node_at s rank w).on ≡ false
-  off_now = is.on ∙ ap (λ b. host.on && b && not (is_gone (phase s (log_at host.stand.spot)))) unasked ∙ ap (λ b. b && false && not (is_gone (phase s (log_at host.stand.spot)))) on
-
+-- the first look at the clock of a process, and the node of its boot
+module _ (s : Settings) (rank : ℕ) (ms : List Moment) (host : Host) (base : ℕ) (fresh : IsFresh host) (idle : host.took ≡ None) (on : host.on ≡ true) (fed : host.fed ≤ time ms) where
   abbrev before : Running
-  before = record { on = true; boots = suc (node_at s rank w).boots; log = []; clock = base; fed = time w.moments; decided = None }
+  before = record { on = true; boots = suc (node s rank ms).boots; log = []; clock = base; fed = time ms; decided = None }
 
   abbrev first : Host
   first = record host { asked = true; clock = base; stand = first_stand fresh.clean fresh.turns }
@@ -125,11 +116,8 @@ module _ (s : Settings) (t : Timing) (rank : ℕ) (events : List Event) (host : 
   abbrev chosen : Choice × RunState
   chosen = (choice.Whole (begin_of fresh.clean), first_state)
 
-  abbrev after : World
-  after = boots rank base fresh.clean w
-
-  host_idle : host.took ≡ None
-  host_idle = is.idle on (ap (λ x. disk_ahead x.spot) fresh.stand)
+  abbrev moments : List Moment
+  moments = Boots rank base fresh.clean ∷ ms
 
   ready : IsReady s rank first chosen before None []
   unfolding op_out
@@ -143,39 +131,63 @@ module _ (s : Settings) (t : Timing) (rank : ℕ) (events : List Event) (host : 
     waiting = record { stopped = λ ok e. absurd cc; disk = λ answer e. absurd cc };
     calm = refl;
     free = λ answers. refl;
-    idle = host_idle;
+    idle = idle;
     among = subst (λ l. AreAmong s rank l []) (sym fresh.left) NoCall;
   }
 
-  spends : Spends s rank (begin_of fresh.clean) first None (after.took rank) [] (after.left rank)
-  spends = record {
-    plain = λ e. (put_same w.took rank None, put_same w.left rank []);
-    answer = λ e. absurd (let both = sym (begin_answers_none fresh.clean) ∙ e in cc);
-  }
+  spends : Spends s rank (begin_of fresh.clean) first None None [] []
+  spends = record { plain = λ e. (refl, refl); answer = λ e. absurd (let both = sym (begin_answers_none fresh.clean) ∙ e in cc) }
 
-  node_is : node_at s rank after ≡ handed s rank (time w.moments) (begin_of fresh.clean) before
+  node_is : node s rank moments ≡ handed s rank (time ms) (begin_of fresh.clean) before
   unfolding booted
-  node_is = node_boots s rank base fresh.clean w.moments
+  node_is = node_boots s rank base fresh.clean ms
+
+  looked_is : looked_first s rank base (time ms) host ≡ returned s rank (call.Now (tick_of base)) (time ms) first
+  looked_is = ap (λ x. looked_first s rank base (time ms) (record host { stand = x })) fresh.stand ∙ first_is s rank base (time ms) host (first_stand fresh.clean fresh.turns)
+
+  pub boots_as_node : IsNodeLog s (node s rank moments).log → IsNode s rank (looked_first s rank base (time ms) host) (node s rank moments) None [] (packets s moments)
+  boots_as_node known =
+      subst (λ h. IsNode s rank h (node s rank moments) None [] (packets s moments)) (sym looked_is)
+      (subst (λ x. IsNode s rank (returned s rank (call.Now (tick_of base)) (time ms) first) x None [] (packets s moments)) (sym node_is)
+      (handed_at s rank before None None [] [] (packets s moments) first chosen (time ms) (tick_of base) ready on refl refl
+      (subst (λ x. IsNodeLog s x.log) node_is known) spends (λ e. e) (λ e. e)
+      (subst (λ x. AllSaid (packets s moments) (newest_outs x.log)) node_is (said_at_boot s rank base fresh.clean ms))))
+
+-- a process that has not looked at the clock is a node that is off
+pub unasked_off : {s : Settings} {rank : ℕ} {host : Host} {n : Running} {took : Option What} {left : List DiskOp} {all : List Sent}
+    → IsNode s rank host n took left all → host.on ≡ true → host.asked ≡ false → n.on ≡ false
+unasked_off {s} {rank} {host} is on unasked =
+    is.on ∙ ap (λ b. host.on && b && not (is_gone (phase s (log_at host.stand.spot)))) unasked ∙ ap (λ b. b && false && not (is_gone (phase s (log_at host.stand.spot)))) on
+
+pub unasked_idle : {s : Settings} {rank : ℕ} {host : Host} {n : Running} {took : Option What} {left : List DiskOp} {all : List Sent}
+    → IsNode s rank host n took left all → host.on ≡ true → host.asked ≡ false → host.took ≡ None
+unasked_idle is on unasked = is.idle on (ap (λ x. disk_ahead x.spot) (is.fresh on unasked).stand)
+
+module _ (s : Settings) (t : Timing) (rank : ℕ) (events : List Event) (host : Host) (base : ℕ) (logs : LogsHold s t) (below : rank < length s.nodes) (may : AllMay s t events)
+    (is : IsNodeIn s rank host (run s t events)) (on : host.on ≡ true) (unasked : host.asked ≡ false) (fed : host.fed ≤ time (run s t events).moments) where
+  abbrev w : World
+  w = run s t events
+
+  fresh : IsFresh host
+  fresh = is.fresh on unasked
+
+  abbrev after : World
+  after = boots rank base fresh.clean w
 
   may_boot : AllMay s t (boot_event rank base fresh.clean ∷ events)
   unfolding AllMay
-  may_boot = (boot_ranked s rank base fresh.clean below, boot_allowed s t rank base fresh.clean w off_now, may)
+  may_boot = (boot_ranked s rank base fresh.clean below, boot_allowed s t rank base fresh.clean w (unasked_off is on unasked), may)
 
   run_is : run s t (boot_event rank base fresh.clean ∷ events) ≡ after
   unfolding run
   run_is = boot_steps s t rank base fresh.clean w
 
-  looked_is : looked_first s rank base (time w.moments) host ≡ returned s rank (call.Now (tick_of base)) (time w.moments) first
-  looked_is = ap (λ x. looked_first s rank base (time w.moments) (record host { stand = x })) fresh.stand ∙ first_is s rank base (time w.moments) host (first_stand fresh.clean fresh.turns)
-
   booted_node : IsNodeIn s rank (looked_first s rank base (time w.moments) host) after
   booted_node =
-      subst (λ h. IsNodeIn s rank h after) (sym looked_is)
-      (subst (λ x. IsNode s rank (returned s rank (call.Now (tick_of base)) (time w.moments) first) x (after.took rank) (after.left rank) (packets s after.moments)) (sym node_is)
-      (handed_at s rank before None (after.took rank) [] (after.left rank) (packets s after.moments) first chosen (time w.moments) (tick_of base) ready on refl refl
-      (subst (λ x. IsNodeLog s x.log) (ap (node_at s rank) run_is ∙ node_is) (logs (boot_event rank base fresh.clean ∷ events) rank may_boot below))
-      spends (λ e. e) (λ e. e)
-      (subst (λ x. AllSaid (packets s after.moments) (newest_outs x.log)) node_is (said_at_boot s rank base fresh.clean w.moments))))
+      subst (λ k. IsNode s rank (looked_first s rank base (time w.moments) host) (node_at s rank after) k (after.left rank) (packets s after.moments)) (sym (put_same w.took rank None))
+      (subst (λ l. IsNode s rank (looked_first s rank base (time w.moments) host) (node_at s rank after) None l (packets s after.moments)) (sym (put_same w.left rank []))
+      (boots_as_node s rank w.moments host base fresh (unasked_idle is on unasked) on fed
+      (subst (λ x. IsNodeLog s (node_at s rank x).log) run_is (logs (boot_event rank base fresh.clean ∷ events) rank may_boot below))))
 
   boots_here : Moved s t rank events (looked_first s rank base (time w.moments) host)
   boots_here = record {

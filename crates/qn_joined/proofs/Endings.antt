@@ -13,7 +13,7 @@ use Rattle.qn_model.specs.declared.outputs.Out.TheVariants as out
 use Rattle.qn_model.specs.declared.packets.Sent.{Sent}
 use Rattle.qn_model.specs.lemmas.Moments.{node_ends, ends_apart, put_same, put_other}
 use Rattle.qn_model.specs.Log.{disk_of, op_out}
-use Rattle.qn_model.specs.Moments.{Ends, Running, is_gone, node, packets, time}
+use Rattle.qn_model.specs.Moments.{Ends, Running, is_gone, packets, time}
 use Rattle.qn_model.specs.Phases.{phase}
 use Rattle.qn_model.specs.Rules.{refusal, unless}
 use Rattle.qn_model.specs.Steps.{gives_up, happens, run, step}

@@ -7,7 +7,6 @@ use Rattle.qn_base.specs.declared.calls.Call.TheVariants as call
 use Rattle.qn_base.specs.declared.ids.View.{View}
 use Rattle.qn_model.specs.declared.configuration.Settings.{Settings}
 use Rattle.qn_model.specs.declared.entries.What.{What}
-use Rattle.qn_model.specs.declared.entries.What.TheVariants as what
 use Rattle.qn_model.specs.declared.outputs.DiskOp.{DiskOp}
 use Rattle.qn_model.specs.declared.outputs.HaltKind.TheVariants as halt
 use Rattle.qn_model.specs.declared.outputs.Out.{Out}
@@ -273,3 +272,8 @@ module _ (s : Settings) (rank : ℕ) (n : Running) (took took' : Option What) (l
 
   pub handed_at : IsNode s rank (returned s rank (call.Now tick) time (at host (Looking chosen))) (handed s rank time (looked tick chosen.0 chosen.1.maker).1 n) took' left' all'
   handed_at = subst (λ h. IsNode s rank h n' took' left' all') (sym is_acted) acted_node
+
+  -- the operation that is ahead then came out of the entry
+  pub handed_ahead : disk_ahead (returned s rank (call.Now tick) time (at host (Looking chosen))).stand.spot ≡ disk_of (newest_outs (handed s rank time (looked tick chosen.0 chosen.1.maker).1 n).log)
+  handed_ahead =
+      ap (λ h. disk_ahead h.stand.spot) is_acted ∙ acts_ahead s rank host.leave host.stand.turn host.stand.more found.1 outs outs st' ∙ ap (λ l. disk_of (newest_outs l)) (sym same_log)

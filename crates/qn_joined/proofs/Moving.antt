@@ -13,7 +13,7 @@ use Rattle.qn_model.specs.declared.outputs.DiskOp.{DiskOp}
 use Rattle.qn_model.specs.declared.outputs.DiskOp.TheVariants as disk
 use Rattle.qn_model.specs.declared.outputs.Out.{Out}
 use Rattle.qn_model.specs.declared.packets.Sent.{Sent}
-use Rattle.qn_model.specs.Holding.{holds}
+use Rattle.qn_model.specs.Holding.{holds, is_stopped}
 use Rattle.qn_model.specs.Log.{is_answer}
 use Rattle.qn_model.specs.Moments.{Running, is_gone}
 use Rattle.qn_model.specs.Phases.{phase}
@@ -248,28 +248,18 @@ node_moves {s} {rank} {host} {n} {took} {left} {all} is after keeps asked same b
         ∙ ap (λ b. after.on && b && not (is_gone (phase s (log_at host.stand.spot)))) (sym two)
         ∙ ap (λ l. after.on && after.asked && not (is_gone (phase s l))) (sym three)
 
--- the answer of a disk call is backed by what it took
-failed_is : (op : DiskOp) → is_answer (failed op) ≡ true
-unfolding failed
-failed_is disk.ReadHeader = refl
-failed_is (disk.ReadSlot rank) = refl
-failed_is disk.CheckMail = refl
-failed_is disk.ReadMail = refl
-failed_is (disk.WriteClaim next) = refl
-failed_is (disk.WriteClose own) = refl
-failed_is disk.WriteClear = refl
-failed_is (disk.WriteReset rank) = refl
-
-done_is : (s : Settings) (op : DiskOp) (bytes : List ℕ) → is_answer (done s op bytes) ≡ true
-unfolding done
-done_is s disk.ReadHeader bytes = refl
-done_is s (disk.ReadSlot rank) bytes = refl
-done_is s disk.CheckMail bytes = refl
-done_is s disk.ReadMail bytes = refl
-done_is s (disk.WriteClaim next) bytes = refl
-done_is s (disk.WriteClose own) bytes = refl
-done_is s disk.WriteClear bytes = refl
-done_is s (disk.WriteReset rank) bytes = refl
+-- the entry of an operation that failed, and of one that was done, is its answer and no stop
+pub op_answers : (s : Settings) (op : DiskOp) (bytes : List ℕ)
+    → (is_answer (failed op) ≡ true) × (is_stopped (failed op) ≡ false) × (is_answer (done s op bytes) ≡ true) × (is_stopped (done s op bytes) ≡ false)
+unfolding failed done
+op_answers s disk.ReadHeader bytes = (refl, refl, refl, refl)
+op_answers s (disk.ReadSlot rank) bytes = (refl, refl, refl, refl)
+op_answers s disk.CheckMail bytes = (refl, refl, refl, refl)
+op_answers s disk.ReadMail bytes = (refl, refl, refl, refl)
+op_answers s (disk.WriteClaim next) bytes = (refl, refl, refl, refl)
+op_answers s (disk.WriteClose own) bytes = (refl, refl, refl, refl)
+op_answers s disk.WriteClear bytes = (refl, refl, refl, refl)
+op_answers s (disk.WriteReset rank) bytes = (refl, refl, refl, refl)
 
 -- a write is done whatever was read
 write_done : (s : Settings) (op : DiskOp) (bytes other : List ℕ) → is_write op ≡ true → done s op bytes ≡ done s op other
@@ -335,6 +325,7 @@ took_by rank host sent (call.Halt code) is fails may = absurd cc
 took_by rank host sent (call.OpenImage path ok) is fails may = absurd cc
 took_by rank host sent (call.OpenNode images image watchdog resource port owner ok) is fails may = absurd cc
 
+-- the answer of a disk call is backed by what it took
 pub answer_backed : (s : Settings) (rank number : ℕ) (op : DiskOp) (made : Call) (host : Host) (sent : List (ℕ × List ℕ)) (took : Option What)
     → Some (disk_call s rank number op) ≡ Some (blank made)
     → is_disk made ≡ true
@@ -346,11 +337,11 @@ answer_backed s rank number op made host sent took asked is may alike = by_faile
     by_failed : (b : Bool) → is_failed made ≡ b
         → (is_answer (if b then failed op else done s op (bytes_read made)) ≡ true)
         × (((if b then failed op else done s op (bytes_read made)) ≡ failed op) ⊎ (took ≡ Some (if b then failed op else done s op (bytes_read made))))
-    by_failed true e = (failed_is op, inl refl)
+    by_failed true e = ((op_answers s op (bytes_read made)).0, inl refl)
     by_failed false e =
         let found = took_by rank host sent made is e may in
         let landed : took ≡ Some (done s op found.0) = subst (λ x. TookAlike s op x took) found.1 alike in
-        (done_is s op (bytes_read made), inr (landed ∙ ap Some (same found.2)))
+        ((op_answers s op (bytes_read made)).2, inr (landed ∙ ap Some (same found.2)))
       where
         same : {bytes : List ℕ} → (is_writing made ≡ true) ⊎ (bytes ≡ bytes_read made) → done s op bytes ≡ done s op (bytes_read made)
         same {bytes} (inl writes) =

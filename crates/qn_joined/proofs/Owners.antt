@@ -11,7 +11,6 @@ use Rattle.qn_model.specs.Holding.{holds}
 use Rattle.qn_model.specs.Moments.{Running, is_gone, is_holder}
 use Rattle.qn_model.specs.Phases.{phase}
 use Rattle.qn_model.specs.Steps.{run}
-use Rattle.qn_model.specs.World.{node_at}
 use Rattle.qn_joined.specs.Joints.{Host, Joint}
 use Rattle.qn_safety.specs.AnyNumbers.{OneMayHold}
 use Rattle.qn_joined.proofs.Calls.{timed_on}
@@ -48,15 +47,19 @@ living_runs {s = s} {host = host} is on owns runs = by_gone (is_gone (phase s (l
     by_gone false e = e
     by_gone true e = absurd (let none = is.rests on e in let held = (owns.held runs).0 in cc)
 
--- a resource that runs is held in the world
+-- a resource that runs is held by its node
+pub node_holds : {s : Settings} {rank : ℕ} {host : Host} {n : Running} {took : Option What} {left : List DiskOp} {all : List Sent}
+    → IsNode s rank host n took left all → HostOwns host → (on : host.on ≡ true) → host.runs ≡ true → (n.on && holds n.log) ≡ true
+node_holds {s} {host = host} {n = n} is owned on runs =
+    let owns = owned on in
+    let lives = is.on ∙ timed_on host.on host.asked (is_gone (phase s (log_at host.stand.spot))) on (asked_runs is on runs) (living_runs is on owns runs) in
+    and_from n.on (holds n.log) lives (ap holds (is.log lives) ∙ (owns.held runs).0)
+
 runner_holds : {s : Settings} {t : Timing} {j : Joint} (has : HasWorld s t j) (rank : ℕ) → HostOwns (j.hosts rank)
     → ((j.hosts rank).on && (j.hosts rank).runs) ≡ true → is_holder s (run s t has.events).moments rank ≡ true
-runner_holds {s} {t} {j} has rank owned runs =
+runner_holds {j = j} has rank owned runs =
     let two = and_parts (j.hosts rank).on (j.hosts rank).runs runs in
-    let owns = owned two.0 in
-    let is = has.world.nodes rank (configured has rank two.0) in
-    let on = is.on ∙ timed_on (j.hosts rank).on (j.hosts rank).asked (is_gone (phase s (log_at (j.hosts rank).stand.spot))) two.0 (asked_runs is two.0 two.1) (living_runs is two.0 owns two.1) in
-    and_from (node_at s rank (run s t has.events)).on (holds (node_at s rank (run s t has.events)).log) on (ap holds (is.log on) ∙ (owns.held two.1).0)
+    node_holds (has.world.nodes rank (configured has rank two.0)) owned two.0 two.1
 
 pub one_owner : (s : Settings) (t : Timing) → OneMayHold s t → EveryJointHasAWorld s t → AtMostOneRuns s t
 one_owner s t one every image happenings i j joined first second =

@@ -27,6 +27,7 @@ use Rattle.qn_live.specs.Performing.{disk_answer, disk_call, done, noted, out_ca
 use Rattle.qn_joined.specs.Stands.{Spot, Receiving, Looking, Acting, Saying, Parting, Ended, after_call, after_spot, left_plan, log_at, parts_at, said_at}
 use Rattle.qn_joined.specs.Joints.{Host, after_effect, returned, waits_for}
 use Rattle.qn_joined.specs.Owning.{Owns, is_done_stop, stops_in}
+use Rattle.qn_joined.proofs.Moving.{op_answers}
 use Rattle.qn_joined.proofs.Owning.{Fine, acts_owns, looks_own, parts_owns, said_owns}
 
 -- what a call does to the resource: 1 looks at the clock, 2 stops it, 0 nothing
@@ -89,34 +90,12 @@ choice_no_stop me (Some p) = by_test (is_entry_for me p)
     by_test true = entry_no_stop p
     by_test false = refl
 
-failed_calm : (op : DiskOp) → is_stopped (failed op) ≡ false
-unfolding failed
-failed_calm disk.ReadHeader = refl
-failed_calm (disk.ReadSlot rank) = refl
-failed_calm disk.CheckMail = refl
-failed_calm disk.ReadMail = refl
-failed_calm (disk.WriteClaim next) = refl
-failed_calm (disk.WriteClose own) = refl
-failed_calm disk.WriteClear = refl
-failed_calm (disk.WriteReset rank) = refl
-
-done_calm : (s : Settings) (op : DiskOp) (bytes : List ℕ) → is_stopped (done s op bytes) ≡ false
-unfolding done
-done_calm s disk.ReadHeader bytes = refl
-done_calm s (disk.ReadSlot rank) bytes = refl
-done_calm s disk.CheckMail bytes = refl
-done_calm s disk.ReadMail bytes = refl
-done_calm s (disk.WriteClaim next) bytes = refl
-done_calm s (disk.WriteClose own) bytes = refl
-done_calm s disk.WriteClear bytes = refl
-done_calm s (disk.WriteReset rank) bytes = refl
-
 answer_calm : (s : Settings) (op : DiskOp) (made : Call) → is_stopped (disk_answer s op made) ≡ false
 answer_calm s op made = by_failed (is_failed made)
   where
     by_failed : (is : Bool) → is_stopped (if is then failed op else done s op (bytes_read made)) ≡ false
-    by_failed true = failed_calm op
-    by_failed false = done_calm s op (bytes_read made)
+    by_failed true = (op_answers s op (bytes_read made)).1
+    by_failed false = (op_answers s op (bytes_read made)).3
 
 disk_kind : (s : Settings) (me number : ℕ) (op : DiskOp) → kind (disk_call s me number op) ≡ 0
 unfolding disk_call

@@ -20,7 +20,7 @@ use Rattle.qn_model.specs.declared.outputs.Out.TheVariants as out
 use Rattle.qn_model.specs.declared.packets.Packet.{Packet}
 use Rattle.qn_model.specs.declared.packets.Packet.TheVariants as packet
 use Rattle.qn_model.specs.declared.packets.Sent.{Sent}
-use Rattle.qn_model.specs.Moments.{Running, is_gone, packets, time}
+use Rattle.qn_model.specs.Moments.{Running, is_gone, packets, tick_of, time}
 use Rattle.qn_model.specs.Phases.{phase}
 use Rattle.qn_model.specs.Steps.{run}
 use Rattle.qn_model.specs.World.{World, node_at}
@@ -30,7 +30,7 @@ use Rattle.qn_live.specs.Greetings.{sends_plan}
 use Rattle.qn_live.specs.Performing.{disk_call, out_call, outs_plan, own_number}
 use Rattle.qn_safety.specs.NodeLogs.{LogsHold}
 use Rattle.qn_joined.specs.Joints as joints
-use Rattle.qn_joined.specs.Joints.{FitsImage, Host, Joint, MayAnswer, MayHappen, MayReturn, after_effect, counts, happens, is_timed, packet_said, returned, sent_by, waits_for, with_host}
+use Rattle.qn_joined.specs.Joints.{FitsImage, Host, Joint, MayAnswer, MayHappen, MayReturn, after_effect, counts, happens, is_timed, looked_first, packet_said, returned, sent_by, waits_for, with_host}
 use Rattle.qn_joined.specs.Moves.{IsNodeIn, Moved}
 use Rattle.qn_joined.specs.Nodes.{at, is_looking}
 use Rattle.qn_safety.specs.AnyNumbers.{AllMay}
@@ -148,7 +148,7 @@ module _ (s : Settings) (rank : ℕ) (host : Host) (n : Running) (took : Option 
       lives = by_gone (is_gone (phase s st.log)) refl
 
 -- a look at the clock
-now_made : (made : Call) → Some (call.Now 0) ≡ Some (blank made) → (tick : ℕ) × (made ≡ call.Now tick)
+pub now_made : (made : Call) → Some (call.Now 0) ≡ Some (blank made) → (tick : ℕ) × (made ≡ call.Now tick)
 now_made (call.Now tick) e = (tick, refl)
 now_made (call.Receive got) e = absurd cc
 now_made (call.Read sector read ok) e = absurd cc
@@ -204,6 +204,10 @@ effect_fed (call.OpenNode images image watchdog resource port rank ok) outs now 
 pub returned_fed : (s : Settings) (rank : ℕ) (made : Call) (now : ℕ) (host : Host) → (returned s rank made now host).fed ≡ host.fed
 unfolding returned
 returned_fed s rank made now host = effect_fed made _ now host
+
+pub first_fed : (s : Settings) (rank base now : ℕ) (host : Host) → (looked_first s rank base now host).fed ≡ host.fed
+unfolding looked_first
+first_fed s rank base now host = returned_fed s rank (call.Now (tick_of base)) now host
 
 pub returns_in_world : (s : Settings) (t : Timing) (events : List Event) (j : Joint) (rank : ℕ) (made : Call)
     → PacketsReadBack → LogsHold s t → rank < length s.nodes

@@ -22,23 +22,23 @@ use Rattle.qn_joined.specs.Stands.{after_spot, left_plan}
 use Rattle.qn_joined.specs.Joints.{AllMayHappen, FitsImage, Happening, Begins, Ends, Feeds, Lands, Looks, Passes, Returns, IsNewImage, is_deadly_mail, happens, joint_after, looked_first, returned, runs_at}
 use Rattle.qn_joined.specs.Theorem.{OneAfterAnother}
 
-abbrev short_times : Timing
+abbrev pub short_times : Timing
 short_times = record { watchdog = 1000; msgwait = 1100; loop_ms = 1; read_limit = 10; feed_delay = 10 }
 
-abbrev new_image : ℕ → List ℕ
+abbrev pub new_image : ℕ → List ℕ
 new_image sector =
     if sector == 0 then header_bytes 2 short_times
     else (if sector == slot_place 0 then slot_bytes 1 (record { incarnation = 0; clean = true })
     else (if sector == slot_place 1 then slot_bytes 2 (record { incarnation = 0; clean = true })
     else mail_bytes (anonymous message.Empty)))
 
-of_two : (P : ℕ → Type 0) → P 0 → P 1 → (rank : ℕ) → rank < 2 → P rank
+pub of_two : (P : ℕ → Type 0) → P 0 → P 1 → (rank : ℕ) → rank < 2 → P rank
 of_two P one two zero below = one
 of_two P one two (suc zero) below = two
 of_two P one two (suc (suc rank)) below = absurd (omega arith)
 
 -- Each list stands newest first. A node boots: it reads its header and its slot, and claims an incarnation.
-abbrev claims : ℕ → List Happening
+abbrev pub claims : ℕ → List Happening
 claims me =
     Returns me (call.Feed true)
     ∷ Returns me (call.Now 0)
@@ -57,7 +57,7 @@ claims me =
     ∷ []
 
 -- it clears its mailbox and reads it: it is up, and says hello
-abbrev comes_up : ℕ → ℕ → List Happening
+abbrev pub comes_up : ℕ → ℕ → List Happening
 comes_up me other =
     Returns me (call.Feed true)
     ∷ Returns me (call.Now 0)
@@ -71,7 +71,7 @@ comes_up me other =
     ∷ []
 
 -- it hears of nobody for three loops, and sees itself alone
-abbrev is_alone : ℕ → ℕ → List Happening
+abbrev pub is_alone : ℕ → ℕ → List Happening
 is_alone me other =
     Feeds me
     ∷ Returns me (call.Feed true)
@@ -95,11 +95,11 @@ starts =
     ∷ Lands 1
     ∷ []
 
-abbrev start_alone : List Happening
+abbrev pub start_alone : List Happening
 start_alone = starts ++ is_alone 1 0 ++ comes_up 1 0 ++ claims 1
 
 -- it reads the slot of the other node, which is dirty, and writes a reset
-abbrev fences : List Happening
+abbrev pub fences : List Happening
 fences =
     Returns 0 (call.Now 3)
     ∷ Returns 0 (call.Write (mail_place 1) (mail_bytes (reset_by two_nodes 0 1)) true)
@@ -128,328 +128,159 @@ waits =
     ∷ []
 
 -- the machine of the second node ends, and the first node takes over
-abbrev take_over : List Happening
+abbrev pub take_over : List Happening
 take_over = waits ++ fences ++ is_alone 0 1 ++ comes_up 0 1 ++ claims 0 ++ Ends 1 ∷ []
 
 abbrev May : List Happening → Type 0
 May happenings = AllMayHappen two_nodes short_times new_image happenings
 
+-- the newest happening may happen, and so might the earlier ones
+infixr 5 ◌▸◌
+pub ◌▸◌ : {A B : Type 0} → A → B → A × B
+newest ▸ earlier = (newest, earlier)
+
 -- what the rows compute with
-joint_steps : Bool
+unfoldable pub joint_steps : Bool
 unfolding node_steps log_from header_bytes_in mail_bytes slot_bytes header_in mail_of slot_of failed ranks_that view_at after_tick choice_plan sends_plan disk_call done out_call outs_plan waits_after clocked greeted handled settled live_plan parted run_plan left_plan after_spot returned looked_first happens joint_after AllMayHappen packet_bytes
 joint_steps = true
 
 claims_first : May (claims 1)
 unfolding joint_steps
-claims_first = (
-  record { on = refl; asked = refl; waits = refl; answer = tt; spells = refl },
-  (
-    record { on = refl; asked = refl; waits = refl; answer = refl; spells = refl },
-    (
-      record { on = refl; asked = refl; waits = refl; answer = λ ok. refl; spells = refl },
-      (
-        (refl, refl, refl),
-        (
-          record { on = refl; asked = refl; waits = refl; answer = tt; spells = refl },
-          (
-            record { on = refl; asked = refl; waits = refl; answer = refl; spells = refl },
-            (
-              record { on = refl; asked = refl; waits = refl; answer = λ ok. refl; spells = refl },
-              (
-                (refl, refl, refl),
-                (
-                  record { on = refl; asked = refl; waits = refl; answer = tt; spells = refl },
-                  (
-                    record { on = refl; asked = refl; waits = refl; answer = refl; spells = refl },
-                    (
-                      record { on = refl; asked = refl; waits = refl; answer = λ ok. refl; spells = refl },
-                      (
-                        (refl, refl, refl),
-                        (
-                          (refl, refl, refl),
-                          (
-                            (omega arith, omega arith, refl),
-                            tt,
-                          ),
-                        ),
-                      ),
-                    ),
-                  ),
-                ),
-              ),
-            ),
-          ),
-        ),
-      ),
-    ),
-  ),
-)
+claims_first =
+    record { on = refl; asked = refl; waits = refl; answer = tt; spells = refl } ▸
+    record { on = refl; asked = refl; waits = refl; answer = refl; spells = refl } ▸
+    record { on = refl; asked = refl; waits = refl; answer = λ ok. refl; spells = refl } ▸
+    (refl, refl, refl) ▸
+    record { on = refl; asked = refl; waits = refl; answer = tt; spells = refl } ▸
+    record { on = refl; asked = refl; waits = refl; answer = refl; spells = refl } ▸
+    record { on = refl; asked = refl; waits = refl; answer = λ ok. refl; spells = refl } ▸
+    (refl, refl, refl) ▸
+    record { on = refl; asked = refl; waits = refl; answer = tt; spells = refl } ▸
+    record { on = refl; asked = refl; waits = refl; answer = refl; spells = refl } ▸
+    record { on = refl; asked = refl; waits = refl; answer = λ ok. refl; spells = refl } ▸
+    (refl, refl, refl) ▸
+    (refl, refl, refl) ▸
+    (omega arith, omega arith, refl) ▸
+    tt
 
 comes_up_first : May (comes_up 1 0 ++ claims 1)
 unfolding joint_steps
-comes_up_first = (
-  record { on = refl; asked = refl; waits = refl; answer = tt; spells = refl },
-  (
-    record { on = refl; asked = refl; waits = refl; answer = refl; spells = refl },
-    (
-      record { on = refl; asked = refl; waits = refl; answer = tt; spells = refl },
-      (
-        record { on = refl; asked = refl; waits = refl; answer = λ ok. refl; spells = refl },
-        (
-          (refl, refl, refl),
-          (
-            record { on = refl; asked = refl; waits = refl; answer = tt; spells = refl },
-            (
-              record { on = refl; asked = refl; waits = refl; answer = refl; spells = refl },
-              (
-                record { on = refl; asked = refl; waits = refl; answer = λ ok. refl; spells = refl },
-                (
-                  (refl, refl, refl),
-                  claims_first,
-                ),
-              ),
-            ),
-          ),
-        ),
-      ),
-    ),
-  ),
-)
+comes_up_first =
+    record { on = refl; asked = refl; waits = refl; answer = tt; spells = refl } ▸
+    record { on = refl; asked = refl; waits = refl; answer = refl; spells = refl } ▸
+    record { on = refl; asked = refl; waits = refl; answer = tt; spells = refl } ▸
+    record { on = refl; asked = refl; waits = refl; answer = λ ok. refl; spells = refl } ▸
+    (refl, refl, refl) ▸
+    record { on = refl; asked = refl; waits = refl; answer = tt; spells = refl } ▸
+    record { on = refl; asked = refl; waits = refl; answer = refl; spells = refl } ▸
+    record { on = refl; asked = refl; waits = refl; answer = λ ok. refl; spells = refl } ▸
+    (refl, refl, refl) ▸
+    claims_first
 
 alone_first : May (is_alone 1 0 ++ comes_up 1 0 ++ claims 1)
 unfolding joint_steps
-alone_first = (
-  (refl, refl),
-  (
-    record { on = refl; asked = refl; waits = refl; answer = tt; spells = refl },
-    (
-      record { on = refl; asked = refl; waits = refl; answer = refl; spells = refl },
-      (
-        record { on = refl; asked = refl; waits = refl; answer = tt; spells = refl },
-        (
-          record { on = refl; asked = refl; waits = refl; answer = tt; spells = refl },
-          (
-            record { on = refl; asked = refl; waits = refl; answer = λ ok. refl; spells = refl },
-            (
-              (refl, refl, refl),
-              (
-                record { on = refl; asked = refl; waits = refl; answer = refl; spells = refl },
-                (
-                  record { on = refl; asked = refl; waits = refl; answer = tt; spells = refl },
-                  (
-                    (of_two _ refl refl, refl),
-                    (
-                      record { on = refl; asked = refl; waits = refl; answer = refl; spells = refl },
-                      (
-                        record { on = refl; asked = refl; waits = refl; answer = tt; spells = refl },
-                        comes_up_first,
-                      ),
-                    ),
-                  ),
-                ),
-              ),
-            ),
-          ),
-        ),
-      ),
-    ),
-  ),
-)
+alone_first =
+    (refl, refl) ▸
+    record { on = refl; asked = refl; waits = refl; answer = tt; spells = refl } ▸
+    record { on = refl; asked = refl; waits = refl; answer = refl; spells = refl } ▸
+    record { on = refl; asked = refl; waits = refl; answer = tt; spells = refl } ▸
+    record { on = refl; asked = refl; waits = refl; answer = tt; spells = refl } ▸
+    record { on = refl; asked = refl; waits = refl; answer = λ ok. refl; spells = refl } ▸
+    (refl, refl, refl) ▸
+    record { on = refl; asked = refl; waits = refl; answer = refl; spells = refl } ▸
+    record { on = refl; asked = refl; waits = refl; answer = tt; spells = refl } ▸
+    (of_two _ refl refl, refl) ▸
+    record { on = refl; asked = refl; waits = refl; answer = refl; spells = refl } ▸
+    record { on = refl; asked = refl; waits = refl; answer = tt; spells = refl } ▸
+    comes_up_first
 
 start_may : May start_alone
 unfolding joint_steps
-start_may = (
-  record { on = refl; asked = refl; waits = refl; answer = refl; spells = refl },
-  (
-    record { on = refl; asked = refl; waits = refl; answer = λ ok. refl; spells = refl },
-    (
-      (refl, refl, refl),
-      alone_first,
-    ),
-  ),
-)
+start_may =
+    record { on = refl; asked = refl; waits = refl; answer = refl; spells = refl } ▸
+    record { on = refl; asked = refl; waits = refl; answer = λ ok. refl; spells = refl } ▸
+    (refl, refl, refl) ▸
+    alone_first
 
 claims_second : May (claims 0 ++ Ends 1 ∷ start_alone)
 unfolding joint_steps
-claims_second = (
-  record { on = refl; asked = refl; waits = refl; answer = tt; spells = refl },
-  (
-    record { on = refl; asked = refl; waits = refl; answer = refl; spells = refl },
-    (
-      record { on = refl; asked = refl; waits = refl; answer = λ ok. refl; spells = refl },
-      (
-        (refl, refl, refl),
-        (
-          record { on = refl; asked = refl; waits = refl; answer = tt; spells = refl },
-          (
-            record { on = refl; asked = refl; waits = refl; answer = refl; spells = refl },
-            (
-              record { on = refl; asked = refl; waits = refl; answer = λ ok. refl; spells = refl },
-              (
-                (refl, refl, refl),
-                (
-                  record { on = refl; asked = refl; waits = refl; answer = tt; spells = refl },
-                  (
-                    record { on = refl; asked = refl; waits = refl; answer = refl; spells = refl },
-                    (
-                      record { on = refl; asked = refl; waits = refl; answer = λ ok. refl; spells = refl },
-                      (
-                        (refl, refl, refl),
-                        (
-                          (refl, refl, refl),
-                          (
-                            (omega arith, omega arith, refl),
-                            (refl, start_may),
-                          ),
-                        ),
-                      ),
-                    ),
-                  ),
-                ),
-              ),
-            ),
-          ),
-        ),
-      ),
-    ),
-  ),
-)
+claims_second =
+    record { on = refl; asked = refl; waits = refl; answer = tt; spells = refl } ▸
+    record { on = refl; asked = refl; waits = refl; answer = refl; spells = refl } ▸
+    record { on = refl; asked = refl; waits = refl; answer = λ ok. refl; spells = refl } ▸
+    (refl, refl, refl) ▸
+    record { on = refl; asked = refl; waits = refl; answer = tt; spells = refl } ▸
+    record { on = refl; asked = refl; waits = refl; answer = refl; spells = refl } ▸
+    record { on = refl; asked = refl; waits = refl; answer = λ ok. refl; spells = refl } ▸
+    (refl, refl, refl) ▸
+    record { on = refl; asked = refl; waits = refl; answer = tt; spells = refl } ▸
+    record { on = refl; asked = refl; waits = refl; answer = refl; spells = refl } ▸
+    record { on = refl; asked = refl; waits = refl; answer = λ ok. refl; spells = refl } ▸
+    (refl, refl, refl) ▸
+    (refl, refl, refl) ▸
+    (omega arith, omega arith, refl) ▸
+    refl ▸
+    start_may
 
 comes_up_second : May (comes_up 0 1 ++ claims 0 ++ Ends 1 ∷ start_alone)
 unfolding joint_steps
-comes_up_second = (
-  record { on = refl; asked = refl; waits = refl; answer = tt; spells = refl },
-  (
-    record { on = refl; asked = refl; waits = refl; answer = refl; spells = refl },
-    (
-      record { on = refl; asked = refl; waits = refl; answer = tt; spells = refl },
-      (
-        record { on = refl; asked = refl; waits = refl; answer = λ ok. refl; spells = refl },
-        (
-          (refl, refl, refl),
-          (
-            record { on = refl; asked = refl; waits = refl; answer = tt; spells = refl },
-            (
-              record { on = refl; asked = refl; waits = refl; answer = refl; spells = refl },
-              (
-                record { on = refl; asked = refl; waits = refl; answer = λ ok. refl; spells = refl },
-                (
-                  (refl, refl, refl),
-                  claims_second,
-                ),
-              ),
-            ),
-          ),
-        ),
-      ),
-    ),
-  ),
-)
+comes_up_second =
+    record { on = refl; asked = refl; waits = refl; answer = tt; spells = refl } ▸
+    record { on = refl; asked = refl; waits = refl; answer = refl; spells = refl } ▸
+    record { on = refl; asked = refl; waits = refl; answer = tt; spells = refl } ▸
+    record { on = refl; asked = refl; waits = refl; answer = λ ok. refl; spells = refl } ▸
+    (refl, refl, refl) ▸
+    record { on = refl; asked = refl; waits = refl; answer = tt; spells = refl } ▸
+    record { on = refl; asked = refl; waits = refl; answer = refl; spells = refl } ▸
+    record { on = refl; asked = refl; waits = refl; answer = λ ok. refl; spells = refl } ▸
+    (refl, refl, refl) ▸
+    claims_second
 
 alone_second : May (is_alone 0 1 ++ comes_up 0 1 ++ claims 0 ++ Ends 1 ∷ start_alone)
 unfolding joint_steps
-alone_second = (
-  (refl, refl),
-  (
-    record { on = refl; asked = refl; waits = refl; answer = tt; spells = refl },
-    (
-      record { on = refl; asked = refl; waits = refl; answer = refl; spells = refl },
-      (
-        record { on = refl; asked = refl; waits = refl; answer = tt; spells = refl },
-        (
-          record { on = refl; asked = refl; waits = refl; answer = tt; spells = refl },
-          (
-            record { on = refl; asked = refl; waits = refl; answer = λ ok. refl; spells = refl },
-            (
-              (refl, refl, refl),
-              (
-                record { on = refl; asked = refl; waits = refl; answer = refl; spells = refl },
-                (
-                  record { on = refl; asked = refl; waits = refl; answer = tt; spells = refl },
-                  (
-                    (of_two _ refl refl, refl),
-                    (
-                      record { on = refl; asked = refl; waits = refl; answer = refl; spells = refl },
-                      (
-                        record { on = refl; asked = refl; waits = refl; answer = tt; spells = refl },
-                        comes_up_second,
-                      ),
-                    ),
-                  ),
-                ),
-              ),
-            ),
-          ),
-        ),
-      ),
-    ),
-  ),
-)
+alone_second =
+    (refl, refl) ▸
+    record { on = refl; asked = refl; waits = refl; answer = tt; spells = refl } ▸
+    record { on = refl; asked = refl; waits = refl; answer = refl; spells = refl } ▸
+    record { on = refl; asked = refl; waits = refl; answer = tt; spells = refl } ▸
+    record { on = refl; asked = refl; waits = refl; answer = tt; spells = refl } ▸
+    record { on = refl; asked = refl; waits = refl; answer = λ ok. refl; spells = refl } ▸
+    (refl, refl, refl) ▸
+    record { on = refl; asked = refl; waits = refl; answer = refl; spells = refl } ▸
+    record { on = refl; asked = refl; waits = refl; answer = tt; spells = refl } ▸
+    (of_two _ refl refl, refl) ▸
+    record { on = refl; asked = refl; waits = refl; answer = refl; spells = refl } ▸
+    record { on = refl; asked = refl; waits = refl; answer = tt; spells = refl } ▸
+    comes_up_second
 
 fences_second : May (fences ++ is_alone 0 1 ++ comes_up 0 1 ++ claims 0 ++ Ends 1 ∷ start_alone)
 unfolding joint_steps
-fences_second = (
-  record { on = refl; asked = refl; waits = refl; answer = refl; spells = refl },
-  (
-    record { on = refl; asked = refl; waits = refl; answer = λ ok. refl; spells = refl },
-    (
-      (refl, refl, refl),
-      (
-        record { on = refl; asked = refl; waits = refl; answer = refl; spells = refl },
-        (
-          record { on = refl; asked = refl; waits = refl; answer = λ ok. refl; spells = refl },
-          (
-            (refl, refl, refl),
-            alone_second,
-          ),
-        ),
-      ),
-    ),
-  ),
-)
+fences_second =
+    record { on = refl; asked = refl; waits = refl; answer = refl; spells = refl } ▸
+    record { on = refl; asked = refl; waits = refl; answer = λ ok. refl; spells = refl } ▸
+    (refl, refl, refl) ▸
+    record { on = refl; asked = refl; waits = refl; answer = refl; spells = refl } ▸
+    record { on = refl; asked = refl; waits = refl; answer = λ ok. refl; spells = refl } ▸
+    (refl, refl, refl) ▸
+    alone_second
 
 take_over_may : May (take_over ++ start_alone)
 unfolding joint_steps
-take_over_may = (
-  record { on = refl; asked = refl; waits = refl; answer = refl; spells = refl },
-  (
-    record { on = refl; asked = refl; waits = refl; answer = tt; spells = refl },
-    (
-      (of_two _ refl refl, refl),
-      (
-        (refl, refl),
-        (
-          record { on = refl; asked = refl; waits = refl; answer = tt; spells = refl },
-          (
-            record { on = refl; asked = refl; waits = refl; answer = refl; spells = refl },
-            (
-              record { on = refl; asked = refl; waits = refl; answer = tt; spells = refl },
-              (
-                record { on = refl; asked = refl; waits = refl; answer = tt; spells = refl },
-                (
-                  record { on = refl; asked = refl; waits = refl; answer = λ ok. refl; spells = refl },
-                  (
-                    (refl, refl, refl),
-                    (
-                      record { on = refl; asked = refl; waits = refl; answer = refl; spells = refl },
-                      (
-                        record { on = refl; asked = refl; waits = refl; answer = tt; spells = refl },
-                        (
-                          (of_two _ refl refl, refl),
-                          fences_second,
-                        ),
-                      ),
-                    ),
-                  ),
-                ),
-              ),
-            ),
-          ),
-        ),
-      ),
-    ),
-  ),
-)
+take_over_may =
+    record { on = refl; asked = refl; waits = refl; answer = refl; spells = refl } ▸
+    record { on = refl; asked = refl; waits = refl; answer = tt; spells = refl } ▸
+    (of_two _ refl refl, refl) ▸
+    (refl, refl) ▸
+    record { on = refl; asked = refl; waits = refl; answer = tt; spells = refl } ▸
+    record { on = refl; asked = refl; waits = refl; answer = refl; spells = refl } ▸
+    record { on = refl; asked = refl; waits = refl; answer = tt; spells = refl } ▸
+    record { on = refl; asked = refl; waits = refl; answer = tt; spells = refl } ▸
+    record { on = refl; asked = refl; waits = refl; answer = λ ok. refl; spells = refl } ▸
+    (refl, refl, refl) ▸
+    record { on = refl; asked = refl; waits = refl; answer = refl; spells = refl } ▸
+    record { on = refl; asked = refl; waits = refl; answer = tt; spells = refl } ▸
+    (of_two _ refl refl, refl) ▸
+    fences_second
 
 first_runs : runs_at two_nodes new_image start_alone 1 ≡ true
 unfolding joint_steps
@@ -463,10 +294,10 @@ reset_stands : is_deadly_mail ((joint_after two_nodes new_image (take_over ++ st
 unfolding joint_steps
 reset_stands = refl
 
-created : IsNewImage two_nodes short_times new_image
+pub created : IsNewImage two_nodes short_times new_image
 created = record { header = refl; slots = of_two _ refl refl; mails = of_two _ refl refl }
 
-fits : FitsImage two_nodes short_times
+pub fits : FitsImage two_nodes short_times
 fits =
     record { some = omega arith; few = omega arith; times = refl; ids = of_two _ (omega arith, omega arith) (omega arith, omega arith) }
 

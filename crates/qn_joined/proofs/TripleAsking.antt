@@ -1,14 +1,12 @@
 -- The image that an operation is asked of, what its call did there, and what is left to be asked then.
-use Rattle.std.proofs.Common.{◌≡◌, ◌<◌, ◌≤◌, ◌+◌, ◌-◌, ◌*◌, ℕ, zero, suc, Bool, true, false, List, [], ◌∷◌, ◌++◌, Option, None, Some, ◌==◌, if◌then◌else◌, refl, sym, ap, subst, ◌∙◌, arith, ◌⊎◌, inl, inr}
-use Rattle.std.specs.Prelude.{◌^◌, length, nat_lt}
+use Rattle.std.proofs.Common.{◌≡◌, ◌<◌, ◌≤◌, ◌+◌, ℕ, zero, suc, Bool, true, false, List, [], Option, None, Some, if◌then◌else◌, refl, sym, ap, subst, ◌∙◌, arith, inl, inr}
+use Rattle.std.specs.Prelude.{length, nat_lt}
 use Rattle.std.specs.Option.{option_map_or}
 use Rattle.std.proofs.lemmas.Bool.{lt-ltb, ltb-true}
 use Rattle.qn_base.specs.declared.calls.Call.{Call}
 use Rattle.qn_base.specs.declared.calls.Call.TheVariants as call
-use Rattle.qn_base.specs.Calls.{blank, is_failed}
 use Rattle.qn_base.specs.Plans as plans
 use Rattle.qn_base.specs.Plans.{Plan, question}
-use Rattle.qn_io.specs.Answered.{bytes_read}
 use Rattle.qn_model.specs.declared.configuration.Settings.{Settings}
 use Rattle.qn_model.specs.declared.times.Timing.{Timing}
 use Rattle.qn_model.specs.declared.entries.What.{What}
@@ -17,16 +15,15 @@ use Rattle.qn_model.specs.declared.outputs.DiskOp.TheVariants as disk
 use Rattle.qn_model.specs.declared.packets.Sent.{Sent}
 use Rattle.qn_model.specs.Sectors.{mail_place, slot_place}
 use Rattle.qn_model.specs.World.{put}
-use Rattle.qn_parts.specs.Parts.{is_good_on}
 use Rattle.qn_safety.specs.declared.part.Part.{Part}
 use Rattle.qn_safety.specs.declared.part.Part.TheVariants.{Pending, Landed, Failed}
-use Rattle.qn_safety.specs.NodeLogs.{IsNodeLog, IsOperation}
+use Rattle.qn_safety.specs.NodeLogs.{IsOperation}
 use Rattle.qn_live.specs.Performing.{disk_call, done}
-use Rattle.qn_live.specs.TripleDisk.{Told, call_plan, part_of, sector_on}
+use Rattle.qn_live.specs.TripleDisk.{Told, call_plan, sector_on}
 use Rattle.qn_joined.specs.Joints.{FitsImage, Host, is_disk, waits_for}
-use Rattle.qn_joined.specs.TripleJoints.{TripleHost, call_on_three, image_named, image_of_sector, image_waited}
-use Rattle.qn_joined.specs.TripleNodes.{AllAre, AreSilent, IsAhead, IsAsking, IsNodeOnThree, PartHere, PartsAre}
-use Rattle.qn_joined.specs.TripleWorldOf.{IsAnswered, IsEnough, IsHeld, IsHonest, IsLeft, ToldBy, all_told, image_before, none_told, on_image, told_also}
+use Rattle.qn_joined.specs.TripleJoints.{TripleHost, call_on_three, image_named, image_of_sector}
+use Rattle.qn_joined.specs.TripleNodes.{AllAre, AreSilent, IsAhead, IsAsking, IsNodeOnThree, PartsAre}
+use Rattle.qn_joined.specs.TripleWorldOf.{IsAnswered, IsHeld, IsLeft, ToldBy, image_before, none_told, on_image, told_also}
 use Rattle.qn_model.specs.declared.outputs.Out.TheVariants as out
 use Rattle.qn_model.specs.Log.{disk_of, op_out}
 use Rattle.qn_model.specs.Moments.{Running, is_gone}
@@ -249,5 +246,5 @@ module _ {s : Settings} {t : Timing} {rank : ℕ} {host : TripleHost} {n : Runni
           by_how op (inr asking) = let both = sym plain ∙ ap (λ w. option_map_or is_disk w false) asking.1 ∙ disk_is s rank asking.0.number op in cc
 
           by_ahead : (o : Option DiskOp) → disk_ahead host.one.stand.spot ≡ o → ⊥
-          by_ahead None e = never (is.idle e).1
+          by_ahead None e = never (is.idle on e).1
           by_ahead (Some op) e = by_how op (is.ahead (ahead_on is.one on e) op e)

@@ -1,5 +1,5 @@
 -- What a host leaves over where its call is given up, and the end of its machine as an event of the world of three images.
-use Rattle.std.proofs.Common.{◌≡◌, ◌<◌, ℕ, zero, suc, Bool, true, false, not, ◌&&◌, List, [], ◌∷◌, ◌++◌, Option, None, Some, ◌==◌, if◌then◌else◌, refl, sym, ap, subst, ◌∙◌}
+use Rattle.std.proofs.Common.{◌≡◌, ◌<◌, ℕ, zero, suc, Bool, true, false, List, [], ◌∷◌, ◌++◌, Option, None, Some, ◌==◌, if◌then◌else◌, refl, sym, ap, subst, ◌∙◌}
 use Rattle.std.specs.Prelude.{◌^◌, length}
 use Rattle.std.specs.Option.{option_or, option_map_or}
 use Rattle.std.proofs.lemmas.Bool.{eqb-true}
@@ -8,16 +8,13 @@ use Rattle.qn_base.specs.declared.calls.Call.{Call}
 use Rattle.qn_base.specs.Plans.{question}
 use Rattle.qn_model.specs.declared.configuration.Settings.{Settings}
 use Rattle.qn_model.specs.declared.times.Timing.{Timing}
-use Rattle.qn_model.specs.declared.entries.What.{What}
 use Rattle.qn_model.specs.declared.events.Event.TheVariants as event
 use Rattle.qn_model.specs.declared.outputs.DiskOp.{DiskOp}
 use Rattle.qn_model.specs.declared.packets.Sent.{Sent}
 use Rattle.qn_model.specs.lemmas.Moments.{ends_apart, node_ends, put_same, put_other}
-use Rattle.qn_model.specs.Log.{op_out}
-use Rattle.qn_model.specs.Moments.{Ends, Running, node, packets, time}
+use Rattle.qn_model.specs.Moments.{Running, node, packets, time}
 use Rattle.qn_model.specs.Rules.{refusal, unless}
 use Rattle.qn_model.specs.Wanted.{rank_of}
-use Rattle.qn_model.specs.World.{given_up, put}
 use Rattle.qn_safety.specs.declared.part.Part.{Part}
 use Rattle.qn_safety.specs.declared.triple_event.TripleEvent.{TripleEvent}
 use Rattle.qn_safety.specs.declared.triple_event.TripleEvent.TheVariants as triple
@@ -30,9 +27,9 @@ use Rattle.qn_live.specs.Performing.{disk_call, done}
 use Rattle.qn_joined.specs.Joints.{FitsImage, Host, given_up_by, is_disk, left_over, waits_for}
 use Rattle.qn_joined.specs.TripleJoints as joints
 use Rattle.qn_joined.specs.TripleJoints.{TripleHost, ended_triple, given_up_now, gives_up, happens_triple, image_named, image_waited}
-use Rattle.qn_joined.specs.TripleNodes.{HasTripleWorld, IsNodeOnThree, KeepsAWorld, PartHere, PartsAre}
+use Rattle.qn_joined.specs.TripleNodes.{IsNodeOnThree, KeepsAWorld, PartHere, PartsAre}
 use Rattle.qn_joined.specs.TripleWorldOf.{CallsAnswer, ToldBy, image_before}
-use Rattle.qn_joined.specs.WorldOf.{AreAmong, NoCall, IsNode, TookAlike, greets_at, still_out}
+use Rattle.qn_joined.specs.WorldOf.{AreAmong, NoCall, IsNode, greets_at, still_out}
 use Rattle.qn_joined.proofs.Frames.{grows_more}
 use Rattle.qn_joined.proofs.Moving.{among_more, disk_given_up}
 use Rattle.qn_joined.proofs.TripleAsking.{AsksDisk, asks_disk, named_on}
@@ -137,7 +134,7 @@ off_triple {s} {t} {rank} {host} is n' parts' left' good' all' off among = recor
   goods = λ on made image in_range. absurd (lives on);
   silent = λ on none. absurd (lives on);
   ahead = λ on op e. absurd (lives on);
-  idle = λ none. (refl, (is.idle none).1);
+  idle = λ on. absurd cc;
   among = among;
   fresh = λ on unasked. absurd cc;
 }

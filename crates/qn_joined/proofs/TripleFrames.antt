@@ -1,7 +1,8 @@
 -- What changes one node of a world of three images leaves the others as they were, and what a write does to the images.
-use Rattle.std.proofs.Common.{◌≡◌, ◌<◌, ◌≤◌, ℕ, Bool, true, false, List, [], ◌∷◌, Option, ◌==◌, if◌then◌else◌, refl, sym, ap, subst, ◌∙◌, arith}
-use Rattle.std.specs.Prelude.{◌^◌, IfSome, length}
-use Rattle.std.proofs.lemmas.Bool.{eq-eqb, eqb-true}
+use Rattle.std.proofs.Common.{◌≡◌, ◌<◌, ◌≤◌, ℕ, zero, suc, Bool, true, false, List, [], Option, ◌==◌, if◌then◌else◌, refl, sym, ap, subst, ◌∙◌, arith}
+use Rattle.std.specs.Prelude.{◌^◌, IfSome, length, nat_le}
+use Rattle.std.proofs.lemmas.Bool.{eqb-true, leb-true}
+use Rattle.qn_base.specs.lemmas.Bools.{first_of_both, second_of_both}
 use Rattle.qn_model.specs.declared.configuration.Settings.{Settings}
 use Rattle.qn_model.specs.declared.disk.Message.{Message}
 use Rattle.qn_model.specs.declared.disk.Message.TheVariants as message
@@ -32,6 +33,15 @@ use Rattle.qn_joined.specs.TripleNodes.{HasTripleWorld, IsNodeOnThree, IsTripleW
 use Rattle.qn_joined.specs.WorldOf.{IsImage}
 use Rattle.qn_joined.proofs.Frames.{Knows, knows_grows, node_grows}
 use Rattle.qn_joined.proofs.Images.{image_lands, same_image}
+
+-- what holds of each of the three images
+pub of_images : (P : ℕ → Type 0) → P 1 → P 2 → P 3 → (image : ℕ) → is_image image ≡ true → P image
+of_images P one two three zero is = absurd (let under = leb-true 1 0 (first_of_both (nat_le 1 0) (nat_le 0 3) is) in omega (arith, under))
+of_images P one two three (suc zero) is = one
+of_images P one two three (suc (suc zero)) is = two
+of_images P one two three (suc (suc (suc zero))) is = three
+of_images P one two three (suc (suc (suc (suc more)))) is =
+    absurd (let under = leb-true (suc (suc (suc (suc more)))) 3 (second_of_both (nat_le 1 (suc (suc (suc (suc more))))) (nat_le (suc (suc (suc (suc more)))) 3) is) in omega (arith, under))
 
 -- a world that changed at one rank alone, at one moment
 pub record ChangesOnThree (s : Settings) (rank : ℕ) (w w' : TripleWorld) : Type 0 where

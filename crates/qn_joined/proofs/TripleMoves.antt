@@ -1,6 +1,6 @@
 -- Time that passes, a process that begins, a feed, an operator's write, and a write that was given up and lands after all, as events
 -- of the world of three images.
-use Rattle.std.proofs.Common.{◌≡◌, ◌<◌, ◌≤◌, ◌+◌, ℕ, zero, suc, Bool, true, false, not, ◌&&◌, ◌||◌, List, [], ◌∷◌, ◌++◌, Option, None, Some, ◌==◌, if◌then◌else◌, refl, sym, ap, subst, ◌∙◌, arith, is_some, ◌⊎◌, inl, inr}
+use Rattle.std.proofs.Common.{◌≡◌, ◌<◌, ◌≤◌, ◌+◌, ℕ, zero, suc, Bool, true, false, not, ◌&&◌, List, [], ◌∷◌, Option, None, Some, ◌==◌, if◌then◌else◌, refl, sym, ap, subst, ◌∙◌, arith, is_some, ◌⊎◌, inl, inr}
 use Rattle.std.specs.Prelude.{length, nat_le, slice_get}
 use Rattle.std.specs.List.{list_all, range_with_len}
 use Rattle.std.specs.Option.{option_or, option_map_or}
@@ -46,7 +46,7 @@ use Rattle.qn_joined.proofs.Images.{mail_put}
 use Rattle.qn_joined.proofs.Landing.{may_by}
 use Rattle.qn_joined.proofs.Late.{LateOp, late_op}
 use Rattle.qn_joined.proofs.Passing.{all_of, in_all, passes_by, passes_node}
-use Rattle.qn_joined.proofs.TripleFrames.{AreImages, ChangesOnThree, IsNodeIn3, MovedOnThree, image_alike, images_land, moved_triple, no_triple_event, put_apart, put_here, same_images, triple_grows, triple_moves}
+use Rattle.qn_joined.proofs.TripleFrames.{ChangesOnThree, IsNodeIn3, MovedOnThree, image_alike, images_land, moved_triple, no_triple_event, put_apart, put_here, same_images, triple_grows, triple_moves}
 use Rattle.qn_joined.proofs.TripleSteps.{configured_triple}
 
 -- ## Time
@@ -130,9 +130,9 @@ begins_node {s} {t} {rank} {host} {n} {parts} {left} {good} {all} clean leave tu
       goods = λ on made image in_range. absurd (lives on);
       silent = is.silent;
       ahead = λ on op e. absurd (lives on);
-      idle = λ none. (refl, refl);
+      idle = λ on none. (refl, refl);
       among = λ image. NoCall;
-      fresh = λ on unasked. refl;
+      fresh = λ on unasked. (refl, λ image. refl);
     }
   where
     lives : n.on ≡ true → ⊥
@@ -308,9 +308,9 @@ module _ (s : Settings) (t : Timing) (rank image : ℕ) (j : TripleJoint) (fits 
   late_after number write =
       record (with_triple rank (record late_host { left = put late_host.left image (without (late_host.left image) number) }) j) { images = put j.images image (landed_image write (j.images image)) }
 
-  late_node : (calls : List Call) (ops : List DiskOp) → AreAmong s rank calls ops
+  late_node : (calls : List Call) (ops : List DiskOp) → AreAmong s rank calls ops → (late_host.one.on ≡ true → late_host.one.asked ≡ false → ⊥)
       → IsNodeOnThree s t rank (record late_host { left = put late_host.left image calls }) (node s rank late_world.moments) (late_world.parts rank) (put (late_world.left rank) image ops) (late_world.good rank) (packets s late_world.moments)
-  late_node calls ops among =
+  late_node calls ops among asked =
       let is = has.world.nodes rank below in
       record {
         took = is.took;
@@ -323,7 +323,7 @@ module _ (s : Settings) (t : Timing) (rank image : ℕ) (j : TripleJoint) (fits 
         ahead = is.ahead;
         idle = is.idle;
         among = λ k. by_image k (image == k);
-        fresh = is.fresh;
+        fresh = λ on unasked. absurd (asked on unasked);
       }
     where
       by_image : (k : ℕ) (b : Bool) → AreAmong s rank (if b then calls else late_host.left k) (if b then ops else late_world.left rank k)
@@ -351,7 +351,7 @@ module _ (s : Settings) (t : Timing) (rank image : ℕ) (j : TripleJoint) (fits 
             })
             (subst (λ l. IsNodeOnThree s t rank (record late_host { left = put late_host.left image (without (late_host.left image) (suc place)) }) (node s rank late_world.moments) (late_world.parts rank) l (late_world.good rank) (packets s late_world.moments))
             (sym (put_same late_world.left rank (put (late_world.left rank) image (without (late_world.left rank image) (suc late.at)))))
-            (late_node (without (late_host.left image) (suc place)) (without (late_world.left rank image) (suc late.at)) late.among))
+            (late_node (without (late_host.left image) (suc place)) (without (late_world.left rank image) (suc late.at)) late.among bare))
             (has.world.fed rank)
             (images_land late_world has.world.images fits (lands_late_on rank image (suc late.at) late.op late_world) image rank late.number late.op below late.small late.fits refl refl)
             has.world.sent));
@@ -359,6 +359,10 @@ module _ (s : Settings) (t : Timing) (rank image : ℕ) (j : TripleJoint) (fits 
     where
       late : LateOp s rank (late_host.left image) (late_world.left rank image) place write
       late = late_op place write ((has.world.nodes rank below).among image) there
+
+      -- a process that has not looked at the clock has left nothing over
+      bare : late_host.one.on ≡ true → late_host.one.asked ≡ false → ⊥
+      bare on unasked = let none = ap (λ l. slice_get l place) (((has.world.nodes rank below).fresh on unasked).1 image) in let both = sym there ∙ none in cc
 
   late_by : (number : ℕ) → is_some (numbered (late_host.left image) number) ≡ true
       → HasTripleWorld s t (option_map_or (λ write. late_after number write) (numbered (late_host.left image) number) j)

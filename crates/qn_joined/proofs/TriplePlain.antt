@@ -22,7 +22,7 @@ use Rattle.qn_safety.specs.TripleWorld.{TripleWorld}
 use Rattle.qn_joined.specs.Joints.{FitsImage, Host, MayAnswer, is_disk, returned, sent_by, waits_for}
 use Rattle.qn_joined.specs.Nodes.{is_looking}
 use Rattle.qn_joined.specs.Stands.{Spot, Receiving, Looking, Acting, Saying, Parting, Ended, after_spot, left_plan}
-use Rattle.qn_joined.specs.Theorem.{PacketsReadBack}
+use Rattle.qn_joined.specs.Theorem.{HostOwns, PacketsReadBack}
 use Rattle.qn_joined.specs.TripleJoints as joints
 use Rattle.qn_joined.specs.TripleJoints.{TripleHost, TripleJoint, call_on_three, gives_up, happens_triple, returned_by, returned_one, returned_triple, stands_at, with_triple}
 use Rattle.qn_joined.specs.TripleNodes.{HasTripleWorld, IsAhead}
@@ -32,6 +32,7 @@ use Rattle.qn_joined.proofs.Calls.{disk_is, returns_at}
 use Rattle.qn_joined.proofs.Frames.{Knows}
 use Rattle.qn_joined.proofs.Landing.{DiskWaits, disk_waits}
 use Rattle.qn_joined.proofs.Moving.{disk_blank}
+use Rattle.qn_joined.proofs.Returning.{returns_own}
 use Rattle.qn_joined.proofs.Returns.{returned_fed, sends_known, sent_blank}
 use Rattle.qn_joined.proofs.Standing.{acts_ahead, parts_ahead, said_ahead}
 use Rattle.qn_joined.proofs.TripleAsking.{AllTold, AsksOne, Comes, ahead_on, comes_next, disk_on, once_made}
@@ -39,51 +40,22 @@ use Rattle.qn_joined.proofs.TripleEnds.{gives_nothing}
 use Rattle.qn_joined.proofs.TripleFrames.{IsNodeIn3, no_change_on_three, same_images, triple_moves}
 use Rattle.qn_joined.proofs.TripleSteps.{configured_triple, starts_of}
 
--- a call that is none of the disk leaves what a host took, and what it left over
-plain_took : (s : Settings) (rank : ℕ) (made : Call) (now : ℕ) (host : Host) → is_disk made ≡ false → (returned s rank made now host).took ≡ host.took
+-- a call that is none of the disk leaves what a host took, what it left over, and that its process has looked at the clock
+pub plain_host : (s : Settings) (rank : ℕ) (made : Call) (now : ℕ) (host : Host) → is_disk made ≡ false
+    → ((returned s rank made now host).took ≡ host.took) × ((returned s rank made now host).left ≡ host.left) × ((returned s rank made now host).asked ≡ host.asked)
 unfolding returned
-plain_took s rank (call.Read sector bytes ok) now host plain = absurd cc
-plain_took s rank (call.Write sector bytes ok) now host plain = absurd cc
-plain_took s rank (call.Now tick) now host plain = refl
-plain_took s rank (call.Receive got) now host plain = refl
-plain_took s rank (call.Feed ok) now host plain = refl
-plain_took s rank (call.Start ok) now host plain = refl
-plain_took s rank (call.Stop ok) now host plain = refl
-plain_took s rank (call.Send to said ok) now host plain = refl
-plain_took s rank (call.Disarm ok) now host plain = refl
-plain_took s rank (call.Halt code) now host plain = refl
-plain_took s rank (call.OpenImage path ok) now host plain = refl
-plain_took s rank (call.OpenNode images path watchdog resource port owner ok) now host plain = refl
-
-plain_left : (s : Settings) (rank : ℕ) (made : Call) (now : ℕ) (host : Host) → is_disk made ≡ false → (returned s rank made now host).left ≡ host.left
-unfolding returned
-plain_left s rank (call.Read sector bytes ok) now host plain = absurd cc
-plain_left s rank (call.Write sector bytes ok) now host plain = absurd cc
-plain_left s rank (call.Now tick) now host plain = refl
-plain_left s rank (call.Receive got) now host plain = refl
-plain_left s rank (call.Feed ok) now host plain = refl
-plain_left s rank (call.Start ok) now host plain = refl
-plain_left s rank (call.Stop ok) now host plain = refl
-plain_left s rank (call.Send to said ok) now host plain = refl
-plain_left s rank (call.Disarm ok) now host plain = refl
-plain_left s rank (call.Halt code) now host plain = refl
-plain_left s rank (call.OpenImage path ok) now host plain = refl
-plain_left s rank (call.OpenNode images path watchdog resource port owner ok) now host plain = refl
-
-plain_kept : (s : Settings) (rank : ℕ) (made : Call) (now : ℕ) (host : Host) → is_disk made ≡ false → (returned s rank made now host).asked ≡ host.asked
-unfolding returned
-plain_kept s rank (call.Read sector bytes ok) now host plain = absurd cc
-plain_kept s rank (call.Write sector bytes ok) now host plain = absurd cc
-plain_kept s rank (call.Now tick) now host plain = refl
-plain_kept s rank (call.Receive got) now host plain = refl
-plain_kept s rank (call.Feed ok) now host plain = refl
-plain_kept s rank (call.Start ok) now host plain = refl
-plain_kept s rank (call.Stop ok) now host plain = refl
-plain_kept s rank (call.Send to said ok) now host plain = refl
-plain_kept s rank (call.Disarm ok) now host plain = refl
-plain_kept s rank (call.Halt code) now host plain = refl
-plain_kept s rank (call.OpenImage path ok) now host plain = refl
-plain_kept s rank (call.OpenNode images path watchdog resource port owner ok) now host plain = refl
+plain_host s rank (call.Read sector bytes ok) now host plain = absurd cc
+plain_host s rank (call.Write sector bytes ok) now host plain = absurd cc
+plain_host s rank (call.Now tick) now host plain = (refl, refl, refl)
+plain_host s rank (call.Receive got) now host plain = (refl, refl, refl)
+plain_host s rank (call.Feed ok) now host plain = (refl, refl, refl)
+plain_host s rank (call.Start ok) now host plain = (refl, refl, refl)
+plain_host s rank (call.Stop ok) now host plain = (refl, refl, refl)
+plain_host s rank (call.Send to said ok) now host plain = (refl, refl, refl)
+plain_host s rank (call.Disarm ok) now host plain = (refl, refl, refl)
+plain_host s rank (call.Halt code) now host plain = (refl, refl, refl)
+plain_host s rank (call.OpenImage path ok) now host plain = (refl, refl, refl)
+plain_host s rank (call.OpenNode images path watchdog resource port owner ok) now host plain = (refl, refl, refl)
 
 may_plain : (rank : ℕ) (host : Host) (took : Option (List ℕ)) (sent : List (ℕ × List ℕ)) (made : Call) → is_disk made ≡ false → MayAnswer rank (record host { took = took }) sent made → MayAnswer rank host sent made
 may_plain rank host took sent (call.Read sector bytes ok) plain may = absurd cc
@@ -104,7 +76,7 @@ same_host h took left = ap (λ k. record h { took = k }) took ∙ ap (λ l. reco
 
 pub returned_plain : (s : Settings) (rank : ℕ) (made : Call) (now : ℕ) (host : Host) → is_disk made ≡ false → host.took ≡ None → host.left ≡ [] → returned s rank made now host ≡ returned_one s rank made now host
 returned_plain s rank made now host plain took left =
-    same_host (returned s rank made now host) (plain_took s rank made now host plain ∙ took) (plain_left s rank made now host plain ∙ left)
+    same_host (returned s rank made now host) ((plain_host s rank made now host plain).0 ∙ took) ((plain_host s rank made now host plain).1 ∙ left)
 
 still_ahead : (s : Settings) (rank : ℕ) (host : Host) (made : Call) (spot : Spot) → option_map_or is_disk (question (left_plan s rank host.leave host.stand.turn host.stand.more spot)) false ≡ false → is_looking spot ≡ false
     → disk_ahead (after_spot s rank host.leave host.stand.turn host.stand.more spot made).spot ≡ disk_ahead spot
@@ -151,7 +123,7 @@ module _ (s : Settings) (t : Timing) (rank : ℕ) (made : Call) (j : TripleJoint
       by_how op (inr asking) = absurd (let asks = ap (λ p. option_map_or is_disk (question p) false) asking.0.asks ∙ disk_on s rank asking.0.number _ op in let both = sym asks_plain ∙ asks in cc)
 
       by_ahead : (o : Option DiskOp) → disk_ahead host.one.stand.spot ≡ o → host.call ≡ call_on_three s rank host.good host.one
-      by_ahead None e = (is.idle e).1
+      by_ahead None e = (is.idle may.on e).1
       by_ahead (Some op) e = by_how op (is.ahead (ahead_on is.one may.on e) op e)
 
   waits_plain : option_map_or is_disk (waits_for s rank host.one) false ≡ false
@@ -192,6 +164,10 @@ module _ (s : Settings) (t : Timing) (rank : ℕ) (made : Call) (j : TripleJoint
       ap (λ p. returned_by s rank j.time (record host { left = gives_up s rank host }) (plans.left p made))
       (call_is ∙ ap (λ q. option_map_or (call_plan s rank host.good) q (plans.Ends (call.Now 0, host.good))) waits_one ∙ once_made s rank host.good (blank made) (disk_blank made ∙ plain))
 
+  -- a resource that runs is still held
+  pub plain_owns : HostOwns host.one → HostOwns (returned_triple s rank made j.time host).one
+  plain_owns was = subst (λ h. HostOwns h.one) (sym returned_is) (λ on. returns_own s rank j.time host.one made waits_one (was may.on))
+
   one_is : returned s rank made j.time host.one ≡ returned_one s rank made j.time host.one
   one_is = returned_plain s rank made j.time host.one plain is.plain.0 is.plain.1
 
@@ -216,9 +192,9 @@ module _ (s : Settings) (t : Timing) (rank : ℕ) (made : Call) (j : TripleJoint
       goods = λ lives clear image in_range. is.goods lives (λ o none. clear o (ahead_same ∙ none)) image in_range;
       silent = is.silent;
       ahead = λ lives op e. no_longer op (is.ahead lives op (sym ahead_same ∙ e));
-      idle = λ none. (refl, refl);
+      idle = λ on none. (refl, refl);
       among = gives_nothing is may.on calls fits below known asks_plain;
-      fresh = λ on unasked. absurd (let asked = sym (ap (λ h. h.asked) one_is) ∙ plain_kept s rank made j.time host.one plain ∙ may.asked in let both = sym asked ∙ unasked in cc);
+      fresh = λ on unasked. absurd (let asked = sym (ap (λ h. h.asked) one_is) ∙ (plain_host s rank made j.time host.one plain).2 ∙ may.asked in let both = sym asked ∙ unasked in cc);
     }
 
     new : Knows (sent_by made) (packets s w.moments)

@@ -16,7 +16,7 @@ use Rattle.qn_model.specs.declared.times.Timing.{Timing}
 use Rattle.qn_model.specs.declared.outputs.DiskOp.{DiskOp}
 use Rattle.qn_model.specs.declared.outputs.DiskOp.TheVariants as disk
 use Rattle.qn_model.specs.lemmas.Moments.{put_same, put_other}
-use Rattle.qn_model.specs.Moments.{node, packets, time}
+use Rattle.qn_model.specs.Moments.{node, packets}
 use Rattle.qn_model.specs.Rules.{unless}
 use Rattle.qn_model.specs.Wanted.{rank_of}
 use Rattle.qn_model.specs.World.{put}

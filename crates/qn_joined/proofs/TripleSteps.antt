@@ -1,57 +1,44 @@
 -- A disk call that lands on an image, time that passes, a process that begins, a feed and an operator's write, as events of the
 -- world of three images.
-use Rattle.std.proofs.Common.{◌≡◌, ◌<◌, ◌≤◌, ◌+◌, ℕ, zero, suc, Bool, true, false, not, ◌&&◌, ◌||◌, List, [], ◌∷◌, ◌++◌, Option, None, Some, ◌==◌, if◌then◌else◌, refl, sym, ap, subst, ◌∙◌, arith, is_some, ◌⊎◌, inl, inr}
-use Rattle.std.specs.Prelude.{◌^◌, IfSome, length, nat_le}
-use Rattle.std.specs.List.{list_all, range_with_len}
+use Rattle.std.proofs.Common.{◌≡◌, ◌<◌, ◌≤◌, ℕ, zero, suc, Bool, true, false, ◌&&◌, ◌||◌, List, [], ◌∷◌, Option, None, Some, ◌==◌, refl, sym, ap, subst, ◌∙◌, is_some, ◌⊎◌, inl, inr}
+use Rattle.std.specs.Prelude.{length}
 use Rattle.std.specs.Option.{option_or, option_map_or}
-use Rattle.std.proofs.lemmas.Bool.{cases_lt, eqb-true}
+use Rattle.std.proofs.lemmas.Bool.{cases_lt}
 use Rattle.qn_base.specs.declared.calls.Call.{Call}
 use Rattle.qn_base.specs.declared.ids.Rank.{Rank}
-use Rattle.qn_base.specs.lemmas.Bools.{first_of_three}
 use Rattle.qn_base.specs.Plans.{question}
 use Rattle.qn_model.specs.declared.configuration.Settings.{Settings}
-use Rattle.qn_model.specs.declared.disk.Message.{Message}
-use Rattle.qn_model.specs.declared.mailbox.Mail.{Mail}
 use Rattle.qn_model.specs.declared.times.Timing.{Timing}
 use Rattle.qn_model.specs.declared.entries.What.{What}
-use Rattle.qn_model.specs.declared.events.Event.TheVariants as event
 use Rattle.qn_model.specs.declared.outputs.DiskOp.{DiskOp}
 use Rattle.qn_model.specs.declared.outputs.DiskOp.TheVariants as disk
 use Rattle.qn_model.specs.declared.packets.Sent.{Sent}
-use Rattle.qn_model.specs.lemmas.Moments.{node_feeds, put_same, put_other}
+use Rattle.qn_model.specs.lemmas.Moments.{put_same, put_other}
 use Rattle.qn_model.specs.Log.{op_out}
-use Rattle.qn_model.specs.Moments.{Feeds, Running, advance_of, advanced, is_gone, node, packets, time}
-use Rattle.qn_model.specs.Phases.{phase}
-use Rattle.qn_model.specs.Rules.{is_on, is_within_bounds, may_feed, may_operate, may_pass, outlives, passes, refusal, unless}
-use Rattle.qn_model.specs.Sectors.{anonymous, is_deadly, mail_place}
-use Rattle.qn_model.specs.Steps.{step}
+use Rattle.qn_model.specs.Moments.{Running, node, packets}
+use Rattle.qn_model.specs.Rules.{unless}
 use Rattle.qn_model.specs.Wanted.{rank_of}
 use Rattle.qn_model.specs.World.{World, put, taken}
-use Rattle.qn_sector.specs.Reading.{mail_of}
 use Rattle.qn_parts.specs.Parts.{is_good_on}
 use Rattle.qn_safety.specs.declared.part.Part.{Part}
 use Rattle.qn_safety.specs.declared.part.Part.TheVariants.{Landed, Pending}
-use Rattle.qn_safety.specs.declared.triple_event.TripleEvent.{TripleEvent}
 use Rattle.qn_safety.specs.declared.triple_event.TripleEvent.TheVariants as triple
-use Rattle.qn_safety.specs.NodeLogs.{IsOperation}
 use Rattle.qn_safety.specs.TripleNumbers.{AllMayTriple, IsTripleNode, TripleNodesHold, is_two}
 use Rattle.qn_safety.specs.TripleRules.{is_image, may_land_on, refusal_triple}
 use Rattle.qn_safety.specs.TripleSteps.{landed_on, run_triple, step_triple}
-use Rattle.qn_safety.specs.TripleWorld.{TripleWorld, image_of, is_pending, nodes_of, op_of}
+use Rattle.qn_safety.specs.TripleWorld.{TripleWorld, image_of, is_pending, op_of}
 use Rattle.qn_live.specs.Performing.{disk_call, done}
 use Rattle.qn_live.specs.TripleDisk.{call_plan}
-use Rattle.qn_live.specs.TripleRuns.{all_good}
-use Rattle.qn_joined.specs.Joints.{FitsImage, Host, is_deadly_mail, is_disk, is_timed, landed_image, takes, waits_for}
-use Rattle.qn_joined.specs.Stands.{log_at}
-use Rattle.qn_joined.specs.Theorem.{MailsReadBack, TakesAlike}
+use Rattle.qn_joined.specs.Joints.{FitsImage, landed_image, takes, waits_for}
+use Rattle.qn_joined.specs.Theorem.{TakesAlike}
 use Rattle.qn_joined.specs.TripleJoints as joints
 use Rattle.qn_joined.specs.TripleJoints.{TripleHost, TripleJoint, happens_triple, image_named, image_waited, with_triple}
-use Rattle.qn_joined.specs.TripleNodes.{AllAre, HasTripleWorld, IsAsking, IsNodeOnThree, IsTripleWorld, KeepsAWorld, PartsAre, good_told}
+use Rattle.qn_joined.specs.TripleNodes.{HasTripleWorld, IsAsking, IsNodeOnThree, IsTripleWorld, KeepsAWorld, PartsAre, good_told}
 use Rattle.qn_joined.specs.TripleWorldOf.{CallsAnswer, IsEnough, IsHeld, IsLeft, image_before, none_told}
 use Rattle.qn_joined.specs.WorldOf.{TookAlike, disk_ahead}
-use Rattle.qn_joined.proofs.Images.{mail_put, takes_done}
+use Rattle.qn_joined.proofs.Images.{takes_done}
 use Rattle.qn_joined.proofs.TripleAsking.{AsksDisk, asks_disk, named_on, part_lands, part_pending}
-use Rattle.qn_joined.proofs.TripleFrames.{AreImages, ChangesOnThree, IsNodeIn3, images_land, triple_moves}
+use Rattle.qn_joined.proofs.TripleFrames.{IsNodeIn3, images_land, triple_moves}
 
 pub configured_triple : {s : Settings} {t : Timing} {j : TripleJoint} (has : HasTripleWorld s t j) (rank : ℕ) → (j.hosts rank).one.on ≡ true → rank < length s.nodes
 configured_triple {s} {t} {j} has rank on = by_order (cases_lt rank (length s.nodes))
@@ -157,7 +144,7 @@ module _ {s : Settings} {t : Timing} {rank : ℕ} {host : TripleHost} {n : Runni
         let op_is = some_op (sym d.waits.ahead ∙ e) in
         inr (subst (λ o. (asking : IsAsking s t rank o host.good (Some bytes) (put parts (image_before d.asking.images) (Landed value)) host.call) × (waits_for s rank host.one ≡ Some (disk_call s rank asking.number o))) op_is
         (landed_asking, d.call));
-    idle = λ none. absurd (let both = sym d.waits.ahead ∙ none in cc);
+    idle = λ on none. absurd (let both = sym d.waits.ahead ∙ none in cc);
     among = is.among;
     fresh = is.fresh;
   }

@@ -1,8 +1,8 @@
 -- What three images tell together of an operation, whatever each of them answers, is what the world of three images answers.
-use Rattle.std.proofs.Common.{◌≡◌, ◌<◌, ◌≤◌, ◌+◌, ◌-◌, ◌*◌, ◌/◌, ℕ, zero, suc, Bool, true, false, not, ◌&&◌, ◌||◌, ◌==◌, List, [], ◌∷◌, Option, None, Some, if◌then◌else◌, refl, sym, ap, subst, ◌∙◌, arith, ◌⊎◌, inl, inr, map}
-use Rattle.std.specs.Prelude.{length, nat_le, nat_lt, IsTrue}
+use Rattle.std.proofs.Common.{◌≡◌, ◌<◌, ◌+◌, ◌*◌, ℕ, zero, suc, Bool, true, false, not, ◌&&◌, ◌||◌, ◌==◌, List, [], ◌∷◌, Option, None, Some, if◌then◌else◌, refl, sym, ap, subst, ◌∙◌, arith, inl, inr, map}
+use Rattle.std.specs.Prelude.{length, nat_le, IsTrue}
 use Rattle.std.specs.List.{list_any}
-use Rattle.std.proofs.lemmas.Bool.{eq-eqb, eqb-false, leb-true, lt-ltb, ltb-true, ne_eqb}
+use Rattle.std.proofs.lemmas.Bool.{eq-eqb, eqb-false, leb-true, ne_eqb}
 use Rattle.qn_base.specs.declared.calls.Call.{Call}
 use Rattle.qn_base.specs.declared.calls.Call.TheVariants as call
 use Rattle.qn_base.specs.declared.ids.Rank.{Rank}
@@ -23,22 +23,19 @@ use Rattle.qn_model.specs.declared.seen.HeaderSeen.TheVariants as header
 use Rattle.qn_model.specs.declared.seen.MailSeen.TheVariants as mail
 use Rattle.qn_model.specs.declared.seen.SlotSeen.TheVariants as slot
 use Rattle.qn_model.specs.Sectors.{mail_place, slot_place}
-use Rattle.qn_model.specs.Wanted.{rank_of}
 use Rattle.qn_model.specs.World.{is_write}
 use Rattle.qn_parts.specs.Parts.{is_good_on, part_on}
 use Rattle.qn_safety.specs.declared.part.Part.{Part}
 use Rattle.qn_safety.specs.declared.part.Part.TheVariants.{Pending, Landed, Failed}
 use Rattle.qn_safety.specs.NodeLogs.{IsOperation}
-use Rattle.qn_safety.specs.TripleNumbers.{is_two}
 use Rattle.qn_safety.specs.TripleRules.{is_image}
 use Rattle.qn_safety.specs.TripleWorld.{answer_of, good_after, has_failed, has_landed}
 use Rattle.qn_live.specs.Performing.{disk_answer, disk_call, done}
 use Rattle.qn_live.specs.PlacesRead.{mail_is_read, slot_is_read}
-use Rattle.qn_live.specs.TripleDisk.{Told, call_plan, differ, good_after_write, image_plan, images_plan, is_asked, is_failed_read, is_majority, is_strange, part_of, part_plan, parts_plan, read_entry, read_of, read_plan, reading, same_times, sector_of, sector_on, some_differ, strange, write_plan}
+use Rattle.qn_live.specs.TripleDisk.{Told, call_plan, differ, good_after_write, image_plan, images_plan, is_asked, is_failed_read, is_majority, is_strange, part_of, part_plan, parts_plan, read_entry, read_of, read_plan, reading, same_times, sector_of, some_differ, strange, write_plan}
 use Rattle.qn_live.specs.TripleLaws.{IsTold, parts_told, taken_from}
 use Rattle.qn_live.specs.TripleRuns.{all_good}
-use Rattle.qn_joined.specs.Joints.{FitsImage}
-use Rattle.qn_joined.specs.TripleWorldOf.{CallsAnswer, IsAnswered, IsEnough, IsHeld, IsHonest, IsLeft, ToldBy, all_told, image_before, none_told, on_image, told_also}
+use Rattle.qn_joined.specs.TripleWorldOf.{CallsAnswer, IsAnswered, IsEnough, IsHeld, IsHonest, IsLeft, none_told, on_image}
 
 -- ## What is cited
 

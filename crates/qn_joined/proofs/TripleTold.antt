@@ -1,14 +1,12 @@
 -- A disk call on an image that returns keeps a joint of running nodes on three images a world of three images.
-use Rattle.std.proofs.Common.{◌≡◌, ◌<◌, ◌≤◌, ℕ, zero, suc, Bool, true, false, List, [], ◌∷◌, ◌++◌, Option, None, Some, if◌then◌else◌, refl, sym, ap, subst, ◌∙◌, arith, is_some, inr}
-use Rattle.std.specs.Prelude.{Contains, length, nat_le}
+use Rattle.std.proofs.Common.{◌≡◌, ◌<◌, ◌≤◌, ℕ, Bool, true, false, List, [], ◌∷◌, ◌++◌, Option, None, Some, if◌then◌else◌, refl, sym, ap, subst, ◌∙◌, arith, is_some, inr}
+use Rattle.std.specs.Prelude.{Contains, length}
 use Rattle.std.specs.Option.{option_map_or}
-use Rattle.std.proofs.lemmas.Bool.{leb-true}
 use Rattle.std.proofs.lemmas.Option.{same_Some}
 use Rattle.std.proofs.lemmas.List.{append-nil}
 use Rattle.qn_base.specs.declared.calls.Call.{Call}
 use Rattle.qn_base.specs.declared.calls.Call.TheVariants as call
 use Rattle.qn_base.specs.Calls.{blank, is_failed}
-use Rattle.qn_base.specs.lemmas.Bools.{first_of_both, second_of_both}
 use Rattle.qn_base.specs.Plans as plans
 use Rattle.qn_base.specs.Plans.{Plan, question}
 use Rattle.qn_io.specs.Answered.{bytes_read}
@@ -21,7 +19,7 @@ use Rattle.qn_model.specs.declared.outputs.Out.TheVariants as out
 use Rattle.qn_model.specs.declared.packets.Packet.{Packet}
 use Rattle.qn_model.specs.declared.packets.Sent.{Sent}
 use Rattle.qn_model.specs.Log.{op_out}
-use Rattle.qn_model.specs.Moments.{Running, node, packets, time}
+use Rattle.qn_model.specs.Moments.{Running, node, packets}
 use Rattle.qn_model.specs.NodeOutputs.{newest_outs}
 use Rattle.qn_model.specs.World.{failed}
 use Rattle.qn_live.specs.Greetings.{sends_plan}
@@ -39,6 +37,7 @@ use Rattle.qn_wire.specs.Reading.{packet_of}
 use Rattle.qn_joined.specs.Joints.{FitsImage, Host, MayAnswer, after_effect, counts, is_disk, returned, sent_by, waits_for}
 use Rattle.qn_joined.specs.Nodes.{KnowsPackets, at, is_looking}
 use Rattle.qn_joined.specs.Stands.{Spot, Receiving, Looking, Acting, Saying, Parting, Ended, Stand, after_call, after_spot, left_plan, log_at}
+use Rattle.qn_joined.specs.Theorem.{HostOwns}
 use Rattle.qn_joined.specs.TripleJoints as joints
 use Rattle.qn_joined.specs.TripleJoints.{TripleHost, TripleJoint, gives_up, happens_triple, returned_by, returned_one, returned_triple, stands_at, with_triple}
 use Rattle.qn_joined.specs.TripleNodes.{AllAre, HasTripleWorld, IsAsking, IsNodeOnThree, KeepsAWorld, good_told}
@@ -48,23 +47,23 @@ use Rattle.qn_joined.proofs.Calls.{disk_is, returns_at}
 use Rattle.qn_joined.proofs.Frames.{knows_grows}
 use Rattle.qn_joined.proofs.Moving.{EndsDisk, disk_blank, disk_effect, node_moves}
 use Rattle.qn_joined.proofs.Standing.{acts_ahead}
+use Rattle.qn_joined.proofs.Returning.{returns_own}
 use Rattle.qn_joined.proofs.Returns.{returned_fed}
 use Rattle.qn_joined.proofs.TripleAsking.{AllTold, AsksDisk, AsksOne, Comes, asks_disk, comes_next, told_silent}
-use Rattle.qn_joined.proofs.TripleClosing.{Closing, Settled, closed_answer, closes, settled_landed}
-use Rattle.qn_joined.proofs.TripleFrames.{ChangesOnThree, IsNodeIn3, same_images, then_changes, triple_moves}
+use Rattle.qn_joined.proofs.TripleClosing.{Closing, Settled, closed_answer, closes, pending_is, settled_landed}
+use Rattle.qn_joined.proofs.TripleFrames.{ChangesOnThree, IsNodeIn3, of_images, same_images, then_changes, triple_moves}
 use Rattle.qn_joined.proofs.TripleReturns.{HasHeard, hears, honest}
 use Rattle.qn_joined.proofs.TripleSteps.{configured_triple, good_same, starts_of, told_none}
 
 -- what landed on an image is what the image told
-clear_closed : (by : ToldBy) (parts parts' : ℕ → Part) → AllAre by parts → ((image : ℕ) → Settled (parts image) (parts' image)) → (image : ℕ) → is_image image ≡ true → has_landed (part_on (all_told by) image) ≡ has_landed (parts' image)
-clear_closed by parts parts' are settled zero is = absurd (let under = leb-true 1 0 (first_of_both (nat_le 1 0) (nat_le 0 3) is) in omega (arith, under))
-clear_closed by parts parts' are settled (suc zero) is = ap has_landed (sym are.0) ∙ settled_landed (parts 1) (parts' 1) (settled 1)
-clear_closed by parts parts' are settled (suc (suc zero)) is = ap has_landed (sym are.1) ∙ settled_landed (parts 2) (parts' 2) (settled 2)
-clear_closed by parts parts' are settled (suc (suc (suc zero))) is = ap has_landed (sym are.2) ∙ settled_landed (parts 3) (parts' 3) (settled 3)
-clear_closed by parts parts' are settled (suc (suc (suc (suc more)))) is =
-    absurd (let under = leb-true (suc (suc (suc (suc more)))) 3 (second_of_both (nat_le 1 (suc (suc (suc (suc more))))) (nat_le (suc (suc (suc (suc more)))) 3) is) in omega (arith, under))
+clear_closed : (by : ToldBy) (parts parts' : ℕ → Part) → AllAre by parts → ((image : ℕ) → Settled is_pending (parts image) (parts' image)) → (image : ℕ) → is_image image ≡ true → has_landed (part_on (all_told by) image) ≡ has_landed (parts' image)
+clear_closed by parts parts' are settled =
+    of_images (λ image. has_landed (part_on (all_told by) image) ≡ has_landed (parts' image))
+    (ap has_landed (sym are.0) ∙ settled_landed (parts 1) (parts' 1) (settled 1))
+    (ap has_landed (sym are.1) ∙ settled_landed (parts 2) (parts' 2) (settled 2))
+    (ap has_landed (sym are.2) ∙ settled_landed (parts 3) (parts' 3) (settled 3))
 
-closed_good : (op : DiskOp) (by : ToldBy) (good good' : ℕ → Bool) (parts parts' : ℕ → Part) → AllAre by parts → ((image : ℕ) → Settled (parts image) (parts' image)) → ((image : ℕ) → is_image image ≡ true → good image ≡ good' image)
+closed_good : (op : DiskOp) (by : ToldBy) (good good' : ℕ → Bool) (parts parts' : ℕ → Part) → AllAre by parts → ((image : ℕ) → Settled is_pending (parts image) (parts' image)) → ((image : ℕ) → is_image image ≡ true → good image ≡ good' image)
     → (image : ℕ) → is_image image ≡ true → good_after op (part_on (all_told by)) good image ≡ good_after op parts' good' image
 closed_good disk.WriteClear by good good' parts parts' are settled same image in_range = clear_closed by parts parts' are settled image in_range
 closed_good disk.ReadHeader by good good' parts parts' are settled same image in_range = same image in_range
@@ -76,7 +75,7 @@ closed_good (disk.WriteClose last) by good good' parts parts' are settled same i
 closed_good (disk.WriteReset other) by good good' parts parts' are settled same image in_range = same image in_range
 
 -- no operation but a clear changes the good images
-kept_good : (op : DiskOp) (parts : ℕ → Part) (good good' : ℕ → Bool) (image : ℕ) → (op ≡ disk.WriteClear → ⊥) → good image ≡ good' image → good_after op parts good image ≡ good' image
+pub kept_good : (op : DiskOp) (parts : ℕ → Part) (good good' : ℕ → Bool) (image : ℕ) → (op ≡ disk.WriteClear → ⊥) → good image ≡ good' image → good_after op parts good image ≡ good' image
 kept_good disk.WriteClear parts good good' image never same = absurd (never refl)
 kept_good disk.ReadHeader parts good good' image never same = same
 kept_good (disk.ReadSlot other) parts good good' image never same = same
@@ -260,6 +259,19 @@ module _ (s : Settings) (t : Timing) (rank : ℕ) (made : Call) (j : TripleJoint
       (d.asking.next made (same_Some _ _ (sym may.waits ∙ ap question d.asking.asks)) (honest s t rank has.events tells_host has.may fits below known is d made j.sent may.waits may.answer))
       (let few = d.asking.few in omega (arith, few)) h.are (told_silent d.asking.images (part_of s d.waits.op made) d.asking.by d.asking.silent d.asking.few)
 
+  -- a resource that runs is still held
+  pub tells_own : HostOwns tells_host.one → HostOwns (returned_triple s rank made j.time tells_host).one
+  unfolding returned_triple
+  tells_own was = subst (λ p. HostOwns (told_by p).one) (sym (ap (λ p. plans.left p made) d.asking.asks)) (by_comes comes)
+    where
+      told_by : Plan Told → TripleHost
+      told_by rest = returned_by s rank j.time (record tells_host { left = gives_up s rank tells_host }) rest
+
+      by_comes : Comes s t rank d.asking.number d.waits.op tells_host.good ((run_triple s t h.events').parts rank) (d.asking.more made) → HostOwns (told_by (d.asking.more made)).one
+      by_comes (AsksOne a number) = subst (λ p. HostOwns (told_by p).one) (sym a.asks) was
+      by_comes (AllTold told by' ends answered are) =
+          subst (λ p. HostOwns (told_by p).one) (sym ends) (λ on. returns_own s rank j.time tells_host.one told.0 (d.call ∙ ap Some (sym answered.call)) (was may.on))
+
   took_here : is.took ≡ None
   took_here = subst (λ k. TookAlike s d.waits.op k is.took) is.plain.0 d.waits.alike
 
@@ -286,16 +298,16 @@ module _ (s : Settings) (t : Timing) (rank : ℕ) (made : Call) (j : TripleJoint
     ahead = λ lives op e.
         inr (subst (λ o. (asking : IsAsking s t rank o tells_host.good None ((run_triple s t h.events').parts rank) rest) × (waits_for s rank tells_host.one ≡ Some (disk_call s rank asking.number o))) (same_Some _ _ (sym d.waits.ahead ∙ e))
         (a, d.call ∙ ap (λ k. Some (disk_call s rank k d.waits.op)) (sym number)));
-    idle = λ none. absurd (let both = sym d.waits.ahead ∙ none in cc);
+    idle = λ on none. absurd (let both = sym d.waits.ahead ∙ none in cc);
     among = h.among;
-    fresh = is.fresh;
+    fresh = λ on unasked. absurd (let asked = may.asked in let both = sym asked ∙ unasked in cc);
   }
 
   -- all images told
   abbrev end_host : Told → TripleHost
   end_host told = stands_at s rank told.1 (returned_one s rank told.0 j.time tells_host.one) (record tells_host { left = gives_up s rank tells_host })
 
-  module _ (told : Told) (by' : ToldBy) (answered : IsAnswered s rank d.asking.number d.waits.op tells_host.good by' told) (are : AllAre by' ((run_triple s t h.events').parts rank)) (c : Closing s t rank h.events')
+  module _ (told : Told) (by' : ToldBy) (answered : IsAnswered s rank d.asking.number d.waits.op tells_host.good by' told) (are : AllAre by' ((run_triple s t h.events').parts rank)) (c : Closing s t rank is_pending h.events')
       (over : none_pending (λ image. is_pending ((run_triple s t c.events').parts rank image)) ≡ true) where
     abbrev end_world : TripleWorld
     end_world = run_triple s t c.events'
@@ -346,7 +358,7 @@ module _ (s : Settings) (t : Timing) (rank : ℕ) (made : Call) (j : TripleJoint
       goods = λ lives clear image in_range. good_by one.took refl (λ out. clear out none_ahead) image in_range;
       silent = λ lives none. absurd (let both = sym d.waits.out ∙ none in cc);
       ahead = λ lives op e. absurd (let both = sym none_ahead ∙ e in cc);
-      idle = λ none. (refl, refl);
+      idle = λ on none. (refl, refl);
       among = λ image. c.left image (gives_up s rank tells_host image) (h.among image);
       fresh = λ on unasked. absurd (let both = sym still_asked ∙ unasked in cc);
     }
@@ -372,7 +384,7 @@ module _ (s : Settings) (t : Timing) (rank : ℕ) (made : Call) (j : TripleJoint
   ends_with : (told : Told) (by' : ToldBy) → IsAnswered s rank d.asking.number d.waits.op tells_host.good by' told → AllAre by' ((run_triple s t h.events').parts rank)
       → HasTripleWorld s t (record (with_triple rank (end_host told) j) { sent = j.sent ++ sent_by made })
   ends_with told by' answered are =
-      let c = closes s t rank h.events' d.waits.op (ap (λ ms. (node s rank ms).on) h.moments ∙ d.waits.lives) (ap (λ ms. op_out (node s rank ms).log) h.moments ∙ d.waits.out) h.may in
+      let c = closes s t rank is_pending (λ part e. (pending_is part e).1) h.events' d.waits.op (ap (λ ms. (node s rank ms).on) h.moments ∙ d.waits.lives) (ap (λ ms. op_out (node s rank ms).log) h.moments ∙ d.waits.out) h.may in
       world_of (end_host told) c.0.events' c.0.may (then_changes h.changes c.0.changes) (c.0.slots ∙ h.slots) (c.0.mailboxes ∙ h.mailboxes) (c.0.moments ∙ h.moments)
       (end_node told by' answered are c.0 c.1)
       (subst (λ f. f ≤ j.time) (sym (returned_fed s rank told.0 j.time tells_host.one)) (has.world.fed rank))

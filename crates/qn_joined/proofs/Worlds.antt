@@ -2,19 +2,19 @@
 use Rattle.std.proofs.Common.{◌≡◌, ◌<◌, ◌≤◌, ◌+◌, ℕ, true, false, List, [], ◌∷◌, None, refl, sym, subst, arith}
 use Rattle.std.specs.Prelude.{length, nat_le}
 use Rattle.std.specs.Option.{option_map_or}
-use Rattle.qn_base.specs.declared.calls.Call.TheVariants as call
 use Rattle.qn_model.specs.declared.configuration.Settings.{Settings}
 use Rattle.qn_model.specs.declared.times.Timing.{Timing}
 use Rattle.qn_model.specs.declared.events.Event.{Event}
-use Rattle.qn_model.specs.Moments.{node, packets, tick_of, time}
+use Rattle.qn_model.specs.Moments.{node, packets, time}
 use Rattle.qn_model.specs.Steps.{run}
+use Rattle.qn_model.specs.World.{first_world}
 use Rattle.qn_safety.specs.NodeLogs.{LogsHold}
 use Rattle.qn_joined.specs.Joints as joints
-use Rattle.qn_joined.specs.Joints.{AllMayHappen, FitsImage, Happening, Host, IsJoined, IsNewImage, Joint, MayHappen, began, ended, first_joint, happens, joint_after, looked_first, with_host}
+use Rattle.qn_joined.specs.Joints.{AllMayHappen, FitsImage, Happening, Host, IsJoined, IsNewImage, Joint, MayHappen, began, ended, first_joint, happens, joint_after, looked_first, never_on, with_host}
 use Rattle.qn_joined.specs.Moves.{Moved}
 use Rattle.qn_safety.specs.AnyNumbers.{AllMay}
 use Rattle.qn_joined.specs.Theorem.{MailsReadBack, PacketsReadBack, TakesAlike}
-use Rattle.qn_joined.specs.WorldOf.{NoCall, EveryJointHasAWorld, HasWorld, IsWorld}
+use Rattle.qn_joined.specs.WorldOf.{NoCall, EveryJointHasAWorld, HasWorld, IsImage, IsNode, IsWorld}
 use Rattle.qn_joined.proofs.Boots.{begins_as_node, boots_in_world, feeds_in_world, no_event}
 use Rattle.qn_joined.proofs.Endings.{ends_in_world}
 use Rattle.qn_joined.proofs.Frames.{knows_grows, one_moves}
@@ -23,39 +23,48 @@ use Rattle.qn_joined.proofs.Landing.{lands_in_world, operates_in_world}
 use Rattle.qn_joined.proofs.Late.{late_in_world}
 use Rattle.qn_joined.proofs.Owners.{configured}
 use Rattle.qn_joined.proofs.Passing.{passes_in_world}
-use Rattle.qn_joined.proofs.Returns.{returned_fed, returns_in_world}
+use Rattle.qn_joined.proofs.Returns.{first_fed, returns_in_world}
 
 -- before anything happened
+pub never_on_node : (s : Settings) (rank : ℕ) → IsNode s rank never_on (node s rank []) None [] []
+unfolding node
+never_on_node s rank =
+    record {
+      on = refl;
+      log = λ on. absurd cc;
+      clock = λ on. absurd cc;
+      tick = λ on. absurd cc;
+      fed = λ on. absurd cc;
+      decided = λ on. absurd cc;
+      silent = λ on. absurd cc;
+      backed = λ on. absurd cc;
+      idle = λ on. absurd cc;
+      among = NoCall;
+      fresh = λ on. absurd cc;
+      ending = λ on. absurd cc;
+      greets = refl;
+      rests = λ on. absurd cc;
+    }
+
+pub new_is_image : (s : Settings) (t : Timing) (image : ℕ → List ℕ) → IsNewImage s t image → IsImage s t image first_world
+new_is_image s t image created =
+    record {
+      header = created.header;
+      slots = created.slots;
+      fit = λ r below. omega arith;
+      mails = λ r below. (None, tt, created.mails r below);
+    }
+
 first_is_world : (s : Settings) (t : Timing) (image : ℕ → List ℕ) → IsNewImage s t image → IsWorld s t (first_joint image) (run s t [])
-unfolding run node time packets
+unfolding run time packets
 first_is_world s t image created =
     record {
       time = refl;
-      nodes = λ r below. record {
-        on = refl;
-        log = λ on. absurd cc;
-        clock = λ on. absurd cc;
-        tick = λ on. absurd cc;
-        fed = λ on. absurd cc;
-        decided = λ on. absurd cc;
-        silent = λ on. absurd cc;
-        backed = λ on. absurd cc;
-        idle = λ on. absurd cc;
-        among = NoCall;
-        fresh = λ on. absurd cc;
-        ending = λ on. absurd cc;
-        greets = refl;
-        rests = λ on. absurd cc;
-      };
+      nodes = λ r below. never_on_node s r;
       off = λ r out. refl;
       fed = λ r. omega arith;
       bare = λ r out. refl;
-      image = record {
-        header = created.header;
-        slots = created.slots;
-        fit = λ r below. omega arith;
-        mails = λ r below. (None, tt, created.mails r below);
-      };
+      image = new_is_image s t image created;
       sent = λ to bytes p there spelled c. absurd (omega (arith, there.1));
     }
 
@@ -70,10 +79,6 @@ moved_world {s} {t} {j} {events} rank host is fits below m fed =
           one_moves rank (run s t m.events') host j.image j.sent is below m.changes m.node fed (same_image is.image fits (run s t m.events') m.slots m.mailboxes)
           (knows_grows j.sent (packets s (run s t events).moments) (packets s (run s t m.events').moments) m.changes.grows is.sent);
     }
-
-first_fed : (s : Settings) (rank base now : ℕ) (host : Host) → (looked_first s rank base now host).fed ≡ host.fed
-unfolding looked_first
-first_fed s rank base now host = returned_fed s rank (call.Now (tick_of base)) now host
 
 module _ (s : Settings) (t : Timing) (alike : TakesAlike s t) (logs : LogsHold s t) (packets_back : PacketsReadBack) (mails_back : MailsReadBack) (fits : FitsImage s t) where
   one_happens : (j : Joint) (happening : Happening) → HasWorld s t j → MayHappen s t happening j → HasWorld s t (happens s happening j)

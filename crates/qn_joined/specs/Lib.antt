@@ -7,4 +7,5 @@ pub mod Theorem
 pub mod WorldOf
 pub mod TripleJoints
 pub mod TripleNodes
+pub mod TripleTheorem
 pub mod TripleWorldOf

@@ -220,12 +220,3 @@ pub record IsTripleJoined (s : Settings) (t : Timing) (images : ℕ → ℕ → 
 abbrev pub triple_runs_at : Settings → (ℕ → ℕ → List ℕ) → List TripleHappening → ℕ → Bool
 triple_runs_at s images happenings rank =
     let host = ((triple_joint_after s images happenings).hosts rank).one in host.on && host.runs
-
--- at most one resource runs at any moment
-abbrev pub AtMostOneRunsOnThree : Settings → Timing → Type 0
-AtMostOneRunsOnThree s t =
-    (images : ℕ → ℕ → List ℕ) (happenings : List TripleHappening) (i j : ℕ)
-    → IsTripleJoined s t images happenings
-    → triple_runs_at s images happenings i ≡ true
-    → triple_runs_at s images happenings j ≡ true
-    → i ≡ j

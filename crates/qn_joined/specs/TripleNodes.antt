@@ -103,10 +103,10 @@ pub record IsNodeOnThree (s : Settings) (t : Timing) (rank : ℕ) (host : Triple
       → is_good_on host.good image ≡ good_told (op_out n.log) took parts good image
   pub silent : n.on ≡ true → op_out n.log ≡ None → AllAre none_told parts
   pub ahead : n.on ≡ true → (op : DiskOp) → disk_ahead host.one.stand.spot ≡ Some op → IsAhead s t rank host op parts
-  pub idle : disk_ahead host.one.stand.spot ≡ None
+  pub idle : host.one.on ≡ true → disk_ahead host.one.stand.spot ≡ None
       → (host.took ≡ None) × (host.call ≡ call_on_three s rank host.good host.one)
   pub among : (image : ℕ) → AreAmong s rank (host.left image) (left image)
-  pub fresh : host.one.on ≡ true → host.one.asked ≡ false → host.good ≡ all_good
+  pub fresh : host.one.on ≡ true → host.one.asked ≡ false → (host.good ≡ all_good) × ((image : ℕ) → host.left image ≡ [])
 
 -- the joint is this world
 pub record IsTripleWorld (s : Settings) (t : Timing) (j : TripleJoint) (w : TripleWorld) : Type 0 where
@@ -144,4 +144,14 @@ ReturnsPlainly s t rank made =
     → MayHappenTriple s t (joints.Returns rank made) j
     → is_disk made ≡ false
     → is_looking (j.hosts rank).one.stand.spot ≡ false
+    → HasTripleWorld s t (happens_triple s (joints.Returns rank made) j)
+
+-- the same after a look at the clock returned, of a process that has looked before
+abbrev pub ReturnsALook : Settings → Timing → ℕ → Call → Type 0
+ReturnsALook s t rank made =
+    (j : TripleJoint)
+    → FitsImage s t
+    → HasTripleWorld s t j
+    → MayHappenTriple s t (joints.Returns rank made) j
+    → is_looking (j.hosts rank).one.stand.spot ≡ true
     → HasTripleWorld s t (happens_triple s (joints.Returns rank made) j)

@@ -1,5 +1,5 @@
 -- The world of three images that a joint is of: the events that happened in it. This project's profile.
-use Rattle.std.specs.Prelude.{◌≡◌, ◌<◌, ◌≤◌, ◌+◌, ℕ, zero, suc, Bool, true, false, ◌&&◌, ◌==◌, List, [], ◌∷◌, ◌++◌, Option, None, Some, is_some, length, Contains, ◌^◌, ◌⊎◌}
+use Rattle.std.specs.Prelude.{◌≡◌, ◌<◌, ℕ, zero, suc, Bool, true, false, ◌==◌, List, [], ◌∷◌, length, ◌⊎◌}
 use Rattle.qn_base.specs.declared.calls.Call.{Call}
 use Rattle.qn_base.specs.declared.calls.Call.TheVariants as call
 use Rattle.qn_base.specs.Calls.{blank, is_failed}
@@ -14,29 +14,20 @@ use Rattle.qn_model.specs.declared.entries.What.{What}
 use Rattle.qn_model.specs.declared.entries.What.TheVariants as what
 use Rattle.qn_model.specs.declared.outputs.DiskOp.{DiskOp}
 use Rattle.qn_model.specs.declared.outputs.DiskOp.TheVariants as disk
-use Rattle.qn_model.specs.declared.packets.Packet.{Packet}
-use Rattle.qn_model.specs.declared.packets.Sent.{Sent}
 use Rattle.qn_model.specs.declared.seen.HeaderSeen.TheVariants as header
 use Rattle.qn_model.specs.declared.seen.MailSeen.TheVariants as mail
 use Rattle.qn_model.specs.declared.seen.SlotSeen.TheVariants as slot
-use Rattle.qn_model.specs.Log.{op_out}
-use Rattle.qn_model.specs.Moments.{Running, node, packets, time}
-use Rattle.qn_wire.specs.Reading.{packet_of}
 use Rattle.qn_parts.specs.Parts.{is_good_on, part_on}
 use Rattle.qn_safety.specs.declared.part.Part.{Part}
-use Rattle.qn_safety.specs.declared.part.Part.TheVariants.{Pending, Landed, Failed}
-use Rattle.qn_safety.specs.declared.triple_event.TripleEvent.{TripleEvent}
-use Rattle.qn_safety.specs.TripleNumbers.{AllMayTriple, is_two}
-use Rattle.qn_safety.specs.TripleRules.{is_image, none_pending}
-use Rattle.qn_safety.specs.TripleSteps.{run_triple}
-use Rattle.qn_safety.specs.TripleWorld.{TripleWorld, answer_of, good_after, image_of, is_pending}
+use Rattle.qn_safety.specs.declared.part.Part.TheVariants.{Pending}
+use Rattle.qn_safety.specs.TripleNumbers.{is_two}
+use Rattle.qn_safety.specs.TripleRules.{is_image}
+use Rattle.qn_safety.specs.TripleWorld.{answer_of, good_after}
 use Rattle.qn_live.specs.Performing.{disk_answer, disk_call, done}
 use Rattle.qn_live.specs.TripleDisk.{Told, call_plan, part_of, sector_on}
 use Rattle.qn_live.specs.TripleRuns.{all_good}
 use Rattle.qn_safety.specs.NodeLogs.{IsOperation}
-use Rattle.qn_joined.specs.Joints.{FitsImage, counts, waits_for}
-use Rattle.qn_joined.specs.TripleJoints.{IsTripleJoined, TripleHappening, TripleHost, TripleJoint, call_on_three, triple_joint_after}
-use Rattle.qn_joined.specs.WorldOf.{AreAmong, IsImage, IsNode, WasSentTo, disk_ahead}
+use Rattle.qn_joined.specs.Joints.{FitsImage}
 
 -- what each image told, and the list of them, image 1 first
 pub record ToldBy : Type 0 where

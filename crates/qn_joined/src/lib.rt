@@ -10,14 +10,17 @@
 //! is what its operation takes in the world (`law_takes_alike`). The rules of what may happen are met by a run in which a
 //! node boots and starts its resource, and another one resets it and takes over (`law_joints_are_met`).
 //!
-//! Of nodes on three images `specs/TripleJoints` says what may happen to them, and `specs/TripleNodes` which world that is. A process
-//! of theirs makes the calls of the run of its node on three images (`law_triple_stands`). The calls of a disk operation on the three
-//! end with the answer of the world of three images (`law_triple_calls`); and where a joint has a world, it has one after a disk call
-//! landed on an image (`law_triple_lands`) or returned (`law_triple_tells`), a call returned that is none of the disk and no look at
-//! the clock (`law_triple_returns`), a write that was given up landed after all (`law_triple_late`), time passed, a process began, a
-//! feed took effect, a machine ended, or an operator wrote (`law_triple_passes`, `law_triple_begins`, `law_triple_feeds`,
-//! `law_triple_ends`, `law_triple_operates`). That it has one after a look at the clock returned or a node looked at its outside for
-//! the first time is not proved, and so neither is that at most one resource runs.
+//! Of nodes on three images, any one of which may fail, lag behind or come back, `specs/TripleJoints` says what may happen to them,
+//! and `specs/TripleNodes` which world that is. At most one resource runs at any moment, for all safe times (`law_triple_one_owner`):
+//! each such run is a run of the world of three images (`law_triple_worlds`), and a resource that runs is held by the log of its node
+//! (`law_triple_owned`). The rules are met by a run in which one image is lost all the time, and one node takes over from another
+//! (`law_triple_joints_are_met`). A process of theirs makes the calls of the run of its node on three images (`law_triple_stands`).
+//! The calls of a disk operation on the three end with the answer of the world of three images (`law_triple_calls`); and where a joint
+//! has a world, it has one after a disk call landed on an image (`law_triple_lands`) or returned (`law_triple_tells`), a look at the
+//! clock returned (`law_triple_looks_return`), another call returned (`law_triple_returns`), so any call (`law_triple_returns_any`), a
+//! write that was given up landed after all (`law_triple_late`), time passed, a process began or looked at its clock for the first
+//! time, a feed took effect, a machine ended, or an operator wrote (`law_triple_passes`, `law_triple_begins`, `law_triple_looks`,
+//! `law_triple_feeds`, `law_triple_ends`, `law_triple_operates`).
 #![tactic(auto)]
 
 mod laws;
@@ -30,7 +33,9 @@ pub use laws::{
     law_stands, law_takes_alike, law_worlds,
 };
 pub use triple_laws::{
-    law_triple_begins, law_triple_calls, law_triple_ends, law_triple_feeds, law_triple_lands,
-    law_triple_late, law_triple_operates, law_triple_passes, law_triple_returns, law_triple_stands,
-    law_triple_tells,
+    law_triple_begins, law_triple_calls, law_triple_ends, law_triple_feeds,
+    law_triple_joints_are_met, law_triple_lands, law_triple_late, law_triple_looks,
+    law_triple_looks_return, law_triple_one_owner, law_triple_operates, law_triple_owned,
+    law_triple_passes, law_triple_returns, law_triple_returns_any, law_triple_stands,
+    law_triple_tells, law_triple_worlds,
 };
