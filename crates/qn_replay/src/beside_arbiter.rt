@@ -60,7 +60,12 @@ impl TakesEvents for ArbiterWorld {
         read_arbiter_line_into(line, self.settings(), into)
     }
 
-    fn apply(&mut self, event: &ArbiterEvent, into: &mut ArbiterReport) -> Result<(), Refused> {
+    fn apply(
+        &mut self,
+        event: &ArbiterEvent,
+        _reported: bool,
+        into: &mut ArbiterReport,
+    ) -> Result<(), Refused> {
         self.apply_into(event, into)
     }
 
