@@ -1,11 +1,11 @@
 -- One turn of `count`: what was read of a line, and what was done with it.
-use Rattle.std.proofs.Common.{◌≡◌, ◌+◌, ◌≤◌, ◌==◌, ℕ, false, List, [], ◌∷◌, ◌++◌, Option, None, Some, length, refl, sym, ap, ◌∙◌, subst, arith, Ok, append_assoc, append-nil, le-ltb}
+use Rattle.std.proofs.Common.{◌≡◌, ◌+◌, ◌<◌, ◌≤◌, ◌==◌, ℕ, false, List, [], ◌∷◌, ◌++◌, Option, None, Some, length, take, refl, sym, ap, ◌∙◌, subst, arith, Ok, append_assoc, append-nil, le-ltb}
 use Rattle.std.specs.Io.KnownBytes.{prepend_known, append_known}
-use Rattle.std.proofs.lemmas.List.{length-append}
+use Rattle.std.proofs.lemmas.List.{length-append, length-take-le}
 use Rattle.std.proofs.lemmas.List.Elements.{All-push}
 use Rattle.qn_base.specs.Rising.{HasRisen-within}
 use Rattle.qn_io.specs.Lines.{HasNoLineFeed, IsTooLong}
-use Rattle.qn_io.specs.Outside.{append_known-append, prepend_known-nil}
+use Rattle.qn_io.specs.Outside.{append_known-append, prepend_known-append, prepend_known-nil}
 use Rattle.qn_io.specs.Writes.{AppendsFront}
 use Rattle.qn_model.specs.declared.count_line.CountLine.{CountLine}
 use Rattle.qn_model.specs.declared.count_line.CountLine.TheVariants.{Node, View}
@@ -187,6 +187,17 @@ turn_unwritten first next before output same fails front = record {
   ends = WroteFront [] (Anyway (λ ending further. ((count_rest before.counted ending further).text, refl))) refl fails
       (front_of_more before.output.written output.written before.unwritten [] front);
 }
+
+-- a line that waits whole is short
+pub waiting_short : (count : ℕ) (own : List ℕ) → count < length own → length own ≤ 4096 → length (take count own) ≤ 4096
+waiting_short count own inside within = let cut = length-take-le count own (omega (arith, inside)) in omega (arith, inside, within, cut)
+
+-- the first line that waits whole was taken with its end
+pub waiting_taken : (line rest own left_over : List ℕ) (left : Option (List ℕ)) → own ≡ line ++ 10 ∷ rest → left_over ≡ rest
+    → prepend_known own left ≡ prepend_known (line ++ 10 ∷ []) (prepend_known left_over left)
+waiting_taken line rest own left_over left cut passed =
+    ap (λ p. prepend_known p left) (cut ∙ sym (append_assoc line (10 ∷ []) rest) ∙ ap (λ r. (line ++ 10 ∷ []) ++ r) (sym passed))
+    ∙ prepend_known-append (line ++ 10 ∷ []) left_over left
 
 -- the same turn, of the same bytes under another name
 pub turn_same : (result : Option Status) (pieces own : List ℕ) (input : Input) (next : Coming) (before later : Counting) → pieces ≡ own

@@ -1,5 +1,5 @@
 //! What the lines of `count` say so far, and what the next one writes.
-ghost use Rattle.std.specs.Prelude.{◌≡◌, ◌+◌, ◌==◌, IfOk, option_copied};
+ghost use Rattle.std.specs.Prelude.{◌≡◌, ◌+◌, ◌==◌, [], IfOk, option_copied};
 ghost use Rattle.std.specs.List.{list_any};
 ghost use Rattle.qn_model.specs.CountText.{good_end, line_of, line_of_words, node_line, nothing_counted, text_of_line, view_line, view_text, with_line};
 ghost use Rattle.qn_model.specs.Lines.{bad_line, words_of};
@@ -84,20 +84,22 @@ impl Counter {
     pub fn text_of(&self, line: &CountLine) -> ShortText
         ensures { result ≡ text_of_line self.now line.now }
     {
+        let mut text = ShortText::new();
         match line {
-            CountLine::Node(_) => ShortText::new(),
-            CountLine::View(view) => self.view_text(view),
+            CountLine::Node(_) => {}
+            CountLine::View(view) => self.write_view(view, &mut text),
         }
+        text
     }
 
-    /// What a view line writes.
+    /// Writes what a view line writes into a text that is empty.
     #[tactic(auto, unfolding(qn_model::specs::CountText::view_text))]
-    fn view_text(&self, view: &View) -> ShortText
-        ensures { result ≡ view_text self.now.nodes view.now.id view.now.members }
+    fn write_view(&self, view: &View, text: &mut ShortText)
+        requires { text.old ≡ [] }
+        ensures { text.new ≡ view_text self.now.nodes view.now.id view.now.members }
     {
         let votes = self.nodes.votes_among(view.members);
         let quorum = self.expected / 2 + 1;
-        let mut text = ShortText::new();
         text.add(b"view ");
         text.add_number(view.id);
         text.add(b" votes ");
@@ -107,7 +109,6 @@ impl Counter {
         text.add(b" quorate ");
         text.add(yes_no(quorum <= votes));
         text.add(b"\n");
-        text
     }
 
     /// What the end of an input writes in which every line was good.

@@ -7,6 +7,7 @@ mod HeadSteps
 mod LastEnds
 mod Playbacks
 mod RunTraces
+mod SoakHolders
 mod SoakSteps
 mod TripleTimes
 mod TripleTraces

@@ -48,6 +48,11 @@ module _ {World Event : Type 0} (rules : WorldRules World Event) where
   refuses_if false old line end world (NotAllowedHere event is refused) = NotAllowedHere event is refused
   refuses_if false old line end world (OutOfMemory event is may wants memory) = OutOfMemory event is may wants memory
 
+  -- the line that is shown is the one that is told, where the trace is kept
+  told_if : (traced : Bool) (shown told : List ℕ) → (traced ≡ true → shown ≡ told) → line_if traced told ≡ line_if traced shown
+  told_if true shown told same = sym (same refl)
+  told_if false shown told same = refl
+
   first_if : (traced : Bool) → (traced_if traced rules).first ≡ rules.first
   first_if true = refl
   first_if false = refl
@@ -76,14 +81,17 @@ module _ {Kept World Event Report Head : Type 0} (kind : EventWorld Kept World E
     pub takes_event : (line : List ℕ) (world : World) → IsGoing (place_at kind old) → old.events < 200000
         → (kind.rules old.world).event_of (ids (kind.settings old.world).nodes) line ≡ Ok event → rule_of kind old.world event world ≡ None
         → kind.StandsFor world_new (after_event kind old.world event world)
-        → ((number : ℕ) → kind.trace_line (kind.settings old.world) number event report ≡ text_of_event kind old.world number event world)
+        → (old.traced ≡ true → (number : ℕ) → kind.trace_line (kind.settings old.world) number event report ≡ text_of_event kind old.world number event world)
         → kind.steps world_new + 1 ≡ kind.steps old.world → kind.time world_new ≤ kind.time old.world + 1000000000
         → kind.settings world_new ≡ kind.settings old.world → kind.timing world_new ≡ kind.timing old.world
         → TakesLine (rules_of kind old) (place_at kind old) (place_at kind next) (kind.StandsFor world_new) (last_line kind next) line world
     takes_event line world going few said allowed stands says steps later settings timing =
         let rules = kind.rules old.world in
-        takes_if rules old.traced (place_at kind old) (place_at kind next) (kind.StandsFor world_new)
-        (kind.trace_line (kind.settings world_new) (old.events + 1) event report) line world
+        let told = text_of_event kind old.world (old.events + 1) event world in
+        subst (λ (text : List ℕ). TakesLine (rules_of kind old) (place_at kind old) (place_at kind next) (kind.StandsFor world_new) text line world)
+        (told_if rules old.traced (kind.trace_line (kind.settings world_new) (old.events + 1) event report) told
+        (λ kept. ap (λ (s : Settings). kind.trace_line s (old.events + 1) event report) settings ∙ says kept (old.events + 1)))
+        (takes_if rules old.traced (place_at kind old) (place_at kind next) (kind.StandsFor world_new) told line world
         (record {
           event = event;
           said = laws.said_as rules (place_at kind old) world line (Ok event) refl said;
@@ -92,8 +100,8 @@ module _ {Kept World Event Report Head : Type 0} (kind : EventWorld Kept World E
           going = going_on going few steps later;
           counted = refl;
           moved = laws.moved_to rules (place_at kind old) (place_at kind next) event world settings timing refl refl;
-          says = ap (λ (s : Settings). kind.trace_line s (old.events + 1) event report) settings ∙ says (old.events + 1);
-        })
+          says = refl;
+        }))
 
   -- ---- the lines of a run
 

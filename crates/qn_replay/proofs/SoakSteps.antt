@@ -9,6 +9,7 @@ use Rattle.qn_model.specs.Moments.{is_holder}
 use Rattle.qn_base.specs.declared.ids.Mask.{Mask}
 use Rattle.qn_model.specs.declared.configuration.Settings.{Settings}
 use Rattle.qn_model.specs.declared.events.Event.{Event}
+use Rattle.qn_model.specs.declared.outputs.Out.{Out}
 use Rattle.qn_model.specs.declared.reports.Report.{Report}
 use Rattle.qn_model.specs.declared.times.Timing.{Timing}
 use Rattle.qn_model.specs.Steps.{holders, outs_after, report, step}
@@ -17,7 +18,7 @@ use Rattle.qn_world.specs.Standing.{WorldFor}
 use Rattle.qn_world.specs.Whole.{Whole}
 use Rattle.qn_replay.specs.declared.tally.Tally.{Tally}
 use Rattle.qn_replay.specs.Generator.{undrawn, soak_settings, soak_timing, next_event}
-use Rattle.qn_replay.specs.Soak.{GrowsBy, IsWithin, after_event, nothing_tallied, soaked, tallied}
+use Rattle.qn_replay.specs.Soak.{GrowsBy, IsWithin, after_event, counted, nothing_tallied, soaked, tallied}
 
 -- one more event
 soaked_more : (seed events : ℕ) → soaked seed (events + 1) ≡ after_event (soaked seed events)
@@ -39,6 +40,14 @@ module _ (seed events state : ℕ) (event : Event) (is : undrawn event state ≡
   stands_more {w} settings times stands =
       subst (λ (d : World). WorldFor w d) (ap₂ (λ x y. step x y event (soaked seed events).world) settings times ∙ world_more) stands
 
+  -- the holders after it
+  pub holders_more : {s : Settings} {t : Timing} (most : ℕ) → s ≡ soak_settings → t ≡ soak_timing → count_ones (holders s (step s t event (soaked seed events).world)).0 ≤ most
+      → count_ones (holders soak_settings (soaked seed (events + 1)).world).0 ≤ most
+  holders_more {s} {t} most settings times few =
+      subst (λ (d : World). count_ones (holders soak_settings d).0 ≤ most) world_more
+      (subst (λ (y : Timing). count_ones (holders soak_settings (step soak_settings y event (soaked seed events).world)).0 ≤ most) times
+      (subst (λ (x : Settings). count_ones (holders x (step x t event (soaked seed events).world)).0 ≤ most) settings few))
+
   pub tally_more : {s : Settings} {t : Timing} (said : Report) (old new : Tally) → s ≡ soak_settings → t ≡ soak_timing
       → said ≡ report s event (step s t event (soaked seed events).world) → old ≡ (soaked seed events).tally → new ≡ tallied event said old
       → new ≡ (soaked seed (events + 1)).tally
@@ -58,6 +67,22 @@ reported_outs s event after = refl
 pub reported_holders : (s : Settings) (event : Event) (after : World) → (report s event after).holders ≡ holders s after
 unfolding report
 reported_holders s event after = refl
+
+-- the holders were counted, or there are no more than were counted before
+pub tallied_counted : (event : Event) (report : Report) (outs : List Out) (mask held : Mask) (old : Tally) → report.outs ≡ outs → report.holders ≡ held → mask ≡ held
+    → record (counted event outs old) { most_holders = max old.most_holders (count_ones mask.0) } ≡ tallied event report old
+unfolding tallied
+tallied_counted event report outs mask held old same_outs same_holders exact =
+    ap (λ (m : Mask). record (counted event outs old) { most_holders = max old.most_holders (count_ones m.0) }) (exact ∙ sym same_holders)
+    ∙ ap (λ (o : List Out). record (counted event o old) { most_holders = max old.most_holders (count_ones report.holders.0) }) (sym same_outs)
+
+pub tallied_uncounted : (event : Event) (report : Report) (outs : List Out) (old : Tally) → report.outs ≡ outs → count_ones report.holders.0 ≤ old.most_holders
+    → counted event outs old ≡ tallied event report old
+unfolding tallied
+tallied_uncounted event report outs old same_outs few =
+    let most : old.most_holders ≡ max old.most_holders (count_ones report.holders.0) = omega (arith, few) in
+    ap (λ (n : ℕ). record (counted event outs old) { most_holders = n }) most
+    ∙ ap (λ (o : List Out). record (counted event o old) { most_holders = max old.most_holders (count_ones report.holders.0) }) (sym same_outs)
 
 -- the bounds of the tally grow with it
 pub within_more : (events : ℕ) (old new : Tally) → IsWithin (40 * events) old → GrowsBy 40 old new → IsWithin (40 * (events + 1)) new
@@ -89,10 +114,10 @@ within_none tally is =
     record { boots = omega arith; crashes = omega arith; resets = omega arith; starts = omega arith; stops = omega arith }
 
 -- of three nodes, the ones that pass the tests
-abbrev passing : Bool → Bool → Bool → List ℕ
+abbrev pub passing : Bool → Bool → Bool → List ℕ
 passing first second third = cond first (0 ∷ cond second (1 ∷ cond third (2 ∷ []) []) (cond third (2 ∷ []) [])) (cond second (1 ∷ cond third (2 ∷ []) []) (cond third (2 ∷ []) []))
 
-filter_three : (p : ℕ → Bool) (first second third : Bool) → p 0 ≡ first → p 1 ≡ second → p 2 ≡ third → filter p (range_with_len 0 3) ≡ passing first second third
+pub filter_three : (p : ℕ → Bool) (first second third : Bool) → p 0 ≡ first → p 1 ≡ second → p 2 ≡ third → filter p (range_with_len 0 3) ≡ passing first second third
 filter_three p true true true a b c = rw (a, b, c) refl
 filter_three p true true false a b c = rw (a, b, c) refl
 filter_three p true false true a b c = rw (a, b, c) refl
@@ -130,6 +155,13 @@ few_holders {s} t event said d settings said_is one =
     ap (λ r. r.holders) said_is ∙ ap (λ x. holders x after) settings ∙ ap mask_of (filter_three p (p 0) (p 1) (p 2) refl refl refl) in
     subst (λ (m : Mask). count_ones m.0 ≤ 1) (sym is)
     (one_of_three (p 0) (p 1) (p 2) (subst (λ (m : Mask). (i j : ℕ) → IsTrue (is_member m i) → IsTrue (is_member m j) → i ≡ j) is one))
+
+-- the present holders were counted
+pub held_counted : (event : Event) (said : Report) (old new : Tally) → new ≡ tallied event said old → count_ones said.holders.0 ≤ new.most_holders
+unfolding tallied
+held_counted event said old new new_is =
+    let most : new.most_holders ≡ max old.most_holders (count_ones said.holders.0) = ap (λ t. t.most_holders) new_is in
+    omega arith
 
 -- the greatest number of holders stays at most one
 pub most_more : (event : Event) (said : Report) (old new : Tally) → old.most_holders ≤ 1 → count_ones said.holders.0 ≤ 1 → new ≡ tallied event said old → new.most_holders ≤ 1

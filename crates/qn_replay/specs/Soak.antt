@@ -42,16 +42,20 @@ abbrev pub nothing_tallied : Tally
 nothing_tallied = record { boots = 0; crashes = 0; resets = 0; starts = 0; stops = 0; most_holders = 0 }
 
 -- boots and crashes count events; resets, starts and stops count outputs
-unfoldable pub tallied : Event → Report → Tally → Tally
-tallied event report tally =
-    record {
+abbrev pub counted : Event → List Out → Tally → Tally
+counted event outs tally =
+    record tally {
       boots = tally.boots + one_if (is_boot event);
       crashes = tally.crashes + one_if (is_crash event);
-      resets = tally.resets + count_by is_reset report.outs;
-      starts = tally.starts + count_by is_start report.outs;
-      stops = tally.stops + count_by is_stop report.outs;
-      most_holders = max tally.most_holders (count_ones report.holders.0);
+      resets = tally.resets + count_by is_reset outs;
+      starts = tally.starts + count_by is_start outs;
+      stops = tally.stops + count_by is_stop outs;
     }
+
+-- these, and the greatest number of holders
+unfoldable pub tallied : Event → Report → Tally → Tally
+tallied event report tally =
+    record (counted event report.outs tally) { most_holders = max tally.most_holders (count_ones report.holders.0) }
 
 -- each of the counts is at most this number
 pub record IsWithin (most : ℕ) (tally : Tally) : Type 0 where

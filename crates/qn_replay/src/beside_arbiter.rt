@@ -2,7 +2,7 @@
 use crate::arbiter_head::{ArbiterHead, read_arbiter_head};
 use crate::takes_events::TakesEvents;
 use arrayvec::ArrayVec;
-use qn_arbiter::{ArbiterWorld, blank_report, read_arbiter_line, write_arbiter_trace};
+use qn_arbiter::{ArbiterWorld, blank_report, read_arbiter_line_into, write_arbiter_trace};
 use qn_base::{MOST_LINE_BYTES, NoMemory};
 use qn_io::{Pieces, Source};
 use qn_model::{LineFault, Refused};
@@ -57,16 +57,15 @@ impl TakesEvents for ArbiterWorld {
     }
 
     fn read(&self, line: &[u8], into: &mut ArbiterEvent) -> Result<(), LineFault> {
-        match read_arbiter_line(line, self.settings()) {
-            Ok(event) => {
-                *into = event;
-                Ok(())
-            }
-            Err(fault) => Err(fault),
-        }
+        read_arbiter_line_into(line, self.settings(), into)
     }
 
-    fn apply(&mut self, event: &ArbiterEvent, into: &mut ArbiterReport) -> Result<(), Refused> {
+    fn apply(
+        &mut self,
+        event: &ArbiterEvent,
+        _reported: bool,
+        into: &mut ArbiterReport,
+    ) -> Result<(), Refused> {
         self.apply_into(event, into)
     }
 

@@ -1,9 +1,18 @@
 //! The world of one image, as one that takes the lines of a schedule.
+ghost use Rattle.std.specs.Prelude.{◌≡◌, ◌<◌, ◌≤◌, ◌+◌, true, None, Err, IfErr, OnErr, OnOk};
+ghost use Rattle.qn_base.specs.declared.limits.TheConstants.{LATEST_TIME};
+ghost use Rattle.qn_model.specs.Rules.{is_well_formed, refusal};
+ghost use Rattle.qn_model.specs.Steps.{step};
+ghost use Rattle.qn_model.specs.World.{World as WorldBefore};
+ghost use Rattle.qn_world.specs.Memory.{needs_memory};
+ghost use Rattle.qn_world.specs.Standing.{WorldFor};
+ghost use Rattle.qn_world.specs.Stepping.{RefusedBy};
+
 use crate::takes_events::TakesEvents;
 use arrayvec::ArrayVec;
 use qn_base::{MOST_LINE_BYTES, NoMemory, Rank};
 use qn_io::{Pieces, Source};
-use qn_model::{Event, LineFault, Refused, Report};
+use qn_model::{Event, LineFault, Outs, Refused, Report};
 use qn_playback::{Head, read_head};
 use qn_sched::{ReplayEnd, read_line_into, write_trace};
 use qn_world::{World, blank_report};
@@ -59,8 +68,12 @@ impl TakesEvents for World {
         read_line_into(line, self.settings(), into)
     }
 
-    fn apply(&mut self, event: &Event, into: &mut Report) -> Result<(), Refused> {
-        self.apply_into(event, into)
+    fn apply(&mut self, event: &Event, reported: bool, into: &mut Report) -> Result<(), Refused> {
+        if reported {
+            self.apply_into(event, into)
+        } else {
+            apply_unreported(self, event, &mut into.outs)
+        }
     }
 
     fn write(
@@ -72,4 +85,40 @@ impl TakesEvents for World {
     ) {
         write_trace(number, report, self.settings(), text);
     }
+}
+
+/// The step of an event, of which nothing is reported; what `outs` is then is free. After a refusal the world is as it
+/// was.
+fn apply_unreported(world: &mut World, event: &Event, outs: &mut Outs) -> Result<(), Refused>
+    requires formed { is_well_formed world.old.settings event.now ≡ true }
+    requires early { world.old.time ≤ LATEST_TIME }
+    requires room { 0 < world.old.steps }
+    ensures stands { OnOk result ((d : WorldBefore)
+        → WorldFor world.old d
+        → WorldFor world.new (step world.old.settings world.old.timing event.now d)) }
+    ensures allowed { OnOk result ((d : WorldBefore)
+        → WorldFor world.old d
+        → refusal world.old.settings world.old.timing event.now d ≡ None) }
+    ensures steps { OnOk result (world.new.steps + 1 ≡ world.old.steps) }
+
+    // An event is refused by the first rule that refuses it, or since there is no memory for it.
+    ensures refused { IfErr result (λ why. (d : WorldBefore)
+        → WorldFor world.old d
+        → RefusedBy (refusal world.old.settings world.old.timing event.now d) why) }
+    ensures memory { result ≡ Err Refused.NoMemory
+        → (d : WorldBefore)
+        → WorldFor world.old d
+        → needs_memory world.old.settings world.old.timing event.now d ≡ true }
+    ensures err { OnErr result (world.new ≡ world.old) }
+
+    ensures settings { world.new.settings ≡ world.old.settings }
+    ensures timing { world.new.timing ≡ world.old.timing }
+{
+    if let Err(rule) = world.allowed(event) {
+        return Err(Refused::NotAllowed(rule));
+    }
+    if world.apply_allowed(event, outs).is_err() {
+        return Err(Refused::NoMemory);
+    }
+    Ok(())
 }

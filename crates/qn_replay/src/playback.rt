@@ -7,7 +7,8 @@ use qn_playback::Plays;
 use qn_sched::ReplayEnd;
 
 /// A replay after its head: the world after the events so far, the last of them and what it came to, how many lines
-/// the head had, how many events there were, and whether the trace is kept. Where it is not, each trace line is empty.
+/// the head had, how many events there were, and whether the trace is kept. Where it is not, no event is reported, and
+/// each trace line is empty.
 #[derive(Drop)]
 pub(crate) struct Playback<W: TakesEvents> {
     world: W,
@@ -62,7 +63,8 @@ impl<W: TakesEvents> Playback<W> {
         if let Err(fault) = self.world.read(line, &mut self.event) {
             return Err(self.bad_line(fault));
         }
-        if let Err(refused) = self.world.apply(&self.event, &mut self.report) {
+        let applied = self.world.apply(&self.event, self.traced, &mut self.report);
+        if let Err(refused) = applied {
             return Err(self.refusal(refused));
         }
         self.events += 1;

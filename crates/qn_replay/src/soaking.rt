@@ -58,7 +58,7 @@ fn tally_of(alloc: Global, seed: u64, events: u64) -> Result<Tally, NoMemory>
     'events: for number in 0..events {
         generator.next_into(&world, &mut event);
         world.apply_allowed(&event, &mut outs)?;
-        tally.add(&event, &outs, world.holders());
+        tally.add(&event, &outs, &world);
     }
     Ok(tally)
 }

@@ -90,16 +90,22 @@ pub(crate) trait TakesEvents: Drop {
         ensures formed { OnOk result
             (world.is_well_formed (world.settings self.now) into.new ≡ true) };
 
-    /// The step of an event, with what it came to in place of `into`. After a refusal the world is as it was, and what
-    /// `into` is then is free.
-    fn apply(&mut self, event: &Self::Event, into: &mut Self::Report) -> Result<(), Refused>
+    /// The step of an event, with what it came to in place of `into` where that is asked for. After a refusal the world is
+    /// as it was, and what `into` is then is free, as it is where nothing was asked for.
+    fn apply(
+        &mut self,
+        event: &Self::Event,
+        reported: bool,
+        into: &mut Self::Report,
+    ) -> Result<(), Refused>
         requires formed { world.is_well_formed (world.settings self.old) event.now ≡ true }
         requires early { world.time self.old ≤ LATEST_TIME }
         requires room { 0 < world.steps self.old }
         ensures stands { OnOk result ((d : Self.World)
             → world.StandsFor self.old d
             → world.StandsFor self.new (after_event world self.old event.now d)) }
-        ensures report { OnOk result ((d : Self.World)
+        ensures report { OnOk result (reported ≡ true
+            → (d : Self.World)
             → world.StandsFor self.old d
             → (number : ℕ)
             → world.trace_line (world.settings self.old) number event.now into.new

@@ -61,7 +61,12 @@ impl TakesEvents for TripleWorld {
         read_triple_line_into(line, self.settings(), into)
     }
 
-    fn apply(&mut self, event: &TripleEvent, into: &mut Report) -> Result<(), Refused> {
+    fn apply(
+        &mut self,
+        event: &TripleEvent,
+        _reported: bool,
+        into: &mut Report,
+    ) -> Result<(), Refused> {
         self.apply_into(event, into)
     }
 

@@ -13,7 +13,7 @@ use crate::output::Output;
 use crate::status::Status;
 use arrayvec::ArrayVec;
 use qn_base::{Failed, ShortText};
-use qn_io::{LINE, LineRead, PIECE, Pieces, Sink, Source, read_line};
+use qn_io::{LINE, LineRead, NextLine, PIECE, Pieces, Sink, Source, read_line};
 use qn_model::LineFault;
 
 /// The end of a run: writes what waits and then this text, and answers the status, or WriteFault where the
@@ -108,8 +108,7 @@ struct Run {
 }
 
 impl Run {
-    ghost use Rattle.std.specs.Prelude.{◌⊎◌, [], OnErr, OnOk, length};
-    ghost use Rattle.qn_io.specs.Lines.{HasLineFeed};
+    ghost use Rattle.std.specs.Prelude.{◌<◌, [], OnErr, OnOk, drop, length, take};
     ghost use Rattle.qn_io.specs.Outside.{HasRisen};
     ghost use Rattle.qn_io.specs.Writes.{AppendsFront};
     ghost use Rattle.qn_model.specs.CountText.{nothing_counted};
@@ -143,34 +142,50 @@ impl Run {
         ensures source_faults { I.faults input.old ≤ I.faults input.new }
         ensures sink_faults { O.faults out.old ≤ O.faults out.new }
     {
-        let Ok(()) = self.flush_before_read(out) else {
+        if let Some(count) = self.pieces.first_line() {
+            return self.judge_waiting(count, out);
+        }
+        let Ok(()) = self.flush(out) else {
             return Some(Status::WriteFault);
         };
         self.next_line(input, out)
     }
 
-    /// Writes what waits, where no whole line waits and more of the input has to be read first.
-    fn flush_before_read<O: Sink>(&mut self, out: &mut O) -> Result<(), Failed>
+    /// Judges the first line that waits whole, of so many bytes, where it stands; it is then passed over.
+    fn judge_waiting<O: Sink>(&mut self, count: usize, out: &mut O) -> Option<Status>
+        requires waits { count < length self.old.pieces }
+        requires room { length self.old.pieces ≤ PIECE }
+        ensures judges { JudgesLine result (take count self.old.pieces)
+            (counting self.old.counter self.old.output (sink O.written O.faults out.old))
+            (counting self.new.counter self.new.output (sink O.written O.faults out.new)) }
+        ensures pieces { self.new.pieces ≡ drop (count + 1) self.old.pieces }
+        ensures within { length self.new.pieces ≤ PIECE }
+        ensures never_falls { O.faults out.old ≤ O.faults out.new }
+    {
+        let line = NextLine::Waits(count).text(&self.pieces, &self.line);
+        let judged = take_line(&mut self.counter, line, &mut self.output, out);
+        self.pieces.pass_over(count + 1);
+        judged
+    }
+
+    /// Writes what waits. At `Failed` a prefix of it was written.
+    fn flush<O: Sink>(&mut self, out: &mut O) -> Result<(), Failed>
         ensures given { OnOk result (GivesOut (O.written out.old) (O.written out.new)
             self.new.output self.old.output) }
+        ensures empty { OnOk result (self.new.output ≡ []) }
         ensures front { OnErr result (AppendsFront (O.written out.old) (O.written out.new)
             self.old.output) }
         ensures counter { self.new.counter ≡ self.old.counter }
         ensures pieces { self.new.pieces ≡ self.old.pieces }
-        ensures within { length self.new.pieces ≤ PIECE }
-        ensures written { OnOk result (HasLineFeed self.new.pieces ⊎ (self.new.output ≡ [])) }
         ensures never_falls { O.faults out.old ≤ O.faults out.new }
         ensures cause { OnErr result (HasRisen (O.faults out.old) (O.faults out.new)) }
     {
-        if self.pieces.has_line() {
-            return Ok(());
-        }
         self.output.flush(out)
     }
 
-    /// The same, where a whole line waits or nothing waits to be written, so that nothing does when more is read.
+    /// Reads and judges the next line, where nothing waits to be written when more is read.
     fn next_line<I: Source, O: Sink>(&mut self, input: &mut I, out: &mut O) -> Option<Status>
-        requires { HasLineFeed self.old.pieces ⊎ (self.old.output ≡ []) }
+        requires { self.old.output ≡ [] }
         ensures turns { let first = coming self.old.pieces (source I.left I.faults input.old) in
             let next = coming self.new.pieces (source I.left I.faults input.new) in
             let before = counting self.old.counter self.old.output

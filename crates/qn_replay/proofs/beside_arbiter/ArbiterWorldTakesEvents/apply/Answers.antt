@@ -10,7 +10,7 @@ use Rattle.qn_replay.proofs.beside_arbiter.ArbiterWorldTakesEvents.apply.Goals a
 
 pub returns-clause-report : goal.returns-clause-report
 returns-clause-report c =
-    on_ok c.apply_into.result (λ reported d stands number. ap (arbiter_trace_line (ids c.args.self.now.settings.nodes) number c.args.event.now) (reported d stands)) c.apply_into.ensures.report
+    on_ok c.apply_into.result (λ reported asked d stands number. ap (arbiter_trace_line (ids c.args.self.now.settings.nodes) number c.args.event.now) (reported d stands)) c.apply_into.ensures.report
 
 pub returns-clause-time : goal.returns-clause-time
 returns-clause-time c =

@@ -1,16 +1,17 @@
-use Rattle.std.proofs.Common.{◌≡◌, ◌∙◌, true, ap, refl, subst}
+use Rattle.std.proofs.Common.{◌≡◌, ◌∙◌, true, ap, subst}
 use Rattle.qn_arbiter.specs.EventReading.{arbiter_event_of}
 use Rattle.qn_safety.specs.ArbiterRules.{is_well_formed_beside}
 use Rattle.qn_model.specs.declared.configuration.Settings.{Settings}
 use Rattle.qn_model.specs.Settings.{ids}
+use Rattle.qn_replay.proofs.Worlds.{read_is, read_ok}
 use Rattle.qn_replay.proofs.beside_arbiter.ArbiterWorldTakesEvents.read.Goals as goal
 
-pub returns-in-Ok-clause-said : goal.returns-in-Ok-clause-said
-returns-in-Ok-clause-said c = c.in-Ok.ensures.first_fault ∙ ap (λ (s : Settings). arbiter_event_of (ids s.nodes) c.args.line.now) c.settings.ensures.same
+pub returns-clause-said : goal.returns-clause-said
+returns-clause-said c =
+    read_is c.read_arbiter_line_into.result c.read_arbiter_line_into.new.into ∙ c.read_arbiter_line_into.ensures.first_fault
+    ∙ ap (λ (s : Settings). arbiter_event_of (ids s.nodes) c.args.line.now) c.settings.ensures.same
 
-pub returns-in-Ok-clause-formed : goal.returns-in-Ok-clause-formed
-returns-in-Ok-clause-formed c =
-    subst (λ (s : Settings). is_well_formed_beside s c.in-Ok.event ≡ true) c.settings.ensures.same ((c.in-Ok.ensures.spelled c.in-Ok.event).0 refl).0
-
-pub returns-in-Err-clause-said : goal.returns-in-Err-clause-said
-returns-in-Err-clause-said c = c.in-Err.ensures.first_fault ∙ ap (λ (s : Settings). arbiter_event_of (ids s.nodes) c.args.line.now) c.settings.ensures.same
+pub returns-clause-formed : goal.returns-clause-formed
+returns-clause-formed c =
+    read_ok c.read_arbiter_line_into.result c.read_arbiter_line_into.new.into (λ event. is_well_formed_beside c.args.self.now.settings event ≡ true)
+    (λ event is. subst (λ (s : Settings). is_well_formed_beside s event ≡ true) c.settings.ensures.same ((c.read_arbiter_line_into.ensures.spelled event).0 is).0)

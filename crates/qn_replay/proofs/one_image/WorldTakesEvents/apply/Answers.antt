@@ -1,21 +1,12 @@
-use Rattle.std.proofs.Common.{ap}
-use Rattle.qn_model.specs.Rules.{refusal}
-use Rattle.qn_model.specs.Settings.{ids}
-use Rattle.qn_sched.specs.TraceLines.{trace_line}
-use Rattle.qn_world.specs.Standing.{WorldFor}
-use Rattle.qn_replay.proofs.Worlds.{on_ok, refused_by, steps_later}
+use Rattle.qn_replay.proofs.Worlds.{on_ok, steps_later}
 use Rattle.qn_replay.proofs.one_image.WorldTakesEvents.apply.Goals as goal
 
-pub returns-clause-report : goal.returns-clause-report
-returns-clause-report c =
-    on_ok c.apply_into.result (λ reported d stands number. ap (trace_line (ids c.args.self.now.settings.nodes) number) (reported d stands)) c.apply_into.ensures.report
-
-pub returns-clause-time : goal.returns-clause-time
-returns-clause-time c =
+pub returns-then-reported-clause-time : goal.returns-then-reported-clause-time
+returns-then-reported-clause-time c =
     let old = c.args.self.now in
     on_ok c.apply_into.result (λ stood d stands. steps_later old c.apply_into.new.self old.settings old.timing c.args.event.now d c.requires.formed stands (stood d stands)) c.apply_into.ensures.stands
 
-pub returns-clause-refused : goal.returns-clause-refused
-returns-clause-refused c =
+pub returns-else-reported-clause-time : goal.returns-else-reported-clause-time
+returns-else-reported-clause-time c =
     let old = c.args.self.now in
-    refused_by c.apply_into.result (WorldFor old) (λ d. refusal old.settings old.timing c.args.event.now d) c.apply_into.ensures.refused
+    on_ok c.apply_unreported.result (λ stood d stands. steps_later old c.apply_unreported.new.world old.settings old.timing c.args.event.now d c.requires.formed stands (stood d stands)) c.apply_unreported.ensures.stands

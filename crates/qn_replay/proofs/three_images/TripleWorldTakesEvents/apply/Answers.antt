@@ -9,7 +9,7 @@ use Rattle.qn_replay.proofs.three_images.TripleWorldTakesEvents.apply.Goals as g
 
 pub returns-clause-report : goal.returns-clause-report
 returns-clause-report c =
-    on_ok c.apply_into.result (λ reported d stands number. ap (trace_line (ids c.args.self.now.settings.nodes) number) (reported d stands)) c.apply_into.ensures.report
+    on_ok c.apply_into.result (λ reported asked d stands number. ap (trace_line (ids c.args.self.now.settings.nodes) number) (reported d stands)) c.apply_into.ensures.report
 
 pub returns-clause-time : goal.returns-clause-time
 returns-clause-time c =

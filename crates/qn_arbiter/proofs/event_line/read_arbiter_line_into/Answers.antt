@@ -1,5 +1,5 @@
 use Rattle.std.proofs.Common.{sym, ◌∙◌}
-use Rattle.qn_arbiter.proofs.event_line.read_arbiter_line.Goals as goal
+use Rattle.qn_arbiter.proofs.event_line.read_arbiter_line_into.Goals as goal
 
 pub returns-clause-spelled : goal.returns-clause-spelled
 returns-clause-spelled c = λ event.
