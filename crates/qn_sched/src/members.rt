@@ -1,5 +1,5 @@
 //! Reads ids and lists of members.
-ghost use Rattle.std.specs.Prelude.{◌≡◌, ◌<◌, ◌==◌, ◌&&◌, length, position, IfOk, IfSome};
+ghost use Rattle.std.specs.Prelude.{◌≡◌, ◌<◌, ◌&&◌, length, IfOk};
 ghost use Rattle.qn_model.specs.Lines.{known_rank, members_of};
 ghost use Rattle.qn_model.specs.Settings.{ids};
 ghost use Rattle.qn_sched.specs.EventReading.{rank_of};
@@ -8,7 +8,7 @@ ghost use Rattle.qn_sched.specs.MemberList.{rank_number};
 use crate::numbers::number_between;
 use crate::words::first_part;
 use qn_base::{Mask, Rank};
-use qn_model::{LineFault, NodeEntry, Nodes};
+use qn_model::{LineFault, Nodes};
 
 /// The rank of the node that a word names by its id. BadNumber where the word is no number of 64 bits,
 /// and else UnknownNode where no node has the id.
@@ -19,23 +19,7 @@ pub fn known_rank(nodes: &Nodes, word: &[u8]) -> Result<Rank, LineFault>
     ensures within { IfOk result (λ rank. (rank.0 < length nodes.now) × (rank.0 < 32)) }
 {
     let id = number_between(0, u64::MAX, word)?;
-    let place = place_of(nodes, id).ok_or(LineFault::UnknownNode)?;
-    Ok(Rank(place as u8))
-}
-
-/// The place of the node with this id.
-fn place_of(nodes: &Nodes, id: u64) -> Option<usize>
-    ensures value { result ≡ position (λ k. k == id) (ids nodes.now) }
-    ensures within { IfSome result (λ place. (place < length nodes.now) × (place < 32)) }
-{
-    place_in(nodes.as_slice(), id)
-}
-
-fn place_in(nodes: &[NodeEntry], id: u64) -> Option<usize>
-    ensures value { result ≡ position (λ node. node.id.0 == id) nodes.now }
-    ensures within { IfSome result (λ place. place < length nodes.now) }
-{
-    nodes.iter().position(|node| u64::from(node.id.0) == id)
+    nodes.rank_of(id).ok_or(LineFault::UnknownNode)
 }
 
 /// A list of members while its parts are judged one by one.

@@ -77,7 +77,7 @@ fn fill(tree: &Tree, nodes: Nodes) -> Settings
     let last_man_standing = flag(tree, Key::LastManStanding);
     let device = device(tree, node_votes);
     let device_votes = device_votes(last_man_standing, device);
-    let tie = tie_order(tree, nodes.as_slice());
+    let tie = tie_order(tree, &nodes);
     Settings {
         nodes,
         two_node: flag(tree, Key::TwoNode),

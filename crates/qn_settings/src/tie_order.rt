@@ -1,18 +1,18 @@
 //! The order in which nodes break a tie (votequorum(5), `auto_tie_breaker_node`).
-ghost use Rattle.std.specs.Prelude.{◌≡◌, ◌≤◌, ◌<◌, ◌==◌, IfSome, length, position};
+ghost use Rattle.std.specs.Prelude.{◌≡◌, ◌≤◌, ◌<◌, IfSome, length};
 ghost use Rattle.qn_settings.specs.Entries.{entries_of};
-ghost use Rattle.qn_settings.specs.TieOrder.{highest, listed, lowest, named, order_in, tie_of, with_id};
+ghost use Rattle.qn_settings.specs.TieOrder.{highest, listed, lowest, named, order_in, tie_of};
 
 use crate::entries::Entries;
 use crate::key::Key;
 use crate::values::{flag, last_value};
 use qn_base::{Rank, read_decimal};
 use qn_conf::{Tree, is_blank};
-use qn_model::{NodeEntry, Order};
+use qn_model::{Nodes, Order};
 
 /// The nodes in order of preference, where the breaker is on and its node is given in one of the three forms:
 /// `lowest`, which also stands where none is written, `highest`, or ids of configured nodes, each once.
-pub(crate) fn tie_order(tree: &Tree, nodes: &[NodeEntry]) -> Option<Order>
+pub(crate) fn tie_order(tree: &Tree, nodes: &Nodes) -> Option<Order>
     requires { length nodes.now ≤ 32 }
     ensures { result ≡ tie_of nodes.now (entries_of tree.now) }
 {
@@ -26,7 +26,7 @@ pub(crate) fn tie_order(tree: &Tree, nodes: &[NodeEntry]) -> Option<Order>
 }
 
 /// The order that a text says.
-fn order_in(nodes: &[NodeEntry], text: &[u8]) -> Option<Order>
+fn order_in(nodes: &Nodes, text: &[u8]) -> Option<Order>
     requires { length nodes.now ≤ 32 }
     ensures { result ≡ order_in nodes.now text.now }
 {
@@ -39,7 +39,7 @@ fn order_in(nodes: &[NodeEntry], text: &[u8]) -> Option<Order>
     }
 }
 
-fn lowest(nodes: &[NodeEntry]) -> Order
+fn lowest(nodes: &Nodes) -> Order
     requires { length nodes.now ≤ 32 }
     ensures { result ≡ lowest nodes.now }
 {
@@ -50,7 +50,7 @@ fn lowest(nodes: &[NodeEntry]) -> Order
     order
 }
 
-fn highest(nodes: &[NodeEntry]) -> Order
+fn highest(nodes: &Nodes) -> Order
     requires { length nodes.now ≤ 32 }
     ensures { result ≡ highest nodes.now }
 {
@@ -62,7 +62,7 @@ fn highest(nodes: &[NodeEntry]) -> Order
 }
 
 /// The nodes whose ids the text lists, separated by blanks.
-fn listed(nodes: &[NodeEntry], text: &[u8]) -> Option<Order>
+fn listed(nodes: &Nodes, text: &[u8]) -> Option<Order>
     requires { length nodes.now ≤ 32 }
     ensures { result ≡ listed nodes.now text.now }
 {
@@ -81,26 +81,9 @@ fn listed(nodes: &[NodeEntry], text: &[u8]) -> Option<Order>
 }
 
 /// The configured node of that id.
-fn named(nodes: &[NodeEntry], word: &[u8]) -> Option<Rank>
-    requires { length nodes.now ≤ 32 }
+fn named(nodes: &Nodes, word: &[u8]) -> Option<Rank>
     ensures value { result ≡ named nodes.now word.now }
     ensures within { IfSome result (λ rank. rank.0 < length nodes.now) }
 {
-    with_id(nodes, read_decimal(word)?)
-}
-
-fn with_id(nodes: &[NodeEntry], id: u64) -> Option<Rank>
-    requires { length nodes.now ≤ 32 }
-    ensures value { result ≡ with_id nodes.now id }
-    ensures within { IfSome result (λ rank. rank.0 < length nodes.now) }
-{
-    let place = place_of(nodes, id)?;
-    Some(Rank(place as u8))
-}
-
-fn place_of(nodes: &[NodeEntry], id: u64) -> Option<usize>
-    ensures place { result ≡ position (λ node. node.id.0 == id) nodes.now }
-    ensures within { IfSome result (λ place. place < length nodes.now) }
-{
-    nodes.iter().position(|node| u64::from(node.id.0) == id)
+    nodes.rank_of(read_decimal(word)?)
 }
