@@ -69,13 +69,13 @@ mkdir folder
 ctl 1 'warning: sector 0 cannot be read\n' check --image folder < /dev/null
 ctl 1 'fault: sector 0 cannot be read\n' list --image folder
 # nothing is made
-ctl 8 'quorumctl: No such file or directory (os error 2)\n' check --image absent < /dev/null
-ctl 8 'quorumctl: No such file or directory (os error 2)\n' list --image absent
-ctl 8 'quorumctl: No such file or directory (os error 2)\n' wait --image absent --id 1
+ctl 8 'quorumctl: absent: No such file or directory (os error 2)\n' check --image absent < /dev/null
+ctl 8 'quorumctl: absent: No such file or directory (os error 2)\n' list --image absent
+ctl 8 'quorumctl: absent: No such file or directory (os error 2)\n' wait --image absent --id 1
 [ ! -e absent ]
 
 # an image that another program is making
-flock -x disk "$QUORUMCTL" check --image disk < /dev/null > got 2> errors || same "$? $(cat got errors)" '8 quorumctl: another program has it open'
+flock -x disk "$QUORUMCTL" check --image disk < /dev/null > got 2> errors || same "$? $(cat got errors)" '8 quorumctl: disk: another program has it open'
 
 # JSON: the same as the lines
 cp whole disk

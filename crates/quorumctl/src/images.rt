@@ -1,13 +1,13 @@
 //! The commands on an image, wherever it lies. They open it for reading, and make nothing.
-use crate::findings::Finding;
-use crate::image::{ImageSeen, NodeSeen, Sectors, look_at_image};
-use crate::image_json::{check_json, list_json};
-use crate::image_lines::{finding_lines, node_lines};
 use crate::input::read_input;
 use crate::open_image::OpenImage;
 use crate::texts::say_fault;
 use crate::trouble::{Trouble, say};
 use qn_base::{NodeId, read_decimal};
+use qn_control::{
+    Finding, ImageSeen, NodeSeen, Sectors, check_json, finding_lines, list_json, look_at_image,
+    node_lines,
+};
 use qn_model::{Mail, Message, Settings, Slot, Timing};
 use qn_settings::settings_of_text;
 use qn_usage::value_of;
@@ -50,7 +50,7 @@ fn check_by<R: Files<File = File> + Net<Stream = TcpStream> + Clock + Print + Ep
     is_json: bool,
     settings: Option<&Settings>,
 ) -> Result<u8, Trouble> {
-    let mut image = OpenImage::open(rt, path).map_err(Trouble::System)?;
+    let mut image = OpenImage::open(rt, path)?;
     let seen = look_at_image(rt.alloc(), &mut image, settings)?;
     say(rt, check_text(rt.alloc(), &seen, is_json)?.as_str())?;
     Ok(status_of(seen.findings.as_slice()))
@@ -112,7 +112,7 @@ pub fn look<R: Files<File = File> + Net<Stream = TcpStream> + Clock + Eprint + A
     rt: &R,
     path: &str,
 ) -> Result<ImageSeen, Trouble> {
-    let mut image = OpenImage::open(rt, path).map_err(Trouble::System)?;
+    let mut image = OpenImage::open(rt, path)?;
     Ok(look_at_image(rt.alloc(), &mut image, None)?)
 }
 
@@ -172,7 +172,7 @@ pub fn wait<R: Files<File = File> + Net<Stream = TcpStream> + Clock + Print + Ep
     options: &[String],
 ) -> Result<u8, Trouble> {
     let id = id_of(options);
-    let mut image = OpenImage::open(rt, path).map_err(Trouble::System)?;
+    let mut image = OpenImage::open(rt, path)?;
     let Some(timing) = timing_of(rt.alloc(), &mut image)? else {
         return say_outcome(rt, &Outcome::NotImage, false);
     };

@@ -1,7 +1,7 @@
 //! `history`: what the journals of the nodes tell, in the order of time.
-use crate::history::History;
 use crate::table::QUORUMCTL;
 use crate::trouble::{Trouble, say};
+use qn_control::History;
 use qn_usage::file_of;
 use std::alloc::Global;
 use std::fs::File;
@@ -27,19 +27,27 @@ pub fn history<R: Files<File = File> + Input + Print + AllocGlobal>(
         let Some(path) = file_of(QUORUMCTL, words, number) else {
             break;
         };
-        let mut file = File::open(rt, path).map_err(Trouble::System)?;
-        history.begin_journal();
-        read_journal(rt.alloc(), &mut file, &mut history).map_err(of_file)?;
+        read_file(rt, path, &mut history)?;
     }
     say(rt, history.text()?.as_str())?;
     Ok(0)
 }
 
-/// What keeps a file from being read, and not standard input.
-fn of_file(trouble: Trouble) -> Trouble {
-    match trouble {
-        Trouble::Input(error) => Trouble::System(error),
-        other => other,
+/// Reads the journal in the file of that path.
+fn read_file<R: Files<File = File> + AllocGlobal>(
+    rt: &R,
+    path: &str,
+    history: &mut History,
+) -> Result<(), Trouble> {
+    let alloc = rt.alloc();
+    let mut file = match File::open(rt, path) {
+        Ok(file) => file,
+        Err(error) => return Err(Trouble::of_file(alloc, path, error)),
+    };
+    history.begin_journal();
+    match read_journal(alloc, &mut file, history) {
+        Err(Trouble::Input(error)) => Err(Trouble::of_file(alloc, path, error)),
+        ended => ended,
     }
 }
 

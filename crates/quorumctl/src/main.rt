@@ -1,49 +1,22 @@
 //! The program `quorumctl`: what an operator wants to know beside `quorumd`. It reads, and changes nothing.
 //!
-//! Promises: `least_msgwait` is the least safe one, and None where none is safe; `slowest_disk` is the slowest on which a take-over
-//! has a bound, `unbounded_on` the first condition of it that is not met, and `longest_take_over` the defined bound, which has
-//! the number of a law of `qn_progress` in it. A file of a node is stale, and a verdict on such files is reached, exactly as defined; of
-//! the verdict `law_verdict` says what an operator rests on. A text is judged by `settings_of_text`, as `quorumd` judges it. What is told
-//! of a text, an image and a cluster is tested.
+//! Promises: nothing. What it says stands on `qn_control`; a text is judged by `settings_of_text`, as `quorumd` judges it.
 #![tactic(auto)]
 
-mod as_json;
-mod as_metrics;
-mod as_table;
-mod at_fault;
-mod cluster;
-mod concerns;
-mod differences;
-mod findings;
-mod flags;
-mod history;
-mod image;
-mod image_json;
-mod image_lines;
 mod images;
 mod input;
-mod journal_line;
 mod journals;
-mod laws;
 mod members;
-mod named;
-mod node_file;
 mod open_image;
-mod pairs;
 mod status;
 mod status_file;
 mod table;
-mod text;
-mod text_concerns;
 mod texts;
-mod times;
-mod told;
 mod trouble;
-mod unbounded;
-mod verdict;
 
 use images::{check, list, wait};
 use journals::history;
+use qn_control::Verdict;
 use qn_usage::{USAGE, has_word, help_text, refusal_of, value_of, version_text, words_given};
 use status::status;
 use std::fs::File;
@@ -54,7 +27,6 @@ use std::time::Clock;
 use table::QUORUMCTL;
 use texts::{settings, timing};
 use trouble::Trouble;
-use verdict::Verdict;
 
 /// The name of the program, and what it is.
 const PROGRAM: &str = "quorumctl";

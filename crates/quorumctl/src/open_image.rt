@@ -1,8 +1,8 @@
 //! An image that is open to be looked at, wherever it lies.
-use crate::image::Sectors;
+use crate::trouble::Trouble;
+use qn_control::Sectors;
 use qn_io::{ImageReader, SECTOR};
 use std::fs::File;
-use std::io;
 use std::net::{Net, TcpStream};
 use std::rt::Files;
 use std::time::Clock;
@@ -24,9 +24,11 @@ impl<'r, R: Files<File = File> + Net<Stream = TcpStream> + Clock + Eprint + Allo
     R,
 > {
     /// Opens the image of that word for reading alone, which makes none.
-    pub fn open(rt: &'r R, word: &str) -> io::Result<OpenImage<'r, R>> {
-        let reader = ImageReader::open(rt, word)?;
-        Ok(OpenImage { reader })
+    pub fn open(rt: &'r R, word: &str) -> Result<OpenImage<'r, R>, Trouble> {
+        match ImageReader::open(rt, word) {
+            Ok(reader) => Ok(OpenImage { reader }),
+            Err(error) => Err(Trouble::of_file(rt.alloc(), word, error)),
+        }
     }
 }
 

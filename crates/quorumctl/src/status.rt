@@ -1,15 +1,12 @@
 //! `status`: what the status files of the nodes of this host come to. It makes no call on a node.
-use crate::as_json::cluster_json;
-use crate::as_metrics::cluster_metrics;
-use crate::as_table::cluster_text;
-use crate::cluster::{Cluster, UnreadFile};
-use crate::image::ImageSeen;
-use crate::image_lines::image_lines_beside;
 use crate::images::{look, pause};
 use crate::status_file::{Refusal, read_status_file};
 use crate::table::QUORUMCTL;
 use crate::trouble::{Trouble, say};
-use crate::verdict::Verdict;
+use qn_control::{
+    Cluster, ImageSeen, UnreadFile, Verdict, cluster_json, cluster_metrics, cluster_text,
+    image_lines_beside,
+};
 use qn_usage::{file_of, has_word, value_of};
 use std::alloc::{AllocError, Global};
 use std::fs::File;
@@ -140,8 +137,8 @@ fn see_image<R: Files<File = File> + Net<Stream = TcpStream> + Clock + Eprint + 
     let why = match look(rt, path) {
         Ok(seen) if seen.header.is_some() => return Ok(Some(seen)),
         Ok(_) => format!(in alloc; "it is no image")?,
-        Err(Trouble::NoMemory) => return Err(Trouble::NoMemory),
-        Err(trouble) => format!(in alloc; "{trouble}")?,
+        Err(Trouble::File(_, error)) => format!(in alloc; "{error}")?,
+        Err(trouble) => return Err(trouble),
     };
     let path = String::from_str(alloc, path)?;
     cluster.unread.push(UnreadFile { path, why })?;

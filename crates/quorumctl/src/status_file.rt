@@ -1,6 +1,6 @@
 //! The status file of a node, read.
 use crate::members::{Members, id_of};
-use crate::node_file::{MailOfFile, NodeFile, PeerOfFile, PhaseOfFile, ViewOfFile};
+use qn_control::{MailOfFile, NodeFile, PeerOfFile, PhaseOfFile, ViewOfFile};
 use qn_model::Message;
 use serde_json::Value;
 use std::alloc::{AllocError, AllocFailed, Global};

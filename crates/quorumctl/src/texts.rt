@@ -2,17 +2,15 @@
 ghost use Rattle.std.specs.Prelude.{IsTrue};
 ghost use Rattle.qn_model.specs.Timing.{has_periods};
 
-use crate::at_fault::wrong_lines;
-use crate::concerns::concerns_of;
-use crate::differences::differences_of;
 use crate::input::{is_memory, read_input};
-use crate::pairs::pairs_of;
-use crate::text_concerns::{TextConcern, has_byte_order_mark, text_concerns_of};
-use crate::times::{least_msgwait, longest_take_over, slowest_disk, unbounded_on};
-use crate::told::settings_text;
 use crate::trouble::{Trouble, say};
 use qn_base::{LONGEST_PERIOD, read_decimal};
 use qn_conf::read_tree;
+use qn_control::{
+    TextConcern, concerns_of, differences_of, has_byte_order_mark, least_msgwait,
+    longest_take_over, pairs_of, settings_text, slowest_disk, text_concerns_of, unbounded_on,
+    wrong_lines,
+};
 use qn_model::{Settings, Timing};
 use qn_settings::{TextFault, settings_of_text};
 use qn_usage::value_of;

@@ -1,6 +1,6 @@
 //! What keeps a command from its work.
 use qn_usage::{NO_MEMORY, WRITE_FAULT};
-use std::alloc::{AllocError, AllocFailed};
+use std::alloc::{AllocError, AllocFailed, Global};
 use std::{fmt, io};
 
 /// What keeps a command from its work; each has a status of its own, which are those of `quorumd`.
@@ -10,19 +10,29 @@ pub enum Trouble {
     Input(io::Error),
     /// Standard output cannot be written.
     Output(io::Error),
-    /// The image cannot be opened, or the clock not be read.
+    /// The file or the image of this word cannot be opened or read.
+    File(String, io::Error),
+    /// The clock cannot be read, or no time be waited for.
     System(io::Error),
     /// Out of memory.
     NoMemory,
 }
 
 impl Trouble {
+    /// What keeps the file or the image of that word from being opened or read.
+    pub fn of_file(alloc: Global, word: &str, error: io::Error) -> Trouble {
+        match String::from_str(alloc, word) {
+            Ok(word) => Trouble::File(word, error),
+            Err(_) => Trouble::NoMemory,
+        }
+    }
+
     /// The exit status.
     pub fn status(&self) -> u8 {
         match self {
             Trouble::Input(_) => 6,
             Trouble::Output(_) => WRITE_FAULT,
-            Trouble::System(_) => 8,
+            Trouble::File(..) | Trouble::System(_) => 8,
             Trouble::NoMemory => NO_MEMORY,
         }
     }
@@ -33,6 +43,7 @@ impl fmt::Display for Trouble {
         match self {
             Trouble::Input(error) => write!(f, "standard input: {error}"),
             Trouble::Output(error) => write!(f, "standard output: {error}"),
+            Trouble::File(word, error) => write!(f, "{word}: {error}"),
             Trouble::System(error) => write!(f, "{error}"),
             Trouble::NoMemory => write!(f, "out of memory"),
         }

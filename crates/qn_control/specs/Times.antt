@@ -3,8 +3,8 @@
 use Rattle.std.specs.Prelude.{ℕ, Bool, ◌+◌, ◌*◌, ◌/◌, Option, Some, None, if◌then◌else◌, nat_le, nat_lt, max}
 use Rattle.qn_model.specs.declared.times.Timing.{Timing}
 use Rattle.qn_progress.specs.Pace.{Pace, take_over_ticks}
-use Rattle.quorumctl.specs.declared.unbounded.Unbounded.{Unbounded}
-use Rattle.quorumctl.specs.declared.unbounded.Unbounded.TheVariants.{Loop, ReadLimit, Watchdog}
+use Rattle.qn_control.specs.declared.unbounded.Unbounded.{Unbounded}
+use Rattle.qn_control.specs.declared.unbounded.Unbounded.TheVariants.{Loop, ReadLimit, Watchdog}
 
 -- the times with another msgwait
 abbrev pub with_msgwait : Timing → ℕ → Timing

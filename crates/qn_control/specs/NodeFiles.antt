@@ -3,11 +3,11 @@ use Rattle.std.specs.Prelude.{ℕ, Bool, true, false, ◌+◌, ◌-◌, ◌*◌,
 use Rattle.std.specs.List.{list_any, list_all}
 use Rattle.qn_base.specs.declared.ids.NodeId.{NodeId}
 use Rattle.qn_model.specs.declared.disk.Message.TheVariants.{Empty, Test, Reset, Off, Exit, Crashdump}
-use Rattle.quorumctl.specs.declared.node_file.MailOfFile.{MailOfFile}
-use Rattle.quorumctl.specs.declared.node_file.MailOfFile.TheVariants.{Holds, Damaged, Failed, Unread}
-use Rattle.quorumctl.specs.declared.node_file.NodeFile.{NodeFile}
-use Rattle.quorumctl.specs.declared.node_file.PeerOfFile.{PeerOfFile}
-use Rattle.quorumctl.specs.declared.node_file.ViewOfFile.{ViewOfFile}
+use Rattle.qn_control.specs.declared.node_file.MailOfFile.{MailOfFile}
+use Rattle.qn_control.specs.declared.node_file.MailOfFile.TheVariants.{Holds, Damaged, Failed, Unread}
+use Rattle.qn_control.specs.declared.node_file.NodeFile.{NodeFile}
+use Rattle.qn_control.specs.declared.node_file.PeerOfFile.{PeerOfFile}
+use Rattle.qn_control.specs.declared.node_file.ViewOfFile.{ViewOfFile}
 
 -- the loop of the node in milliseconds: a second before it knows its image
 abbrev pub loop_of : NodeFile → ℕ

@@ -85,7 +85,7 @@ pub struct PeerOfFile {
 
 impl NodeFile {
     ghost use Rattle.std.specs.Prelude.{◌≡◌, ◌*◌, ◌≤◌};
-    ghost use Rattle.quorumctl.specs.NodeFiles.{is_seen, is_stale, loop_of, members_of, sees_all};
+    ghost use Rattle.qn_control.specs.NodeFiles.{is_seen, is_stale, loop_of, members_of, sees_all};
 
     /// Whether the file says nothing of this moment, in milliseconds of the host's monotonic clock: its node has ended, its tick is of
     /// another boot of the host, or it is older than three loops and a second (docs/STATUS.md).
@@ -135,7 +135,7 @@ impl NodeFile {
 
 impl MailOfFile {
     ghost use Rattle.std.specs.Prelude.{◌≡◌};
-    ghost use Rattle.quorumctl.specs.NodeFiles.{is_quiet};
+    ghost use Rattle.qn_control.specs.NodeFiles.{is_quiet};
 
     /// Whether no message but a test waits in the mailbox, as far as it was read.
     pub fn is_quiet(self) -> bool

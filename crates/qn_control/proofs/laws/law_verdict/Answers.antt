@@ -1,5 +1,5 @@
-use Rattle.quorumctl.proofs.VerdictLaws.{all_fresh, healthy_parts, two_holders}
-use Rattle.quorumctl.proofs.laws.law_verdict.Goals as goal
+use Rattle.qn_control.proofs.VerdictLaws.{all_fresh, healthy_parts, two_holders}
+use Rattle.qn_control.proofs.laws.law_verdict.Goals as goal
 
 pub returns-clause-two_holders : goal.returns-clause-two_holders
 returns-clause-two_holders c = λ now files two. two_holders now files two

@@ -1,9 +1,9 @@
 //! What an operator rests on where a verdict is read.
 ghost use Rattle.std.specs.Prelude.{◌≡◌, ◌≤◌, ℕ, List, All, false};
-ghost use Rattle.quorumctl.specs.declared.node_file.NodeFile.{NodeFile};
-ghost use Rattle.quorumctl.specs.declared.verdict.Verdict.TheVariants.{Healthy, NoOwner};
-ghost use Rattle.quorumctl.specs.NodeFiles.{is_stale};
-ghost use Rattle.quorumctl.specs.Verdicts.{holders, judge};
+ghost use Rattle.qn_control.specs.declared.node_file.NodeFile.{NodeFile};
+ghost use Rattle.qn_control.specs.declared.verdict.Verdict.TheVariants.{Healthy, NoOwner};
+ghost use Rattle.qn_control.specs.NodeFiles.{is_stale};
+ghost use Rattle.qn_control.specs.Verdicts.{holders, judge};
 
 /// Two live nodes that hold are always told. What is told as healthy has one holder, and no file of it is stale.
 pub fn law_verdict()

@@ -3,11 +3,11 @@ use Rattle.std.proofs.Common.{◌≡◌, ◌≤◌, ◌<◌, ℕ, Bool, true, fa
 use Rattle.std.specs.List.{list_any, list_all}
 use Rattle.std.proofs.lemmas.Bool.{false≢true, and_parts, not-true, lt-ltb, ltb-false, eqb-false, or_right}
 use Rattle.std.proofs.lemmas.List.Sums.{AllPass-from_list_all}
-use Rattle.quorumctl.specs.declared.node_file.NodeFile.{NodeFile}
-use Rattle.quorumctl.specs.declared.verdict.Verdict.{Verdict}
-use Rattle.quorumctl.specs.declared.verdict.Verdict.TheVariants.{Healthy, Degraded, NoOwner, Unknown}
-use Rattle.quorumctl.specs.NodeFiles.{is_quiet, is_stale, sees_all}
-use Rattle.quorumctl.specs.Verdicts.{holders, is_holder, is_live, is_owner_elsewhere, is_well, judge, of_live, with_holder, without_holder}
+use Rattle.qn_control.specs.declared.node_file.NodeFile.{NodeFile}
+use Rattle.qn_control.specs.declared.verdict.Verdict.{Verdict}
+use Rattle.qn_control.specs.declared.verdict.Verdict.TheVariants.{Healthy, Degraded, NoOwner, Unknown}
+use Rattle.qn_control.specs.NodeFiles.{is_quiet, is_stale, sees_all}
+use Rattle.qn_control.specs.Verdicts.{holders, is_holder, is_live, is_owner_elsewhere, is_well, judge, of_live, with_holder, without_holder}
 
 -- where a node holds, a node is live
 pub live_of_holder : (now : ℕ) (files : List NodeFile) → 1 ≤ holders now files → list_any (is_live now) files ≡ true

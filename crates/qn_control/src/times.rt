@@ -2,7 +2,7 @@
 ghost use Rattle.std.specs.Prelude.{◌≡◌, ◌<◌, ◌≤◌, ◌*◌, ℕ, IsTrue, IfSome, IfNone, None, false};
 ghost use Rattle.qn_base.specs.declared.limits.TheConstants.{LONGEST_PERIOD};
 ghost use Rattle.qn_model.specs.Timing.{has_periods, is_safe};
-ghost use Rattle.quorumctl.specs.Times.{take_over, ticks_of, turn_on, unbounded, with_msgwait};
+ghost use Rattle.qn_control.specs.Times.{take_over, ticks_of, turn_on, unbounded, with_msgwait};
 
 use crate::unbounded::Unbounded;
 use qn_base::LONGEST_PERIOD;

@@ -3,8 +3,8 @@ use Rattle.std.proofs.Common.{◌≡◌, ◌≤◌, ◌<◌, ℕ, Bool, true, fa
 use Rattle.std.proofs.lemmas.Bool.{le-ltb}
 use Rattle.std.proofs.lemmas.Option.{none-some}
 use Rattle.qn_model.specs.declared.times.Timing.{Timing}
-use Rattle.quorumctl.specs.declared.unbounded.Unbounded.TheVariants.{Loop}
-use Rattle.quorumctl.specs.Times.{is_below_loop, ticks_of, unbounded}
+use Rattle.qn_control.specs.declared.unbounded.Unbounded.TheVariants.{Loop}
+use Rattle.qn_control.specs.Times.{is_below_loop, ticks_of, unbounded}
 
 ticks_no_fewer : (disk : ℕ) → disk ≤ ticks_of disk
 ticks_no_fewer disk = omega arith

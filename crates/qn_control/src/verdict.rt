@@ -1,7 +1,7 @@
 //! What the status files of a cluster come to.
 ghost use Rattle.std.specs.Prelude.{◌≡◌};
 ghost use Rattle.std.specs.List.{list_all, list_any};
-ghost use Rattle.quorumctl.specs.Verdicts.{holders, is_here, is_holder, is_live, is_owner_elsewhere, is_view_here, is_well, judge, of_live, with_holder, without_holder};
+ghost use Rattle.qn_control.specs.Verdicts.{holders, is_here, is_holder, is_live, is_owner_elsewhere, is_view_here, is_well, judge, of_live, with_holder, without_holder};
 
 use crate::node_file::NodeFile;
 use qn_base::NodeId;
@@ -21,7 +21,7 @@ pub enum Verdict {
 
 impl Verdict {
     ghost use Rattle.std.specs.Prelude.{◌≡◌};
-    ghost use Rattle.quorumctl.specs.Verdicts.{beside_unread, exit_status};
+    ghost use Rattle.qn_control.specs.Verdicts.{beside_unread, exit_status};
 
     /// The verdict where a file beside the judged ones could not be read, or none.
     pub fn beside_unread(self, unread: bool) -> Verdict

@@ -1,9 +1,9 @@
 use Rattle.std.proofs.Common.{◌≡◌, ◌<◌, ◌≤◌, ℕ, None, not, arith, true, refl, sym, ◌∙◌, ap, subst, ◌+◌, ◌-◌, ◌⊎◌, inl, inr}
 use Rattle.std.proofs.lemmas.Bool.{false≢true, cases_lt}
 use Rattle.std.specs.Option.{is_some}
-use Rattle.quorumctl.specs.Times.{unbounded}
-use Rattle.quorumctl.proofs.SlowDisks.{over_loop}
-use Rattle.quorumctl.proofs.times.slowest_disk.Goals as goal
+use Rattle.qn_control.specs.Times.{unbounded}
+use Rattle.qn_control.proofs.SlowDisks.{over_loop}
+use Rattle.qn_control.proofs.times.slowest_disk.Goals as goal
 
 pub loop-faster-init : goal.loop-faster-init
 loop-faster-init c = λ slower late. over_loop c.args.timing.now slower (omega arith)

@@ -3,10 +3,10 @@
 use Rattle.std.specs.Prelude.{ℕ, Bool, true, false, ◌==◌, ◌&&◌, not, List, if◌then◌else◌, nat_lt, filter, length}
 use Rattle.std.specs.List.{list_any, list_all}
 use Rattle.qn_base.specs.declared.ids.NodeId.{NodeId}
-use Rattle.quorumctl.specs.declared.node_file.NodeFile.{NodeFile}
-use Rattle.quorumctl.specs.declared.verdict.Verdict.{Verdict}
-use Rattle.quorumctl.specs.declared.verdict.Verdict.TheVariants.{Healthy, Degraded, NoOwner, Unknown}
-use Rattle.quorumctl.specs.NodeFiles.{is_stale, is_quiet, members_of, sees_all}
+use Rattle.qn_control.specs.declared.node_file.NodeFile.{NodeFile}
+use Rattle.qn_control.specs.declared.verdict.Verdict.{Verdict}
+use Rattle.qn_control.specs.declared.verdict.Verdict.TheVariants.{Healthy, Degraded, NoOwner, Unknown}
+use Rattle.qn_control.specs.NodeFiles.{is_stale, is_quiet, members_of, sees_all}
 
 abbrev pub is_live : ℕ → NodeFile → Bool
 is_live now file = not (is_stale now file)
