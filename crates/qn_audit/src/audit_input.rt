@@ -34,7 +34,8 @@ pub fn audit<I: Source>(
         Ok(head) => head,
         Err(fault) => return AuditEnd::from(fault),
     };
-    let Some(me) = head.settings.nodes.rank_of(u64::from(id.0)) else {
+    let number = u64::from(id.0);
+    let Some(me) = head.settings.nodes.rank_of(number) else {
         return AuditEnd::UnknownNode;
     };
     let lines = head.lines;

@@ -1,5 +1,5 @@
 -- The work of `node` and `node3`, and the record of their runs.
-use Rattle.std.proofs.Common.{◌≡◌, ◌==◌, ◌⊎◌, inl, inr, ℕ, true, false, List, [], ◌∷◌, Option, None, Some, position, Ok, Err, refl, sym, ap, ◌∙◌, subst, arith}
+use Rattle.std.proofs.Common.{◌≡◌, ◌==◌, ◌⊎◌, inl, inr, ℕ, true, false, List, [], ◌∷◌, Option, None, Some, position, Ok, Err, refl, sym, ap, ◌∙◌, arith}
 use Rattle.qn_base.specs.Plans.{Made}
 use Rattle.qn_base.specs.PlanSteps.{made_then}
 use Rattle.qn_base.specs.declared.ids.NodeId.{NodeId}
@@ -18,7 +18,7 @@ use Rattle.qn_commands.specs.InputSettings.{Judges, input_settings}
 use Rattle.qn_commands.specs.NodeTexts.{end_outcome}
 use Rattle.qn_commands.specs.Seen.{Input, NeverFall, Output, Outside, ReadFails, Seen, WriteFails, seen}
 use Rattle.qn_commands.specs.Statuses.{IsOneOf}
-use Rattle.qn_commands.specs.Works.{Carries, Work, Works}
+use Rattle.qn_commands.specs.Works.{Carries, Works}
 use Rattle.qn_commands.proofs.Creating.{IsSettingsStatus, own_status, wanted_of}
 use Rattle.qn_commands.proofs.NodeCauses.{boot_halted, clock_went_back}
 use Rattle.qn_commands.proofs.NodeEnds.{bad_settings, good_settings, known_work, undisturbed_node, unknown_work}

@@ -1,5 +1,5 @@
 -- The timing line after a settings text.
-use Rattle.std.proofs.Common.{◌≡◌, ◌+◌, ℕ, List, Option, Ok, Err, sym, ap, ◌∙◌, subst}
+use Rattle.std.proofs.Common.{◌≡◌, ◌+◌, ℕ, List, Option, Ok, Err, sym, ap, ◌∙◌}
 use Rattle.qn_model.specs.declared.times.Timing.{Timing}
 use Rattle.qn_sched.specs.declared.replay_end.ReplayEnd.{ReplayEnd}
 use Rattle.qn_sched.specs.Head.{safe_timing_in}
