@@ -79,17 +79,16 @@ impl Counter {
 }
 
 impl Counter {
-    /// What a good line writes.
+    /// Writes what a good line writes into a text that is empty.
     #[tactic(auto, unfolding(qn_model::specs::CountText::text_of_line))]
-    pub fn text_of(&self, line: &CountLine) -> ShortText
-        ensures { result ≡ text_of_line self.now line.now }
+    pub fn write_line(&self, line: &CountLine, text: &mut ShortText)
+        requires { text.old ≡ [] }
+        ensures { text.new ≡ text_of_line self.now line.now }
     {
-        let mut text = ShortText::new();
         match line {
             CountLine::Node(_) => {}
-            CountLine::View(view) => self.write_view(view, &mut text),
+            CountLine::View(view) => self.write_view(view, text),
         }
-        text
     }
 
     /// Writes what a view line writes into a text that is empty.

@@ -1,7 +1,7 @@
 -- A node holds after an event from which no Start came only where it held before it.
 use Rattle.std.proofs.Common.{◌≡◌, ◌==◌, ◌+◌, ◌≤◌, ◌&&◌, ◌||◌, ℕ, Bool, true, false, List, [], ◌∷◌, Option, None, Some, refl, sym, ap, ◌∙◌, subst, arith, eq-eqb, eqb-true}
 use lib.Count.{ones}
-use Rattle.std.specs.Prelude.{count_ones, filter, if◌then◌else◌}
+use Rattle.std.specs.Prelude.{count_ones, filter, if◌then◌else◌, slice_get}
 use Rattle.std.specs.List.{range_with_len}
 use Rattle.std.specs.Option.{option_map_or, option_or}
 use Rattle.std.proofs.lemmas.Bool.{and_parts}
@@ -16,12 +16,11 @@ use Rattle.qn_model.specs.declared.entries.What.TheVariants as what
 use Rattle.qn_model.specs.Holding.{holds}
 use Rattle.qn_model.specs.Lines.{mask_of}
 use Rattle.qn_model.specs.Log.{Line, has_start}
-use Rattle.qn_model.specs.Moments.{Adds, Boots, Ends, Feeds, Moment, Passes, Running, advance_of, advanced, booted, handed, is_holder, logged, node, packets, tick_of, time}
+use Rattle.qn_model.specs.Moments.{Adds, Boots, Ends, Feeds, Moment, Running, booted, handed, is_holder, logged, node, packets, tick_of, time}
 use Rattle.qn_model.specs.NodeOutputs.{newest_outs, with_entry}
 use Rattle.qn_model.specs.Rules.{is_on, refusal, unless}
 use Rattle.qn_model.specs.Steps.{answered, entry_of, fails, happens, holders, landed, lands_late, outs_after, step}
 use Rattle.qn_model.specs.World.{World, first_world, node_at, numbered, op_at}
-use Rattle.std.specs.Prelude.{slice_get}
 use Rattle.qn_replay.specs.Generator.{soak_settings}
 use Rattle.qn_replay.specs.Soak.{one_if}
 use Rattle.qn_replay.proofs.SoakSteps.{filter_three, passing}

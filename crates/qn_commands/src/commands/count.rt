@@ -89,7 +89,8 @@ fn take_line<O: Sink>(
         Ok(good) => good,
         Err(fault) => return Some(end_at_fault(counter, fault, output, out)),
     };
-    let text = counter.text_of(&good);
+    let mut text = ShortText::new();
+    counter.write_line(&good, &mut text);
     let Ok(()) = output.put(out, text.as_slice()) else {
         return Some(Status::WriteFault);
     };
