@@ -1,7 +1,7 @@
 # The bed of containers: a base system, three hosts on it, their network, their watchdogs. Sourced by `containers`.
 
 # what the hosts need beside the package: PostgreSQL, OCF agents, and what a disk image can lie behind
-PACKAGES='resource-agents postgresql e2fsprogs libpam-systemd iputils-arping psmisc kmod qemu-utils etcd-server etcd-client nftables'
+PACKAGES='resource-agents postgresql e2fsprogs libpam-systemd iputils-arping psmisc kmod qemu-utils etcd-server etcd-client nftables jq xxd'
 
 # make_base: a Debian 12 with systemd and these packages, kept for the next run
 make_base() {

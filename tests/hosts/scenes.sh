@@ -1,7 +1,7 @@
 # The scenes. Each is a function that fails where something else came than should. Sourced by `containers`.
 all_scenes='clean_stop exit_message off_message reboot_of_holder poweroff_of_holder kill_node hang_node no_image other_image slow_stop stuck_stop
 by_hand supervisor_dies stop_while_starting edited start_mode resource_dies start_fails maintenance planned_handover third_handover turns_used renewed three_images confined
-postgres pgsql upgrade purge setup page_device page_servers page_etcd'
+postgres pgsql upgrade purge pages setup page_device page_servers page_etcd'
 
 # begun [HOST]: the cluster is up and this host holds
 begun() {
@@ -435,6 +435,18 @@ scene_purge() {
     on 3 dpkg --purge quorumd || return 1
     on 3 find /etc /usr /var/lib -name '*quorumd*' -not -path '/var/lib/dpkg/*' | grep . && return 1
     owns 1 && not_reset 3
+}
+
+# The examples of the pages of the package, as they stand there, beside a node of the host; nothing is written into the package.
+scene_pages() {
+    local pages
+    begun || return 1
+    cp "$here/../parts/package.py" "$shared/"
+    pages=(README.md docs/{README,TRY,STORIES,SCHEDULES,STATUS,LIVE,IMAGE,SAFETY,FORMATS,QUORUM,SETTINGS}.md contrib/README.md
+        examples/{incidents,live}/README.md)
+    on 1 sh -c 'cd "$(mktemp -d)" && python3 -B /srv/cluster/package.py /usr/share/quorumd "$@"' sh "${pages[@]}" || return 1
+    on 1 dpkg --verify quorumd | grep -v ' /etc/' && return 1
+    not_reset 1
 }
 
 # One command makes a host a member.

