@@ -38,6 +38,7 @@ wrong() {
 
 # refused FILE WORD..: the program with these words, which reads FILE, is refused one allocation after the other, until it has
 # them all. Where $needs_none is yes it may be that none is refused. The file `whole` has then what it writes, and `places` gets how many lines stand before the fault line of each other run.
+# A program begins with 128 kilobytes of stack, and a command may need $stack_pages pages more (2): so many limits, a page apart, give it none.
 refused() {
     local begun=no stack=0
     input=$1
@@ -56,10 +57,10 @@ refused() {
             wc -l < before >> places
             after_refusal
             ;;
-        # the system had an allocation's page, and none for the stack to grow by: it ends the program by a signal, at a few limits in a row
+        # the system had an allocation's page, and none for the stack to grow by, and ended the program by a signal
         139*)
             stack=$((stack + 1))
-            [ "$stack" -le 8 ] || wrong "$@"
+            [ "$stack" -le "${stack_pages-2}" ] || wrong "$@"
             ;;
         # the system could not load the program
         *) [ "$begun" = no ] || wrong "$@" ;;

@@ -1,4 +1,3 @@
-mod AuditEnds
 mod CountEnds
 mod CountLines
 mod Counted
@@ -6,10 +5,5 @@ mod Creating
 mod GivenOut
 mod ImageEnds
 mod Listing
-mod NodeCauses
-mod NodeEnds
-mod NodeLogging
-mod NodeRuns
 mod ReadTexts
 mod Turned
-mod Working

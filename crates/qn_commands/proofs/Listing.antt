@@ -7,7 +7,7 @@ use Rattle.qn_commands.specs.Endings.{Whole}
 use Rattle.qn_commands.specs.ImageTexts.{list_line}
 use Rattle.qn_commands.specs.Seen.{Input, Output, Outside, seen}
 use Rattle.qn_commands.specs.Works.{Last, Work, Works, after_plan}
-use Rattle.qn_commands.proofs.Working.{LeadsTo, last_alone, leads_more}
+use Rattle.qn_commands.specs.WorkSteps.{LeadsTo, last_alone, leads_more}
 
 module _ (version rank nodes : ℕ) where
   ranks_work-more : rank < nodes → ranks_work version rank (nodes - rank) ≡ after_plan (line_plan version rank) (after_line (ranks_work version (rank + 1) (nodes - (rank + 1))))

@@ -1,10 +1,7 @@
 -- The record of each command: all that it promises.
-pub mod Audit
 pub mod Count
 pub mod Create
 pub mod Dump
 pub mod List
 pub mod Message
 pub mod Migrate
-pub mod Node
-pub mod NodeLogged

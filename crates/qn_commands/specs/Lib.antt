@@ -6,10 +6,11 @@ pub mod Faults
 pub mod ImageTexts
 pub mod Images
 pub mod InputSettings
-pub mod NodeTexts
 pub mod Reads
 pub mod RunLaws
 pub mod Seen
+pub mod SettingsLaws
 pub mod Statuses
+pub mod WorkSteps
 pub mod Works
 pub mod Writing

@@ -1,5 +1,5 @@
-//! The commands that play no schedule, and what every command shares: how it ends (`Status`, `Fault`, `say`, `refuse`),
-//! and the reading of the settings.
+//! The commands that play no schedule and run no node, and what every command shares: how it ends (`Status`, `Fault`, `say`, `refuse`),
+//! and the reading of the settings (`read_settings`).
 //!
 //! Promises: each command's function meets the record of the command in specs/Commands, which says what was read, called
 //! and written, which statuses there are, and that each fault has its cause.
@@ -11,23 +11,19 @@ mod ending;
 mod fault;
 mod image;
 mod image_texts;
-mod node_texts;
 mod output;
 mod path;
 mod settings_text;
 mod status;
 
-pub use commands::audit::{AuditWords, run_audit};
 pub use commands::count::count;
 pub use commands::create::create;
 pub use commands::dump::dump;
 pub use commands::list::list;
 pub use commands::message::send;
 pub use commands::migrate::migrate;
-pub use commands::node::{NodeWords, node};
-pub use commands::node_logged::node_logged;
 pub use ending::{refuse, say};
 pub use fault::{Fault, LeaseTimes};
 pub use path::Path;
-pub use qn_live::NodeImages;
+pub use settings_text::read_settings;
 pub use status::Status;

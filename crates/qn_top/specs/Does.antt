@@ -1,15 +1,15 @@
 -- What the program does for a command: this project's profile. Each command has a record of its own.
 use Rattle.std.specs.Prelude.{ℕ, Bool, true, false, Option, None, Some}
 use Rattle.qn_model.specs.Timing.{is_safe}
-use Rattle.qn_commands.specs.Commands.Audit.{Audits}
+use Rattle.qn_running.specs.Commands.Audit.{Audits}
 use Rattle.qn_commands.specs.Commands.Count.{Counts}
 use Rattle.qn_commands.specs.Commands.Create.{Creates}
 use Rattle.qn_commands.specs.Commands.Dump.{Dumps}
 use Rattle.qn_commands.specs.Commands.List.{Lists}
 use Rattle.qn_commands.specs.Commands.Message.{Sends}
 use Rattle.qn_commands.specs.Commands.Migrate.{Migrates}
-use Rattle.qn_commands.specs.Commands.Node.{RunsNode}
-use Rattle.qn_commands.specs.Commands.NodeLogged.{LogsNode}
+use Rattle.qn_running.specs.Commands.Node.{RunsNode}
+use Rattle.qn_running.specs.Commands.NodeLogged.{LogsNode}
 use Rattle.qn_live.specs.declared.node_images.NodeImages.TheVariants.{One, Three}
 use Rattle.qn_commands.specs.Seen.{Seen}
 use Rattle.qn_top.specs.declared.command.Command.{Command}

@@ -11,8 +11,8 @@ use Rattle.qn_model.specs.declared.times.Timing.{Timing}
 use Rattle.qn_model.specs.Lines.{parts}
 use Rattle.qn_model.specs.Messages.{operator_word}
 use Rattle.qn_model.specs.Timing.{usual_times}
-use Rattle.qn_commands.specs.declared.commands.audit.AuditWords.{AuditWords}
-use Rattle.qn_commands.specs.declared.commands.node.NodeWords.{NodeWords}
+use Rattle.qn_running.specs.declared.commands.audit.AuditWords.{AuditWords}
+use Rattle.qn_running.specs.declared.commands.node.NodeWords.{NodeWords}
 use Rattle.qn_live.specs.declared.node_images.NodeImages.{NodeImages}
 use Rattle.qn_live.specs.declared.node_images.NodeImages.TheVariants as images
 use Rattle.qn_top.specs.declared.command.Command.{Command}

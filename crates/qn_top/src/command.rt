@@ -9,8 +9,9 @@ ghost use Rattle.qn_top.specs.Options.{value_of};
 use crate::command_name::{CommandName, name_of};
 use crate::options::{OptionName, are_options, value_of};
 use qn_base::{LONGEST_PERIOD, MOST_EVENTS, NodeId, read_decimal};
-use qn_commands::{AuditWords, NodeImages, NodeWords, Path};
+use qn_commands::Path;
 use qn_model::{Message, Timing};
+use qn_running::{AuditWords, NodeImages, NodeWords};
 use qn_sched::first_part;
 
 /// The most turns that a node runs.

@@ -18,12 +18,10 @@ use crate::commands::replay_arbiter::run_replay_arbiter;
 use crate::commands::replay3::run_replay3;
 use crate::commands::soak::run_soak;
 use crate::commands::status::run_status;
-use qn_commands::{
-    Fault, NodeImages, Status, count, create, dump, list, migrate, node, node_logged, refuse,
-    run_audit, send,
-};
+use qn_commands::{Fault, Status, count, create, dump, list, migrate, refuse, send};
 use qn_io::{Env, Sink, Source};
 use qn_live::Notices;
+use qn_running::{NodeImages, node, node_logged, run_audit};
 use std::alloc::Global;
 
 /// All that the program does: reads the words as a command, runs it on the input and on the outside of a node,

@@ -13,6 +13,7 @@ pub const WRITE_FAULT: u8 = 7;
 pub const NO_MEMORY: u8 = 11;
 
 /// The words after the program's name, or the status to end with: that of no command for a word that is no UTF-8.
+#[inline(never)]
 pub fn words_given(rt: &(impl Env + AllocGlobal)) -> Result<Vec<String>, u8> {
     let mut all = env::args(rt).map_err(|error| match error.kind() {
         ErrorKind::InvalidData => USAGE,

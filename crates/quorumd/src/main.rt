@@ -22,7 +22,7 @@ use qn_usage::{
 };
 use std::fs::File;
 use std::process::{self, ExitCode};
-use std::rt::Files;
+use std::rt::{Env, Files};
 use std::{env, io};
 
 /// The name of the program, and what it is.
@@ -38,18 +38,24 @@ fn main(rt: HostRuntime) -> ExitCode {
     if let Some(status) = answer_about(&rt, words.as_slice()) {
         return ExitCode::from(status);
     }
-    let (before, words) = match before_command(&rt, words.as_slice()) {
-        Ok(read) => read,
-        Err(status) => return ExitCode::from(status),
-    };
+    match before_command(&rt, words.as_slice()) {
+        Ok((outside, words)) => ExitCode::from(run(&rt, outside, words)),
+        Err(status) => ExitCode::from(status),
+    }
+}
+
+/// Calls `top` on these words, and gives the status to end with. Of what stands on the stack while a command runs this frame has the most:
+/// what was read before has others, which are gone then.
+#[inline(never)]
+fn run(rt: &HostRuntime, said: Outside<'_>, words: &[String]) -> u8 {
     let Ok(outside) = rt.clone() else {
-        return ExitCode::from(NO_MEMORY);
+        return NO_MEMORY;
     };
-    let lines = Lines::new(id_in(words), env::var(&rt, "JOURNAL_STREAM").is_ok());
-    let mut input = StdSource::new(rt.reader(), lines.over(&rt));
-    let mut out = StdSink::new(io::writer(&rt), lines.over(&rt));
-    let mut env = RealEnv::new(outside, before.edge, &lines);
-    let mut journal = Journal::new(&rt, &lines, before.status, process::id(rt.process()));
+    let lines = Lines::new(id_in(words), is_in_journal(rt));
+    let mut input = StdSource::new(rt.reader(), lines.over(rt));
+    let mut out = StdSink::new(io::writer(rt), lines.over(rt));
+    let mut env = RealEnv::new(outside, said.edge, &lines);
+    let mut journal = journal_of(rt, &lines, said.status);
     let status = top(
         rt.alloc(),
         words,
@@ -59,32 +65,49 @@ fn main(rt: HostRuntime) -> ExitCode {
         &mut journal,
     );
     if status == USAGE {
-        say_what_is_wrong(&rt, words);
+        say_what_is_wrong(rt, words);
     }
-    ExitCode::from(status)
+    status
 }
 
-/// What the words before the command say of the outside, and the file of the status.
+/// The journal of a node, with the status file of that path.
+#[inline(never)]
+fn journal_of<'a>(
+    rt: &'a HostRuntime,
+    lines: &'a Lines,
+    path: Option<&str>,
+) -> Journal<'a, HostRuntime> {
+    let status = path.and_then(ReplacedFile::at);
+    Journal::new(rt, lines, status, process::id(rt.process()))
+}
+
+/// Whether standard error goes to systemd's journal.
+#[inline(never)]
+fn is_in_journal(rt: &(impl Env + AllocGlobal)) -> bool {
+    env::var(rt, "JOURNAL_STREAM").is_ok()
+}
+
+/// What the words before the command say of the outside, and the path of the status file, which can be one.
 #[derive(Drop)]
-struct Outside {
+struct Outside<'words> {
     edge: Edge,
-    status: Option<ReplacedFile>,
+    status: Option<&'words str>,
 }
 
 /// What the words before the command say, and the words after them; or the status to end with.
+#[inline(never)]
 fn before_command<'words, R: Files<File = File> + AllocGlobal + Eprint>(
     rt: &R,
     words: &'words [String],
-) -> Result<(Outside, &'words [String]), u8> {
+) -> Result<(Outside<'words>, &'words [String]), u8> {
     let before = Before::read(words).map_err(|fault| refuse_words(rt, fault))?;
-    let status = match before.status {
-        None => None,
-        Some(path) => Some(ReplacedFile::at(path).ok_or_else(|| refuse_words(
-            rt,
-            WordFault::StatusPath,
-        ))?),
-    };
+    if let Some(path) = before.status {
+        if ReplacedFile::at(path).is_none() {
+            return Err(refuse_words(rt, WordFault::StatusPath));
+        }
+    }
     let edge = edge_of(rt, &before)?;
+    let status = before.status;
     let count = before.count.min(words.len());
     Ok((Outside { edge, status }, words.split_at(count).1))
 }
@@ -104,6 +127,7 @@ fn id_in(words: &[String]) -> u32 {
 }
 
 /// Answers what is asked about the program itself, with the status to end with; None where the words ask for something else.
+#[inline(never)]
 fn answer_about(rt: &(impl Print + Eprint + AllocGlobal), words: &[String]) -> Option<u8> {
     let [word] = words else {
         return None;
@@ -124,6 +148,7 @@ fn answer_about(rt: &(impl Print + Eprint + AllocGlobal), words: &[String]) -> O
 }
 
 /// Says on standard error which word was not taken; that it cannot be said is no fault.
+#[inline(never)]
 fn say_what_is_wrong(rt: &impl Eprint, words: &[String]) {
     let _ = match refusal_of(QUORUMD, words) {
         Some(refusal) => eprintln!(rt; "{PROGRAM}: {refusal}"),

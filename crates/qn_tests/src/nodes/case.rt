@@ -3,7 +3,8 @@ ghost use Rattle.std.specs.Prelude.{◌≡◌, ◌≤◌, IfSome};
 
 use crate::words::{first_word, read_number, text_of};
 use qn_base::NodeId;
-use qn_commands::{NodeWords, Path};
+use qn_commands::Path;
+use qn_running::NodeWords;
 use std::alloc::{AllocError, Global};
 use std::io;
 

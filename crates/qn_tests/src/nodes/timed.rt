@@ -8,9 +8,9 @@ use crate::nodes::case::node_words;
 use crate::nodes::running::{MOST_END_BYTES, quiet_outside, record, run_node};
 use crate::words::at_fault;
 use qn_base::{Failed, NodeId};
-use qn_commands::{NodeImages, NodeWords};
 use qn_io::{Env, SECTOR, Sink, StdSink, put_all};
 use qn_live::NoNotices;
+use qn_running::{NodeImages, NodeWords};
 use std::alloc::Global;
 use std::io;
 

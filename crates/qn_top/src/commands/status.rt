@@ -39,6 +39,7 @@ pub(crate) fn run_status<I: Source, O: Sink>(
 }
 
 /// The status of a world in a form.
+#[inline(never)]
 fn write_status<O: Sink>(alloc: Global, form: Form, world: &World, out: &mut O) -> Status
     ensures states { (d : WorldBefore) → WorldFor world.now d →
         StatesWorld form world.now.settings d (sink O.written O.faults out.old)

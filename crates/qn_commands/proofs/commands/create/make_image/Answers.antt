@@ -3,7 +3,7 @@ use Rattle.qn_commands.specs.Faults.{fault_line, status_of}
 use Rattle.qn_commands.specs.ImageTexts.{created_text}
 use Rattle.qn_commands.specs.Commands.Create.{create_end, image_work}
 use Rattle.qn_commands.specs.Works.{Last, refusal}
-use Rattle.qn_commands.proofs.Working.{plan_then_last}
+use Rattle.qn_commands.specs.WorkSteps.{plan_then_last}
 use Rattle.qn_commands.proofs.commands.create.make_image.Goals as goal
 
 pub returns-in-Ok-clause-works : goal.returns-in-Ok-clause-works

@@ -4,7 +4,7 @@ use Rattle.qn_commands.specs.Commands.List.{list_end, list_work}
 use Rattle.qn_commands.specs.Faults.{fault_line, status_of}
 use Rattle.qn_commands.specs.Works.{refusal}
 use Rattle.qn_commands.proofs.ImageEnds.{image_ends, image_refused}
-use Rattle.qn_commands.proofs.Working.{plan_then_last, plan_then_work}
+use Rattle.qn_commands.specs.WorkSteps.{plan_then_last, plan_then_work}
 use Rattle.qn_commands.proofs.commands.list.list.Goals as goal
 
 pub returns-in-Ok : goal.returns-in-Ok

@@ -5,7 +5,7 @@ use Rattle.qn_commands.specs.ImageTexts.{list_line}
 use Rattle.qn_commands.specs.Commands.List.{after_line}
 use Rattle.qn_commands.specs.Works.{refusal}
 use Rattle.qn_commands.proofs.GivenOut.{front_same}
-use Rattle.qn_commands.proofs.Working.{plan_then_cut, plan_then_last}
+use Rattle.qn_commands.specs.WorkSteps.{plan_then_cut, plan_then_last}
 use Rattle.qn_commands.proofs.commands.list.list_rank.Goals as goal
 
 pub returns-in-Ok-put_all-clause-listed : goal.returns-in-Ok-put_all-clause-listed

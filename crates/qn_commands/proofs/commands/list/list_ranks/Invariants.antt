@@ -1,7 +1,7 @@
 use Rattle.std.proofs.Common.{◌-◌, ◌≤◌}
 use Rattle.qn_commands.specs.Commands.List.{ranks_work}
 use Rattle.qn_commands.specs.Seen.{Input, outside, sink}
-use Rattle.qn_commands.proofs.Working.{LeadsTo}
+use Rattle.qn_commands.specs.WorkSteps.{LeadsTo}
 use Rattle.qn_commands.proofs.commands.list.list_ranks.Given as goal
 
 abbrev pub invariant-ranks : goal.invariant-ranks

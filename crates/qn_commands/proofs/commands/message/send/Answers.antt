@@ -3,7 +3,7 @@ use Rattle.qn_commands.specs.Commands.Message.{message_end, message_work}
 use Rattle.qn_commands.specs.Faults.{fault_line, status_of}
 use Rattle.qn_commands.specs.Works.{Last, refusal}
 use Rattle.qn_commands.proofs.ImageEnds.{message_refused, message_said}
-use Rattle.qn_commands.proofs.Working.{plan_then_last}
+use Rattle.qn_commands.specs.WorkSteps.{plan_then_last}
 use Rattle.qn_commands.proofs.commands.message.send.Goals as goal
 
 pub returns-in-Ok : goal.returns-in-Ok

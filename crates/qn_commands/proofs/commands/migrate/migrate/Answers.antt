@@ -3,7 +3,7 @@ use Rattle.qn_commands.specs.Commands.Migrate.{migrate_end, migrate_work}
 use Rattle.qn_commands.specs.Faults.{fault_line, status_of}
 use Rattle.qn_commands.specs.Works.{Last, refusal}
 use Rattle.qn_commands.proofs.ImageEnds.{image_said, migrate_refused}
-use Rattle.qn_commands.proofs.Working.{plan_then_last}
+use Rattle.qn_commands.specs.WorkSteps.{plan_then_last}
 use Rattle.qn_commands.proofs.commands.migrate.migrate.Goals as goal
 
 pub returns-in-Ok : goal.returns-in-Ok

@@ -1,0 +1,5 @@
+mod AuditEnds
+mod NodeCauses
+mod NodeEnds
+mod NodeLogging
+mod NodeRuns
