@@ -1,5 +1,5 @@
 -- An input whose head was read: its audit ends there, or goes on with the lines after it.
-use Rattle.std.proofs.Common.{◌≡◌, ◌≤◌, ℕ, List, [], ◌++◌, Option, None, Some, Err, length, refl, sym, ap, ◌∙◌, subst}
+use Rattle.std.proofs.Common.{◌≡◌, ◌≤◌, ◌==◌, ℕ, List, [], ◌++◌, Option, None, Some, Err, length, position, refl, sym, ap, ◌∙◌, subst}
 use Rattle.std.specs.Io.KnownBytes.{IsAtEnd, prepend_known}
 use Rattle.qn_playback.specs.declared.head_fault.HeadFault.{HeadFault}
 use Rattle.qn_playback.specs.declared.head_fault.HeadFault.TheVariants as head
@@ -10,6 +10,7 @@ use Rattle.qn_playback.specs.Parts.{Given, Gives, Refuses}
 use Rattle.qn_playback.specs.Parts as part
 use Rattle.qn_io.specs.declared.buffered.TheConstants.{PIECE}
 use Rattle.qn_io.specs.Outside.{HasRisen, prepend_known-append, prepend_known-nil}
+use Rattle.qn_model.specs.declared.configuration.Settings.{Settings}
 use Rattle.qn_model.specs.Inputs.{Anyway, AtEnd, AtFailure}
 use Rattle.qn_model.specs.Lines.{Ending, Ended, ReadFailed, lines_of}
 use Rattle.qn_sched.specs.declared.replay_end.ReplayEnd.TheVariants as replay
@@ -24,6 +25,11 @@ pub nothing_waits : (pieces : List ℕ) (left : Option (List ℕ)) → pieces �
 nothing_waits pieces left none = ap (λ p. prepend_known p left) none ∙ prepend_known-nil left
 
 module _ (run : AuditedRun) where
+  -- the place that is found by the number of the node's id is its rank
+  pub rank_found : (settings : Settings) (number : ℕ) (place : Option ℕ) → number ≡ run.id.0
+      → position (λ node. node.id.0 == number) settings.nodes ≡ place → rank_in run settings ≡ place
+  rank_found settings number place same is = ap (λ (n : ℕ). position (λ node. node.id.0 == n) settings.nodes) (sym same) ∙ is
+
   -- the head is at fault
   head_ended : (fault : HeadFault) (ending : Ending) (bytes : List ℕ) → settings_part ending bytes ≡ Err (end_of fault) → AuditEnds run (end_in_head fault) (input_of ending bytes)
   head_ended fault ending bytes is =

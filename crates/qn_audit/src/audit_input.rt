@@ -1,14 +1,13 @@
 //! Audits the log of a recorded node behind its settings.
-ghost use Rattle.std.specs.Prelude.{◌≡◌, ◌≤◌, ◌<◌, ◌==◌, length, position, None, Some, IfNone, IfSome};
+ghost use Rattle.std.specs.Prelude.{◌≤◌};
 ghost use Rattle.qn_audit.specs.Inputs.{JudgesInput, input_at};
 
 use crate::audit_end::AuditEnd;
 use crate::auditor::Auditor;
 use crate::log::audit_log;
-use qn_base::{NodeId, Rank};
+use qn_base::NodeId;
 use qn_io::{Pieces, Source};
 use qn_live::NodeImages;
-use qn_model::{NodeEntry, Nodes};
 use qn_playback::read_settings;
 use std::alloc::Global;
 
@@ -35,35 +34,11 @@ pub fn audit<I: Source>(
         Ok(head) => head,
         Err(fault) => return AuditEnd::from(fault),
     };
-    let Some(me) = rank_of(&head.settings.nodes, id) else {
+    let number = u64::from(id.0);
+    let Some(me) = head.settings.nodes.rank_of(number) else {
         return AuditEnd::UnknownNode;
     };
     let lines = head.lines;
     let mut auditor = Auditor::new(images, head.settings, me, clean, leave_at, turns);
     audit_log(&mut auditor, lines, &mut pieces, input)
-}
-
-/// The rank of the node with that id.
-fn rank_of(nodes: &Nodes, id: NodeId) -> Option<Rank>
-    ensures named { IfSome result
-        (λ rank. position (λ node. node.id.0 == id.0) nodes.now ≡ Some rank.0) }
-    ensures unnamed { IfNone result (position (λ node. node.id.0 == id.0) nodes.now ≡ None) }
-    ensures within { IfSome result (λ rank. rank.0 < length nodes.now) }
-{
-    let place = place_of(nodes, id)?;
-    Some(Rank(place as u8))
-}
-
-fn place_of(nodes: &Nodes, id: NodeId) -> Option<usize>
-    ensures value { result ≡ position (λ node. node.id.0 == id.0) nodes.now }
-    ensures within { IfSome result (λ place. (place < length nodes.now) × (place < 32)) }
-{
-    place_in(nodes.as_slice(), id)
-}
-
-fn place_in(nodes: &[NodeEntry], id: NodeId) -> Option<usize>
-    ensures value { result ≡ position (λ node. node.id.0 == id.0) nodes.now }
-    ensures within { IfSome result (λ place. place < length nodes.now) }
-{
-    nodes.iter().position(|node| node.id.0 == id.0)
 }

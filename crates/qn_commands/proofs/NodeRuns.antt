@@ -1,7 +1,8 @@
 -- The work of `node` and `node3`, and the record of their runs.
-use Rattle.std.proofs.Common.{◌≡◌, ◌⊎◌, inl, inr, ℕ, true, false, List, [], ◌∷◌, None, Some, Ok, Err, refl, sym, ◌∙◌, subst, arith}
+use Rattle.std.proofs.Common.{◌≡◌, ◌==◌, ◌⊎◌, inl, inr, ℕ, true, false, List, [], ◌∷◌, Option, None, Some, position, Ok, Err, refl, sym, ap, ◌∙◌, arith}
 use Rattle.qn_base.specs.Plans.{Made}
 use Rattle.qn_base.specs.PlanSteps.{made_then}
+use Rattle.qn_base.specs.declared.ids.NodeId.{NodeId}
 use Rattle.qn_live.specs.declared.live_end.LiveEnd.{LiveEnd}
 use Rattle.qn_model.specs.declared.configuration.Settings.{Settings}
 use Rattle.qn_model.specs.Log.{Line}
@@ -17,7 +18,7 @@ use Rattle.qn_commands.specs.InputSettings.{Judges, input_settings}
 use Rattle.qn_commands.specs.NodeTexts.{end_outcome}
 use Rattle.qn_commands.specs.Seen.{Input, NeverFall, Output, Outside, ReadFails, Seen, WriteFails, seen}
 use Rattle.qn_commands.specs.Statuses.{IsOneOf}
-use Rattle.qn_commands.specs.Works.{Carries, Work, Works}
+use Rattle.qn_commands.specs.Works.{Carries, Works}
 use Rattle.qn_commands.proofs.Creating.{IsSettingsStatus, own_status, wanted_of}
 use Rattle.qn_commands.proofs.NodeCauses.{boot_halted, clock_went_back}
 use Rattle.qn_commands.proofs.NodeEnds.{bad_settings, good_settings, known_work, undisturbed_node, unknown_work}
@@ -63,6 +64,11 @@ not_ended own (inr (inl six)) (inl twelve) = omega arith
 not_ended own (inr (inl six)) (inr fourteen) = omega arith
 not_ended own (inr (inr eleven)) (inl twelve) = omega arith
 not_ended own (inr (inr eleven)) (inr fourteen) = omega arith
+
+-- the place that is found by the number of an id is the rank of the id
+pub ranked : (settings : Settings) (id : NodeId) (number : ℕ) (place : Option ℕ) → number ≡ id.0
+    → position (λ node. node.id.0 == number) settings.nodes ≡ place → place ≡ rank_with settings id
+ranked settings id number place same is = sym is ∙ ap (λ (n : ℕ). position (λ node. node.id.0 == n) settings.nodes) same
 
 module _ (images : NodeImages) (words : NodeWords) (settings : Settings) where
   module _ (input : Input) (before after : Output) where

@@ -1,10 +1,10 @@
 //! `node` and `node3`: the member itself, a running node over its own outside.
-ghost use Rattle.std.specs.Prelude.{◌≡◌, ◌≤◌, ◌<◌, ◌⊎◌, ◌==◌, ℕ, true, false, List, [], ◌∷◌, IfSome, OnOk, OnErr, length, position};
+ghost use Rattle.std.specs.Prelude.{◌≡◌, ◌≤◌, ◌<◌, ◌⊎◌, ℕ, true, false, List, [], ◌∷◌, OnOk, OnErr, length};
 ghost use Rattle.qn_base.specs.Faults.{HasRisen};
 ghost use Rattle.qn_base.specs.Plans.{Made};
 ghost use Rattle.qn_model.specs.Log.{Line};
 ghost use Rattle.qn_model.specs.Settings.{IsValid};
-ghost use Rattle.qn_commands.specs.Commands.Node.{EndsWithCause, FailsToOpen, RunsNode, node_plan, node_work, opening, rank_with};
+ghost use Rattle.qn_commands.specs.Commands.Node.{EndsWithCause, FailsToOpen, RunsNode, node_plan, node_work, opening};
 ghost use Rattle.qn_commands.specs.Seen.{Input, outside, seen, sink, source};
 ghost use Rattle.qn_commands.specs.Statuses.{IsOneOf, code_of};
 ghost use Rattle.qn_commands.specs.Works.{Carries, Works};
@@ -21,7 +21,7 @@ use qn_live::{
     LiveEnd, NodeImages, Notices, law_boot_halted, law_end_causes, law_triple_boot_halted,
     law_triple_end_causes, run_node, run_node3,
 };
-use qn_model::{NodeEntry, Settings};
+use qn_model::Settings;
 use std::alloc::Global;
 
 /// What the words of `node` and `node3` say.
@@ -92,10 +92,9 @@ fn open_and_run<O: Sink, E: Env, N: Notices>(
     ensures env_faults { E.faults env.old ≤ E.faults env.new }
     ensures sink_faults { O.faults out.old ≤ O.faults out.new }
 {
-    let Some(place) = place_of(settings, words.id) else {
+    let Some(rank) = settings.nodes.rank_of(u64::from(words.id.0)) else {
         return refuse(out, Fault::UnknownNode { id: words.id });
     };
-    let rank = Rank(place as u8);
     match open(images, words, rank, env) {
         Ok(()) => {
             let end = run(images, words, settings, rank, env, notices);
@@ -103,21 +102,6 @@ fn open_and_run<O: Sink, E: Env, N: Notices>(
         }
         Err(Failed) => refuse(out, Fault::EnvFault),
     }
-}
-
-/// The place of the node with that id, which is its rank.
-pub(crate) fn place_of(settings: &Settings, id: NodeId) -> Option<usize>
-    ensures value { result ≡ rank_with settings.now id }
-    ensures within { IfSome result (λ place. (place < length settings.now.nodes) × (place < 32)) }
-{
-    place_in(settings.nodes.as_slice(), id)
-}
-
-fn place_in(nodes: &[NodeEntry], id: NodeId) -> Option<usize>
-    ensures value { result ≡ position (λ node. node.id.0 == id.0) nodes.now }
-    ensures within { IfSome result (λ place. place < length nodes.now) }
-{
-    nodes.iter().position(|node| node.id.0 == id.0)
 }
 
 /// Opens all that the node of that rank uses.

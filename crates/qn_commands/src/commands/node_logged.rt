@@ -7,7 +7,7 @@ ghost use Rattle.qn_commands.specs.Commands.NodeLogged.{LogsNode, Opens, RunsLog
 ghost use Rattle.qn_commands.specs.Seen.{Input, Outside, outside, seen, sink, source};
 ghost use Rattle.qn_commands.specs.Statuses.{IsOneOf, code_of};
 
-use crate::commands::node::{NodeWords, law_node_ends, open, place_of};
+use crate::commands::node::{NodeWords, law_node_ends, open};
 use crate::ending::refuse;
 use crate::fault::Fault;
 use crate::node_texts::finish_node;
@@ -71,10 +71,9 @@ fn open_and_record<O: Sink, E: Env, N: Notices>(
     ensures env_faults { E.faults env.old ≤ E.faults env.new }
     ensures sink_faults { O.faults out.old ≤ O.faults out.new }
 {
-    let Some(place) = place_of(settings, words.id) else {
+    let Some(rank) = settings.nodes.rank_of(u64::from(words.id.0)) else {
         return refuse(out, Fault::UnknownNode { id: words.id });
     };
-    let rank = Rank(place as u8);
     match open(images, words, rank, env) {
         Ok(()) => run_and_finish(images, words, settings, rank, out, env, notices),
         Err(Failed) => refuse(out, Fault::EnvFault),
