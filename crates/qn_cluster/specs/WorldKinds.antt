@@ -4,16 +4,13 @@ use Rattle.qn_cluster.specs.Nodes.{Nodes}
 use Rattle.qn_cluster.specs.Standing.{ClusterFor}
 use Rattle.qn_model.specs.declared.configuration.Settings.{Settings}
 use Rattle.qn_model.specs.declared.events.Event.{Event as NodeEvent}
-use Rattle.qn_model.specs.declared.reports.Report.{Report}
 use Rattle.qn_model.specs.declared.times.Timing.{Timing}
-use Rattle.qn_model.specs.Steps.{report}
 use Rattle.qn_model.specs.Timing.{is_safe}
 use Rattle.qn_model.specs.World.{World as NodeWorld}
 
 -- What the code keeps of a world of the definitions, and what it stands for; what such a world and an event are to the nodes
--- alone; the first world; the events that are well formed, the rule that refuses one, its step, what is reported of it by the
--- world after it, and whether the step wants memory; the world after events, of which the newest stands first, and that each
--- of them is allowed in its turn.
+-- alone; the first world; the events that are well formed, the rule that refuses one, its step, and whether the step wants memory; the
+-- world after events, of which the newest stands first, and that each of them is allowed in its turn.
 pub record WorldKind (Kept World Event : Type 0) : Type 1 where
   pub nodes : Kept → Nodes
   pub timing : Kept → Timing
@@ -25,13 +22,12 @@ pub record WorldKind (Kept World Event : Type 0) : Type 1 where
   pub is_well_formed : Settings → Event → Bool
   pub refusal : Settings → Timing → Event → World → Option ℕ
   pub step : Settings → Timing → Event → World → World
-  pub report : Settings → Event → World → Report
   pub needs_memory : Settings → Timing → Event → World → Bool
   pub run : Settings → Timing → List Event → World
   pub AllAllowed : Settings → Timing → List Event → Type 0
 
 -- The laws of a kind of world: its timing is safe and its nodes stand for the moments; another count of steps changes nothing
--- else; what is reported of an event is what is reported of it to the nodes; and how a run and its rules begin and go on.
+-- else; and how a run and its rules begin and go on.
 pub record IsLawful {Kept World Event : Type 0} (kind : WorldKind Kept World Event) : Type 0 where
   pub safe : (k : Kept) (d : World) → kind.StandsFor k d → is_safe (kind.timing k) ≡ true
   pub cluster : (k : Kept) (d : World) → kind.StandsFor k d → ClusterFor (kind.nodes k) (kind.nodes_of d).moments
@@ -42,8 +38,6 @@ pub record IsLawful {Kept World Event : Type 0} (kind : WorldKind Kept World Eve
       → kind.StandsFor k d
       → ClusterFor (record (kind.nodes k) { steps = n }) (kind.nodes_of d).moments
       → kind.StandsFor (kind.with_steps k n) d
-  pub reported : (s : Settings) (event : Event) (d : World)
-      → kind.report s event d ≡ report s (kind.as_one event) (kind.nodes_of d)
   pub begins : (s : Settings) (t : Timing) → kind.run s t [] ≡ kind.first
   pub none_allowed : (s : Settings) (t : Timing) → kind.AllAllowed s t []
   pub one_allowed : (s : Settings) (t : Timing) (event : Event) (earlier : List Event)

@@ -1,5 +1,5 @@
 -- The step of an event that is allowed, and the worlds that events lead to: laws of any kind of world.
-use Rattle.std.proofs.Common.{◌≡◌, ℕ, ◌+◌, ◌-◌, ◌<◌, ◌≤◌, true, List, [], ◌∷◌, sym, ◌∙◌, ap, subst, arith}
+use Rattle.std.proofs.Common.{◌≡◌, ℕ, ◌+◌, ◌-◌, ◌^◌, ◌<◌, ◌≤◌, true, List, [], ◌∷◌, sym, ◌∙◌, ap, subst, arith}
 use Rattle.std.specs.Prelude.{All, IsTrue}
 use Rattle.qn_base.specs.declared.ids.Mask.{Mask}
 use Rattle.qn_base.specs.declared.limits.TheConstants.{LATEST_TIME}
@@ -21,9 +21,6 @@ use Rattle.qn_node.specs.Outputs.{IsNodeOutput}
 pub of_same_nodes : {first second : Nodes} (Told : Nodes → List Moment → Type 0) → first ≡ second
     → ((moments : List Moment) → ClusterFor first moments → Told first moments) → (moments : List Moment) → ClusterFor second moments → Told second moments
 of_same_nodes Told same told = subst (λ nodes. (moments : List Moment) → ClusterFor nodes moments → Told nodes moments) same told
-
-back_again : (n : ℕ) → 0 < n → (n - 1) + 1 ≡ n
-back_again n some = omega arith
 
 module _ {Kept World Event : Type 0} (kind : WorldKind Kept World Event) where
   -- ---- frames
@@ -69,17 +66,17 @@ module _ {Kept World Event : Type 0} (kind : WorldKind Kept World Event) where
         ∙ (ap (λ t. kind.refusal (kind.nodes k).settings t event d) (less_timing k) ∙ allowed)
 
     pub spent_ready : (k mid : Kept) (event : Event) → IsFormed kind k event → (standing : IsStanding kind k) → (kind.nodes k).time ≤ LATEST_TIME
-        → 0 < (kind.nodes k).steps → mid ≡ one_less k → (kind.nodes mid).steps < 18446744073709551615 → IsAllowed kind k event standing.0
+        → 0 < (kind.nodes k).steps → (kind.nodes k).steps < 2 ^ 64 → mid ≡ one_less k → IsAllowed kind k event standing.0
         → IsReady kind mid event
-    spent_ready k mid event formed standing early some e few allowed =
+    spent_ready k mid event formed standing early some few e allowed =
         let stands = less_stands k standing.0 standing.1 in
-        let few_less = subst (λ m. (kind.nodes m).steps < 18446744073709551615) e few in
+        let few_less : (kind.nodes k).steps - 1 < 18446744073709551615 = omega arith in
         subst (λ m. IsReady kind m event) (sym e)
         (record {
           formed = by_less k (λ c. kind.is_well_formed c.settings event ≡ true) formed;
           standing = (standing.0, stands);
           room = by_less k HasRoom (spent_room (kind.nodes k) ((kind.nodes_of standing.0).moments, lawful.cluster k standing.0 standing.1) some);
-          few = few_less;
+          few = by_less k (λ c. c.steps < 18446744073709551615) few_less;
           early = by_less k (λ c. c.time ≤ LATEST_TIME) early;
           allowed = less_allowed k event standing.0 allowed;
         })
@@ -133,8 +130,7 @@ module _ {Kept World Event : Type 0} (kind : WorldKind Kept World Event) where
           λ d is.
           says (after_event kind k event d) (made.stands d is)
           (made.gives d is ∙ sym (ap (λ s. outs_after s (kind.as_one event) (kind.nodes_of (after_event kind k event d))) made.settings))
-          ∙ ap (λ s. kind.report s event (after_event kind k event d)) made.settings in
-          let exact = reports standing.0 standing.1 ∙ lawful.reported (kind.nodes k).settings event (after_event kind k event standing.0) in
+          ∙ ap (λ s. report s (kind.as_one event) (kind.nodes_of (after_event kind k event d))) made.settings in
           record {
             settings = made.settings;
             timing = made.timing;
@@ -144,7 +140,7 @@ module _ {Kept World Event : Type 0} (kind : WorldKind Kept World Event) where
             reports = reports;
             outs =
                 subst (All (IsNodeOutput (kind.nodes k).settings))
-                (made.gives standing.0 standing.1 ∙ sym (ap (λ r. r.outs) exact)) made.ranks;
+                (made.gives standing.0 standing.1 ∙ sym (ap (λ r. r.outs) (reports standing.0 standing.1))) made.ranks;
           }
 
     -- a step that was applied was made
@@ -155,22 +151,17 @@ module _ {Kept World Event : Type 0} (kind : WorldKind Kept World Event) where
       timing = done.timing;
       steps = done.steps;
       stands = done.stands;
-      gives = λ d is. ap (λ r. r.outs) (done.reports d is ∙ lawful.reported (kind.nodes k).settings event (after_event kind k event d));
+      gives = λ d is. ap (λ r. r.outs) (done.reports d is);
       ranks = done.outs;
     }
 
-    pub starved : (k mid back new : Kept) (event : Event) → 0 < (kind.nodes k).steps → mid ≡ one_less k → OutOfMemory kind mid back event
-        → new ≡ kind.with_steps back ((kind.nodes back).steps + 1)
+    pub starved : (k mid back new : Kept) (event : Event) → mid ≡ one_less k → OutOfMemory kind mid back event
+        → new ≡ kind.with_steps back (kind.nodes k).steps
         → OutOfMemory kind k new event
-    starved k mid back new event some e out f =
+    starved k mid back new event e out f =
         let less : OutOfMemory kind (one_less k) back event = subst (λ m. OutOfMemory kind m back event) e out in
-        let n = (kind.nodes k).steps - 1 in
         record {
-          same =
-              f
-              ∙ (ap (λ b. kind.with_steps b ((kind.nodes b).steps + 1)) less.same
-              ∙ (ap (λ c. kind.with_steps (one_less k) (c.steps + 1)) (less_nodes k)
-              ∙ (ap (kind.with_steps (one_less k)) (back_again (kind.nodes k).steps some) ∙ lawful.restored k n)));
+          same = f ∙ ap (λ b. kind.with_steps b (kind.nodes k).steps) less.same ∙ lawful.restored k ((kind.nodes k).steps - 1);
           cause = λ d is allowed.
               ap (λ t. kind.needs_memory (kind.nodes k).settings t event d) (sym (less_timing k))
               ∙ (ap (λ c. kind.needs_memory c.settings (kind.timing (one_less k)) event d) (sym (less_nodes k))
@@ -226,7 +217,7 @@ module _ {Kept World Event : Type 0} (kind : WorldKind Kept World Event) where
           let more = after_more k new event r.outs reached formed done.allowed made in
           let d = kind.run (kind.nodes k).settings (kind.timing k) reached.events in
           let same : r.holders ≡ holders (kind.nodes k).settings (kind.nodes_of (kind.run (kind.nodes k).settings (kind.timing k) (event ∷ reached.events))) =
-          ap (λ r. r.holders) (done.reports d reached.stands ∙ lawful.reported (kind.nodes k).settings event (after_event kind k event d)) ∙ ap (λ after. holders (kind.nodes k).settings (kind.nodes_of after)) (sym more) in
+          ap (λ r. r.holders) (done.reports d reached.stands) ∙ ap (λ after. holders (kind.nodes k).settings (kind.nodes_of after)) (sym more) in
           once (kind.nodes k).settings (kind.timing k) (event ∷ reached.events) i j (lawful.safe k d reached.stands)
           (allowed_more k new event r.outs reached formed done.allowed made)
           (subst (λ mask. IsTrue (is_member mask i)) same first) (subst (λ mask. IsTrue (is_member mask j)) same second)

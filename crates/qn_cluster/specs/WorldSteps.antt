@@ -13,7 +13,7 @@ use Rattle.qn_model.specs.declared.reports.Refused.{Refused}
 use Rattle.qn_model.specs.declared.reports.Refused.TheVariants as refused
 use Rattle.qn_model.specs.declared.reports.Report.{Report}
 use Rattle.qn_model.specs.declared.times.Timing.{Timing}
-use Rattle.qn_model.specs.Steps.{holders, outs_after}
+use Rattle.qn_model.specs.Steps.{holders, outs_after, report}
 use Rattle.qn_model.specs.Timing.{is_safe}
 use Rattle.qn_node.specs.Outputs.{IsNodeOutput}
 
@@ -66,7 +66,7 @@ module _ {Kept World Event : Type 0} (kind : WorldKind Kept World Event) where
   outs_of k event after = outs_after (kind.nodes k).settings (kind.as_one event) (kind.nodes_of after)
 
   abbrev pub report_of : Kept → Event → World → Report
-  report_of k event after = kind.report (kind.nodes k).settings event after
+  report_of k event after = report (kind.nodes k).settings (kind.as_one event) (kind.nodes_of after)
 
   -- settings, timing and the count of steps stay
   pub record SameFrame (old new : Kept) : Type 0 where

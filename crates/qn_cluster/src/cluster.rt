@@ -32,12 +32,12 @@ impl Model for Cluster {
 }
 
 impl Cluster {
-    ghost use Rattle.std.specs.Prelude.{◌≡◌, ◌<◌, ◌+◌, ◌-◌, ◌^◌, ◌≤◌, ℕ, true, false, List, Some, length, slice_get, slice_set};
+    ghost use Rattle.std.specs.Prelude.{◌≡◌, ◌<◌, ◌+◌, ◌^◌, ◌≤◌, ℕ, true, false, Some, length, slice_get, slice_set};
     ghost use Rattle.std.specs.Option.{option_map};
-    ghost use Rattle.qn_model.specs.Moments.{Moment, advance_of};
+    ghost use Rattle.qn_model.specs.Moments.{advance_of};
     ghost use Rattle.qn_cluster.specs.declared.seat.Seat.{Seat};
     ghost use Rattle.qn_cluster.specs.Seats.{BootedSeat, HandedSeat, advanced_seat};
-    ghost use Rattle.qn_cluster.specs.Standing.{ClusterFor, HasRoom, IsStanding};
+    ghost use Rattle.qn_cluster.specs.Standing.{HasRoom};
 
     /// The settings of the cluster.
     pub fn settings(&self) -> &Settings
@@ -60,24 +60,11 @@ impl Cluster {
         self.steps
     }
 
-    /// One step is taken from those that are left: each node has one more than the cluster.
-    pub fn spend(&mut self)
-        requires { 0 < self.old.steps }
-        ensures spent { self.new ≡ record self.old { steps = self.old.steps - 1 } }
-        ensures few { self.new.steps < 18446744073709551615 }
-        ensures stands { (moments : List Moment) → ClusterFor self.old moments
-            → ClusterFor self.new moments }
-        ensures room { IsStanding self.old → HasRoom self.new }
+    /// So many steps are left from now on; a node has one more than the cluster during an event.
+    pub fn set_steps(&mut self, steps: u64)
+        ensures { self.new ≡ record self.old { steps = steps } }
     {
-        self.steps -= 1;
-    }
-
-    /// One step is given back.
-    pub fn give_back(&mut self)
-        requires { self.old.steps < 18446744073709551615 }
-        ensures { self.new ≡ record self.old { steps = self.old.steps + 1 } }
-    {
-        self.steps += 1;
+        self.steps = steps;
     }
 
     /// The seat of a rank.

@@ -7,7 +7,7 @@ use qn_model::{DiskOp, Event as NodeEvent, Timing};
 ///
 /// `kind` says what the world is in the definitions, of which `World` is a world.
 pub trait HasNodes {
-    ghost use Rattle.std.specs.Prelude.{◌≡◌, ◌<◌, ◌≤◌, ◌+◌, ◌-◌, true, length};
+    ghost use Rattle.std.specs.Prelude.{◌≡◌, ◌<◌, ◌≤◌, true, length};
     ghost use Rattle.qn_base.specs.declared.limits.TheConstants.{LATEST_TIME};
     ghost use Rattle.qn_cluster.specs.Events.{is_ruled_by_nodes};
     ghost use Rattle.qn_cluster.specs.Standing.{IsOpWithin};
@@ -32,16 +32,9 @@ pub trait HasNodes {
     fn timing(&self) -> &Timing
         ensures { result.now ≡ kind.timing self.now };
 
-    /// One step is taken from those that are left.
-    fn spend(&mut self)
-        requires { 0 < (kind.nodes self.old).steps }
-        ensures spent { self.new ≡ kind.with_steps self.old ((kind.nodes self.old).steps - 1) }
-        ensures few { (kind.nodes self.new).steps < 18446744073709551615 };
-
-    /// One step is given back.
-    fn give_back(&mut self)
-        requires { (kind.nodes self.old).steps < 18446744073709551615 }
-        ensures { self.new ≡ kind.with_steps self.old ((kind.nodes self.old).steps + 1) };
+    /// So many steps are left from now on.
+    fn set_steps(&mut self, steps: u64)
+        ensures { self.new ≡ kind.with_steps self.old steps };
 
     ghost is_lawful: { IsLawful kind };
 

@@ -79,9 +79,10 @@ pub trait Steps: HasNodes {
         ensures err { OnErr result (OutOfMemory Self.kind self.old self.new event.now) }
     {
         outs.clear();
-        self.spend();
+        let steps = self.cluster().steps_left();
+        self.set_steps(steps - 1);
         if self.step(event, outs).is_err() {
-            self.give_back();
+            self.set_steps(steps);
             return Err(NoMemory);
         }
         Ok(())

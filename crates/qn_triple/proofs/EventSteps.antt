@@ -9,6 +9,7 @@ use Rattle.qn_base.specs.declared.ids.Rank.{Rank}
 use Rattle.qn_base.specs.lemmas.Lists.{longer_joined}
 use Rattle.qn_base.specs.lemmas.Numbers.{equal_to_itself}
 use Rattle.qn_cluster.specs.Events.{CanStep, Starved, Stepped as NodesStepped, is_of_nodes}
+use Rattle.qn_cluster.specs.Nodes.{Nodes}
 use Rattle.qn_cluster.specs.Seats.{IsDue}
 use Rattle.qn_cluster.specs.Standing.{IsOpWithin, IsWithin}
 use Rattle.qn_cluster.specs.Stepping.{Booted, Ended, Handed, Unhanded, grows}
@@ -443,7 +444,7 @@ pub formed_one : (s : Settings) (event : Event) → is_well_formed_triple s (tri
 unfolding is_well_formed_triple
 formed_one s event formed = formed
 
-pub can_step : (w : Whole) (event : Event) → is_of_nodes event ≡ true → IsReady three_images w (triple.One event) → CanStep (cluster_of w) event
+can_step : (w : Whole) (event : Event) → is_of_nodes event ≡ true → IsReady three_images w (triple.One event) → CanStep (cluster_of w) event
 can_step w event nodes ready =
     record {
       nodes = nodes;
@@ -456,7 +457,7 @@ can_step w event nodes ready =
       allowed = sym ((of_nodes w.settings w.timing event nodes).rules ready.standing.0) ∙ ready.allowed;
     }
 
-pub nodes_stepped : (w new : Whole) (event : Event) (outs : List Out) → is_of_nodes event ≡ true → new ≡ with_nodes w (cluster_of new)
+nodes_stepped : (w new : Whole) (event : Event) (outs : List Out) → is_of_nodes event ≡ true → new ≡ with_nodes w (cluster_of new)
     → NodesStepped (cluster_of w) (cluster_of new) event outs → Stepped three_images w new (triple.One event) outs
 nodes_stepped w new event outs nodes disk made =
     let of = of_nodes w.settings w.timing event nodes in
@@ -470,7 +471,7 @@ nodes_stepped w new event outs nodes disk made =
       ranks = λ d is allowed. made.ranks w.timing (nodes_of d) is.cluster (sym (of.rules d) ∙ allowed);
     }
 
-pub nodes_starved : (w new : Whole) (event : Event) → is_of_nodes event ≡ true → new ≡ with_nodes w (cluster_of new)
+nodes_starved : (w new : Whole) (event : Event) → is_of_nodes event ≡ true → new ≡ with_nodes w (cluster_of new)
     → Starved (cluster_of w) (cluster_of new) event → OutOfMemory three_images w new (triple.One event)
 nodes_starved w new event nodes disk starved =
     let of = of_nodes w.settings w.timing event nodes in
@@ -481,6 +482,23 @@ nodes_starved w new event nodes disk starved =
           (ap (λ after. grows w.settings d.moments after.moments) (of.moves d)
           ∙ starved.cause w.timing (nodes_of d) is.cluster (sym (of.rules d) ∙ allowed));
     }
+
+-- the nodes make the step in a world that is kept as another one, which is the same
+module _ (w kept : Whole) (is : kept ≡ w) (event : Event) where
+  pub kept_can : is_of_nodes event ≡ true → IsReady three_images w (triple.One event) → CanStep (cluster_of kept) event
+  kept_can nodes ready = subst (λ (v : Whole). CanStep (cluster_of v) event) (sym is) (can_step w event nodes ready)
+
+  module _ (after : Nodes) where
+    pub kept_stepped : (outs : List Out) → is_of_nodes event ≡ true → NodesStepped (cluster_of kept) after event outs
+        → Stepped three_images w (with_nodes kept after) (triple.One event) outs
+    kept_stepped outs nodes made =
+        nodes_stepped w (with_nodes kept after) event outs nodes (ap (λ v. with_nodes v after) is)
+        (subst (λ (v : Whole). NodesStepped (cluster_of v) after event outs) is made)
+
+    pub kept_starved : is_of_nodes event ≡ true → Starved (cluster_of kept) after event → OutOfMemory three_images w (with_nodes kept after) (triple.One event)
+    kept_starved nodes starved =
+        nodes_starved w (with_nodes kept after) event nodes (ap (λ v. with_nodes v after) is)
+        (subst (λ (v : Whole). Starved (cluster_of v) after event) is starved)
 
 -- ---- ranks of the other node that an operation is about
 

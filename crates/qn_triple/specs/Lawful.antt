@@ -1,11 +1,11 @@
 -- The world of three images obeys the laws of its kind.
 use Rattle.std.proofs.Common.{refl}
 use Rattle.qn_cluster.specs.WorldKinds.{IsLawful}
-use Rattle.qn_safety.specs.TripleSteps.{AllAllowedTriple, report_triple, run_triple}
+use Rattle.qn_safety.specs.TripleSteps.{AllAllowedTriple, run_triple}
 use Rattle.qn_triple.specs.Standing.{three_images}
 
 pub three_images_are_lawful : IsLawful three_images
-unfolding run_triple report_triple AllAllowedTriple
+unfolding run_triple AllAllowedTriple
 three_images_are_lawful =
     record {
       safe = λ w d is. is.safe;
@@ -15,7 +15,6 @@ three_images_are_lawful =
       restored = λ w n. refl;
       stands = λ w n d is cluster.
           record { safe = is.safe; cluster = cluster; parts = is.parts; good = is.good; images = is.images; lefts = is.lefts };
-      reported = λ s event d. refl;
       begins = λ s t. refl;
       none_allowed = λ s t. tt;
       one_allowed = λ s t event earlier formed allowed before. (formed, allowed, before);

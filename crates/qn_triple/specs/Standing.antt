@@ -12,7 +12,7 @@ use Rattle.qn_parts.specs.Parts.{is_good_on, part_on}
 use Rattle.qn_safety.specs.declared.part.Part.{Part}
 use Rattle.qn_safety.specs.declared.triple_event.TripleEvent.{TripleEvent}
 use Rattle.qn_safety.specs.TripleRules.{is_image, is_well_formed_triple, refusal_triple}
-use Rattle.qn_safety.specs.TripleSteps.{AllAllowedTriple, as_one, report_triple, run_triple, step_triple}
+use Rattle.qn_safety.specs.TripleSteps.{AllAllowedTriple, as_one, run_triple, step_triple}
 use Rattle.qn_safety.specs.TripleWorld.{TripleWorld, first_triple, nodes_of}
 use Rattle.qn_triple.specs.Memory.{needs_memory}
 use Rattle.qn_triple.specs.Whole.{Whole, cluster_of}
@@ -59,7 +59,6 @@ three_images =
       is_well_formed = is_well_formed_triple;
       refusal = refusal_triple;
       step = step_triple;
-      report = report_triple;
       needs_memory = needs_memory;
       run = run_triple;
       AllAllowed = AllAllowedTriple;

@@ -60,11 +60,7 @@ impl HasNodes for State {
         &self.timing
     }
 
-    fn spend(&mut self) {
-        self.cluster.spend();
-    }
-
-    fn give_back(&mut self) {
-        self.cluster.give_back();
+    fn set_steps(&mut self, steps: u64) {
+        self.cluster.set_steps(steps);
     }
 }

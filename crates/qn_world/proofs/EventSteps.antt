@@ -7,6 +7,7 @@ use Rattle.qn_base.specs.declared.ids.Rank.{Rank}
 use Rattle.qn_base.specs.lemmas.Bools.{second_of_both}
 use Rattle.qn_base.specs.lemmas.Lists.{longer_joined}
 use Rattle.qn_base.specs.lemmas.Numbers.{equal_to_itself, same_or_not}
+use Rattle.qn_cluster.specs.Nodes.{Nodes}
 use Rattle.qn_cluster.specs.Events.{CanStep, KeepsOut, Starved, Stepped as NodesStepped, is_of_nodes}
 use Rattle.qn_cluster.specs.Standing.{IsOpWithin, IsWithin}
 use Rattle.qn_cluster.specs.Stepping.{Booted, Ended}
@@ -217,7 +218,7 @@ moves s t (event.Fail rank) d e = absurd (cc)
 moves s t (event.Late rank number) d e = absurd (cc)
 moves s t (event.Operator rank message) d e = absurd (cc)
 
-pub can_step : (w : Whole) (event : Event) → is_of_nodes event ≡ true → IsReady one_image w event → CanStep (cluster_of w) event
+can_step : (w : Whole) (event : Event) → is_of_nodes event ≡ true → IsReady one_image w event → CanStep (cluster_of w) event
 can_step w event nodes ready =
     record {
       nodes = nodes;
@@ -230,7 +231,7 @@ can_step w event nodes ready =
       allowed = ready.allowed;
     }
 
-pub nodes_stepped : (w new : Whole) (event : Event) (outs : List Out) → is_of_nodes event ≡ true → new ≡ with_nodes w (cluster_of new)
+nodes_stepped : (w new : Whole) (event : Event) (outs : List Out) → is_of_nodes event ≡ true → new ≡ with_nodes w (cluster_of new)
     → NodesStepped (cluster_of w) (cluster_of new) event outs → Stepped one_image w new event outs
 nodes_stepped w new event outs nodes disk made =
     record {
@@ -244,12 +245,29 @@ nodes_stepped w new event outs nodes disk made =
       ranks = λ d is allowed. made.ranks w.timing d is.cluster allowed;
     }
 
-pub nodes_starved : (w new : Whole) (event : Event) → new ≡ with_nodes w (cluster_of new) → Starved (cluster_of w) (cluster_of new) event → OutOfMemory one_image w new event
+nodes_starved : (w new : Whole) (event : Event) → new ≡ with_nodes w (cluster_of new) → Starved (cluster_of w) (cluster_of new) event → OutOfMemory one_image w new event
 nodes_starved w new event disk starved =
     record {
       same = disk ∙ ap (λ c. with_nodes w c) starved.same;
       cause = λ d is allowed. or_first _ _ (starved.cause w.timing d is.cluster allowed);
     }
+
+-- the nodes make the step in a world that is kept as another one, which is the same
+module _ (w kept : Whole) (is : kept ≡ w) (event : Event) where
+  pub kept_can : is_of_nodes event ≡ true → IsReady one_image w event → CanStep (cluster_of kept) event
+  kept_can nodes ready = subst (λ (v : Whole). CanStep (cluster_of v) event) (sym is) (can_step w event nodes ready)
+
+  module _ (after : Nodes) where
+    pub kept_stepped : (outs : List Out) → is_of_nodes event ≡ true → NodesStepped (cluster_of kept) after event outs
+        → Stepped one_image w (with_nodes kept after) event outs
+    kept_stepped outs nodes made =
+        nodes_stepped w (with_nodes kept after) event outs nodes (ap (λ v. with_nodes v after) is)
+        (subst (λ (v : Whole). NodesStepped (cluster_of v) after event outs) is made)
+
+    pub kept_starved : Starved (cluster_of kept) after event → OutOfMemory one_image w (with_nodes kept after) event
+    kept_starved starved =
+        nodes_starved w (with_nodes kept after) event (ap (λ v. with_nodes v after) is)
+        (subst (λ (v : Whole). Starved (cluster_of v) after event) is starved)
 
 -- ---- boot
 

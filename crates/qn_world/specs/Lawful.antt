@@ -15,7 +15,6 @@ one_image_is_lawful =
       restored = λ w n. refl;
       stands = λ w n d is cluster.
           record { safe = is.safe; cluster = cluster; landings = is.landings; answers = is.answers; sectors = is.sectors; lefts = is.lefts };
-      reported = λ s event d. refl;
       begins = λ s t. refl;
       none_allowed = λ s t. tt;
       one_allowed = λ s t event earlier formed allowed before. (formed, allowed, before);

@@ -11,7 +11,7 @@ use Rattle.qn_model.specs.Timing.{is_safe}
 use Rattle.qn_model.specs.Fitting.{answers_op}
 use Rattle.qn_model.specs.Rules.{is_on, is_well_formed, refusal}
 use Rattle.qn_model.specs.World.{World, first_world, op_at}
-use Rattle.qn_model.specs.Steps.{AllAllowed, report, run, step}
+use Rattle.qn_model.specs.Steps.{AllAllowed, run, step}
 use Rattle.qn_world.specs.Memory.{needs_memory}
 use Rattle.qn_world.specs.Whole.{Whole, cluster_of}
 
@@ -43,7 +43,6 @@ one_image =
       is_well_formed = is_well_formed;
       refusal = refusal;
       step = step;
-      report = report;
       needs_memory = needs_memory;
       run = run;
       AllAllowed = AllAllowed;

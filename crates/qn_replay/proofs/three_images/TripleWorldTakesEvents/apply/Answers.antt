@@ -1,6 +1,7 @@
 use Rattle.std.proofs.Common.{ap}
 use Rattle.qn_model.specs.Settings.{ids}
 use Rattle.qn_safety.specs.TripleRules.{refusal_triple}
+use Rattle.qn_safety.specs.TripleSteps.{report_triple}
 use Rattle.qn_sched.specs.TraceLines.{trace_line}
 use Rattle.qn_triple.specs.Standing.{TripleFor}
 use Rattle.qn_replay.proofs.TripleTimes.{triple_steps_later}
@@ -8,6 +9,7 @@ use Rattle.qn_replay.proofs.Worlds.{on_ok, refused_by}
 use Rattle.qn_replay.proofs.three_images.TripleWorldTakesEvents.apply.Goals as goal
 
 pub returns-clause-report : goal.returns-clause-report
+unfolding report_triple
 returns-clause-report c =
     on_ok c.apply_into.result (λ reported d stands number. ap (trace_line (ids c.args.self.now.settings.nodes) number) (reported d stands)) c.apply_into.ensures.report
 

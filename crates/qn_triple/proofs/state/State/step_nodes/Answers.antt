@@ -1,22 +1,13 @@
-use Rattle.std.proofs.Common.{ap, subst, sym}
 use Rattle.std.proofs.lemmas.Result.{on_ok_weaker, on_err_weaker}
-use Rattle.qn_cluster.specs.Events.{CanStep, Starved, Stepped as NodesStepped}
-use Rattle.qn_triple.specs.Whole.{cluster_of, with_nodes}
-use Rattle.qn_triple.proofs.EventSteps.{can_step, nodes_starved, nodes_stepped}
+use Rattle.qn_triple.proofs.EventSteps.{kept_can, kept_starved, kept_stepped}
 use Rattle.qn_triple.proofs.state.State.step_nodes.Goals as goal
 
 pub step-requires-clause-ready : goal.step-requires-clause-ready
-step-requires-clause-ready c =
-    subst (λ n. CanStep n c.args.event.now) (sym (ap cluster_of c.self.view_is)) (can_step c.args.self.now c.args.event.now c.requires.nodes c.requires.ready)
+step-requires-clause-ready c = kept_can c.args.self.now _ c.self.view_is c.args.event.now c.requires.nodes c.requires.ready
 
 pub returns-clause-ok : goal.returns-clause-ok
 returns-clause-ok c =
-    on_ok_weaker c.step.result (λ made.
-    nodes_stepped c.args.self.now _ c.args.event.now c.step.new.outs c.requires.nodes (ap (λ w. with_nodes w c.step.new.self) c.self.view_is)
-    (subst (λ n. NodesStepped n c.step.new.self c.args.event.now c.step.new.outs) (ap cluster_of c.self.view_is) made)) c.step.ensures.ok
+    on_ok_weaker c.step.result (kept_stepped c.args.self.now _ c.self.view_is c.args.event.now c.step.new.self c.step.new.outs c.requires.nodes) c.step.ensures.ok
 
 pub returns-clause-err : goal.returns-clause-err
-returns-clause-err c =
-    on_err_weaker c.step.result (λ starved.
-    nodes_starved c.args.self.now _ c.args.event.now c.requires.nodes (ap (λ w. with_nodes w c.step.new.self) c.self.view_is)
-    (subst (λ n. Starved n c.step.new.self c.args.event.now) (ap cluster_of c.self.view_is) starved)) c.step.ensures.err
+returns-clause-err c = on_err_weaker c.step.result (kept_starved c.args.self.now _ c.self.view_is c.args.event.now c.step.new.self c.requires.nodes) c.step.ensures.err

@@ -5,7 +5,7 @@ use Rattle.qn_model.specs.Rules.{is_well_formed}
 use Rattle.qn_model.specs.Steps.{outs_after, report}
 use Rattle.qn_model.specs.World.{World}
 use Rattle.qn_safety.specs.TripleRules.{is_well_formed_triple}
-use Rattle.qn_safety.specs.TripleSteps.{as_one, report_triple}
+use Rattle.qn_safety.specs.TripleSteps.{as_one}
 use Rattle.qn_safety.specs.TripleWorld.{nodes_of}
 use Rattle.qn_triple.specs.Whole.{cluster_of}
 use Rattle.qn_triple.proofs.EventSteps.{formed_one}
@@ -18,11 +18,10 @@ fill-requires-clause-formed c =
     (formed_one c.args.self.now.settings c.in-One.event (subst (λ e. is_well_formed_triple c.args.self.now.settings e ≡ true) c.in-One.is c.requires.formed))
 
 pub returns-in-One : goal.returns-in-One
-unfolding report_triple
 returns-in-One c = λ d is gives.
     subst (λ n. (d : World) → ClusterFor n d.moments → c.args.into.now.outs ≡ outs_after n.settings (c.in-One.event) d → c.fill.new.into ≡ report n.settings (c.in-One.event) d)
     (ap cluster_of c.self.view_is) c.fill.ensures (nodes_of d) is.cluster (gives ∙ ap (λ e. outs_after c.args.self.now.settings (as_one e) (nodes_of d)) c.in-One.is)
-    ∙ ap (λ e. report_triple c.args.self.now.settings e d) (sym c.in-One.is)
+    ∙ ap (λ e. report c.args.self.now.settings (as_one e) (nodes_of d)) (sym c.in-One.is)
 
 pub fill-requires-in-LandOn-clause-formed : goal.fill-requires-in-LandOn-clause-formed
 fill-requires-in-LandOn-clause-formed c =
@@ -30,11 +29,10 @@ fill-requires-in-LandOn-clause-formed c =
     (land_event c.args.self.now.settings c.in-LandOn.i (land_rank c.args.self.now.settings c.in-LandOn.i _ (subst (λ e. is_well_formed_triple c.args.self.now.settings e ≡ true) c.in-LandOn.is c.requires.formed)))
 
 pub returns-in-LandOn : goal.returns-in-LandOn
-unfolding report_triple
 returns-in-LandOn c = λ d is gives.
     subst (λ n. (d : World) → ClusterFor n d.moments → c.args.into.now.outs ≡ outs_after n.settings (event.Land c.in-LandOn.i) d → c.fill-in-LandOn.new.into ≡ report n.settings (event.Land c.in-LandOn.i) d)
     (ap cluster_of c.self.view_is) c.fill-in-LandOn.ensures (nodes_of d) is.cluster (gives ∙ ap (λ e. outs_after c.args.self.now.settings (as_one e) (nodes_of d)) c.in-LandOn.is)
-    ∙ ap (λ e. report_triple c.args.self.now.settings e d) (sym c.in-LandOn.is)
+    ∙ ap (λ e. report c.args.self.now.settings (as_one e) (nodes_of d)) (sym c.in-LandOn.is)
 
 pub fill-requires-in-FailOn-clause-formed : goal.fill-requires-in-FailOn-clause-formed
 fill-requires-in-FailOn-clause-formed c =
@@ -42,11 +40,10 @@ fill-requires-in-FailOn-clause-formed c =
     (land_event c.args.self.now.settings c.in-FailOn.i (fail_rank c.args.self.now.settings c.in-FailOn.i _ (subst (λ e. is_well_formed_triple c.args.self.now.settings e ≡ true) c.in-FailOn.is c.requires.formed)))
 
 pub returns-in-FailOn : goal.returns-in-FailOn
-unfolding report_triple
 returns-in-FailOn c = λ d is gives.
     subst (λ n. (d : World) → ClusterFor n d.moments → c.args.into.now.outs ≡ outs_after n.settings (event.Land c.in-FailOn.i) d → c.fill-in-FailOn.new.into ≡ report n.settings (event.Land c.in-FailOn.i) d)
     (ap cluster_of c.self.view_is) c.fill-in-FailOn.ensures (nodes_of d) is.cluster (gives ∙ ap (λ e. outs_after c.args.self.now.settings (as_one e) (nodes_of d)) c.in-FailOn.is)
-    ∙ ap (λ e. report_triple c.args.self.now.settings e d) (sym c.in-FailOn.is)
+    ∙ ap (λ e. report c.args.self.now.settings (as_one e) (nodes_of d)) (sym c.in-FailOn.is)
 
 pub fill-requires-in-LateOn-clause-formed : goal.fill-requires-in-LateOn-clause-formed
 fill-requires-in-LateOn-clause-formed c =
@@ -54,11 +51,10 @@ fill-requires-in-LateOn-clause-formed c =
     (late_event c.args.self.now.settings c.in-LateOn.i _ c.in-LateOn.number (subst (λ e. is_well_formed_triple c.args.self.now.settings e ≡ true) c.in-LateOn.is c.requires.formed))
 
 pub returns-in-LateOn : goal.returns-in-LateOn
-unfolding report_triple
 returns-in-LateOn c = λ d is gives.
     subst (λ n. (d : World) → ClusterFor n d.moments → c.args.into.now.outs ≡ outs_after n.settings (event.Late c.in-LateOn.i c.in-LateOn.number) d → c.fill-in-LateOn.new.into ≡ report n.settings (event.Late c.in-LateOn.i c.in-LateOn.number) d)
     (ap cluster_of c.self.view_is) c.fill-in-LateOn.ensures (nodes_of d) is.cluster (gives ∙ ap (λ e. outs_after c.args.self.now.settings (as_one e) (nodes_of d)) c.in-LateOn.is)
-    ∙ ap (λ e. report_triple c.args.self.now.settings e d) (sym c.in-LateOn.is)
+    ∙ ap (λ e. report c.args.self.now.settings (as_one e) (nodes_of d)) (sym c.in-LateOn.is)
 
 pub fill-requires-in-OperatorOn-clause-formed : goal.fill-requires-in-OperatorOn-clause-formed
 fill-requires-in-OperatorOn-clause-formed c =
@@ -66,8 +62,7 @@ fill-requires-in-OperatorOn-clause-formed c =
     (operator_event c.args.self.now.settings c.in-OperatorOn.i c.in-OperatorOn.message (operator_rank c.args.self.now.settings c.in-OperatorOn.i _ c.in-OperatorOn.message (subst (λ e. is_well_formed_triple c.args.self.now.settings e ≡ true) c.in-OperatorOn.is c.requires.formed)))
 
 pub returns-in-OperatorOn : goal.returns-in-OperatorOn
-unfolding report_triple
 returns-in-OperatorOn c = λ d is gives.
     subst (λ n. (d : World) → ClusterFor n d.moments → c.args.into.now.outs ≡ outs_after n.settings (event.Operator c.in-OperatorOn.i c.in-OperatorOn.message) d → c.fill-in-OperatorOn.new.into ≡ report n.settings (event.Operator c.in-OperatorOn.i c.in-OperatorOn.message) d)
     (ap cluster_of c.self.view_is) c.fill-in-OperatorOn.ensures (nodes_of d) is.cluster (gives ∙ ap (λ e. outs_after c.args.self.now.settings (as_one e) (nodes_of d)) c.in-OperatorOn.is)
-    ∙ ap (λ e. report_triple c.args.self.now.settings e d) (sym c.in-OperatorOn.is)
+    ∙ ap (λ e. report c.args.self.now.settings (as_one e) (nodes_of d)) (sym c.in-OperatorOn.is)
