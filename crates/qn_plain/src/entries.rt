@@ -11,24 +11,7 @@ use qn_model::{HeaderSeen, MailSeen, Message, SlotSeen, Timing, What};
 pub fn is_begin(what: What) -> bool
     ensures { result ≡ is_begin what }
 {
-    match what {
-        What::Begin | What::BeginClean => true,
-        What::Header(_)
-        | What::SlotRead(..)
-        | What::MailChecked(_)
-        | What::Claimed(_)
-        | What::Cleared(_)
-        | What::MailRead(_)
-        | What::MailWritten(..)
-        | What::View(_)
-        | What::Ask(_)
-        | What::Tell(_)
-        | What::Device(_)
-        | What::Tick
-        | What::Stopped(_)
-        | What::Leave
-        | What::Closed(_) => false,
-    }
+    matches!(what, What::Begin) || is_clean_begin(what)
 }
 
 /// Whether an entry is a step of the boot.
