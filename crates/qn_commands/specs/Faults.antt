@@ -17,6 +17,7 @@ use Rattle.qn_settings.specs.declared.faults.TextFault.{TextFault}
 use Rattle.qn_settings.specs.declared.faults.TextFault.TheVariants as text
 use Rattle.qn_settings.specs.Keys.{key_name}
 use Rattle.qn_commands.specs.declared.fault.Fault.{Fault}
+use Rattle.qn_commands.specs.declared.fault.LeaseTimes.{LeaseTimes}
 use Rattle.qn_commands.specs.declared.fault.Fault.TheVariants.{Usage, BadConf, BadSettings, BadSchedule, NotAllowed, ReadFault, EnvFault, BadImage, UnsafeTiming, UnsafeLease, NoMemory, ClockBack, SelfReset, BootHalted, DeadlyThere, UnknownNode, NotARun}
 
 -- a settings text that is no configuration
@@ -55,9 +56,9 @@ timing_line t =
     ++ decimal t.read_limit ++ codes " " ++ decimal t.feed_delay ++ codes "\n"
 
 -- two times of a lease that are not safe: the timeout of the device, the limit and the lease
-abbrev pub lease_line : ℕ → ℕ → ℕ → List ℕ
-lease_line timeout limit lease =
-    codes "fault UnsafeLease " ++ decimal timeout ++ codes " " ++ decimal limit ++ codes " " ++ decimal lease ++ codes "\n"
+abbrev pub lease_line : LeaseTimes → List ℕ
+lease_line times =
+    codes "fault UnsafeLease " ++ decimal times.timeout ++ codes " " ++ decimal times.limit ++ codes " " ++ decimal times.lease ++ codes "\n"
 
 -- a line of a schedule that is at fault
 abbrev pub schedule_line : ℕ → LineFault → List ℕ
@@ -90,7 +91,7 @@ fault_line ReadFault = codes "fault ReadFault\n"
 fault_line EnvFault = codes "fault EnvFault\n"
 fault_line (BadImage sector) = codes "fault BadImage sector " ++ decimal sector ++ codes "\n"
 fault_line (UnsafeTiming timing) = timing_line timing
-fault_line (UnsafeLease timeout limit lease) = lease_line timeout limit lease
+fault_line (UnsafeLease times) = lease_line times
 fault_line NoMemory = codes "fault NoMemory\n"
 fault_line (ClockBack before now) = clock_line before now
 fault_line (SelfReset message) = reset_line message
@@ -119,7 +120,7 @@ status_of ReadFault = 6
 status_of EnvFault = 8
 status_of (BadImage sector) = 9
 status_of (UnsafeTiming timing) = 10
-status_of (UnsafeLease timeout limit lease) = 17
+status_of (UnsafeLease times) = 17
 status_of NoMemory = 11
 status_of (ClockBack before now) = 12
 status_of (SelfReset message) = 13

@@ -12,6 +12,14 @@ use qn_model::{BootCause, LineFault, Message, Rule, Timing};
 use qn_sched::cause_number;
 use qn_settings::{Key, SettingsFault, TextFault};
 
+/// The two times of a lease and the timeout of the device, 0 without one, in milliseconds.
+#[derive(Clone, Copy)]
+pub struct LeaseTimes {
+    pub timeout: u64,
+    pub limit: u64,
+    pub lease: u64,
+}
+
 /// Why a command did not do its work, with what its last line says.
 #[derive(Clone, Copy)]
 pub enum Fault {
@@ -22,38 +30,23 @@ pub enum Fault {
     /// The settings text is a configuration, and gives no settings.
     BadSettings(SettingsFault),
     /// The line is at fault.
-    BadSchedule {
-        line: u64,
-        fault: LineFault,
-    },
+    BadSchedule { line: u64, fault: LineFault },
     /// The event of the line is refused by a rule of the world.
-    NotAllowed {
-        line: u64,
-        rule: Rule,
-    },
+    NotAllowed { line: u64, rule: Rule },
     /// The input could not be read.
     ReadFault,
     /// The image could not be opened, read or written, or a running node not be opened.
     EnvFault,
     /// The sector is no spelling.
-    BadImage {
-        sector: u32,
-    },
+    BadImage { sector: u32 },
     /// The times are in range, and not safe.
     UnsafeTiming(Timing),
     /// The two times of a lease are in range, and not safe with the timeout of the device.
-    UnsafeLease {
-        timeout: u64,
-        limit: u64,
-        lease: u64,
-    },
+    UnsafeLease(LeaseTimes),
     /// Out of memory.
     NoMemory,
     /// The clock of a running node went back: the tick of the turn before, and the one that followed.
-    ClockBack {
-        before: u64,
-        now: u64,
-    },
+    ClockBack { before: u64, now: u64 },
     /// A running node read this deadly message in its mailbox.
     SelfReset(Message),
     /// A step of the boot of a running node halted it.
@@ -61,13 +54,9 @@ pub enum Fault {
     /// The mailbox holds this deadly message, which a test or an exit is not to replace.
     DeadlyThere(Message),
     /// No slot of the image, or no node of the settings, has the id.
-    UnknownNode {
-        id: NodeId,
-    },
+    UnknownNode { id: NodeId },
     /// The call of the line is the first of a log that the run does not ask for.
-    NotARun {
-        line: u64,
-    },
+    NotARun { line: u64 },
 }
 
 impl Fault {
@@ -85,7 +74,7 @@ impl Fault {
             Fault::EnvFault => Status::EnvFault,
             Fault::BadImage { .. } => Status::BadImage,
             Fault::UnsafeTiming(_) => Status::UnsafeTiming,
-            Fault::UnsafeLease { .. } => Status::UnsafeLease,
+            Fault::UnsafeLease(_) => Status::UnsafeLease,
             Fault::ClockBack { .. } => Status::ClockBack,
             Fault::SelfReset(_) => Status::SelfReset,
             Fault::BootHalted(_) => Status::BootHalted,
@@ -109,11 +98,7 @@ impl Fault {
             Fault::EnvFault => whole(b"fault EnvFault\n"),
             Fault::BadImage { sector } => numbered(b"fault BadImage sector ", u64::from(sector)),
             Fault::UnsafeTiming(timing) => timing_line(&timing),
-            Fault::UnsafeLease {
-                timeout,
-                limit,
-                lease,
-            } => lease_line(timeout, limit, lease),
+            Fault::UnsafeLease(times) => lease_line(&times),
             Fault::NoMemory => whole(b"fault NoMemory\n"),
             Fault::ClockBack { before, now } => clock_line(before, now),
             Fault::SelfReset(message) => reset_line(message),
@@ -236,16 +221,16 @@ fn timing_line(timing: &Timing) -> ShortText
 }
 
 /// The line of two times of a lease that are not safe.
-fn lease_line(timeout: u64, limit: u64, lease: u64) -> ShortText
-    ensures { result ≡ lease_line timeout limit lease }
+fn lease_line(times: &LeaseTimes) -> ShortText
+    ensures { result ≡ lease_line times.now }
 {
     let mut text = ShortText::new();
     text.add(b"fault UnsafeLease ");
-    text.add_number(timeout);
+    text.add_number(times.timeout);
     text.add(b" ");
-    text.add_number(limit);
+    text.add_number(times.limit);
     text.add(b" ");
-    text.add_number(lease);
+    text.add_number(times.lease);
     text.add(b"\n");
     text
 }

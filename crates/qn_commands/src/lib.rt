@@ -27,7 +27,7 @@ pub use commands::migrate::migrate;
 pub use commands::node::{NodeWords, node};
 pub use commands::node_logged::node_logged;
 pub use ending::{refuse, say};
-pub use fault::Fault;
+pub use fault::{Fault, LeaseTimes};
 pub use path::Path;
 pub use qn_live::NodeImages;
 pub use status::Status;

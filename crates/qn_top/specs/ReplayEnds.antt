@@ -15,5 +15,5 @@ end_outcome (end.NotAllowed line rule) = refused (fault.NotAllowed line rule)
 end_outcome end.ReadFault = refused fault.ReadFault
 end_outcome end.WriteFault = record { text = []; status = 7 }
 end_outcome (end.UnsafeTiming timing) = refused (fault.UnsafeTiming timing)
-end_outcome (end.UnsafeLease timeout limit lease) = refused (fault.UnsafeLease timeout limit lease)
+end_outcome (end.UnsafeLease timeout limit lease) = refused (fault.UnsafeLease (record { timeout = timeout; limit = limit; lease = lease }))
 end_outcome end.NoMemory = refused fault.NoMemory

@@ -6,7 +6,7 @@ ghost use Rattle.qn_commands.specs.Statuses.{code_of};
 ghost use Rattle.qn_top.specs.ReplayEnds.{end_outcome};
 
 use qn_base::ShortText;
-use qn_commands::{Fault, Status, refuse, say};
+use qn_commands::{Fault, LeaseTimes, Status, refuse, say};
 use qn_io::Sink;
 use qn_sched::ReplayEnd;
 
@@ -32,11 +32,11 @@ pub(crate) fn finish_replay<O: Sink>(out: &mut O, end: ReplayEnd) -> Status
             lease,
         } => refuse(
             out,
-            Fault::UnsafeLease {
+            Fault::UnsafeLease(LeaseTimes {
                 timeout,
                 limit,
                 lease,
-            },
+            }),
         ),
         ReplayEnd::NoMemory => refuse(out, Fault::NoMemory),
     }
