@@ -2,6 +2,7 @@ pub mod EndLaws
 pub mod Endings
 pub mod Faults
 pub mod GoodLines
+pub mod FurtherLines
 pub mod HeadLaws
 pub mod Heads
 pub mod Judging
