@@ -13,6 +13,7 @@ use Rattle.qn_model.specs.declared.events.Event.TheVariants as event
 use Rattle.qn_model.specs.declared.packets.Sent.{Sent}
 use Rattle.qn_model.specs.declared.times.Timing.{Timing}
 use Rattle.qn_model.specs.declared.entries.What.TheVariants as what
+use Rattle.qn_model.specs.lemmas.Rules.{running_allowed}
 use Rattle.qn_model.specs.Holding.{holds}
 use Rattle.qn_model.specs.Lines.{mask_of}
 use Rattle.qn_model.specs.Log.{Line, has_start}
@@ -114,10 +115,6 @@ module _ (s : Settings) (earlier : List Moment) where
 
 -- ---- an event
 
-running : (on : Bool) (other : Option ℕ) → option_or (unless on 3) other ≡ None → on ≡ true
-running true other none = refl
-running false other none = absurd (cc)
-
 module _ (s : Settings) (w : World) (i : ℕ) where
   -- the node of the rank holds in the world after it only where it does in this one
   abbrev Kept : World → Type 0
@@ -133,7 +130,7 @@ module _ (s : Settings) (w : World) (i : ℕ) where
 
   handed_on : (rank : ℕ) (other : Option ℕ) (entry : What) → option_or (unless (is_on s rank w) 3) other ≡ None → IsQuiet (node s rank (Adds rank entry ∷ w.moments))
       → is_holder s (Adds rank entry ∷ w.moments) i ≡ true → is_holder s w.moments i ≡ true
-  handed_on rank other entry may none held = adds_held s w.moments rank i entry (running _ other may) none held
+  handed_on rank other entry may none held = adds_held s w.moments rank i entry (running_allowed _ other may) none held
 
   pub held_before : (t : Timing) (e : Event) → refusal s t e w ≡ None → has_start (outs_after s e (step s t e w)) ≡ false → Kept (step s t e w)
   unfolding step refusal node
