@@ -1,5 +1,5 @@
 -- The first look of a process at its clock, as the boot of its node in the world of three images.
-use Rattle.std.proofs.Common.{◌≡◌, ◌<◌, ◌≤◌, ℕ, Bool, true, false, List, [], ◌∷◌, None, refl, sym, ap, subst, ◌∙◌, inl}
+use Rattle.std.proofs.Common.{◌≡◌, ◌<◌, ◌≤◌, ℕ, Bool, true, false, List, [], ◌∷◌, None, refl, sym, ap, subst, ◌∙◌, inl, ◌⊎◌, inr}
 use Rattle.std.specs.Prelude.{length}
 use Rattle.qn_base.specs.declared.calls.Call.TheVariants as call
 use Rattle.qn_model.specs.declared.configuration.Settings.{Settings}
@@ -26,9 +26,14 @@ use Rattle.qn_joined.specs.WorldOf.{AreAmong, NoCall, IsFresh}
 use Rattle.qn_joined.proofs.Boots.{boot_allowed, boot_event, boot_ranked, boots_as_node, unasked_idle, unasked_off}
 use Rattle.qn_joined.proofs.Frames.{grows_more}
 use Rattle.qn_joined.proofs.Returns.{first_fed}
-use Rattle.qn_joined.proofs.TripleFrames.{ChangesOnThree, IsNodeIn3, MovedOnThree, moved_triple, of_images}
+use Rattle.qn_joined.proofs.TripleFrames.{ChangesOnThree, IsNodeIn3, MovedOnThree, moved_triple, one_of_three}
 use Rattle.qn_joined.proofs.TriplePlain.{plain_host}
 use Rattle.qn_joined.proofs.TripleSteps.{configured_triple, told_none}
+
+good_at_first : (image : ℕ) → (image ≡ 1) ⊎ ((image ≡ 2) ⊎ (image ≡ 3)) → is_good_on all_good image ≡ true
+good_at_first image (inl first) = ap (is_good_on all_good) first
+good_at_first image (inr (inl second)) = ap (is_good_on all_good) second
+good_at_first image (inr (inr third)) = ap (is_good_on all_good) third
 
 -- the event of a boot in the world of three images
 boot_may : (s : Settings) (t : Timing) (rank base : ℕ) (clean : Bool) (events : List TripleEvent) → rank < length s.nodes → (node s rank (run_triple s t events).moments).on ≡ false → AllMayTriple s t events
@@ -94,7 +99,7 @@ module _ (s : Settings) (t : Timing) (rank : ℕ) (events : List TripleEvent) (h
   -- all images are good ones
   all_are_good : (image : ℕ) → is_image image ≡ true → is_good_on host.good image ≡ true
   all_are_good image in_range =
-      ap (λ l. is_good_on l image) (is.fresh on unasked).0 ∙ of_images (λ k. is_good_on all_good k ≡ true) refl refl refl image in_range
+      ap (λ l. is_good_on l image) (is.fresh on unasked).0 ∙ good_at_first image (one_of_three image in_range)
 
   booted_node : IsNodeOnThree s t rank looked (node s rank moments) all_pending none_left world.all_good (packets s moments)
   booted_node = record {

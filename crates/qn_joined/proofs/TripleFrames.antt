@@ -1,5 +1,5 @@
 -- What changes one node of a world of three images leaves the others as they were, and what a write does to the images.
-use Rattle.std.proofs.Common.{◌≡◌, ◌<◌, ◌≤◌, ℕ, zero, suc, Bool, true, false, List, [], Option, ◌==◌, if◌then◌else◌, refl, sym, ap, subst, ◌∙◌, arith}
+use Rattle.std.proofs.Common.{◌≡◌, ◌<◌, ◌≤◌, ◌⊎◌, inl, inr, ℕ, zero, suc, Bool, true, false, List, [], Option, ◌==◌, if◌then◌else◌, refl, sym, ap, subst, ◌∙◌, arith}
 use Rattle.std.specs.Prelude.{◌^◌, IfSome, length, nat_le}
 use Rattle.std.proofs.lemmas.Bool.{eqb-true, leb-true}
 use Rattle.qn_base.specs.lemmas.Bools.{first_of_both, second_of_both}
@@ -34,13 +34,13 @@ use Rattle.qn_joined.specs.WorldOf.{IsImage}
 use Rattle.qn_joined.proofs.Frames.{Knows, knows_grows, node_grows}
 use Rattle.qn_joined.proofs.Images.{image_lands, same_image}
 
--- what holds of each of the three images
-pub of_images : (P : ℕ → Type 0) → P 1 → P 2 → P 3 → (image : ℕ) → is_image image ≡ true → P image
-of_images P one two three zero is = absurd (let under = leb-true 1 0 (first_of_both (nat_le 1 0) (nat_le 0 3) is) in omega (arith, under))
-of_images P one two three (suc zero) is = one
-of_images P one two three (suc (suc zero)) is = two
-of_images P one two three (suc (suc (suc zero))) is = three
-of_images P one two three (suc (suc (suc (suc more)))) is =
+-- an image is the first, the second or the third
+pub one_of_three : (image : ℕ) → is_image image ≡ true → (image ≡ 1) ⊎ ((image ≡ 2) ⊎ (image ≡ 3))
+one_of_three zero is = absurd (let under = leb-true 1 0 (first_of_both (nat_le 1 0) (nat_le 0 3) is) in omega (arith, under))
+one_of_three (suc zero) is = inl refl
+one_of_three (suc (suc zero)) is = inr (inl refl)
+one_of_three (suc (suc (suc zero))) is = inr (inr refl)
+one_of_three (suc (suc (suc (suc more)))) is =
     absurd (let under = leb-true (suc (suc (suc (suc more)))) 3 (second_of_both (nat_le 1 (suc (suc (suc (suc more))))) (nat_le (suc (suc (suc (suc more)))) 3) is) in omega (arith, under))
 
 -- a world that changed at one rank alone, at one moment

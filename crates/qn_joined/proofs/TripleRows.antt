@@ -1,6 +1,6 @@
 -- A joined run on three images, of which one is lost all the time, in which the resources of two nodes run, one after the other, with
 -- a reset between.
-use Rattle.std.proofs.Common.{◌≡◌, ℕ, Bool, true, false, List, [], ◌∷◌, ◌++◌, ◌==◌, if◌then◌else◌, refl, arith}
+use Rattle.std.proofs.Common.{◌≡◌, ℕ, Bool, true, false, List, [], ◌∷◌, ◌++◌, ◌==◌, if◌then◌else◌, refl, arith, ◌⊎◌, inl, inr, sym, subst}
 use Rattle.std.specs.Prelude.{nat_lt}
 use Rattle.qn_base.specs.declared.calls.Call.{Call}
 use Rattle.qn_base.specs.declared.calls.Call.TheVariants as call
@@ -16,7 +16,7 @@ use Rattle.qn_joined.specs.TripleJoints.{AllMayHappenTriple, Passes, Begins, Loo
 use Rattle.qn_joined.specs.TripleTheorem.{OneAfterAnotherOnThree}
 use Rattle.qn_joined.specs.TripleWorldOf.{on_image}
 use Rattle.qn_joined.proofs.Rows.{◌▸◌, claims, comes_up, created, fences, fits, is_alone, joint_steps, new_image, of_two, short_times, start_alone, take_over}
-use Rattle.qn_joined.proofs.TripleFrames.{of_images}
+use Rattle.qn_joined.proofs.TripleFrames.{one_of_three}
 
 -- What happened over one image, over three of which the third is lost, newest first: a disk call fails on the third, and lands and
 -- is done on the others. The own mailbox is read on these alone, since the clear failed on the third.
@@ -243,13 +243,16 @@ lost_stays : (sector : ℕ) → (triple_joint_after two_nodes (λ image. new_ima
 unfolding triple_steps
 lost_stays sector = refl
 
-reset_stands : (image : ℕ) → is_image image ≡ true → (3 == image) ≡ false
-    → is_deadly_mail ((triple_joint_after two_nodes (λ image. new_image) (on_two take_over ++ on_two start_alone)).images image (mail_place 1)) ≡ true
+-- a deadly message stands in the mailbox of the first that ran, on this image
+abbrev HasReset : ℕ → Type 0
+HasReset image =
+    is_deadly_mail ((triple_joint_after two_nodes (λ image. new_image) (on_two take_over ++ on_two start_alone)).images image (mail_place 1)) ≡ true
+
+reset_on : (image : ℕ) → (image ≡ 1) ⊎ ((image ≡ 2) ⊎ (image ≡ 3)) → (3 == image) ≡ false → HasReset image
 unfolding triple_steps
-reset_stands =
-    of_images
-    (λ image. (3 == image) ≡ false → is_deadly_mail ((triple_joint_after two_nodes (λ image. new_image) (on_two take_over ++ on_two start_alone)).images image (mail_place 1)) ≡ true)
-    (λ apart. refl) (λ apart. refl) (λ apart. absurd cc)
+reset_on image (inl first) apart = subst HasReset (sym first) refl
+reset_on image (inr (inl second)) apart = subst HasReset (sym second) refl
+reset_on image (inr (inr third)) apart = absurd (let never = subst (λ k. (3 == k) ≡ false) third apart in cc)
 
 pub one_after_another_on_three : OneAfterAnotherOnThree
 one_after_another_on_three =
@@ -269,6 +272,6 @@ one_after_another_on_three =
       stays = lost_stays;
       first_runs = first_runs;
       second_runs = second_runs;
-      reset = reset_stands;
+      reset = λ image is. reset_on image (one_of_three image is);
       differ = one_is_not_zero;
     }

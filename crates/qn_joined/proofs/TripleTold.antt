@@ -1,5 +1,5 @@
 -- A disk call on an image that returns keeps a joint of running nodes on three images a world of three images.
-use Rattle.std.proofs.Common.{◌≡◌, ◌<◌, ◌≤◌, ℕ, Bool, true, false, List, [], ◌∷◌, ◌++◌, Option, None, Some, if◌then◌else◌, refl, sym, ap, subst, ◌∙◌, arith, is_some, inr}
+use Rattle.std.proofs.Common.{◌≡◌, ◌<◌, ◌≤◌, ℕ, Bool, true, false, List, [], ◌∷◌, ◌++◌, Option, None, Some, if◌then◌else◌, refl, sym, ap, subst, ◌∙◌, arith, is_some, inr, ◌⊎◌, inl}
 use Rattle.std.specs.Prelude.{Contains, length}
 use Rattle.std.specs.Option.{option_map_or}
 use Rattle.std.proofs.lemmas.Option.{same_Some}
@@ -51,17 +51,21 @@ use Rattle.qn_joined.proofs.Returning.{returns_own}
 use Rattle.qn_joined.proofs.Returns.{returned_fed}
 use Rattle.qn_joined.proofs.TripleAsking.{AllTold, AsksDisk, AsksOne, Comes, asks_disk, comes_next, told_silent}
 use Rattle.qn_joined.proofs.TripleClosing.{Closing, Settled, closed_answer, closes, pending_is, settled_landed}
-use Rattle.qn_joined.proofs.TripleFrames.{ChangesOnThree, IsNodeIn3, of_images, same_images, then_changes, triple_moves}
+use Rattle.qn_joined.proofs.TripleFrames.{ChangesOnThree, IsNodeIn3, one_of_three, same_images, then_changes, triple_moves}
 use Rattle.qn_joined.proofs.TripleReturns.{HasHeard, hears, honest}
 use Rattle.qn_joined.proofs.TripleSteps.{configured_triple, good_same, starts_of, told_none}
 
 -- what landed on an image is what the image told
 clear_closed : (by : ToldBy) (parts parts' : ℕ → Part) → AllAre by parts → ((image : ℕ) → Settled is_pending (parts image) (parts' image)) → (image : ℕ) → is_image image ≡ true → has_landed (part_on (all_told by) image) ≡ has_landed (parts' image)
-clear_closed by parts parts' are settled =
-    of_images (λ image. has_landed (part_on (all_told by) image) ≡ has_landed (parts' image))
-    (ap has_landed (sym are.0) ∙ settled_landed (parts 1) (parts' 1) (settled 1))
-    (ap has_landed (sym are.1) ∙ settled_landed (parts 2) (parts' 2) (settled 2))
-    (ap has_landed (sym are.2) ∙ settled_landed (parts 3) (parts' 3) (settled 3))
+clear_closed by parts parts' are settled image in_range = on_each (one_of_three image in_range)
+  where
+    told_alike : (k : ℕ) → image ≡ k → has_landed (part_on (all_told by) k) ≡ has_landed (parts' k) → has_landed (part_on (all_told by) image) ≡ has_landed (parts' image)
+    told_alike k is = subst (λ i. has_landed (part_on (all_told by) i) ≡ has_landed (parts' i)) (sym is)
+
+    on_each : (image ≡ 1) ⊎ ((image ≡ 2) ⊎ (image ≡ 3)) → has_landed (part_on (all_told by) image) ≡ has_landed (parts' image)
+    on_each (inl first) = told_alike 1 first (ap has_landed (sym are.0) ∙ settled_landed (parts 1) (parts' 1) (settled 1))
+    on_each (inr (inl second)) = told_alike 2 second (ap has_landed (sym are.1) ∙ settled_landed (parts 2) (parts' 2) (settled 2))
+    on_each (inr (inr third)) = told_alike 3 third (ap has_landed (sym are.2) ∙ settled_landed (parts 3) (parts' 3) (settled 3))
 
 closed_good : (op : DiskOp) (by : ToldBy) (good good' : ℕ → Bool) (parts parts' : ℕ → Part) → AllAre by parts → ((image : ℕ) → Settled is_pending (parts image) (parts' image)) → ((image : ℕ) → is_image image ≡ true → good image ≡ good' image)
     → (image : ℕ) → is_image image ≡ true → good_after op (part_on (all_told by)) good image ≡ good_after op parts' good' image
