@@ -1,5 +1,5 @@
 //! The status of a cluster, as JSON (RFC 8259), with the keys in alphabetical order.
-use crate::cluster::{Cluster, UnreadFile};
+use crate::cluster::{ClusterStatus, UnreadFile};
 use crate::image::ImageSeen;
 use crate::image_json::add_nodes as add_nodes_of_image;
 use crate::node_file::{NodeFile, PeerOfFile, ViewOfFile};
@@ -10,7 +10,7 @@ use std::alloc::{AllocError, Global};
 /// reason of the verdict; and its word.
 pub fn cluster_json(
     alloc: Global,
-    cluster: &Cluster,
+    cluster: &ClusterStatus,
     image: Option<&ImageSeen>,
 ) -> Result<String, AllocError> {
     let reason = cluster.reason(alloc)?;
@@ -32,7 +32,7 @@ pub fn cluster_json(
 }
 
 /// The array of the nodes, and of the files that are none behind them.
-fn add_nodes(json: &mut Text, cluster: &Cluster) {
+fn add_nodes(json: &mut Text, cluster: &ClusterStatus) {
     let mut separator = "";
     json.add("[");
     for node in cluster.nodes.as_slice() {
@@ -56,7 +56,7 @@ fn add_unread(json: &mut Text, file: &UnreadFile) {
     json.add(",\"stale\":true}");
 }
 
-fn add_node(json: &mut Text, cluster: &Cluster, node: &NodeFile) {
+fn add_node(json: &mut Text, cluster: &ClusterStatus, node: &NodeFile) {
     json.add_number("{\"age\":", cluster.age(node));
     json.add_number(",\"dropped\":", node.dropped);
     json.add(",\"end\":");

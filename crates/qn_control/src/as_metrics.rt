@@ -1,5 +1,5 @@
 //! The status of a cluster as metrics, for the textfile collector of Prometheus's node exporter.
-use crate::cluster::Cluster;
+use crate::cluster::ClusterStatus;
 use crate::node_file::NodeFile;
 use crate::text::Text;
 use std::alloc::{AllocError, Global};
@@ -77,7 +77,7 @@ impl Metric {
     }
 
     /// The value of a node; None where there is none.
-    fn value(self, cluster: &Cluster, node: &NodeFile) -> Option<Value> {
+    fn value(self, cluster: &ClusterStatus, node: &NodeFile) -> Option<Value> {
         let is_up = !node.is_stale(cluster.now);
         match self {
             Metric::Up => Some(Value::truth(is_up)),
@@ -109,7 +109,7 @@ impl Value {
 }
 
 /// The metrics of each node, and the verdict as a number.
-pub fn cluster_metrics(alloc: Global, cluster: &Cluster) -> Result<String, AllocError> {
+pub fn cluster_metrics(alloc: Global, cluster: &ClusterStatus) -> Result<String, AllocError> {
     let mut text = Text::new(alloc);
     for metric in Metric::ALL.iter() {
         let metric = *metric;
@@ -139,7 +139,7 @@ fn add_head(text: &mut Text, name: &str, help: &str, kind: &str) {
 }
 
 /// The line of a node.
-fn add_value(text: &mut Text, metric: Metric, cluster: &Cluster, node: &NodeFile) {
+fn add_value(text: &mut Text, metric: Metric, cluster: &ClusterStatus, node: &NodeFile) {
     let Some(value) = metric.value(cluster, node) else {
         return;
     };

@@ -1,11 +1,11 @@
 //! The status of a cluster, as a table.
-use crate::cluster::{Cluster, silence_of};
+use crate::cluster::{ClusterStatus, silence_of};
 use crate::node_file::NodeFile;
 use crate::text::Text;
 use std::alloc::{AllocError, Global};
 
 /// The verdict in one line, a line for each node, one for each peer that it misses, and one for each file that is none.
-pub fn cluster_text(alloc: Global, cluster: &Cluster) -> Result<String, AllocError> {
+pub fn cluster_text(alloc: Global, cluster: &ClusterStatus) -> Result<String, AllocError> {
     let reason = cluster.reason(alloc)?;
     let mut text = Text::new(alloc);
     text.add("quorumd ");
@@ -28,7 +28,7 @@ pub fn cluster_text(alloc: Global, cluster: &Cluster) -> Result<String, AllocErr
 }
 
 /// The line of a node. Of one that says nothing of now `holds` is not known.
-fn add_node(text: &mut Text, cluster: &Cluster, node: &NodeFile) {
+fn add_node(text: &mut Text, cluster: &ClusterStatus, node: &NodeFile) {
     let is_stale = node.is_stale(cluster.now);
     text.add_right(u64::from(node.id.0));
     let phase = text.column();

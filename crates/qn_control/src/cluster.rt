@@ -6,7 +6,7 @@ use std::alloc::{AllocError, Global};
 
 /// The status files of a cluster, at a moment of their host.
 #[derive(Drop)]
-pub struct Cluster {
+pub struct ClusterStatus {
     /// The moment, in milliseconds of the host's monotonic clock.
     pub now: u64,
     /// The files that were read, as they were named.
@@ -22,7 +22,7 @@ pub struct UnreadFile {
     pub why: String,
 }
 
-impl Cluster {
+impl ClusterStatus {
     /// What the files come to.
     pub fn verdict(&self) -> Verdict {
         judge(self.now, self.nodes.as_slice()).beside_unread(!self.unread.is_empty())
@@ -76,7 +76,12 @@ impl Cluster {
 }
 
 /// The ids of the live holders.
-fn add_holders(text: &mut Text, cluster: &Cluster, before: &'static str, after: &'static str) {
+fn add_holders(
+    text: &mut Text,
+    cluster: &ClusterStatus,
+    before: &'static str,
+    after: &'static str,
+) {
     let mut separator = before;
     for node in cluster.nodes.as_slice() {
         if is_holder(cluster.now, node) {
@@ -88,7 +93,7 @@ fn add_holders(text: &mut Text, cluster: &Cluster, before: &'static str, after: 
 }
 
 /// What each live node waits for.
-fn add_waits(text: &mut Text, cluster: &Cluster) {
+fn add_waits(text: &mut Text, cluster: &ClusterStatus) {
     let mut separator = "no owner: ";
     for node in cluster.nodes.as_slice() {
         if is_live(cluster.now, node) {
@@ -120,7 +125,7 @@ impl Wrongs {
     }
 
     /// None of these nodes holds; which one does is said as far as one of them was told.
-    fn add_owner_elsewhere(&mut self, cluster: &Cluster) {
+    fn add_owner_elsewhere(&mut self, cluster: &ClusterStatus) {
         self.begin();
         self.text
             .add("owner not among the nodes that are looked at");
@@ -134,7 +139,7 @@ impl Wrongs {
     }
 
     /// A node says nothing any more.
-    fn add_silent(&mut self, cluster: &Cluster, node: &NodeFile) {
+    fn add_silent(&mut self, cluster: &ClusterStatus, node: &NodeFile) {
         self.begin_node(node);
         match &node.end {
             Some(end) => {

@@ -1,5 +1,5 @@
 //! What an image says, in lines.
-use crate::cluster::Cluster;
+use crate::cluster::ClusterStatus;
 use crate::image::{ImageSeen, NodeSeen};
 use crate::text::Text;
 use std::alloc::{AllocError, Global};
@@ -21,7 +21,7 @@ pub fn node_lines(alloc: Global, nodes: &[NodeSeen]) -> Result<String, AllocErro
 pub fn image_lines_beside(
     alloc: Global,
     seen: &ImageSeen,
-    cluster: &Cluster,
+    cluster: &ClusterStatus,
 ) -> Result<String, AllocError> {
     let mut text = Text::new(alloc);
     for node in seen.nodes.as_slice() {
@@ -31,7 +31,7 @@ pub fn image_lines_beside(
 }
 
 /// The line of a node: its slot and its mailbox, and that it has no status file where it has none.
-fn add_beside(text: &mut Text, node: &NodeSeen, cluster: &Cluster) {
+fn add_beside(text: &mut Text, node: &NodeSeen, cluster: &ClusterStatus) {
     match &node.slot {
         Some((id, slot)) => {
             text.add_number("node ", u64::from(id.0));

@@ -35,7 +35,7 @@ pub use as_json::cluster_json;
 pub use as_metrics::cluster_metrics;
 pub use as_table::cluster_text;
 pub use at_fault::wrong_lines;
-pub use cluster::{Cluster, UnreadFile};
+pub use cluster::{ClusterStatus, UnreadFile};
 pub use concerns::{Concern, concerns_of};
 pub use differences::{Difference, differences_of};
 pub use findings::Finding;

@@ -4,7 +4,7 @@ use crate::status_file::{Refusal, read_status_file};
 use crate::table::QUORUMCTL;
 use crate::trouble::{Trouble, say};
 use qn_control::{
-    Cluster, ImageSeen, UnreadFile, Verdict, cluster_json, cluster_metrics, cluster_text,
+    ClusterStatus, ImageSeen, UnreadFile, Verdict, cluster_json, cluster_metrics, cluster_text,
     image_lines_beside,
 };
 use qn_usage::{file_of, has_word, value_of};
@@ -31,7 +31,7 @@ enum Form {
 /// The cluster as its status files show it, and the image where one is looked at.
 #[derive(Drop)]
 struct Seen {
-    cluster: Cluster,
+    cluster: ClusterStatus,
     image: Option<ImageSeen>,
 }
 
@@ -88,7 +88,7 @@ fn see<R: Files<File = File> + Net<Stream = TcpStream> + Clock + Eprint + AllocG
     rt: &R,
     words: &[String],
 ) -> Result<Seen, Trouble> {
-    let mut cluster = Cluster {
+    let mut cluster = ClusterStatus {
         now: 0,
         nodes: Vec::new(rt.alloc()),
         unread: Vec::new(rt.alloc()),
@@ -114,7 +114,7 @@ fn see<R: Files<File = File> + Net<Stream = TcpStream> + Clock + Eprint + AllocG
 /// Adds a file that is no status file.
 fn add_unread(
     alloc: Global,
-    cluster: &mut Cluster,
+    cluster: &mut ClusterStatus,
     path: &str,
     refusal: &Refusal,
 ) -> Result<(), Trouble> {
@@ -130,7 +130,7 @@ fn add_unread(
 /// Looks at the image; one that cannot be opened, or is none, is a file that cannot be read.
 fn see_image<R: Files<File = File> + Net<Stream = TcpStream> + Clock + Eprint + AllocGlobal>(
     rt: &R,
-    cluster: &mut Cluster,
+    cluster: &mut ClusterStatus,
     path: &str,
 ) -> Result<Option<ImageSeen>, Trouble> {
     let alloc = rt.alloc();
