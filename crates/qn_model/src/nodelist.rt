@@ -159,8 +159,9 @@ impl Nodes {
     {
         let mut total = 0u64;
         for (rank, node) in self.as_slice().iter().enumerate() {
+            let votes = u64::from(node.votes);
             if members.contains(Rank(rank as u8)) {
-                total += u64::from(node.votes);
+                total += votes;
             }
         }
         total
