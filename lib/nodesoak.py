@@ -9,7 +9,7 @@ import subprocess
 import tempfile
 
 from onone import on_one
-from told import has_plain_votes, said_in, told_of
+from told import has_plain_votes, said_in, told_of, without_last_turn
 from traces import program
 
 TOP = pathlib.Path(__file__).resolve().parent.parent
@@ -152,11 +152,18 @@ def journal_fault(conf, ident, run, folder):
     log = (folder / ("log.%d" % ident)).read_text()
     if run.images == 3:
         log = on_one(log, ident - 1)
-    got, wanted = said_in((folder / ("journal.%d" % ident)).read_text()), told_of(log, range(1, run.nodes + 1), ident)
-    for one, other in itertools.zip_longest(got, wanted):
-        if one != other:
+    ids, got = range(1, run.nodes + 1), said_in((folder / ("journal.%d" % ident)).read_text())
+    for place, (one, other) in enumerate(itertools.zip_longest(got, told_of(log, ids, ident))):
+        if one != other and not is_cut_off(got, place, log, ids, ident):
             return "its journal has %r, and a second reader of its log %r" % (one, other)
     return ""
+
+
+def is_cut_off(got, place, log, ids, ident):
+    """Whether the line of that place, and what follows it, is of the last turn of the log. A machine that ends in a turn has told of its entry, and may
+    not have made the calls that its outputs ask for: the log then does not say them."""
+    before, tick = without_last_turn(log)
+    return place >= len(told_of(before, ids, ident)) and all(line.startswith("tick=%s " % tick) for line in got[place:])
 
 
 def smaller(run, line, tries=200):

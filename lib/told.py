@@ -402,6 +402,15 @@ def told_of(record, ids, ident):
     return node.lines
 
 
+def without_last_turn(record):
+    """A record before its last turn, and the tick of that."""
+    before, _, last = ("\n" + record).rpartition("\nnow ")
+    lines = before.splitlines()[1:]
+    if lines and lines[-1].startswith("receive "):
+        lines.pop()
+    return "\n".join(lines), last.split("\n", 1)[0]
+
+
 def has_plain_votes(settings):
     """Whether a settings text says nothing of votes but who the nodes are."""
     return not re.search(r"^\s*(quorum_votes|expected_votes|votes|two_node|wait_for_all|last_man_standing|auto_tie_breaker\w*|device)\b", settings, re.M)
