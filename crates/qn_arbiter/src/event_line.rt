@@ -19,22 +19,9 @@ use qn_sched::{
     read_pass,
 };
 
-/// The event that a line says. The faults are those of `qn_sched::read_line`, in its order: TooLong, UnknownWord,
-/// BadCount, then the fault of the first word from left to right, and last BadCount where the clocks of a pass do not
-/// ascend strictly.
-pub fn read_arbiter_line(line: &[u8], settings: &Settings) -> Result<ArbiterEvent, LineFault>
-    requires { IsValid settings.now }
-    ensures first_fault { result ≡ arbiter_event_of (ids settings.now.nodes) line.now }
-    ensures spelled { (event : ArbiterEvent) → (result ≡ Ok event)
-        ↔ (IsTrue (is_well_formed_beside settings.now event)
-        × (arbiter_line (ids settings.now.nodes) event ≡ Some line.now)) }
-{
-    let mut event = ArbiterEvent::ArbiterCrash;
-    read_arbiter_line_into(line, settings, &mut event)?;
-    Ok(event)
-}
-
-/// The same as `read_arbiter_line`, with the event written over one that is there. What it holds after a fault is not said.
+/// Writes the event that a line says over one that is there. The faults are those of `qn_sched::read_line`, in its order: TooLong,
+/// UnknownWord, BadCount, then the fault of the first word from left to right, and last BadCount where the clocks of a pass do not
+/// ascend strictly. What `into` holds after a fault is not said.
 pub fn read_arbiter_line_into(
     line: &[u8],
     settings: &Settings,

@@ -32,7 +32,7 @@ mod trace;
 mod world;
 
 pub use arbiter::Arbiter;
-pub use event_line::{read_arbiter_line, read_arbiter_line_into};
+pub use event_line::read_arbiter_line_into;
 pub use laws::law_arbiter_lines;
 pub use lease_line::read_lease;
 pub use poller::{Poller, Standing};

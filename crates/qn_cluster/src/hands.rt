@@ -91,6 +91,7 @@ impl Cluster {
 
     /// The same, where there was no memory for the packets of an entry: a copy of the node is handed the entry,
     /// and stands in its place where it sent nothing.
+    #[inline(never)]
     fn hand_copy(&mut self, i: Rank, what: What, outs: &mut Outs) -> Result<(), NoMemory>
         requires within { i.0 < length self.old.seats }
         requires room { HasRoom self.old }

@@ -32,6 +32,7 @@ impl Seat {
     }
 
     /// The count of votes at the node's present tick; that of the empty history where it is off.
+    #[inline(always)]
     fn answer(&self, settings: &Settings) -> Answer
         ensures { (me : ℕ) (node : Running)
             → SeatFor self.now settings.now me node
@@ -46,6 +47,7 @@ impl Seat {
 
     /// The first condition that blocks a start at the node's present tick, where the count of votes is known; Down where
     /// the node is off.
+    #[inline(always)]
     fn why(&self, count: Answer) -> Why
         ensures { (s : Settings) (me : ℕ) (node : Running)
             → SeatFor self.now s me node
@@ -165,6 +167,7 @@ impl Cluster {
     }
 
     /// The count of votes of the node of a rank at its present tick; that of the empty history where it is off.
+    #[inline(always)]
     pub fn answer(&self, i: Rank) -> Answer
         requires { i.0 < length self.now.seats }
         ensures { (moments : List Moment)
@@ -176,6 +179,7 @@ impl Cluster {
 
     /// The first condition that blocks a start of the node of a rank at its present tick, where its count of votes is known;
     /// Down where it is off.
+    #[inline(always)]
     pub fn why(&self, i: Rank, count: Answer) -> Why
         requires { i.0 < length self.now.seats }
         ensures { (moments : List Moment)
@@ -208,6 +212,7 @@ impl Cluster {
     }
 
     /// Fills in what is reported of an event once its step is made, beside the outputs that it gave.
+    #[inline(always)]
     pub fn fill(&self, event: &Event, into: &mut Report)
         requires formed { is_well_formed self.now.settings event.now ≡ true }
         requires standing { IsStanding self.now }
@@ -232,6 +237,7 @@ impl Cluster {
     }
 
     /// Fills in what is reported of a node, if one was touched, beside the outputs.
+    #[inline(always)]
     fn fill_of(&self, touched: Option<Rank>, into: &mut Report)
         requires standing { IsStanding self.now }
         requires configured { IsConfigured self.now.settings touched }
@@ -247,6 +253,7 @@ impl Cluster {
     }
 
     /// The count of votes of a node at its present tick; that of a node that is off where there is none.
+    #[inline(always)]
     fn answer_of(&self, node: Option<Rank>) -> Answer
         requires standing { IsStanding self.now }
         requires configured { IsConfigured self.now.settings node }
@@ -262,6 +269,7 @@ impl Cluster {
 
     /// The first condition that blocks a start at a node's present tick, where its count of votes is known; Down where there
     /// is none.
+    #[inline(always)]
     fn why_of(&self, node: Option<Rank>, count: Answer) -> Why
         requires standing { IsStanding self.now }
         requires configured { IsConfigured self.now.settings node }

@@ -28,6 +28,14 @@ gives_then a b c p q t u first second = record {
       second.adds ∙ ap (λ w. append_known w second.front) first.adds ∙ sym (append_known-append a first.front second.front);
 }
 
+-- one text, and then another that waits whole
+pub gives_behind : (a b : Option (List ℕ)) (p q t u : List ℕ) → GivesOut a b p t → q ≡ p ++ u → GivesOut a b q (t ++ u)
+gives_behind a b p q t u first behind = record {
+  front = first.front;
+  parts = ap (λ x. x ++ u) first.parts ∙ append_assoc first.front p u ∙ ap (λ x. first.front ++ x) (sym behind);
+  adds = first.adds;
+}
+
 -- one text, and then a prefix of another
 pub front_then : (a b c : Option (List ℕ)) (p t u : List ℕ) → GivesOut a b p t → AppendsFront b c (p ++ u) → AppendsFront a c (t ++ u)
 front_then a b c p t u first second = record {
@@ -70,13 +78,6 @@ written_front a b c waiting before given text same first second = record {
 }
 
 -- the same text under another name
-pub gives_same : (a b : Option (List ℕ)) (waiting before given text : List ℕ) → given ≡ text → GivesOut a b waiting (before ++ given) → GivesOut a b waiting (before ++ text)
-gives_same a b waiting before given text same first = record {
-  front = first.front;
-  parts = ap (λ x. before ++ x) (sym same) ∙ first.parts;
-  adds = first.adds;
-}
-
 pub front_same : (a b : Option (List ℕ)) (before given text : List ℕ) → given ≡ text → AppendsFront a b (before ++ given) → AppendsFront a b (before ++ text)
 front_same a b before given text same first = record {
   front = first.front;

@@ -1,5 +1,5 @@
 //! What the lines of `count` say so far, and what the next one writes.
-ghost use Rattle.std.specs.Prelude.{◌≡◌, ◌+◌, ◌==◌, [], IfOk, option_copied};
+ghost use Rattle.std.specs.Prelude.{◌≡◌, ◌+◌, ◌++◌, ◌≤◌, ◌==◌, length, IfOk, option_copied};
 ghost use Rattle.std.specs.List.{list_any};
 ghost use Rattle.qn_model.specs.CountText.{good_end, line_of, line_of_words, node_line, nothing_counted, text_of_line, view_line, view_text, with_line};
 ghost use Rattle.qn_model.specs.Lines.{bad_line, words_of};
@@ -7,6 +7,7 @@ ghost use Rattle.qn_model.specs.Settings.{ids};
 ghost use Rattle.qn_sched.specs.Words.{parts_left};
 ghost use Rattle.qn_commands.specs.Counting.{HasRoom, HasRoomFor};
 
+use crate::output::Output;
 use qn_base::{MOST_EVENTS, MOST_LINE_BYTES, NodeId, ShortText, View, yes_no};
 use qn_model::{CountLine, LineFault, NodeEntry, Nodes};
 use qn_sched::{first_part, number_between, read_members, two_words};
@@ -79,35 +80,36 @@ impl Counter {
 }
 
 impl Counter {
-    /// Writes what a good line writes into a text that is empty.
+    /// Gives out what a good line writes, where there is room for 256 bytes.
     #[tactic(auto, unfolding(qn_model::specs::CountText::text_of_line))]
-    pub fn write_line(&self, line: &CountLine, text: &mut ShortText)
-        requires { text.old ≡ [] }
-        ensures { text.new ≡ text_of_line self.now line.now }
+    pub fn write_line(&self, line: &CountLine, output: &mut Output)
+        requires { length output.old + 256 ≤ 8192 }
+        ensures { output.new ≡ output.old ++ text_of_line self.now line.now }
     {
         match line {
             CountLine::Node(_) => {}
-            CountLine::View(view) => self.write_view(view, text),
+            CountLine::View(view) => self.write_view(view, output),
         }
     }
 
-    /// Writes what a view line writes into a text that is empty.
+    /// Gives out what a view line writes, where there is room for 256 bytes.
     #[tactic(auto, unfolding(qn_model::specs::CountText::view_text))]
-    fn write_view(&self, view: &View, text: &mut ShortText)
-        requires { text.old ≡ [] }
-        ensures { text.new ≡ view_text self.now.nodes view.now.id view.now.members }
+    fn write_view(&self, view: &View, output: &mut Output)
+        requires { length output.old + 256 ≤ 8192 }
+        ensures { output.new
+            ≡ output.old ++ view_text self.now.nodes view.now.id view.now.members }
     {
         let votes = self.nodes.votes_among(view.members);
         let quorum = self.expected / 2 + 1;
-        text.add(b"view ");
-        text.add_number(view.id);
-        text.add(b" votes ");
-        text.add_number(votes);
-        text.add(b" quorum ");
-        text.add_number(quorum);
-        text.add(b" quorate ");
-        text.add(yes_no(quorum <= votes));
-        text.add(b"\n");
+        output.add(b"view ");
+        output.add_number(view.id);
+        output.add(b" votes ");
+        output.add_number(votes);
+        output.add(b" quorum ");
+        output.add_number(quorum);
+        output.add(b" quorate ");
+        output.add(yes_no(quorum <= votes));
+        output.add(b"\n");
     }
 
     /// What the end of an input writes in which every line was good.

@@ -1,12 +1,12 @@
 //! Text that waits to be written, so that many short lines make one write.
-ghost use Rattle.std.specs.Prelude.{◌≡◌, ◌≤◌, ◌+◌, ◌++◌, [], List, ℕ, length, OnOk, OnErr};
+ghost use Rattle.std.specs.Prelude.{◌≡◌, ◌≤◌, ◌+◌, ◌++◌, [], List, ℕ, length, decimal, OnOk, OnErr};
 ghost use Rattle.std.specs.Io.KnownBytes.{append_known};
 ghost use Rattle.qn_io.specs.Outside.{HasRisen};
 ghost use Rattle.qn_io.specs.Writes.{AppendsFront};
 ghost use Rattle.qn_commands.specs.Writing.{GivesOut};
 
 use arrayvec::ArrayVec;
-use qn_base::Failed;
+use qn_base::{Failed, add, add_number};
 use qn_io::{Sink, put_all};
 use std::marker::Model;
 
@@ -50,6 +50,41 @@ impl Output {
         }
         self.flush(out)?;
         put_all(out, text)
+    }
+
+    /// Makes room for 256 further bytes: writes all that waits where there is less. At `Failed` a prefix of
+    /// it was written.
+    pub fn make_room<O: Sink>(&mut self, out: &mut O) -> Result<(), Failed>
+        ensures given { OnOk result (GivesOut (O.written out.old) (O.written out.new)
+            self.new self.old) }
+        ensures room { OnOk result (length self.new + 256 ≤ 8192) }
+        ensures front { OnErr result
+            (AppendsFront (O.written out.old) (O.written out.new) self.old) }
+        ensures never_falls { O.faults out.old ≤ O.faults out.new }
+        ensures cause { OnErr result (HasRisen (O.faults out.old) (O.faults out.new)) }
+    {
+        if self.room() >= 256 {
+            return Ok(());
+        }
+        self.flush(out)
+    }
+
+    /// Gives out a text, which waits after what waits already.
+    pub fn add(&mut self, text: &[u8])
+        requires { length self.old + length text.now ≤ 8192 }
+        ensures text { self.new ≡ self.old ++ text.now }
+        ensures len { length self.new ≡ length self.old + length text.now }
+    {
+        add(&mut self.waiting, text);
+    }
+
+    /// Gives out a number, in decimal digits, which wait after what waits already.
+    pub fn add_number(&mut self, number: u64)
+        requires { length self.old + 20 ≤ 8192 }
+        ensures text { self.new ≡ self.old ++ decimal number }
+        ensures len { length self.new ≤ length self.old + 20 }
+    {
+        add_number(&mut self.waiting, number);
     }
 
     /// How many further bytes may wait.

@@ -1,5 +1,6 @@
 pub mod ByRank
 pub mod Majority
+mod MembersLeft
 pub mod Release
 pub mod Resets
 mod SectorRows

@@ -157,12 +157,12 @@ impl Nodes {
         ensures sum { result ≡ votes_among self.now members }
         ensures fits { result ≤ 32 * 4294967295 }
     {
+        let count = self.len() as u8;
         let mut total = 0u64;
-        for (rank, node) in self.as_slice().iter().enumerate() {
-            let votes = u64::from(node.votes);
-            if members.contains(Rank(rank as u8)) {
-                total += votes;
-            }
+        let mut rest = members;
+        'members: while let Some(rank) = rest.first(count) {
+            total += u64::from(self.get(usize::from(rank.0)).votes);
+            rest = rest.without(Mask(0).with(rank));
         }
         total
     }

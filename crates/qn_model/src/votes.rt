@@ -23,9 +23,9 @@ pub enum VoteWhat {
 /// without a view), the quorum, the expected votes, and whether it is released from wait_for_all.
 #[derive(Clone, Copy, PartialEq, Eq, Debug)]
 pub struct Answer {
-    pub quorate: bool,
     pub votes: u64,
     pub quorum: u64,
     pub expected: u64,
+    pub quorate: bool,
     pub released: bool,
 }

@@ -90,6 +90,7 @@ impl Node {
     }
 
     /// The same as `why`, where the count of votes at the tick is known.
+    #[inline(always)]
     pub fn why_with(&self, tick: u64, count: Answer) -> Why
         ensures { (s : Settings) (me : ℕ) (log : List Line)
             → NodeFor self.now s me log
@@ -101,6 +102,7 @@ impl Node {
     }
 
     /// The count of votes at this tick, with the tie breaker.
+    #[inline(always)]
     pub fn answer(&self, tick: u64) -> Answer
         ensures { (s : Settings) (me : ℕ) (log : List Line)
             → NodeFor self.now s me log

@@ -76,6 +76,7 @@ impl Stage {
     }
 
     /// The same, of a node that takes no part.
+    #[inline(never)]
     fn step_quiet(&mut self, own: &Own, tally: &mut Tally, entry: Entry, outs: &mut Outs)
         requires quiet { takes_part self.old ≡ false }
         requires few_counted { tally.old.installs < u64.MAX }
@@ -132,6 +133,7 @@ impl Stage {
 
     /// The first condition that blocks a start of the resource at this tick, which is not below that of
     /// the last entry. `answer` is the count of votes at the tick, with the tie breaker.
+    #[inline(always)]
     pub fn why(&self, own: &Own, tick: u64, answer: Answer) -> Why
         ensures { (log : List Line)
             → StageFor self.now own.now.settings own.now.me.0 log

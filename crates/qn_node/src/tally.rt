@@ -77,6 +77,7 @@ impl Tally {
     }
 
     /// The count at this tick, after the entries so far, with the tie breaker (votequorum(5), `auto_tie_breaker`).
+    #[inline(always)]
     pub fn answer(&self, own: &Own, tick: u64) -> Answer
         ensures { (past : List VoteEntry)
             → TallyFor self.now own.now.settings past

@@ -55,11 +55,11 @@ pub fn play<W: Plays, I: Source, O: Sink>(
         let Ok(next) = lines.next(input, out) else {
             return ReplayEnd::WriteFault;
         };
-        let judged = place.judge(next.read(), lines.text(next), world, &mut text);
-        lines.pass_over(next);
-        if let Err(end) = judged {
+        if let Err(end) = place.judge(next.read(), lines.text(next), world, &mut text) {
+            lines.pass_over(next);
             return finish(end, &mut lines.output, out);
         }
+        lines.pass_over(next);
         let Ok(()) = lines.output.put(out, text.as_slice()) else {
             return ReplayEnd::WriteFault;
         };
@@ -91,6 +91,7 @@ impl Place {
 
     /// What comes of the bytes that were read of a line: the world takes the line, and `text` is its trace text;
     /// or the end.
+    #[inline(always)]
     fn judge<W: Plays>(
         &mut self,
         read: LineRead,
@@ -128,6 +129,7 @@ impl Place {
     }
 
     /// Gives a whole line to the world, where there may be a further one.
+    #[inline(always)]
     fn take<W: Plays>(
         &mut self,
         line: &[u8],

@@ -102,6 +102,7 @@ impl Quorum {
     }
 
     /// The count at this tick, after the entries so far.
+    #[inline(always)]
     pub fn answer(&self, tick: u64) -> Answer
         ensures { (s : Settings) (votes : List VoteEntry)
             → QuorumFor self.now s votes
@@ -185,6 +186,7 @@ impl Quorum {
             && votes < self.expected
     }
 
+    #[inline(always)]
     fn count(&self, now: u64) -> Answer
         ensures { result ≡ count_at self.now now }
     {

@@ -49,6 +49,7 @@ impl<W: TakesEvents> Playback<W> {
     }
 
     /// Takes a line, without its end: its event happens, and is reported. Otherwise nothing does.
+    #[inline(always)]
     fn happen(&mut self, line: &[u8]) -> Result<(), ReplayEnd>
         requires going { IsGoing (place_at W.world self.old) }
         requires few { self.old.events < MOST_EVENTS }
@@ -137,6 +138,7 @@ impl<W: TakesEvents> Plays for Playback<W> {
 
     ghost stands = { λ start playback earlier. HasPlayed W.world start playback earlier };
 
+    #[inline(always)]
     fn take(
         &mut self,
         line: &[u8],

@@ -89,11 +89,10 @@ fn take_line<O: Sink>(
         Ok(good) => good,
         Err(fault) => return Some(end_at_fault(counter, fault, output, out)),
     };
-    let mut text = ShortText::new();
-    counter.write_line(&good, &mut text);
-    let Ok(()) = output.put(out, text.as_slice()) else {
+    let Ok(()) = output.make_room(out) else {
         return Some(Status::WriteFault);
     };
+    counter.write_line(&good, output);
     counter.add(good);
     None
 }

@@ -128,6 +128,7 @@ impl Live {
 
     /// The first condition that blocks a start of the resource at this tick, which is not below that of
     /// the last entry. `answer` is the count of votes at the tick, with the tie breaker.
+    #[inline(always)]
     pub fn why(&self, own: &Own, tick: u64, answer: Answer) -> Why
         ensures { (log : List Line)
             → LiveFor self.now own.now.settings own.now.me.0 log
@@ -154,6 +155,7 @@ impl Live {
     }
 
     /// What blocks a start of a node that is up and quorate.
+    #[inline(always)]
     fn lacks(&self, own: &Own, tick: u64) -> Why
         ensures { (log : List Line)
             → LiveFor self.now own.now.settings own.now.me.0 log
@@ -169,6 +171,7 @@ impl Live {
     }
 
     /// What of the other nodes blocks a start, once the node is quorate and chosen.
+    #[inline(always)]
     fn lacks_of_others(&self, own: &Own, tick: u64) -> Why
         ensures { (log : List Line)
             → LiveFor self.now own.now.settings own.now.me.0 log

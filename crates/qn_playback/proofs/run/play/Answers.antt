@@ -65,7 +65,7 @@ lines-preserved g c =
     let next = c.in-Ok.next in
     let found = c.next.new.self in
     let line = c.text.result.now in
-    let pieces = c.pass_over.new.self.pieces in
+    let pieces = c.pass_over-in-lines.new.self.pieces in
     let sink = c.lines.invariant.sink in
     let source = c.lines.invariant.source in
     let read = c.next.ensures.source_faults in
@@ -73,16 +73,16 @@ lines-preserved g c =
     let wrote_text = c.put.ensures.never_falls in
     record {
       running =
-          takes_on (writes_on run c.in-Ok.ensures.given) {after = prepend_known pieces (g.I.Source.left c.next.new.input)} line c.judge-judged.new.text.items c.judge-judged.new.self.events (c.in_default-judged.ensures.stands c.args.world.now run.after.earlier run.after.stands)
-          c.in_default-judged.ensures.few c.in_default-judged.ensures.counted
+          takes_on (writes_on run c.in-Ok.ensures.given) {after = prepend_known pieces (g.I.Source.left c.next.new.input)} line c.judge.new.text.items c.judge.new.self.events (c.in_default-judge.ensures.stands c.args.world.now run.after.earlier run.after.stands)
+          c.in_default-judge.ensures.few c.in_default-judge.ensures.counted
           (goes_at run c.lines.invariant.head c.read.result line c.text.ensures.value c.in-Ok.ensures.unended c.text.ensures.fits
-          c.judge-judged.new.text.items
-          (reads_passed next c.read.result c.read.ensures found.pieces pieces c.pass_over.ensures.passed
+          c.judge.new.text.items
+          (reads_passed next c.read.result c.read.ensures found.pieces pieces c.pass_over-in-lines.ensures.passed
           (prepend_known c.lines.lines.pieces (g.I.Source.left c.lines.input)) (g.I.Source.left c.next.new.input) (text_of next found.pieces found.line.items) c.in-Ok.ensures.reads)
-          (c.in_default-judged.ensures.text c.args.world.now))
+          (c.in_default-judge.ensures.text c.args.world.now))
           (subst (λ (t : List ℕ). GivesOut (g.O.Sink.written c.next.new.out) (g.O.Sink.written c.put.new.out) c.put.new.self (found.output ++ t)) c.as_slice.ensures.value
-          (subst (λ (w : List ℕ). GivesOut (g.O.Sink.written c.next.new.out) (g.O.Sink.written c.put.new.out) c.put.new.self (w ++ c.as_slice.result.now)) c.pass_over.ensures.output c.in-Ok-put.ensures.given));
-      head = c.judge-judged.ensures.head ∙ c.lines.invariant.head;
+          (subst (λ (w : List ℕ). GivesOut (g.O.Sink.written c.next.new.out) (g.O.Sink.written c.put.new.out) c.put.new.self (w ++ c.as_slice.result.now)) c.pass_over-in-lines.ensures.output c.in-Ok-put.ensures.given));
+      head = c.judge.ensures.head ∙ c.lines.invariant.head;
       source = omega (arith, source, read);
       sink = omega (arith, sink, wrote, wrote_text);
     }
@@ -93,15 +93,15 @@ returns-in_default-put-clause-runs g c =
     let next = c.in-Ok.next in
     let found = c.next.new.self in
     let line = c.text.result.now in
-    let pieces = c.pass_over.new.self.pieces in
+    let pieces = c.pass_over-in-lines.new.self.pieces in
     let sink = c.lines.invariant.sink in
     let wrote = c.next.ensures.sink_faults in
-    unwritten_at (writes_on run c.in-Ok.ensures.given) pieces line c.judge-judged.new.text.items (within_passed next found.pieces pieces c.pass_over.ensures.passed c.next.ensures.within)
+    unwritten_at (writes_on run c.in-Ok.ensures.given) pieces line c.judge.new.text.items (within_passed next found.pieces pieces c.pass_over-in-lines.ensures.passed c.next.ensures.within)
     (goes_at run c.lines.invariant.head c.read.result line c.text.ensures.value c.in-Ok.ensures.unended c.text.ensures.fits
-    c.judge-judged.new.text.items
-    (reads_passed next c.read.result c.read.ensures found.pieces pieces c.pass_over.ensures.passed
+    c.judge.new.text.items
+    (reads_passed next c.read.result c.read.ensures found.pieces pieces c.pass_over-in-lines.ensures.passed
     (prepend_known c.lines.lines.pieces (g.I.Source.left c.lines.input)) (g.I.Source.left c.next.new.input) (text_of next found.pieces found.line.items) c.in-Ok.ensures.reads)
-    (c.in_default-judged.ensures.text c.args.world.now))
+    (c.in_default-judge.ensures.text c.args.world.now))
     (HasRisen-within _ _ _ _ (omega (arith, sink, wrote)) c.put.ensures.never_falls (omega arith) c.in_default-put.ensures.cause)
     (subst (λ (t : List ℕ). AppendsFront (g.O.Sink.written c.next.new.out) (g.O.Sink.written c.put.new.out) (found.output ++ t)) c.as_slice.ensures.value
-    (subst (λ (w : List ℕ). AppendsFront (g.O.Sink.written c.next.new.out) (g.O.Sink.written c.put.new.out) (w ++ c.as_slice.result.now)) c.pass_over.ensures.output c.in_default-put.ensures.prefix))
+    (subst (λ (w : List ℕ). AppendsFront (g.O.Sink.written c.next.new.out) (g.O.Sink.written c.put.new.out) (w ++ c.as_slice.result.now)) c.pass_over-in-lines.ensures.output c.in_default-put.ensures.prefix))

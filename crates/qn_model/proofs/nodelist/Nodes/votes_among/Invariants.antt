@@ -1,9 +1,14 @@
-use Rattle.std.proofs.Common.{◌≡◌, ◌≤◌, ◌+◌, ◌*◌, drop}
-use Rattle.qn_base.specs.Members.{votes_from}
+use Rattle.std.proofs.Common.{◌≡◌, ◌≤◌, ◌+◌, ◌*◌}
+use Rattle.qn_base.specs.Members.{votes_of}
 use Rattle.qn_model.specs.Settings.{node_votes}
 use Rattle.qn_model.specs.Votes.{votes_among}
+use Rattle.qn_model.proofs.MembersLeft.{members_left}
 use Rattle.qn_model.proofs.nodelist.Nodes.votes_among.Given as goal
 
-abbrev pub invariant-loop-rank : goal.invariant-loop-rank
-invariant-loop-rank l =
-    (l.total + votes_from l.rank (node_votes (drop l.rank l.node-items)) l.members ≡ votes_among l.node-items l.members) × (l.total ≤ l.rank * 4294967295)
+-- the votes of the members that are left make the sum whole
+abbrev pub invariant-members : goal.invariant-members
+invariant-members l =
+    (l.total + votes_of (node_votes l.self) l.rest ≡ votes_among l.self l.fn.members) × (l.total + members_left l.rest * 4294967295 ≤ 32 * 4294967295)
+
+abbrev pub decreases-members : goal.decreases-members
+decreases-members l = members_left l.rest
