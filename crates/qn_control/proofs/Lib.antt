@@ -1,2 +1,1 @@
 mod SlowDisks
-mod VerdictLaws

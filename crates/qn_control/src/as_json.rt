@@ -2,8 +2,8 @@
 use crate::cluster::{ClusterStatus, UnreadFile};
 use crate::image::ImageSeen;
 use crate::image_json::add_nodes as add_nodes_of_image;
-use crate::node_file::{NodeFile, PeerOfFile, ViewOfFile};
 use crate::text::Text;
+use qn_verdict::{NodeFile, PeerOfFile, ViewOfFile};
 use std::alloc::{AllocError, Global};
 
 /// One line: an object with the slots and the mailboxes of an image, where one is looked at; the nodes and the files that are none; the

@@ -1,7 +1,7 @@
 //! The status of a cluster as metrics, for the textfile collector of Prometheus's node exporter.
 use crate::cluster::ClusterStatus;
-use crate::node_file::NodeFile;
 use crate::text::Text;
+use qn_verdict::NodeFile;
 use std::alloc::{AllocError, Global};
 
 /// A metric of each node.

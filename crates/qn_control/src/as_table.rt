@@ -1,7 +1,7 @@
 //! The status of a cluster, as a table.
 use crate::cluster::{ClusterStatus, silence_of};
-use crate::node_file::NodeFile;
 use crate::text::Text;
+use qn_verdict::NodeFile;
 use std::alloc::{AllocError, Global};
 
 /// The verdict in one line, a line for each node, one for each peer that it misses, and one for each file that is none.

@@ -1,7 +1,6 @@
 //! A cluster as its status files show it, and what is said of it in one line.
-use crate::node_file::{NodeFile, PeerOfFile};
 use crate::text::Text;
-use crate::verdict::{Verdict, is_holder, is_live, judge};
+use qn_verdict::{NodeFile, PeerOfFile, Verdict, is_holder, is_live, judge};
 use std::alloc::{AllocError, Global};
 
 /// The status files of a cluster, at a moment of their host.

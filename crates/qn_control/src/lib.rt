@@ -2,8 +2,7 @@
 //!
 //! Promises: `least_msgwait` is the least safe one, and None where none is safe; `slowest_disk` is the slowest on which a take-over
 //! has a bound, `unbounded_on` the first condition of it that is not met, and `longest_take_over` the defined bound, which has
-//! the number of a law of `qn_progress` in it. A file of a node is stale, and a verdict on such files is reached, exactly as defined; of
-//! the verdict `law_verdict` says what an operator rests on. What is told of a text, an image and a cluster is tested.
+//! the number of a law of `qn_progress` in it. What is told of a text, an image and a cluster is tested.
 #![tactic(auto)]
 
 mod as_json;
@@ -20,16 +19,13 @@ mod image;
 mod image_json;
 mod image_lines;
 mod journal_line;
-mod laws;
 mod named;
-mod node_file;
 mod pairs;
 mod text;
 mod text_concerns;
 mod times;
 mod told;
 mod unbounded;
-mod verdict;
 
 pub use as_json::cluster_json;
 pub use as_metrics::cluster_metrics;
@@ -43,11 +39,8 @@ pub use history::History;
 pub use image::{ImageSeen, NodeSeen, Sectors, look_at_image};
 pub use image_json::{check_json, list_json};
 pub use image_lines::{finding_lines, image_lines_beside, node_lines};
-pub use laws::law_verdict;
-pub use node_file::{MailOfFile, NodeFile, PeerOfFile, PhaseOfFile, ViewOfFile};
 pub use pairs::{Pair, Place, pairs_of};
 pub use text_concerns::{TextConcern, has_byte_order_mark, text_concerns_of};
 pub use times::{least_msgwait, longest_take_over, slowest_disk, unbounded_on};
 pub use told::settings_text;
 pub use unbounded::Unbounded;
-pub use verdict::{Verdict, judge};

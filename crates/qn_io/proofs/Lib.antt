@@ -1,3 +1,1 @@
-mod Answering
 mod FrontLemmas
-mod Splitting

@@ -1,6 +1,6 @@
 -- What reading a line does to the bytes that are to come: those that were read and not yet handed out, and then
 -- those that the source has left.
-use Rattle.std.specs.Prelude.{◌≡◌, ℕ, ◌<◌, ◌==◌, false, List, [], ◌∷◌, ◌++◌, Option, length, All, Contains}
+use Rattle.std.specs.Prelude.{◌≡◌, ℕ, ◌<◌, ◌==◌, false, List, [], ◌∷◌, ◌++◌, Option, length, All}
 use Rattle.std.specs.Io.KnownBytes.{prepend_known, IsAtEnd}
 use Rattle.qn_io.specs.declared.buffered.Moved.{Moved}
 use Rattle.qn_io.specs.declared.buffered.Moved.TheVariants as moved
@@ -10,10 +10,6 @@ use Rattle.qn_io.specs.declared.lines.LineRead.TheVariants as read
 -- no byte is `\n`
 abbrev pub HasNoLineFeed : List ℕ → Type 0
 HasNoLineFeed text = All (λ byte. (byte == 10) ≡ false) text
-
--- a byte is `\n`
-abbrev pub HasLineFeed : List ℕ → Type 0
-HasLineFeed text = Contains text 10
 
 -- A line of 4096 bytes has a further byte that is not `\n`, and that was taken too.
 pub record IsTooLong (line : List ℕ) (old new : Option (List ℕ)) : Type 0 where

@@ -1,6 +1,6 @@
 -- What writing a text does to the bytes that were written so far.
 use Rattle.std.specs.Prelude.{◌≡◌, ℕ, List, ◌++◌, Option}
-use Rattle.std.specs.Io.KnownBytes.{append_known, Appends}
+use Rattle.std.specs.Io.KnownBytes.{append_known}
 
 -- a prefix of the text was written, and the rest of it was not
 pub record AppendsFront (old new : Option (List ℕ)) (text : List ℕ) : Type 0 where
@@ -8,10 +8,3 @@ pub record AppendsFront (old new : Option (List ℕ)) (text : List ℕ) : Type 0
   pub rest : List ℕ
   pub parts : text ≡ front ++ rest
   pub adds : new ≡ append_known old front
-
--- the same of a writer of the kit, which may have told nothing of its bytes
-pub record SendsFront (old new : Option (List ℕ)) (text : List ℕ) : Type 0 where
-  pub front : List ℕ
-  pub rest : List ℕ
-  pub parts : text ≡ front ++ rest
-  pub adds : Appends old new front

@@ -3,7 +3,7 @@ ghost use Rattle.std.specs.Prelude.{◌≡◌, ℕ, ◌+◌, ◌++◌, ◌<◌, 
 ghost use Rattle.arrayvec.specs.ArrayVec.{array_vec_len};
 ghost use Rattle.std.specs.Io.KnownBytes.{prepend_known};
 ghost use Rattle.qn_io.specs.Outside.{HasRisen};
-ghost use Rattle.qn_io.specs.Lines.{HasLineFeed, HasNoLineFeed};
+ghost use Rattle.qn_io.specs.Lines.{HasNoLineFeed};
 
 use crate::outside::Source;
 use arrayvec::ArrayVec;
@@ -62,7 +62,7 @@ pub(crate) enum Refill {
 
 impl Pieces {
     ghost use Rattle.std.specs.Prelude.{IfNone, IfSome};
-    ghost use Rattle.qn_io.specs.Lines.{HasLineFeed, HasNoLineFeed, Moves};
+    ghost use Rattle.qn_io.specs.Lines.{HasNoLineFeed, Moves};
     ghost use Rattle.qn_io.specs.Reads.{Gives, IsDrained, OnFailed, OnFailedRefill, Refills};
 
     /// Pieces of an input of which nothing was read yet.
@@ -100,15 +100,6 @@ impl Pieces {
         ensures { IsTrue result ↔ (length self.now ≡ 0) }
     {
         self.from == self.to
-    }
-
-    /// Whether a whole line waits, with its `\n`, so that the next line takes no read.
-    pub fn has_line(&self) -> bool
-        ensures value { IsTrue result ↔ HasLineFeed self.now }
-        ensures within { length self.now ≤ PIECE }
-    {
-        let waiting = self.waiting();
-        length_before_end(waiting) < waiting.len()
     }
 
     /// How many bytes the first line has that waits whole, without its `\n`, or none.

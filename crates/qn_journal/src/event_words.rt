@@ -1,7 +1,7 @@
 //! The name, the level and the words of an event.
 use arrayvec::ArrayVec;
 use qn_base::{Mask, Rank, add_number, write_decimal};
-use qn_io::{EventLine, Moment};
+use qn_event::{EventLine, Moment};
 use qn_model::{Answer, HaltKind, Nodes, Why};
 use qn_notice::Event;
 use qn_sched::{cause_number, phase_name, write_why};

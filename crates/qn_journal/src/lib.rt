@@ -2,7 +2,7 @@
 //! docs/FORMATS.md, and one object of JSON in a file that is replaced. It is the edge: text, the system's clock, and files. What is told of
 //! an entry is decided by `qn_notice`.
 //!
-//! Promises: each call ends, takes no memory from an allocator, and fails nowhere. Of the bytes of a line, `EventLine` of `qn_io` promises
+//! Promises: each call ends, takes no memory from an allocator, and fails nowhere. Of the bytes of a line, `EventLine` of `qn_event` promises
 //! its beginning and that its words are of one line. No clause says what a file or standard error takes.
 #![tactic(auto)]
 

@@ -5,7 +5,7 @@ use crate::peers::Peers;
 use crate::text::Text;
 use arrayvec::ArrayVec;
 use qn_base::{Rank, View};
-use qn_io::Moment;
+use qn_event::Moment;
 use qn_live::Standing;
 use qn_model::{Nodes, Phase};
 use qn_sched::{phase_name, write_why};

@@ -2,16 +2,15 @@
 ghost use Rattle.std.specs.Prelude.{◌≡◌};
 ghost use Rattle.qn_model.specs.Settings.{IsValid};
 
-use crate::judge::rank_of;
-use crate::logs::Log;
-use crate::packets::flight_of;
-use crate::process::{Process, Reply};
 use qn_audit::{LoggedCall, read_call};
 use qn_base::Rank;
-use qn_io::{Got, Lines};
+use qn_devices::{flight_of, rank_of};
+use qn_io::Got;
 use qn_journal::Journal;
 use qn_live::{NodeImages, Notices, Room};
+use qn_machine::Lines;
 use qn_model::{Nodes, Settings};
+use qn_simulator::{Log, Process, Reply};
 
 /// Writes the journal of the last process of each node to standard error.
 pub fn write_journals(rt: &HostRuntime, images: NodeImages, settings: &Settings, logs: &[Log])

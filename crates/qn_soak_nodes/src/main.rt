@@ -3,10 +3,10 @@
 //!     qn_soak_nodes SEED COUNT NODES SECONDS KIND DELAY [line|schedule|logs|journals [FROM BEFORE]] [images 1|3|all]
 //!
 //! COUNT runs of the seeds from SEED on, each of so many nodes for so many virtual seconds, with this fence delay in milliseconds, disturbed as
-//! its KIND says (`kind.rt`; `all` is each of them in turn). The nodes run on one image, on three, or first on one and then on three. It writes a
-//! line for each run; with `schedule` also the settings and what the world was told, for `quorumd replay`; with `logs` the calls of the last process of
-//! each node, for `quorumd audit`, and with `journals` on standard error the journal of each, too. Only the disturbances from the number FROM on
-//! and before BEFORE are made. The status is 1 where a run is at fault, and 2 for other words.
+//! its KIND says (`Kind` of `qn_simulator`; `all` is each of them in turn). The nodes run on one image, on three, or first on one and then on
+//! three. It writes a line for each run; with `schedule` also the settings and what the world was told, for `quorumd replay`; with `logs` the
+//! calls of the last process of each node, for `quorumd audit`, and with `journals` on standard error the journal of each, too. Only the
+//! disturbances from the number FROM on and before BEFORE are made. The status is 1 where a run is at fault, and 2 for other words.
 //!
 //! A run is at fault where the world refuses an event or gives other outputs for an entry, where a node stands otherwise than in the world or
 //! what is told of it is not what a second reading of its entries gives, where the resource runs at two hosts or at one whose node does not hold, where
@@ -16,31 +16,9 @@
 //! Promises: it is safe and it ends. What it is run on, and what it must write, stand beside it.
 #![tactic(auto)]
 
-mod beside;
-mod calls;
-mod clock;
-mod counts;
-mod disk;
-mod disturbances;
-mod draw;
-mod fault;
-mod host;
 mod journals;
-mod judge;
-mod kind;
-mod lines;
-mod logs;
-mod machines;
-mod network;
-mod packets;
-mod process;
-mod reader;
 mod runs;
-mod simulation;
-mod turns;
-mod waits;
 mod words;
-mod worlds;
 
 use runs::run_all;
 use std::process::ExitCode;

@@ -1,14 +1,11 @@
 //! The runs that the words ask for, and what is written of each.
-use crate::counts::Counts;
-use crate::fault::Fault;
 use crate::journals::write_journals;
-use crate::kind::{KINDS, Kind};
-use crate::logs::Log;
-use crate::simulation::Simulation;
 use crate::words::{Told, Words};
+use qn_judge::Fault;
 use qn_live::NodeImages;
 use qn_model::{Settings, Timing, timing_safe};
 use qn_settings::settings_of_text;
+use qn_simulator::{Counts, KINDS, Kind, Log, Simulation};
 use std::alloc::{AllocError, Global};
 use std::io;
 
@@ -68,7 +65,8 @@ fn run_one(rt: &HostRuntime, words: &Words, text: &str, seed: u64) -> io::Result
     if !timing_safe(&timing) {
         return Ok(1);
     }
-    let Ok(mut simulation) = Simulation::new(rt.alloc(), settings, timing, *words, seed) else {
+    let Ok(mut simulation) = Simulation::new(rt.alloc(), settings, timing, words.setup(), seed)
+    else {
         println!(rt; "no memory")?;
         return Ok(1);
     };
@@ -77,15 +75,10 @@ fn run_one(rt: &HostRuntime, words: &Words, text: &str, seed: u64) -> io::Result
     match words.told {
         Told::Line => {}
         Told::Schedule => write_schedule(rt, text, &timing, simulation.schedule())?,
-        Told::Logs => write_logs(rt, simulation.logs().as_slice())?,
+        Told::Logs => write_logs(rt, simulation.logs())?,
         Told::Journals => {
-            write_logs(rt, simulation.logs().as_slice())?;
-            write_journals(
-                rt,
-                words.images,
-                simulation.settings(),
-                simulation.logs().as_slice(),
-            );
+            write_logs(rt, simulation.logs())?;
+            write_journals(rt, words.images, simulation.settings(), simulation.logs());
         }
     }
     Ok(u8::from(fault.is_some()))

@@ -1,7 +1,7 @@
 //! The words of the command line.
-use crate::kind::Kind;
 use qn_base::read_decimal;
 use qn_live::NodeImages;
+use qn_simulator::{Kind, Setup};
 
 /// The word for runs of every kind, and for runs on one image and on three.
 const ALL: &str = "all";
@@ -53,6 +53,20 @@ pub struct Words {
 }
 
 impl Words {
+    /// What each run of them is to be.
+    pub fn setup(&self) -> Setup {
+        Setup {
+            images: self.images,
+            seconds: self.seconds,
+            kind: self.kind,
+            delay: self.delay,
+            from: self.from,
+            before: self.before,
+            keeps_schedule: self.told == Told::Schedule,
+            keeps_logs: self.told.keeps_logs(),
+        }
+    }
+
     /// `SEED COUNT NODES SECONDS KIND DELAY [line|schedule|logs|journals [FROM BEFORE]] [images 1|3|all]`; None where they are
     /// others.
     pub fn read(words: &[String]) -> Option<Words> {

@@ -1,10 +1,10 @@
 //! The tests of the repository that are one program. What each part of them tries is read from standard input, in parts: a line `part NAME` begins
-//! one, and each module says what the lines of its part are.
+//! one, and the module or the crate of each part says what its lines are.
 //!
-//!     part rows       rows that were worked out elsewhere, through public calls: `rows`
-//!     part nodes      runs of a node, call by call, that were worked out elsewhere: `nodes`
+//!     part rows       rows that were worked out elsewhere, through public calls: `qn_rows`
+//!     part nodes      runs of a node, call by call, that were worked out elsewhere: `qn_cases`
 //!     part faults     runs of `top` over an outside of which calls fail: `faults`
-//!     part sockets    nodes over real files and sockets: `sockets`
+//!     part sockets    nodes over real files and sockets: `qn_sockets`
 //!
 //! With words it does one of these in place of that, for `bench/node`, `bench/live` and `bench/audit`:
 //!
@@ -17,23 +17,17 @@
 //!
 //! A word, a part or a line that is none of these it says on standard error, and ends; but of a row that is none it writes that it differs.
 //!
-//! Promises: what `rows::history` promises of the lines of a recorded history, and what the doubles of the outside promise, which fail, answer
-//! and tell exactly by their script; nothing else. It is a test: what it is run on, and what it must write, stand beside it.
+//! Promises: nothing. It is a test: what it is run on, and what it must write, stand beside it.
 #![tactic(auto)]
 
-mod doubles;
 mod faults;
-mod nodes;
 mod part;
-mod rows;
-mod sockets;
-mod words;
 
-use nodes::timed::time_turns;
 use part::run_parts;
-use rows::recorded::{show, time_plain, time_steps};
+use qn_cases::time_turns;
+use qn_rows::{show, time_plain, time_steps};
+use qn_words::{at_fault, number_in, said_of};
 use std::{env, io};
-use words::{at_fault, number_in, said_of};
 
 fn main(rt: HostRuntime) -> io::Result<()> {
     let mut words = env::args(&rt)?;

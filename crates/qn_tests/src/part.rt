@@ -1,9 +1,9 @@
 //! The parts of standard input.
 use crate::faults::script::run_script;
-use crate::nodes::reader::run_cases;
-use crate::rows::checking::check_rows;
-use crate::sockets::play;
-use crate::words::{at_fault, said_of};
+use qn_cases::run_cases;
+use qn_rows::check_rows;
+use qn_sockets::play;
+use qn_words::{at_fault, said_of};
 use std::io;
 
 /// What begins the line at which a part begins. The name of the part follows.

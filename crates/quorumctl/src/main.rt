@@ -1,6 +1,6 @@
 //! The program `quorumctl`: what an operator wants to know beside `quorumd`. It reads, and changes nothing.
 //!
-//! Promises: nothing. What it says stands on `qn_control`; a text is judged by `settings_of_text`, as `quorumd` judges it.
+//! Promises: nothing. What it says stands on `qn_control` and `qn_verdict`; a text is judged by `settings_of_text`, as `quorumd` judges it.
 #![tactic(auto)]
 
 mod images;
@@ -16,8 +16,8 @@ mod trouble;
 
 use images::{check, list, wait};
 use journals::history;
-use qn_control::Verdict;
 use qn_usage::{USAGE, has_word, help_text, refusal_of, value_of, version_text, words_given};
+use qn_verdict::Verdict;
 use status::status;
 use std::fs::File;
 use std::net::{Net, TcpStream};

@@ -1,7 +1,8 @@
 //! An image that is open to be looked at, wherever it lies.
 use crate::trouble::Trouble;
 use qn_control::Sectors;
-use qn_io::{ImageReader, SECTOR};
+use qn_io::SECTOR;
+use qn_machine::ImageReader;
 use std::fs::File;
 use std::net::{Net, TcpStream};
 use std::rt::Files;

@@ -4,10 +4,11 @@ use crate::status_file::{Refusal, read_status_file};
 use crate::table::QUORUMCTL;
 use crate::trouble::{Trouble, say};
 use qn_control::{
-    ClusterStatus, ImageSeen, UnreadFile, Verdict, cluster_json, cluster_metrics, cluster_text,
+    ClusterStatus, ImageSeen, UnreadFile, cluster_json, cluster_metrics, cluster_text,
     image_lines_beside,
 };
 use qn_usage::{file_of, has_word, value_of};
+use qn_verdict::Verdict;
 use std::alloc::{AllocError, Global};
 use std::fs::File;
 use std::net::{Net, TcpStream};

@@ -1,7 +1,7 @@
 //! The status file of a node, read.
 use crate::members::{Members, id_of};
-use qn_control::{MailOfFile, NodeFile, PeerOfFile, PhaseOfFile, ViewOfFile};
 use qn_model::Message;
+use qn_verdict::{MailOfFile, NodeFile, PeerOfFile, PhaseOfFile, ViewOfFile};
 use serde_json::Value;
 use std::alloc::{AllocError, AllocFailed, Global};
 use std::fs::{self, File};

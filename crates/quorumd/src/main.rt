@@ -13,8 +13,9 @@ mod edge;
 use before::{Before, WordFault};
 use edge::edge_of;
 use qn_base::read_decimal;
-use qn_io::{Edge, Lines, RealEnv, ReplacedFile, StdSink, StdSource, put_all};
+use qn_io::put_all;
 use qn_journal::Journal;
+use qn_machine::{Edge, Lines, RealEnv, ReplacedFile, StdSink, StdSource};
 use qn_top::top;
 use qn_usage::{
     BEFORE, NO_MEMORY, QUORUMD, USAGE, WRITE_FAULT, help_text, refusal_of, version_text,

@@ -1,10 +1,8 @@
 //! The steps that are read, and what they set.
-use crate::doubles::memory::{MemSink, MemSource};
-use crate::doubles::streams::{input_of, output_of};
-use crate::faults::outside::{Counts, Loss, Outside};
-use crate::words::{at_fault, first_word, number_in, said_of, text_of};
+use qn_doubles::{Counts, Loss, MemSink, MemSource, Outside, input_of, output_of};
 use qn_live::NoNotices;
 use qn_top::top;
+use qn_words::{at_fault, first_word, number_in, said_of, text_of};
 use std::alloc::{AllocError, Global};
 use std::{io, str};
 

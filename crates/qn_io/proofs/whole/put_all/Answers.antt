@@ -1,7 +1,7 @@
 use Rattle.std.proofs.Common.{◌++◌, take, sym, ap, ◌∙◌, arith}
 use Rattle.std.specs.Io.KnownBytes.{append_known}
 use Rattle.qn_io.specs.Outside.{append_known-append}
-use Rattle.qn_io.proofs.Splitting.{split_rest}
+use Rattle.qn_io.specs.Splitting.{split_rest}
 use Rattle.qn_io.proofs.whole.put_all.Goals as goal
 
 pub writes-preserved : goal.writes-preserved

@@ -1,8 +1,0 @@
-use Rattle.std.proofs.Common.{take}
-use Rattle.std.specs.Prelude.{codes}
-use Rattle.std.specs.Io.KnownBytes.{Consumes}
-use Rattle.qn_io.proofs.agent.read_answer.Given as goal
-
--- the bytes that were read are those of the line `ok` so far
-abbrev pub invariant-loop-wanted : goal.invariant-loop-wanted
-invariant-loop-wanted g l = Consumes (g.R.Read.remaining l.fn.reader) (g.R.Read.remaining l.reader) (take l.wanted-index (codes "ok\n"))

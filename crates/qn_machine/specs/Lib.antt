@@ -1,0 +1,5 @@
+pub mod Admission
+pub mod Peers
+pub mod Places
+pub mod Refusals
+pub mod Streams

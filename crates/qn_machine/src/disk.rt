@@ -1,0 +1,290 @@
+//! The disk of a node: one image, or three of which one may be lost.
+ghost use Rattle.std.specs.Prelude.{◌<◌};
+
+use crate::image::{Image, Opener};
+use crate::named_file::Absent;
+use crate::reported::reported;
+use qn_base::Failed;
+use qn_exchange::watchdog_of;
+use qn_io::SECTOR;
+use std::fs::File;
+use std::io::{self, ErrorKind};
+use std::net::{Net, TcpStream};
+use std::rt::Files;
+use std::time::{Clock, Duration};
+
+/// How many sectors each of three images has.
+const IMAGE_SECTORS: u32 = 1024;
+
+/// How the sectors stand on the images.
+#[derive(Clone, Copy)]
+enum Layout {
+    /// All on the first one.
+    One,
+    /// 1024 on each of three, in their order.
+    Three,
+}
+
+/// The images of a node that are open, each under its own lock.
+#[derive(Drop)]
+pub(crate) struct Disk {
+    layout: Layout,
+    images: [Option<Image>; 3],
+    /// Of each image what was said last of a call that failed.
+    told: [Option<Told>; 3],
+}
+
+/// How long the same of an image is not said again, in milliseconds.
+const BETWEEN_LINES: u64 = 60_000;
+
+/// What was said of an image, and the moment of the monotonic clock from which on it may be said again.
+#[derive(Clone, Copy)]
+struct Told {
+    kind: ErrorKind,
+    until: Duration,
+}
+
+impl Disk {
+    ghost use Rattle.std.specs.Prelude.{◌<◌};
+
+    /// A disk of which no image is open.
+    pub(crate) fn closed() -> Disk {
+        Disk {
+            layout: Layout::One,
+            images: [None, None, None],
+            told: [None, None, None],
+        }
+    }
+
+    /// Opens the image of that word, or the three whose words stand between the two commas of the word. Of three one may fail.
+    pub(crate) fn open<
+        R: Files<File = File> + Net<Stream = TcpStream> + Clock + AllocGlobal,
+        E: Eprint,
+    >(
+        rt: &R,
+        errors: &E,
+        images: u8,
+        word: &str,
+        opener: Opener,
+        absent: Absent,
+    ) -> Result<Disk, Failed> {
+        match images {
+            1 => Ok(Disk {
+                layout: Layout::One,
+                images: [
+                    Some(open_image(rt, errors, word, opener, absent)?),
+                    None,
+                    None,
+                ],
+                told: [None, None, None],
+            }),
+            3 => open_three(rt, errors, word, opener, absent),
+            _ => reported(
+                errors,
+                "images",
+                Err(io::Error::from(ErrorKind::Unsupported)),
+            ),
+        }
+    }
+
+    /// Whether one of three images is lost.
+    pub(crate) fn has_lost(&self) -> bool {
+        match self.layout {
+            Layout::One => false,
+            Layout::Three => opened(&self.images) < 3,
+        }
+    }
+
+    /// The least watchdog's time, in milliseconds, of the headers of the images. Of three images one may be lost, or have no header.
+    pub(crate) fn watchdog_time<R: Files<File = File> + Net<Stream = TcpStream> + Clock, E: Eprint>(
+        &mut self,
+        rt: &R,
+        errors: &E,
+    ) -> Result<u64, Failed> {
+        let wanted = match self.layout {
+            Layout::One => 1,
+            Layout::Three => 2,
+        };
+        let mut found: u32 = 0;
+        let mut least = u64::MAX;
+        'images: for image in &mut self.images {
+            if let Some(time) = header_time(rt, errors, image) {
+                found = found.saturating_add(1);
+                least = least.min(time);
+            }
+        }
+        if found < wanted {
+            Err(Failed)
+        } else {
+            Ok(least)
+        }
+    }
+
+    /// Reads a sector; what lies past the end of a file reads as zeros.
+    pub(crate) fn read<R: Files<File = File> + Net<Stream = TcpStream> + Clock, E: Eprint>(
+        &mut self,
+        rt: &R,
+        errors: &E,
+        sector: u32,
+        into: &mut [u8; SECTOR],
+    ) -> Result<(), Failed>
+        requires { sector < 3072 }
+    {
+        let (index, sector) = self.place(sector);
+        let image = self.images[index].as_mut().ok_or(Failed)?;
+        let done = image.read(rt, sector, into);
+        tell(rt, errors, image.name(), &mut self.told[index], done)
+    }
+
+    /// Writes a sector and has it pushed to the disk. Sector 0 of an image is written only under the exclusive lock, which is
+    /// then held while the image is open; where that lock is not to be had, the image is closed, since its shared lock is lost.
+    pub(crate) fn write<R: Files<File = File> + Net<Stream = TcpStream> + Clock, E: Eprint>(
+        &mut self,
+        rt: &R,
+        errors: &E,
+        sector: u32,
+        from: &[u8; SECTOR],
+    ) -> Result<(), Failed>
+        requires { sector < 3072 }
+    {
+        let (index, sector) = self.place(sector);
+        if sector == 0 && !is_locked(errors, &self.images[index]) {
+            self.images[index] = None;
+        }
+        let image = self.images[index].as_mut().ok_or(Failed)?;
+        let done = image.write(rt, sector, from);
+        tell(rt, errors, image.name(), &mut self.told[index], done)
+    }
+
+    /// Ends the boot of a node that has left, in each image that knows of boots. Where that fails another machine cannot open the node
+    /// there, which a line on standard error says.
+    pub(crate) fn end_boot<R: Net<Stream = TcpStream> + Clock, E: Eprint>(
+        &mut self,
+        rt: &R,
+        errors: &E,
+    ) {
+        'images: for image in &mut self.images {
+            if let Some(image) = image {
+                let done = image.end_boot(rt);
+                let _ = reported(errors, image.name(), done);
+            }
+        }
+    }
+
+    /// The place of the image that has a sector, and the number of the sector there.
+    fn place(&self, sector: u32) -> (usize, u32)
+        requires { sector < 3072 }
+        ensures image { result.0 < 3 }
+        ensures sector { result.1 < 3072 }
+    {
+        match self.layout {
+            Layout::One => (0, sector),
+            Layout::Three if sector < IMAGE_SECTORS => (0, sector),
+            Layout::Three if sector < 2 * IMAGE_SECTORS => (1, sector - IMAGE_SECTORS),
+            Layout::Three => (2, sector - 2 * IMAGE_SECTORS),
+        }
+    }
+}
+
+fn open_image<R: Files<File = File> + Net<Stream = TcpStream> + Clock + AllocGlobal, E: Eprint>(
+    rt: &R,
+    errors: &E,
+    word: &str,
+    opener: Opener,
+    absent: Absent,
+) -> Result<Image, Failed> {
+    let image = reported(errors, word, Image::open(rt, errors, word, opener, absent))?;
+    if image.is_made() {
+        let _ = eprintln!(errors; "quorumd: {word}: nothing was there, and an empty file was made");
+    }
+    Ok(image)
+}
+
+/// Opens the three images of a word, of which at least two have to be there.
+fn open_three<R: Files<File = File> + Net<Stream = TcpStream> + Clock + AllocGlobal, E: Eprint>(
+    rt: &R,
+    errors: &E,
+    word: &str,
+    opener: Opener,
+    absent: Absent,
+) -> Result<Disk, Failed> {
+    let (first, second, third) = reported(errors, word, three_paths(word))?;
+    let images = [
+        open_image(rt, errors, first, opener, absent).ok(),
+        open_image(rt, errors, second, opener, absent).ok(),
+        open_image(rt, errors, third, opener, absent).ok(),
+    ];
+    if opened(&images) < 2 {
+        return Err(Failed);
+    }
+    Ok(Disk {
+        layout: Layout::Three,
+        images,
+        told: [None, None, None],
+    })
+}
+
+/// The paths of a word with exactly two commas.
+fn three_paths(word: &str) -> io::Result<(&str, &str, &str)> {
+    let no_three = Err(io::Error::from(ErrorKind::InvalidInput));
+    let Some((first, rest)) = word.split_once(',') else {
+        return no_three;
+    };
+    match rest.split_once(',') {
+        Some((second, third)) if !third.contains(',') => Ok((first, second, third)),
+        _ => no_three,
+    }
+}
+
+/// How many of the images are open.
+fn opened(images: &[Option<Image>; 3]) -> usize {
+    images.iter().filter(|image| image.is_some()).count()
+}
+
+/// Takes the exclusive lock of the image, where it is open.
+fn is_locked<E: Eprint>(errors: &E, image: &Option<Image>) -> bool {
+    match image {
+        Some(image) => reported(errors, image.name(), image.lock()).is_ok(),
+        None => false,
+    }
+}
+
+/// What a call on an image came to. Where it failed a line says why, and the same at most once a minute.
+fn tell<C: Clock, E: Eprint>(
+    clock: &C,
+    errors: &E,
+    name: &str,
+    told: &mut Option<Told>,
+    done: io::Result<()>,
+) -> Result<(), Failed> {
+    let Err(error) = done else {
+        return Ok(());
+    };
+    let now = clock.monotonic().unwrap_or(Duration::ZERO);
+    let kind = error.kind();
+    if told.is_some_and(|told| told.kind == kind && now < told.until) {
+        return Err(Failed);
+    }
+    let until = now.saturating_add(Duration::from_millis(BETWEEN_LINES));
+    *told = Some(Told { kind, until });
+    reported(errors, name, Err(error))
+}
+
+/// The watchdog's time of the header of an image, where it is open and has one.
+fn header_time<R: Files<File = File> + Net<Stream = TcpStream> + Clock, E: Eprint>(
+    rt: &R,
+    errors: &E,
+    image: &mut Option<Image>,
+) -> Option<u64> {
+    let image = image.as_mut()?;
+    let mut sector = [0; SECTOR];
+    let done = image.read(rt, 0, &mut sector);
+    reported(errors, image.name(), done).ok()?;
+    let time = watchdog_of(&sector).ok_or_else(no_header);
+    reported(errors, image.name(), time).ok()
+}
+
+/// The first sector of an image is no header.
+fn no_header() -> io::Error {
+    io::Error::other("no image: its first sector is no header")
+}

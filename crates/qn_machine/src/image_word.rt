@@ -1,0 +1,105 @@
+//! The word of an image: where the image lies, and how far apart its sectors stand.
+
+use crate::etcd_word::{CLUSTER, EtcdAt};
+use qn_io::SECTOR;
+use std::io::{self, ErrorKind};
+use std::net::SocketAddr;
+
+/// What stands before the place of a block server.
+const BLOCK_SERVER: &str = "nbd:";
+
+/// What stands before the path of a server's socket.
+const SOCKET: &str = "unix:";
+
+/// What stands after an image whose sectors have places of 4096 bytes.
+pub(crate) const LONG: &str = "@4096";
+
+/// The most bytes from the place of a sector to that of the next one.
+pub(crate) const MOST_PLACE: usize = 4096;
+
+/// How many bytes a sector has there from its place to the next one.
+#[derive(Clone, Copy, PartialEq, Eq)]
+pub(crate) enum Stride {
+    Short,
+    Long,
+}
+
+impl Stride {
+    ghost use Rattle.std.specs.Prelude.{◌≡◌, ◌*◌, ◌<◌};
+    ghost use Rattle.qn_machine.specs.Places.{stride_bytes};
+
+    /// It in bytes: 512 or 4096.
+    pub(crate) fn bytes(self) -> usize
+        ensures { result ≡ stride_bytes self }
+    {
+        match self {
+            Stride::Short => SECTOR,
+            Stride::Long => MOST_PLACE,
+        }
+    }
+
+    /// The place of a sector.
+    pub(crate) fn place_of(self, sector: u32) -> u64
+        ensures { result ≡ sector * stride_bytes self }
+    {
+        u64::from(sector) * self.bytes() as u64
+    }
+}
+
+/// Where a server is.
+#[derive(Clone, Copy)]
+pub(crate) enum ServerAt<'w> {
+    Tcp(SocketAddr),
+    /// The path of a Unix socket.
+    Unix(&'w str),
+}
+
+/// Where an image lies.
+#[derive(Clone, Copy)]
+pub(crate) enum Place<'w> {
+    /// A file of that path.
+    File(&'w str),
+    /// An export of a block server, by its name.
+    Block(ServerAt<'w>, &'w str),
+    /// Keys of an etcd cluster.
+    Cluster(EtcdAt<'w>),
+}
+
+/// What the word of an image says.
+#[derive(Clone, Copy)]
+pub(crate) struct ImageWord<'w> {
+    pub(crate) place: Place<'w>,
+    pub(crate) stride: Stride,
+}
+
+impl<'w> ImageWord<'w> {
+    /// Reads the word: `PATH`, `nbd:HOST:PORT`, `nbd:HOST:PORT/NAME` or `nbd:unix:PATH`, each perhaps with `@4096` after it; or
+    /// `etcd:HOST:PORT/PREFIX`. HOST is a literal address, one of IPv6 in brackets.
+    pub(crate) fn read(word: &'w str) -> io::Result<ImageWord<'w>> {
+        let (place, stride) = match word.strip_suffix(LONG) {
+            Some(place) => (place, Stride::Long),
+            None => (word, Stride::Short),
+        };
+        let place = match (place.strip_prefix(BLOCK_SERVER), word.strip_prefix(CLUSTER)) {
+            (Some(server), _) => block_server(server)?,
+            (None, Some(cluster)) => Place::Cluster(EtcdAt::read(cluster)?),
+            (None, None) => Place::File(place),
+        };
+        Ok(ImageWord { place, stride })
+    }
+}
+
+/// Reads what stands after `nbd:`.
+fn block_server(word: &str) -> io::Result<Place<'_>> {
+    if let Some(path) = word.strip_prefix(SOCKET) {
+        return Ok(Place::Block(ServerAt::Unix(path), ""));
+    }
+    let (address, name) = word.split_once('/').unwrap_or((word, ""));
+    match address.parse::<SocketAddr>() {
+        Ok(address) => Ok(Place::Block(ServerAt::Tcp(address), name)),
+        Err(_) => Err(io::Error::new(
+            ErrorKind::InvalidInput,
+            "no address and port of a block server",
+        )),
+    }
+}

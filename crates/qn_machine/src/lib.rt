@@ -1,0 +1,49 @@
+//! The outside of a node as the machine that it runs on has it: standard streams, files, disks, packets and their seals, the servers that
+//! keep images, watchdogs, agents and clocks.
+//!
+//! Promises: `StdSource`, `StdSink` and `RealEnv` are the trusted edge: they tell nothing, and no clause says what a file, a stream or a clock
+//! gives. Their counts of faults never fall, and a call answers `Failed` only where the count rose. No file is opened under the
+//! descriptor of a standard stream. A node is handed packets of other nodes alone.
+#![tactic(auto)]
+
+mod admission;
+mod agent;
+mod connection;
+mod deadline;
+mod devices;
+mod disk;
+mod edge;
+mod error_lines;
+mod etcd_image;
+mod etcd_word;
+mod file_size_limit;
+mod halt_file;
+mod image;
+mod image_file;
+mod image_reader;
+mod image_word;
+mod named_file;
+mod nbd_image;
+mod network;
+mod peers;
+mod real;
+mod refusals;
+mod replaced_file;
+mod reported;
+mod resource;
+mod sealing;
+mod server_times;
+mod standard;
+mod start_ids;
+mod waiting;
+mod watchdog;
+mod watchdog_look;
+
+pub use admission::{Admission, Reason};
+pub use edge::{Edge, Guard, MOST_NODES};
+pub use error_lines::Lines;
+pub use image_reader::ImageReader;
+pub use peers::Peers;
+pub use real::RealEnv;
+pub use replaced_file::ReplacedFile;
+pub use standard::{StdSink, StdSource};

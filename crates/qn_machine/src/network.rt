@@ -1,0 +1,243 @@
+//! The network of the nodes: a UDP socket each, at the port of its rank on its address, which is 127.0.0.1 where nothing else is said.
+ghost use Rattle.std.specs.Prelude.{◌≤◌, IfOk, IfSome};
+
+use crate::admission::{Admission, Reason, is_vote_of_host};
+use crate::deadline::{Deadline, is_late};
+use crate::edge::{Edge, Guard, MOST_NODES};
+use crate::error_lines::Lines;
+use crate::named_file::FIRST_OF_A_FILE;
+use crate::peers::Peers;
+use crate::refusals::Refusals;
+use crate::sealing::Sealing;
+use qn_base::Rank;
+use qn_exchange::TRIES;
+use qn_io::PACKET;
+use qn_seal::Receiver;
+use std::io::{self, ErrorKind};
+use std::net::{IpAddr, Ipv4Addr, Net, SocketAddr, UdpSocket};
+use std::os::fd::AsRawFd;
+use std::time::{Clock, Duration};
+
+/// How long a packet is waited for, in milliseconds. The system rounds a wait up to a step of its own clock, which
+/// is 10 ms at most, so that the whole call takes 50 ms at most.
+const WAIT: u64 = 40;
+
+/// How long one of two sockets is waited for before the other one is looked at, in milliseconds.
+const SLICE: u64 = 10;
+
+/// How many datagrams a call looks at.
+const LOOKS: u32 = 10_000;
+
+/// How many datagrams of this host are looked at before those of other machines.
+const LOCAL_LOOKS: u32 = 100;
+
+/// The sockets of one node, and what is between them and the node.
+#[derive(Drop)]
+pub(crate) struct Network {
+    socket: UdpSocket,
+    /// Where votes of the quorum device come, where that is another socket.
+    local: Option<UdpSocket>,
+    admission: Admission,
+    sealing: Option<Sealing>,
+    refusals: Refusals,
+}
+
+impl Network {
+    /// Opens the port of that rank at the address of that rank. Where that is not 127.0.0.1, the same port of 127.0.0.1 is opened
+    /// before it. It fails where another program holds that port: so no two programs run as one node on one host.
+    pub(crate) fn open<R: Net + Clock>(
+        rt: &R,
+        edge: &Edge,
+        first_port: u16,
+        rank: Rank,
+    ) -> io::Result<Network> {
+        let peers = peers_of(edge, first_port, rank);
+        let Some(own) = peers.address_of(rank.0) else {
+            return Err(io::Error::new(ErrorKind::InvalidInput, "no address of this node"));
+        };
+        let host = IpAddr::V4(Ipv4Addr::LOCALHOST);
+        let local = if own.ip() == host {
+            None
+        } else {
+            Some(open_local(rt, SocketAddr::new(host, own.port()))?)
+        };
+        let socket = open_socket(rt, own)?;
+        let (receiver, sealing) = match edge.guard {
+            Guard::Unsaid | Guard::ClosedNetwork => (None, None),
+            Guard::Sealed(keys) => (
+                Some(Receiver::new(rank.0, peers.count(), keys, edge.text)),
+                Some(Sealing::new(rt, keys.first, edge.text, rank)?),
+            ),
+        };
+        Ok(Network {
+            socket,
+            local,
+            admission: Admission { peers, receiver },
+            sealing,
+            refusals: Refusals::default(),
+        })
+    }
+
+    /// Takes a packet, the first 129 bytes of a longer one; None where none came in time. What is not for the node is passed over, and
+    /// the call goes on with the time that is left; so it does after an interruption.
+    pub(crate) fn receive<C: Clock>(
+        &mut self,
+        clock: &C,
+        packet: &mut [u8; PACKET],
+    ) -> io::Result<Option<usize>>
+        ensures { IfOk result (λ came. IfSome came (λ count. count ≤ 129)) }
+    {
+        let end = Deadline::after(clock, WAIT)?;
+        'looks: for _ in 0..LOOKS {
+            let Some(left) = end.left(clock)? else {
+                return Ok(None);
+            };
+            if let Some(count) = self.take_local(packet)? {
+                return Ok(Some(count));
+            }
+            let left = match self.local {
+                Some(_) => left.min(Duration::from_millis(SLICE)),
+                None => left,
+            };
+            if let Some(count) = self.take_within(clock, left, packet)? {
+                return Ok(Some(count));
+            }
+        }
+        Ok(None)
+    }
+
+    /// Takes a vote from the socket of this host, where that is another one and a vote waits there.
+    fn take_local(&mut self, packet: &mut [u8; PACKET]) -> io::Result<Option<usize>>
+        ensures { IfOk result (λ came. IfSome came (λ count. count ≤ 129)) }
+    {
+        let Some(local) = &self.local else {
+            return Ok(None);
+        };
+        'looks: for _ in 0..LOCAL_LOOKS {
+            let mut datagram = [0; PACKET];
+            match local.recv_from(&mut datagram) {
+                Ok((count, from)) => {
+                    let bytes = &datagram[..count];
+                    if is_vote_of_host(from, bytes) {
+                        return Ok(Some(put(bytes, packet)));
+                    }
+                    self.refusals.count(Reason::Elsewhere);
+                }
+                Err(error) if error.kind() == ErrorKind::Interrupted => {}
+                Err(error) if is_late(&error) => return Ok(None),
+                Err(error) => return Err(error),
+            }
+        }
+        Ok(None)
+    }
+
+    /// Takes the next datagram that comes within that time, where it is for the node.
+    fn take_within<C: Clock>(
+        &mut self,
+        clock: &C,
+        time: Duration,
+        packet: &mut [u8; PACKET],
+    ) -> io::Result<Option<usize>>
+        ensures { IfOk result (λ came. IfSome came (λ count. count ≤ 129)) }
+    {
+        self.socket.set_read_timeout(Some(time))?;
+        let mut datagram = [0; PACKET];
+        match self.socket.recv_from(&mut datagram) {
+            Ok((count, from)) => {
+                let tick = u64::try_from(clock.monotonic()?.as_millis()).unwrap_or(u64::MAX);
+                Ok(self.take(tick, from, &datagram[..count], packet))
+            }
+            Err(error) if error.kind() == ErrorKind::Interrupted || is_late(&error) => Ok(None),
+            Err(error) => Err(error),
+        }
+    }
+
+    /// Puts a datagram of that address into the buffer, where it is for the node, and gives how many bytes it has there.
+    fn take(
+        &mut self,
+        tick: u64,
+        from: SocketAddr,
+        bytes: &[u8],
+        packet: &mut [u8; PACKET],
+    ) -> Option<usize>
+        ensures { IfSome result (λ count. count ≤ 129) }
+    {
+        if self.local.is_none() && is_vote_of_host(from, bytes) {
+            return Some(put(bytes, packet));
+        }
+        match self.admission.take(tick, from, bytes) {
+            Ok(inner) => Some(put(inner, packet)),
+            Err(reason) => {
+                self.refusals.count(reason);
+                None
+            }
+        }
+    }
+
+    /// Says on standard error, at most once a minute, how many datagrams were passed over.
+    pub(crate) fn say_refusals<R: Clock + Eprint>(&mut self, rt: &R, lines: &Lines, tick: u64) {
+        self.refusals.say(rt, lines, tick);
+    }
+
+    /// Sends a packet to the node of that rank, whether it is there or not.
+    pub(crate) fn send(&mut self, to: Rank, bytes: &[u8]) -> io::Result<()> {
+        let Some(address) = self.admission.peers.address_of(to.0) else {
+            return Err(io::Error::new(ErrorKind::InvalidInput, "no address of that node"));
+        };
+        match &mut self.sealing {
+            None => send_to(&self.socket, bytes, address),
+            Some(sealing) => {
+                let sealed = sealing.seal(to, bytes)?;
+                send_to(&self.socket, sealed.as_slice(), address)
+            }
+        }
+    }
+}
+
+/// Where the nodes are.
+fn peers_of(edge: &Edge, first_port: u16, rank: Rank) -> Peers {
+    let everywhere = [Some(IpAddr::V4(Ipv4Addr::LOCALHOST)); MOST_NODES];
+    Peers {
+        addresses: edge.addresses.unwrap_or(everywhere),
+        first_port,
+        own: rank.0,
+    }
+}
+
+/// Opens a socket at that address and port. Its descriptor is above those of the standard streams.
+fn open_socket<R: Net>(rt: &R, at: SocketAddr) -> io::Result<UdpSocket> {
+    let socket = UdpSocket::bind(rt, at)?;
+    if socket.as_raw_fd() < FIRST_OF_A_FILE {
+        return socket.try_clone();
+    }
+    Ok(socket)
+}
+
+/// Opens a socket that is looked at and not waited for.
+fn open_local<R: Net>(rt: &R, at: SocketAddr) -> io::Result<UdpSocket> {
+    let socket = open_socket(rt, at)?;
+    socket.set_nonblocking(true)?;
+    Ok(socket)
+}
+
+/// Puts bytes at the beginning of the buffer, as many as it has room for, and gives how many these are.
+fn put(bytes: &[u8], packet: &mut [u8; PACKET]) -> usize
+    ensures { result ≤ 129 }
+{
+    let count = bytes.len().min(PACKET);
+    packet[..count].copy_from_slice(&bytes[..count]);
+    count
+}
+
+/// Sends a datagram, again after each interruption.
+fn send_to(socket: &UdpSocket, bytes: &[u8], address: SocketAddr) -> io::Result<()> {
+    'tries: for _ in 0..TRIES {
+        match socket.send_to(bytes, address) {
+            Ok(count) if count == bytes.len() => return Ok(()),
+            Ok(_) => return Err(io::Error::from(ErrorKind::WriteZero)),
+            Err(error) if error.kind() == ErrorKind::Interrupted => {}
+            Err(error) => return Err(error),
+        }
+    }
+    Err(io::Error::from(ErrorKind::Interrupted))
+}

@@ -1,0 +1,2 @@
+pub mod NodeFiles
+pub mod Verdicts
