@@ -3,6 +3,7 @@ the tests' own, with places of 512 and of 4096 bytes; exports and greetings that
 import os
 import pathlib
 import subprocess
+import tempfile
 
 import live
 import nbd
@@ -37,7 +38,7 @@ def bytes_of(file, stride=512):
 
 def is_as_a_file(word, held, stride=512):
     """Each command in turn does the same on a file and on that image, whose bytes `held` gives."""
-    file = pathlib.Path("as-%d" % len(list(pathlib.Path().glob("as-*"))))
+    file = pathlib.Path(tempfile.mkdtemp(dir=".")) / "image"  # of its own: other tests of this script run at the same time
     file.write_bytes(b"")
     for command, settings in COMMANDS:
         given = SETTINGS.get(settings, b"")
