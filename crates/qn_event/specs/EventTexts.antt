@@ -1,9 +1,10 @@
 -- The bytes of a running node's journal (this project's profile).
 use Rattle.std.specs.Prelude.{ℕ, ◌+◌, ◌/◌, ◌%◌, ◌==◌, ◌&&◌, Bool, not, IsTrue, List, ◌∷◌, [], nat_le, if◌then◌else◌}
+use Rattle.qn_event.specs.declared.level.Level.{Level}
 
 -- a line: its level, what it begins with up to the name of its event, and the rest
 pub record EventText : Type 0 where
-  pub level : ℕ
+  pub level : Level
   pub head : List ℕ
   pub words : List ℕ
 

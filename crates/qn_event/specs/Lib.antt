@@ -1,2 +1,4 @@
 pub mod EventLines
 pub mod EventTexts
+pub mod EventWords
+pub mod WholeLines

@@ -1,7 +1,10 @@
 //! A line of a running node's journal, as text.
-ghost use Rattle.std.specs.Prelude.{◌≡◌, ◌≤◌, ◌<◌, ◌+◌, ◌++◌, ◌∷◌, [], List, ℕ, All, length};
+ghost use Rattle.std.specs.Prelude.{◌≡◌, ◌≤◌, ◌<◌, ◌+◌, ◌++◌, [], List, ℕ, All, length, decimal};
+ghost use Rattle.qn_base.specs.Text.{yes_no};
 ghost use Rattle.qn_event.specs.EventTexts.{IsLineByte, escape_of, hex_digit, is_value_byte};
+ghost use Rattle.qn_event.specs.EventWords.{Stands, quoted_of, room_for, with_byte, with_key, with_plain_word, with_quoted, with_quoted_text, with_text, with_word};
 
+use crate::level::Level;
 use crate::moment::{EVENT_HEAD, Moment};
 use arrayvec::ArrayVec;
 use qn_base::{write_decimal, yes_no};
@@ -14,7 +17,7 @@ pub const EVENT_WORDS: usize = 384;
 /// Whatever its values are, they hold no byte that ends a line.
 #[derive(Drop)]
 pub struct EventLine {
-    level: u8,
+    level: Level,
     head: ArrayVec<u8, EVENT_HEAD>,
     words: ArrayVec<u8, EVENT_WORDS>,
     ghost plain: { All IsLineByte words.items },
@@ -31,10 +34,11 @@ impl Model for EventLine {
 impl EventLine {
     ghost use Rattle.qn_event.specs.EventLines.{head_of};
 
-    /// A line of that event. Levels are those of syslog(3): 3 is an error, 4 a warning, 5 a notice, 6 information.
-    pub fn new(at: Moment, level: u8, event: &[u8]) -> EventLine
+    /// A line of that event and that level, with no words yet.
+    pub fn new(at: Moment, level: Level, event: &[u8]) -> EventLine
         ensures begins { result.head ≡ head_of at level }
         ensures level { result.level ≡ level }
+        ensures event { result.words ≡ with_text [] (length event.now) event.now }
     {
         let mut line = EventLine {
             level,
@@ -46,13 +50,15 @@ impl EventLine {
     }
 
     /// Adds a word at the end. What of the value is no byte of a value stands as `%XX`, and a value of more than `most` bytes is cut.
+    #[tactic(auto, unfolding(crate::specs::EventWords::with_word))]
     pub fn word(&mut self, key: &[u8], value: &[u8], most: usize)
         ensures head { self.new.head ≡ self.old.head }
         ensures level { self.new.level ≡ self.old.level }
+        ensures words { self.new.words ≡ with_word self.old.words key.now value.now most }
+        ensures plain { Stands self.old.words key.now value.now most
+            → self.new.words ≡ with_plain_word self.old.words key.now value.now }
     {
-        self.plain(b' ');
-        self.escape(key, key.len());
-        self.plain(b'=');
+        self.key(key);
         self.escape(value, most);
     }
 
@@ -60,6 +66,7 @@ impl EventLine {
     pub fn number(&mut self, key: &[u8], number: u64)
         ensures head { self.new.head ≡ self.old.head }
         ensures level { self.new.level ≡ self.old.level }
+        ensures words { self.new.words ≡ with_word self.old.words key.now (decimal number) 384 }
     {
         let mut digits = ArrayVec::new();
         write_decimal(number, &mut digits);
@@ -70,30 +77,26 @@ impl EventLine {
     pub fn truth(&mut self, key: &[u8], truth: bool)
         ensures head { self.new.head ≡ self.old.head }
         ensures level { self.new.level ≡ self.old.level }
+        ensures words { self.new.words ≡ with_word self.old.words key.now (yes_no truth) 384 }
     {
         self.word(key, yes_no(truth), EVENT_WORDS);
     }
 
     /// Adds a word whose value is in quotation marks, in which a space and a = stand for themselves; it is cut where the line has no room.
+    #[tactic(auto, unfolding(crate::specs::EventWords::with_quoted))]
     pub fn quoted(&mut self, key: &[u8], value: &[u8])
         ensures head { self.new.head ≡ self.old.head }
         ensures level { self.new.level ≡ self.old.level }
+        ensures words { self.new.words ≡ with_quoted self.old.words key.now value.now }
     {
-        self.plain(b' ');
-        self.escape(key, key.len());
-        self.plain(b'=');
+        self.key(key);
         self.plain(b'"');
-        'bytes: for byte in value {
-            if self.words.len() + 5 > EVENT_WORDS {
-                break 'bytes;
-            }
-            self.quoted_byte(*byte);
-        }
+        self.quoted_text(value);
         self.plain(b'"');
     }
 
     /// The level of the line.
-    pub fn level(&self) -> u8
+    pub fn level(&self) -> Level
         ensures { result ≡ self.now.level }
     {
         self.level
@@ -121,24 +124,51 @@ impl EventLine {
         requires { IsLineByte byte }
         ensures head { self.new.head ≡ self.old.head }
         ensures level { self.new.level ≡ self.old.level }
-        ensures adds { length self.old.words < 384 → self.new.words ≡ self.old.words ++ byte ∷ [] }
+        ensures words { self.new.words ≡ with_byte self.old.words byte }
     {
         if !self.words.is_full() {
             self.words.push(byte);
         }
     }
 
+    /// Adds what stands before a value.
+    fn key(&mut self, key: &[u8])
+        ensures head { self.new.head ≡ self.old.head }
+        ensures level { self.new.level ≡ self.old.level }
+        ensures words { self.new.words ≡ with_key self.old.words key.now }
+    {
+        self.plain(b' ');
+        self.escape(key, key.len());
+        self.plain(b'=');
+    }
+
     /// Adds a text as a value says it, up to that many bytes, and whole characters alone.
+    #[tactic(auto, unfolding(crate::specs::EventWords::with_text))]
     fn escape(&mut self, text: &[u8], most: usize)
         ensures head { self.new.head ≡ self.old.head }
         ensures level { self.new.level ≡ self.old.level }
+        ensures words { self.new.words ≡ with_text self.old.words most text.now }
     {
         let end = self.words.len().saturating_add(most).min(EVENT_WORDS);
-        'bytes: for byte in text {
+        for byte in text {
             if self.words.len() + room_for(*byte) > end {
-                break 'bytes;
+                return;
             }
             self.value_byte(*byte);
+        }
+    }
+
+    /// Adds a text as a value in quotation marks says it, as far as it has room.
+    fn quoted_text(&mut self, text: &[u8])
+        ensures head { self.new.head ≡ self.old.head }
+        ensures level { self.new.level ≡ self.old.level }
+        ensures words { self.new.words ≡ with_quoted_text self.old.words text.now }
+    {
+        for byte in text {
+            if self.words.len() + 5 > EVENT_WORDS {
+                return;
+            }
+            self.quoted_byte(*byte);
         }
     }
 
@@ -147,6 +177,7 @@ impl EventLine {
         requires { length self.old.words + 3 ≤ 384 }
         ensures head { self.new.head ≡ self.old.head }
         ensures level { self.new.level ≡ self.old.level }
+        ensures adds { self.new.words ≡ self.old.words ++ quoted_of byte }
     {
         if byte == b' ' || byte == b'=' {
             self.plain(byte);
@@ -174,6 +205,7 @@ impl EventLine {
 
 /// How much room a byte of a text wants: its own, that of `%XX`, or that of the longest character that it may begin.
 fn room_for(byte: u8) -> usize
+    ensures value { result ≡ room_for byte }
     ensures enough { length (escape_of byte) ≤ result }
     ensures little { result ≤ 4 }
 {

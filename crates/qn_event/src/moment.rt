@@ -2,6 +2,7 @@
 ghost use Rattle.std.specs.Prelude.{◌≡◌, ◌<◌};
 ghost use Rattle.qn_event.specs.EventTexts.{three_digits};
 
+use crate::level::Level;
 use arrayvec::ArrayVec;
 use qn_base::{add, add_number};
 
@@ -21,7 +22,8 @@ impl Moment {
     ghost use Rattle.qn_event.specs.EventLines.{head_of};
 
     /// A line up to the name of its event.
-    pub(crate) fn head(self, level: u8) -> ArrayVec<u8, EVENT_HEAD>
+    #[tactic(auto, unfolding(crate::specs::EventLines::head_of))]
+    pub(crate) fn head(self, level: Level) -> ArrayVec<u8, EVENT_HEAD>
         ensures { result.items ≡ head_of self level }
     {
         let mut bytes = ArrayVec::new();
@@ -34,7 +36,7 @@ impl Moment {
         add(&mut bytes, b".");
         add(&mut bytes, &three_digits(self.time % 1000));
         add(&mut bytes, b" level=");
-        add_number(&mut bytes, u64::from(level));
+        add_number(&mut bytes, u64::from(level.number()));
         add(&mut bytes, b" event=");
         bytes
     }

@@ -2,19 +2,22 @@
 ghost use Rattle.qn_io.specs.Receives.{FitsPacket};
 
 use crate::ending::end_text;
-use crate::event_words::{ERROR, INFORMATION, NOTICE, WARNING, line_of};
 use crate::mail::{MailNews, MailState, Mailbox};
 use crate::peers::Peers;
 use crate::seldom::Seldom;
 use crate::status_text::{Counts, Shown, status_text};
 use qn_base::Rank;
-use qn_event::EventLine;
+use qn_event::{EventLine, Moment};
 use qn_io::Got;
 use qn_live::{Asked, Given, LiveEnd, NodeRun, Notices, Room, Standing};
 use qn_machine::{Lines, ReplacedFile};
-use qn_model::{HeaderSeen, Mail, MailSeen, Packet, Phase, What};
+use qn_model::{HeaderSeen, MailSeen, Packet, Phase, What};
 use qn_notice::{Event, Observer};
 use qn_sector::{get_mail, mail_sector};
+use qn_told::{
+    ended, event_line, feeds_failed, mail_damaged, mail_failed, mail_told, packets_refused,
+    peer_lost, peer_seen,
+};
 use qn_wire::get_packet;
 use std::fs::File;
 use std::rt::Files;
@@ -80,8 +83,9 @@ impl<'a, R: Files<File = File> + Clock + Eprint> Journal<'a, R> {
         }
     }
 
-    fn line(&self, level: u8, event: &[u8]) -> EventLine {
-        self.lines.line(self.rt, level, event)
+    /// When a line is said that is said now.
+    fn now(&self) -> Moment {
+        self.lines.moment(self.rt)
     }
 
     fn say(&mut self, line: &EventLine) {
@@ -113,8 +117,7 @@ impl<'a, R: Files<File = File> + Clock + Eprint> Journal<'a, R> {
             return;
         }
         if self.peers.hear(rank, tick) {
-            let mut line = self.line(INFORMATION, b"peer-seen");
-            line.number(b"id", u64::from(nodes.id_of(rank).0));
+            let line = peer_seen(self.now(), nodes.id_of(rank));
             self.say(&line);
         }
     }
@@ -123,9 +126,7 @@ impl<'a, R: Files<File = File> + Clock + Eprint> Journal<'a, R> {
     fn miss(&mut self, tick: u64, run: &NodeRun) {
         for (rank, node) in run.settings().nodes.as_slice().iter().enumerate() {
             if let Some(silent) = self.peers.lose(rank, tick, run.loop_ms()) {
-                let mut line = self.line(WARNING, b"peer-lost");
-                line.number(b"id", u64::from(node.id.0));
-                line.number(b"silent", silent);
+                let line = peer_lost(self.now(), node.id, silent);
                 self.say(&line);
             }
         }
@@ -133,8 +134,7 @@ impl<'a, R: Files<File = File> + Clock + Eprint> Journal<'a, R> {
 
     /// Tells an event.
     fn tell(&mut self, event: &Event, run: &NodeRun) {
-        let at = self.lines.moment(self.rt);
-        let line = line_of(at, &run.settings().nodes, self.msgwait, event);
+        let line = event_line(self.now(), &run.settings().nodes, self.msgwait, event);
         self.say(&line);
     }
 
@@ -160,51 +160,26 @@ impl<'a, R: Files<File = File> + Clock + Eprint> Journal<'a, R> {
 
     /// The node was handed a read of its mailbox.
     fn take_mail(&mut self, seen: MailSeen, tick: u64) {
-        match self.mailbox.take(seen, tick) {
-            Some(MailNews::Message(mail)) => self.tell_mail(&mail),
-            Some(MailNews::Damaged) => {
-                let line = self.line(ERROR, b"mail-damaged");
-                self.say(&line);
-            }
-            Some(MailNews::Failed) => {
-                let line = self.line(ERROR, b"mail-failed");
-                self.say(&line);
-            }
-            None => {}
-        }
-    }
-
-    /// Tells of another message in the mailbox.
-    fn tell_mail(&mut self, mail: &Mail) {
-        let level = if mail.message.is_deadly() {
-            ERROR
-        } else {
-            NOTICE
+        let Some(news) = self.mailbox.take(seen, tick) else {
+            return;
         };
-        let mut line = self.line(level, b"mail");
-        let name = mail.message.name().as_bytes();
-        line.word(b"message", name, name.len());
-        match mail.by {
-            Some(sender) => {
-                line.number(b"by", u64::from(sender.id.0));
-                line.number(b"by-incarnation", sender.incarnation);
-            }
-            None => line.word(b"by", b"operator", 8),
-        }
+        let at = self.now();
+        let line = match news {
+            MailNews::Message(mail) => mail_told(at, mail),
+            MailNews::Damaged => mail_damaged(at),
+            MailNews::Failed => mail_failed(at),
+        };
         self.say(&line);
     }
 
     /// Tells of what happens often, where that is due.
     fn tell_seldom(&mut self, tick: u64) {
         if let Some(count) = self.late.due(tick) {
-            let mut line = self.line(ERROR, b"feed");
-            line.truth(b"ok", false);
-            line.number(b"count", count);
+            let line = feeds_failed(self.now(), count);
             self.say(&line);
         }
         if let Some(count) = self.refused.due(tick) {
-            let mut line = self.line(WARNING, b"packets-refused");
-            line.number(b"count", count);
+            let line = packets_refused(self.now(), count);
             self.say(&line);
         }
     }
@@ -333,8 +308,7 @@ impl<'a, R: Files<File = File> + Clock + Eprint> Notices for Journal<'a, R> {
 
     fn ended(&mut self, end: LiveEnd, run: &NodeRun) {
         let (text, is_fault) = end_text(end, self.turns);
-        let mut line = self.line(if is_fault { ERROR } else { NOTICE }, b"end");
-        line.quoted(b"end", text.as_slice());
+        let line = ended(self.now(), text.as_slice(), is_fault);
         self.say(&line);
         self.write_status(run, Some(text.as_slice()));
     }

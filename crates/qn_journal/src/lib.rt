@@ -1,13 +1,11 @@
 //! The journal of a running node and its status file: what `Notices` hands on becomes lines on standard error, in the grammar of
-//! docs/FORMATS.md, and one object of JSON in a file that is replaced. It is the edge: text, the system's clock, and files. What is told of
-//! an entry is decided by `qn_notice`.
+//! docs/FORMATS.md, and one object of JSON in a file that is replaced. It is the edge: the system's clock, and files. What is told of
+//! an entry is decided by `qn_notice`, and the bytes of each line by `qn_told`.
 //!
-//! Promises: each call ends, takes no memory from an allocator, and fails nowhere. Of the bytes of a line, `EventLine` of `qn_event` promises
-//! its beginning and that its words are of one line. No clause says what a file or standard error takes.
+//! Promises: each call ends, takes no memory from an allocator, and fails nowhere. No clause says what a file or standard error takes.
 #![tactic(auto)]
 
 mod ending;
-mod event_words;
 mod journal;
 mod mail;
 mod peers;

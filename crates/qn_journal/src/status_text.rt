@@ -1,10 +1,9 @@
 //! The status of a running node as one object of JSON, with its keys in alphabetical order.
-use crate::event_words::is_in;
 use crate::mail::{MailState, Mailbox};
 use crate::peers::Peers;
 use crate::text::Text;
 use arrayvec::ArrayVec;
-use qn_base::{Rank, View};
+use qn_base::{Mask, Rank, View};
 use qn_event::Moment;
 use qn_live::Standing;
 use qn_model::{Nodes, Phase};
@@ -173,4 +172,12 @@ fn add_view(text: &mut Text, nodes: &Nodes, view: View) {
         }
     }
     text.add(b"]}");
+}
+
+/// Whether the node of that place is one of the members.
+fn is_in(members: Mask, place: usize) -> bool {
+    match u8::try_from(place) {
+        Ok(rank) => members.has(Rank(rank)),
+        Err(_) => false,
+    }
 }

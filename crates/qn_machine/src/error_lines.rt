@@ -1,7 +1,8 @@
 //! Lines on standard error that nobody waits for.
+use crate::journal_lines::dropped_line;
 use crate::waiting::Waiting;
 use arrayvec::ArrayVec;
-use qn_event::{EventLine, Moment};
+use qn_event::{EventLine, Level, Moment};
 use std::cell::Cell;
 use std::fmt::{Display, Write};
 use std::net::Net;
@@ -13,9 +14,6 @@ const SAID: usize = 1024;
 
 /// The most bytes of a line of the system's own words, without its end.
 const WORDS: usize = 800;
-
-/// The level of the system's own words, and of a line that says how many were dropped: a warning.
-const WARNING: u8 = 4;
 
 /// Says lines on standard error. A line for which that has no room, as a pipe that nobody reads, is dropped and counted, and so is one
 /// that cannot be written; the next one that has room says how many these were, in one write with it. Standard error is asked before each
@@ -73,11 +71,6 @@ impl Lines {
         }
     }
 
-    /// A line of that event, with its level as syslog(3) has it.
-    pub fn line<C: Clock>(&self, clock: &C, level: u8, event: &[u8]) -> EventLine {
-        EventLine::new(self.moment(clock), level, event)
-    }
-
     /// Says a line. That it cannot be written is no fault.
     pub fn say<R: Clock + Eprint>(&self, rt: &R, line: &EventLine) {
         self.write(rt, line.level(), line.head(), line.words());
@@ -89,7 +82,7 @@ impl Lines {
     }
 
     /// Writes a line of two parts, where there is room, and before it how many were dropped since the last one.
-    fn write<R: Clock + Eprint>(&self, rt: &R, level: u8, first: &[u8], second: &[u8]) {
+    fn write<R: Clock + Eprint>(&self, rt: &R, level: Level, first: &[u8], second: &[u8]) {
         if !self.has_room() {
             self.drop_line();
             return;
@@ -97,9 +90,8 @@ impl Lines {
         let mut said = Said::new();
         let untold = self.untold.get();
         if untold > 0 {
-            let mut line = self.line(rt, WARNING, b"lines-dropped");
-            line.number(b"count", untold);
-            said.line(self.has_levels, WARNING, line.head(), line.words());
+            let line = dropped_line(self.moment(rt), untold);
+            said.line(self.has_levels, line.level(), line.head(), line.words());
         }
         said.line(self.has_levels, level, first, second);
         match rt.eprint(said.as_str()) {
@@ -139,9 +131,9 @@ impl Said {
     }
 
     /// Adds a line of two parts, with its level before it where that is wanted.
-    fn line(&mut self, has_level: bool, level: u8, first: &[u8], second: &[u8]) {
+    fn line(&mut self, has_level: bool, level: Level, first: &[u8], second: &[u8]) {
         if has_level {
-            self.add(&[b'<', b'0' | level, b'>']);
+            self.add(&[b'<', b'0' + level.number(), b'>']);
         }
         self.add(first);
         self.add(second);
@@ -218,7 +210,7 @@ impl<'a, R: Clock + Eprint> Eprint for LinesOver<'a, R> {
         };
         let _ = write!(words, "{value}");
         self.lines
-            .write(self.rt, WARNING, words.bytes.as_slice(), b"");
+            .write(self.rt, Level::Warning, words.bytes.as_slice(), b"");
         Ok(())
     }
 }

@@ -22,6 +22,7 @@ mod image;
 mod image_file;
 mod image_reader;
 mod image_word;
+mod journal_lines;
 mod named_file;
 mod nbd_image;
 mod network;

@@ -6,6 +6,7 @@ use crate::edge::{Edge, Guard};
 use crate::error_lines::Lines;
 use crate::etcd_word::check_reach;
 use crate::image::Opener;
+use crate::journal_lines::opening_line;
 use crate::named_file::Absent;
 use crate::reported::reported;
 use crate::waiting::Waiting;
@@ -17,14 +18,6 @@ use std::marker::Model;
 use std::net::{Net, TcpStream};
 use std::rt::Files;
 use std::time::{Clock, Duration};
-
-/// The most bytes of a path in the line of an opening.
-const MOST_OF_A_PATH: usize = 100;
-
-/// The levels of a line, as syslog(3) has them.
-const ERROR: u8 = 3;
-
-const NOTICE: u8 = 5;
 
 /// How long a node waits after a packet could not be received, in milliseconds.
 const REST: u64 = 40;
@@ -145,14 +138,7 @@ impl<
 
     /// Says what a node opens, and whether all of it was opened.
     fn say_opening(&self, opening: &Opening<'_>, ok: bool) {
-        let level = if ok { NOTICE } else { ERROR };
-        let port = opening.port.wrapping_add(u16::from(opening.rank.0));
-        let mut line = self.lines.line(&self.rt, level, b"open");
-        line.number(b"port", u64::from(port));
-        line.word(b"image", opening.image.as_bytes(), MOST_OF_A_PATH);
-        line.word(b"resource", opening.resource.as_bytes(), MOST_OF_A_PATH);
-        line.word(b"watchdog", opening.watchdog.as_bytes(), MOST_OF_A_PATH);
-        line.truth(b"ok", ok);
+        let line = opening_line(self.lines.moment(&self.rt), opening, ok);
         self.lines.say(&self.rt, &line);
     }
 

@@ -1,14 +1,13 @@
 //! The datagrams that were not handed to the node, which a line on standard error says at most once a minute.
 ghost use Rattle.std.specs.Prelude.{◌≡◌, ◌+◌, nat_lt};
+ghost use Rattle.qn_machine.specs.JournalLines.{all_refused, refusals_line};
 ghost use Rattle.qn_machine.specs.Refusals.{counted, is_due, is_minute_ago, refusals_after};
 
 use crate::admission::Reason;
 use crate::error_lines::Lines;
+use qn_event::{EventLine, Level, Moment};
 use qn_seal::Refused;
 use std::time::Clock;
-
-/// The level of the line, as syslog(3) has it.
-const WARNING: u8 = 4;
 
 /// How long no second line is said, in milliseconds.
 const BETWEEN_LINES: u64 = 60_000;
@@ -61,6 +60,29 @@ impl Refusals {
         }
     }
 
+    /// How many there were, at most the greatest u64.
+    fn all(&self) -> u64
+        ensures { result ≡ all_refused self.now }
+    {
+        self.unsealed
+            .saturating_add(self.astray)
+            .saturating_add(self.stale)
+            .saturating_add(self.elsewhere)
+    }
+
+    /// How many there were, and why.
+    fn line(&self, at: Moment) -> EventLine
+        ensures { result ≡ refusals_line at self.now }
+    {
+        let mut line = EventLine::new(at, Level::Warning, b"packets-refused");
+        line.number(b"count", self.all());
+        line.number(b"unsealed", self.unsealed);
+        line.number(b"astray", self.astray);
+        line.number(b"old", self.stale);
+        line.number(b"elsewhere", self.elsewhere);
+        line
+    }
+
     /// Says how many there were, where a line is due, and counts anew from then on.
     pub(crate) fn say<R: Clock + Eprint>(&mut self, rt: &R, lines: &Lines, tick: u64)
         ensures { self.new ≡ refusals_after self.old tick }
@@ -68,23 +90,7 @@ impl Refusals {
         if !self.is_due(tick) {
             return;
         }
-        let Refusals {
-            unsealed,
-            astray,
-            stale,
-            elsewhere,
-            ..
-        } = *self;
-        let all = unsealed
-            .saturating_add(astray)
-            .saturating_add(stale)
-            .saturating_add(elsewhere);
-        let mut line = lines.line(rt, WARNING, b"packets-refused");
-        line.number(b"count", all);
-        line.number(b"unsealed", unsealed);
-        line.number(b"astray", astray);
-        line.number(b"old", stale);
-        line.number(b"elsewhere", elsewhere);
+        let line = self.line(lines.moment(rt));
         lines.say(rt, &line);
         *self = Refusals {
             said: Some(tick),

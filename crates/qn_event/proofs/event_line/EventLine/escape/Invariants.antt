@@ -1,9 +1,13 @@
-use Rattle.std.proofs.Common.{◌≡◌}
+use Rattle.std.proofs.Common.{◌≡◌, ◌≤◌, ◌-◌, ◌++◌, drop, length}
+use Rattle.qn_event.specs.EventWords.{escaped_in}
 use Rattle.qn_event.proofs.event_line.EventLine.escape.Given as goal
 
--- what stands before the event stays
-abbrev pub invariant-bytes : goal.invariant-bytes
-invariant-bytes l = record {
+-- what is written, and what of the rest has room, is the whole
+abbrev pub invariant-loop-byte : goal.invariant-loop-byte
+invariant-loop-byte l = record {
   head : l.self.head ≡ l.initial.self.head;
   level : l.self.level ≡ l.initial.self.level;
+  fits : length l.self.words ≤ l.end;
+  words : l.self.words ++ escaped_in (l.end - length l.self.words) (drop l.byte-index l.text)
+      ≡ l.initial.self.words ++ escaped_in (l.end - length l.initial.self.words) l.text;
 }

@@ -1,0 +1,42 @@
+-- What a line of the journal says of the opening, of datagrams and of lines (this project's profile, docs/LIVE.md "The journal").
+use Rattle.std.specs.Prelude.{ℕ, Bool, List, [], ◌∷◌, ◌+◌, ◌-◌, ◌%◌, ◌^◌, codes, min, if◌then◌else◌}
+use Rattle.qn_event.specs.EventTexts.{EventText}
+use Rattle.qn_event.specs.WholeLines.{Word, line, number, truth}
+use Rattle.qn_event.specs.declared.level.Level.TheVariants.{Error, Warning, Notice}
+use Rattle.qn_event.specs.declared.moment.Moment.{Moment}
+use Rattle.qn_io.specs.declared.calls.Opening.{Opening}
+use Rattle.qn_machine.specs.declared.refusals.Refusals.{Refusals}
+
+-- a path, of which a line has at most 100 bytes
+abbrev pub path : List ℕ → List ℕ → Word
+path key value = record { key = key; value = value; most = 100 }
+
+-- what a node opens, and whether all of it was opened. It listens at the first port of the cluster and its rank together
+abbrev pub opening_line : Moment → Opening → Bool → EventText
+opening_line at opening ok =
+    line at (if ok then Notice else Error) (codes "open")
+    (number (codes "port") ((opening.port + opening.rank.0) % 2 ^ 16)
+    ∷ path (codes "image") opening.image.now
+    ∷ path (codes "resource") opening.resource.now
+    ∷ path (codes "watchdog") opening.watchdog.now
+    ∷ truth (codes "ok") ok
+    ∷ [])
+
+-- how many datagrams were not handed on, at most the greatest u64
+abbrev pub all_refused : Refusals → ℕ
+all_refused refusals = min (2 ^ 64 - 1) (refusals.unsealed + refusals.astray + refusals.stale + refusals.elsewhere)
+
+-- how many datagrams were not handed on, and why
+abbrev pub refusals_line : Moment → Refusals → EventText
+refusals_line at refusals =
+    line at Warning (codes "packets-refused")
+    (number (codes "count") (all_refused refusals)
+    ∷ number (codes "unsealed") refusals.unsealed
+    ∷ number (codes "astray") refusals.astray
+    ∷ number (codes "old") refusals.stale
+    ∷ number (codes "elsewhere") refusals.elsewhere
+    ∷ [])
+
+-- so many lines had no room
+abbrev pub dropped_line : Moment → ℕ → EventText
+dropped_line at count = line at Warning (codes "lines-dropped") (number (codes "count") count ∷ [])

@@ -1,0 +1,105 @@
+-- What a line of the journal says of an event: its name, its level and its words (this project's profile, docs/LIVE.md "The journal").
+use Rattle.std.specs.Prelude.{ℕ, List, [], ◌∷◌, ◌++◌, codes, decimal, slice_index, if◌then◌else◌}
+use Rattle.qn_event.specs.EventTexts.{EventText}
+use Rattle.qn_event.specs.declared.level.Level.{Level}
+use Rattle.qn_event.specs.declared.level.Level.TheVariants.{Error, Warning, Notice, Information}
+use Rattle.qn_event.specs.declared.moment.Moment.{Moment}
+use Rattle.qn_model.specs.declared.nodelist.NodeEntry.{NodeEntry}
+use Rattle.qn_model.specs.declared.outputs.HaltKind.{HaltKind}
+use Rattle.qn_model.specs.declared.outputs.HaltKind.TheVariants.{Deadly, Boot}
+use Rattle.qn_model.specs.declared.votes.Answer.{Answer}
+use Rattle.qn_model.specs.Messages.{message_name}
+use Rattle.qn_model.specs.Settings.{ids}
+use Rattle.qn_notice.specs.declared.kinds.Event.{Event}
+use Rattle.qn_notice.specs.declared.kinds.Event.TheVariants as event
+use Rattle.qn_sched.specs.EventLines.{member_word}
+use Rattle.qn_sched.specs.PhaseNames.{phase_name}
+use Rattle.qn_sched.specs.TraceLines.{cause_number, why_text}
+use Rattle.qn_event.specs.WholeLines.{Word, line, number, text, truth}
+
+-- the name of an event
+abbrev pub name_of : Event → List ℕ
+name_of (event.Phase from to) = codes "phase"
+name_of (event.Claimed incarnation) = codes "claimed"
+name_of (event.View view answer) = codes "view"
+name_of event.Released = codes "released"
+name_of (event.QuorumWon answer) = codes "quorum-won"
+name_of (event.QuorumLost answer) = codes "quorum-lost"
+name_of (event.Why why) = codes "why"
+name_of (event.FenceAsked of) = codes "fence-asked"
+name_of (event.FenceWritten of ok) = codes "fence-written"
+name_of (event.Licence of) = codes "licence"
+name_of event.StartAsked = codes "start-asked"
+name_of event.StopAsked = codes "stop-asked"
+name_of (event.StartAnswered ok) = codes "start"
+name_of (event.StopAnswered ok) = codes "stop"
+name_of (event.DisarmAnswered ok) = codes "disarm"
+name_of event.HoldWon = codes "hold-won"
+name_of event.HoldLost = codes "hold-lost"
+name_of (event.Halt kind) = codes "halt"
+
+-- the level of an event
+abbrev pub level_of : Event → Level
+level_of (event.Phase from to) = Notice
+level_of (event.Claimed incarnation) = Notice
+level_of (event.View view answer) = Notice
+level_of event.Released = Notice
+level_of (event.QuorumWon answer) = Notice
+level_of (event.QuorumLost answer) = Warning
+level_of (event.Why why) = Information
+level_of (event.FenceAsked of) = Warning
+level_of (event.FenceWritten of ok) = if ok then Warning else Error
+level_of (event.Licence of) = Information
+level_of event.StartAsked = Notice
+level_of event.StopAsked = Notice
+level_of (event.StartAnswered ok) = if ok then Notice else Error
+level_of (event.StopAnswered ok) = if ok then Notice else Error
+level_of (event.DisarmAnswered ok) = if ok then Notice else Error
+level_of event.HoldWon = Notice
+level_of event.HoldLost = Notice
+level_of (event.Halt kind) = Error
+
+-- the count of votes
+abbrev pub answer_words : Answer → List Word
+answer_words answer =
+    truth (codes "quorate") answer.quorate
+    ∷ number (codes "votes") answer.votes
+    ∷ number (codes "quorum") answer.quorum
+    ∷ number (codes "expected") answer.expected
+    ∷ []
+
+-- why a node halts: a deadly message by its name, or the cause of a boot that failed by its number
+abbrev pub cause_text : HaltKind → List ℕ
+cause_text (Deadly message) = message_name message
+cause_text (Boot cause) = codes "boot-" ++ decimal (cause_number cause)
+
+-- the words of an event of one of these nodes, where msgwait is so long in milliseconds
+abbrev pub words_of : List NodeEntry → ℕ → Event → List Word
+words_of nodes msgwait (event.Phase from to) =
+    text (codes "from") (phase_name from) ∷ text (codes "to") (phase_name to) ∷ []
+words_of nodes msgwait (event.Claimed incarnation) = number (codes "incarnation") incarnation ∷ []
+words_of nodes msgwait (event.View view answer) =
+    number (codes "view") view.id
+    ∷ record { key = codes "members"; value = member_word (ids nodes) view.members; most = 250 }
+    ∷ answer_words answer
+words_of nodes msgwait event.Released = []
+words_of nodes msgwait (event.QuorumWon answer) = answer_words answer
+words_of nodes msgwait (event.QuorumLost answer) = answer_words answer
+words_of nodes msgwait (event.Why why) = text (codes "why") (why_text why) ∷ []
+words_of nodes msgwait (event.FenceAsked of) = number (codes "of") (slice_index (ids nodes) of.0) ∷ []
+words_of nodes msgwait (event.FenceWritten of ok) =
+    number (codes "of") (slice_index (ids nodes) of.0) ∷ truth (codes "ok") ok ∷ number (codes "msgwait") msgwait ∷ []
+words_of nodes msgwait (event.Licence of) =
+    number (codes "of") (slice_index (ids nodes) of.0) ∷ text (codes "by") (codes "clean-slot") ∷ []
+words_of nodes msgwait event.StartAsked = []
+words_of nodes msgwait event.StopAsked = []
+words_of nodes msgwait (event.StartAnswered ok) = truth (codes "ok") ok ∷ []
+words_of nodes msgwait (event.StopAnswered ok) = truth (codes "ok") ok ∷ []
+words_of nodes msgwait (event.DisarmAnswered ok) = truth (codes "ok") ok ∷ []
+words_of nodes msgwait event.HoldWon = []
+words_of nodes msgwait event.HoldLost = []
+words_of nodes msgwait (event.Halt kind) = text (codes "cause") (cause_text kind) ∷ []
+
+-- the line of an event: at that time, of one of these nodes, where msgwait is so long in milliseconds
+abbrev pub event_line : Moment → List NodeEntry → ℕ → Event → EventText
+event_line at nodes msgwait event = line at (level_of event) (name_of event) (words_of nodes msgwait event)

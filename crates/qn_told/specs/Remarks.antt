@@ -1,0 +1,54 @@
+-- What a line of the journal says of bytes, of the clock and of the watchdog (this project's profile, docs/LIVE.md "The journal").
+use Rattle.std.specs.Prelude.{ℕ, Bool, List, [], ◌∷◌, Option, None, Some, false, codes, if◌then◌else◌}
+use Rattle.qn_base.specs.declared.ids.NodeId.{NodeId}
+use Rattle.qn_event.specs.EventLines.{head_of}
+use Rattle.qn_event.specs.EventTexts.{EventText}
+use Rattle.qn_event.specs.EventWords.{with_quoted, with_text}
+use Rattle.qn_event.specs.declared.level.Level.TheVariants.{Error, Warning, Notice, Information}
+use Rattle.qn_event.specs.declared.moment.Moment.{Moment}
+use Rattle.qn_model.specs.declared.mailbox.Mail.{Mail}
+use Rattle.qn_model.specs.declared.mailbox.Sender.{Sender}
+use Rattle.qn_model.specs.Messages.{message_name}
+use Rattle.qn_model.specs.Sectors.{is_deadly}
+use Rattle.qn_event.specs.WholeLines.{Word, line, number, text, truth}
+
+-- a node is heard that was not
+abbrev pub peer_seen : Moment → NodeId → EventText
+peer_seen at id = line at Information (codes "peer-seen") (number (codes "id") id.0 ∷ [])
+
+-- a node is not heard for so many milliseconds
+abbrev pub peer_lost : Moment → NodeId → ℕ → EventText
+peer_lost at id silent = line at Warning (codes "peer-lost") (number (codes "id") id.0 ∷ number (codes "silent") silent ∷ [])
+
+-- who wrote a message: a node, or an operator
+abbrev pub sender_words : Option Sender → List Word
+sender_words None = text (codes "by") (codes "operator") ∷ []
+sender_words (Some sender) = number (codes "by") sender.id.0 ∷ number (codes "by-incarnation") sender.incarnation ∷ []
+
+-- the mailbox holds another message
+abbrev pub mail_told : Moment → Mail → EventText
+mail_told at mail =
+    line at (if is_deadly mail.message then Error else Notice) (codes "mail") (text (codes "message") (message_name mail.message) ∷ sender_words mail.by)
+
+-- the mailbox cannot be read: its sector is none, or the read failed
+abbrev pub mail_damaged : Moment → EventText
+mail_damaged at = line at Error (codes "mail-damaged") []
+
+abbrev pub mail_failed : Moment → EventText
+mail_failed at = line at Error (codes "mail-failed") []
+
+-- so many feeds failed or came too late
+abbrev pub feeds_failed : Moment → ℕ → EventText
+feeds_failed at count = line at Error (codes "feed") (truth (codes "ok") false ∷ number (codes "count") count ∷ [])
+
+-- so many packets were none
+abbrev pub packets_refused : Moment → ℕ → EventText
+packets_refused at count = line at Warning (codes "packets-refused") (number (codes "count") count ∷ [])
+
+-- the run ended so, by a fault or not
+abbrev pub ended : Moment → List ℕ → Bool → EventText
+ended at end fault = record {
+  level = if fault then Error else Notice;
+  head = head_of at (if fault then Error else Notice);
+  words = with_quoted (with_text [] 3 (codes "end")) (codes "end") end;
+}

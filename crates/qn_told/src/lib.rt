@@ -1,0 +1,14 @@
+//! The lines in which a running node tells what happens to it. Nothing here knows when one is due, a stream, or the system's clock.
+//!
+//! Promises: each line is exactly the defined one: its level, what it begins with, its name and its words (`specs/Events` of what a node tells
+//! of an entry, `specs/Remarks` of what wants bytes, a clock or a device).
+#![tactic(auto)]
+
+mod events;
+mod remarks;
+
+pub use events::event_line;
+pub use remarks::{
+    ended, feeds_failed, mail_damaged, mail_failed, mail_told, packets_refused, peer_lost,
+    peer_seen,
+};

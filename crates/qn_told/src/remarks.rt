@@ -1,0 +1,105 @@
+//! What is told besides the events of entries: of nodes that are heard, of the mailbox, of feeds, packets, and the end.
+ghost use Rattle.std.specs.Prelude.{◌≡◌};
+ghost use Rattle.qn_told.specs.Remarks.{ended, feeds_failed, mail_damaged, mail_failed, mail_told, packets_refused, peer_lost, peer_seen, sender_words};
+ghost use Rattle.qn_event.specs.WholeLines.{with_words};
+
+use qn_base::NodeId;
+use qn_event::{EventLine, Level, Moment};
+use qn_model::{Mail, Sender};
+
+/// That a node is heard which was not.
+pub fn peer_seen(at: Moment, id: NodeId) -> EventLine
+    ensures { result ≡ peer_seen at id }
+{
+    let mut line = EventLine::new(at, Level::Information, b"peer-seen");
+    line.number(b"id", u64::from(id.0));
+    line
+}
+
+/// That a node was not heard for so many milliseconds.
+pub fn peer_lost(at: Moment, id: NodeId, silent: u64) -> EventLine
+    ensures { result ≡ peer_lost at id silent }
+{
+    let mut line = EventLine::new(at, Level::Warning, b"peer-lost");
+    line.number(b"id", u64::from(id.0));
+    line.number(b"silent", silent);
+    line
+}
+
+/// That the mailbox holds another message: which, and whose.
+pub fn mail_told(at: Moment, mail: Mail) -> EventLine
+    ensures { result ≡ mail_told at mail }
+{
+    let level = if mail.message.is_deadly() {
+        Level::Error
+    } else {
+        Level::Notice
+    };
+    let mut line = EventLine::new(at, level, b"mail");
+    let name = mail.message.name().as_bytes();
+    line.word(b"message", name, name.len());
+    add_sender(&mut line, mail.by);
+    line
+}
+
+/// Adds who wrote a message: a node in one of its incarnations, or an operator.
+fn add_sender(line: &mut EventLine, by: Option<Sender>)
+    ensures head { line.new.head ≡ line.old.head }
+    ensures level { line.new.level ≡ line.old.level }
+    ensures words { line.new.words ≡ with_words line.old.words (sender_words by) }
+{
+    match by {
+        Some(sender) => {
+            line.number(b"by", u64::from(sender.id.0));
+            line.number(b"by-incarnation", sender.incarnation);
+        }
+        None => line.word(b"by", b"operator", 8),
+    }
+}
+
+/// That the sector of the mailbox is none.
+pub fn mail_damaged(at: Moment) -> EventLine
+    ensures { result ≡ mail_damaged at }
+{
+    EventLine::new(at, Level::Error, b"mail-damaged")
+}
+
+/// That the mailbox could not be read.
+pub fn mail_failed(at: Moment) -> EventLine
+    ensures { result ≡ mail_failed at }
+{
+    EventLine::new(at, Level::Error, b"mail-failed")
+}
+
+/// That so many feeds failed or came too late.
+pub fn feeds_failed(at: Moment, count: u64) -> EventLine
+    ensures { result ≡ feeds_failed at count }
+{
+    let mut line = EventLine::new(at, Level::Error, b"feed");
+    line.truth(b"ok", false);
+    line.number(b"count", count);
+    line
+}
+
+/// That so many packets were none.
+pub fn packets_refused(at: Moment, count: u64) -> EventLine
+    ensures { result ≡ packets_refused at count }
+{
+    let mut line = EventLine::new(at, Level::Warning, b"packets-refused");
+    line.number(b"count", count);
+    line
+}
+
+/// That the run ended, by that line, and whether that is a fault.
+pub fn ended(at: Moment, end: &[u8], is_fault: bool) -> EventLine
+    ensures { result ≡ ended at end.now is_fault }
+{
+    let level = if is_fault {
+        Level::Error
+    } else {
+        Level::Notice
+    };
+    let mut line = EventLine::new(at, level, b"end");
+    line.quoted(b"end", end);
+    line
+}
