@@ -31,6 +31,9 @@ pub fn add_number<const N: usize>(into: &mut ArrayVec<u8, N>, number: u64)
 {
     if number < 10 {
         into.push(b'0' + number as u8);
+    } else if number < 100 {
+        into.push(b'0' + (number / 10) as u8);
+        into.push(b'0' + (number % 10) as u8);
     } else {
         let mut digits = Buffer::new();
         add(into, digits.format(number).as_bytes());
