@@ -98,6 +98,30 @@ impl Stage {
             → outs.new ≡ newest_outs (with_entry own.now.settings own.now.me.0 log entry) }
     {
         tally.count(own, entry.tick, VoteWhat::Tick);
+        if let Stage::Rest(rest) = self {
+            *rest = rest.step(entry.tick, entry.what);
+            return;
+        }
+        self.step_booting(own, entry, outs);
+    }
+
+    /// The stage after an entry to a node that boots, with its outputs.
+    #[inline(never)]
+    fn step_booting(&mut self, own: &Own, entry: Entry, outs: &mut Outs)
+        requires quiet { takes_part self.old ≡ false }
+        requires empty { outs.old ≡ [] }
+        ensures few { installs_in self.new ≡ 0 }
+        ensures stands { (log : List Line)
+            → StageFor self.old own.now.settings own.now.me.0 log
+            → IsAskedInside log
+            → StageFor self.new own.now.settings own.now.me.0
+            (with_read own.now.settings own.now.me.0 log entry.tick
+            (read_as own.now.settings own.now.me.0 log entry.what)) }
+        ensures outs { (log : List Line)
+            → StageFor self.old own.now.settings own.now.me.0 log
+            → outs.new ≡ newest_outs (with_read own.now.settings own.now.me.0 log entry.tick
+            (read_as own.now.settings own.now.me.0 log entry.what)) }
+    {
         let quiet = mem::replace(self, Stage::Idle);
         *self = quiet.next(own, entry, outs);
     }
