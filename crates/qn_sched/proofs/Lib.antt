@@ -3,6 +3,7 @@ mod ClockSpelling
 mod ClocksListed
 pub mod EventSpelling
 mod Joining
+mod LastDigits
 mod LineWords
 mod Listed
 mod MemberSpelling

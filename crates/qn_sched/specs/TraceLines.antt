@@ -93,6 +93,10 @@ holders_text ids holders = joined_or_dash 43 (map decimal (ids_from 0 ids holder
 abbrev pub answer_text : Answer → List ℕ
 answer_text answer = codes " quorate=" ++ yes_no answer.quorate ++ codes " " ++ decimal answer.votes ++ codes "/" ++ decimal answer.quorum
 
+-- what stands after the holders in the line of a node
+abbrev pub end_text : Answer → Why → List ℕ
+end_text answer why = answer_text answer ++ codes " why=" ++ why_text why
+
 -- what stands after the outputs of a node
 abbrev pub state_text : List ℕ → Report → List ℕ
 state_text ids report =

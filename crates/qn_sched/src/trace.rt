@@ -24,7 +24,7 @@ pub fn write_why(why: &Why, into: &mut ArrayVec<u8, 64>)
 }
 
 /// Adds the first condition that blocks a start, at the end of a list that has room for 64 bytes.
-fn add_why<const N: usize>(into: &mut ArrayVec<u8, N>, why: &Why)
+pub(crate) fn add_why<const N: usize>(into: &mut ArrayVec<u8, N>, why: &Why)
     requires { length into.old.items + 64 ≤ N }
     ensures text { into.new.items ≡ into.old.items ++ why_text why.now }
     ensures len { length into.new.items ≤ length into.old.items + 64 }
@@ -118,7 +118,12 @@ fn begin_line(number: u64, time: u64, into: &mut ArrayVec<u8, 4096>)
 }
 
 /// Adds what stands after the time where no node is touched, with this text in place of a node and its outputs.
-fn add_untouched(into: &mut ArrayVec<u8, 4096>, nodes: &Nodes, report: &Report, said: &[u8])
+pub(crate) fn add_untouched(
+    into: &mut ArrayVec<u8, 4096>,
+    nodes: &Nodes,
+    report: &Report,
+    said: &[u8],
+)
     requires room { length into.old.items ≤ 100 }
     requires short { length said.now ≤ 100 }
     ensures text { into.new.items
@@ -174,7 +179,7 @@ fn add_state(into: &mut ArrayVec<u8, 4096>, nodes: &Nodes, report: &Report)
 }
 
 /// Adds the count of a node, at the end of a list that has room for 60 bytes.
-fn add_answer<const N: usize>(into: &mut ArrayVec<u8, N>, answer: &Answer)
+pub(crate) fn add_answer<const N: usize>(into: &mut ArrayVec<u8, N>, answer: &Answer)
     requires { length into.old.items + 60 ≤ N }
     ensures text { into.new.items ≡ into.old.items ++ answer_text answer.now }
     ensures len { length into.new.items ≤ length into.old.items + 60 }
@@ -208,7 +213,7 @@ pub fn answer_text(answer: &Answer) -> ShortText
 }
 
 /// Adds the ids of the nodes that hold the resource, or a dash.
-fn add_holders(into: &mut ArrayVec<u8, 4096>, nodes: &Nodes, holders: Mask)
+pub(crate) fn add_holders(into: &mut ArrayVec<u8, 4096>, nodes: &Nodes, holders: Mask)
     requires { length into.old.items ≤ 3000 }
     ensures text { into.new.items ≡ into.old.items ++ holders_text (ids nodes.now) holders }
     ensures len { length into.new.items ≤ length into.old.items + 21 * 32 }
@@ -235,7 +240,7 @@ fn add_holder_ids(into: &mut ArrayVec<u8, 4096>, nodes: &Nodes, holders: Mask)
 }
 
 /// Adds the outputs, or a dash.
-fn add_outs(into: &mut ArrayVec<u8, 4096>, nodes: &Nodes, outs: &Outs)
+pub(crate) fn add_outs(into: &mut ArrayVec<u8, 4096>, nodes: &Nodes, outs: &Outs)
     requires { length into.old.items ≤ 200 }
     ensures text { into.new.items ≡ into.old.items ++ outs_text (ids nodes.now) outs.now }
     ensures len { length into.new.items ≤ length into.old.items + 1640 }
