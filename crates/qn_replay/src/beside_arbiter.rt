@@ -7,7 +7,7 @@ use qn_base::{MOST_LINE_BYTES, NoMemory};
 use qn_io::{Pieces, Source};
 use qn_model::{LineFault, Refused};
 use qn_safety::{ArbiterEvent, ArbiterReport};
-use qn_sched::ReplayEnd;
+use qn_sched::{ReplayEnd, TraceWriter};
 use std::alloc::Global;
 
 impl TakesEvents for ArbiterWorld {
@@ -74,6 +74,7 @@ impl TakesEvents for ArbiterWorld {
         number: u64,
         event: &ArbiterEvent,
         report: &ArbiterReport,
+        _writer: &mut TraceWriter,
         text: &mut ArrayVec<u8, MOST_LINE_BYTES>,
     ) {
         write_arbiter_trace(number, event, report, self.settings(), text);

@@ -14,7 +14,7 @@ use qn_base::{MOST_LINE_BYTES, NoMemory, Rank};
 use qn_io::{Pieces, Source};
 use qn_model::{Event, LineFault, Outs, Refused, Report};
 use qn_playback::{Head, read_head};
-use qn_sched::{ReplayEnd, read_line_into, write_trace};
+use qn_sched::{ReplayEnd, TraceWriter, read_line_into};
 use qn_world::{World, blank_report};
 use std::alloc::Global;
 
@@ -81,9 +81,10 @@ impl TakesEvents for World {
         number: u64,
         _event: &Event,
         report: &Report,
+        writer: &mut TraceWriter,
         text: &mut ArrayVec<u8, MOST_LINE_BYTES>,
     ) {
-        write_trace(number, report, self.settings(), text);
+        writer.write(number, report, self.settings(), text);
     }
 }
 

@@ -4,7 +4,7 @@ use arrayvec::ArrayVec;
 use qn_base::MOST_LINE_BYTES;
 use qn_model::{LineFault, Refused};
 use qn_playback::Plays;
-use qn_sched::ReplayEnd;
+use qn_sched::{ReplayEnd, TraceWriter};
 
 /// A replay after its head: the world after the events so far, the last of them and what it came to, how many lines
 /// the head had, how many events there were, and whether the trace is kept. Where it is not, no event is reported, and
@@ -14,6 +14,7 @@ pub(crate) struct Playback<W: TakesEvents> {
     world: W,
     event: W::Event,
     report: W::Report,
+    writer: TraceWriter,
     head: u64,
     events: u64,
     traced: bool,
@@ -42,6 +43,7 @@ impl<W: TakesEvents> Playback<W> {
             world,
             event,
             report,
+            writer: TraceWriter::new(),
             head,
             events: 0,
             traced,
@@ -97,22 +99,29 @@ impl<W: TakesEvents> Playback<W> {
         }
     }
 
-    /// Puts the trace line of the last event, with its end, in place of `text`.
-    fn write(&self, text: &mut ArrayVec<u8, MOST_LINE_BYTES>)
-        ensures { text.new.items ≡ last_line W.world self.now ++ 10 ∷ [] }
+    /// Puts the trace line of the last event, with its end, in place of `text`. Of the playback only what the writer keeps changes.
+    fn write(&mut self, text: &mut ArrayVec<u8, MOST_LINE_BYTES>)
+        ensures line { text.new.items ≡ last_line W.world self.old ++ 10 ∷ [] }
+        ensures kept { self.new ≡ record self.old { writer = self.new.writer } }
     {
         self.write_line(text);
         text.push(b'\n');
     }
 
     /// Puts the trace line of the last event in place of `text`, or no byte where the trace is not kept.
-    fn write_line(&self, text: &mut ArrayVec<u8, MOST_LINE_BYTES>)
-        ensures line { text.new.items ≡ last_line W.world self.now }
+    fn write_line(&mut self, text: &mut ArrayVec<u8, MOST_LINE_BYTES>)
+        ensures line { text.new.items ≡ last_line W.world self.old }
         ensures fits { length text.new.items ≤ 4000 }
+        ensures kept { self.new ≡ record self.old { writer = self.new.writer } }
     {
         if self.traced {
-            self.world
-                .write(self.events, &self.event, &self.report, text);
+            self.world.write(
+                self.events,
+                &self.event,
+                &self.report,
+                &mut self.writer,
+                text,
+            );
         } else {
             text.clear();
         }

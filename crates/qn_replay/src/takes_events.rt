@@ -6,7 +6,7 @@ use arrayvec::ArrayVec;
 use qn_base::{MOST_LINE_BYTES, NoMemory};
 use qn_io::{PIECE, Pieces, Source};
 use qn_model::{LineFault, Refused};
-use qn_sched::ReplayEnd;
+use qn_sched::{ReplayEnd, TraceWriter};
 use std::alloc::Global;
 
 /// A world that takes the lines of a schedule as events, and the head of such a schedule.
@@ -138,6 +138,7 @@ pub(crate) trait TakesEvents: Drop {
         number: u64,
         event: &Self::Event,
         report: &Self::Report,
+        writer: &mut TraceWriter,
         text: &mut ArrayVec<u8, MOST_LINE_BYTES>,
     )
         ensures text { text.new.items

@@ -6,7 +6,7 @@ use qn_io::{Pieces, Source};
 use qn_model::{Event, LineFault, Refused, Report};
 use qn_playback::{Head, read_head};
 use qn_safety::TripleEvent;
-use qn_sched::{ReplayEnd, write_trace};
+use qn_sched::{ReplayEnd, TraceWriter};
 use qn_triple::{TripleWorld, blank_report, law_triple_lines, read_triple_line_into};
 use std::alloc::Global;
 
@@ -75,8 +75,9 @@ impl TakesEvents for TripleWorld {
         number: u64,
         _event: &TripleEvent,
         report: &Report,
+        writer: &mut TraceWriter,
         text: &mut ArrayVec<u8, MOST_LINE_BYTES>,
     ) {
-        write_trace(number, report, self.settings(), text);
+        writer.write(number, report, self.settings(), text);
     }
 }

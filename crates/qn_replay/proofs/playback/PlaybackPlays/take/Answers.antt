@@ -1,4 +1,6 @@
+use Rattle.std.proofs.Common.{◌∷◌, subst, sym}
 use Rattle.std.proofs.lemmas.Result.{err_from_is_err_and}
+use Rattle.qn_replay.specs.Playing.{HasPlayed}
 use Rattle.qn_replay.proofs.Playbacks.{plays_line, refuses_line, stands_line, stays}
 use Rattle.qn_replay.proofs.playback.PlaybackPlays.take.Goals as goal
 
@@ -9,11 +11,14 @@ returns-in_err-happen-clause-end g c =
 
 pub returns-clause-text : goal.returns-clause-text
 returns-clause-text g c = λ start earlier played.
-    plays_line g.W.TakesEvents.world start c.args.self.now c.args.line.now earlier played c.happen.new.self _ c.in_ok-happen.ensures.event c.write.ensures
+    plays_line g.W.TakesEvents.world start c.args.self.now c.args.line.now earlier played c.happen.new.self _ c.in_ok-happen.ensures.event c.write.ensures.line
 
 pub returns-clause-stands : goal.returns-clause-stands
 returns-clause-stands g c = λ start earlier played.
-    stands_line g.W.TakesEvents.world start c.args.self.now c.args.line.now earlier played c.happen.new.self c.in_ok-happen.ensures.event c.happen.ensures.traced c.happen.ensures.rules
+    let world = g.W.TakesEvents.world in
+    let line = c.args.line.now in
+    let stands = stands_line world start c.args.self.now line earlier played c.happen.new.self c.in_ok-happen.ensures.event c.happen.ensures.traced c.happen.ensures.rules in
+    subst (λ playback. HasPlayed world start playback (line ∷ earlier)) (sym c.write.ensures.kept) (record { rules = stands.rules; after = stands.after })
 
 pub returns-in_err-happen-clause-kept : goal.returns-in_err-happen-clause-kept
 returns-in_err-happen-clause-kept g c =
