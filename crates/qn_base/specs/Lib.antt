@@ -1,4 +1,5 @@
 pub mod Calls
+pub mod Candidates
 pub mod Decimal
 pub mod Faults
 pub mod Members

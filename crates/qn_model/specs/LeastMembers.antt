@@ -46,6 +46,16 @@ least_from-same (suc count) from first second same =
     let here : first from ≡ second from = same from (omega arith) (omega arith) in
     rw here (ap (λ later. cond (second from) (Some from) later) (least_from-same count (from + 1) first second (λ j above below. same j (omega arith) (omega arith))))
 
+-- a rank that passes a test, with none below it that does, is the least one
+pub found-least : (count : ℕ) (test : ℕ → Bool) (found : Option Rank)
+    → IfSome found (λ rank. rank.0 < count) → IfSome found (λ rank. test rank.0 ≡ true)
+    → IfSome found (λ rank. (j : ℕ) → j < rank.0 → test j ≡ false)
+    → IfNone found ((j : ℕ) → j < count → test j ≡ false)
+    → option_map (λ rank. rank.0) found ≡ least_from count 0 test
+found-least count test None within passes least none = sym (least_from-none count 0 test (λ j above below. none j (omega arith)))
+found-least count test (Some rank) within passes least none =
+    sym (least_from-some count 0 rank.0 test (omega arith) (omega arith) passes (λ j above below. least j below))
+
 -- the first member of a mask is the least rank that passes a test, where the test agrees with the mask
 pub first-least : (mask : Mask) (count : ℕ) (test : ℕ → Bool) (first : Option Rank)
     → IfSome first (λ rank. rank.0 < count) → IfSome first (λ rank. is_member mask rank.0 ≡ true)

@@ -1,6 +1,7 @@
 -- The first condition that blocks a start of the resource: this project's profile.
-use Rattle.std.specs.Prelude.{ℕ, suc, zero, Bool, true, false, List, [], ◌∷◌, length, Option, None, Some, ◌&&◌, ◌==◌, ◌+◌, not, is_none, if◌then◌else◌}
-use Rattle.std.specs.Option.{option_map_or}
+use Rattle.std.specs.Prelude.{ℕ, suc, zero, Bool, true, false, List, [], ◌∷◌, length, Option, None, Some, ◌&&◌, ◌==◌, ◌+◌, not, is_none, unwrap_or, if◌then◌else◌}
+use Rattle.std.specs.Option.{option_map_or, option_or}
+use Rattle.qn_base.specs.Candidates.{is_barred, is_named}
 use Rattle.qn_base.specs.declared.ids.NodeId.{NodeId}
 use Rattle.qn_model.specs.declared.nodelist.NodeEntry.{NodeEntry}
 use Rattle.qn_model.specs.declared.configuration.Settings.{Settings}
@@ -31,9 +32,19 @@ id_from (node ∷ nodes) (suc rank) = id_from nodes rank
 abbrev pub id_of : Settings → ℕ → NodeId
 id_of s rank = id_from s.nodes rank
 
--- the chosen node: the least member of the present view
+-- whether the present view names a rank
+abbrev pub is_candidate : List Line → ℕ → Bool
+is_candidate log rank = option_map_or (λ view. is_named view rank) (view log) false
+
+-- whether the present view says that none of its members may start
+abbrev pub is_none_chosen : List Line → Bool
+is_none_chosen log = option_map_or (λ view. is_barred view) (view log) false
+
+-- the chosen node: the member that the present view names, else its least member; none where the view says so
 abbrev pub chosen : Settings → List Line → Option ℕ
-chosen s log = least_rank s (λ rank. is_in_view log rank)
+chosen s log =
+    if is_none_chosen log then None
+    else option_or (least_rank s (λ rank. is_in_view log rank && is_candidate log rank)) (least_rank s (λ rank. is_in_view log rank))
 
 -- whether the node is the chosen one
 abbrev pub is_chosen : Settings → ℕ → List Line → Bool
@@ -65,9 +76,9 @@ lacks_of_others s me log tick =
     (or_else (unfenced s log tick) (λ rank. why.Unfenced (id_of s rank) (is_written log rank) (left_to_wait log rank tick))
     why.Clear))
 
--- the chosen node where it is another one
+-- who is chosen in the node's place: another node, or nobody, which stands as a rank that no node has, so that its id is 0
 abbrev pub other_chosen : Settings → ℕ → List Line → Option ℕ
-other_chosen s me log = if is_chosen s me log then None else chosen s log
+other_chosen s me log = if is_chosen s me log then None else Some (unwrap_or (chosen s log) 255)
 
 -- the first condition that blocks a start at a tick
 unfoldable pub unmet : Settings → ℕ → List Line → ℕ → Why

@@ -1,4 +1,5 @@
 -- Small lemmas of the definitions here, each stated once, for the proofs of this crate and of those above.
+pub mod ChosenRanks
 pub mod Entries
 pub mod Failures
 pub mod Ids

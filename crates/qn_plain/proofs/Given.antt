@@ -24,12 +24,11 @@ use Rattle.qn_model.specs.Unmet.{chosen, is_chosen, is_clear, unmet}
 use Rattle.qn_model.specs.Wanted.{close_op, fence_delay, fencing_op_with_delay, is_delay_over, is_mail_due, mail_tick, may_fence, rank_of, to_read, to_reset, to_reset_now, wanted_with_delay}
 use Rattle.qn_model.specs.NodeOutputs.{acts, ask_to, asks, asks_under, boot_outs, disk_outs, gives_start, gives_stop, is_asked, is_asking, live_outs, mail_feeds, outs_at, replies, taken_in, when}
 use Rattle.qn_plain.specs.declared.past.Past.{Past}
-use Rattle.qn_plain.specs.declared.sought.Sought.TheVariants as sought
 use Rattle.qn_plain.specs.Lack.{is_rank}
 use Rattle.qn_plain.specs.Life.{is_timely, stops_again}
 use Rattle.qn_plain.specs.Outputs.{acts_at, asks_at_entry, asks_from, close_op_of, fencing_op_at, gives_start_at, gives_stop_at, is_asked_of, is_delay_over_at, is_mail_due_at, live_outs_at, may_fence_at, outs_after, replies_to, to_reset_at, wanted_at}
 use Rattle.qn_plain.specs.Past.{PastFor, is_in}
-use Rattle.qn_plain.specs.Sought.{least_sought}
+use Rattle.qn_plain.specs.Sought.{chosen_at}
 use Rattle.qn_plain.proofs.Lives.{stops_again-stopping}
 use Rattle.qn_plain.proofs.Stands.{views}
 use Rattle.qn_plain.proofs.Questions.{quorate_past, released_past, sought_chosen, sought_unread, sought_unreset, starts_past}
@@ -110,7 +109,7 @@ module _ (s : Settings) (past : Past) (log : List Line) (h : PastFor s past log)
       let up : is_up past.life.phase ≡ is_up (phase s log) = ap (λ l. is_up l.phase) h.lives in
       let many = quorate_past s past log h tick in
       let at = t.at in
-      let first : is_rank me (least_sought s sought.Member me tick past) ≡ is_chosen s me log
+      let first : is_rank me (chosen_at s me tick past) ≡ is_chosen s me log
       = ap (is_rank me) (sought_chosen s past log h me tick) ∙ is_rank-rank_of me (chosen s log) in
       cc
 

@@ -1,7 +1,7 @@
 -- What is asked of what is kept of a history is what is asked of its log.
-use Rattle.std.proofs.Common.{◌≡◌, ℕ, zero, suc, ◌+◌, ◌-◌, ◌<◌, Bool, true, false, List, length, Option, None, Some, refl, ap, sym, ◌∙◌, arith, cond}
-use Rattle.std.specs.Prelude.{◌&&◌, ◌==◌, not, if◌then◌else◌, nat_le, nat_lt, is_some, is_none}
-use Rattle.std.specs.Option.{option_map, option_map_or}
+use Rattle.std.proofs.Common.{◌≡◌, ℕ, zero, suc, ◌+◌, ◌-◌, ◌<◌, Bool, true, false, List, length, Option, None, Some, refl, ap, ap₂, sym, ◌∙◌, arith, cond}
+use Rattle.std.specs.Prelude.{◌&&◌, ◌==◌, not, if◌then◌else◌, nat_le, nat_lt, is_some, is_none, unwrap_or}
+use Rattle.std.specs.Option.{option_map, option_map_or, option_or}
 use Rattle.qn_base.specs.declared.ids.Rank.{Rank}
 use Rattle.qn_model.specs.declared.configuration.Settings.{Settings}
 use Rattle.qn_model.specs.declared.life.Why.{Why}
@@ -12,7 +12,7 @@ use Rattle.qn_model.specs.Hearing.{is_free, is_held}
 use Rattle.qn_model.specs.Holding.{holds}
 use Rattle.qn_model.specs.Licences.{is_clean, is_fenced, is_licensed, is_slot_seen, is_written, left_to_wait, out_time, reset_tick}
 use Rattle.qn_model.specs.NodeVotes.{answer_with_tie, is_in_view, quorate_with_tie, released, view, votes}
-use Rattle.qn_model.specs.Unmet.{chosen, holder, id_of, is_clear, lacks_of_others, least_from, least_rank, or_else, other_chosen, unfenced, unheard, unmet}
+use Rattle.qn_model.specs.Unmet.{chosen, is_candidate, is_none_chosen, holder, id_of, is_clear, lacks_of_others, least_from, least_rank, or_else, other_chosen, unfenced, unheard, unmet}
 use Rattle.qn_model.specs.Wanted.{rank_of, to_read, to_reset}
 use Rattle.qn_model.specs.LeastMembers.{least_from-same}
 use Rattle.qn_plain.specs.declared.past.Past.{Past}
@@ -22,9 +22,9 @@ use Rattle.qn_plain.specs.declared.lack.Lack.TheVariants as lack
 use Rattle.qn_plain.specs.declared.sought.Sought.{Sought}
 use Rattle.qn_plain.specs.declared.sought.Sought.TheVariants as sought
 use Rattle.qn_plain.specs.Lack.{is_nothing, is_quorate_at, lack_at, or_lack, other_than, why_by}
-use Rattle.qn_plain.specs.Past.{PastFor, is_in}
+use Rattle.qn_plain.specs.Past.{PastFor, is_barred_in, is_in, is_named_in}
 use Rattle.qn_plain.specs.Peer.{PeerFor, peer_at, peer_is_clean, peer_is_fenced, peer_is_held, peer_is_seen, peer_is_written, peer_left}
-use Rattle.qn_plain.specs.Sought.{is_sought, least_sought}
+use Rattle.qn_plain.specs.Sought.{chosen_at, is_sought, least_sought}
 use Rattle.qn_plain.specs.Tally.{tally_with_tie}
 use Rattle.qn_plain.proofs.EntryByEntry.{tally_with_tie-tally_of}
 use Rattle.qn_plain.proofs.Stands.{views}
@@ -85,8 +85,24 @@ module _ (s : Settings) (past : Past) (log : List Line) (h : PastFor s past log)
   least_same what me tick test same =
       ap (option_map rank_of) (least_from-same (length s.nodes) 0 (is_sought what me tick past) test (λ j above below. let few = h.few in same j (omega arith)))
 
-  pub sought_chosen : (me tick : ℕ) → least_sought s sought.Member me tick past ≡ option_map rank_of (chosen s log)
-  sought_chosen me tick = least_same sought.Member me tick (λ rank. is_in_view log rank) (λ rank below. in_view rank)
+  in_name : (rank : ℕ) → is_named_in past.votes.view rank ≡ is_candidate log rank
+  in_name rank = ap (λ v. is_named_in v rank) (views s past log h)
+
+  ranks_of : (b : Bool) (named least : Option ℕ)
+      → (if b then None else option_or (option_map rank_of named) (option_map rank_of least)) ≡ option_map rank_of (if b then None else option_or named least)
+  ranks_of true named least = refl
+  ranks_of false None least = refl
+  ranks_of false (Some rank) least = refl
+
+  none_chosen : is_barred_in past.votes.view ≡ is_none_chosen log
+  none_chosen = ap is_barred_in (views s past log h)
+
+  pub sought_chosen : (me tick : ℕ) → chosen_at s me tick past ≡ option_map rank_of (chosen s log)
+  sought_chosen me tick =
+      ap₂ (λ (b : Bool) o. if b then None else o) none_chosen (ap₂ option_or
+      (least_same sought.Named me tick (λ rank. is_in_view log rank && is_candidate log rank) (λ rank below. ap₂ (λ a b. a && b) (in_view rank) (in_name rank)))
+      (least_same sought.Member me tick (λ rank. is_in_view log rank) (λ rank below. in_view rank)))
+      ∙ ranks_of (is_none_chosen log) (least_rank s (λ rank. is_in_view log rank && is_candidate log rank)) (least_rank s (λ rank. is_in_view log rank))
 
   pub sought_holder : (me tick : ℕ) → least_sought s sought.Holder me tick past ≡ option_map rank_of (holder s me log)
   sought_holder me tick =
@@ -182,7 +198,7 @@ module _ (s : Settings) (past : Past) (me tick : ℕ) where
   why_or (Some rank) said named rest others here there = here rank refl
 
   other_same : (found : Option ℕ)
-      → other_than me (option_map rank_of found) ≡ option_map rank_of (if option_map_or (λ rank. rank == me) found false then None else found)
+      → other_than me (option_map rank_of found) ≡ option_map rank_of (if option_map_or (λ rank. rank == me) found false then None else Some (unwrap_or found 255))
   other_same None = refl
   other_same (Some rank) = other_if (rank == me)
     where

@@ -1,5 +1,5 @@
 -- The first condition that blocks a start, by what a history comes to.
-use Rattle.std.specs.Prelude.{◌<◌, ℕ, Bool, true, false, Option, None, Some, ◌==◌, length, not, is_none, if◌then◌else◌}
+use Rattle.std.specs.Prelude.{◌<◌, ℕ, Bool, true, false, Option, None, Some, ◌==◌, length, not, is_none, unwrap_or, if◌then◌else◌}
 use Rattle.std.specs.Option.{option_map_or}
 use Rattle.qn_base.specs.declared.ids.Rank.{Rank}
 use Rattle.qn_model.specs.declared.configuration.Settings.{Settings}
@@ -12,7 +12,7 @@ use Rattle.qn_plain.specs.declared.lack.Lack.{Lack}
 use Rattle.qn_plain.specs.declared.lack.Lack.TheVariants as lack
 use Rattle.qn_plain.specs.declared.sought.Sought.TheVariants as sought
 use Rattle.qn_plain.specs.Peer.{peer_at, peer_is_written, peer_left}
-use Rattle.qn_plain.specs.Sought.{least_sought}
+use Rattle.qn_plain.specs.Sought.{chosen_at, least_sought}
 use Rattle.qn_plain.specs.Tally.{tally_with_tie}
 
 -- whether the node is quorate at a tick, by the votes or by the tie breaker
@@ -28,9 +28,9 @@ or_lack (Some rank) said rest = said rank
 abbrev pub is_rank : ℕ → Option Rank → Bool
 is_rank me found = option_map_or (λ rank. rank.0 == me) found false
 
--- the rank where it is another one
+-- the rank where it is another one, and a rank that no node has where there is none
 abbrev pub other_than : ℕ → Option Rank → Option Rank
-other_than me found = if is_rank me found then None else found
+other_than me found = if is_rank me found then None else Some (unwrap_or found (record { 0 = 255 }))
 
 -- what of the other nodes blocks a start
 abbrev pub lack_of_others : Settings → ℕ → ℕ → Past → Lack
@@ -48,11 +48,10 @@ lack_at s me tick past =
     else (if is_none past.votes.view then lack.NoView
     else (if not past.votes.released then lack.WaitForAll
     else (if not (is_quorate_at s tick past) then lack.NotQuorate
-    else or_lack (other_than me (least_sought s sought.Member me tick past)) (λ rank. lack.NotChosen rank) (lack_of_others s me tick past)))))
+    else or_lack (other_than me (chosen_at s me tick past)) (λ rank. lack.NotChosen rank) (lack_of_others s me tick past)))))
 
--- the rank that blocks a start is configured
+-- the rank that blocks a start is configured, but for one that is chosen in place of the node
 abbrev pub HasRank : Settings → Lack → Type 0
-HasRank s (lack.NotChosen rank) = rank.0 < length s.nodes
 HasRank s (lack.HeldBy rank) = rank.0 < length s.nodes
 HasRank s (lack.Unheard rank) = rank.0 < length s.nodes
 HasRank s (lack.Unfenced rank) = rank.0 < length s.nodes

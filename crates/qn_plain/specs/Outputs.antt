@@ -26,7 +26,7 @@ use Rattle.qn_plain.specs.Lack.{is_nothing, is_quorate_at, is_rank, lack_at}
 use Rattle.qn_plain.specs.Life.{stops_again}
 use Rattle.qn_plain.specs.Past.{is_in, is_shown}
 use Rattle.qn_plain.specs.Peer.{peer_at}
-use Rattle.qn_plain.specs.Sought.{least_sought}
+use Rattle.qn_plain.specs.Sought.{chosen_at, least_sought}
 
 -- the own mailbox is due
 abbrev pub is_mail_due_at : ℕ → Past → Bool
@@ -35,7 +35,7 @@ is_mail_due_at tick past = nat_le (past.life.mail_tick + past.life.timing.loop_m
 -- whether the node may fence
 abbrev pub may_fence_at : Settings → ℕ → ℕ → Past → Bool
 may_fence_at s me tick past =
-    is_up past.life.phase && is_quorate_at s tick past && is_rank me (least_sought s sought.Member me tick past)
+    is_up past.life.phase && is_quorate_at s tick past && is_rank me (chosen_at s me tick past)
 
 -- whether the fence delay of a rank has passed since the last view
 abbrev pub is_delay_over_at : Settings → ℕ → ℕ → Past → Bool

@@ -2,6 +2,7 @@
 use Rattle.std.specs.Prelude.{◌≡◌, ◌≤◌, ◌<◌, ℕ, Bool, true, false, List, length, Option, ◌&&◌, ◌==◌, ◌+◌, if◌then◌else◌}
 use Rattle.std.specs.Option.{option_map_or}
 use Rattle.qn_base.specs.declared.ids.View.{View}
+use Rattle.qn_base.specs.Candidates.{is_barred, is_named}
 use Rattle.qn_base.specs.Members.{is_member}
 use Rattle.qn_model.specs.declared.configuration.Settings.{Settings}
 use Rattle.qn_model.specs.declared.packets.Tell.{Tell}
@@ -27,6 +28,14 @@ is_shown present asked = option_map_or (λ own. is_same_view own asked) present 
 -- whether a rank is a member of the present view
 abbrev pub is_in : Option View → ℕ → Bool
 is_in present rank = option_map_or (λ view. is_member view.members rank) present false
+
+-- whether the present view names a rank
+abbrev pub is_named_in : Option View → ℕ → Bool
+is_named_in present rank = option_map_or (λ view. is_named view rank) present false
+
+-- whether the present view says that none of its members may start
+abbrev pub is_barred_in : Option View → Bool
+is_barred_in present = option_map_or (λ view. is_barred view) present false
 
 -- whether a Tell answers the entries so far
 abbrev pub past_answers : Past → Tell → Bool

@@ -37,8 +37,7 @@ impl Past {
     ghost use Rattle.qn_plain.specs.Lack.{HasRank, is_quorate_at, lack_at, lack_of_others, other_than, why_by};
     ghost use Rattle.qn_plain.specs.Past.{ResetsBy};
     ghost use Rattle.qn_plain.specs.Peer.{peer_at};
-    ghost use Rattle.qn_plain.specs.declared.sought.Sought.TheVariants as sought;
-    ghost use Rattle.qn_plain.specs.Sought.{least_sought};
+    ghost use Rattle.qn_plain.specs.Sought.{chosen_at};
 
     /// Whether the node is quorate at a tick, by the votes or by the tie breaker.
     pub fn is_quorate(&self, settings: &Settings, tick: u64) -> bool
@@ -70,14 +69,16 @@ impl Past {
         }
     }
 
-    /// The least member of the present view where it is another node.
+    /// The chosen node where it is another node; a rank that no node has where none is chosen.
     fn other_chosen(&self, settings: &Settings, me: Rank, tick: u64) -> Option<Rank>
-        ensures value { result
-            ≡ other_than me.0 (least_sought settings.now sought.Member me.0 tick self.now) }
-        ensures within { IfSome result (λ rank. rank.0 < length settings.now.nodes) }
+        ensures { result ≡ other_than me.0 (chosen_at settings.now me.0 tick self.now) }
     {
-        let chosen = self.least(settings, Sought::Member, me, tick);
-        if is_rank(me, chosen) { None } else { chosen }
+        let chosen = self.chosen(settings, me, tick);
+        if is_rank(me, chosen) {
+            None
+        } else {
+            Some(chosen.unwrap_or(Rank(255)))
+        }
     }
 
     /// What of the other nodes blocks a start.

@@ -27,7 +27,7 @@ impl Past {
     ghost use Rattle.qn_model.specs.NodeOutputs.{newest_outs, with_entry};
     ghost use Rattle.qn_model.specs.Fitting.{is_for, is_own_view};
     ghost use Rattle.qn_plain.specs.Life.{IsClaimable};
-    ghost use Rattle.qn_plain.specs.Past.{PastFor, ResetsBy, TakesIn, fits_at, is_in, is_shown, past_answers, read_at, reading_of};
+    ghost use Rattle.qn_plain.specs.Past.{PastFor, ResetsBy, TakesIn, fits_at, is_barred_in, is_in, is_named_in, is_shown, past_answers, read_at, reading_of};
     ghost use Rattle.qn_plain.specs.Peer.{peer_after, peer_at};
 
     /// What no entries come to.
@@ -169,6 +169,26 @@ impl Past {
     {
         match self.votes.view {
             Some(view) => view.members.has(rank),
+            None => false,
+        }
+    }
+
+    /// Whether the present view says that none of its members may start.
+    pub fn is_barred(&self) -> bool
+        ensures { result ≡ is_barred_in self.now.votes.view }
+    {
+        match self.votes.view {
+            Some(view) => view.is_barred(),
+            None => false,
+        }
+    }
+
+    /// Whether the present view names a rank.
+    pub fn is_named(&self, rank: Rank) -> bool
+        ensures { result ≡ is_named_in self.now.votes.view rank.0 }
+    {
+        match self.votes.view {
+            Some(view) => view.names(rank),
             None => false,
         }
     }

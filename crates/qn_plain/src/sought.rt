@@ -8,6 +8,8 @@ use qn_model::Settings;
 pub enum Sought {
     /// The members of the present view.
     Member,
+    /// The member that the present view names.
+    Named,
     /// The other members that say that they hold.
     Holder,
     /// The other members that did not answer.
@@ -22,7 +24,7 @@ pub enum Sought {
 
 impl Past {
     ghost use Rattle.std.specs.Prelude.{◌≡◌, ◌<◌, length, IfSome};
-    ghost use Rattle.qn_plain.specs.Sought.{is_sought, least_sought};
+    ghost use Rattle.qn_plain.specs.Sought.{chosen_at, is_sought, least_sought};
 
     /// Whether a rank is sought at a tick.
     fn is_sought(&self, sought: Sought, me: Rank, tick: u64, rank: Rank) -> bool
@@ -34,6 +36,7 @@ impl Past {
         let is_other = is_in && rank.0 != me.0;
         match sought {
             Sought::Member => is_in,
+            Sought::Named => is_in && self.is_named(rank),
             Sought::Holder => is_other && peer.is_held(),
             Sought::Unheard => is_other && !peer.free && !peer.is_held(),
             Sought::Unfenced => {
@@ -41,6 +44,19 @@ impl Past {
             }
             Sought::Unread => !is_in && !peer.is_seen(),
             Sought::Unreset => !is_in && !peer.is_clean() && !peer.is_written(),
+        }
+    }
+
+    /// The chosen node: the member that the present view names, else its least member.
+    pub fn chosen(&self, settings: &Settings, me: Rank, tick: u64) -> Option<Rank>
+        ensures value { result ≡ chosen_at settings.now me.0 tick self.now }
+        ensures within { IfSome result (λ rank. rank.0 < length settings.now.nodes) }
+    {
+        if self.is_barred() {
+            None
+        } else {
+            self.least(settings, Sought::Named, me, tick)
+                .or(self.least(settings, Sought::Member, me, tick))
         }
     }
 

@@ -41,7 +41,7 @@ impl Past {
     {
         is_up(self.life.phase)
             && self.is_quorate(settings, tick)
-            && is_rank(me, self.least(settings, Sought::Member, me, tick))
+            && is_rank(me, self.chosen(settings, me, tick))
     }
 
     /// The next operation of the fencing: a read of a slot, else a reset.

@@ -1,5 +1,5 @@
 -- Once the fencing is over and msgwait has passed, the only member of a view starts.
-use Rattle.std.proofs.Common.{◌≡◌, ℕ, ◌+◌, ◌≤◌, ◌<◌, Bool, true, false, List, [], ◌∷◌, length, Some, None, Option, refl, sym, ap, ◌∙◌, arith, ◌&&◌, ◌==◌, not, if◌then◌else◌, is_some, is_none, nat_le, ◌⊎◌, inl, inr}
+use Rattle.std.proofs.Common.{◌≡◌, ℕ, ◌+◌, ◌≤◌, ◌<◌, Bool, true, false, List, [], ◌∷◌, length, Some, None, Option, refl, sym, ap, ◌∙◌, arith, ◌&&◌, ◌==◌, not, if◌then◌else◌, is_some, is_none, unwrap_or, nat_le, ◌⊎◌, inl, inr}
 use Rattle.std.specs.Option.{option_map_or}
 use Rattle.std.proofs.lemmas.Bool.{false≢true, true≢false, le-leb, eq-eqb, or_left, or_right}
 use Rattle.qn_base.specs.declared.ids.View.{View}
@@ -26,7 +26,7 @@ use Rattle.qn_model.specs.NodeOutputs.{taken_in, with_read, gives_start, mail_fe
 use Rattle.qn_progress.specs.Pace.{Pace}
 use Rattle.qn_progress.specs.Quiet.{is_gentle, HasHeardAll}
 use Rattle.std.proofs.lemmas.Option.{same_Some}
-use Rattle.qn_model.specs.lemmas.LeastRanks.{least_passes}
+use Rattle.qn_model.specs.lemmas.ChosenRanks.{chosen_inside}
 use Rattle.qn_progress.proofs.Totals.{total_zero}
 use Rattle.qn_progress.proofs.Given.{outs_up, acts_start}
 use Rattle.qn_progress.proofs.Entries.{reset_due, read_due, one, owed, pending, in_view_same, pending_less, Reset, WrittenNow, AsBefore, reset_is}
@@ -139,7 +139,7 @@ there (Some installed) j e = refl
 
 view_there : (s : Settings) (me : ℕ) (log : List Line) (found : Option ℕ) → chosen s log ≡ found → option_map_or (λ rank. rank == me) found false ≡ true → is_none (view log) ≡ false
 view_there s me log None is e = absurd (false≢true e)
-view_there s me log (Some j) is e = there (view log) j (least_passes (length s.nodes) 0 _ j is)
+view_there s me log (Some j) is e = there (view log) j (chosen_inside s log j is)
 
 fenced_by : (found : Option ℕ) (wait end tick : ℕ) → is_some found ≡ true → ((w : ℕ) → found ≡ Some w → w ≤ end) → end + wait ≤ tick
     → option_map_or (λ written. nat_le (written + wait) tick) found false ≡ true
@@ -159,7 +159,7 @@ nothing_lacks {s = s} {t = t} {me = me} {pace = pace} {past = past} {tick = tick
     (λ rank. why.NotChosen (id_of s rank)) (λ rank. why.HeldBy (id_of s rank)) (λ rank. why.Unheard (id_of s rank))
     (λ rank. why.Unfenced (id_of s rank) (is_written log rank) (left_to_wait log rank tick))
     (ap is_up quiet.up) idle (view_there s me log (chosen s log) refl quiet.least) free quiet.quorate
-    (ap (λ b. if b then None else chosen s log) quiet.least)
+    (ap (λ b. if b then None else Some (unwrap_or (chosen s log) 255)) quiet.least)
     (least_from-none (length s.nodes) 0 _ (λ j above below. no_holder (is_in_view log j) (not (j == me)) (told (λ tell. true) j log) (is_free log j) (said j (omega arith))))
     (least_from-none (length s.nodes) 0 _ (λ j above below. all_heard (is_in_view log j) (not (j == me)) (is_free log j) (is_held log j) (said j (omega arith))))
     (least_from-none (length s.nodes) 0 _ (λ j above below. licensed j (omega arith)))

@@ -39,7 +39,8 @@ use Rattle.qn_safety.proofs.ArbiterBelow.{Below}
 use Rattle.qn_safety.proofs.ArbiterTools.{before_then, first_allows, added_item}
 use Rattle.qn_safety.proofs.ArbiterPlaying.{IsRun, NoEvent, OneEvent, Hears, hear_there, moments_at, moments_grow, newest_allowed, replies_now, reply_there, timed_of}
 use Rattle.qn_safety.proofs.ArbiterSendings.{PollerMove, Keeps, Forgets, Fresh, RankStep, Idle, Sends, Acts, pass_is, rank_step}
-use Rattle.qn_safety.proofs.ArbiterStandings.{SentFrom, Numbered, last_stands, numbered_step, same_install, same_view, was_sent}
+use Rattle.qn_safety.proofs.ArbiterStandings.{SentFrom, Numbered, last_stands, numbered_step, was_sent}
+use Rattle.qn_safety.proofs.Installs.{install_le, same_install, same_view, view_stays}
 use Rattle.qn_model.specs.declared.votes.VoteWhat.TheVariants.{Released, Tick}
 use Rattle.qn_model.specs.lemmas.Moments.{never_logged}
 
@@ -178,33 +179,6 @@ limit_is {s = s} {t = t} {times = times} law (OneEvent {event = event} {earlier 
     by_step (Idle same kept silent) was = ap (λ (p : Poller). p.limit) kept ∙ was
     by_step (Sends own at is same stands kept gave) was = ap (λ (p : Poller). p.limit) kept ∙ was
     by_step (Acts one plays' moved poller silent) was = limit_kept times rank one _ _ poller was
-
--- along a log the install number rises with each view
-install_step : (line : Line) (past : List Line) → install past ≤ install (line ∷ past)
-unfolding install
-install_step line past = by_view (is_view line.what)
-  where
-    by_view : (b : Bool) → install past ≤ (if b then suc (install past) else install past)
-    by_view true = omega arith
-    by_view false = omega arith
-
-pub install_le : {old new : List Line} → Before old new → install old ≤ install new
-install_le Itself = omega arith
-install_le (Later newest {new = rest} more) = let p = install_le more in let q = install_step newest rest in omega arith
-
-installs_more : (line : Line) (past : List Line) → is_view line.what ≡ true → install (line ∷ past) ≡ suc (install past)
-unfolding install
-installs_more line past is = ap (λ b. if b then suc (install past) else install past) is
-
--- with the install number the view stays
-pub view_stays : {old new : List Line} → Before old new → install old ≡ install new → view new ≡ view old
-view_stays Itself same = refl
-view_stays {old = old} (Later newest {new = rest} more) same = by_view (view_of newest.what) refl (λ e. view_stays more e)
-  where
-    by_view : (o : Option View) → view_of newest.what ≡ o → (install old ≡ install rest → view rest ≡ view old) → view (newest ∷ rest) ≡ view old
-    by_view None e deeper = same_view newest rest e ∙ deeper (same ∙ same_install newest rest e)
-    by_view (Some seen) e deeper =
-        absurd (let p = install_le more in let q = installs_more newest rest (ap is_some e) in omega arith)
 
 -- the device's yes that a rank counts: the poll that got it was sent in the present boot and view, and the reply was taken within
 -- the limit

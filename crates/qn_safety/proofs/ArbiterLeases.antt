@@ -36,7 +36,8 @@ use Rattle.qn_safety.proofs.ArbiterMemories.{last_after, yes_after_lease, yes_in
 use Rattle.qn_safety.proofs.ArbiterPlaying.{IsRun, moments_at, moments_grow, arbiter_now, plays_of, run_before, run_of, timed_of}
 use Rattle.qn_safety.proofs.ArbiterStandings.{SentFrom}
 use Rattle.qn_safety.proofs.ArbiterRemembering.{Remembers, remembers, Lived, Booted, Remained, lived}
-use Rattle.qn_safety.proofs.ArbiterGranting.{Granted, Voted, install_le, view_stays, voted}
+use Rattle.qn_safety.proofs.ArbiterGranting.{Granted, Voted, voted}
+use Rattle.qn_safety.proofs.Installs.{install_le, view_stays}
 
 -- a lease is longer than a yes counts, with clocks one per cent off: from the sending at `sent` to now, by the clock of the node
 -- and by that of the arbiter

@@ -31,6 +31,7 @@ use Rattle.qn_safety.proofs.ArbiterBelow.{Below}
 use Rattle.qn_safety.proofs.ArbiterTools.{before_then, added_item}
 use Rattle.qn_safety.proofs.ArbiterPlaying.{IsRun, NoEvent, OneEvent, moments_at, moments_grow, plays_of, polls_now}
 use Rattle.qn_safety.proofs.ArbiterSendings.{PollerMove, Keeps, Forgets, Fresh, RankStep, Idle, Sends, Acts, rank_step}
+use Rattle.qn_safety.proofs.Installs.{same_install}
 
 -- a poll that a rank sent at some moments: the rank was up, and the poll tells what it had then
 pub record SentFrom (s : Settings) (rank : ℕ) (poll : Poll) (sent : List Moment) : Type 0 where
@@ -178,14 +179,6 @@ unseen_entry one rank what.Tick comes unseen = refl
 unseen_entry one rank (what.Stopped ok) comes unseen = refl
 unseen_entry one rank what.Leave comes unseen = refl
 unseen_entry one rank (what.Closed ok) comes unseen = refl
-
-pub same_install : (line : Line) (past : List Line) → view_of line.what ≡ None → install (line ∷ past) ≡ install past
-unfolding install
-same_install line past none = ap (λ o. if is_some o then suc (install past) else install past) none
-
-pub same_view : (line : Line) (past : List Line) → view_of line.what ≡ None → view (line ∷ past) ≡ view past
-unfolding view
-same_view line past none = ap (λ o. option_or o (view past)) none
 
 -- the last poll stands while it is kept
 pub last_stands : {s : Settings} {t : Timing} {times : Lease} {events : List ArbiterEvent} → Below → IsRun s t times events → (rank : ℕ) (last : SentPoll)

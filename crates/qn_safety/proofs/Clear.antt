@@ -1,7 +1,7 @@
 -- What holds of a node where no condition blocks a start.
-use Rattle.std.proofs.Common.{◌≡◌, ℕ, ◌<◌, ◌≤◌, Bool, true, false, List, length, Some, None, Option, refl, ap, arith, ◌&&◌, ◌==◌, not, if◌then◌else◌, ◌⊎◌, inl, inr, is_none}
+use Rattle.std.proofs.Common.{◌≡◌, ℕ, ◌<◌, ◌≤◌, Bool, true, false, List, length, Some, None, Option, refl, ap, arith, ◌&&◌, ◌==◌, not, if◌then◌else◌, is_none, unwrap_or}
 use Rattle.std.specs.Option.{option_map_or}
-use Rattle.std.proofs.lemmas.Bool.{false≢true, true≢false, cases_lt, eqb-true, ne_eqb}
+use Rattle.std.proofs.lemmas.Bool.{false≢true, true≢false, eqb-true, ne_eqb}
 use Rattle.qn_base.specs.lemmas.Options.{some_is_not_none}
 use Rattle.qn_base.specs.lemmas.Bools.{never_both}
 use Rattle.qn_model.specs.declared.configuration.Settings.{Settings}
@@ -13,14 +13,14 @@ use Rattle.qn_model.specs.NodeVotes.{view, is_in_view, released, quorate_with_ti
 use Rattle.qn_model.specs.Hearing.{is_free, is_held}
 use Rattle.qn_model.specs.Licences.{is_licensed, is_written, left_to_wait}
 use Rattle.qn_model.specs.Unmet.{unmet, is_clear, id_of, chosen, holder, unheard, unfenced, or_else, other_chosen}
-use Rattle.qn_model.specs.lemmas.LeastRanks.{least_none, least_below}
+use Rattle.qn_model.specs.lemmas.LeastRanks.{least_none}
 
 -- what a start rests on
 pub record IsClear (s : Settings) (me : ℕ) (log : List Line) (tick : ℕ) : Type 0 where
   pub up : is_up (phase s log) ≡ true
   pub idle : holds log ≡ false
   pub released : released s log ≡ true
-  pub least : (j : ℕ) → j < length s.nodes → is_in_view log j ≡ true → me ≤ j
+  pub mine : chosen s log ≡ Some me
   pub free : (j : ℕ) → j < length s.nodes → is_in_view log j ≡ true → ¬ (j ≡ me) → is_free log j ≡ true
   pub licensed : (j : ℕ) → j < length s.nodes → is_in_view log j ≡ false → is_licensed log j tick ≡ true
 
@@ -57,20 +57,15 @@ clear_cases s log tick votes quorum true false true f q d c b a e = absurd (fals
 clear_cases s log tick votes quorum true true v f q d c b a e = absurd (false≢true e)
 clear_cases s log tick votes quorum false h v f q d c b a e = absurd (false≢true e)
 
--- the chosen one is no greater than any member
-least_member : (s : Settings) (me : ℕ) (log : List Line) (found : Option ℕ) → chosen s log ≡ found
-    → (if option_map_or (λ rank. rank == me) found false then None else found) ≡ None
-    → (j : ℕ) → j < length s.nodes → is_in_view log j ≡ true → me ≤ j
-least_member s me log None is other j below member = never_both (is_in_view log j) member (least_none (length s.nodes) 0 _ is j (omega arith) (omega arith))
-least_member s me log (Some rank) is other j below member = by_test (rank == me) refl other
+-- where no other one is chosen, the node itself is
+own_choice : (me : ℕ) (found : Option ℕ) → (if option_map_or (λ rank. rank == me) found false then None else Some (unwrap_or found 255)) ≡ None
+    → found ≡ Some me
+own_choice me None other = some_is_not_none 255 other
+own_choice me (Some found) other = by_test (found == me) refl other
   where
-    not_less : (rank ≡ me) → (j < me) ⊎ (me ≤ j) → me ≤ j
-    not_less same (inr above) = above
-    not_less same (inl under) = never_both (is_in_view log j) member (least_below (length s.nodes) 0 _ rank is j (omega arith) (omega arith))
-
-    by_test : (b : Bool) → (rank == me) ≡ b → (if b then None else Some rank) ≡ None → me ≤ j
-    by_test true same o = not_less (eqb-true rank me same) (cases_lt j me)
-    by_test false differs o = some_is_not_none rank o
+    by_test : (b : Bool) → (found == me) ≡ b → (if b then None else Some found) ≡ None → Some found ≡ Some me
+    by_test true same o = ap Some (eqb-true found me same)
+    by_test false differs o = some_is_not_none found o
 
 free_of : (inside other free held : Bool) → inside ≡ true → other ≡ true → (inside && other && held) ≡ false → (inside && other && not free && not held) ≡ false → free ≡ true
 free_of true true true held i o h u = refl
@@ -97,7 +92,7 @@ why_clear s me log tick e =
       up = parts.is_up;
       idle = parts.is_idle;
       released = parts.is_released;
-      least = least_member s me log (chosen s log) refl parts.no_other;
+      mine = own_choice me (chosen s log) parts.no_other;
       free = λ j below member differs. free_of (is_in_view log j) (not (j == me)) (is_free log j) (is_held log j) member (another j me differs)
           (least_none (length s.nodes) 0 _ parts.no_holder j (omega arith) (omega arith))
           (least_none (length s.nodes) 0 _ parts.none_unheard j (omega arith) (omega arith));

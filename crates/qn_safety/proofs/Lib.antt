@@ -1,5 +1,6 @@
 pub mod Says
 pub mod Clear
+pub mod Installs
 pub mod Logs
 pub mod Apt
 pub mod Stays

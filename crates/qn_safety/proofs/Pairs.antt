@@ -1,12 +1,14 @@
 -- Two nodes never hold the resource at the same moment of a timed run.
-use Rattle.std.proofs.Common.{◌≡◌, ℕ, ◌<◌, ◌≤◌, Bool, true, false, List, [], ◌∷◌, length, refl, sym, ◌∙◌, subst, arith, not, ◌⊎◌, inl, inr}
+use Rattle.std.proofs.Common.{◌≡◌, ℕ, ◌<◌, ◌≤◌, Bool, true, false, List, [], ◌∷◌, length, refl, sym, ap, ◌∙◌, subst, arith, not, ◌⊎◌, inl, inr}
 use Rattle.std.proofs.lemmas.Bool.{false≢true, and_from}
+use Rattle.std.proofs.lemmas.Option.{same_Some}
 use Rattle.qn_model.specs.declared.configuration.Settings.{Settings}
 use Rattle.qn_model.specs.declared.times.Timing.{Timing}
 use Rattle.qn_model.specs.Log.{Line, has_start}
 use Rattle.qn_model.specs.Phases.{phase, is_booting, is_live}
 use Rattle.qn_model.specs.Holding.{holds}
-use Rattle.qn_model.specs.NodeVotes.{is_in_view}
+use Rattle.qn_model.specs.NodeVotes.{install, is_in_view, view}
+use Rattle.qn_model.specs.lemmas.ChosenRanks.{same_chosen}
 use Rattle.qn_model.specs.Hearing.{told}
 use Rattle.qn_model.specs.Licences.{out_time}
 use Rattle.qn_model.specs.Moments.{Before, Itself}
@@ -18,6 +20,7 @@ use Rattle.qn_base.specs.lemmas.Bools.{never_both}
 use Rattle.qn_model.specs.lemmas.Phases.{up_booted}
 use Rattle.qn_model.specs.Timing.{is_safe}
 use Rattle.qn_safety.proofs.Logs.{IsLine, line_at, start_reason}
+use Rattle.qn_safety.proofs.Installs.{install_le, view_stays}
 use Rattle.qn_safety.proofs.Stays.{StartedAt, start_since}
 use Rattle.qn_safety.proofs.Rests.{StartFacts, start_facts, TellFound, stays_out, out_time_grows}
 use Rattle.qn_safety.proofs.Runs.{sound, ruled_before, span, same_mid}
@@ -146,6 +149,17 @@ module _ {s : Settings} {t : Timing} {all : List Moment} (run : IsTimedRun s t a
         let grows = out_time_grows other later.grows in
         stays_out other (before_then asked earlier.grows) (omega arith) outside
 
+    -- between two moments of one install number the view is the same
+    view_between : (k : ℕ) (p q m : List Moment) → AllRuled s t m → Before p q → Before q m → IsSameBoot s k p m → (node s k m).on ≡ true
+        → install (node s k p).log ≡ install (node s k m).log → view (node s k q).log ≡ view (node s k m).log
+    view_between k p q m ruled p_q q_m same on installed =
+        let mids = same_mid s k p_q q_m same in
+        let later = span k ruled q_m mids.1 on in
+        let earlier = span k (ruled_before q_m ruled) p_q mids.0 later.on in
+        let under = install_le earlier.grows in
+        let over = install_le later.grows in
+        sym (view_stays later.grows (omega arith))
+
     -- the first case: i is outside the view of j at the start of j
     module _ (lic : Licensed s j i second.at all) where
       -- the incarnation of i that holds was not up at the moment that the licence rests on
@@ -218,9 +232,26 @@ module _ {s : Settings} {t : Timing} {all : List Moment} (run : IsTimedRun s t a
       inside_case : (b : Bool) → is_in_view (first.line ∷ first.past) j ≡ b → ⊥
       inside_case false outside = inside_outside (licence_first outside)
       inside_case true inside =
-          let one = first.facts.least j j_known inside in
-          let other = second.facts.least i i_known member in
-          differs (omega arith)
+          one_choice (traced run i first.at first_all j
+          (subst (λ log. TellFound (λ tell. not tell.holds) j log) (sym first.gave) (first.facts.free j j_known inside (λ e. differs (sym e)))))
+        where
+          -- one of the two Tells was sent in the view of its own sender's start
+          one_view : Traced s i j first.at → view (first.line ∷ first.past) ≡ view (second.line ∷ second.past)
+          one_view other = ap view (sym first.gave) ∙ by_order (before_total (before_then other.asking_back (before_then other.back order)) told.back) ∙ ap view second.gave
+            where
+              by_order : Before other.asking told.sent ⊎ Before told.sent other.asking → view (node s i first.at).log ≡ view (node s j second.at).log
+              by_order (inl early) =
+                  sym (view_between i other.asking told.sent first.at (ruled_before first_all run.ruled) early told_before other.asking_same first.up.on other.installed)
+                  ∙ ap view told.gave ∙ told.shows
+              by_order (inr late) =
+                  sym other.shows ∙ ap view (sym other.gave)
+                  ∙ view_between j told.asking other.sent second.at ruled_second (before_then told.asking_back (before_then late other.asking_back)) (before_then other.back order)
+                  told.asking_same second.up.on told.installed
+
+          one_choice : Traced s i j first.at → ⊥
+          one_choice other =
+              differs (same_Some i j
+              (sym first.facts.mine ∙ same_chosen s (first.line ∷ first.past) (second.line ∷ second.past) (one_view other) ∙ second.facts.mine))
 
     -- the start of j while i holds is impossible
     collide : ⊥

@@ -1,7 +1,7 @@
 -- What a licence and a free member rest on in the log of a node.
 use Rattle.std.proofs.Common.{◌≡◌, ℕ, suc, ◌+◌, ◌<◌, ◌≤◌, Bool, true, false, List, [], ◌∷◌, length, Some, None, Option, refl, sym, ap, ◌∙◌, subst, arith, ◌&&◌, ◌||◌, ◌==◌, not, if◌then◌else◌, inl, inr, nat_le, nat_lt}
 use Rattle.std.specs.Option.{option_or, option_map_or}
-use Rattle.std.proofs.lemmas.Bool.{false≢true, eqb-true, ltb-true, leb-true}
+use Rattle.std.proofs.lemmas.Bool.{false≢true, eqb-true, ltb-true, leb-true, not-true}
 use Rattle.std.proofs.lemmas.Option.{same_Some}
 use Rattle.qn_base.specs.declared.ids.Rank.{Rank}
 use Rattle.qn_base.specs.declared.ids.View.{View}
@@ -20,9 +20,11 @@ use Rattle.qn_model.specs.lemmas.Logs.{out_time-within}
 use Rattle.qn_model.specs.Log.{Line, timing, has_start, is_answer, is_view, view_of}
 use Rattle.qn_model.specs.Phases.{phase, is_up}
 use Rattle.qn_model.specs.Holding.{holds}
-use Rattle.qn_model.specs.NodeVotes.{view, is_in_view, answers, released}
+use Rattle.qn_model.specs.NodeVotes.{view, install, is_in_view, answers, released}
 use Rattle.qn_model.specs.Hearing.{told, tells}
 use Rattle.qn_model.specs.Licences.{out_time, starts_out_time, slot_read_since, reset_since, reads_slot, writes_reset, is_clean_slot, is_clean, is_fenced, is_licensed, reset_tick}
+use Rattle.qn_model.specs.Unmet.{chosen}
+use Rattle.qn_model.specs.lemmas.ChosenRanks.{same_chosen}
 use Rattle.qn_model.specs.Wanted.{rank_of}
 use Rattle.qn_model.specs.Fitting.{answers_op}
 use Rattle.qn_model.specs.Moments.{Before, Itself, Later}
@@ -200,6 +202,15 @@ pub same_view_at : (line : Line) (past : List Line) (rank : ℕ) → is_in_view 
 unfolding view
 same_view_at line past rank = refl
 
+pub view_before : (line : Line) (past : List Line) → view (before_outs line past) ≡ view (line ∷ past)
+unfolding view
+view_before line past = refl
+
+-- what is no view leaves the install number
+no_install : (line : Line) (past : List Line) → is_view line.what ≡ false → install (line ∷ past) ≡ install past
+unfolding install
+no_install line past none = ap (λ b. if b then suc (install past) else install past) none
+
 -- a step of the boot reads the own slot alone
 pub own_read : {number : ℕ} (s : Settings) (me : ℕ) (entry : What) (op : DiskOp) (p : Phase) (rank : Rank) → BootStep me number entry op p → op ≡ disk.ReadSlot rank → me ≡ rank.0
 own_read s me entry op p rank (BeginStep clean) e = absurd (cc)
@@ -281,6 +292,7 @@ pub record TellFound (test : Tell → Bool) (rank : ℕ) (log : List Line) : Typ
   pub sender : tell.from.0 ≡ rank
   pub answers : answers past tell ≡ true
   pub passes : test tell ≡ true
+  pub stays : install past ≡ install log
 
 tell_is : (test : Tell → Bool) (rank : ℕ) (past : List Line) (entry : What) → tells test rank past entry ≡ true
     → (tell : Tell) × (entry ≡ what.Tell tell) × (tell.from.0 ≡ rank) × (answers past tell ≡ true) × (test tell ≡ true)
@@ -318,17 +330,18 @@ heard test rank (line ∷ past) e = by_here (tells test rank past line.what) ref
         → (told test rank past ≡ true → TellFound test rank past) → TellFound test rank (line ∷ past)
     by_here true is or rest =
         let it = tell_is test rank past line.what is in
-        record { line = line; past = past; tell = it.0; back = Itself; reads = it.1; sender = it.2; answers = it.3; passes = it.4 }
+        record { line = line; past = past; tell = it.0; back = Itself; reads = it.1; sender = it.2; answers = it.3; passes = it.4; stays = sym (no_install line past (ap is_view it.1)) }
     by_here false is or rest =
         let was = rest (second_of_both (not (is_view line.what)) (told test rank past) or) in
-        record { line = was.line; past = was.past; tell = was.tell; back = Later line was.back; reads = was.reads; sender = was.sender; answers = was.answers; passes = was.passes }
+        let unseen = not-true (is_view line.what) (first_of_both (not (is_view line.what)) (told test rank past) or) in
+        record { line = was.line; past = was.past; tell = was.tell; back = Later line was.back; reads = was.reads; sender = was.sender; answers = was.answers; passes = was.passes; stays = was.stays ∙ sym (no_install line past unseen) }
 
 -- what a start of a line rests on, read off the log with that line
 pub record StartFacts (s : Settings) (me : ℕ) (line : Line) (past : List Line) : Type 0 where
   pub up : is_up (phase s (line ∷ past)) ≡ true
   pub idle : holds (before_outs line past) ≡ false
   pub released : released s (before_outs line past) ≡ true
-  pub least : (j : ℕ) → j < length s.nodes → is_in_view (line ∷ past) j ≡ true → me ≤ j
+  pub mine : chosen s (line ∷ past) ≡ Some me
   pub free : (j : ℕ) → j < length s.nodes → is_in_view (line ∷ past) j ≡ true → ¬ (j ≡ me) → TellFound (λ tell. not tell.holds) j (line ∷ past)
   pub licensed : (j : ℕ) → j < length s.nodes → is_in_view (line ∷ past) j ≡ false → Licence j line.tick (line ∷ past)
 
@@ -375,7 +388,7 @@ start_facts {s = s} {me = me} {line = line} {past = past} it start =
       up = subst (λ p. is_up p ≡ true) (same_phase s line past) clear.up;
       idle = clear.idle;
       released = clear.released;
-      least = λ j below member. clear.least j below (same_view_at line past j ∙ member);
+      mine = sym (same_chosen s (before_outs line past) (line ∷ past) (view_before line past)) ∙ clear.mine;
       free = λ j below member differs. heard (λ tell. not tell.holds) j (line ∷ past)
           (sym (same_told (λ tell. not tell.holds) j line past) ∙ clear.free j below (same_view_at line past j ∙ member) differs);
       licensed = λ j below outside. licence_of j line.tick (line ∷ past) (sym (same_licence it j line.tick) ∙ clear.licensed j below (same_view_at line past j ∙ outside));

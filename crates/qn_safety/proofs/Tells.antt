@@ -34,6 +34,7 @@ use Rattle.qn_model.specs.NodeVotes.{is_same_view}
 use Rattle.qn_model.specs.lemmas.Phases.{live_booted}
 use Rattle.qn_safety.proofs.Says.{PacketReason, TellReason, AskReason}
 use Rattle.qn_safety.proofs.Logs.{Made, IsLine, before_outs, made_line, start_reason}
+use Rattle.qn_safety.proofs.Installs.{view_is, view_stays}
 use Rattle.qn_safety.proofs.Rests.{TellFound, same_view_at}
 use Rattle.qn_safety.proofs.Runs.{sound, ruled_before, newest_rule}
 use Rattle.qn_safety.proofs.Origins.{Origin, ByEntry, ByBoot, origin, AddedLine, added_line, Sending, sent_at}
@@ -54,6 +55,11 @@ pub record Traced (s : Settings) (i j : ℕ) (m : List Moment) : Type 0 where
   pub asked_back : Before asked sent
   pub up : IsUp s i asked
   pub same : IsSameBoot s i asked m
+  pub shows : view (line ∷ past) ≡ view (node s i m).log
+  pub asking : List Moment
+  pub asking_back : Before asking sent
+  pub asking_same : IsSameBoot s i asking m
+  pub installed : install (node s i asking).log ≡ install (node s i m).log
 
 -- an entry that is read as a packet is that packet
 read_by_test : (b : Bool) (entry w : What) → (if b then entry else what.Tick) ≡ w → ((what.Tick ≡ w) → ⊥) → entry ≡ w
@@ -75,6 +81,17 @@ answers_number : (past : List Line) (tell : Tell) → answers past tell ≡ true
 answers_number past tell e =
     number_of_test (claimed past) tell.incarnation
     (first_of_both (option_map_or (λ number. number == tell.incarnation) (claimed past) false) (install past == tell.install)
+    (first_of_both (option_map_or (λ number. number == tell.incarnation) (claimed past) false && install past == tell.install) (is_present past tell.view) e))
+
+-- and the present view
+answers_view : (past : List Line) (tell : Tell) → answers past tell ≡ true → is_present past tell.view ≡ true
+answers_view past tell e = second_of_both (option_map_or (λ number. number == tell.incarnation) (claimed past) false && install past == tell.install) (is_present past tell.view) e
+
+-- and the install number
+answers_install : (past : List Line) (tell : Tell) → answers past tell ≡ true → install past ≡ tell.install
+answers_install past tell e =
+    eqb-true (install past) tell.install
+    (second_of_both (option_map_or (λ number. number == tell.incarnation) (claimed past) false) (install past == tell.install)
     (first_of_both (option_map_or (λ number. number == tell.incarnation) (claimed past) false && install past == tell.install) (is_present past tell.view) e))
 
 -- a rank that is in a view that is the present one is in the present one
@@ -230,8 +247,9 @@ module _ {s : Settings} {t : Timing} {all : List Moment} (run : IsTimedRun s t a
       by_sending tell before (before_tail added.back) (record { on = rule.0; booted = booted }) claims told_sent
 
   -- what node i knows at m by a Tell of node j that says not holding
-  traced_at : (m before : List Moment) (tell : Tell) → Before before m → IsSameBoot s i before m → not tell.holds ≡ true → TellTrace s i tell.from.0 tell before → Traced s i tell.from.0 m
-  traced_at m before tell back same free trace = record {
+  traced_at : (m before : List Moment) (tell : Tell) → Before before m → IsSameBoot s i before m → not tell.holds ≡ true → TellTrace s i tell.from.0 tell before
+      → (past : List Line) → Before past (node s i m).log → answers past tell ≡ true → install past ≡ install (node s i m).log → Traced s i tell.from.0 m
+  traced_at m before tell back same free trace past grows answered stays = record {
     sent = Adds tell.from.0 trace.added.entry ∷ trace.before;
     back = before_then trace.added.back back;
     line = trace.line;
@@ -243,6 +261,11 @@ module _ {s : Settings} {t : Timing} {all : List Moment} (run : IsTimedRun s t a
     asked_back = before_then (before_tail trace.ask_added.back) (Later (Adds tell.from.0 trace.added.entry) Itself);
     up = trace.up;
     same = trace.same ∙ same;
+    shows = view_is (trace.line ∷ trace.past) tell.view trace.shows ∙ sym (view_is past tell.view (answers_view past tell answered)) ∙ sym (view_stays grows stays);
+    asking = Adds i trace.ask_added.entry ∷ trace.asked;
+    asking_back = before_then trace.ask_added.back (Later (Adds tell.from.0 trace.added.entry) Itself);
+    asking_same = added_boots s i trace.ask_added.entry trace.asked ∙ trace.same ∙ same;
+    installed = ap install trace.ask_added.gave ∙ trace.installed ∙ sym (answers_install past tell answered) ∙ stays;
   }
 
   pub traced : (m : List Moment) → Before m all → (j : ℕ) → TellFound (λ tell. not tell.holds) j (node s i m).log → Traced s i j m
@@ -260,4 +283,5 @@ module _ {s : Settings} {t : Timing} {all : List Moment} (run : IsTimedRun s t a
       by_origin (ByEntry before added same) =
           subst (λ x. Traced s i x m) found.sender
           (traced_at m before found.tell (before_tail added.back) (sym (added_boots s i added.entry before) ∙ same) found.passes
-          (tell_trace found.line found.past before found.tell (added_then added m_all) found.reads found.answers))
+          (tell_trace found.line found.past before found.tell (added_then added m_all) found.reads found.answers)
+          found.past (before_tail found.back) found.answers found.stays)

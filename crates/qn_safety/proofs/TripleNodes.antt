@@ -30,7 +30,7 @@ use Rattle.qn_safety.proofs.Apt.{boot_step_of}
 use Rattle.qn_safety.proofs.Logs.{Made, ask_line, before_outs, disk_reason, line_at, made_line}
 use Rattle.qn_safety.proofs.Rests.{no_reset}
 use Rattle.qn_safety.proofs.Says.{Reason}
-use Rattle.qn_model.specs.lemmas.LeastRanks.{least_passes}
+use Rattle.qn_model.specs.lemmas.ChosenRanks.{chosen_inside}
 use Rattle.qn_safety.proofs.NodeLogs.{node_log}
 use Rattle.qn_safety.proofs.Origins.{line_of, line_what}
 use Rattle.qn_safety.proofs.Outs.{answer_fits}
@@ -132,7 +132,7 @@ resets_other s me log rank outside chosen_is = by_same (rank == me) refl
     by_same false e = e
     by_same true e =
         let first = value_tested (λ r. r == me) (chosen s log) chosen_is in
-        let inside : is_in_view log first.0 ≡ true = least_passes (length s.nodes) 0 (λ r. is_in_view log r) first.0 first.1 in
+        let inside : is_in_view log first.0 ≡ true = chosen_inside s log first.0 first.1 in
         never_both (is_in_view log rank) (subst (λ r. is_in_view log r ≡ true) (eqb-true first.0 me first.2 ∙ sym (eqb-true rank me e)) inside) outside
 
 reset_other : {s : Settings} {me : ℕ} {log : List Line} → Made s me log → (other : Rank) → op_out log ≡ Some (disk.WriteReset other) → (other.0 == me) ≡ false

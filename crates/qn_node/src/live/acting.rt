@@ -28,6 +28,9 @@ use qn_fence::Want;
 use qn_model::{Answer, DiskOp, Out, Outs, Packet, What, Why};
 use qn_watch::Watch;
 
+/// The rank of no node: its id is 0.
+const NOBODY: Rank = Rank(255);
+
 impl Live {
     /// Gives the outputs of an entry, as it was read, that the node has taken in at this tick: Stop, Start,
     /// Feed where `feeds` says so, a Tell, Asks, a disk operation. `tally` has taken the entry in too.
@@ -163,10 +166,13 @@ impl Live {
             → result ≡ lacks own.now.settings own.now.me.0 log tick }
     {
         match self.chosen(own) {
-            Some(rank) if rank.0 != own.me.0 => Why::NotChosen {
+            Some(rank) if rank.0 == own.me.0 => self.lacks_of_others(own, tick),
+            Some(rank) => Why::NotChosen {
                 id: own.settings.id_of(rank),
             },
-            _ => self.lacks_of_others(own, tick),
+            None => Why::NotChosen {
+                id: own.settings.id_of(NOBODY),
+            },
         }
     }
 
@@ -198,14 +204,15 @@ impl Live {
         }
     }
 
-    /// The chosen node: the least member of the present view.
+    /// The chosen node: the member that the present view names, else its least member.
     fn chosen(&self, own: &Own) -> Option<Rank>
         ensures { (log : List Line)
             → LiveFor self.now own.now.settings own.now.me.0 log
             → option_map (λ rank. rank.0) result ≡ chosen own.now.settings log }
     {
         match self.heard.view() {
-            Some(view) => view.members.first(own.count()),
+            Some(view) if view.is_barred() => None,
+            Some(view) => view.named(own.count()).or(view.members.first(own.count())),
             None => None,
         }
     }
