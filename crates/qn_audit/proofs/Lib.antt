@@ -5,7 +5,6 @@ mod LogTexts
 mod OneWords
 mod Questions
 mod ReadBack
-mod Recordings
 mod Steps
 mod Verdicts
 mod WholeLogs

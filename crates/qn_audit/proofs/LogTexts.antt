@@ -1,12 +1,14 @@
 -- How a log goes on by the lines of calls.
-use Rattle.std.proofs.Common.{◌≡◌, ◌≤◌, ℕ, Bool, true, false, List, [], ◌∷◌, ◌++◌, refl, sym, ap, ◌∙◌, append_assoc, append-nil, arith}
+use Rattle.std.proofs.Common.{◌≡◌, ◌≤◌, ℕ, Bool, true, false, List, [], ◌∷◌, ◌++◌, Option, refl, sym, ap, ◌∙◌, append_assoc, arith}
 use Rattle.std.specs.Prelude.{codes}
 use Rattle.std.specs.Io.KnownBytes.{append_known}
 use Rattle.qn_base.specs.declared.calls.Call.{Call}
 use Rattle.qn_base.specs.Rising.{HasRisen-within}
 use Rattle.qn_io.specs.Outside.{append_known-append, append_known-nil}
 use Rattle.qn_audit.specs.Logs.{call_line, log_text}
-use Rattle.qn_audit.specs.Recording.{LogSink, Logs, LogsWhen}
+use Rattle.qn_live.specs.Sound.{Shows}
+use Rattle.qn_audit.specs.declared.recorder.Recorder.{Recorder}
+use Rattle.qn_audit.specs.Recording.{LogSink, Logs, LogsWhen, Records, log_of}
 
 -- nothing was given to a log
 pub logs_none : (log : LogSink) → Logs log log []
@@ -47,9 +49,16 @@ module _ (a b c : LogSink) (text more : List ℕ) (low : a.faults ≤ b.faults) 
   pub logs_then : Logs a b text → Logs b c more → Logs a c (text ++ more)
   logs_then one two = then_when a.whole b.whole c.whole one two
 
--- the text of calls and of one more
-pub log_text-append : (calls : List Call) (call : Call) → log_text (calls ++ call ∷ []) ≡ log_text calls ++ (call_line call ++ codes "\n")
-log_text-append [] call = append-nil (call_line call ++ codes "\n")
-log_text-append (first ∷ calls) call =
-    ap (λ rest. (call_line first ++ codes "\n") ++ rest) (log_text-append calls call)
-    ∙ sym (append_assoc (call_line first ++ codes "\n") (log_text calls) (call_line call ++ codes "\n"))
+-- the calls of a recorder, one after the other
+pub logs_all : {E O : Type 0} (written : O → Option (List ℕ)) (faults : O → ℕ) (before after : Recorder E O) (calls : List Call) → Shows (Records written faults) before after calls
+    → Logs (log_of written faults before) (log_of written faults after) (log_text calls)
+    × (after.env.ghost_name ≡ before.env.ghost_name) × (after.out.ghost_name ≡ before.out.ghost_name) × (faults before.out.now ≤ faults after.out.now)
+logs_all written faults before after [] same = rw same (logs_none _, refl, refl, omega arith)
+logs_all written faults before after (call ∷ calls) chain =
+    let rest = logs_all written faults chain.0 after calls chain.2 in
+    let one = chain.1 in (
+      logs_then _ _ _ (call_line call ++ codes "\n") (log_text calls) one.3 rest.3 one.0 rest.0,
+      rest.1 ∙ one.1,
+      rest.2 ∙ one.2,
+      omega (arith, one.3, rest.3),
+    )

@@ -160,8 +160,3 @@ module _ (plan : Plan Ran) (head : ℕ) where
 pub recorded_front : (front more : List Call) → AreRecorded (front ++ more) → AreRecorded front
 recorded_front [] more recorded = tt
 recorded_front (first ∷ front) more recorded = (recorded.0, recorded_front front more recorded.1)
-
--- one more recorded call
-pub recorded_then : (calls : List Call) (call : Call) → AreRecorded calls → IsRecorded call → AreRecorded (calls ++ call ∷ [])
-recorded_then [] call recorded one = (one, tt)
-recorded_then (first ∷ calls) call recorded one = (recorded.0, recorded_then calls call recorded.1 one)

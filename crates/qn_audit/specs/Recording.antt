@@ -1,5 +1,5 @@
 -- What a recorder writes: this project's profile.
-use Rattle.std.specs.Prelude.{◌≡◌, ℕ, Bool, true, false, List, ◌++◌, Option, codes}
+use Rattle.std.specs.Prelude.{◌≡◌, ◌≤◌, ℕ, Bool, true, false, List, ◌++◌, Option, codes}
 use Rattle.std.specs.Io.KnownBytes.{append_known}
 use Rattle.qn_base.specs.declared.calls.Call.{Call}
 use Rattle.qn_base.specs.Plans.{Follows, Made, Plan}
@@ -35,6 +35,14 @@ Logs before after text = LogsWhen before.whole after.whole before after text
 -- a call was given to a log, as its line with its end
 abbrev pub LogsCall : LogSink → LogSink → Call → Type 0
 LogsCall before after call = Logs before after (call_line call ++ codes "\n")
+
+-- what a call shows of a recorder, before it and after it: its line was given to the log, and the recorder holds the same outside
+-- and the same sink
+abbrev pub Records : {E O : Type 0} → (O → Option (List ℕ)) → (O → ℕ) → Recorder E O → Recorder E O → Call → Type 0
+Records written faults before after call =
+    LogsCall (log_of written faults before) (log_of written faults after) call
+    × (after.env.ghost_name ≡ before.env.ghost_name) × (after.out.ghost_name ≡ before.out.ghost_name)
+    × (faults before.out.now ≤ faults after.out.now)
 
 -- what a recorder shows: the faults and the calls of its outside, where they are told, and its log
 pub record Recorded : Type 0 where

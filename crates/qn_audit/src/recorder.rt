@@ -1,10 +1,9 @@
 //! An outside that records its calls.
 ghost use Rattle.std.specs.Prelude.{◌≡◌, true};
-ghost use Rattle.qn_io.specs.Receives.{FitsPacket, received};
 
 use crate::log_text::{LOG_LINE, put_call_line};
 use arrayvec::ArrayVec;
-use qn_base::{Bytes, Call, Failed, Rank, Received, add};
+use qn_base::{Bytes, Call, Failed, Rank, add};
 use qn_io::{Env, Got, Opening, PACKET, SECTOR, Sink, put_all};
 
 /// An outside that passes each call on to another one, and writes it with its answer to a log before the next call.
@@ -63,92 +62,51 @@ impl<'a, E: Env, O: Sink> Recorder<'a, E, O> {
 }
 
 impl<'a, E: Env, O: Sink> Env for Recorder<'a, E, O> {
-    ghost use Rattle.std.specs.Prelude.{◌≤◌, ◌<◌, ◌∷◌, [], true, false, is_ok, length, OnOk, OnErr};
-    ghost use Rattle.qn_base.specs.declared.calls.Call.TheVariants.{OpenImage, Now, Receive, Read, Write, Feed, Start, Stop, Send, Disarm, Halt};
+    ghost use Rattle.std.specs.Prelude.{◌∷◌, [], is_ok};
+    ghost use Rattle.qn_base.specs.declared.calls.Call.TheVariants.{OpenImage};
     ghost use Rattle.qn_base.specs.Plans.{Made};
     ghost use Rattle.qn_io.specs.Openings.{node_opening};
-    ghost use Rattle.qn_io.specs.Receives.{FitsPacket, received};
-    ghost use Rattle.qn_audit.specs.Recording.{LogsCall, log_of};
+    ghost use Rattle.qn_audit.specs.Recording.{Records, log_of};
 
     ghost faults = { λ r. E.faults r.env.now };
 
     ghost calls = { λ r. E.calls r.env.now };
 
+    ghost shows = { Records O.written O.faults };
+
     fn open_image(&mut self, path: &str) -> Result<(), Failed>
         ensures made { Made (E.faults self.old.env.now) (E.faults self.new.env.now)
-            (E.calls self.old.env.now) (E.calls self.new.env.now)
-            (OpenImage path.now (is_ok result) ∷ []) }
+            (E.calls self.old.env.now) (E.calls self.new.env.now) (OpenImage path.now (is_ok result) ∷ []) }
         ensures unwritten { log_of O.written O.faults self.new
             ≡ log_of O.written O.faults self.old }
-        ensures same_env { self.new.env.ghost_name ≡ self.old.env.ghost_name }
-        ensures same_out { self.new.out.ghost_name ≡ self.old.out.ghost_name }
     {
         self.env.open_image(path)
     }
 
     fn open_node(&mut self, opening: &Opening<'_>) -> Result<(), Failed>
         ensures made { Made (E.faults self.old.env.now) (E.faults self.new.env.now)
-            (E.calls self.old.env.now) (E.calls self.new.env.now)
-            (node_opening opening.now (is_ok result) ∷ []) }
+            (E.calls self.old.env.now) (E.calls self.new.env.now) (node_opening opening.now (is_ok result) ∷ []) }
         ensures unwritten { log_of O.written O.faults self.new
             ≡ log_of O.written O.faults self.old }
-        ensures same_env { self.new.env.ghost_name ≡ self.old.env.ghost_name }
-        ensures same_out { self.new.out.ghost_name ≡ self.old.out.ghost_name }
     {
         self.env.open_node(opening)
     }
 
-    fn now(&mut self) -> u64
-        ensures made { Made (E.faults self.old.env.now) (E.faults self.new.env.now)
-            (E.calls self.old.env.now) (E.calls self.new.env.now) (Now result ∷ []) }
-        ensures logs { LogsCall (log_of O.written O.faults self.old)
-            (log_of O.written O.faults self.new)
-            (Now result) }
-        ensures sink_faults { O.faults self.old.out.now ≤ O.faults self.new.out.now }
-        ensures same_env { self.new.env.ghost_name ≡ self.old.env.ghost_name }
-        ensures same_out { self.new.out.ghost_name ≡ self.old.out.ghost_name }
-    {
+    fn now(&mut self) -> u64 {
         let tick = self.env.now();
         self.log(&Call::Now { tick });
         tick
     }
 
-    fn receive(&mut self, packet: &mut [u8; PACKET]) -> Got
-        ensures within { FitsPacket result }
-        ensures made { Made (E.faults self.old.env.now) (E.faults self.new.env.now)
-            (E.calls self.old.env.now) (E.calls self.new.env.now)
-            (Receive (received result packet.new) ∷ []) }
-        ensures logs { LogsCall (log_of O.written O.faults self.old)
-            (log_of O.written O.faults self.new)
-            (Receive (received result packet.new)) }
-        ensures sink_faults { O.faults self.old.out.now ≤ O.faults self.new.out.now }
-        ensures same_env { self.new.env.ghost_name ≡ self.old.env.ghost_name }
-        ensures same_out { self.new.out.ghost_name ≡ self.old.out.ghost_name }
-    {
+    fn receive(&mut self, packet: &mut [u8; PACKET]) -> Got {
         let got = self.env.receive(packet);
         self.log(&Call::Receive {
-            got: told_packet(got, packet),
+            got: got.told(packet),
         });
         got
     }
 
-    fn read(&mut self, sector: u32, into: &mut [u8; SECTOR]) -> Result<(), Failed>
-        requires { sector < 3072 }
-        ensures ok { OnOk result (Made (E.faults self.old.env.now) (E.faults self.new.env.now)
-            (E.calls self.old.env.now) (E.calls self.new.env.now)
-            (Read sector into.new true ∷ [])) }
-        ensures failed { OnErr result (Made (E.faults self.old.env.now) (E.faults self.new.env.now)
-            (E.calls self.old.env.now) (E.calls self.new.env.now) (Read sector [] false ∷ [])) }
-        ensures logs_bytes { OnOk result
-            (LogsCall (log_of O.written O.faults self.old) (log_of O.written O.faults self.new)
-            (Read sector into.new true)) }
-        ensures logs_failed { OnErr result
-            (LogsCall (log_of O.written O.faults self.old) (log_of O.written O.faults self.new)
-            (Read sector [] false)) }
-        ensures sink_faults { O.faults self.old.out.now ≤ O.faults self.new.out.now }
-        ensures same_env { self.new.env.ghost_name ≡ self.old.env.ghost_name }
-        ensures same_out { self.new.out.ghost_name ≡ self.old.out.ghost_name }
-    {
+    fn read(&mut self, sector: u32, into: &mut [u8; SECTOR]) -> Result<(), Failed> {
         let done = self.env.read(sector, into);
         let bytes = match done {
             Ok(()) => Bytes::new(into),
@@ -162,18 +120,7 @@ impl<'a, E: Env, O: Sink> Env for Recorder<'a, E, O> {
         done
     }
 
-    fn write(&mut self, sector: u32, from: &[u8; SECTOR]) -> Result<(), Failed>
-        requires { sector < 3072 }
-        ensures made { Made (E.faults self.old.env.now) (E.faults self.new.env.now)
-            (E.calls self.old.env.now) (E.calls self.new.env.now)
-            (Write sector from.now (is_ok result) ∷ []) }
-        ensures logs { LogsCall (log_of O.written O.faults self.old)
-            (log_of O.written O.faults self.new)
-            (Write sector from.now (is_ok result)) }
-        ensures sink_faults { O.faults self.old.out.now ≤ O.faults self.new.out.now }
-        ensures same_env { self.new.env.ghost_name ≡ self.old.env.ghost_name }
-        ensures same_out { self.new.out.ghost_name ≡ self.old.out.ghost_name }
-    {
+    fn write(&mut self, sector: u32, from: &[u8; SECTOR]) -> Result<(), Failed> {
         let done = self.env.write(sector, from);
         self.log(&Call::Write {
             sector,
@@ -183,18 +130,7 @@ impl<'a, E: Env, O: Sink> Env for Recorder<'a, E, O> {
         done
     }
 
-    fn send(&mut self, to: Rank, bytes: &[u8]) -> Result<(), Failed>
-        requires { length bytes.now ≤ 128 }
-        ensures made { Made (E.faults self.old.env.now) (E.faults self.new.env.now)
-            (E.calls self.old.env.now) (E.calls self.new.env.now)
-            (Send to bytes.now (is_ok result) ∷ []) }
-        ensures logs { LogsCall (log_of O.written O.faults self.old)
-            (log_of O.written O.faults self.new)
-            (Send to bytes.now (is_ok result)) }
-        ensures sink_faults { O.faults self.old.out.now ≤ O.faults self.new.out.now }
-        ensures same_env { self.new.env.ghost_name ≡ self.old.env.ghost_name }
-        ensures same_out { self.new.out.ghost_name ≡ self.old.out.ghost_name }
-    {
+    fn send(&mut self, to: Rank, bytes: &[u8]) -> Result<(), Failed> {
         let done = self.env.send(to, bytes);
         self.log(&Call::Send {
             to,
@@ -204,89 +140,32 @@ impl<'a, E: Env, O: Sink> Env for Recorder<'a, E, O> {
         done
     }
 
-    fn feed(&mut self) -> Result<(), Failed>
-        ensures made { Made (E.faults self.old.env.now) (E.faults self.new.env.now)
-            (E.calls self.old.env.now) (E.calls self.new.env.now) (Feed (is_ok result) ∷ []) }
-        ensures logs { LogsCall (log_of O.written O.faults self.old)
-            (log_of O.written O.faults self.new)
-            (Feed (is_ok result)) }
-        ensures sink_faults { O.faults self.old.out.now ≤ O.faults self.new.out.now }
-        ensures same_env { self.new.env.ghost_name ≡ self.old.env.ghost_name }
-        ensures same_out { self.new.out.ghost_name ≡ self.old.out.ghost_name }
-    {
+    fn feed(&mut self) -> Result<(), Failed> {
         let done = self.env.feed();
         self.log(&Call::Feed { ok: done.is_ok() });
         done
     }
 
-    fn start(&mut self) -> Result<(), Failed>
-        ensures made { Made (E.faults self.old.env.now) (E.faults self.new.env.now)
-            (E.calls self.old.env.now) (E.calls self.new.env.now) (Start (is_ok result) ∷ []) }
-        ensures logs { LogsCall (log_of O.written O.faults self.old)
-            (log_of O.written O.faults self.new)
-            (Start (is_ok result)) }
-        ensures sink_faults { O.faults self.old.out.now ≤ O.faults self.new.out.now }
-        ensures same_env { self.new.env.ghost_name ≡ self.old.env.ghost_name }
-        ensures same_out { self.new.out.ghost_name ≡ self.old.out.ghost_name }
-    {
+    fn start(&mut self) -> Result<(), Failed> {
         let done = self.env.start();
         self.log(&Call::Start { ok: done.is_ok() });
         done
     }
 
-    fn stop(&mut self) -> Result<(), Failed>
-        ensures made { Made (E.faults self.old.env.now) (E.faults self.new.env.now)
-            (E.calls self.old.env.now) (E.calls self.new.env.now) (Stop (is_ok result) ∷ []) }
-        ensures logs { LogsCall (log_of O.written O.faults self.old)
-            (log_of O.written O.faults self.new)
-            (Stop (is_ok result)) }
-        ensures sink_faults { O.faults self.old.out.now ≤ O.faults self.new.out.now }
-        ensures same_env { self.new.env.ghost_name ≡ self.old.env.ghost_name }
-        ensures same_out { self.new.out.ghost_name ≡ self.old.out.ghost_name }
-    {
+    fn stop(&mut self) -> Result<(), Failed> {
         let done = self.env.stop();
         self.log(&Call::Stop { ok: done.is_ok() });
         done
     }
 
-    fn disarm(&mut self) -> Result<(), Failed>
-        ensures made { Made (E.faults self.old.env.now) (E.faults self.new.env.now)
-            (E.calls self.old.env.now) (E.calls self.new.env.now) (Disarm (is_ok result) ∷ []) }
-        ensures logs { LogsCall (log_of O.written O.faults self.old)
-            (log_of O.written O.faults self.new)
-            (Disarm (is_ok result)) }
-        ensures sink_faults { O.faults self.old.out.now ≤ O.faults self.new.out.now }
-        ensures same_env { self.new.env.ghost_name ≡ self.old.env.ghost_name }
-        ensures same_out { self.new.out.ghost_name ≡ self.old.out.ghost_name }
-    {
+    fn disarm(&mut self) -> Result<(), Failed> {
         let done = self.env.disarm();
         self.log(&Call::Disarm { ok: done.is_ok() });
         done
     }
 
-    fn halt(&mut self, code: u8)
-        ensures made { Made (E.faults self.old.env.now) (E.faults self.new.env.now)
-            (E.calls self.old.env.now) (E.calls self.new.env.now) (Halt code ∷ []) }
-        ensures logs { LogsCall (log_of O.written O.faults self.old)
-            (log_of O.written O.faults self.new)
-            (Halt code) }
-        ensures sink_faults { O.faults self.old.out.now ≤ O.faults self.new.out.now }
-        ensures same_env { self.new.env.ghost_name ≡ self.old.env.ghost_name }
-        ensures same_out { self.new.out.ghost_name ≡ self.old.out.ghost_name }
-    {
+    fn halt(&mut self, code: u8) {
         self.env.halt(code);
         self.log(&Call::Halt { code });
-    }
-}
-
-/// What was received, as it is told.
-fn told_packet(got: Got, packet: &[u8; PACKET]) -> Received
-    requires { FitsPacket got }
-    ensures { result ≡ received got packet.now }
-{
-    match got {
-        Got::Packet(length) => Received::Packet(Bytes::new(&packet[..length])),
-        Got::Nothing => Received::Nothing,
-        Got::Failed => Received::Failed,
     }
 }

@@ -1,6 +1,5 @@
 //! An outside in memory that answers by a script and fails at chosen calls.
 ghost use Rattle.std.specs.Prelude.{◌≡◌, ◌≤◌};
-ghost use Rattle.qn_io.specs.Receives.{FitsPacket, received};
 
 use super::failing::Failures;
 use super::scripted::{Packets, Script, Ticks};
@@ -145,7 +144,7 @@ impl Env for MemEnv {
             Ok(()) => {
                 let got = self.packets.next(packet);
                 self.told.add(Call::Receive {
-                    got: told_packet(got, packet),
+                    got: got.told(packet),
                 });
                 got
             }
@@ -284,17 +283,5 @@ impl Env for MemEnv {
             ≡ record self.old { telling = telling_after self.old.telling (Halt code) } }
     {
         self.told.add(Call::Halt { code });
-    }
-}
-
-/// What was received, as it is told.
-fn told_packet(got: Got, packet: &[u8; PACKET]) -> Received
-    requires { FitsPacket got }
-    ensures { result ≡ received got packet.now }
-{
-    match got {
-        Got::Packet(length) => Received::Packet(Bytes::new(&packet[..length])),
-        Got::Nothing => Received::Nothing,
-        Got::Failed => Received::Failed,
     }
 }

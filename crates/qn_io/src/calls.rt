@@ -5,7 +5,7 @@ ghost use Rattle.qn_base.specs.declared.calls.Call.TheVariants.{OpenImage, Now, 
 ghost use Rattle.qn_base.specs.Plans.{Made};
 ghost use Rattle.qn_io.specs.Receives.{FitsPacket, received};
 
-use qn_base::{Failed, Rank};
+use qn_base::{Bytes, Failed, Rank, Received};
 
 /// The bytes of one sector of an image.
 pub const SECTOR: usize = 512;
@@ -43,6 +43,23 @@ pub enum Got {
     Failed,
 }
 
+impl Got {
+    ghost use Rattle.std.specs.Prelude.{◌≡◌};
+    ghost use Rattle.qn_io.specs.Receives.{FitsPacket, received};
+
+    /// What was received, as it is told: the bytes of a packet are at the beginning of the buffer.
+    pub fn told(self, packet: &[u8; PACKET]) -> Received
+        requires { FitsPacket self }
+        ensures { result ≡ received self packet.now }
+    {
+        match self {
+            Got::Packet(length) => Received::Packet(Bytes::new(&packet[..length])),
+            Got::Nothing => Received::Nothing,
+            Got::Failed => Received::Failed,
+        }
+    }
+}
+
 /// The outside of a node: its image, its watchdog, its resource, the network and a clock.
 ///
 /// `faults` is the number of failures so far, which never falls and stops at the greatest u64. `calls`
@@ -54,6 +71,9 @@ pub trait Env {
     ghost faults: { Self → ℕ };
 
     ghost calls: { Self → Option (List Call) };
+
+    /// What more of an outside a call shows, by the outside before it and after it: nothing, where an outside says no more.
+    ghost shows: { Self → Self → Call → Type 0 } = { λ _ _ _. Unit {0} };
 
     /// Opens an image for reading and writing.
     fn open_image(&mut self, path: &str) -> Result<(), Failed>
@@ -67,15 +87,17 @@ pub trait Env {
 
     /// The time in milliseconds, from any start.
     fn now(&mut self) -> u64
-        ensures { Made (faults self.old) (faults self.new) (calls self.old) (calls self.new)
-            (Now result ∷ []) };
+        ensures made { Made (faults self.old) (faults self.new) (calls self.old) (calls self.new)
+            (Now result ∷ []) }
+        ensures shows { shows self.old self.new (Now result) };
 
     /// Takes a packet that came, if one does within a short while, and puts it at the beginning of
     /// `packet`. Of a longer packet the first 129 bytes are taken.
     fn receive(&mut self, packet: &mut [u8; PACKET]) -> Got
         ensures within { FitsPacket result }
         ensures made { Made (faults self.old) (faults self.new) (calls self.old) (calls self.new)
-            (Receive (received result packet.new) ∷ []) };
+            (Receive (received result packet.new) ∷ []) }
+        ensures shows { shows self.old self.new (Receive (received result packet.new)) };
 
     /// Reads a sector of the image.
     fn read(&mut self, sector: u32, into: &mut [u8; SECTOR]) -> Result<(), Failed>
@@ -85,42 +107,51 @@ pub trait Env {
             (Read sector into.new true ∷ [])) }
         ensures failed { OnErr result
             (Made (faults self.old) (faults self.new) (calls self.old) (calls self.new)
-            (Read sector [] false ∷ [])) };
+            (Read sector [] false ∷ [])) }
+        ensures shows_bytes { OnOk result (shows self.old self.new (Read sector into.new true)) }
+        ensures shows_failed { OnErr result (shows self.old self.new (Read sector [] false)) };
 
     /// Writes a sector of the image. At `Ok` the bytes last.
     fn write(&mut self, sector: u32, from: &[u8; SECTOR]) -> Result<(), Failed>
         requires { sector < 3072 }
-        ensures { Made (faults self.old) (faults self.new) (calls self.old) (calls self.new)
-            (Write sector from.now (is_ok result) ∷ []) };
+        ensures made { Made (faults self.old) (faults self.new) (calls self.old) (calls self.new)
+            (Write sector from.now (is_ok result) ∷ []) }
+        ensures shows { shows self.old self.new (Write sector from.now (is_ok result)) };
 
     /// Feeds the watchdog.
     fn feed(&mut self) -> Result<(), Failed>
-        ensures { Made (faults self.old) (faults self.new) (calls self.old) (calls self.new)
-            (Feed (is_ok result) ∷ []) };
+        ensures made { Made (faults self.old) (faults self.new) (calls self.old) (calls self.new)
+            (Feed (is_ok result) ∷ []) }
+        ensures shows { shows self.old self.new (Feed (is_ok result)) };
 
     /// Starts the resource.
     fn start(&mut self) -> Result<(), Failed>
-        ensures { Made (faults self.old) (faults self.new) (calls self.old) (calls self.new)
-            (Start (is_ok result) ∷ []) };
+        ensures made { Made (faults self.old) (faults self.new) (calls self.old) (calls self.new)
+            (Start (is_ok result) ∷ []) }
+        ensures shows { shows self.old self.new (Start (is_ok result)) };
 
     /// Stops the resource.
     fn stop(&mut self) -> Result<(), Failed>
-        ensures { Made (faults self.old) (faults self.new) (calls self.old) (calls self.new)
-            (Stop (is_ok result) ∷ []) };
+        ensures made { Made (faults self.old) (faults self.new) (calls self.old) (calls self.new)
+            (Stop (is_ok result) ∷ []) }
+        ensures shows { shows self.old self.new (Stop (is_ok result)) };
 
     /// Sends a packet to the node of that rank.
     fn send(&mut self, to: Rank, bytes: &[u8]) -> Result<(), Failed>
         requires { length bytes.now ≤ 128 }
-        ensures { Made (faults self.old) (faults self.new) (calls self.old) (calls self.new)
-            (Send to bytes.now (is_ok result) ∷ []) };
+        ensures made { Made (faults self.old) (faults self.new) (calls self.old) (calls self.new)
+            (Send to bytes.now (is_ok result) ∷ []) }
+        ensures shows { shows self.old self.new (Send to bytes.now (is_ok result)) };
 
     /// Disarms the watchdog.
     fn disarm(&mut self) -> Result<(), Failed>
-        ensures { Made (faults self.old) (faults self.new) (calls self.old) (calls self.new)
-            (Disarm (is_ok result) ∷ []) };
+        ensures made { Made (faults self.old) (faults self.new) (calls self.old) (calls self.new)
+            (Disarm (is_ok result) ∷ []) }
+        ensures shows { shows self.old self.new (Disarm (is_ok result)) };
 
     /// Ends the node with that code.
     fn halt(&mut self, code: u8)
-        ensures { Made (faults self.old) (faults self.new) (calls self.old) (calls self.new)
-            (Halt code ∷ []) };
+        ensures made { Made (faults self.old) (faults self.new) (calls self.old) (calls self.new)
+            (Halt code ∷ []) }
+        ensures shows { shows self.old self.new (Halt code) };
 }

@@ -12,6 +12,8 @@ pub mod Operated
 pub mod OperationCalls
 pub mod TripleOutputs
 mod Rows
+pub mod Recordings
+pub mod Shown
 pub mod Single
 pub mod Steps
 pub mod Stretches

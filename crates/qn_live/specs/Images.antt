@@ -1,16 +1,19 @@
 -- The run of a node on one image or on three: this project's profile.
-use Rattle.std.specs.Prelude.{◌≡◌, ℕ, Bool, Option, Some}
+use Rattle.std.specs.Prelude.{◌≡◌, ℕ, Bool, Option, Some, List}
 use Rattle.qn_base.specs.declared.calls.Call.{Call}
 use Rattle.qn_base.specs.Calls.{blank}
-use Rattle.qn_base.specs.Plans.{Plan, question}
+use Rattle.qn_base.specs.Plans.{Follows, Made, Plan, question}
 use Rattle.qn_model.specs.declared.configuration.Settings.{Settings}
+use Rattle.qn_model.specs.Log.{Line}
 use Rattle.qn_live.specs.declared.asked.Given.{Given}
 use Rattle.qn_live.specs.declared.asked.Room.{Room}
+use Rattle.qn_live.specs.declared.live_end.LiveEnd.{LiveEnd}
 use Rattle.qn_live.specs.declared.run.NodeRun.{NodeRun}
 use Rattle.qn_live.specs.Asking.{Tells}
 use Rattle.qn_live.specs.Machine.{RunFor, work}
 use Rattle.qn_live.specs.Running.{Ran}
 use Rattle.qn_live.specs.Runs.{live_plan}
+use Rattle.qn_live.specs.Sound.{AreRecorded, Shows}
 use Rattle.qn_live.specs.declared.images_run.ImagesRun.{ImagesRun}
 use Rattle.qn_live.specs.declared.images_run.ImagesRun.TheVariants as run
 use Rattle.qn_live.specs.declared.node_images.NodeImages.{NodeImages}
@@ -48,3 +51,13 @@ has_work of = work (node_run of)
 abbrev pub images_work : ImagesRun → ℕ
 images_work (run.One single) = work single
 images_work (run.Three triple) = triple_work triple
+
+-- a run over an outside: the calls of the plan were made, with these answers and no others, each of them is one that an outside
+-- can have made, each shows what the outside says of it, and the run ended so
+pub record RanOn {E : Type 0} (faults : E → ℕ) (told : E → Option (List Call)) (shows : E → E → Call → Type 0) (before after : E) (plan : Plan Ran) (end : LiveEnd) : Type 0 where
+  pub calls : List Call
+  pub log : List Line
+  pub made : Made (faults before) (faults after) (told before) (told after) calls
+  pub recorded : AreRecorded calls
+  pub shown : Shows shows before after calls
+  pub follows : Follows plan calls (record { end = end; log = log })

@@ -14,6 +14,7 @@ pub mod Places
 pub mod PlacesRead
 pub mod Running
 pub mod Runs
+pub mod Sound
 pub mod Standings
 pub mod TripleDisk
 pub mod TripleHalts

@@ -39,7 +39,6 @@ mod triple_entry;
 mod triple_laws;
 mod triple_operations;
 mod triple_run;
-mod triple_running;
 
 pub use asked::{Asked, Given, Room};
 pub use calling::call;
@@ -53,7 +52,7 @@ pub use live_end::LiveEnd;
 pub use node_images::NodeImages;
 pub use notices::{NoNotices, Notices};
 pub use run::NodeRun;
-pub use running::run_node;
+pub use running::{run_node, run_node3, run_on};
 pub use standing::Standing;
 pub use triple_laws::{
     law_triple_answers, law_triple_boot_halted, law_triple_check, law_triple_end,
@@ -61,4 +60,3 @@ pub use triple_laws::{
     law_triple_writes,
 };
 pub use triple_run::TripleRun;
-pub use triple_running::run_node3;

@@ -15,7 +15,7 @@ use qn_commands::{Fault, Path, Status, read_settings, refuse};
 use qn_io::{Env, Opening, Sink, Source};
 use qn_live::{
     LiveEnd, NodeImages, Notices, law_boot_halted, law_end_causes, law_triple_boot_halted,
-    law_triple_end_causes, run_node, run_node3,
+    law_triple_end_causes, run_on,
 };
 use qn_model::Settings;
 use std::alloc::Global;
@@ -140,26 +140,16 @@ fn run<E: Env, N: Notices>(
         (outside E.calls E.faults env.old) (outside E.calls E.faults env.new)
         (record { end = result; log = log }) }
 {
-    match images {
-        NodeImages::One => run_node(
-            env,
-            notices,
-            settings,
-            rank,
-            words.clean,
-            words.leave,
-            words.turns,
-        ),
-        NodeImages::Three => run_node3(
-            env,
-            notices,
-            settings,
-            rank,
-            words.clean,
-            words.leave,
-            words.turns,
-        ),
-    }
+    run_on(
+        env,
+        notices,
+        images,
+        settings,
+        rank,
+        words.clean,
+        words.leave,
+        words.turns,
+    )
 }
 
 /// Law: a node in whose run no call failed was not halted in its boot by a failed call, and one whose ticks did not fall did not

@@ -6,7 +6,7 @@ use Rattle.qn_base.specs.declared.calls.Call.TheVariants as call
 use Rattle.qn_io.specs.declared.calls.Got.{Got}
 use Rattle.qn_io.specs.declared.calls.Got.TheVariants as got
 use Rattle.qn_io.specs.Receives.{FitsPacket, received}
-use Rattle.qn_audit.specs.Logs.{IsRecorded}
+use Rattle.qn_live.specs.Sound.{IsRecorded}
 
 no_bytes : IsBytes []
 no_bytes i = omega arith

@@ -1,5 +1,5 @@
 use Rattle.std.proofs.Common.{arith}
-use Rattle.qn_audit.proofs.logging.are_bytes.Goals as goal
+use Rattle.qn_live.proofs.calling.are_bytes.Goals as goal
 
 pub returns : goal.returns
 returns c = λ i. let fits = c.type_inv.bytes i in omega arith

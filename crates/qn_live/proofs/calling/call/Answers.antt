@@ -1,8 +1,8 @@
 use Rattle.std.proofs.Common.{◌≤◌, ℕ, List, length, subst, arith}
 use Rattle.hex.specs.Hex.{IsBytes}
 use Rattle.qn_live.specs.Asking.{IsServed}
-use Rattle.qn_audit.proofs.Recordings.{read_recorded, receive_recorded}
-use Rattle.qn_audit.proofs.logging.call.Goals as goal
+use Rattle.qn_live.proofs.Recordings.{read_recorded, receive_recorded}
+use Rattle.qn_live.proofs.calling.call.Goals as goal
 
 pub returns-after-matches-clause-recorded : goal.returns-after-matches-clause-recorded
 returns-after-matches-clause-recorded g c = rw c.in-Receive.is (receive_recorded c.receive-got.result c.receive-got.new.packet c.receive-got.ensures.within c.are_bytes.ensures)

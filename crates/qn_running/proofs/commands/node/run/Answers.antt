@@ -1,0 +1,4 @@
+use Rattle.qn_running.proofs.commands.node.run.Goals as goal
+
+pub returns : goal.returns
+returns g c = let ran = c.run_on.ensures in record { did = (ran.log, record { calls = ran.calls; made = ran.made; follows = ran.follows }) }
