@@ -1,6 +1,6 @@
 -- What the status files of a cluster come to, at a moment of their host's monotonic clock. This project's profile; the statuses are
 -- those of a Nagios plug-in.
-use Rattle.std.specs.Prelude.{ℕ, Bool, true, false, ◌==◌, ◌&&◌, not, List, if◌then◌else◌, nat_lt, filter, length}
+use Rattle.std.specs.Prelude.{ℕ, Bool, true, false, ◌==◌, ◌&&◌, not, List, if◌then◌else◌, nat_lt, filter, length, codes}
 use Rattle.std.specs.List.{list_any, list_all}
 use Rattle.qn_base.specs.declared.ids.NodeId.{NodeId}
 use Rattle.qn_verdict.specs.declared.node_file.NodeFile.{NodeFile}
@@ -64,3 +64,10 @@ exit_status Healthy = 0
 exit_status Degraded = 1
 exit_status NoOwner = 2
 exit_status Unknown = 3
+
+-- the word of a verdict
+abbrev pub verdict_name : Verdict → List ℕ
+verdict_name Healthy = codes "healthy"
+verdict_name Degraded = codes "degraded"
+verdict_name NoOwner = codes "no owner"
+verdict_name Unknown = codes "unknown"

@@ -135,7 +135,7 @@ impl NodeFile {
 
 impl MailOfFile {
     ghost use Rattle.std.specs.Prelude.{◌≡◌};
-    ghost use Rattle.qn_verdict.specs.NodeFiles.{is_quiet};
+    ghost use Rattle.qn_verdict.specs.NodeFiles.{is_quiet, mail_word};
 
     /// Whether no message but a test waits in the mailbox, as far as it was read.
     pub fn is_quiet(self) -> bool
@@ -150,7 +150,9 @@ impl MailOfFile {
     }
 
     /// The word of the file: the message's name, `damaged`, `failed` or `unread`.
-    pub fn name(self) -> &'static str {
+    pub fn name(self) -> &'static str
+        ensures { result.now ≡ mail_word self }
+    {
         match self {
             MailOfFile::Holds(message) => message.name(),
             MailOfFile::Damaged => "damaged",
@@ -161,8 +163,13 @@ impl MailOfFile {
 }
 
 impl PhaseOfFile {
+    ghost use Rattle.std.specs.Prelude.{◌≡◌};
+    ghost use Rattle.qn_verdict.specs.NodeFiles.{phase_word};
+
     /// The word of the file.
-    pub fn name(self) -> &'static str {
+    pub fn name(self) -> &'static str
+        ensures { result.now ≡ phase_word self }
+    {
         match self {
             PhaseOfFile::Off => "off",
             PhaseOfFile::Booting => "booting",

@@ -21,7 +21,7 @@ pub enum Verdict {
 
 impl Verdict {
     ghost use Rattle.std.specs.Prelude.{◌≡◌};
-    ghost use Rattle.qn_verdict.specs.Verdicts.{beside_unread, exit_status};
+    ghost use Rattle.qn_verdict.specs.Verdicts.{beside_unread, exit_status, verdict_name};
 
     /// The verdict where a file beside the judged ones could not be read, or none.
     pub fn beside_unread(self, unread: bool) -> Verdict
@@ -46,7 +46,9 @@ impl Verdict {
     }
 
     /// The word of the verdict.
-    pub fn name(self) -> &'static str {
+    pub fn name(self) -> &'static str
+        ensures { result.now ≡ verdict_name self }
+    {
         match self {
             Verdict::Healthy => "healthy",
             Verdict::Degraded => "degraded",
