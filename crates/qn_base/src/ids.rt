@@ -1,4 +1,4 @@
-//! Node ids, ranks, masks of ranks and views.
+//! Node ids, ranks, masks of ranks, views, and what a Hello says.
 
 /// The id of a node in the settings text: 1 or more (corosync.conf(5), `nodeid`).
 #[derive(Clone, Copy, PartialEq, Eq, PartialOrd, Ord, Default, Debug)]
@@ -17,6 +17,17 @@ pub struct Mask(pub u32);
 pub struct View {
     pub id: u64,
     pub members: Mask,
+}
+
+/// What a Hello says of its sender.
+#[derive(Clone, Copy, PartialEq, Eq, Debug)]
+pub struct Said {
+    /// The nodes that it hears, and itself.
+    pub hears: Mask,
+    /// The able node that it follows, where there is one.
+    pub follows: Option<Rank>,
+    /// Whether the nodes that it sees, from its own rank on, have the votes that a side needs.
+    pub able: bool,
 }
 
 impl Mask {

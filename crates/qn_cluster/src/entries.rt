@@ -11,7 +11,7 @@ pub fn entry_of(packet: Packet) -> What
     match packet {
         Packet::Ask(ask) => What::Ask(ask),
         Packet::Tell(tell) => What::Tell(tell),
-        Packet::Hello { .. } | Packet::Announce { .. } => What::Tick,
+        Packet::Hello { .. } | Packet::Announce { .. } | Packet::Heard { .. } => What::Tick,
         Packet::Vote { yes } => What::Device(yes),
     }
 }

@@ -2,7 +2,7 @@
 ghost use Rattle.std.specs.Prelude.{◌≡◌};
 ghost use Rattle.qn_cluster.specs.Kept.{addressee_of};
 
-use qn_base::{Mask, Rank, View};
+use qn_base::{Mask, Rank, Said, View};
 use qn_model::{Ask, Packet, Tell};
 
 /// What the packets that a node sends at one entry have in common: the node, and the incarnation, the install number
@@ -23,6 +23,7 @@ pub(crate) enum Kind {
     Hello,
     Announce,
     Vote { yes: bool },
+    Heard { said: Said },
 }
 
 /// A packet that was sent: the place of its heading, its receiver, the node that it names as its receiver, and its
@@ -52,7 +53,9 @@ impl Heading {
             Packet::Tell(tell) => {
                 Heading::new(tell.from, tell.incarnation, tell.install, tell.view)
             }
-            Packet::Hello { from } => Heading::new(from, 0, 0, nowhere),
+            Packet::Hello { from } | Packet::Heard { from, .. } => {
+                Heading::new(from, 0, 0, nowhere)
+            }
             Packet::Announce { from, view } => Heading::new(from, 0, 0, view),
             Packet::Vote { .. } => Heading::new(Rank(0), 0, 0, nowhere),
         }
@@ -104,6 +107,7 @@ impl Heading {
             Kind::Hello => Packet::Hello { from },
             Kind::Announce => Packet::Announce { from, view },
             Kind::Vote { yes } => Packet::Vote { yes },
+            Kind::Heard { said } => Packet::Heard { from, said },
         }
     }
 }
@@ -125,6 +129,7 @@ impl Kind {
             Packet::Hello { .. } => Kind::Hello,
             Packet::Announce { .. } => Kind::Announce,
             Packet::Vote { yes } => Kind::Vote { yes },
+            Packet::Heard { said, .. } => Kind::Heard { said },
         }
     }
 }
@@ -136,6 +141,9 @@ pub(crate) fn addressee_of(packet: Packet) -> Rank
     match packet {
         Packet::Ask(ask) => ask.to,
         Packet::Tell(tell) => tell.to,
-        Packet::Hello { .. } | Packet::Announce { .. } | Packet::Vote { .. } => Rank(0),
+        Packet::Hello { .. }
+        | Packet::Announce { .. }
+        | Packet::Vote { .. }
+        | Packet::Heard { .. } => Rank(0),
     }
 }

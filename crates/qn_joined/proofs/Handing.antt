@@ -23,7 +23,7 @@ use Rattle.qn_model.specs.World.{given_up}
 use Rattle.qn_member.specs.Maker.{Maker, view_at}
 use Rattle.qn_live.specs.declared.place.Choice.{Choice}
 use Rattle.qn_live.specs.declared.place.Choice.TheVariants as choice
-use Rattle.qn_live.specs.Choosing.{heard, looked, view_or_tick}
+use Rattle.qn_live.specs.Choosing.{heard, looked, looking, view_or_tick}
 use Rattle.qn_live.specs.Performing.{end_after}
 use Rattle.qn_live.specs.Running.{RunState}
 use Rattle.qn_live.specs.Runs.{taken}
@@ -97,7 +97,7 @@ module _ (s : Settings) (rank : ℕ) (n : Running) (took took' : Option What) (l
   found = looked tick chosen.0 chosen.1.maker
 
   abbrev st' : RunState
-  st' = taken s rank chosen.1 tick found
+  st' = taken s rank (looking tick chosen) tick found
 
   same_log : (handed s rank time found.1 n).log ≡ st'.log
   unfolding handed logged

@@ -17,16 +17,24 @@ use Rattle.qn_live.specs.declared.place.Choice.{Choice}
 use Rattle.qn_live.specs.declared.place.Choice.TheVariants as choice
 use Rattle.qn_live.specs.declared.place.Waits.{Waits}
 use Rattle.qn_live.specs.Running.{RunState}
-use Rattle.qn_live.specs.Choosing.{heard, is_to_leave, looked, ready, view_or_tick}
+use Rattle.qn_live.specs.Choosing.{heard, is_late, is_to_leave, looked, looking, ready, view_or_tick}
 use Rattle.qn_live.specs.Performing.{end_in}
 use Rattle.qn_live.specs.Runs.{hello_asked, taken, with_maker}
-use Rattle.qn_joined.specs.Stands.{Looking, acts_at, begun_at, clocked_by, farewells_due, handled_at, log_at, parts_at, said_at, sends_due, settled_by, taking}
+use Rattle.qn_joined.specs.Stands.{Looking, acts_at, begun_at, clocked_by, farewells_due, handled_at, log_at, opening, parts_at, said_at, sends_due, settled_by, taking}
 use Rattle.qn_joined.specs.Owning.{Owns, is_calm, is_done_stop, is_no_stop, stops_in}
 
 -- what is known of a state between two calls
 pub record Fine (st : RunState) (runs : Bool) : Type 0 where
   pub held : runs ≡ true → (holds st.log ≡ true) × (is_done_stop st.waits.stopped ≡ false)
   pub calm : is_calm st.waits.disk ≡ true
+
+opening_owns : (st : RunState) (runs late : Bool)
+    → (runs ≡ true → (holds st.log ≡ true) × (is_done_stop st.waits.stopped ≡ false))
+    → is_no_stop st.waits.stopped ≡ true
+    → is_calm st.waits.disk ≡ true
+    → Owns (opening st late) runs
+opening_owns st runs true held free calm = record { held = λ r. ((held r).0, refl); free = free; calm = calm }
+opening_owns st runs false held free calm = record { held = held; free = free; calm = calm }
 
 taking_owns : (st : RunState) (runs leaves rests : Bool) (stopped : Option Bool) (disk : Option What)
     → (runs ≡ true → (holds st.log ≡ true) × (is_done_stop stopped ≡ false))
@@ -36,9 +44,11 @@ taking_owns st runs leaves rests (Some ok) disk held calm = record { held = held
 taking_owns st runs leaves false None (Some answer) held calm =
     record { held = λ r. ((held r).0, not-true (is_stopped answer) calm); free = refl; calm = refl }
 taking_owns st runs true false None None held calm = record { held = held; free = refl; calm = refl }
-taking_owns st runs false false None None held calm = record { held = held; free = refl; calm = refl }
+taking_owns st runs false false None None held calm =
+    opening_owns (record st { waits = record { stopped = None; disk = None } }) runs (is_late st) held refl refl
 taking_owns st runs true true None disk held calm = record { held = held; free = refl; calm = calm }
-taking_owns st runs false true None disk held calm = record { held = held; free = refl; calm = calm }
+taking_owns st runs false true None disk held calm =
+    opening_owns (record st { waits = record { stopped = None; disk = disk } }) runs (is_late st) held refl calm
 
 begun_owns : (s : Settings) (me : ℕ) (leave : Option ℕ) (turn more : ℕ) (st : RunState) (runs : Bool) → Fine st runs → Owns (begun_at s me leave turn more st).spot runs
 begun_owns s me leave turn zero st runs fine = record { held = λ r. ((fine.held r).0, refl); free = refl; calm = refl }
@@ -116,8 +126,12 @@ either_holds log true runs h k r = h refl
 either_holds log false runs h k r = k r
 
 -- the log where a run stands is that of its state
+opening_log : (st : RunState) (late : Bool) → log_at (opening st late) ≡ st.log
+opening_log st true = refl
+opening_log st false = refl
+
 taking_log : (st : RunState) (found : Option (What × Waits)) → log_at (taking st found) ≡ st.log
-taking_log st None = refl
+taking_log st None = opening_log st (is_late st)
 taking_log st (Some found) = refl
 
 pub begun_log : (s : Settings) (me : ℕ) (leave : Option ℕ) (turn more : ℕ) (st : RunState) → log_at (begun_at s me leave turn more st).spot ≡ st.log
@@ -151,6 +165,6 @@ looks_own s me leave turn more chosen tick runs true owns =
       calm = refl;
     }
 looks_own s me leave turn more chosen tick runs false owns =
-    subst (λ (l : List Line). Owns (handled_at s me leave turn more chosen.1 tick (looked tick chosen.0 chosen.1.maker)).spot (has_start (newest_outs l) || runs))
-    (sym (acts_log s me leave turn more (looked tick chosen.0 chosen.1.maker).1 (newest_outs (taken s me chosen.1 tick (looked tick chosen.0 chosen.1.maker)).log) (newest_outs (taken s me chosen.1 tick (looked tick chosen.0 chosen.1.maker)).log) (taken s me chosen.1 tick (looked tick chosen.0 chosen.1.maker))))
-    (handled_owns s me leave turn more chosen.1 tick chosen.0 runs owns.held owns.free owns.calm)
+    subst (λ (l : List Line). Owns (handled_at s me leave turn more (looking tick chosen) tick (looked tick chosen.0 chosen.1.maker)).spot (has_start (newest_outs l) || runs))
+    (sym (acts_log s me leave turn more (looked tick chosen.0 chosen.1.maker).1 (newest_outs (taken s me (looking tick chosen) tick (looked tick chosen.0 chosen.1.maker)).log) (newest_outs (taken s me (looking tick chosen) tick (looked tick chosen.0 chosen.1.maker)).log) (taken s me (looking tick chosen) tick (looked tick chosen.0 chosen.1.maker))))
+    (handled_owns s me leave turn more (looking tick chosen) tick chosen.0 runs owns.held owns.free owns.calm)

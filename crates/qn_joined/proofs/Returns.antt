@@ -25,7 +25,7 @@ use Rattle.qn_model.specs.Phases.{phase}
 use Rattle.qn_model.specs.Steps.{run}
 use Rattle.qn_model.specs.World.{World, node_at}
 use Rattle.qn_wire.specs.Packets.{is_well_formed, packet_bytes}
-use Rattle.qn_wire.specs.Reading.{fields_of, packet_of, rank_at, view_at}
+use Rattle.qn_wire.specs.Reading.{fields_of, packet_of, rank_at, said_at, view_at}
 use Rattle.qn_live.specs.Greetings.{sends_plan}
 use Rattle.qn_live.specs.Performing.{disk_call, out_call, outs_plan, own_number}
 use Rattle.qn_safety.specs.NodeLogs.{LogsHold}
@@ -67,6 +67,10 @@ greeting_counts (packet.Announce from view) q is e c =
     let bytes = packet_bytes (packet.Announce from view) in
     one_kind (length bytes == 16) (packet.Announce (rank_at 3 bytes) (view_at 4 bytes)) q refl
     (found_one (λ p. is_well_formed p && bytes_eq (packet_bytes p) bytes) (fields_of 4 bytes) q e) c
+greeting_counts (packet.Heard from said) q is e c =
+    let bytes = packet_bytes (packet.Heard from said) in
+    one_kind (length bytes == 10) (packet.Heard (rank_at 3 bytes) (said_at bytes)) q refl
+    (found_one (λ p. is_well_formed p && bytes_eq (packet_bytes p) bytes) (fields_of 8 bytes) q e) c
 greeting_counts (packet.Ask ask) q is e c = cc
 greeting_counts (packet.Tell tell) q is e c = cc
 greeting_counts (packet.Vote agrees) q is e c = cc

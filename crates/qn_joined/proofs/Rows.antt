@@ -1,7 +1,8 @@
 -- A joined run in which the resources of two nodes run, one after the other, with a reset between.
-use Rattle.std.proofs.Common.{◌≡◌, ◌<◌, ℕ, suc, zero, Bool, true, false, List, [], ◌∷◌, ◌++◌, ◌+◌, ◌^◌, ◌==◌, None, if◌then◌else◌, refl, arith}
+use Rattle.std.proofs.Common.{◌≡◌, ◌<◌, ℕ, suc, zero, Bool, true, false, List, [], ◌∷◌, ◌++◌, ◌+◌, ◌^◌, ◌==◌, None, Some, if◌then◌else◌, refl, arith}
 use Rattle.qn_base.specs.declared.calls.Call.TheVariants as call
 use Rattle.qn_base.specs.declared.calls.Received.TheVariants as received
+use Rattle.qn_base.specs.declared.ids.Said.{Said}
 use Rattle.qn_base.specs.lemmas.Numbers.{one_is_not_zero}
 use Rattle.qn_model.specs.declared.times.Timing.{Timing}
 use Rattle.qn_model.specs.declared.disk.Message.TheVariants as message
@@ -12,7 +13,7 @@ use Rattle.qn_model.specs.NodeOutputs.{log_from}
 use Rattle.qn_model.specs.Sectors.{anonymous, header_bytes, header_bytes_in, mail_bytes, mail_place, slot_bytes, slot_place}
 use Rattle.qn_model.specs.World.{failed}
 use Rattle.qn_sector.specs.Reading.{header_in, mail_of, slot_of}
-use Rattle.qn_member.specs.Maker.{after_tick, ranks_that, view_at}
+use Rattle.qn_member.specs.Maker.{after_tick, ranks_that, view_at, with_ranks}
 use Rattle.qn_wire.specs.Packets.{packet_bytes}
 use Rattle.qn_live.specs.Choosing.{choice_plan}
 use Rattle.qn_live.specs.Greetings.{sends_plan}
@@ -56,11 +57,19 @@ claims me =
     ∷ Begins me false None 20
     ∷ []
 
+-- what a node says before its first look, and what it says where it sees itself alone: with two_node each node is able
+abbrev begins_alone : ℕ → Said
+begins_alone me = record { hears = record { 0 = 2 ^ me }; follows = None; able = false }
+
+abbrev leads_alone : ℕ → Said
+leads_alone me = record { hears = record { 0 = 2 ^ me }; follows = Some (record { 0 = me }); able = true }
+
 -- it clears its mailbox and reads it: it is up, and says hello
 abbrev pub comes_up : ℕ → ℕ → List Happening
 comes_up me other =
     Returns me (call.Feed true)
     ∷ Returns me (call.Now 0)
+    ∷ Returns me (call.Send (record { 0 = other }) (packet_bytes (packet.Heard (record { 0 = me }) (begins_alone me))) true)
     ∷ Returns me (call.Send (record { 0 = other }) (packet_bytes (packet.Hello (record { 0 = me }))) true)
     ∷ Returns me (call.Read (mail_place me) (mail_bytes (anonymous message.Empty)) true)
     ∷ Lands me
@@ -77,6 +86,7 @@ is_alone me other =
     ∷ Returns me (call.Feed true)
     ∷ Returns me (call.Now 3)
     ∷ Returns me (call.Send (record { 0 = other }) (packet_bytes (packet.Announce (record { 0 = me }) (record { id = 1; members = record { 0 = 2 ^ me } }))) true)
+    ∷ Returns me (call.Send (record { 0 = other }) (packet_bytes (packet.Heard (record { 0 = me }) (leads_alone me))) true)
     ∷ Returns me (call.Send (record { 0 = other }) (packet_bytes (packet.Hello (record { 0 = me }))) true)
     ∷ Returns me (call.Read (mail_place me) (mail_bytes (anonymous message.Empty)) true)
     ∷ Lands me
@@ -119,6 +129,7 @@ waits =
     ∷ Returns 0 (call.Feed true)
     ∷ Returns 0 (call.Now 993)
     ∷ Returns 0 (call.Send (record { 0 = 1 }) (packet_bytes (packet.Announce (record { 0 = 0 }) (record { id = 1; members = record { 0 = 2 ^ 0 } }))) true)
+    ∷ Returns 0 (call.Send (record { 0 = 1 }) (packet_bytes (packet.Heard (record { 0 = 0 }) (leads_alone 0))) true)
     ∷ Returns 0 (call.Send (record { 0 = 1 }) (packet_bytes (packet.Hello (record { 0 = 0 }))) true)
     ∷ Returns 0 (call.Read (mail_place 0) (mail_bytes (anonymous message.Empty)) true)
     ∷ Lands 0
@@ -141,7 +152,7 @@ newest ▸ earlier = (newest, earlier)
 
 -- what the rows compute with
 unfoldable pub joint_steps : Bool
-unfolding node_steps log_from header_bytes_in mail_bytes slot_bytes header_in mail_of slot_of failed ranks_that view_at after_tick choice_plan sends_plan disk_call done out_call outs_plan waits_after clocked greeted handled settled live_plan parted run_plan left_plan after_spot returned looked_first happens joint_after AllMayHappen packet_bytes
+unfolding node_steps log_from header_bytes_in mail_bytes slot_bytes header_in mail_of slot_of failed ranks_that with_ranks view_at after_tick choice_plan sends_plan disk_call done out_call outs_plan waits_after clocked greeted handled settled live_plan parted run_plan left_plan after_spot returned looked_first happens joint_after AllMayHappen packet_bytes
 joint_steps = true
 
 claims_first : May (claims 1)
@@ -169,6 +180,7 @@ comes_up_first =
     record { on = refl; asked = refl; waits = refl; answer = tt; spells = refl } ▸
     record { on = refl; asked = refl; waits = refl; answer = refl; spells = refl } ▸
     record { on = refl; asked = refl; waits = refl; answer = tt; spells = refl } ▸
+    record { on = refl; asked = refl; waits = refl; answer = tt; spells = refl } ▸
     record { on = refl; asked = refl; waits = refl; answer = λ ok. refl; spells = refl } ▸
     (refl, refl, refl) ▸
     record { on = refl; asked = refl; waits = refl; answer = tt; spells = refl } ▸
@@ -183,6 +195,7 @@ alone_first =
     (refl, refl) ▸
     record { on = refl; asked = refl; waits = refl; answer = tt; spells = refl } ▸
     record { on = refl; asked = refl; waits = refl; answer = refl; spells = refl } ▸
+    record { on = refl; asked = refl; waits = refl; answer = tt; spells = refl } ▸
     record { on = refl; asked = refl; waits = refl; answer = tt; spells = refl } ▸
     record { on = refl; asked = refl; waits = refl; answer = tt; spells = refl } ▸
     record { on = refl; asked = refl; waits = refl; answer = λ ok. refl; spells = refl } ▸
@@ -228,6 +241,7 @@ comes_up_second =
     record { on = refl; asked = refl; waits = refl; answer = tt; spells = refl } ▸
     record { on = refl; asked = refl; waits = refl; answer = refl; spells = refl } ▸
     record { on = refl; asked = refl; waits = refl; answer = tt; spells = refl } ▸
+    record { on = refl; asked = refl; waits = refl; answer = tt; spells = refl } ▸
     record { on = refl; asked = refl; waits = refl; answer = λ ok. refl; spells = refl } ▸
     (refl, refl, refl) ▸
     record { on = refl; asked = refl; waits = refl; answer = tt; spells = refl } ▸
@@ -242,6 +256,7 @@ alone_second =
     (refl, refl) ▸
     record { on = refl; asked = refl; waits = refl; answer = tt; spells = refl } ▸
     record { on = refl; asked = refl; waits = refl; answer = refl; spells = refl } ▸
+    record { on = refl; asked = refl; waits = refl; answer = tt; spells = refl } ▸
     record { on = refl; asked = refl; waits = refl; answer = tt; spells = refl } ▸
     record { on = refl; asked = refl; waits = refl; answer = tt; spells = refl } ▸
     record { on = refl; asked = refl; waits = refl; answer = λ ok. refl; spells = refl } ▸
@@ -273,6 +288,7 @@ take_over_may =
     (refl, refl) ▸
     record { on = refl; asked = refl; waits = refl; answer = tt; spells = refl } ▸
     record { on = refl; asked = refl; waits = refl; answer = refl; spells = refl } ▸
+    record { on = refl; asked = refl; waits = refl; answer = tt; spells = refl } ▸
     record { on = refl; asked = refl; waits = refl; answer = tt; spells = refl } ▸
     record { on = refl; asked = refl; waits = refl; answer = tt; spells = refl } ▸
     record { on = refl; asked = refl; waits = refl; answer = λ ok. refl; spells = refl } ▸

@@ -1,5 +1,5 @@
 -- What waits in a state, and what is still to be performed, is backed by the world at each stand that follows.
-use Rattle.std.proofs.Common.{◌≡◌, ℕ, suc, zero, Bool, true, false, ◌&&◌, List, [], ◌∷◌, ◌++◌, Option, None, Some, if◌then◌else◌, refl, ap, ◌∙◌, is_some}
+use Rattle.std.proofs.Common.{◌≡◌, ℕ, suc, zero, Bool, true, false, ◌&&◌, List, [], ◌∷◌, ◌++◌, Option, None, Some, if◌then◌else◌, refl, ap, ◌∙◌, is_some, option_and_then}
 use Rattle.qn_model.specs.declared.configuration.Settings.{Settings}
 use Rattle.qn_model.specs.declared.entries.What.{What}
 use Rattle.qn_model.specs.declared.entries.What.TheVariants as what
@@ -15,20 +15,21 @@ use Rattle.qn_model.specs.Steps.{entry_of}
 use Rattle.qn_base.specs.declared.ids.View.{View}
 use Rattle.std.specs.Option.{option_map_or}
 use Rattle.qn_model.specs.lemmas.Entries.{packet_answers_none}
-use Rattle.qn_member.specs.Maker.{Maker}
+use Rattle.qn_member.specs.Maker.{Maker, view_to_announce}
 use Rattle.qn_wire.specs.Reading.{packet_of}
 use Rattle.qn_live.specs.declared.live_end.LiveEnd.{LiveEnd}
 use Rattle.qn_live.specs.declared.place.Choice.TheVariants as choice
 use Rattle.qn_live.specs.declared.place.Waits.{Waits}
 use Rattle.qn_live.specs.Running.{RunState}
-use Rattle.qn_live.specs.Choosing.{choice_of, is_entry_for, is_to_leave, packet_in, ready}
+use Rattle.qn_live.specs.Choosing.{choice_of, is_entry_for, is_late, is_to_leave, packet_in, ready}
 use Rattle.qn_live.specs.declared.place.Greeting.{Greeting}
 use Rattle.qn_live.specs.declared.place.Greeting.TheVariants as greeting
-use Rattle.qn_live.specs.Greetings.{farewell_after, greeting_packet, is_due, others_from, to_each, to_send, view_after}
+use Rattle.qn_live.specs.Greetings.{farewell_after, greeting_packet, is_due, others_from, said_after, to_all, to_each, to_send}
 use Rattle.qn_live.specs.Performing.{end_after, end_in}
 use Rattle.qn_live.specs.Runs.{hello_asked, with_maker}
 use Rattle.qn_joined.specs.Joints.{counts}
-use Rattle.qn_joined.specs.Stands.{acts_at, begun_at, farewells_due, parts_at, said_at, sends_due, settled_by, taking}
+use Rattle.qn_joined.specs.Owning.{is_no_stop}
+use Rattle.qn_joined.specs.Stands.{acts_at, begun_at, farewells_due, opening, parts_at, said_at, sends_due, settled_by, taking}
 use Rattle.qn_joined.specs.WorldOf.{ComesAs, ComesIn, IsAnswer, IsBacked, IsEnding, Performs, Waiting, WasSentTo, all_greet, disk_ahead, greets_at, is_answer_in, is_greeting}
 
 -- an answer comes in
@@ -52,6 +53,10 @@ answer_comes rank log took all what.Tick is = tt
 answer_comes rank log took all what.Leave is = tt
 
 module _ (s : Settings) (rank : ℕ) (took_call : Option (List ℕ)) (took : Option What) (all : List Sent) where
+  opening_backed : (st : RunState) (late : Bool) → Waiting st took → is_no_stop st.waits.stopped ≡ true → IsBacked s rank took_call took all (opening st late)
+  opening_backed st true waits free = (waits, free, tt, λ e. absurd cc)
+  opening_backed st false waits free = (waits, free)
+
   taking_backed : (st : RunState) (leaves rests : Bool) (stopped : Option Bool) (disk : Option What)
       → ((ok : Bool) → stopped ≡ Some ok → stop_due st.log ≡ true)
       → ((answer : What) → disk ≡ Some answer → IsAnswer st.log took answer)
@@ -61,9 +66,11 @@ module _ (s : Settings) (rank : ℕ) (took_call : Option (List ℕ)) (took : Opt
   taking_backed st leaves false None (Some answer) stops answers =
       (record { stopped = λ o e. absurd cc; disk = λ a e. absurd cc }, refl, answer_comes rank st.log took all answer (answers answer refl), λ e. refl)
   taking_backed st true false None None stops answers = (record { stopped = stops; disk = answers }, refl, tt, λ e. absurd cc)
-  taking_backed st false false None None stops answers = (record { stopped = stops; disk = answers }, refl)
+  taking_backed st false false None None stops answers =
+      opening_backed (record st { waits = record { stopped = None; disk = None } }) (is_late st) (record { stopped = stops; disk = answers }) refl
   taking_backed st true true None disk stops answers = (record { stopped = stops; disk = answers }, refl, tt, λ e. absurd cc)
-  taking_backed st false true None disk stops answers = (record { stopped = stops; disk = answers }, refl)
+  taking_backed st false true None disk stops answers =
+      opening_backed (record st { waits = record { stopped = None; disk = disk } }) (is_late st) (record { stopped = stops; disk = answers }) refl
 
   begun_backed : (me : ℕ) (leave : Option ℕ) (turn more : ℕ) (st : RunState) → Waiting st took → IsBacked s rank took_call took all (begun_at s me leave turn more st).spot
   begun_backed me leave turn zero st waits = tt
@@ -91,8 +98,12 @@ module _ (s : Settings) (rank : ℕ) (took_call : Option (List ℕ)) (took : Opt
   acts_backed me leave turn more entry outs (o ∷ rest) st waits performs = (waits, performs)
 
 -- no operation is ahead but that of the outputs
+opening_ahead : (st : RunState) (late : Bool) → disk_ahead (opening st late) ≡ None
+opening_ahead st true = refl
+opening_ahead st false = refl
+
 taking_ahead : (st : RunState) (found : Option (What × Waits)) → disk_ahead (taking st found) ≡ None
-taking_ahead st None = refl
+taking_ahead st None = opening_ahead st (is_late st)
 taking_ahead st (Some found) = refl
 
 begun_ahead : (s : Settings) (me : ℕ) (leave : Option ℕ) (turn more : ℕ) (st : RunState) → disk_ahead (begun_at s me leave turn more st).spot ≡ None
@@ -140,6 +151,7 @@ entry_comes : (rank : ℕ) (log : List Line) (took : Option What) (all : List Se
 entry_comes rank log took all (packet.Ask ask) sent = sent refl
 entry_comes rank log took all (packet.Tell tell) sent = sent refl
 entry_comes rank log took all (packet.Hello from) sent = tt
+entry_comes rank log took all (packet.Heard from said) sent = tt
 entry_comes rank log took all (packet.Announce from view) sent = tt
 entry_comes rank log took all (packet.Vote agrees) sent = tt
 
@@ -179,6 +191,7 @@ both_greet (sent ∷ rest) second one two = by_first (is_greeting sent.packet) o
 
 said_greet : (me : ℕ) (said : Greeting) → is_greeting (greeting_packet me said) ≡ true
 said_greet me greeting.Hello = refl
+said_greet me (greeting.Heard said) = refl
 said_greet me (greeting.Announce view) = refl
 
 views_greet : (me : ℕ) (ranks : List ℕ) (found : Option View) → all_greet (option_map_or (λ view. to_each (greeting_packet me (greeting.Announce view)) ranks) found []) ≡ true
@@ -188,7 +201,15 @@ views_greet me ranks (Some view) = each_greet (greeting_packet me (greeting.Anno
 send_greet : (s : Settings) (me : ℕ) (maker : Option Maker) (said : Greeting) (from : ℕ) → all_greet (to_send s me maker said from) ≡ true
 send_greet s me maker said from =
     both_greet (to_each (greeting_packet me said) (others_from s me from)) _ (each_greet (greeting_packet me said) (said_greet me said) (others_from s me from))
-    (views_greet me (others_from s me 0) (view_after said maker))
+    (follows said maker)
+  where
+    follows : (said : Greeting) (maker : Option Maker) → all_greet (said_after s me maker said) ≡ true
+    follows greeting.Hello None = refl
+    follows greeting.Hello (Some m) =
+        both_greet (to_all s me (greeting.Heard m.says)) _ (each_greet (greeting_packet me (greeting.Heard m.says)) refl (others_from s me 0))
+        (views_greet me (others_from s me 0) (option_and_then view_to_announce (Some m)))
+    follows (greeting.Heard said) maker = views_greet me (others_from s me 0) (option_and_then view_to_announce maker)
+    follows (greeting.Announce view) maker = refl
 
 due_greet : (s : Settings) (me : ℕ) (st : RunState) → all_greet (sends_due s me st) ≡ true
 due_greet s me st = by_due (is_due (now st.log) (with_maker s me st).maker)
@@ -197,8 +218,12 @@ due_greet s me st = by_due (is_due (now st.log) (with_maker s me st).maker)
     by_due true = send_greet s me (hello_asked (now st.log) (with_maker s me st)).maker greeting.Hello 0
     by_due false = refl
 
+opening_greets : (st : RunState) (late : Bool) → greets_at (opening st late) ≡ true
+opening_greets st true = refl
+opening_greets st false = refl
+
 taking_greets : (st : RunState) (found : Option (What × Waits)) → greets_at (taking st found) ≡ true
-taking_greets st None = refl
+taking_greets st None = opening_greets st (is_late st)
 taking_greets st (Some found) = refl
 
 begun_greets : (s : Settings) (me : ℕ) (leave : Option ℕ) (turn more : ℕ) (st : RunState) → greets_at (begun_at s me leave turn more st).spot ≡ true

@@ -18,21 +18,27 @@ use Rattle.qn_live.specs.declared.place.Choice.{Choice}
 use Rattle.qn_live.specs.declared.place.Choice.TheVariants as choice
 use Rattle.qn_live.specs.declared.place.Waits.{Waits}
 use Rattle.qn_live.specs.Running.{RunState, Turned, Over, Next, Ran, later}
-use Rattle.qn_live.specs.Choosing.{choice_of, choice_plan, is_to_leave, looked, ready, receive_plan}
+use Rattle.qn_live.specs.Choosing.{choice_plan, is_late, is_to_leave, looked, looking, open_plan, ready}
 use Rattle.qn_live.specs.Greetings.{sends_plan}
 use Rattle.qn_live.specs.Performing.{end_in, noted, outs_plan}
 use Rattle.qn_live.specs.Runs.{clocked, greeted, handled, hello_asked, live_plan, parted, run_plan, settled, taken, timed, with_maker}
-use Rattle.qn_joined.specs.Stands.{Spot, Receiving, Looking, Acting, Saying, Parting, Ended, Stand, acts_at, after_call, after_spot, begun_at, clocked_by, first_stand, greeted_at, handled_at, farewells_due, left_plan, parts_at, plan_at, said_at, sends_due, settled_by, taking}
+use Rattle.qn_joined.specs.Stands.{Spot, Receiving, Looking, Acting, Saying, Parting, Ended, Stand, acts_at, after_call, after_spot, begun_at, clocked_by, first_stand, greeted_at, handled_at, farewells_due, left_plan, opening, parts_at, plan_at, said_at, sends_due, settled_by, taking}
 
 -- the turns that follow
 abbrev rest_of : Settings → ℕ → Option ℕ → ℕ → ℕ → Turned → Plan Ran
 rest_of s me leave turn more = later (run_plan s me leave turn more)
 
+opening_plan : (s : Settings) (me : ℕ) (leave : Option ℕ) (turn more : ℕ) (st : RunState) (late : Bool)
+    → (open_plan me st late >>= timed s me) >>= rest_of s me leave turn more ≡ left_plan s me leave turn more (opening st late)
+unfolding left_plan
+opening_plan s me leave turn more st true = refl
+opening_plan s me leave turn more st false = refl
+
 taking_plan : (s : Settings) (me : ℕ) (leave : Option ℕ) (turn more : ℕ) (st : RunState) (found : Option (What × Waits))
-    → (option_map_or (λ taken. Ends (choice.Whole taken.0, record st { waits = taken.1 })) found (receive_plan >>= (λ packet. Ends (choice_of me packet, st))) >>= timed s me) >>= rest_of s me leave turn more
+    → (option_map_or (λ taken. Ends (choice.Whole taken.0, record st { waits = taken.1 })) found (open_plan me st (is_late st)) >>= timed s me) >>= rest_of s me leave turn more
     ≡ left_plan s me leave turn more (taking st found)
 unfolding left_plan
-taking_plan s me leave turn more st None = refl
+taking_plan s me leave turn more st None = opening_plan s me leave turn more st (is_late st)
 taking_plan s me leave turn more st (Some found) = refl
 
 begun_plan : (s : Settings) (me : ℕ) (leave : Option ℕ) (turn more : ℕ) (st : RunState)
@@ -80,12 +86,12 @@ handled_plan s me leave turn more st tick found =
     acts_plan s me leave turn more found.1 (newest_outs after.log) (newest_outs after.log) after
 
 clocked_plan : (s : Settings) (me : ℕ) (leave : Option ℕ) (turn more : ℕ) (chosen : Choice × RunState) (tick : ℕ) (back : Bool)
-    → (if back then Ends (Over (end.ClockBack (now chosen.1.log) tick) chosen.1.log) else handled s me chosen.1 tick (looked tick chosen.0 chosen.1.maker)) >>= rest_of s me leave turn more
+    → (if back then Ends (Over (end.ClockBack (now chosen.1.log) tick) chosen.1.log) else handled s me (looking tick chosen) tick (looked tick chosen.0 chosen.1.maker)) >>= rest_of s me leave turn more
     ≡ plan_at s me leave (clocked_by s me leave turn more chosen tick back)
 unfolding left_plan
 clocked_plan s me leave turn more chosen tick true = refl
 clocked_plan s me leave turn more chosen tick false =
-    handled_plan s me leave turn more chosen.1 tick (looked tick chosen.0 chosen.1.maker)
+    handled_plan s me leave turn more (looking tick chosen) tick (looked tick chosen.0 chosen.1.maker)
 
 spot_left : (s : Settings) (me : ℕ) (leave : Option ℕ) (turn more : ℕ) (spot : Spot) (call : Call)
     → left (left_plan s me leave turn more spot) call ≡ plan_at s me leave (after_spot s me leave turn more spot call)

@@ -7,7 +7,6 @@ use Rattle.qn_base.specs.declared.calls.Call.TheVariants as call
 use Rattle.qn_base.specs.lemmas.Numbers.{one_is_not_zero}
 use Rattle.qn_model.specs.lemmas.TwoNodes.{two_nodes}
 use Rattle.qn_model.specs.Sectors.{mail_place}
-use Rattle.qn_safety.specs.TripleRules.{is_image}
 use Rattle.qn_safety.specs.TripleWorld.{answer_of}
 use Rattle.qn_live.specs.TripleDisk.{image_plan, images_plan, part_plan, parts_plan, read_plan, sector_on, write_plan}
 use Rattle.qn_joined.specs.Joints as one
@@ -84,6 +83,7 @@ comes_up_first =
     record { on = refl; asked = refl; waits = refl; answer = tt; spells = refl } ▸
     record { on = refl; asked = refl; waits = refl; answer = refl; spells = refl } ▸
     record { on = refl; asked = refl; waits = refl; answer = tt; spells = refl } ▸
+    record { on = refl; asked = refl; waits = refl; answer = tt; spells = refl } ▸
     record { on = refl; asked = refl; waits = refl; answer = λ ok. refl; spells = refl } ▸
     (refl, refl, refl) ▸
     record { on = refl; asked = refl; waits = refl; answer = λ ok. refl; spells = refl } ▸
@@ -103,6 +103,7 @@ alone_first =
     (refl, refl) ▸
     record { on = refl; asked = refl; waits = refl; answer = tt; spells = refl } ▸
     record { on = refl; asked = refl; waits = refl; answer = refl; spells = refl } ▸
+    record { on = refl; asked = refl; waits = refl; answer = tt; spells = refl } ▸
     record { on = refl; asked = refl; waits = refl; answer = tt; spells = refl } ▸
     record { on = refl; asked = refl; waits = refl; answer = tt; spells = refl } ▸
     record { on = refl; asked = refl; waits = refl; answer = λ ok. refl; spells = refl } ▸
@@ -162,6 +163,7 @@ comes_up_second =
     record { on = refl; asked = refl; waits = refl; answer = tt; spells = refl } ▸
     record { on = refl; asked = refl; waits = refl; answer = refl; spells = refl } ▸
     record { on = refl; asked = refl; waits = refl; answer = tt; spells = refl } ▸
+    record { on = refl; asked = refl; waits = refl; answer = tt; spells = refl } ▸
     record { on = refl; asked = refl; waits = refl; answer = λ ok. refl; spells = refl } ▸
     (refl, refl, refl) ▸
     record { on = refl; asked = refl; waits = refl; answer = λ ok. refl; spells = refl } ▸
@@ -181,6 +183,7 @@ alone_second =
     (refl, refl) ▸
     record { on = refl; asked = refl; waits = refl; answer = tt; spells = refl } ▸
     record { on = refl; asked = refl; waits = refl; answer = refl; spells = refl } ▸
+    record { on = refl; asked = refl; waits = refl; answer = tt; spells = refl } ▸
     record { on = refl; asked = refl; waits = refl; answer = tt; spells = refl } ▸
     record { on = refl; asked = refl; waits = refl; answer = tt; spells = refl } ▸
     record { on = refl; asked = refl; waits = refl; answer = λ ok. refl; spells = refl } ▸
@@ -220,6 +223,7 @@ take_over_may =
     (refl, refl) ▸
     record { on = refl; asked = refl; waits = refl; answer = tt; spells = refl } ▸
     record { on = refl; asked = refl; waits = refl; answer = refl; spells = refl } ▸
+    record { on = refl; asked = refl; waits = refl; answer = tt; spells = refl } ▸
     record { on = refl; asked = refl; waits = refl; answer = tt; spells = refl } ▸
     record { on = refl; asked = refl; waits = refl; answer = tt; spells = refl } ▸
     record { on = refl; asked = refl; waits = refl; answer = λ ok. refl; spells = refl } ▸

@@ -19,7 +19,7 @@ use Rattle.qn_live.specs.declared.place.Choice.TheVariants as choice
 use Rattle.qn_live.specs.declared.place.Greeting.TheVariants as greeting
 use Rattle.qn_live.specs.declared.place.Waits.{Waits}
 use Rattle.qn_live.specs.Running.{RunState, first_state, Over, Next, Ran, later}
-use Rattle.qn_live.specs.Choosing.{choice_of, is_to_leave, looked, packet_in, ready, receive_plan}
+use Rattle.qn_live.specs.Choosing.{choice_of, is_late, is_to_leave, looked, looking, packet_in, ready, receive_plan}
 use Rattle.qn_live.specs.Performing.{end_in, noted, outs_plan}
 use Rattle.qn_live.specs.Greetings.{farewell_after, farewells, is_due, sends_plan, to_send}
 use Rattle.qn_live.specs.Runs.{hello_asked, run_plan, settled, taken, timed, turns_end, with_maker}
@@ -67,9 +67,14 @@ left_plan s me leave turn more (Ended ran) = Ends ran
 abbrev pub plan_at : Settings → ℕ → Option ℕ → Stand → Plan Ran
 plan_at s me leave stand = left_plan s me leave stand.turn stand.more stand.spot
 
--- a turn begins that takes this, or that receives a packet
+-- a turn begins that needs a packet: it takes none where the last look of the view maker is late, and receives one else
+abbrev pub opening : RunState → Bool → Spot
+opening st late = if late then Looking (choice.Open None, st) else Receiving st
+
+-- a turn begins that takes this, or that needs a packet
 abbrev pub taking : RunState → Option (What × Waits) → Spot
-taking st found = option_map_or (λ taken. Looking (choice.Whole taken.0, record st { waits = taken.1 })) found (Receiving st)
+taking st found =
+    option_map_or (λ taken. Looking (choice.Whole taken.0, record st { waits = taken.1 })) found (opening st (is_late st))
 
 -- the turn is over: the next one begins, or the run is over
 abbrev pub begun_at : Settings → ℕ → Option ℕ → ℕ → ℕ → RunState → Stand
@@ -127,7 +132,7 @@ handled_at s me leave turn more st tick found =
 abbrev pub clocked_by : Settings → ℕ → Option ℕ → ℕ → ℕ → Choice × RunState → ℕ → Bool → Stand
 clocked_by s me leave turn more chosen tick back =
     if back then record { turn = turn; more = more; spot = Ended (record { end = end.ClockBack (now chosen.1.log) tick; log = chosen.1.log }) }
-    else handled_at s me leave turn more chosen.1 tick (looked tick chosen.0 chosen.1.maker)
+    else handled_at s me leave turn more (looking tick chosen) tick (looked tick chosen.0 chosen.1.maker)
 
 -- where the run stands after a call with its answer
 unfoldable pub after_spot : Settings → ℕ → Option ℕ → ℕ → ℕ → Spot → Call → Stand

@@ -141,7 +141,7 @@ impl<'a, R: Files<File = File> + Clock + Eprint> Journal<'a, R> {
     /// A packet came, of these bytes.
     fn hear(&mut self, bytes: &[u8]) {
         match get_packet(bytes) {
-            Some(Packet::Hello { from }) => self.greeted = Some(from),
+            Some(Packet::Hello { from } | Packet::Heard { from, .. }) => self.greeted = Some(from),
             Some(
                 Packet::Ask(_) | Packet::Tell(_) | Packet::Announce { .. } | Packet::Vote { .. },
             ) => {}

@@ -32,6 +32,7 @@ is_act (out.Disk op) = true
 is_act (out.Send to (packet.Ask ask)) = true
 is_act (out.Send to (packet.Tell tell)) = true
 is_act (out.Send to (packet.Hello from)) = false
+is_act (out.Send to (packet.Heard from said)) = false
 is_act (out.Send to (packet.Announce from view)) = false
 is_act (out.Send to (packet.Vote agrees)) = false
 is_act out.Disarm = false

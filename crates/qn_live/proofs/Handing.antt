@@ -36,7 +36,7 @@ use Rattle.qn_live.specs.declared.live_end.LiveEnd.TheVariants as end
 use Rattle.qn_live.specs.declared.place.Choice.{Choice}
 use Rattle.qn_live.specs.declared.place.Choice.TheVariants as choice
 use Rattle.qn_live.specs.declared.place.Waits.{Waits}
-use Rattle.qn_live.specs.Choosing.{choice_of, choice_plan, heard, is_entry_for, is_to_leave, looked, packet_in, ready, receive_plan, view_or_tick}
+use Rattle.qn_live.specs.Choosing.{choice_of, choice_plan, heard, is_entry_for, is_late, is_to_leave, looked, looking, open_plan, packet_in, ready, view_or_tick}
 use Rattle.qn_live.specs.Greetings.{farewell_after, farewells, sends_plan}
 use Rattle.qn_live.specs.Handed.{BeginsOnce, HandsHistory, RisesFrom, begins_boot, look_in, looks_in, ticks_of, went_back}
 use Rattle.qn_live.specs.Performing.{disk_answer, disk_call, done, end_in, noted, out_call, outs_plan, own_number, waits_after}
@@ -181,6 +181,7 @@ packet_begins_none : (p : Packet) → is_begin (entry_of p) ≡ false
 packet_begins_none (packet.Ask ask) = refl
 packet_begins_none (packet.Tell tell) = refl
 packet_begins_none (packet.Hello from) = refl
+packet_begins_none (packet.Heard from said) = refl
 packet_begins_none (packet.Announce from view) = refl
 packet_begins_none (packet.Vote agrees) = refl
 
@@ -370,12 +371,12 @@ module _ (s : Settings) (me : ℕ) (clean : Bool) where
     where
       of_test : (back : Bool) → nat_lt tick (now chosen.1.log) ≡ back
           → Told Turns (looks ++ tick ∷ []) (if back then Ends (Over (end.ClockBack (now chosen.1.log) tick) chosen.1.log)
-          else handled s me chosen.1 tick (looked tick chosen.0 chosen.1.maker))
+          else handled s me (looking tick chosen) tick (looked tick chosen.0 chosen.1.maker))
       of_test true back = ended_back looks tick chosen.1.log is
       of_test false onward =
           let later : now chosen.1.log ≤ tick = grind (arith, nat_tests) in
           let found = looked tick chosen.0 chosen.1.maker in
-          told_handled (looks ++ tick ∷ []) chosen.1 tick found
+          told_handled (looks ++ tick ∷ []) (looking tick chosen) tick found
           (handed_more looks chosen.1.log (record { tick = tick; what = found.1 }) is (looked_begins_none tick chosen.0 chosen.1.maker entry) later) none
 
   told_first : (tick : ℕ) → Told Turns (tick ∷ []) (clocked s me (choice.Whole (begin_of clean), first_state) tick)
@@ -383,9 +384,9 @@ module _ (s : Settings) (me : ℕ) (clean : Bool) where
   told_first tick = of_test (nat_lt tick 0) refl
     where
       of_test : (back : Bool) → nat_lt tick 0 ≡ back
-          → Told Turns (tick ∷ []) (if back then Ends (Over (end.ClockBack 0 tick) []) else handled s me first_state tick (None, begin_of clean))
+          → Told Turns (tick ∷ []) (if back then Ends (Over (end.ClockBack 0 tick) []) else handled s me (record first_state { last_look = tick }) tick (None, begin_of clean))
       of_test true back = absurd (let below : tick < 0 = grind (arith, nat_tests) in omega (arith, below))
-      of_test false onward = told_handled (tick ∷ []) first_state tick (None, begin_of clean) (handed_first tick) tt
+      of_test false onward = told_handled (tick ∷ []) (record first_state { last_look = tick }) tick (None, begin_of clean) (handed_first tick) tt
 
   -- the look at the clock that a turn takes
   told_timed : (looks : List ℕ) (chosen : Choice × RunState)
@@ -416,16 +417,20 @@ module _ (s : Settings) (me : ℕ) (clean : Bool) where
   told_choice looks leaves st is none =
       of_ready (ready leaves st.rests st.waits) (ready_begins_none leaves st.rests st.waits.stopped st.waits.disk none)
     where
-      of_ready : (found : Option (What × Waits)) → IfSome found (λ f. (is_begin f.0 ≡ false) × NoBegin f.1.disk)
-          → Told Chosen looks (option_map_or (λ f. Ends (choice.Whole f.0, record st { waits = f.1 })) found
-          (receive_plan >>= (λ p. Ends (choice_of me p, st))))
-      of_ready (Some f) known = (is, known.0, known.1)
-      of_ready None nothing =
+      of_late : (late : Bool) → Told Chosen looks (open_plan me st late)
+      of_late true = (is, tt, none)
+      of_late false =
           λ c asked. (
             subst (λ l. Handed l st.log) (sym (quiet looks c (call.Receive received.Nothing) asked refl)) is,
             choice_begins_none me (packet_in (received_in c)),
             none,
           )
+
+      of_ready : (found : Option (What × Waits)) → IfSome found (λ f. (is_begin f.0 ≡ false) × NoBegin f.1.disk)
+          → Told Chosen looks (option_map_or (λ f. Ends (choice.Whole f.0, record st { waits = f.1 })) found
+          (open_plan me st (is_late st)))
+      of_ready (Some f) known = (is, known.0, known.1)
+      of_ready None nothing = of_late (is_late st)
 
   told_turn : (looks : List ℕ) (leave : Option ℕ) (turn : ℕ) (st : RunState) → Handed looks st.log → NoBegin st.waits.disk
       → Told Turns looks (turn_plan s me leave turn st)

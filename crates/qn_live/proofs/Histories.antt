@@ -3,7 +3,7 @@ use Rattle.std.proofs.Common.{◌≡◌, ℕ, suc, zero, Bool, true, false, ◌+
 use Rattle.std.specs.Prelude.{nat_lt}
 use Rattle.std.specs.Option.{option_map_or}
 use Rattle.qn_base.specs.declared.calls.Call.{Call}
-use Rattle.qn_base.specs.Plans.{Plan, Ends, Asks, ◌>>=◌, Follows}
+use Rattle.qn_base.specs.Plans.{Plan, Ends, Asks, Follows}
 use Rattle.qn_io.specs.Answered.{received_in, time_of}
 use Rattle.qn_model.specs.declared.configuration.Settings.{Settings}
 use Rattle.qn_model.specs.declared.packets.Packet.{Packet}
@@ -23,7 +23,7 @@ use Rattle.qn_live.specs.declared.live_end.LiveEnd.TheVariants as end
 use Rattle.qn_live.specs.declared.place.Choice.{Choice}
 use Rattle.qn_live.specs.declared.place.Choice.TheVariants as choice
 use Rattle.qn_live.specs.declared.place.Waits.{Waits}
-use Rattle.qn_live.specs.Choosing.{choice_of, choice_plan, failed_answer, is_to_leave, looked, packet_in, ready, receive_plan}
+use Rattle.qn_live.specs.Choosing.{choice_of, choice_plan, failed_answer, is_late, is_to_leave, looked, looking, open_plan, packet_in, ready}
 use Rattle.qn_live.specs.Greetings.{sends_plan}
 use Rattle.qn_live.specs.Laws.{IsHistory, takes_answer}
 use Rattle.qn_live.specs.Performing.{end_in, noted, outs_plan}
@@ -40,7 +40,7 @@ abbrev EndsFrom : List Line → Bool → Turned → Type 0
 EndsFrom log rests (Over end last) = last ≡ log
 EndsFrom log rests (Next next) = (next.log ≡ log) × (next.rests ≡ rests)
 
-sends_always : (sents : List Sent) → Always (λ sent. Unit {0}) (sends_plan sents)
+pub sends_always : (sents : List Sent) → Always (λ sent. Unit {0}) (sends_plan sents)
 unfolding sends_plan
 sends_always [] = tt
 sends_always (sent ∷ sents) = λ call. sends_always sents
@@ -99,13 +99,13 @@ unfolding clocked
 clocked_always s me chosen tick is =
     by_clock (nat_lt tick (now chosen.1.log))
   where
-    by_clock : (back : Bool) → Always (KeepsHistory s me) (if back then Ends (Over (end.ClockBack (now chosen.1.log) tick) chosen.1.log) else handled s me chosen.1 tick (looked tick chosen.0 chosen.1.maker))
+    by_clock : (back : Bool) → Always (KeepsHistory s me) (if back then Ends (Over (end.ClockBack (now chosen.1.log) tick) chosen.1.log) else handled s me (looking tick chosen) tick (looked tick chosen.0 chosen.1.maker))
     by_clock true = is
     by_clock false =
         let found = looked tick chosen.0 chosen.1.maker in
-        always_from s me (with_entry s me chosen.1.log (record { tick = tick; what = found.1 })) (failed_answer found.1) (handled s me chosen.1 tick found)
+        always_from s me (with_entry s me chosen.1.log (record { tick = tick; what = found.1 })) (failed_answer found.1) (handled s me (looking tick chosen) tick found)
         (one_more s me chosen.1.log (record { tick = tick; what = found.1 }) is)
-        (handled_always s me chosen.1 tick found)
+        (handled_always s me (looking tick chosen) tick found)
 
 -- what a turn takes leaves the log as it was
 abbrev KeepsLog : List Line → Choice × RunState → Type 0
@@ -116,8 +116,12 @@ unfolding choice_plan
 choice_always me leaves st =
     by_ready (ready leaves st.rests st.waits)
   where
-    by_ready : (found : Option (What × Waits)) → Always (KeepsLog st.log) (option_map_or (λ taken. Ends (choice.Whole taken.0, record st { waits = taken.1 })) found (receive_plan >>= (λ packet. Ends (choice_of me packet, st))))
-    by_ready None = λ call. refl
+    by_late : (late : Bool) → Always (KeepsLog st.log) (open_plan me st late)
+    by_late true = refl
+    by_late false = λ call. refl
+
+    by_ready : (found : Option (What × Waits)) → Always (KeepsLog st.log) (option_map_or (λ taken. Ends (choice.Whole taken.0, record st { waits = taken.1 })) found (open_plan me st (is_late st)))
+    by_ready None = by_late (is_late st)
     by_ready (Some found) = refl
 
 turn_always : (s : Settings) (me : ℕ) (leave : Option ℕ) (turn : ℕ) (st : RunState) → IsHistory s me st.log → Always (KeepsHistory s me) (turn_plan s me leave turn st)
@@ -170,6 +174,7 @@ packet_taken me (Some (packet.Tell tell)) = by_test (tell.to.0 == me)
     by_test false = refl
 packet_taken me (Some (packet.Vote agrees)) = refl
 packet_taken me (Some (packet.Hello from)) = refl
+packet_taken me (Some (packet.Heard from said)) = refl
 packet_taken me (Some (packet.Announce from view)) = refl
 
 -- the turn takes no answer of the disk, and keeps the one that waits
@@ -180,13 +185,17 @@ rests_always : (me : ℕ) (leaves : Bool) (st : RunState) → st.rests ≡ true 
 unfolding choice_plan
 rests_always me leaves st rests =
     subst
-    (λ (r : Bool). Always (Rests st) (option_map_or (λ taken. Ends (choice.Whole taken.0, record st { waits = taken.1 })) (ready leaves r st.waits) (receive_plan >>= (λ packet. Ends (choice_of me packet, st)))))
+    (λ (r : Bool). Always (Rests st) (option_map_or (λ taken. Ends (choice.Whole taken.0, record st { waits = taken.1 })) (ready leaves r st.waits) (open_plan me st (is_late st))))
     (sym rests)
     (by_waits leaves st.waits.stopped)
   where
-    by_waits : (leaves : Bool) (stopped : Option Bool) → Always (Rests st) (option_map_or (λ taken. Ends (choice.Whole taken.0, record st { waits = taken.1 })) (ready leaves true (record { stopped = stopped; disk = st.waits.disk })) (receive_plan >>= (λ packet. Ends (choice_of me packet, st))))
+    by_late : (late : Bool) → Always (Rests st) (open_plan me st late)
+    by_late true = (refl, refl)
+    by_late false = λ call. (packet_taken me (packet_in (received_in call)), refl)
+
+    by_waits : (leaves : Bool) (stopped : Option Bool) → Always (Rests st) (option_map_or (λ taken. Ends (choice.Whole taken.0, record st { waits = taken.1 })) (ready leaves true (record { stopped = stopped; disk = st.waits.disk })) (open_plan me st (is_late st)))
     by_waits true None = (refl, refl)
-    by_waits false None = λ call. (packet_taken me (packet_in (received_in call)), refl)
+    by_waits false None = by_late (is_late st)
     by_waits true (Some ok) = (refl, refl)
     by_waits false (Some ok) = (refl, refl)
 

@@ -3,11 +3,13 @@ pub mod Answering
 pub mod Answers
 pub mod Checks
 pub mod Coming
+pub mod GreetingsMade
 pub mod Halted
 pub mod Handing
 pub mod Histories
 pub mod Ids
 pub mod Joining
+pub mod LookingOn
 pub mod Operated
 pub mod OperationCalls
 pub mod TripleOutputs

@@ -3,8 +3,6 @@ use Rattle.std.proofs.Common.{ℕ, true, false, List, [], ◌∷◌, None, refl}
 use Rattle.qn_base.specs.declared.calls.Call.TheVariants as call
 use Rattle.qn_base.specs.declared.calls.Received.TheVariants as received
 use Rattle.qn_base.specs.Plans.{Follows}
-use Rattle.qn_model.specs.declared.configuration.Settings.{Settings}
-use Rattle.qn_model.specs.declared.times.Timing.{Timing}
 use Rattle.qn_model.specs.declared.disk.Message.TheVariants as message
 use Rattle.qn_model.specs.declared.seen.HeaderSeen.TheVariants as header
 use Rattle.qn_model.specs.declared.seen.SlotSeen.TheVariants as slot
@@ -28,7 +26,7 @@ use Rattle.qn_model.specs.NodeOutputs.{moment, acts, outs_at, with_entry, log_fr
 use Rattle.qn_model.specs.Sectors.{anonymous, header_bytes, header_bytes_in, mail_bytes, slot_bytes}
 use Rattle.qn_model.specs.World.{failed}
 use Rattle.qn_sector.specs.Reading.{header_in, mail_of, slot_of}
-use Rattle.qn_member.specs.Maker.{after_tick, ranks_that, view_at}
+use Rattle.qn_member.specs.Maker.{after_tick, ranks_that, view_at, with_ranks}
 use Rattle.qn_live.specs.declared.live_end.LiveEnd.TheVariants as end
 use Rattle.qn_live.specs.Choosing.{choice_plan}
 use Rattle.qn_live.specs.Greetings.{sends_plan}
@@ -80,5 +78,5 @@ starts_in_seven_turns : Follows (live_plan one_node 0 false None 7)
       end = turns_end one_node 0 (log_of one_node 0 seven_entries);
       log = log_of one_node 0 seven_entries;
     })
-unfolding op_out ask_place ask_tick begins_clean slot_number claimed timing view install votes answer_at present_view view_tick is_released expected_votes device_yes phase holds stop_due may_stop told out_time slot_read_since reset_since least_from unmet mail_tick wanted_with_delay moment acts outs_at with_entry log_from header_bytes_in mail_bytes slot_bytes header_in mail_of slot_of failed view_at after_tick ranks_that choice_plan sends_plan disk_call done out_call outs_plan waits_after clocked greeted handled parted settled live_plan run_plan
+unfolding op_out ask_place ask_tick begins_clean slot_number claimed timing view install votes answer_at present_view view_tick is_released expected_votes device_yes phase holds stop_due may_stop told out_time slot_read_since reset_since least_from unmet mail_tick wanted_with_delay moment acts outs_at with_entry log_from header_bytes_in mail_bytes slot_bytes header_in mail_of slot_of failed view_at after_tick ranks_that with_ranks choice_plan sends_plan disk_call done out_call outs_plan waits_after clocked greeted handled parted settled live_plan run_plan
 starts_in_seven_turns = (refl, (refl, (refl, (refl, (refl, (refl, (refl, (refl, (refl, (refl, (refl, (refl, (refl, (refl, (refl, (refl, (refl, (refl, (refl, (refl, refl))))))))))))))))))))

@@ -1,5 +1,5 @@
 -- The calls of a run that perform outputs are those of its log, in order.
-use Rattle.std.proofs.Common.{◌≡◌, ℕ, suc, zero, Bool, true, false, not, ◌+◌, ◌-◌, List, [], ◌∷◌, ◌++◌, map, Option, None, Some, if◌then◌else◌, refl, sym, ap, subst, ◌∙◌, append_assoc}
+use Rattle.std.proofs.Common.{◌≡◌, ℕ, suc, zero, Bool, true, false, not, ◌+◌, ◌-◌, List, [], ◌∷◌, ◌++◌, map, Option, None, Some, if◌then◌else◌, refl, sym, ap, subst, ◌∙◌, append_assoc, option_and_then}
 use Rattle.std.proofs.lemmas.Bool.{and_parts}
 use Rattle.std.specs.Prelude.{nat_lt}
 use Rattle.std.specs.List.{list_all}
@@ -9,7 +9,7 @@ use Rattle.qn_base.specs.declared.calls.Call.{Call}
 use Rattle.qn_base.specs.declared.calls.Call.TheVariants as call
 use Rattle.qn_base.specs.declared.ids.View.{View}
 use Rattle.qn_base.specs.Calls.{blank}
-use Rattle.qn_base.specs.Plans.{Plan, Ends, ◌>>=◌, Follows}
+use Rattle.qn_base.specs.Plans.{Plan, Ends, Follows}
 use Rattle.qn_io.specs.Answered.{time_of}
 use Rattle.qn_model.specs.declared.configuration.Settings.{Settings}
 use Rattle.qn_model.specs.declared.packets.Packet.{Packet}
@@ -24,7 +24,7 @@ use Rattle.qn_model.specs.declared.outputs.Out.TheVariants as out
 use Rattle.qn_model.specs.Log.{Line, now}
 use Rattle.qn_model.specs.Moments.{begin_of}
 use Rattle.qn_model.specs.NodeOutputs.{newest_outs, with_entry}
-use Rattle.qn_member.specs.Maker.{Maker}
+use Rattle.qn_member.specs.Maker.{Maker, view_to_announce}
 use Rattle.qn_wire.specs.Packets.{packet_bytes}
 use Rattle.qn_live.specs.declared.live_end.LiveEnd.{LiveEnd}
 use Rattle.qn_live.specs.declared.live_end.LiveEnd.TheVariants as end
@@ -33,8 +33,8 @@ use Rattle.qn_live.specs.declared.place.Choice.TheVariants as choice
 use Rattle.qn_live.specs.declared.place.Greeting.{Greeting}
 use Rattle.qn_live.specs.declared.place.Greeting.TheVariants as greeting
 use Rattle.qn_live.specs.declared.place.Waits.{Waits}
-use Rattle.qn_live.specs.Choosing.{choice_of, choice_plan, is_to_leave, looked, ready, receive_plan}
-use Rattle.qn_live.specs.Greetings.{farewell_after, farewells, greeting_packet, is_due, others_from, sends_plan, to_each, to_send, view_after}
+use Rattle.qn_live.specs.Choosing.{choice_plan, is_late, is_to_leave, looked, looking, open_plan, ready}
+use Rattle.qn_live.specs.Greetings.{farewell_after, farewells, greeting_packet, is_due, said_after, sends_plan, to_all, to_each, to_send}
 use Rattle.qn_live.specs.Laws.{if_output, is_greeting, is_output, outputs_among, outputs_of}
 use Rattle.qn_live.specs.Performing.{disk_call, end_in, noted, out_call, outs_plan, own_number}
 use Rattle.qn_live.specs.Running.{RunState, Turned, Over, Next, Ran, first_state, later}
@@ -93,15 +93,23 @@ each_greets p (rank ∷ ranks) is = (is, each_greets p ranks is)
 greets : (me : ℕ) (said : Greeting) → is_greeting (packet_bytes (greeting_packet me said)) ≡ true
 unfolding packet_bytes
 greets me greeting.Hello = refl
+greets me (greeting.Heard said) = refl
 greets me (greeting.Announce view) = refl
 
 to_send_greets : (s : Settings) (me : ℕ) (maker : Option Maker) (said : Greeting) (from : ℕ) → AllGreet (to_send s me maker said from)
 to_send_greets s me maker said from =
-    append_greet _ _ (each_greets _ _ (greets me said)) (by_view (view_after said maker))
+    append_greet _ _ (each_greets _ _ (greets me said)) (follows said maker)
   where
-    by_view : (view : Option View) → AllGreet (option_map_or (λ view. to_each (greeting_packet me (greeting.Announce view)) (others_from s me 0)) view [])
+    by_view : (view : Option View) → AllGreet (option_map_or (λ view. to_all s me (greeting.Announce view)) view [])
     by_view None = tt
     by_view (Some view) = each_greets _ _ (greets me (greeting.Announce view))
+
+    follows : (said : Greeting) (maker : Option Maker) → AllGreet (said_after s me maker said)
+    follows greeting.Hello None = tt
+    follows greeting.Hello (Some m) =
+        append_greet _ _ (each_greets _ _ (greets me (greeting.Heard m.says))) (by_view (option_and_then view_to_announce (Some m)))
+    follows (greeting.Heard said) maker = by_view (option_and_then view_to_announce maker)
+    follows (greeting.Announce view) maker = tt
 
 due_greets : (due : Bool) (sents : List Sent) → AllGreet sents → AllGreet (if due then sents else [])
 due_greets true sents all = all
@@ -143,6 +151,7 @@ act_speaks s me number (out.Disk op) is = disk_speaks s me number op
 act_speaks s me number (out.Send to (packet.Ask ask)) is = refl
 act_speaks s me number (out.Send to (packet.Tell tell)) is = refl
 act_speaks s me number (out.Send to (packet.Hello from)) is = absurd (cc)
+act_speaks s me number (out.Send to (packet.Heard from said)) is = absurd (cc)
 act_speaks s me number (out.Send to (packet.Announce from view)) is = absurd (cc)
 act_speaks s me number (out.Send to (packet.Vote agrees)) is = absurd (cc)
 act_speaks s me number out.Disarm is = absurd (cc)
@@ -232,9 +241,9 @@ unfolding clocked
 clocked_told s me chosen tick done is =
     by_clock (nat_lt tick (now chosen.1.log))
   where
-    by_clock : (back : Bool) → Telling (ToldTurn s me) done (if back then Ends (Over (end.ClockBack (now chosen.1.log) tick) chosen.1.log) else handled s me chosen.1 tick (looked tick chosen.0 chosen.1.maker))
+    by_clock : (back : Bool) → Telling (ToldTurn s me) done (if back then Ends (Over (end.ClockBack (now chosen.1.log) tick) chosen.1.log) else handled s me (looking tick chosen) tick (looked tick chosen.0 chosen.1.maker))
     by_clock true = is
-    by_clock false = handled_told s me chosen.1 tick (looked tick chosen.0 chosen.1.maker) done is
+    by_clock false = handled_told s me (looking tick chosen) tick (looked tick chosen.0 chosen.1.maker) done is
 
 timed_told : (s : Settings) (me : ℕ) (chosen : Choice × RunState) (done : List Call) → done ≡ outputs_of s me chosen.1.log → Telling (ToldTurn s me) done (timed s me chosen)
 timed_told s me chosen done is = λ made asked fits.
@@ -249,8 +258,12 @@ unfolding choice_plan
 choice_told me leaves st done =
     by_ready (ready leaves st.rests st.waits)
   where
-    by_ready : (found : Option (What × Waits)) → Telling (ChoiceTold done st) done (option_map_or (λ taken. Ends (choice.Whole taken.0, record st { waits = taken.1 })) found (receive_plan >>= (λ packet. Ends (choice_of me packet, st))))
-    by_ready None = λ made asked fits. (silent done made _ asked refl, refl)
+    by_late : (late : Bool) → Telling (ChoiceTold done st) done (open_plan me st late)
+    by_late true = (refl, refl)
+    by_late false = λ made asked fits. (silent done made _ asked refl, refl)
+
+    by_ready : (found : Option (What × Waits)) → Telling (ChoiceTold done st) done (option_map_or (λ taken. Ends (choice.Whole taken.0, record st { waits = taken.1 })) found (open_plan me st (is_late st)))
+    by_ready None = by_late (is_late st)
     by_ready (Some found) = (refl, refl)
 
 turn_told : (s : Settings) (me : ℕ) (leave : Option ℕ) (turn : ℕ) (st : RunState) (done : List Call) → done ≡ outputs_of s me st.log → Telling (ToldTurn s me) done (turn_plan s me leave turn st)

@@ -22,7 +22,7 @@ use Rattle.qn_live.specs.declared.live_end.LiveEnd.TheVariants as end
 use Rattle.qn_live.specs.declared.place.Choice.{Choice}
 use Rattle.qn_live.specs.declared.place.Choice.TheVariants as choice
 use Rattle.qn_live.specs.declared.place.Waits.{Waits}
-use Rattle.qn_live.specs.Choosing.{choice_of, choice_plan, is_to_leave, looked, ready, receive_plan}
+use Rattle.qn_live.specs.Choosing.{choice_plan, is_late, is_to_leave, looked, looking, open_plan, ready}
 use Rattle.qn_live.specs.Greetings.{sends_plan}
 use Rattle.qn_live.specs.Performing.{disk_call, end_in, noted, out_call, outs_plan, own_number}
 use Rattle.qn_live.specs.Running.{RunState, Turned, Over, Next, Ran, first_state, later}
@@ -98,9 +98,9 @@ unfolding clocked
 clocked_wiped s me chosen tick =
     by_clock (nat_lt tick (now chosen.1.log))
   where
-    by_clock : (back : Bool) → AsksWiped (if back then Ends (Over (end.ClockBack (now chosen.1.log) tick) chosen.1.log) else handled s me chosen.1 tick (looked tick chosen.0 chosen.1.maker))
+    by_clock : (back : Bool) → AsksWiped (if back then Ends (Over (end.ClockBack (now chosen.1.log) tick) chosen.1.log) else handled s me (looking tick chosen) tick (looked tick chosen.0 chosen.1.maker))
     by_clock true = tt
-    by_clock false = handled_wiped s me chosen.1 tick (looked tick chosen.0 chosen.1.maker)
+    by_clock false = handled_wiped s me (looking tick chosen) tick (looked tick chosen.0 chosen.1.maker)
 
 timed_wiped : (s : Settings) (me : ℕ) (chosen : Choice × RunState) → AsksWiped (timed s me chosen)
 timed_wiped s me chosen = (refl, λ call. clocked_wiped s me chosen (time_of call))
@@ -110,8 +110,12 @@ unfolding choice_plan
 choice_wiped me leaves st =
     by_ready (ready leaves st.rests st.waits)
   where
-    by_ready : (found : Option (What × Waits)) → AsksWiped {A = Choice × RunState} (option_map_or (λ taken. Ends (choice.Whole taken.0, record st { waits = taken.1 })) found (receive_plan >>= (λ packet. Ends (choice_of me packet, st))))
-    by_ready None = (refl, λ call. tt)
+    by_late : (late : Bool) → AsksWiped {A = Choice × RunState} (open_plan me st late)
+    by_late true = tt
+    by_late false = (refl, λ call. tt)
+
+    by_ready : (found : Option (What × Waits)) → AsksWiped {A = Choice × RunState} (option_map_or (λ taken. Ends (choice.Whole taken.0, record st { waits = taken.1 })) found (open_plan me st (is_late st)))
+    by_ready None = by_late (is_late st)
     by_ready (Some found) = tt
 
 later_wiped : (next : RunState → Plan Ran) → ((st : RunState) → AsksWiped (next st)) → (turned : Turned) → AsksWiped (later next turned)

@@ -1,5 +1,5 @@
 -- Which entry a turn takes: this project's profile.
-use Rattle.std.specs.Prelude.{ℕ, Bool, true, false, not, ◌&&◌, ◌==◌, nat_le, Option, None, Some, option_map, if◌then◌else◌}
+use Rattle.std.specs.Prelude.{ℕ, Bool, true, false, not, ◌&&◌, ◌-◌, ◌==◌, nat_le, Option, None, Some, is_some, option_map, if◌then◌else◌}
 use Rattle.std.specs.Option.{option_or, option_map_or}
 use Rattle.qn_base.specs.declared.calls.Call.TheVariants as call
 use Rattle.qn_base.specs.declared.calls.Received.{Received}
@@ -16,10 +16,11 @@ use Rattle.qn_model.specs.declared.seen.MailSeen.{MailSeen}
 use Rattle.qn_model.specs.declared.seen.MailSeen.TheVariants as mail
 use Rattle.qn_model.specs.declared.entries.What.{What}
 use Rattle.qn_model.specs.declared.entries.What.TheVariants as what
+use Rattle.qn_model.specs.Log.{now}
 use Rattle.qn_model.specs.Phases.{phase, is_up}
 use Rattle.qn_model.specs.Steps.{entry_of}
 use Rattle.qn_wire.specs.Reading.{packet_of}
-use Rattle.qn_member.specs.Maker.{Maker, after_announce, after_hello, after_tick, view_at}
+use Rattle.qn_member.specs.Maker.{Maker, after_announce, after_hello, after_plain_hello, after_tick, view_at}
 use Rattle.qn_live.specs.declared.place.Choice.{Choice}
 use Rattle.qn_live.specs.declared.place.Choice.TheVariants as choice
 use Rattle.qn_live.specs.declared.place.Waits.{Waits}
@@ -76,6 +77,7 @@ is_entry_for me (packet.Ask ask) = ask.to.0 == me
 is_entry_for me (packet.Tell tell) = tell.to.0 == me
 is_entry_for me (packet.Vote agrees) = true
 is_entry_for me (packet.Hello from) = false
+is_entry_for me (packet.Heard from said) = false
 is_entry_for me (packet.Announce from view) = false
 
 -- what a turn takes that received this packet, or none
@@ -92,18 +94,37 @@ packet_in received.Failed = None
 abbrev pub receive_plan : Plan (Option Packet)
 receive_plan = Asks (call.Receive received.Nothing) (λ call. Ends (packet_in (received_in call)))
 
+-- the last look of the view maker is a loop ago or more
+abbrev pub is_late : RunState → Bool
+is_late st = is_some st.maker && nat_le st.loop_ms (now st.log - st.last_look)
+
+-- what a turn takes that needs a packet: none where that look is late, so that no flood of packets keeps it from looking
+abbrev pub open_plan : ℕ → RunState → Bool → Plan (Choice × RunState)
+open_plan me st late =
+    if late then Ends (choice.Open None, st) else (receive_plan >>= (λ packet. Ends (choice_of me packet, st)))
+
 -- what a turn takes, and what is left then
 unfoldable pub choice_plan : ℕ → Bool → RunState → Plan (Choice × RunState)
 choice_plan me leaves st =
     option_map_or
     (λ taken. Ends (choice.Whole taken.0, record st { waits = taken.1 }))
     (ready leaves st.rests st.waits)
-    (receive_plan >>= (λ packet. Ends (choice_of me packet, st)))
+    (open_plan me st (is_late st))
+
+-- the tick of the last look, after a turn took this at a tick; while there is no view maker each entry counts as a look
+abbrev pub look_after : ℕ → Choice → Option Maker → ℕ → ℕ
+look_after tick (choice.Open p) maker last = tick
+look_after tick (choice.Whole entry) None last = tick
+look_after tick (choice.Whole entry) (Some m) last = last
+
+abbrev pub looking : ℕ → Choice × RunState → RunState
+looking tick chosen = record chosen.1 { last_look = look_after tick chosen.0 chosen.1.maker chosen.1.last_look }
 
 -- what the view maker hears of a packet
 abbrev pub heard : ℕ → Option Packet → Maker → Maker
 heard tick None m = m
-heard tick (Some (packet.Hello from)) m = after_hello tick from.0 m
+heard tick (Some (packet.Hello from)) m = after_plain_hello tick from.0 m
+heard tick (Some (packet.Heard from said)) m = after_hello tick from.0 said m
 heard tick (Some (packet.Announce from view)) m = after_announce from.0 view m
 heard tick (Some (packet.Ask ask)) m = m
 heard tick (Some (packet.Tell tell)) m = m

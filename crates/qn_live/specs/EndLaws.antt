@@ -49,7 +49,7 @@ use Rattle.qn_live.specs.declared.place.Choice.{Choice}
 use Rattle.qn_live.specs.declared.place.Choice.TheVariants as choice
 use Rattle.qn_live.specs.declared.place.Waits.{Waits}
 use Rattle.qn_live.specs.CalmOutputs.{calm_boot, calm_live, calm_outs}
-use Rattle.qn_live.specs.Choosing.{choice_of, choice_plan, heard, is_entry_for, is_to_leave, looked, packet_in, ready, receive_plan, view_or_tick}
+use Rattle.qn_live.specs.Choosing.{choice_of, choice_plan, heard, is_entry_for, is_late, is_to_leave, looked, looking, open_plan, packet_in, ready, view_or_tick}
 use Rattle.qn_live.specs.Greetings.{farewell_after, farewells, sends_plan}
 use Rattle.qn_live.specs.Halts.{HaltedBy, IsNewest, is_on_disk, one_call}
 use Rattle.qn_live.specs.Performing.{disk_answer, disk_call, done, end_in, halt_code, noted, out_call, outs_plan, own_number, waits_after}
@@ -495,10 +495,10 @@ module _ (s : Settings) (me : ℕ) where
     where
       of_test : (back : Bool) → (back ≡ true → past.fell ≡ true)
           → Leads Turns past (if back then Ends (Over (end.ClockBack (now chosen.1.log) past.tick) chosen.1.log)
-          else handled s me chosen.1 past.tick (looked past.tick chosen.0 chosen.1.maker))
+          else handled s me (looking past.tick chosen) past.tick (looked past.tick chosen.0 chosen.1.maker))
       of_test true fell = fell refl
       of_test false fell =
-          leads_handled chosen.1 past (looked past.tick chosen.0 chosen.1.maker) (caused_looked past.disk past.tick chosen.0 chosen.1.maker caused) waiting
+          leads_handled (looking past.tick chosen) past (looked past.tick chosen.0 chosen.1.maker) (caused_looked past.disk past.tick chosen.0 chosen.1.maker caused) waiting
 
   leads_timed : (chosen : Choice × RunState) (past : Past) → now chosen.1.log ≡ past.tick → CausedChoice past.disk chosen.0
       → Waiting s me past.disk chosen.1.waits.disk → Leads Turns past (timed s me chosen)
@@ -537,6 +537,7 @@ module _ (s : Settings) (me : ℕ) where
   caused_packet last (packet.Ask ask) = tt
   caused_packet last (packet.Tell tell) = tt
   caused_packet last (packet.Hello from) = tt
+  caused_packet last (packet.Heard from said) = tt
   caused_packet last (packet.Announce from view) = tt
   caused_packet last (packet.Vote agrees) = tt
 
@@ -554,17 +555,21 @@ module _ (s : Settings) (me : ℕ) where
   leads_choice leaves st past is waiting =
       of_ready (ready leaves st.rests st.waits) (caused_ready past.disk leaves st.rests st.waits.stopped st.waits.disk waiting)
     where
-      of_ready : (found : Option (What × Waits)) → IfSome found (λ f. CausedBy s me past.disk f.0 × Waiting s me past.disk f.1.disk)
-          → Leads Chosen past (option_map_or (λ f. Ends (choice.Whole f.0, record st { waits = f.1 })) found
-          (receive_plan >>= (λ p. Ends (choice_of me p, st))))
-      of_ready (Some f) known = (is, known.0, known.1)
-      of_ready None none =
+      of_late : (late : Bool) → Leads Chosen past (open_plan me st late)
+      of_late true = (is, tt, waiting)
+      of_late false =
           λ c asked. (
             is ∙ sym (asked_none past.tick c (call.Receive received.Nothing) asked refl),
             caused_choice (disk_after c past.disk) (packet_in (received_in c)),
             subst (λ (l : Option Call). Waiting s me l st.waits.disk)
                 (sym (disk_after_asked past.disk c (call.Receive received.Nothing) false asked refl)) waiting,
           )
+
+      of_ready : (found : Option (What × Waits)) → IfSome found (λ f. CausedBy s me past.disk f.0 × Waiting s me past.disk f.1.disk)
+          → Leads Chosen past (option_map_or (λ f. Ends (choice.Whole f.0, record st { waits = f.1 })) found
+          (open_plan me st (is_late st)))
+      of_ready (Some f) known = (is, known.0, known.1)
+      of_ready None none = of_late (is_late st)
 
   leads_turn : (leave : Option ℕ) (turn : ℕ) (st : RunState) (past : Past) → now st.log ≡ past.tick
       → Waiting s me past.disk st.waits.disk → Leads Turns past (turn_plan s me leave turn st)

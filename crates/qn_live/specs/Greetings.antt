@@ -1,6 +1,6 @@
--- What a node that takes part sends to the others: a Hello each half loop and the view that it announces, and a farewell at the end
--- of a clean leave. This project's profile.
-use Rattle.std.specs.Prelude.{ℕ, Bool, true, false, not, ◌-◌, ◌==◌, List, [], ◌∷◌, ◌++◌, map, filter, length, Option, None, Some, unwrap_or, option_and_then, if◌then◌else◌}
+-- What a node that takes part sends to the others: where a Hello is due it is said plain, for nodes of older versions, and with what
+-- it says, and then comes the view that the node announces; and a farewell at the end of a clean leave. This project's profile.
+use Rattle.std.specs.Prelude.{ℕ, Bool, true, false, not, ◌-◌, ◌==◌, List, [], ◌∷◌, ◌++◌, map, filter, length, Option, None, Some, option_map, unwrap_or, option_and_then, if◌then◌else◌}
 use Rattle.std.specs.Option.{option_map_or}
 use Rattle.std.specs.List.{range_with_len}
 use Rattle.qn_base.specs.declared.calls.Call.{Call}
@@ -39,25 +39,38 @@ to_each p ranks = map (λ rank. record { to = rank_of rank; packet = p }) ranks
 -- the packet of a greeting
 abbrev pub greeting_packet : ℕ → Greeting → Packet
 greeting_packet me greeting.Hello = packet.Hello (rank_of me)
+greeting_packet me (greeting.Heard said) = packet.Heard (rank_of me) said
 greeting_packet me (greeting.Announce view) = packet.Announce (rank_of me) view
 
 -- the call that sends a greeting to a rank
 abbrev pub greeting_call : ℕ → Greeting → ℕ → Call
 greeting_call me said to = call.Send (rank_of to) (packet_bytes (greeting_packet me said)) true
 
--- the announcement that follows a greeting: after the Hellos that of the present view, where the node announces one
-abbrev pub view_after : Greeting → Option Maker → Option View
-view_after greeting.Hello maker = option_and_then view_to_announce maker
-view_after (greeting.Announce view) maker = None
+-- a greeting to all others
+abbrev pub to_all : Settings → ℕ → Greeting → List Sent
+to_all s me said = to_each (greeting_packet me said) (others_from s me 0)
 
--- what is left to send: this greeting to the other nodes from a rank on, and the announcement that follows it to all others
+-- the greeting that follows another one: after the plain Hello the one that says what the last look found, and after that the
+-- announcement of the present view, where the node announces one
+abbrev pub greeting_after : Greeting → Option Maker → Option Greeting
+greeting_after greeting.Hello maker = option_map (λ m. greeting.Heard m.says) maker
+greeting_after (greeting.Heard said) maker = option_map (λ view. greeting.Announce view) (option_and_then view_to_announce maker)
+greeting_after (greeting.Announce view) maker = None
+
+-- the announcement of the present view to all others
+abbrev pub announcements : Settings → ℕ → Option Maker → List Sent
+announcements s me maker = option_map_or (λ view. to_all s me (greeting.Announce view)) (option_and_then view_to_announce maker) []
+
+-- what is said after a greeting
+abbrev pub said_after : Settings → ℕ → Option Maker → Greeting → List Sent
+said_after s me maker greeting.Hello =
+    option_map_or (λ m. to_all s me (greeting.Heard m.says) ++ announcements s me maker) maker []
+said_after s me maker (greeting.Heard said) = announcements s me maker
+said_after s me maker (greeting.Announce view) = []
+
+-- what is left to send: this greeting to the other nodes from a rank on, and those that follow it to all others
 abbrev pub to_send : Settings → ℕ → Option Maker → Greeting → ℕ → List Sent
-to_send s me maker said from =
-    to_each (greeting_packet me said) (others_from s me from)
-    ++ option_map_or
-    (λ view. to_each (greeting_packet me (greeting.Announce view)) (others_from s me 0))
-    (view_after said maker)
-    []
+to_send s me maker said from = to_each (greeting_packet me said) (others_from s me from) ++ said_after s me maker said
 
 -- the view of the farewell after an end: only a node that left clean says one
 abbrev pub farewell_after : LiveEnd → Option Maker → Option View

@@ -6,6 +6,7 @@ pub mod Greetings
 pub mod Halts
 pub mod Handed
 pub mod ImageCounts
+pub mod Hellos
 pub mod Images
 pub mod Laws
 pub mod Machine

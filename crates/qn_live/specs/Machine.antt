@@ -29,7 +29,14 @@ use Rattle.qn_live.specs.Places.{calls_left}
 -- what a machine knows of the run, beside the log
 abbrev pub state_of : NodeRun → List Line → RunState
 state_of run log =
-    record { log = log; loop_ms = run.loop_ms; maker = run.member; waits = run.waits; rests = run.rests }
+    record {
+      log = log;
+      loop_ms = run.loop_ms;
+      maker = run.member;
+      waits = run.waits;
+      rests = run.rests;
+      last_look = run.last_look;
+    }
 
 -- the turns that follow the present one
 abbrev pub next_of : NodeRun → RunState → Plan Ran

@@ -16,14 +16,15 @@ pending (place.Over end) = 0
 
 -- at most so many calls a turn makes from here on
 abbrev pub calls_of_greeting : Greeting → ℕ → ℕ
-calls_of_greeting greeting.Hello to = 40 + (33 - to)
+calls_of_greeting greeting.Hello to = 80 + (33 - to)
+calls_of_greeting (greeting.Heard said) to = 40 + (33 - to)
 calls_of_greeting (greeting.Announce view) to = 33 - to
 
 -- at most so many calls a run makes from here on, where so many turns follow the present one
 abbrev pub calls_left : Place → ℕ → ℕ
-calls_left place.Receive after = 128 * after + 127
-calls_left (place.Now choice) after = 128 * after + 126
-calls_left (place.Act at) after = 128 * after + 80 + (41 - at)
-calls_left (place.Greet said to) after = 128 * after + calls_of_greeting said to
+calls_left place.Receive after = 192 * after + 191
+calls_left (place.Now choice) after = 192 * after + 190
+calls_left (place.Act at) after = 192 * after + 120 + (41 - at)
+calls_left (place.Greet said to) after = 192 * after + calls_of_greeting said to
 calls_left (place.Part view to) after = 33 - to
 calls_left (place.Over end) after = 0

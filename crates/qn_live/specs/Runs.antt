@@ -21,7 +21,7 @@ use Rattle.qn_live.specs.declared.place.Choice.{Choice}
 use Rattle.qn_live.specs.declared.place.Choice.TheVariants as choice
 use Rattle.qn_live.specs.declared.place.Greeting.TheVariants as greeting
 use Rattle.qn_live.specs.Running.{RunState, first_state, Turned, Over, Next, Ran, later}
-use Rattle.qn_live.specs.Choosing.{choice_plan, failed_answer, is_to_leave, looked}
+use Rattle.qn_live.specs.Choosing.{choice_plan, failed_answer, is_to_leave, looked, looking}
 use Rattle.qn_live.specs.Performing.{end_in, outs_plan}
 use Rattle.qn_live.specs.Greetings.{farewell_after, farewells, is_due, maker_of, sends_plan, to_send}
 
@@ -38,6 +38,7 @@ taken s me st tick found =
       maker = found.0;
       waits = st.waits;
       rests = failed_answer found.1;
+      last_look = st.last_look;
     }
 
 -- the state once the view maker was asked at a tick whether a Hello is due
@@ -48,8 +49,8 @@ hello_asked tick st = record st { maker = option_map (after_hello_due tick) st.m
 abbrev pub with_maker : Settings → ℕ → RunState → RunState
 with_maker s me st = record st { maker = maker_of s me st }
 
--- the outputs ended nothing: where a Hello is due it is sent to each other node, and then the announcement, and the next turn
--- follows
+-- the outputs ended nothing: where a Hello is due it is sent to each other node in both its forms, and then the announcement,
+-- and the next turn follows
 unfoldable pub greeted : Settings → ℕ → RunState → Plan Turned
 greeted s me st =
     let present = with_maker s me st in
@@ -77,7 +78,7 @@ handled s me st tick found =
 unfoldable pub clocked : Settings → ℕ → Choice × RunState → ℕ → Plan Turned
 clocked s me chosen tick =
     if nat_lt tick (now chosen.1.log) then Ends (Over (end.ClockBack (now chosen.1.log) tick) chosen.1.log)
-    else handled s me chosen.1 tick (looked tick chosen.0 chosen.1.maker)
+    else handled s me (looking tick chosen) tick (looked tick chosen.0 chosen.1.maker)
 
 -- what was chosen becomes the entry of the turn at its tick
 abbrev pub timed : Settings → ℕ → Choice × RunState → Plan Turned

@@ -1,7 +1,7 @@
 //! Which entry a turn takes.
 ghost use Rattle.std.specs.Prelude.{◌≡◌, ◌≤◌, length};
 ghost use Rattle.qn_io.specs.Receives.{FitsPacket, received};
-ghost use Rattle.qn_live.specs.Choosing.{choice_of, failed_answer, is_entry_for, looked, packet_in, ready};
+ghost use Rattle.qn_live.specs.Choosing.{choice_of, failed_answer, is_entry_for, look_after, looked, packet_in, ready};
 ghost use Rattle.qn_live.specs.Runs.{loop_after};
 
 use crate::place::{Choice, Waits};
@@ -76,13 +76,28 @@ fn hear(member: &mut Member, packet: Option<Packet>, tick: u64) -> What
     ensures { looked tick (Choice.Open packet) (Some member.old) ≡ (Some member.new, result) }
 {
     match packet {
-        Some(Packet::Hello { from }) => member.on_hello(tick, from),
+        Some(Packet::Hello { from }) => member.on_plain_hello(tick, from),
+        Some(Packet::Heard { from, said }) => member.on_hello(tick, from, said),
         Some(Packet::Announce { from, view }) => member.on_announce(tick, from, view),
         Some(Packet::Ask(_) | Packet::Tell(_) | Packet::Vote { .. }) | None => {}
     }
     match member.on_tick(tick) {
         Some(view) => What::View(view),
         None => What::Tick,
+    }
+}
+
+/// The tick of the last look of the view maker, after a turn took this choice at a tick. While there is no view maker each entry
+/// counts as a look.
+pub fn look_after(choice: Choice, member: &Option<Member>, tick: u64, last: u64) -> u64
+    ensures { result ≡ look_after tick choice member.now last }
+{
+    match choice {
+        Choice::Open(_) => tick,
+        Choice::Whole(_) => match member {
+            Some(_) => last,
+            None => tick,
+        },
     }
 }
 

@@ -1,6 +1,6 @@
 //! What a node that takes part sends to the others, and its view maker.
 ghost use Rattle.std.specs.Prelude.{◌≡◌, ◌<◌, ◌≤◌, ◌+◌, IfSome, length, option_map, option_and_then, true};
-ghost use Rattle.qn_live.specs.Greetings.{farewell_after, greeting_packet, is_due, maker_where};
+ghost use Rattle.qn_live.specs.Greetings.{farewell_after, greeting_after, greeting_packet, is_due, maker_where};
 ghost use Rattle.qn_member.specs.Maker.{after_hello_due, view_to_announce};
 
 use crate::live_end::LiveEnd;
@@ -37,8 +37,24 @@ pub fn hello_due(member: &mut Option<Member>, tick: u64) -> bool
     }
 }
 
-/// The view that the node announces.
-pub fn announced(member: &Option<Member>) -> Option<View>
+/// The greeting that follows another one.
+pub fn greeting_after(greeting: Greeting, member: &Option<Member>) -> Option<Greeting>
+    ensures { result ≡ greeting_after greeting member.now }
+{
+    match greeting {
+        Greeting::Hello => match member {
+            Some(member) => Some(Greeting::Heard(member.says())),
+            None => None,
+        },
+        Greeting::Heard(_) => match announced(member) {
+            Some(view) => Some(Greeting::Announce(view)),
+            None => None,
+        },
+        Greeting::Announce(_) => None,
+    }
+}
+
+fn announced(member: &Option<Member>) -> Option<View>
     ensures { result ≡ option_and_then view_to_announce member.now }
 {
     match member {
@@ -71,6 +87,7 @@ pub fn greeting_packet(me: Rank, greeting: Greeting) -> Packet
 {
     match greeting {
         Greeting::Hello => Packet::Hello { from: me },
+        Greeting::Heard(said) => Packet::Heard { from: me, said },
         Greeting::Announce(view) => Packet::Announce { from: me, view },
     }
 }

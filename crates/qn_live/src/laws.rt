@@ -1,28 +1,31 @@
 //! The laws of a run.
-ghost use Rattle.std.specs.Prelude.{◌≡◌, ◌<◌, ◌++◌, ◌∷◌, ℕ, Bool, true, false, List, Option, None, Some, length};
+ghost use Rattle.std.specs.Prelude.{◌≡◌, ◌<◌, ◌++◌, ◌∷◌, ℕ, Bool, true, false, List, [], Option, None, Some, length, map};
 ghost use Rattle.qn_base.specs.declared.calls.Call.{Call};
-ghost use Rattle.qn_base.specs.Calls.{some_failed};
+ghost use Rattle.qn_base.specs.Calls.{blank, some_failed};
 ghost use Rattle.qn_base.specs.Plans.{Follows, Plan, question};
-ghost use Rattle.qn_member.specs.Maker.{Maker};
+ghost use Rattle.qn_member.specs.Maker.{Maker, is_hello_due};
 ghost use Rattle.qn_model.specs.declared.configuration.Settings.{Settings};
 ghost use Rattle.qn_model.specs.declared.entries.What.{What};
 ghost use Rattle.qn_model.specs.declared.outputs.BootCause.{BootCause};
 ghost use Rattle.qn_model.specs.declared.outputs.DiskOp.{DiskOp};
 ghost use Rattle.qn_model.specs.declared.outputs.Out.{Out};
+ghost use Rattle.qn_model.specs.Log.{now};
 ghost use Rattle.qn_model.specs.Settings.{IsValid};
 ghost use Rattle.qn_model.specs.World.{failed};
 ghost use Rattle.qn_node.specs.Outputs.{IsNodeOutput};
 ghost use Rattle.qn_live.specs.declared.run.NodeRun.{NodeRun};
 ghost use Rattle.qn_live.specs.declared.place.Choice.{Choice};
 ghost use Rattle.qn_live.specs.declared.live_end.LiveEnd.{LiveEnd};
-ghost use Rattle.qn_live.specs.Choosing.{choice_plan, failed_answer};
+ghost use Rattle.qn_live.specs.Choosing.{choice_plan, failed_answer, is_late, look_after, ready};
+ghost use Rattle.qn_live.specs.Greetings.{maker_of};
+ghost use Rattle.qn_live.specs.Hellos.{hellos_of, send_call};
 ghost use Rattle.qn_live.specs.Halts.{HaltedBy, IsNewest, is_on_disk, one_call};
 ghost use Rattle.qn_live.specs.Handed.{HandsHistory};
 ghost use Rattle.qn_live.specs.Laws.{IsHistory, NeverFalls, is_by_call, is_by_clock, is_no_failure, is_sound, outputs_among, outputs_of, takes_answer};
 ghost use Rattle.qn_live.specs.Machine.{RunFor, operation_of};
 ghost use Rattle.qn_live.specs.Performing.{disk_call, own_number};
 ghost use Rattle.qn_live.specs.Running.{Next, Ran, RunState};
-ghost use Rattle.qn_live.specs.Runs.{handled, live_plan};
+ghost use Rattle.qn_live.specs.Runs.{clocked, greeted, handled, live_plan};
 
 /// Law: what a node is handed in a run is one history.
 pub fn law_one_history()
@@ -84,6 +87,34 @@ pub fn law_rest()
         (next : RunState)
         → Follows (handled s me st tick found) calls (Next next)
         → next.rests ≡ failed_answer found.1 }
+{}
+
+/// Law: where the last look of the view maker is a loop ago or more, a turn that has no entry of its own makes no call for a packet,
+/// and looks. The tick of the last look is that of the last entry that was no entry of the turn's own, or that came while there was
+/// no view maker.
+pub fn law_late_look()
+    ensures none { (me : ℕ) (leaves : Bool) (st : RunState) (calls : List Call)
+        (chosen : Choice × RunState)
+        → is_late st ≡ true
+        → ready leaves st.rests st.waits ≡ None
+        → Follows (choice_plan me leaves st) calls chosen
+        → (calls ≡ []) × (chosen ≡ (Choice.Open None, st)) }
+    ensures last { (s : Settings) (me : ℕ) (choice : Choice) (st : RunState) (tick : ℕ)
+        (calls : List Call)
+        (next : RunState)
+        → Follows (clocked s me (choice, st) tick) calls (Next next)
+        → next.last_look ≡ look_after tick choice st.maker st.last_look }
+{}
+
+/// Law: where a Hello is due at the end of a turn, a plain Hello is sent to each other configured node, in ascending order of their
+/// ranks, then one to each that says what the last look found, and then the view that the node announces.
+pub fn law_hellos()
+    ensures { (s : Settings) (me : ℕ) (st : RunState) (m : Maker) (calls : List Call)
+        (next : RunState)
+        → maker_of s me st ≡ Some m
+        → is_hello_due (now st.log) m ≡ true
+        → Follows (greeted s me st) calls (Next next)
+        → map blank calls ≡ map send_call (hellos_of s me m) }
 {}
 
 /// Law: a run in which no call failed was not halted in its boot by a failed call, and one in which no tick fell did not end

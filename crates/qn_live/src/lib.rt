@@ -6,7 +6,8 @@
 //! are what the clock told (`law_handed_history`), and the calls without
 //! receive, now, Hello and Announce are the outputs of that history, in order (`law_outputs`). Where no call fails and no
 //! tick falls, no run ends because of the clock or of a failed step of the boot (`law_sound_end`), and a failed call halts
-//! a boot only by the disk operation that it was made for (`law_boot_halted`). `NodeRun` is the same run as a machine, which
+//! a boot only by the disk operation that it was made for (`law_boot_halted`). A Hello is said in both its forms (`law_hellos`), and a
+//! turn takes no packet where the last look of the view maker is a loop ago (`law_late_look`). `NodeRun` is the same run as a machine, which
 //! names its next call and takes its answer; an entry is taken in at each look at the clock that did not go back (`answer`), and
 //! `standing` is what the log says. `Notices` are told of each call, and change nothing. No call takes memory from an allocator.
 //!
@@ -45,8 +46,8 @@ pub use calling::call;
 pub use disk::{answer, done};
 pub use images_run::ImagesRun;
 pub use laws::{
-    law_boot_halted, law_end_causes, law_handed_history, law_one_end, law_one_history,
-    law_operation, law_outputs, law_rest, law_sound_end,
+    law_boot_halted, law_end_causes, law_handed_history, law_hellos, law_late_look, law_one_end,
+    law_one_history, law_operation, law_outputs, law_rest, law_sound_end,
 };
 pub use live_end::LiveEnd;
 pub use node_images::NodeImages;

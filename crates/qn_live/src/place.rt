@@ -1,6 +1,6 @@
 //! Where a running node stands between two calls.
 use crate::live_end::LiveEnd;
-use qn_base::View;
+use qn_base::{Said, View};
 use qn_model::{Packet, What};
 
 /// What a turn takes, before its tick is known.
@@ -22,7 +22,10 @@ pub struct Waits {
 /// What a node sends to every other node where a Hello is due.
 #[derive(Clone, Copy)]
 pub enum Greeting {
+    /// A plain Hello, for nodes of older versions.
     Hello,
+    /// A Hello with what the last look found, taken when this greeting begins.
+    Heard(Said),
     /// The view that the node announces.
     Announce(View),
 }

@@ -4,8 +4,8 @@ ghost use Rattle.qn_node.specs.Node.{steps_of};
 ghost use Rattle.qn_live.specs.Places.{pending};
 
 use crate::asked::{Asked, Given, Room};
-use crate::choosing::{choose, failed_answer, look, loop_after, ready};
-use crate::greeting::{announced, farewell, greeting_packet, hello_due, keep_member};
+use crate::choosing::{choose, failed_answer, look, look_after, loop_after, ready};
+use crate::greeting::{farewell, greeting_after, greeting_packet, hello_due, keep_member};
 use crate::live_end::LiveEnd;
 use crate::outputs::{self, end_in, operation_in, waits_after};
 use crate::place::{Choice, Greeting, Place, Waits};
@@ -32,6 +32,8 @@ pub struct NodeRun {
     waits: Waits,
     /// Whether the last entry was a failed answer of the disk, so that the turn after it takes none.
     rests: bool,
+    /// The tick of the last look of the view maker, or of the last entry while there is none.
+    last_look: u64,
     /// The number of the present turn, from 1, and how many turns follow it.
     turn: u64,
     after: u64,
@@ -56,7 +58,7 @@ impl NodeRun {
     ghost use Rattle.qn_model.specs.Settings.{IsValid};
     ghost use Rattle.qn_node.specs.Outputs.{IsNodeOutput};
     ghost use Rattle.qn_live.specs.Asking.{IsServed, IsWithin, is_look, question_of, Tells};
-    ghost use Rattle.qn_live.specs.Choosing.{is_to_leave};
+    ghost use Rattle.qn_live.specs.Choosing.{is_late, is_to_leave};
     ghost use Rattle.qn_live.specs.Greetings.{farewells, greeting_call, others_from, to_send};
     ghost use Rattle.qn_live.specs.Machine.{EndsWith, HasMore, IsStanding, IsUnderWay, KeepsEntry, RunFor, Stands, TookIn, acting, begun, clocking, ending, looks_next, next_of, operation_of, parting, saying, settling, state_of, work};
     ghost use Rattle.qn_live.specs.Halts.{is_on_disk};
@@ -96,6 +98,7 @@ impl NodeRun {
                 disk: None,
             },
             rests: false,
+            last_look: 0,
             turn: 1,
             after: turns - 1,
             entry: What::Tick,
@@ -300,7 +303,7 @@ impl NodeRun {
         ensures runs { (log : List Line)
             → Stands self.old log
             → RunFor self.new (clocking self.old log choice tick) }
-        ensures work { work self.new < 128 * self.old.after + 126 }
+        ensures work { work self.new < 192 * self.old.after + 190 }
         ensures settings { self.new.settings ≡ self.old.settings }
         ensures rank { self.new.me ≡ self.old.me }
         ensures took { (log : List Line)
@@ -316,6 +319,7 @@ impl NodeRun {
             });
             return;
         }
+        self.last_look = look_after(choice, &self.member, tick, self.last_look);
         let what = look(&mut self.member, choice, tick);
         self.place = Place::Act { at: 0 };
         self.tick = tick;
@@ -338,7 +342,7 @@ impl NodeRun {
             → blank call ≡ out_call self.old.settings self.old.me.0 (own_number log) out
             → RunFor self.new
             (acting self.old (noted self.old.settings out call (state_of self.old log)) (at + 1)) }
-        ensures work { work self.new < 128 * self.old.after + 80 + (41 - at) }
+        ensures work { work self.new < 192 * self.old.after + 120 + (41 - at) }
         ensures settings { self.new.settings ≡ self.old.settings }
         ensures rank { self.new.me ≡ self.old.me }
         ensures keeps { KeepsEntry self.old self.new }
@@ -354,7 +358,7 @@ impl NodeRun {
             → Stands self.old log
             → All (IsNodeOutput self.old.settings) self.old.outs
             → RunFor self.new (acting self.old (state_of self.old log) at) }
-        ensures work { work self.new < 128 * self.old.after + 80 + (42 - at) }
+        ensures work { work self.new < 192 * self.old.after + 120 + (42 - at) }
         ensures settings { self.new.settings ≡ self.old.settings }
         ensures rank { self.new.me ≡ self.old.me }
         ensures keeps { KeepsEntry self.old self.new }
@@ -371,7 +375,7 @@ impl NodeRun {
         ensures runs { (log : List Line)
             → Stands self.old log
             → RunFor self.new (settling self.old log) }
-        ensures work { work self.new < 128 * self.old.after + 80 }
+        ensures work { work self.new < 192 * self.old.after + 120 }
         ensures settings { self.new.settings ≡ self.old.settings }
         ensures rank { self.new.me ≡ self.old.me }
         ensures keeps { KeepsEntry self.old self.new }
@@ -400,7 +404,7 @@ impl NodeRun {
         ensures runs { (log : List Line)
             → Stands self.old log
             → RunFor self.new (ending self.old log end) }
-        ensures work { work self.new < 128 * self.old.after + 80 }
+        ensures work { work self.new < 192 * self.old.after + 120 }
         ensures settings { self.new.settings ≡ self.old.settings }
         ensures rank { self.new.me ≡ self.old.me }
         ensures keeps { KeepsEntry self.old self.new }
@@ -446,7 +450,7 @@ impl NodeRun {
             → Stands self.old log
             → RunFor self.new (saying self.old log
             (to_send self.old.settings self.old.me.0 self.old.member greeting from)) }
-        ensures work { work self.new < 128 * self.old.after + 1 + calls_of_greeting greeting from }
+        ensures work { work self.new < 192 * self.old.after + 1 + calls_of_greeting greeting from }
         ensures settings { self.new.settings ≡ self.old.settings }
         ensures rank { self.new.me ≡ self.old.me }
         ensures keeps { KeepsEntry self.old self.new }
@@ -472,12 +476,9 @@ impl NodeRun {
         if let Some(to) = self.other_from(from) {
             return Some((greeting, to));
         }
-        let view = match greeting {
-            Greeting::Hello => announced(&self.member)?,
-            Greeting::Announce(_) => return None,
-        };
+        let next = greeting_after(greeting, &self.member)?;
         let to = self.other_from(0)?;
-        Some((Greeting::Announce(view), to))
+        Some((next, to))
     }
 
     /// The least other configured rank from that one on.
@@ -508,7 +509,7 @@ impl NodeRun {
         ensures runs { (log : List Line)
             → Stands self.old log
             → RunFor self.new (next_of self.old (state_of self.old log)) }
-        ensures work { work self.new ≤ 128 * self.old.after }
+        ensures work { work self.new ≤ 192 * self.old.after }
         ensures settings { self.new.settings ≡ self.old.settings }
         ensures rank { self.new.me ≡ self.old.me }
         ensures keeps { KeepsEntry self.old self.new }
@@ -542,7 +543,7 @@ impl NodeRun {
         ensures runs { (log : List Line)
             → Stands self.old log
             → RunFor self.new (begun self.old log) }
-        ensures work { work self.new ≤ 128 * self.old.after + 127 }
+        ensures work { work self.new ≤ 192 * self.old.after + 191 }
         ensures settings { self.new.settings ≡ self.old.settings }
         ensures rank { self.new.me ≡ self.old.me }
         ensures keeps { KeepsEntry self.old self.new }
@@ -552,8 +553,23 @@ impl NodeRun {
                 self.waits = waits;
                 self.place = Place::Now(Choice::Whole(entry));
             }
-            None => self.place = Place::Receive,
+            None => {
+                if self.is_late() {
+                    self.place = Place::Now(Choice::Open(None));
+                } else {
+                    self.place = Place::Receive;
+                }
+            }
         }
+    }
+
+    /// Whether the last look of the view maker is a loop ago or more, so that the turn takes no packet and looks.
+    fn is_late(&self) -> bool
+        ensures { (log : List Line)
+            → Stands self.now log
+            → result ≡ is_late (state_of self.now log) }
+    {
+        self.member.is_some() && self.tick.saturating_sub(self.last_look) >= self.loop_ms
     }
 
     /// Whether the node is to leave at the present turn.

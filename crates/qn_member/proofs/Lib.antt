@@ -1,6 +1,12 @@
 pub mod Calls
+pub mod Company
+pub mod Differs
+pub mod Follows
+pub mod Heard
 pub mod Kept
+pub mod Lasting
 pub mod Least
+pub mod Owning
 pub mod Ranks
 mod Rows
-mod Settles
+pub mod Settles

@@ -162,3 +162,12 @@ member_of-ranks_that test (suc count) rank =
     added_bit (ranks_that test count) count rank (test count)
     ∙ (ap (λ b. test count && count == rank || b) (member_of-ranks_that test count rank)
     ∙ one_test_more test count rank (test count) refl (cases_lt rank count))
+
+-- tests that agree below a number have the same set
+pub ranks_that-same : (one other : ℕ → Bool) (count : ℕ) → ((rank : ℕ) → rank < count → one rank ≡ other rank) → ranks_that one count ≡ ranks_that other count
+unfolding ranks_that
+ranks_that-same one other zero same = refl
+ranks_that-same one other (suc count) same =
+    let rest = ranks_that-same one other count (λ rank below. same rank (omega arith)) in
+    ap (λ b. cond b (bit_or (ranks_that one count) (2 ^ count)) (ranks_that one count)) (same count (omega arith))
+    ∙ ap (λ n. cond (other count) (bit_or n (2 ^ count)) n) rest

@@ -8,10 +8,14 @@
 mod change;
 mod laws;
 mod member;
+mod told;
 
 pub use change::Change;
 pub use laws::{
-    law_changes, law_configured_members, law_first_view, law_greatest, law_heard, law_own_views,
-    law_views_settle, law_visible_nodes,
+    law_changes, law_companies_apart, law_configured_members, law_first_view,
+    law_followers_are_enough, law_follows, law_forgotten, law_greatest, law_heard,
+    law_leader_has_enough, law_leads, law_one_side, law_own_views, law_views_settle,
+    law_views_settle_at_last, law_visible_nodes,
 };
 pub use member::Member;
+pub use told::Told;

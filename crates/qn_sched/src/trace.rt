@@ -295,6 +295,7 @@ fn packet_name(packet: Packet) -> &'static str
         Packet::Hello { .. } => "hello",
         Packet::Announce { .. } => "announce",
         Packet::Vote { .. } => "vote",
+        Packet::Heard { .. } => "heard",
     }
 }
 

@@ -53,7 +53,7 @@ impl Simulation {
                 flight.number = Some(host.to_send);
                 host.to_send = host.to_send.saturating_add(1);
             }
-            Some(Packet::Hello { .. }) => flight.hello = true,
+            Some(Packet::Hello { .. } | Packet::Heard { .. }) => flight.hello = true,
             _ => {}
         }
         Some(flight)

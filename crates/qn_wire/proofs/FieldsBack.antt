@@ -1,16 +1,20 @@
 -- The fields of a well formed packet are read back from its bytes.
-use Rattle.std.proofs.Common.{◌≡◌, ◌^◌, ℕ, Bool, true, false, ◌==◌, ◌+◌, ◌%◌, nat_le, slice_index, cond, List, [], ◌∷◌, ◌++◌, Some, refl, ap}
+use Rattle.std.proofs.Common.{◌≡◌, ◌^◌, ℕ, Bool, true, false, ◌==◌, ◌+◌, ◌%◌, nat_le, slice_index, cond, List, [], ◌∷◌, ◌++◌, Option, None, Some, refl, ap, arith}
 use Rattle.std.specs.Int.{bytes_high_first}
+use Rattle.std.specs.Option.{option_map_or}
 use Rattle.std.proofs.lemmas.Bool.{and_parts, ltb-true}
+use Rattle.std.proofs.lemmas.Bool.Decides.{nat_tests}
 use Rattle.byteorder.specs.Numbers.{big_number-reads_back}
+use Rattle.qn_base.specs.declared.ids.Rank.{Rank}
+use Rattle.qn_base.specs.declared.ids.Said.{Said}
 use Rattle.qn_base.specs.declared.ids.View.{View}
 use Rattle.qn_base.specs.lemmas.Bools.{cond_is_one}
 use Rattle.qn_model.specs.declared.packets.Ask.{Ask}
 use Rattle.qn_model.specs.declared.packets.Tell.{Tell}
 use Rattle.qn_model.specs.declared.packets.Packet.{Packet}
 use Rattle.qn_model.specs.declared.packets.Packet.TheVariants as packet
-use Rattle.qn_wire.specs.Packets.{packet_bytes, head_bytes, view_bytes, ask_fields, as_ask, is_ask, is_view, is_well_formed}
-use Rattle.qn_wire.specs.Reading.{fields_of, ask_at, tell_at, view_at}
+use Rattle.qn_wire.specs.Packets.{packet_bytes, head_bytes, view_bytes, said_bytes, follows_byte, ask_fields, as_ask, is_ask, is_rank, is_said, is_view, is_well_formed}
+use Rattle.qn_wire.specs.Reading.{fields_of, ask_at, follows_at, said_at, tell_at, view_at}
 
 same_view : (first second : View) → first.id ≡ second.id → first.members.0 ≡ second.members.0 → first ≡ second
 same_view first second same_id same_members = rw (same_id, same_members) refl
@@ -23,6 +27,26 @@ view_at-view_bytes view rest is =
     same_view (view_at 0 (view_bytes view ++ rest)) view
     (big_number-reads_back 8 view.id (bytes_high_first 4 view.members.0 ++ rest) id_fits)
     (big_number-reads_back 4 view.members.0 rest members_fit)
+
+-- whom a node follows is read back from its byte: no rank is 32
+follows_back : (follows : Option Rank) → option_map_or is_rank follows true ≡ true → follows_at (follows_byte follows) ≡ follows
+follows_back None is = refl
+follows_back (Some rank) is =
+    let below = ltb-true rank.0 32 is in
+    let other : (rank.0 == 32) ≡ false = grind (arith, nat_tests) in
+    rw other refl
+
+same_said : (first second : Said) → first.hears.0 ≡ second.hears.0 → first.follows ≡ second.follows → first.able ≡ second.able → first ≡ second
+same_said first second hears follows able = rw (hears, follows, able) refl
+
+said_at-said_bytes : (from : Rank) (said : Said) → is_said from said ≡ true → said_at (head_bytes 8 ++ from.0 ∷ [] ++ said_bytes said) ≡ said
+said_at-said_bytes from said is =
+    let tests = and_parts _ _ is in
+    let hears_fit = ltb-true said.hears.0 (2 ^ 32) (and_parts _ _ tests.0).0 in
+    same_said (said_at (head_bytes 8 ++ from.0 ∷ [] ++ said_bytes said)) said
+    (big_number-reads_back 4 said.hears.0 (follows_byte said.follows ∷ cond said.able 1 0 ∷ []) hears_fit)
+    (follows_back said.follows tests.1)
+    (cond_is_one said.able)
 
 same_ask : (first second : Ask) → first.from ≡ second.from → first.to ≡ second.to → first.incarnation ≡ second.incarnation → first.install ≡ second.install → first.view ≡ second.view → first ≡ second
 same_ask first second from to incarnation install view = rw (from, to, incarnation, install, view) refl
@@ -73,3 +97,5 @@ fields_of-packet_bytes (packet.Hello from) is = refl
 fields_of-packet_bytes (packet.Announce from view) is =
     ap (λ x. Some (packet.Announce from x)) (view_at-view_bytes view [] (and_parts _ _ is).1)
 fields_of-packet_bytes (packet.Vote agrees) is = ap (λ x. Some (packet.Vote x)) (cond_is_one agrees)
+fields_of-packet_bytes (packet.Heard from said) is =
+    ap (λ x. Some (packet.Heard from x)) (said_at-said_bytes from said (and_parts _ _ is).1)

@@ -1,2 +1,3 @@
 pub mod FieldsBack
+mod Rows
 pub mod Spelling

@@ -1,9 +1,12 @@
 -- The bytes of packets: this project's profile. A packet is `QN`, a byte for its kind, and then its fields. A rank
 -- is one byte, and numbers are big-endian.
-use Rattle.std.specs.Prelude.{◌≡◌, ℕ, Bool, true, IsTrue, ◌&&◌, ◌+◌, ◌^◌, nat_lt, List, [], ◌∷◌, ◌++◌, codes, cond}
+use Rattle.std.specs.Prelude.{◌≡◌, ℕ, Bool, true, IsTrue, ◌&&◌, ◌+◌, ◌^◌, nat_lt, List, [], ◌∷◌, ◌++◌, codes, cond, Option}
 use Rattle.std.specs.Int.{bytes_high_first}
+use Rattle.std.specs.Option.{option_map_or}
 use Rattle.qn_base.specs.declared.ids.Rank.{Rank}
+use Rattle.qn_base.specs.declared.ids.Said.{Said}
 use Rattle.qn_base.specs.declared.ids.View.{View}
+use Rattle.qn_base.specs.Members.{is_member}
 use Rattle.qn_model.specs.declared.packets.Ask.{Ask}
 use Rattle.qn_model.specs.declared.packets.Tell.{Tell}
 use Rattle.qn_model.specs.declared.packets.Packet.{Packet}
@@ -16,6 +19,13 @@ head_bytes kind = codes "QN" ++ kind ∷ []
 -- a view: its id, and its members, where bit r stands for rank r
 abbrev pub view_bytes : View → List ℕ
 view_bytes view = bytes_high_first 8 view.id ++ bytes_high_first 4 view.members.0
+
+-- what a Hello says: whom its sender hears, where bit r stands for rank r; whom it follows, 32 for nobody; 1 where it is able
+abbrev pub follows_byte : Option Rank → ℕ
+follows_byte follows = option_map_or (λ rank. rank.0) follows 32
+
+abbrev pub said_bytes : Said → List ℕ
+said_bytes said = bytes_high_first 4 said.hears.0 ++ follows_byte said.follows ∷ cond said.able 1 0 ∷ []
 
 -- from, to, incarnation, install number and view
 abbrev pub ask_fields : Ask → List ℕ
@@ -35,6 +45,7 @@ packet_bytes (packet.Tell tell) =
 packet_bytes (packet.Hello from) = head_bytes 3 ++ from.0 ∷ []
 packet_bytes (packet.Announce from view) = head_bytes 4 ++ from.0 ∷ [] ++ view_bytes view
 packet_bytes (packet.Vote agrees) = head_bytes 5 ++ cond agrees 1 0 ∷ []
+packet_bytes (packet.Heard from said) = head_bytes 8 ++ from.0 ∷ [] ++ said_bytes said
 
 -- a rank is below 32
 abbrev pub is_rank : Rank → Bool
@@ -43,6 +54,11 @@ is_rank rank = nat_lt rank.0 32
 -- a view has a member, and its numbers fit their bytes
 abbrev pub is_view : View → Bool
 is_view view = nat_lt view.id (2 ^ 64) && nat_lt 0 view.members.0 && nat_lt view.members.0 (2 ^ 32)
+
+-- a node hears itself, and follows a rank or nobody; the set fits its bytes
+abbrev pub is_said : Rank → Said → Bool
+is_said from said =
+    nat_lt said.hears.0 (2 ^ 32) && is_member said.hears from.0 && option_map_or is_rank said.follows true
 
 -- the fields of an Ask, which a Tell has too, are in their ranges
 abbrev pub is_ask : Ask → Bool
@@ -56,6 +72,7 @@ is_well_formed (packet.Tell tell) = is_ask (as_ask tell)
 is_well_formed (packet.Hello from) = is_rank from
 is_well_formed (packet.Announce from view) = is_rank from && is_view view
 is_well_formed (packet.Vote agrees) = true
+is_well_formed (packet.Heard from said) = is_rank from && is_said from said
 
 -- the bytes are the spelling of this packet, which is well formed
 pub record Spells (bytes : List ℕ) (packet : Packet) : Type 0 where

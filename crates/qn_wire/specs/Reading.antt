@@ -4,6 +4,7 @@ use Rattle.std.specs.Prelude.{ℕ, ◌+◌, ◌%◌, ◌&&◌, ◌==◌, nat_le,
 use Rattle.std.specs.Str.{bytes_eq}
 use Rattle.byteorder.specs.Endian.{big_number}
 use Rattle.qn_base.specs.declared.ids.Rank.{Rank}
+use Rattle.qn_base.specs.declared.ids.Said.{Said}
 use Rattle.qn_base.specs.declared.ids.View.{View}
 use Rattle.qn_model.specs.declared.packets.Ask.{Ask}
 use Rattle.qn_model.specs.declared.packets.Tell.{Tell}
@@ -19,6 +20,19 @@ rank_at place bytes = record { 0 = slice_index bytes place }
 abbrev pub view_at : ℕ → List ℕ → View
 view_at place bytes =
     record { id = big_number 8 (drop place bytes); members = record { 0 = big_number 4 (drop (place + 8) bytes) } }
+
+-- whom a node follows by its byte: 32 is nobody
+abbrev pub follows_at : ℕ → Option Rank
+follows_at byte = if byte == 32 then None else Some (record { 0 = byte })
+
+-- what a Hello says
+abbrev pub said_at : List ℕ → Said
+said_at bytes =
+    record {
+      hears = record { 0 = big_number 4 (drop 4 bytes) };
+      follows = follows_at (slice_index bytes 8);
+      able = slice_index bytes 9 == 1;
+    }
 
 -- the fields of an Ask, which a Tell has too
 abbrev pub ask_at : List ℕ → Ask
@@ -54,6 +68,7 @@ fields_of kind bytes =
     else if kind == 3 && length bytes == 4 then Some (packet.Hello (rank_at 3 bytes))
     else if kind == 4 && length bytes == 16 then Some (packet.Announce (rank_at 3 bytes) (view_at 4 bytes))
     else if kind == 5 && length bytes == 4 then Some (packet.Vote (slice_index bytes 3 == 1))
+    else if kind == 8 && length bytes == 10 then Some (packet.Heard (rank_at 3 bytes) (said_at bytes))
     else None
 
 -- the packet that the bytes spell

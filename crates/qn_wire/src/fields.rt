@@ -1,10 +1,10 @@
 //! The bytes of a packet while it is put together, field by field.
-ghost use Rattle.std.specs.Prelude.{◌≡◌, ◌+◌, ◌≤◌, ◌++◌};
+ghost use Rattle.std.specs.Prelude.{◌≡◌, ◌+◌, ◌≤◌, ◌++◌, cond};
 ghost use Rattle.arrayvec.specs.ArrayVec.{array_vec_len};
-ghost use Rattle.qn_wire.specs.Packets.{head_bytes, view_bytes};
+ghost use Rattle.qn_wire.specs.Packets.{follows_byte, head_bytes, said_bytes, view_bytes};
 
 use arrayvec::ArrayVec;
-use qn_base::{View, add, add_u32, add_u64};
+use qn_base::{Rank, Said, View, add, add_u32, add_u64};
 
 /// The bytes of a packet that is being put together.
 pub type Spelling = ArrayVec<u8, 128>;
@@ -24,4 +24,30 @@ pub fn add_view(spelling: &mut Spelling, view: View)
 {
     add_u64(spelling, view.id);
     add_u32(spelling, view.members.0);
+}
+
+pub fn add_said(spelling: &mut Spelling, said: Said)
+    requires { array_vec_len spelling.old + 6 ≤ 128 }
+    ensures { spelling.new.items ≡ spelling.old.items ++ said_bytes said }
+{
+    add_u32(spelling, said.hears.0);
+    add(
+        spelling,
+        &[follows_byte(said.follows), able_byte(said.able)],
+    );
+}
+
+fn able_byte(able: bool) -> u8
+    ensures { result ≡ cond able 1 0 }
+{
+    u8::from(able)
+}
+
+fn follows_byte(follows: Option<Rank>) -> u8
+    ensures { result ≡ follows_byte follows }
+{
+    match follows {
+        Some(rank) => rank.0,
+        None => 32,
+    }
 }

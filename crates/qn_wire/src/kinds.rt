@@ -9,3 +9,5 @@ pub const HELLO: u8 = 3;
 pub const ANNOUNCE: u8 = 4;
 
 pub const VOTE: u8 = 5;
+
+pub const HEARD: u8 = 8;

@@ -1,15 +1,15 @@
 //! Reads bytes as a packet.
-ghost use Rattle.std.specs.Prelude.{◌≡◌, ◌≤◌, ◌+◌, length, IfSome, IfNone};
+ghost use Rattle.std.specs.Prelude.{◌≡◌, ◌≤◌, ◌<◌, ◌+◌, length, IfSome, IfNone};
 ghost use Rattle.qn_base.specs.declared.ids.Rank.{Rank};
 ghost use Rattle.qn_model.specs.declared.packets.Packet.{Packet};
-ghost use Rattle.qn_wire.specs.Packets.{is_rank, is_view, is_ask, is_well_formed, Spells};
-ghost use Rattle.qn_wire.specs.Reading.{packet_of, fields_of, view_at, ask_at, tell_at};
+ghost use Rattle.qn_wire.specs.Packets.{is_rank, is_said, is_view, is_ask, is_well_formed, Spells};
+ghost use Rattle.qn_wire.specs.Reading.{packet_of, fields_of, follows_at, said_at, view_at, ask_at, tell_at};
 
-use crate::kinds::{ANNOUNCE, ASK, HELLO, TELL, VOTE};
+use crate::kinds::{ANNOUNCE, ASK, HEARD, HELLO, TELL, VOTE};
 use crate::writing::{as_ask, put_packet};
 use arrayvec::ArrayVec;
 use byteorder::{BigEndian, ByteOrder};
-use qn_base::{Mask, Rank, View};
+use qn_base::{Mask, Rank, Said, View};
 use qn_model::{Ask, Packet, Tell};
 
 /// The packet that these bytes spell: its ranks are below 32, and its view has members.
@@ -52,6 +52,10 @@ fn read_fields(kind: u8, from: &[u8]) -> Option<Packet>
             view: read_view(4, from),
         }),
         (VOTE, 4) => Some(Packet::Vote { yes: from[3] == 1 }),
+        (HEARD, 10) => Some(Packet::Heard {
+            from: Rank(from[3]),
+            said: read_said(from),
+        }),
         _ => None,
     }
 }
@@ -86,6 +90,23 @@ fn read_tell(from: &[u8]) -> Tell
     }
 }
 
+fn read_said(from: &[u8]) -> Said
+    requires { 10 ≤ length from.now }
+    ensures { result ≡ said_at from.now }
+{
+    Said {
+        hears: Mask(BigEndian::read_u32(from.split_at(4).1)),
+        follows: read_follows(from[8]),
+        able: from[9] == 1,
+    }
+}
+
+fn read_follows(byte: u8) -> Option<Rank>
+    ensures { result ≡ follows_at byte }
+{
+    if byte == 32 { None } else { Some(Rank(byte)) }
+}
+
 fn read_view(place: usize, from: &[u8]) -> View
     requires { place + 12 ≤ length from.now }
     ensures { result ≡ view_at place from.now }
@@ -105,6 +126,7 @@ fn is_well_formed(packet: &Packet) -> bool
         Packet::Hello { from } => is_rank(*from),
         Packet::Announce { from, view } => is_rank(*from) && is_view(*view),
         Packet::Vote { .. } => true,
+        Packet::Heard { from, said } => is_rank(*from) && is_said(*from, *said),
     }
 }
 
@@ -112,6 +134,17 @@ fn is_ask(ask: Ask) -> bool
     ensures { result ≡ is_ask ask }
 {
     is_rank(ask.from) && is_rank(ask.to) && is_view(ask.view)
+}
+
+fn is_said(from: Rank, said: Said) -> bool
+    requires { from.0 < 32 }
+    ensures { result ≡ is_said from said }
+{
+    said.hears.contains(from)
+        && match said.follows {
+            Some(rank) => is_rank(rank),
+            None => true,
+        }
 }
 
 fn is_view(view: View) -> bool

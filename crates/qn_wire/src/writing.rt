@@ -4,7 +4,7 @@ ghost use Rattle.arrayvec.specs.ArrayVec.{array_vec_len};
 ghost use Rattle.qn_wire.specs.Packets.{packet_bytes, ask_fields, as_ask};
 
 use crate::fields::{self, Spelling};
-use crate::kinds::{ANNOUNCE, ASK, HELLO, TELL, VOTE};
+use crate::kinds::{ANNOUNCE, ASK, HEARD, HELLO, TELL, VOTE};
 use arrayvec::ArrayVec;
 use qn_base::{add, add_u64};
 use qn_model::{Ask, Packet, Tell};
@@ -38,6 +38,11 @@ pub fn put_packet(packet: &Packet, into: &mut ArrayVec<u8, 128>)
         Packet::Vote { yes } => {
             fields::begin(into, VOTE);
             add(into, &[u8::from(*yes)]);
+        }
+        Packet::Heard { from, said } => {
+            fields::begin(into, HEARD);
+            add(into, &[from.0]);
+            fields::add_said(into, *said);
         }
     }
 }

@@ -3,7 +3,7 @@ ghost use Rattle.std.specs.Prelude.{◌≡◌, ◌<◌, ◌^◌, ℕ, Bool, Some
 ghost use Rattle.qn_base.specs.Decimal.{number_of};
 ghost use Rattle.qn_base.specs.Text.{yes_no};
 
-use qn_base::{Mask, NodeId, Rank, View, read_decimal};
+use qn_base::{Mask, NodeId, Rank, Said, View, read_decimal};
 use std::alloc::{AllocError, Global};
 use std::io::{self, ErrorKind};
 
@@ -110,6 +110,23 @@ pub fn read_view(id: &str, members: &str) -> Option<View>
     let id = read_number(id)?;
     let members = read_members(members)?;
     Some(View { id, members })
+}
+
+/// What a Hello says: whom its sender hears, whom it follows and whether it is able; `-` is nobody.
+pub fn read_said(hears: &str, follows: &str, able: &str) -> Option<Said> {
+    let hears = match hears {
+        "-" => Mask(0),
+        _ => read_members(hears)?,
+    };
+    let follows = match follows {
+        "-" => None,
+        _ => Some(read_rank(follows)?),
+    };
+    Some(Said {
+        hears,
+        follows,
+        able: read_truth(able)?,
+    })
 }
 
 /// The members of a view: ranks below 32, joined by commas.

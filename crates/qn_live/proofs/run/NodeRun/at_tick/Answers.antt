@@ -28,7 +28,7 @@ returns-clause-runs c = λ log stands.
     let outs = c.step.ensures.outs run.settings run.me.0 log stands.stands before in
     stands_too
     (ap (λ p. p >>= later (next_of run))
-    (clocked_on run.settings run.me.0 c.args.choice (state_of run log) c.args.tick c.look-what.new.member c.look-what.result c.loop_after-self.result c.failed_answer-self.result c.step.new.outs before c.look-what.ensures c.loop_after-self.ensures c.failed_answer-self.ensures outs))
+    (clocked_on run.settings run.me.0 c.args.choice (state_of run log) c.args.tick c.look-what.new.member c.look-what.result c.loop_after-self.result c.failed_answer-self.result c.look_after-self.result c.step.new.outs before c.look-what.ensures c.loop_after-self.ensures c.failed_answer-self.ensures c.look_after-self.ensures outs))
     (c.act.ensures.runs (with_entry run.settings run.me.0 log (record { tick = c.args.tick; what = c.look-what.result })) (record { valid = stands.valid; stands = c.step.ensures.stands run.settings run.me.0 log stands.stands before; at = refl }) (c.step.ensures.ranks run.settings run.me.0 log stands.stands before))
 
 pub returns-clause-took : goal.returns-clause-took

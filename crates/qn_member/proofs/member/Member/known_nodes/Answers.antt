@@ -1,6 +1,6 @@
-use Rattle.std.proofs.Common.{◌<◌, ◌^◌, refl, sym, ◌∙◌, ap, arith}
+use Rattle.std.proofs.Common.{◌<◌, ◌^◌, length, refl, sym, ◌∙◌, ap, arith}
 use Rattle.qn_member.specs.Maker.{is_known, ranks_that}
-use Rattle.qn_member.proofs.Ranks.{with_passing, without_passing}
+use Rattle.qn_member.proofs.Ranks.{all_ranks-lt, with_passing, without_passing}
 use Rattle.qn_member.proofs.member.Member.known_nodes.Goals as goal
 use Rattle.qn_member.proofs.member.Member.known_nodes.Goals.{then-is_known, else-is_known}
 
@@ -11,13 +11,18 @@ loop-rank-init c = refl
 pub loop-rank-preserved : goal.loop-rank-preserved
 loop-rank-preserved c =
     let rank = c.loop-rank.rank in
-    let before = c.loop-rank.known.0 in
-    let test = is_known c.args.tick c.args.self.now in
+    let before = c.loop-rank.found.0 in
+    let test = is_known c.args.self.now c.args.company in
     let within : rank < 32 = omega arith in
     elim c.if-is_known.branch [
-      | then-is_known w ↦ (let fits : w.with-known.result.0 < 2 ^ 32 = omega arith in
-          ap (λ mask. mask.0) w.known-is
-          ∙ with_passing test before w.with-known.result.0 rank within fits (sym c.is_known.ensures ∙ w.if-is_known.true) c.loop-rank.invariant w.with-known.ensures)
+      | then-is_known w ↦ (let fits : w.with-found.result.0 < 2 ^ 32 = omega arith in
+          ap (λ mask. mask.0) w.found-is
+          ∙ with_passing test before w.with-found.result.0 rank within fits (sym c.is_known.ensures ∙ w.if-is_known.true) c.loop-rank.invariant w.with-found.ensures)
       | else-is_known w ↦
-          ap (λ mask. mask.0) w.known-is ∙ without_passing test before rank (sym c.is_known.ensures ∙ w.if-is_known.false) c.loop-rank.invariant
+          ap (λ mask. mask.0) w.found-is ∙ without_passing test before rank (sym c.is_known.ensures ∙ w.if-is_known.false) c.loop-rank.invariant
     ]
+
+pub returns-clause-configured : goal.returns-clause-configured
+returns-clause-configured c =
+    let test = is_known c.args.self.now c.args.company in
+    all_ranks-lt test c.loop-rank.found.0 (length c.args.self.now.nodes) c.loop-rank.rank (omega arith) (omega arith) c.loop-rank.invariant

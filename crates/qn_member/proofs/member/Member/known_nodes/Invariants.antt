@@ -3,4 +3,4 @@ use Rattle.qn_member.specs.Maker.{is_known, ranks_that}
 use Rattle.qn_member.proofs.member.Member.known_nodes.Given as goal
 
 abbrev pub invariant-loop-rank : goal.invariant-loop-rank
-invariant-loop-rank l = l.known.0 ≡ ranks_that (is_known l.tick l.self) l.rank
+invariant-loop-rank l = l.found.0 ≡ ranks_that (is_known l.self l.company) l.rank

@@ -11,18 +11,18 @@ loop-rank-init c = refl
 pub loop-rank-preserved : goal.loop-rank-preserved
 loop-rank-preserved c =
     let rank = c.loop-rank.rank in
-    let before = c.loop-rank.visible.0 in
+    let before = c.loop-rank.found.0 in
     let test = is_visible c.args.tick c.args.self.now in
     let within : rank < 32 = omega arith in
     elim c.if-is_visible.branch [
-      | then-is_visible w ↦ (let fits : w.with-visible.result.0 < 2 ^ 32 = omega arith in
-          ap (λ mask. mask.0) w.visible-is
-          ∙ with_passing test before w.with-visible.result.0 rank within fits (sym c.is_visible.ensures ∙ w.if-is_visible.true) c.loop-rank.invariant w.with-visible.ensures)
+      | then-is_visible w ↦ (let fits : w.with-found.result.0 < 2 ^ 32 = omega arith in
+          ap (λ mask. mask.0) w.found-is
+          ∙ with_passing test before w.with-found.result.0 rank within fits (sym c.is_visible.ensures ∙ w.if-is_visible.true) c.loop-rank.invariant w.with-found.ensures)
       | else-is_visible w ↦
-          ap (λ mask. mask.0) w.visible-is ∙ without_passing test before rank (sym c.is_visible.ensures ∙ w.if-is_visible.false) c.loop-rank.invariant
+          ap (λ mask. mask.0) w.found-is ∙ without_passing test before rank (sym c.is_visible.ensures ∙ w.if-is_visible.false) c.loop-rank.invariant
     ]
 
 pub returns-clause-configured : goal.returns-clause-configured
 returns-clause-configured c =
     let test = is_visible c.args.tick c.args.self.now in
-    all_ranks-lt test c.loop-rank.visible.0 (length c.args.self.now.nodes) c.loop-rank.rank (omega arith) (omega arith) c.loop-rank.invariant
+    all_ranks-lt test c.loop-rank.found.0 (length c.args.self.now.nodes) c.loop-rank.rank (omega arith) (omega arith) c.loop-rank.invariant

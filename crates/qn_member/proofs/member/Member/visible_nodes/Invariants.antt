@@ -3,4 +3,4 @@ use Rattle.qn_member.specs.Maker.{is_visible, ranks_that}
 use Rattle.qn_member.proofs.member.Member.visible_nodes.Given as goal
 
 abbrev pub invariant-loop-rank : goal.invariant-loop-rank
-invariant-loop-rank l = l.visible.0 ≡ ranks_that (is_visible l.tick l.self) l.rank
+invariant-loop-rank l = l.found.0 ≡ ranks_that (is_visible l.tick l.self) l.rank

@@ -1,0 +1,28 @@
+use Rattle.std.proofs.Common.{◌<◌, ◌^◌, length, refl, sym, ◌∙◌, ap, arith}
+use Rattle.qn_member.specs.Maker.{may_lead, ranks_that}
+use Rattle.qn_member.proofs.Ranks.{all_ranks-lt, with_passing, without_passing}
+use Rattle.qn_member.proofs.member.Member.able_nodes.Goals as goal
+use Rattle.qn_member.proofs.member.Member.able_nodes.Goals.{then-may_lead, else-may_lead}
+
+pub loop-rank-init : goal.loop-rank-init
+unfolding ranks_that
+loop-rank-init c = refl
+
+pub loop-rank-preserved : goal.loop-rank-preserved
+loop-rank-preserved c =
+    let rank = c.loop-rank.rank in
+    let before = c.loop-rank.found.0 in
+    let test = may_lead c.args.self.now c.args.visible in
+    let within : rank < 32 = omega arith in
+    elim c.if-may_lead.branch [
+      | then-may_lead w ↦ (let fits : w.with-found.result.0 < 2 ^ 32 = omega arith in
+          ap (λ mask. mask.0) w.found-is
+          ∙ with_passing test before w.with-found.result.0 rank within fits (sym c.may_lead.ensures ∙ w.if-may_lead.true) c.loop-rank.invariant w.with-found.ensures)
+      | else-may_lead w ↦
+          ap (λ mask. mask.0) w.found-is ∙ without_passing test before rank (sym c.may_lead.ensures ∙ w.if-may_lead.false) c.loop-rank.invariant
+    ]
+
+pub returns-clause-configured : goal.returns-clause-configured
+returns-clause-configured c =
+    let test = may_lead c.args.self.now c.args.visible in
+    all_ranks-lt test c.loop-rank.found.0 (length c.args.self.now.nodes) c.loop-rank.rank (omega arith) (omega arith) c.loop-rank.invariant

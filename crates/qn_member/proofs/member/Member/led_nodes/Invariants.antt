@@ -1,0 +1,6 @@
+use Rattle.std.proofs.Common.{◌≡◌}
+use Rattle.qn_member.specs.Maker.{is_led, ranks_that}
+use Rattle.qn_member.proofs.member.Member.led_nodes.Given as goal
+
+abbrev pub invariant-loop-rank : goal.invariant-loop-rank
+invariant-loop-rank l = l.found.0 ≡ ranks_that (is_led l.self l.visible) l.rank
