@@ -1,6 +1,7 @@
 """No crate cites the proofs of another one, and each names every library of its line in crates.txt. crates.txt stands in layers, each
 crate on crates that stand before it there; docs/ARCHITECTURE.md has the same layers with the same crates, and what each stands on: a row
-names crates of its line, and the others of that line stand below those."""
+names crates of its line, and the others of that line stand below those. What a layer says that it is never on, no crate of it stands on,
+not even through other crates, but for those that it names."""
 import os
 import pathlib
 import re
@@ -8,6 +9,7 @@ import sys
 
 TOP = pathlib.Path(os.environ["TOP"])
 LAYER = re.compile(r"# ([A-Z][\w ]*): (.*)")
+NEVER = re.compile(r"; never on ([\w ,]+?)(?: but through ([\w ]+))?$")
 wrong = []
 
 
@@ -58,6 +60,38 @@ def look_at_layers(page):
         wrong.append("the layers of crates.txt and of docs/ARCHITECTURE.md are not the same ones")
 
 
+def through(crate, uses, passed):
+    """What a crate stands on, each with the crates that it is reached through; nothing is looked at through those that are passed."""
+    found = {}
+    for other in sorted(uses[crate] - passed):
+        found.setdefault(other, crate)
+        for below_it, by in through(other, uses, passed).items():
+            found.setdefault(below_it, by)
+    return found
+
+
+def look_at_never(uses):
+    layers = layers_of_crates()
+    of = {crate: name for name, _, crates in layers for crate in crates}
+    names = [name for name, _, _ in layers]
+    for name, speaks, crates in layers:
+        said = NEVER.search(speaks)
+        never = [layer.strip() for layer in said[1].split(",")] if said else []
+        passed = {*said[2].split()} if said and said[2] else set()
+        for layer in never:
+            if layer not in names[:names.index(name)]:
+                wrong.append("crates.txt: %s is never on %s, which is no layer before it" % (name, layer))
+        for crate in sorted(passed - of.keys()):
+            wrong.append("crates.txt: %s goes through %s, which is no crate" % (name, crate))
+        for crate in crates:
+            for other, by in through(crate, uses, passed).items():
+                if of[other] in never and of[by] not in never:
+                    wrong.append("%s stands on %s%s: %s is never on %s" % (crate, other, "" if by == crate else " through " + by, name, of[other]))
+        for other in sorted(passed):
+            if not any(other in uses[crate] for crate in crates):
+                wrong.append("crates.txt: no crate of %s stands on %s" % (name, other))
+
+
 def look_at_order(uses):
     before = set()
     for crate, used in uses.items():
@@ -99,6 +133,7 @@ own = {crate: used & libraries.keys() for crate, used in libraries.items()}
 page = layers_of_page()
 look_at_layers(page)
 look_at_order(own)
+look_at_never(own)
 look_at_rows(own, {crate: stands for _, _, crates in page for crate, stands in crates.items()})
 look_at_sources(libraries)
 print("\n".join(dict.fromkeys(wrong)))
