@@ -30,6 +30,13 @@ pub struct Said {
     pub able: bool,
 }
 
+/// What a node says of itself beside its Hello: two bytes that are handed on as they came. Both are 0 so far.
+#[derive(Clone, Copy, PartialEq, Eq, Default, Debug)]
+pub struct Standing {
+    pub flags: u8,
+    pub weight: u8,
+}
+
 impl Mask {
     ghost use Rattle.std.specs.Prelude.{◌≡◌, ◌<◌};
     ghost use Rattle.qn_base.specs.Members.{is_member};

@@ -20,7 +20,7 @@ pub use calls::{Bytes, Call, Received};
 pub use decimal::{read_decimal, write_decimal};
 pub use faults::{Failed, NoMemory};
 pub use fields::{add_u16, add_u32, add_u64};
-pub use ids::{Mask, NodeId, Rank, Said, View};
+pub use ids::{Mask, NodeId, Rank, Said, Standing, View};
 pub use limits::{LATEST_TIME, LONGEST_PERIOD, MOST_EVENTS, MOST_LINE_BYTES};
 pub use members::{chosen, votes};
 pub use text::{ShortText, add, add_number, yes_no};

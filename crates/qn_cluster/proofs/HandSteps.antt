@@ -45,7 +45,7 @@ receivers_of s (out.Send to (packet.Ask ask) ∷ outs) all =
 receivers_of s (out.Send to (packet.Tell tell) ∷ outs) all =
     All-cons (λ sent. sent.to.0 < length s.nodes) (record { to = to; packet = packet.Tell tell }) (packets_of outs) (All-head (IsNodeOutput s) _ outs all) (receivers_of s outs (All-tail (IsNodeOutput s) _ outs all))
 receivers_of s (out.Send to (packet.Hello from) ∷ outs) all = absurd (All-head (IsNodeOutput s) (out.Send to (packet.Hello from)) outs all)
-receivers_of s (out.Send to (packet.Heard from said) ∷ outs) all = absurd (All-head (IsNodeOutput s) (out.Send to (packet.Heard from said)) outs all)
+receivers_of s (out.Send to (packet.Heard from said standing) ∷ outs) all = absurd (All-head (IsNodeOutput s) (out.Send to (packet.Heard from said standing)) outs all)
 receivers_of s (out.Send to (packet.Announce from view) ∷ outs) all = absurd (All-head (IsNodeOutput s) (out.Send to (packet.Announce from view)) outs all)
 receivers_of s (out.Send to (packet.Vote agrees) ∷ outs) all = absurd (All-head (IsNodeOutput s) (out.Send to (packet.Vote agrees)) outs all)
 receivers_of s (out.Stop ∷ outs) all = receivers_of s outs (All-tail (IsNodeOutput s) _ outs all)

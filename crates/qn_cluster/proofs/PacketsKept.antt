@@ -18,7 +18,7 @@ packet_again : (p : Packet) → packet_of (heading_of p) (addressee_of p) (kind_
 packet_again (packet.Ask ask) = refl
 packet_again (packet.Tell tell) = refl
 packet_again (packet.Hello from) = refl
-packet_again (packet.Heard from said) = refl
+packet_again (packet.Heard from said standing) = refl
 packet_again (packet.Announce from view) = refl
 packet_again (packet.Vote agrees) = refl
 

@@ -21,7 +21,7 @@ abbrev pub heading_of : Packet → Heading
 heading_of (packet.Ask ask) = record { from = ask.from; incarnation = ask.incarnation; install = ask.install; view = ask.view }
 heading_of (packet.Tell tell) = record { from = tell.from; incarnation = tell.incarnation; install = tell.install; view = tell.view }
 heading_of (packet.Hello from) = record no_heading { from = from }
-heading_of (packet.Heard from said) = record no_heading { from = from }
+heading_of (packet.Heard from said standing) = record no_heading { from = from }
 heading_of (packet.Announce from view) = record no_heading { from = from; view = view }
 heading_of (packet.Vote agrees) = no_heading
 
@@ -30,7 +30,7 @@ abbrev pub addressee_of : Packet → Rank
 addressee_of (packet.Ask ask) = ask.to
 addressee_of (packet.Tell tell) = tell.to
 addressee_of (packet.Hello from) = record { 0 = 0 }
-addressee_of (packet.Heard from said) = record { 0 = 0 }
+addressee_of (packet.Heard from said standing) = record { 0 = 0 }
 addressee_of (packet.Announce from view) = record { 0 = 0 }
 addressee_of (packet.Vote agrees) = record { 0 = 0 }
 
@@ -38,7 +38,7 @@ abbrev pub kind_of : Packet → Kind
 kind_of (packet.Ask ask) = kind.Ask
 kind_of (packet.Tell tell) = kind.Tell tell.holds tell.released
 kind_of (packet.Hello from) = kind.Hello
-kind_of (packet.Heard from said) = kind.Heard said
+kind_of (packet.Heard from said standing) = kind.Heard said standing
 kind_of (packet.Announce from view) = kind.Announce
 kind_of (packet.Vote agrees) = kind.Vote agrees
 
@@ -49,7 +49,7 @@ packet_of heading to kind.Ask =
 packet_of heading to (kind.Tell holds released) =
     packet.Tell (record { from = heading.from; to = to; incarnation = heading.incarnation; install = heading.install; view = heading.view; holds = holds; released = released })
 packet_of heading to kind.Hello = packet.Hello heading.from
-packet_of heading to (kind.Heard said) = packet.Heard heading.from said
+packet_of heading to (kind.Heard said standing) = packet.Heard heading.from said standing
 packet_of heading to kind.Announce = packet.Announce heading.from heading.view
 packet_of heading to (kind.Vote agrees) = packet.Vote agrees
 

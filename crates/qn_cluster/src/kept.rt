@@ -2,7 +2,7 @@
 ghost use Rattle.std.specs.Prelude.{◌≡◌};
 ghost use Rattle.qn_cluster.specs.Kept.{addressee_of};
 
-use qn_base::{Mask, Rank, Said, View};
+use qn_base::{Mask, Rank, Said, Standing, View};
 use qn_model::{Ask, Packet, Tell};
 
 /// What the packets that a node sends at one entry have in common: the node, and the incarnation, the install number
@@ -23,7 +23,7 @@ pub(crate) enum Kind {
     Hello,
     Announce,
     Vote { yes: bool },
-    Heard { said: Said },
+    Heard { said: Said, standing: Standing },
 }
 
 /// A packet that was sent: the place of its heading, its receiver, the node that it names as its receiver, and its
@@ -107,7 +107,11 @@ impl Heading {
             Kind::Hello => Packet::Hello { from },
             Kind::Announce => Packet::Announce { from, view },
             Kind::Vote { yes } => Packet::Vote { yes },
-            Kind::Heard { said } => Packet::Heard { from, said },
+            Kind::Heard { said, standing } => Packet::Heard {
+                from,
+                said,
+                standing,
+            },
         }
     }
 }
@@ -129,7 +133,7 @@ impl Kind {
             Packet::Hello { .. } => Kind::Hello,
             Packet::Announce { .. } => Kind::Announce,
             Packet::Vote { yes } => Kind::Vote { yes },
-            Packet::Heard { said, .. } => Kind::Heard { said },
+            Packet::Heard { said, standing, .. } => Kind::Heard { said, standing },
         }
     }
 }

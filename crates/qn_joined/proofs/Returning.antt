@@ -80,7 +80,7 @@ entry_no_stop (packet.Ask ask) = refl
 entry_no_stop (packet.Tell tell) = refl
 entry_no_stop (packet.Vote agrees) = refl
 entry_no_stop (packet.Hello from) = refl
-entry_no_stop (packet.Heard from said) = refl
+entry_no_stop (packet.Heard from said standing) = refl
 entry_no_stop (packet.Announce from view) = refl
 
 choice_no_stop : (me : ℕ) (p : Option Packet) → stops_in (choice_of me p) ≡ false

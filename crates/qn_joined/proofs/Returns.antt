@@ -67,9 +67,9 @@ greeting_counts (packet.Announce from view) q is e c =
     let bytes = packet_bytes (packet.Announce from view) in
     one_kind (length bytes == 16) (packet.Announce (rank_at 3 bytes) (view_at 4 bytes)) q refl
     (found_one (λ p. is_well_formed p && bytes_eq (packet_bytes p) bytes) (fields_of 4 bytes) q e) c
-greeting_counts (packet.Heard from said) q is e c =
-    let bytes = packet_bytes (packet.Heard from said) in
-    one_kind (length bytes == 10) (packet.Heard (rank_at 3 bytes) (said_at bytes)) q refl
+greeting_counts (packet.Heard from said standing) q is e c =
+    let bytes = packet_bytes (packet.Heard from said standing) in
+    one_kind (length bytes == 12) (packet.Heard (rank_at 3 bytes) (said_at bytes) (standing_at bytes)) q refl
     (found_one (λ p. is_well_formed p && bytes_eq (packet_bytes p) bytes) (fields_of 8 bytes) q e) c
 greeting_counts (packet.Ask ask) q is e c = cc
 greeting_counts (packet.Tell tell) q is e c = cc

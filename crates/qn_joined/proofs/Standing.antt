@@ -151,7 +151,7 @@ entry_comes : (rank : ℕ) (log : List Line) (took : Option What) (all : List Se
 entry_comes rank log took all (packet.Ask ask) sent = sent refl
 entry_comes rank log took all (packet.Tell tell) sent = sent refl
 entry_comes rank log took all (packet.Hello from) sent = tt
-entry_comes rank log took all (packet.Heard from said) sent = tt
+entry_comes rank log took all (packet.Heard from said standing) sent = tt
 entry_comes rank log took all (packet.Announce from view) sent = tt
 entry_comes rank log took all (packet.Vote agrees) sent = tt
 

@@ -139,7 +139,7 @@ disk_ahead (Ended ran) = None
 -- a greeting of the view maker, as a packet
 abbrev pub is_greeting : Packet → Bool
 is_greeting (packet.Hello from) = true
-is_greeting (packet.Heard from said) = true
+is_greeting (packet.Heard from said standing) = true
 is_greeting (packet.Announce from view) = true
 is_greeting (packet.Ask ask) = false
 is_greeting (packet.Tell tell) = false

@@ -181,7 +181,7 @@ packet_begins_none : (p : Packet) → is_begin (entry_of p) ≡ false
 packet_begins_none (packet.Ask ask) = refl
 packet_begins_none (packet.Tell tell) = refl
 packet_begins_none (packet.Hello from) = refl
-packet_begins_none (packet.Heard from said) = refl
+packet_begins_none (packet.Heard from said standing) = refl
 packet_begins_none (packet.Announce from view) = refl
 packet_begins_none (packet.Vote agrees) = refl
 

@@ -174,7 +174,7 @@ packet_taken me (Some (packet.Tell tell)) = by_test (tell.to.0 == me)
     by_test false = refl
 packet_taken me (Some (packet.Vote agrees)) = refl
 packet_taken me (Some (packet.Hello from)) = refl
-packet_taken me (Some (packet.Heard from said)) = refl
+packet_taken me (Some (packet.Heard from said standing)) = refl
 packet_taken me (Some (packet.Announce from view)) = refl
 
 -- the turn takes no answer of the disk, and keeps the one that waits

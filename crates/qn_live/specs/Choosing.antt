@@ -77,7 +77,7 @@ is_entry_for me (packet.Ask ask) = ask.to.0 == me
 is_entry_for me (packet.Tell tell) = tell.to.0 == me
 is_entry_for me (packet.Vote agrees) = true
 is_entry_for me (packet.Hello from) = false
-is_entry_for me (packet.Heard from said) = false
+is_entry_for me (packet.Heard from said standing) = false
 is_entry_for me (packet.Announce from view) = false
 
 -- what a turn takes that received this packet, or none
@@ -124,7 +124,7 @@ looking tick chosen = record chosen.1 { last_look = look_after tick chosen.0 cho
 abbrev pub heard : ℕ → Option Packet → Maker → Maker
 heard tick None m = m
 heard tick (Some (packet.Hello from)) m = after_plain_hello tick from.0 m
-heard tick (Some (packet.Heard from said)) m = after_hello tick from.0 said m
+heard tick (Some (packet.Heard from said standing)) m = after_hello tick from.0 said m
 heard tick (Some (packet.Announce from view)) m = after_announce from.0 view m
 heard tick (Some (packet.Ask ask)) m = m
 heard tick (Some (packet.Tell tell)) m = m

@@ -537,7 +537,7 @@ module _ (s : Settings) (me : ℕ) where
   caused_packet last (packet.Ask ask) = tt
   caused_packet last (packet.Tell tell) = tt
   caused_packet last (packet.Hello from) = tt
-  caused_packet last (packet.Heard from said) = tt
+  caused_packet last (packet.Heard from said standing) = tt
   caused_packet last (packet.Announce from view) = tt
   caused_packet last (packet.Vote agrees) = tt
 

@@ -5,6 +5,7 @@ use Rattle.std.specs.Option.{option_map_or}
 use Rattle.std.specs.List.{range_with_len}
 use Rattle.qn_base.specs.declared.calls.Call.{Call}
 use Rattle.qn_base.specs.declared.calls.Call.TheVariants as call
+use Rattle.qn_base.specs.declared.ids.Standing.{Standing}
 use Rattle.qn_base.specs.declared.ids.View.{View}
 use Rattle.qn_base.specs.Plans.{Plan, Ends, Asks}
 use Rattle.qn_model.specs.declared.configuration.Settings.{Settings}
@@ -36,10 +37,14 @@ others_from s me from = filter (λ rank. not (rank == me)) (range_with_len from 
 abbrev pub to_each : Packet → List ℕ → List Sent
 to_each p ranks = map (λ rank. record { to = rank_of rank; packet = p }) ranks
 
+-- what a node says of itself: nothing so far
+abbrev pub no_standing : Standing
+no_standing = record { flags = 0; weight = 0 }
+
 -- the packet of a greeting
 abbrev pub greeting_packet : ℕ → Greeting → Packet
 greeting_packet me greeting.Hello = packet.Hello (rank_of me)
-greeting_packet me (greeting.Heard said) = packet.Heard (rank_of me) said
+greeting_packet me (greeting.Heard said) = packet.Heard (rank_of me) said no_standing
 greeting_packet me (greeting.Announce view) = packet.Announce (rank_of me) view
 
 -- the call that sends a greeting to a rank

@@ -77,7 +77,7 @@ fn hear(member: &mut Member, packet: Option<Packet>, tick: u64) -> What
 {
     match packet {
         Some(Packet::Hello { from }) => member.on_plain_hello(tick, from),
-        Some(Packet::Heard { from, said }) => member.on_hello(tick, from, said),
+        Some(Packet::Heard { from, said, .. }) => member.on_hello(tick, from, said),
         Some(Packet::Announce { from, view }) => member.on_announce(tick, from, view),
         Some(Packet::Ask(_) | Packet::Tell(_) | Packet::Vote { .. }) | None => {}
     }

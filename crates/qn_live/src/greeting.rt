@@ -5,7 +5,7 @@ ghost use Rattle.qn_member.specs.Maker.{after_hello_due, view_to_announce};
 
 use crate::live_end::LiveEnd;
 use crate::place::Greeting;
-use qn_base::{Rank, View};
+use qn_base::{Rank, Standing, View};
 use qn_member::Member;
 use qn_model::{Packet, Settings};
 
@@ -87,7 +87,11 @@ pub fn greeting_packet(me: Rank, greeting: Greeting) -> Packet
 {
     match greeting {
         Greeting::Hello => Packet::Hello { from: me },
-        Greeting::Heard(said) => Packet::Heard { from: me, said },
+        Greeting::Heard(said) => Packet::Heard {
+            from: me,
+            said,
+            standing: Standing::default(),
+        },
         Greeting::Announce(view) => Packet::Announce { from: me, view },
     }
 }

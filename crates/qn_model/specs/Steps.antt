@@ -68,7 +68,7 @@ abbrev pub entry_of : Packet → What
 entry_of (packet.Ask ask) = what.Ask ask
 entry_of (packet.Tell tell) = what.Tell tell
 entry_of (packet.Hello from) = what.Tick
-entry_of (packet.Heard from said) = what.Tick
+entry_of (packet.Heard from said standing) = what.Tick
 entry_of (packet.Announce from view) = what.Tick
 entry_of (packet.Vote agrees) = what.Device agrees
 

@@ -1,5 +1,5 @@
 //! The packets that nodes send to one another.
-use qn_base::{Rank, Said, View};
+use qn_base::{Rank, Said, Standing, View};
 
 /// A node asks another one, under its view, whether that one holds the resource. Incarnation and
 /// install number are the asker's.
@@ -33,8 +33,12 @@ pub enum Packet {
     Hello { from: Rank },
     Announce { from: Rank, view: View },
     Vote { yes: bool },
-    /// A Hello that says whom its sender hears, whom it follows, and whether it is able.
-    Heard { from: Rank, said: Said },
+    /// A Hello that says whom its sender hears, whom it follows, and whether it is able, and what it says of itself.
+    Heard {
+        from: Rank,
+        said: Said,
+        standing: Standing,
+    },
 }
 
 /// A packet that was sent, with its receiver.

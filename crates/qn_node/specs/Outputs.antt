@@ -12,7 +12,7 @@ abbrev pub IsNodeOutput : Settings → Out → Type 0
 IsNodeOutput s (out.Send to (packet.Ask ask)) = to.0 < length s.nodes
 IsNodeOutput s (out.Send to (packet.Tell tell)) = to.0 < length s.nodes
 IsNodeOutput s (out.Send to (packet.Hello from)) = ⊥
-IsNodeOutput s (out.Send to (packet.Heard from said)) = ⊥
+IsNodeOutput s (out.Send to (packet.Heard from said standing)) = ⊥
 IsNodeOutput s (out.Send to (packet.Announce from view)) = ⊥
 IsNodeOutput s (out.Send to (packet.Vote agrees)) = ⊥
 IsNodeOutput s (out.Disk (disk.ReadSlot rank)) = rank.0 < length s.nodes

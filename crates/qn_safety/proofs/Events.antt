@@ -104,7 +104,7 @@ packet_sent s r number sent ms there receiver = by_content sent.packet refl
     by_content (packet.Ask ask) e = record { number = number; sent = sent; there = there; receiver = eqb-true sent.to.0 r receiver; content = e }
     by_content (packet.Tell tell) e = record { number = number; sent = sent; there = there; receiver = eqb-true sent.to.0 r receiver; content = e }
     by_content (packet.Hello from) e = tt
-    by_content (packet.Heard from said) e = tt
+    by_content (packet.Heard from said standing) e = tt
     by_content (packet.Announce from seen) e = tt
     by_content (packet.Vote agrees) e = tt
 

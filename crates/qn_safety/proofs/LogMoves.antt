@@ -166,7 +166,7 @@ packet_comes {s = s} {t = t} of rank number sent moments ruled there = by_conten
     by_content (packet.Ask ask) e = tt
     by_content (packet.Tell tell) e = tt
     by_content (packet.Hello from) e = tt
-    by_content (packet.Heard from said) e = tt
+    by_content (packet.Heard from said standing) e = tt
     by_content (packet.Announce from seen) e = tt
     by_content (packet.Vote agrees) e =
         absurd (subst (λ content. PacketReason s (reason.0) (reason.1.past) (before_outs reason.1.line reason.1.past) reason.1.line.what sent.to content) e reason.1.reason)

@@ -178,7 +178,7 @@ packet_live : (s : Settings) (k : ℕ) (past log : List Line) (entry : What) (to
 packet_live s k past log entry to (packet.Tell tell) why = why.live
 packet_live s k past log entry to (packet.Ask ask) why = why.live
 packet_live s k past log entry to (packet.Hello from) why = absurd why
-packet_live s k past log entry to (packet.Heard from said) why = absurd why
+packet_live s k past log entry to (packet.Heard from said standing) why = absurd why
 packet_live s k past log entry to (packet.Announce from seen) why = absurd why
 packet_live s k past log entry to (packet.Vote agrees) why = absurd why
 

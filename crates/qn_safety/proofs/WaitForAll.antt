@@ -205,7 +205,7 @@ no_view_packet : (content : Packet) (seen : View) → entry_of content ≡ what.
 no_view_packet (packet.Ask ask) seen e = cc
 no_view_packet (packet.Tell tell) seen e = cc
 no_view_packet (packet.Hello from) seen e = cc
-no_view_packet (packet.Heard from said) seen e = cc
+no_view_packet (packet.Heard from said standing) seen e = cc
 no_view_packet (packet.Announce from other) seen e = cc
 no_view_packet (packet.Vote agrees) seen e = cc
 

@@ -42,7 +42,7 @@ packet_word (packet.Tell tell) = codes "tell"
 packet_word (packet.Hello from) = codes "hello"
 packet_word (packet.Announce from view) = codes "announce"
 packet_word (packet.Vote agrees) = codes "vote"
-packet_word (packet.Heard from said) = codes "heard"
+packet_word (packet.Heard from said standing) = codes "heard"
 
 -- the number of a cause
 abbrev pub cause_number : BootCause → ℕ

@@ -35,13 +35,13 @@ abbrev pub is_for : Receiver → Seal → Bool
 is_for receiver seal =
     seal.to == receiver.rank && not (seal.from == receiver.rank) && nat_lt seal.from receiver.nodes && nat_lt seal.from 32
 
--- a packet of kind 1 to 4 or 8 to 11, of its length, of that sender and, where it names one, to that receiver
+-- a packet of kind 1 to 4, 8, 9 or 11, of its length, of that sender and, where it names one, to that receiver
 unfoldable pub is_inner : Seal → List ℕ → Bool
 is_inner seal inner =
     slice_index inner 0 == 81 && slice_index inner 1 == 78 && slice_index inner 3 == seal.from
     && (slice_index inner 2 == 3 && length inner == 4 || slice_index inner 2 == 4 && length inner == 16
-    || slice_index inner 2 == 8 && length inner == 10 || slice_index inner 2 == 9 && length inner == 22
-    || slice_index inner 2 == 10 && length inner == 6 || slice_index inner 2 == 11 && length inner == 16
+    || slice_index inner 2 == 8 && length inner == 12 || slice_index inner 2 == 9 && length inner == 22
+    || slice_index inner 2 == 11 && length inner == 16
     || slice_index inner 2 == 1 && length inner == 33 && slice_index inner 4 == seal.to
     || slice_index inner 2 == 2 && length inner == 34 && slice_index inner 4 == seal.to)
 

@@ -113,7 +113,7 @@ impl Receiver {
     }
 }
 
-/// Whether a packet is one of kinds 1 to 4 or 8 to 11, of its length, of the sender and, where it names one, to the receiver of the
+/// Whether a packet is one of kinds 1 to 4, 8, 9 or 11, of its length, of the sender and, where it names one, to the receiver of the
 /// seal. A node passes over a kind that it does not know.
 #[tactic(auto, unfolding(crate::specs::Receiving::is_inner))]
 fn is_inner(seal: Seal, inner: &[u8]) -> bool
@@ -125,9 +125,8 @@ fn is_inner(seal: Seal, inner: &[u8]) -> bool
         && inner[3] == seal.from
         && (inner[2] == 3 && inner.len() == 4
             || inner[2] == 4 && inner.len() == 16
-            || inner[2] == 8 && inner.len() == 10
+            || inner[2] == 8 && inner.len() == 12
             || inner[2] == 9 && inner.len() == 22
-            || inner[2] == 10 && inner.len() == 6
             || inner[2] == 11 && inner.len() == 16
             || inner[2] == 1 && inner.len() == 33 && inner[4] == seal.to
             || inner[2] == 2 && inner.len() == 34 && inner[4] == seal.to)

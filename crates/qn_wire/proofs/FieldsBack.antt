@@ -7,13 +7,14 @@ use Rattle.std.proofs.lemmas.Bool.Decides.{nat_tests}
 use Rattle.byteorder.specs.Numbers.{big_number-reads_back}
 use Rattle.qn_base.specs.declared.ids.Rank.{Rank}
 use Rattle.qn_base.specs.declared.ids.Said.{Said}
+use Rattle.qn_base.specs.declared.ids.Standing.{Standing}
 use Rattle.qn_base.specs.declared.ids.View.{View}
 use Rattle.qn_base.specs.lemmas.Bools.{cond_is_one}
 use Rattle.qn_model.specs.declared.packets.Ask.{Ask}
 use Rattle.qn_model.specs.declared.packets.Tell.{Tell}
 use Rattle.qn_model.specs.declared.packets.Packet.{Packet}
 use Rattle.qn_model.specs.declared.packets.Packet.TheVariants as packet
-use Rattle.qn_wire.specs.Packets.{packet_bytes, head_bytes, view_bytes, said_bytes, follows_byte, ask_fields, as_ask, is_ask, is_rank, is_said, is_view, is_well_formed}
+use Rattle.qn_wire.specs.Packets.{packet_bytes, head_bytes, view_bytes, said_bytes, standing_bytes, follows_byte, ask_fields, as_ask, is_ask, is_rank, is_said, is_view, is_well_formed}
 use Rattle.qn_wire.specs.Reading.{fields_of, ask_at, follows_at, said_at, tell_at, view_at}
 
 same_view : (first second : View) → first.id ≡ second.id → first.members.0 ≡ second.members.0 → first ≡ second
@@ -39,12 +40,13 @@ follows_back (Some rank) is =
 same_said : (first second : Said) → first.hears.0 ≡ second.hears.0 → first.follows ≡ second.follows → first.able ≡ second.able → first ≡ second
 same_said first second hears follows able = rw (hears, follows, able) refl
 
-said_at-said_bytes : (from : Rank) (said : Said) → is_said from said ≡ true → said_at (head_bytes 8 ++ from.0 ∷ [] ++ said_bytes said) ≡ said
-said_at-said_bytes from said is =
+said_at-said_bytes : (from : Rank) (said : Said) (standing : Standing) → is_said from said ≡ true
+    → said_at (head_bytes 8 ++ from.0 ∷ [] ++ said_bytes said ++ standing_bytes standing) ≡ said
+said_at-said_bytes from said standing is =
     let tests = and_parts _ _ is in
     let hears_fit = ltb-true said.hears.0 (2 ^ 32) (and_parts _ _ tests.0).0 in
-    same_said (said_at (head_bytes 8 ++ from.0 ∷ [] ++ said_bytes said)) said
-    (big_number-reads_back 4 said.hears.0 (follows_byte said.follows ∷ cond said.able 1 0 ∷ []) hears_fit)
+    same_said (said_at (head_bytes 8 ++ from.0 ∷ [] ++ said_bytes said ++ standing_bytes standing)) said
+    (big_number-reads_back 4 said.hears.0 (follows_byte said.follows ∷ cond said.able 1 0 ∷ standing_bytes standing) hears_fit)
     (follows_back said.follows tests.1)
     (cond_is_one said.able)
 
@@ -97,5 +99,5 @@ fields_of-packet_bytes (packet.Hello from) is = refl
 fields_of-packet_bytes (packet.Announce from view) is =
     ap (λ x. Some (packet.Announce from x)) (view_at-view_bytes view [] (and_parts _ _ is).1)
 fields_of-packet_bytes (packet.Vote agrees) is = ap (λ x. Some (packet.Vote x)) (cond_is_one agrees)
-fields_of-packet_bytes (packet.Heard from said) is =
-    ap (λ x. Some (packet.Heard from x)) (said_at-said_bytes from said (and_parts _ _ is).1)
+fields_of-packet_bytes (packet.Heard from said standing) is =
+    ap (λ x. Some (packet.Heard from x standing)) (said_at-said_bytes from said standing (and_parts _ _ is).1)

@@ -9,17 +9,17 @@ use Rattle.qn_wire.specs.Reading.{packet_of}
 
 -- rank 1 hears 0, 1 and 2, follows 0, and is not able
 abbrev first : Packet
-first = packet.Heard (record { 0 = 1 }) (record { hears = record { 0 = 7 }; follows = Some (record { 0 = 0 }); able = false })
+first = packet.Heard (record { 0 = 1 }) (record { hears = record { 0 = 7 }; follows = Some (record { 0 = 0 }); able = false }) (record { flags = 0; weight = 255 })
 
 abbrev first_bytes : List ℕ
-first_bytes = 81 ∷ 78 ∷ 8 ∷ 1 ∷ 0 ∷ 0 ∷ 0 ∷ 7 ∷ 0 ∷ 0 ∷ []
+first_bytes = 81 ∷ 78 ∷ 8 ∷ 1 ∷ 0 ∷ 0 ∷ 0 ∷ 7 ∷ 0 ∷ 0 ∷ 0 ∷ 255 ∷ []
 
 -- rank 5 hears nobody, and follows nobody
 abbrev alone : Packet
-alone = packet.Heard (record { 0 = 5 }) (record { hears = record { 0 = 32 }; follows = None; able = false })
+alone = packet.Heard (record { 0 = 5 }) (record { hears = record { 0 = 32 }; follows = None; able = false }) (record { flags = 0; weight = 255 })
 
 abbrev alone_bytes : List ℕ
-alone_bytes = 81 ∷ 78 ∷ 8 ∷ 5 ∷ 0 ∷ 0 ∷ 0 ∷ 32 ∷ 32 ∷ 0 ∷ []
+alone_bytes = 81 ∷ 78 ∷ 8 ∷ 5 ∷ 0 ∷ 0 ∷ 0 ∷ 32 ∷ 32 ∷ 0 ∷ 0 ∷ 255 ∷ []
 
 first_is_spelled : packet_bytes first ≡ first_bytes
 unfolding packet_bytes
@@ -38,25 +38,25 @@ unfolding packet_bytes packet_of
 alone_is_read = refl
 
 -- whom it follows is 33
-follows_no_rank : packet_of (81 ∷ 78 ∷ 8 ∷ 5 ∷ 0 ∷ 0 ∷ 0 ∷ 32 ∷ 33 ∷ 0 ∷ []) ≡ None
+follows_no_rank : packet_of (81 ∷ 78 ∷ 8 ∷ 5 ∷ 0 ∷ 0 ∷ 0 ∷ 32 ∷ 33 ∷ 0 ∷ 0 ∷ 255 ∷ []) ≡ None
 unfolding packet_bytes packet_of
 follows_no_rank = refl
 
 -- able is 2
-able_is_no_truth : packet_of (81 ∷ 78 ∷ 8 ∷ 5 ∷ 0 ∷ 0 ∷ 0 ∷ 32 ∷ 32 ∷ 2 ∷ []) ≡ None
+able_is_no_truth : packet_of (81 ∷ 78 ∷ 8 ∷ 5 ∷ 0 ∷ 0 ∷ 0 ∷ 32 ∷ 32 ∷ 2 ∷ 0 ∷ 255 ∷ []) ≡ None
 unfolding packet_bytes packet_of
 able_is_no_truth = refl
 
 -- it does not hear itself
-hears_not_itself : packet_of (81 ∷ 78 ∷ 8 ∷ 5 ∷ 0 ∷ 0 ∷ 0 ∷ 31 ∷ 32 ∷ 0 ∷ []) ≡ None
+hears_not_itself : packet_of (81 ∷ 78 ∷ 8 ∷ 5 ∷ 0 ∷ 0 ∷ 0 ∷ 31 ∷ 32 ∷ 0 ∷ 0 ∷ 255 ∷ []) ≡ None
 unfolding packet_bytes packet_of
 hears_not_itself = refl
 
 -- one byte less, and one more
-one_byte_less : packet_of (81 ∷ 78 ∷ 8 ∷ 5 ∷ 0 ∷ 0 ∷ 0 ∷ 32 ∷ 32 ∷ []) ≡ None
+one_byte_less : packet_of (81 ∷ 78 ∷ 8 ∷ 5 ∷ 0 ∷ 0 ∷ 0 ∷ 32 ∷ 32 ∷ 0 ∷ 0 ∷ []) ≡ None
 unfolding packet_bytes packet_of
 one_byte_less = refl
 
-one_byte_more : packet_of (81 ∷ 78 ∷ 8 ∷ 5 ∷ 0 ∷ 0 ∷ 0 ∷ 32 ∷ 32 ∷ 0 ∷ 0 ∷ []) ≡ None
+one_byte_more : packet_of (81 ∷ 78 ∷ 8 ∷ 5 ∷ 0 ∷ 0 ∷ 0 ∷ 32 ∷ 32 ∷ 0 ∷ 0 ∷ 255 ∷ 0 ∷ []) ≡ None
 unfolding packet_bytes packet_of
 one_byte_more = refl

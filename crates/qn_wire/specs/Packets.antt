@@ -5,6 +5,7 @@ use Rattle.std.specs.Int.{bytes_high_first}
 use Rattle.std.specs.Option.{option_map_or}
 use Rattle.qn_base.specs.declared.ids.Rank.{Rank}
 use Rattle.qn_base.specs.declared.ids.Said.{Said}
+use Rattle.qn_base.specs.declared.ids.Standing.{Standing}
 use Rattle.qn_base.specs.declared.ids.View.{View}
 use Rattle.qn_base.specs.Members.{is_member}
 use Rattle.qn_model.specs.declared.packets.Ask.{Ask}
@@ -27,6 +28,10 @@ follows_byte follows = option_map_or (λ rank. rank.0) follows 32
 abbrev pub said_bytes : Said → List ℕ
 said_bytes said = bytes_high_first 4 said.hears.0 ++ follows_byte said.follows ∷ cond said.able 1 0 ∷ []
 
+-- what a node says of itself: its flags and its weight
+abbrev pub standing_bytes : Standing → List ℕ
+standing_bytes standing = standing.flags ∷ standing.weight ∷ []
+
 -- from, to, incarnation, install number and view
 abbrev pub ask_fields : Ask → List ℕ
 ask_fields ask =
@@ -45,7 +50,8 @@ packet_bytes (packet.Tell tell) =
 packet_bytes (packet.Hello from) = head_bytes 3 ++ from.0 ∷ []
 packet_bytes (packet.Announce from view) = head_bytes 4 ++ from.0 ∷ [] ++ view_bytes view
 packet_bytes (packet.Vote agrees) = head_bytes 5 ++ cond agrees 1 0 ∷ []
-packet_bytes (packet.Heard from said) = head_bytes 8 ++ from.0 ∷ [] ++ said_bytes said
+packet_bytes (packet.Heard from said standing) =
+    head_bytes 8 ++ from.0 ∷ [] ++ said_bytes said ++ standing_bytes standing
 
 -- a rank is below 32
 abbrev pub is_rank : Rank → Bool
@@ -72,7 +78,7 @@ is_well_formed (packet.Tell tell) = is_ask (as_ask tell)
 is_well_formed (packet.Hello from) = is_rank from
 is_well_formed (packet.Announce from view) = is_rank from && is_view view
 is_well_formed (packet.Vote agrees) = true
-is_well_formed (packet.Heard from said) = is_rank from && is_said from said
+is_well_formed (packet.Heard from said standing) = is_rank from && is_said from said
 
 -- the bytes are the spelling of this packet, which is well formed
 pub record Spells (bytes : List ℕ) (packet : Packet) : Type 0 where

@@ -5,6 +5,7 @@ use Rattle.std.specs.Str.{bytes_eq}
 use Rattle.byteorder.specs.Endian.{big_number}
 use Rattle.qn_base.specs.declared.ids.Rank.{Rank}
 use Rattle.qn_base.specs.declared.ids.Said.{Said}
+use Rattle.qn_base.specs.declared.ids.Standing.{Standing}
 use Rattle.qn_base.specs.declared.ids.View.{View}
 use Rattle.qn_model.specs.declared.packets.Ask.{Ask}
 use Rattle.qn_model.specs.declared.packets.Tell.{Tell}
@@ -33,6 +34,10 @@ said_at bytes =
       follows = follows_at (slice_index bytes 8);
       able = slice_index bytes 9 == 1;
     }
+
+-- what a node says of itself, two bytes as they are
+abbrev pub standing_at : List ℕ → Standing
+standing_at bytes = record { flags = slice_index bytes 10; weight = slice_index bytes 11 }
 
 -- the fields of an Ask, which a Tell has too
 abbrev pub ask_at : List ℕ → Ask
@@ -68,7 +73,7 @@ fields_of kind bytes =
     else if kind == 3 && length bytes == 4 then Some (packet.Hello (rank_at 3 bytes))
     else if kind == 4 && length bytes == 16 then Some (packet.Announce (rank_at 3 bytes) (view_at 4 bytes))
     else if kind == 5 && length bytes == 4 then Some (packet.Vote (slice_index bytes 3 == 1))
-    else if kind == 8 && length bytes == 10 then Some (packet.Heard (rank_at 3 bytes) (said_at bytes))
+    else if kind == 8 && length bytes == 12 then Some (packet.Heard (rank_at 3 bytes) (said_at bytes) (standing_at bytes))
     else None
 
 -- the packet that the bytes spell

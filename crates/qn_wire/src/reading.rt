@@ -3,13 +3,13 @@ ghost use Rattle.std.specs.Prelude.{◌≡◌, ◌≤◌, ◌<◌, ◌+◌, leng
 ghost use Rattle.qn_base.specs.declared.ids.Rank.{Rank};
 ghost use Rattle.qn_model.specs.declared.packets.Packet.{Packet};
 ghost use Rattle.qn_wire.specs.Packets.{is_rank, is_said, is_view, is_ask, is_well_formed, Spells};
-ghost use Rattle.qn_wire.specs.Reading.{packet_of, fields_of, follows_at, said_at, view_at, ask_at, tell_at};
+ghost use Rattle.qn_wire.specs.Reading.{packet_of, fields_of, follows_at, said_at, standing_at, view_at, ask_at, tell_at};
 
 use crate::kinds::{ANNOUNCE, ASK, HEARD, HELLO, TELL, VOTE};
 use crate::writing::{as_ask, put_packet};
 use arrayvec::ArrayVec;
 use byteorder::{BigEndian, ByteOrder};
-use qn_base::{Mask, Rank, Said, View};
+use qn_base::{Mask, Rank, Said, Standing, View};
 use qn_model::{Ask, Packet, Tell};
 
 /// The packet that these bytes spell: its ranks are below 32, and its view has members.
@@ -52,9 +52,10 @@ fn read_fields(kind: u8, from: &[u8]) -> Option<Packet>
             view: read_view(4, from),
         }),
         (VOTE, 4) => Some(Packet::Vote { yes: from[3] == 1 }),
-        (HEARD, 10) => Some(Packet::Heard {
+        (HEARD, 12) => Some(Packet::Heard {
             from: Rank(from[3]),
             said: read_said(from),
+            standing: read_standing(from),
         }),
         _ => None,
     }
@@ -101,6 +102,16 @@ fn read_said(from: &[u8]) -> Said
     }
 }
 
+fn read_standing(from: &[u8]) -> Standing
+    requires { 12 ≤ length from.now }
+    ensures { result ≡ standing_at from.now }
+{
+    Standing {
+        flags: from[10],
+        weight: from[11],
+    }
+}
+
 fn read_follows(byte: u8) -> Option<Rank>
     ensures { result ≡ follows_at byte }
 {
@@ -126,7 +137,7 @@ fn is_well_formed(packet: &Packet) -> bool
         Packet::Hello { from } => is_rank(*from),
         Packet::Announce { from, view } => is_rank(*from) && is_view(*view),
         Packet::Vote { .. } => true,
-        Packet::Heard { from, said } => is_rank(*from) && is_said(*from, *said),
+        Packet::Heard { from, said, .. } => is_rank(*from) && is_said(*from, *said),
     }
 }
 

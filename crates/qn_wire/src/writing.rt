@@ -39,10 +39,15 @@ pub fn put_packet(packet: &Packet, into: &mut ArrayVec<u8, 128>)
             fields::begin(into, VOTE);
             add(into, &[u8::from(*yes)]);
         }
-        Packet::Heard { from, said } => {
+        Packet::Heard {
+            from,
+            said,
+            standing,
+        } => {
             fields::begin(into, HEARD);
             add(into, &[from.0]);
             fields::add_said(into, *said);
+            add(into, &[standing.flags, standing.weight]);
         }
     }
 }

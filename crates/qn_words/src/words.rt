@@ -3,7 +3,7 @@ ghost use Rattle.std.specs.Prelude.{◌≡◌, ◌<◌, ◌^◌, ℕ, Bool, Some
 ghost use Rattle.qn_base.specs.Decimal.{number_of};
 ghost use Rattle.qn_base.specs.Text.{yes_no};
 
-use qn_base::{Mask, NodeId, Rank, Said, View, read_decimal};
+use qn_base::{Mask, NodeId, Rank, Said, Standing, View, read_decimal};
 use std::alloc::{AllocError, Global};
 use std::io::{self, ErrorKind};
 
@@ -126,6 +126,14 @@ pub fn read_said(hears: &str, follows: &str, able: &str) -> Option<Said> {
         hears,
         follows,
         able: read_truth(able)?,
+    })
+}
+
+/// What a node says of itself: its flags and its weight, each below 256.
+pub fn read_standing(flags: &str, weight: &str) -> Option<Standing> {
+    Some(Standing {
+        flags: read_byte(flags)?,
+        weight: read_byte(weight)?,
     })
 }
 

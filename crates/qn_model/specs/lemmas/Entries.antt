@@ -31,7 +31,7 @@ pub packet_answers_none : (content : Packet) â†’ is_answer (entry_of content) â‰
 packet_answers_none (packet.Ask ask) = refl
 packet_answers_none (packet.Tell tell) = refl
 packet_answers_none (packet.Hello from) = refl
-packet_answers_none (packet.Heard from said) = refl
+packet_answers_none (packet.Heard from said standing) = refl
 packet_answers_none (packet.Announce from seen) = refl
 packet_answers_none (packet.Vote agrees) = refl
 

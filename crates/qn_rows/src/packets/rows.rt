@@ -2,7 +2,7 @@
 use arrayvec::ArrayVec;
 use qn_model::Packet;
 use qn_wire::{get_packet, put_packet};
-use qn_words::{bytes_of, read_ask, read_rank, read_said, read_tell, read_truth, read_view};
+use qn_words::{bytes_of, read_ask, read_rank, read_said, read_standing, read_tell, read_truth, read_view};
 use std::alloc::Global;
 
 /// Bytes, and the packet that they spell.
@@ -70,9 +70,10 @@ fn packet_of(words: &[&str]) -> Option<Packet> {
         ["vote", yes] => Some(Packet::Vote {
             yes: read_truth(yes)?,
         }),
-        ["heard", from, hears, follows, able] => Some(Packet::Heard {
+        ["heard", from, hears, follows, able, flags, weight] => Some(Packet::Heard {
             from: read_rank(from)?,
             said: read_said(hears, follows, able)?,
+            standing: read_standing(flags, weight)?,
         }),
         _ => None,
     }
