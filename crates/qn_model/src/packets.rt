@@ -30,9 +30,16 @@ pub struct Tell {
 pub enum Packet {
     Ask(Ask),
     Tell(Tell),
-    Hello { from: Rank },
-    Announce { from: Rank, view: View },
-    Vote { yes: bool },
+    Hello {
+        from: Rank,
+    },
+    Announce {
+        from: Rank,
+        view: View,
+    },
+    Vote {
+        yes: bool,
+    },
     /// A Hello that says whom its sender hears, whom it follows, and whether it is able, and what it says of itself.
     Heard {
         from: Rank,

@@ -12,5 +12,6 @@ pub use history::{
 };
 pub use words::{
     at_fault, bytes_of, first_word, number_in, read_byte, read_members, read_node_id, read_number,
-    read_rank, read_said, read_size, read_small_number, read_standing, read_truth, read_view, said_of, text_of,
+    read_rank, read_said, read_size, read_small_number, read_standing, read_truth, read_view,
+    said_of, text_of,
 };

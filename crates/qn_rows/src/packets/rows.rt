@@ -2,7 +2,9 @@
 use arrayvec::ArrayVec;
 use qn_model::Packet;
 use qn_wire::{get_packet, put_packet};
-use qn_words::{bytes_of, read_ask, read_rank, read_said, read_standing, read_tell, read_truth, read_view};
+use qn_words::{
+    bytes_of, read_ask, read_rank, read_said, read_standing, read_tell, read_truth, read_view,
+};
 use std::alloc::Global;
 
 /// Bytes, and the packet that they spell.
