@@ -28,6 +28,8 @@ CAUSES = {
 
 def condition_in_words(why):
     word, *values = why.split(":")
+    if why == "not-chosen:0":
+        return "its view lets nobody start"
     if word == "unfenced":
         return (FENCING if values[1] == "unwritten" else WAITING).format(*values)
     return CONDITIONS[word].format(*values)

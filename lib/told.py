@@ -13,6 +13,7 @@ DEADLY = {"reset", "off", "crashdump"}
 HALTS = {2: "reset", 3: "off", 5: "crashdump"}
 SELDOM = 10000  # milliseconds between two lines of what happens often
 MAILBOXES = 512  # the sector of the first mailbox
+NOBODY = 254  # the high byte of the number of a view under which nobody may start
 
 # A turn of a record: the bytes that were received, None where nothing was and False where nothing was asked for; the tick; and the calls
 # after it, each as a list of words.
@@ -219,14 +220,23 @@ class Told:
             return "no-view"
         if not quorate:
             return "not-quorate:%d/%d" % (votes, quorum)
-        if members[0] != self.ident:
-            return "not-chosen:%d" % members[0]
+        if self.chosen() != self.ident:
+            return "not-chosen:%d" % self.chosen()
         others = [ident for ident in members if ident != self.ident]
         held = [ident for ident in others if all(self.tells.get(ident, [False]))]
         unheard = [ident for ident in others if ident not in self.tells]
         if held or unheard:
             return "held-by:%d" % held[0] if held else "unheard:%d" % unheard[0]
         return self.unfenced(members)
+
+    def chosen(self):
+        """The id of the node that its view lets start: the member that the high byte of its number names, counted from 1, else the least;
+        0 where none may."""
+        name = self.view.number >> 56
+        if name == NOBODY:
+            return 0
+        named = self.ids[name - 1] if 0 < name <= len(self.ids) else None
+        return named if named in self.view.members else self.view.members[0]
 
     def unfenced(self, members):
         for rank, ident in enumerate(self.ids):

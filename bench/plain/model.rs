@@ -122,6 +122,22 @@ pub struct View {
     pub members: Members,
 }
 
+/// The high byte of the number of a view under which nobody may start.
+const NOBODY: u64 = 254;
+
+impl View {
+    /// The member that may start: the one that the high byte of the number names, counted from 1, else the least.
+    pub fn chosen(self) -> Option<Rank> {
+        let name = self.id >> 56;
+        if name == NOBODY {
+            return None;
+        }
+        let mut ranks = self.members.ranks();
+        let named = ranks.find(|rank| u64::from(rank.0) + 1 == name);
+        named.or(self.members.least())
+    }
+}
+
 #[derive(Clone, Copy, Debug)]
 pub struct Slot {
     pub incarnation: u64,
@@ -272,7 +288,8 @@ pub enum Why {
     Holding,
     NoView,
     NotQuorate,
-    NotChosen(Rank),
+    /// Another node is the one to start, or nobody is.
+    NotChosen(Option<Rank>),
     HeldBy(Rank),
     Unheard(Rank),
     /// The ticks that remain of msgwait, or None where no reset was written.

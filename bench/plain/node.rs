@@ -293,7 +293,7 @@ impl Node {
             return (!self.holds()).then_some(DiskOp::WriteClose(self.incarnation));
         }
         let view = self.heard.view?;
-        if count.quorate && view.members.least() == Some(self.me) {
+        if count.quorate && view.chosen() == Some(self.me) {
             self.fence.next(settings.all().without(view.members))
         } else {
             None
@@ -339,8 +339,9 @@ impl Node {
     /// What of the other nodes blocks a start, where the node is quorate.
     fn lacks(&self, settings: &Settings, view: View, tick: u64) -> Why {
         let others = self.others(view);
-        if let Some(rank) = view.members.least().filter(|rank| *rank != self.me) {
-            Why::NotChosen(rank)
+        let chosen = view.chosen();
+        if chosen != Some(self.me) {
+            Why::NotChosen(chosen)
         } else if let Some(rank) = self.heard.holders(others).least() {
             Why::HeldBy(rank)
         } else if let Some(rank) = self.heard.unheard(others).least() {

@@ -124,7 +124,8 @@ impl Line<'_> {
                 self.numbered("not-quorate:", report.count.votes);
                 self.numbered("/", report.count.quorum);
             }
-            Why::NotChosen(rank) => self.named("not-chosen:", rank),
+            Why::NotChosen(Some(rank)) => self.named("not-chosen:", rank),
+            Why::NotChosen(None) => self.word("not-chosen:0"),
             Why::HeldBy(rank) => self.named("held-by:", rank),
             Why::Unheard(rank) => self.named("unheard:", rank),
             Why::Unfenced(rank, None) => {

@@ -40,10 +40,10 @@ UP = {"expected": 3, "holds": False, "id": 1, "phase": "up", "quorate": True, "q
 OFF = {"expected": 3, "holds": False, "id": 2, "phase": "off", "quorate": False, "quorum": 2, "released": True, "votes": 0, "why": "down"}
 HOLDER = {**UP, "holds": True, "why": "holding"}
 LEAVING = {**UP, "holds": True, "phase": "leaving", "why": "down"}
-WHYS = ["clear", "no-view", "wait-for-all", "not-quorate:0/1", "not-quorate:10/4194239", "not-chosen:4294967295", "held-by:1",
+WHYS = ["clear", "no-view", "wait-for-all", "not-quorate:0/1", "not-quorate:10/4194239", "not-chosen:4294967295", "not-chosen:0", "held-by:1",
         "unheard:2", "unfenced:2:unwritten", "unfenced:2:1", "unfenced:30:3600000"]
 NO_WHYS = ["", "Clear", "clear ", "clear\n", "unknown", "not-quorate", "not-quorate:1", "not-quorate:1/0", "not-quorate:01/2", "not-quorate:1/2\n",
-           "not-chosen", "not-chosen:0", "not-chosen:-1", "held-by:01", "unheard:", "unheard:x", "unfenced:2", "unfenced:2:",
+           "not-chosen", "not-chosen:00", "not-chosen:-1", "held-by:01", "held-by:0", "unheard:0", "unheard:", "unheard:x", "unfenced:2", "unfenced:2:",
            "unfenced:2:0", "unfenced:2:written", "unfenced:unwritten", None, 1]
 WRONG = [{"phase": "gone"}, {"phase": "Up"}, {"phase": None}, {"id": 0}, {"id": 4294967296}, {"id": "1"}, {"id": 1.5}, {"holds": "yes"},
          {"holds": 0}, {"quorate": None}, {"released": "no"}, {"votes": -1}, {"votes": "2"}, {"quorum": 0}, {"expected": 0},

@@ -21,7 +21,7 @@ ALONE = {"quorate": False, "votes": 1, "view": {"id": 2, "members": [3]}, "why":
 PAIR = {"votes": 2, "view": {"id": 2, "members": [2, 3]}}
 OLD = {"tick": -3 * 60000 - 2000}  # three loops and two seconds
 
-WHYS = ["down", "no-view", "wait-for-all", "not-quorate:1/2", "not-chosen:1", "held-by:2", "unheard:2", "unfenced:2:unwritten",
+WHYS = ["down", "no-view", "wait-for-all", "not-quorate:1/2", "not-chosen:1", "not-chosen:0", "held-by:2", "unheard:2", "unfenced:2:unwritten",
         "unfenced:2:4744", "clear"]
 
 
