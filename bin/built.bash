@@ -1,15 +1,16 @@
-# For bin/quorumd, bin/quorumctl and the programs that bench times: starts the program $name of the repository $top with the words of the script.
+# For bin/quorumd, bin/quorumctl, bench/qn_soak_nodes and the programs that bench times: starts the program $name of the repository $top with the words
+# of the script. What is built stands in out/ of its crate, or of $folder where the script has set it.
 # It takes the program that was proved and built here, unless a source has changed since; else the one of release/, if it was proved from these very
 # sources; else it proves and builds it. The word --build-only proves and builds it here and ends; the word --program prints where the program is.
-folder=$top/crates/$name
+folder=${folder-$top/crates/$name}
 built=$folder/out/$name
 released=$folder/out/released-$name
 
 # whether the program $1 is there, and no source has changed since
 is_current() {
     [ -x "$1" ] || return 1
-    [ -z "$(find "$top/crates.txt" "$top/crates" \( -name '*.rt' -o -name '*.antt' -o -name crates.txt \) \
-        -not -path '*/out/*' -newer "$1" -print -quit)" ]
+    [ -z "$(find "$top/crates.txt" "$top/crates" "$folder" \( -name '*.rt' -o -name '*.antt' -o -name crates.txt -o -name '*.rt.txt' -o -name '*.antt.txt' \
+        -o -path "$top/simulator/crates" \) -not -path '*/out/*' -newer "$1" -print -quit)" ]
 }
 
 # unpacks the released program into the new folder $1, if it was proved from these sources, and puts it in its place. It is then older than a
@@ -46,22 +47,16 @@ needed() {
             for (i = 2; i <= count; i++) take(words[i])
         }
         /^[^#]/ { crate = $1; sub(/:$/, "", crate); line[crate] = $0 }
-        END { take(program) }' "$top/crates.txt"
+        END { take(program) }' "$top/crates.txt" "$top/simulator/crates"
 }
 
-# makes the folder $1, a repository of what the program is proved from, with no must-fail edit
+# makes the folder $1, a repository of what the program is proved from
 copy_needed() {
-    local crate part
-    mkdir -- "$1" && needed >"$1/crates.txt" && cp "$top/HANDLES" "$1" || return 1
-    while IFS=: read -r crate _; do
-        mkdir -p "$1/crates/$crate" || return 1
-        for part in "$top/crates/$crate"/*; do
-            case ${part##*/} in
-                out | must-fail) ;;
-                *) cp -R -- "$part" "$1/crates/$crate" || return 1 ;;
-            esac
-        done
-    done <"$1/crates.txt"
+    local path
+    "$top/simulator/into" "$1" && needed >"$1/crates.txt" || return 1
+    for path in "$1"/crates/*/; do
+        grep -q "^$(basename -- "$path"):" "$1/crates.txt" || rm -rf -- "$path" || return 1
+    done
 }
 
 # proves and builds the program in the new folder $1, with as many crates side by side as there are processors. The program is then older

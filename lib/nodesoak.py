@@ -32,8 +32,8 @@ RUNS = [Run(0, 3 if kind == "device" else nodes, SECONDS, kind, delay, images)
 
 
 def soaker():
-    """The path of the program: $SOAK_NODES, else where bench/soak-nodes builds it."""
-    return os.environ.get("SOAK_NODES", str(TOP / "crates" / "qn_soak_nodes" / "out" / "qn_soak_nodes"))
+    """The path of the program: $SOAK_NODES, else where bench/qn_soak_nodes builds it."""
+    return os.environ.get("SOAK_NODES", str(TOP / "simulator" / "out" / "qn_soak_nodes"))
 
 
 def is_built():
@@ -42,7 +42,7 @@ def is_built():
     if "QUORUMD" not in os.environ:
         builds.append(["bash", "-c", '"$0/bin/quorumd" --build-only', str(TOP)])
     if "SOAK_NODES" not in os.environ:
-        builds.append(["bash", "-c", 'top=$0; name=qn_soak_nodes; . "$top/bin/built.bash" --build-only', str(TOP)])
+        builds.append([str(TOP / "bench" / "qn_soak_nodes"), "--build-only"])
     return all(subprocess.run(words, check=False).returncode == 0 for words in builds)
 
 

@@ -3,7 +3,7 @@
 . "$TOP/tests/expect.sh"
 
 export QUORUMD
-export SOAK_NODES=$TOP/crates/qn_soak_nodes/out/qn_soak_nodes
+export SOAK_NODES=$TOP/simulator/out/qn_soak_nodes
 
 # soaker FILE WORD..: makes a program that says so of each run
 soaker() {
@@ -13,7 +13,7 @@ soaker() {
 }
 
 if [ ! -x "$SOAK_NODES" ]; then
-    echo 'skipped: not built (rt ci qn_soak_nodes), to run clusters of running nodes'
+    echo 'skipped: not built (bench/qn_soak_nodes --build-only), to run clusters of running nodes'
     soaker well ok 'exit 0'
     SOAK_NODES=$PWD/well
 fi

@@ -1,13 +1,12 @@
-"""No crate cites the proofs of another one, and each names every library of its line in crates.txt. crates.txt stands in layers, each
-crate on crates that stand before it there; docs/ARCHITECTURE.md has the same layers with the same crates, and what each stands on: a row
+"""No crate cites the proofs of another one, and each names every library of its line in crates.txt. crates.txt stands in layers, with that of
+simulator/crates behind them, each crate on crates that stand before it there; docs/ARCHITECTURE.md has the same layers with the same crates, and what each stands on: a row
 names crates of its line, and the others of that line stand below those. What a layer says that it is never on, no crate of it stands on,
 not even through other crates, but for those that it names."""
-import os
-import pathlib
 import re
 import sys
 
-TOP = pathlib.Path(os.environ["TOP"])
+from cratefiles import LINES, TOP, files_of
+
 LAYER = re.compile(r"# ([A-Z][\w ]*): (.*)")
 NEVER = re.compile(r"; never on ([\w ,]+?)(?: but through ([\w ]+))?$")
 wrong = []
@@ -15,14 +14,14 @@ wrong = []
 
 def lines_of_crates():
     """The crates of crates.txt in their order, each with the libraries that it uses, of this repository and of the kit."""
-    lines = [line.split("#")[0].strip() for line in (TOP / "crates.txt").read_text().splitlines()]
+    lines = [line.split("#")[0].strip() for line in LINES]
     return {line.split(":")[0].split()[0]: {*line.split(":")[1].split()} for line in lines if line}
 
 
 def layers_of_crates():
     """The layers of crates.txt, after its first line: of each its name, what it speaks of, and its crates."""
     layers = []
-    for line in (TOP / "crates.txt").read_text().splitlines()[1:]:
+    for line in LINES[1:]:
         named = LAYER.fullmatch(line)
         if named:
             layers.append((named[1], named[2], []))
@@ -111,8 +110,7 @@ def look_at_rows(uses, rows):
 
 def sources_of(crate):
     """The files of a crate that a check reads, with their texts."""
-    files = [file for part in ("src", "specs", "proofs") for file in (TOP / "crates" / crate / part).rglob("*")]
-    return {file: file.read_text() for file in sorted(files) if file.suffix in (".antt", ".rt")}
+    return {file: file.read_text() for file in files_of(crate)}
 
 
 def look_at_sources(libraries):

@@ -2,20 +2,18 @@
 `top` or of the function that a row names. And each function of the rows by crate runs: the program, its companion or a test
 calls it, or it stands on another one of its row that they call."""
 import functools
-import os
-import pathlib
 import re
 import sys
 
-TOP = pathlib.Path(os.environ["TOP"])
+from cratefiles import LINES, TOP, files_of
+
 PAGE = (TOP / "docs" / "PROVED.md").read_text()
 wrong = []
 
 
 @functools.cache
 def sources(crate, parts=("src", "specs")):
-    files = [file for part in parts for file in sorted((TOP / "crates" / crate / part).rglob("*")) if file.suffix in (".rt", ".antt")]
-    return "\n".join(file.read_text() for file in files)
+    return "\n".join(file.read_text() for file in files_of(crate, parts))
 
 
 def rows(heading):
@@ -97,7 +95,7 @@ def look_at_use(crates, cell):
 
 
 libraries = {}
-for line in (TOP / "crates.txt").read_text().splitlines():
+for line in LINES:
     if line and not line.startswith("#"):
         crate, used = line.split(":")
         libraries[crate.split()[0]] = used.split()

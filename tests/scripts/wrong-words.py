@@ -44,6 +44,8 @@ ROWS = {
     "packaging/quorumd-setup": "2 2 help 2 2 2 2 2",
     "release/check": "- 2 2 2 2 2 2 2",
     "release/make": "- 2 2 2 2 2 2 2",
+    "simulator/from": "2 2 help 2 2 2 2 2",
+    "simulator/into": "2 2 help 0 0 2 2 2",
     "tests/hosts/containers": "2 2 2 2 2 - - 2",
     "tests/hosts/watchdog": "1 1 1 1 1 1 1 1",
     "tests/machines/halt-under-systemd": "2 2 2 2 2 2 2 2",
@@ -56,7 +58,7 @@ ROWS = {
     "tests/run": "- 2 help - - - - -",
 }
 # no words of an operator: what starts a program or the gate, what dpkg or a machine starts
-LEFT_OUT = {"bin/quorumd", "bin/quorumctl", ".ci/run", ".ci/tools", "packaging/postinst", "packaging/postrm", "packaging/prerm", "tests/hosts/database",
+LEFT_OUT = {"bin/quorumd", "bin/quorumctl", "bench/qn_soak_nodes", ".ci/run", ".ci/tools", "packaging/postinst", "packaging/postrm", "packaging/prerm", "tests/hosts/database",
             "tests/machines/init"}
 
 
