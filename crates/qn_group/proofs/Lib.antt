@@ -1,0 +1,4 @@
+pub mod Stages
+pub mod Stepping
+pub mod Runs
+pub mod Kept

@@ -1,0 +1,4 @@
+pub mod Phases
+pub mod Acts
+pub mod Places
+pub mod Steps
