@@ -1,10 +1,11 @@
 -- A step of a group, and a run of steps: this project's profile.
-use Rattle.std.specs.Prelude.{◌≡◌, ℕ, Bool, true, false, ◌||◌, List, [], ◌∷◌, None, slice_index_or}
+use Rattle.std.specs.Prelude.{◌≡◌, ℕ, Bool, true, false, ◌||◌, List, [], ◌∷◌, None, slice_index_or, take}
 use Rattle.std.specs.List.{list_all}
 use Rattle.qn_group.specs.declared.group.Event.{Event}
 use Rattle.qn_group.specs.declared.group.Event.TheVariants as event
 use Rattle.qn_group.specs.declared.group.Given.{Given}
 use Rattle.qn_group.specs.declared.group.Group.{Group}
+use Rattle.qn_group.specs.declared.phase.Phase.{Phase}
 use Rattle.qn_group.specs.Phases.{Stage, is_down, stage_of}
 use Rattle.qn_group.specs.Acts.{is_start, is_started_by, is_stop_event, is_stopped}
 use Rattle.qn_group.specs.Places.{Moved, phase_of, stage_after}
@@ -15,6 +16,10 @@ holds group = group.held
 
 abbrev pub stage_at : Group → ℕ → Stage
 stage_at group at = stage_of (phase_of group.phases at)
+
+-- the phases of its resources; places behind them are not used, and down
+abbrev pub used : Group → List Phase
+used group = take group.count group.phases
 
 abbrev pub are_all_down : Group → Bool
 are_all_down group = list_all is_down group.phases
@@ -43,7 +48,7 @@ abbrev pub event_at : List Event → ℕ → Event
 event_at events at = slice_index_or events at (event.Tick 0)
 
 abbrev pub nothing_given : Given
-nothing_given = record { answer = None; act = None }
+nothing_given = record { answer = None; act = None; is_counted = false }
 
 abbrev pub given_at : List Given → ℕ → Given
 given_at all at = slice_index_or all at nothing_given

@@ -67,6 +67,8 @@ pub enum Answer {
 pub struct Given {
     pub answer: Option<Answer>,
     pub act: Option<Act>,
+    /// A failure is counted: of the resource whose action ended.
+    pub is_counted: bool,
 }
 
 /// What the way down comes to.
@@ -100,9 +102,9 @@ impl Failures {
             .count()
     }
 
-    fn add(&mut self, now: u64) {
+    fn add(&mut self, tick: u64) {
         if let Some(place) = self.ticks.get_mut(self.next % KEPT) {
-            *place = Some(now);
+            *place = Some(tick);
         }
         self.next = (self.next % KEPT) + 1;
     }
@@ -119,14 +121,14 @@ fn is_recent(tick: Option<u64>, now: u64, window: u64) -> bool {
 #[derive(Clone, Copy)]
 pub struct Group {
     /// The node was told that it starts, and no stop was answered as done since.
-    held: bool,
-    goal: Goal,
+    pub(crate) held: bool,
+    pub(crate) goal: Goal,
     /// Places that are not used are down.
-    phases: [Phase; MOST],
-    count: usize,
+    pub(crate) phases: [Phase; MOST],
+    pub(crate) count: usize,
     failures: [Failures; MOST],
     last_ask: Option<u64>,
-    hands_off: bool,
+    pub(crate) hands_off: bool,
     left: bool,
     clock: u64,
 }
@@ -166,6 +168,16 @@ impl Group {
         })
     }
 
+    /// A failure of the resource of that place was counted at this tick, before this group began.
+    pub fn remember(&mut self, at: usize, tick: u64)
+        ensures held { holds self.new ≡ holds self.old }
+        ensures phases { self.new.phases ≡ self.old.phases }
+    {
+        if let Some(failures) = self.failures.get_mut(at) {
+            failures.add(tick);
+        }
+    }
+
     /// Takes an event.
     pub fn step(&mut self, rules: &Rules, event: Event) -> Given
         ensures { Step self.old event result self.new }
@@ -174,6 +186,7 @@ impl Group {
             Event::Tick(tick) => Given {
                 answer: None,
                 act: self.tick(rules, tick),
+                is_counted: false,
             },
             Event::Start => self.start(),
             Event::Stop => self.stop(),
@@ -183,13 +196,15 @@ impl Group {
                 Given {
                     answer: None,
                     act: self.drive(),
+                    is_counted: false,
                 }
             }
             Event::Ended { at, verb, outcome } => {
-                self.ended(rules, at, verb, outcome);
+                let is_counted = self.ended(rules, at, verb, outcome);
                 Given {
                     answer: None,
                     act: self.drive(),
+                    is_counted,
                 }
             }
         }
@@ -245,6 +260,7 @@ impl Group {
         Given {
             answer: Some(Answer::Started),
             act: self.drive(),
+            is_counted: false,
         }
     }
 
@@ -263,6 +279,7 @@ impl Group {
             return Given {
                 answer: Some(Answer::Stopped),
                 act: None,
+                is_counted: false,
             };
         }
         let is_first = self.is_let_pass();
@@ -271,6 +288,7 @@ impl Group {
             return Given {
                 answer: Some(Answer::Wait),
                 act: None,
+                is_counted: false,
             };
         }
         self.stop_again()
@@ -282,7 +300,11 @@ impl Group {
         self.held
             && matches!(self.goal, Goal::Run)
             && self.last_ask.is_none()
-            && self.phases.iter().take(self.count).all(|phase| phase.is_up())
+            && self
+                .phases
+                .iter()
+                .take(self.count)
+                .all(|phase| phase.is_up())
     }
 
     /// The group is taken down; what is stuck is stopped again.
@@ -304,6 +326,7 @@ impl Group {
         Given {
             answer: Some(answer),
             act: self.drive(),
+            is_counted: false,
         }
     }
 
@@ -317,12 +340,14 @@ impl Group {
             return Given {
                 answer: Some(Answer::Refused),
                 act: None,
+                is_counted: false,
             };
         }
         self.goal = Goal::Leave;
         Given {
             answer: Some(Answer::Moves),
             act: self.drive(),
+            is_counted: false,
         }
     }
 
@@ -360,53 +385,70 @@ impl Group {
         }
     }
 
-    /// An action on the resource of that place ended.
-    fn ended(&mut self, rules: &Rules, at: usize, verb: Verb, outcome: Outcome)
+    /// An action on the resource of that place ended; whether a failure of it is counted.
+    fn ended(&mut self, rules: &Rules, at: usize, verb: Verb, outcome: Outcome) -> bool
         ensures held { self.new.held ≡ self.old.held }
         ensures here { stage_at self.new at ≡ stage_after_end verb outcome (stage_at self.old at) }
         ensures others { (other : ℕ) → other ≢ at → stage_at self.new other ≡ stage_at self.old other }
     {
         if at >= MOST {
-            return;
+            return false;
         }
         let before = self.phases[at];
-        let after = after_end(rules.resources[at], self.hands_off, self.clock, before, verb, outcome);
+        let after = after_end(
+            rules.resources[at],
+            self.hands_off,
+            self.clock,
+            before,
+            verb,
+            outcome,
+        );
         self.put(at, after);
-        if after == Phase::Failed && counts(before) {
-            self.fail(rules.resources[at], at, is_in_vain(verb, before, outcome));
-        }
+        after == Phase::Failed
+            && counts(before)
+            && self.fail(rules.resources[at], at, is_in_vain(verb, before, outcome))
     }
 
-    /// The resource of that place failed.
-    fn fail(&mut self, rule: Rule, at: usize, is_in_vain: bool)
+    /// The resource of that place failed; whether that is counted.
+    fn fail(&mut self, rule: Rule, at: usize, is_in_vain: bool) -> bool
         ensures held { self.new.held ≡ self.old.held }
         ensures phases { self.new.phases ≡ self.old.phases }
     {
         if matches!(self.goal, Goal::Rest | Goal::Leave) {
-            return;
+            return false;
         }
         if is_in_vain {
             self.goal = Goal::Leave;
-            return;
+            return false;
         }
-        let recent = match self.failures.get_mut(at) {
+        let recent = self.count_failure(at, rule.window);
+        self.goal = if recent >= rule.limit.min(KEPT) {
+            Goal::Leave
+        } else {
+            Goal::Restart {
+                from: match self.goal {
+                    Goal::Restart { from } => from.min(at),
+                    Goal::Rest | Goal::Run | Goal::Leave => at,
+                },
+            }
+        };
+        true
+    }
+
+    /// Counts a failure; how many came before it within that time.
+    fn count_failure(&mut self, at: usize, window: u64) -> usize
+        ensures held { self.new.held ≡ self.old.held }
+        ensures goal { self.new.goal ≡ self.old.goal }
+        ensures phases { self.new.phases ≡ self.old.phases }
+    {
+        match self.failures.get_mut(at) {
             Some(failures) => {
-                let recent = failures.recent(self.clock, rule.window);
+                let recent = failures.recent(self.clock, window);
                 failures.add(self.clock);
                 recent
             }
             None => 0,
-        };
-        if recent >= rule.limit {
-            self.goal = Goal::Leave;
-            return;
         }
-        self.goal = Goal::Restart {
-            from: match self.goal {
-                Goal::Restart { from } => from.min(at),
-                Goal::Rest | Goal::Run | Goal::Leave => at,
-            },
-        };
     }
 
     /// The next action that takes down what stands from that place on: of the last one that is not down.

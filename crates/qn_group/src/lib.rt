@@ -7,7 +7,9 @@
 mod group;
 mod laws;
 mod phase;
+mod told;
 
 pub use group::{Act, Answer, Event, Given, Goal, Group};
 pub use laws::{law_down_by_word, law_nothing_unheld, law_one_action, law_runs};
-pub use phase::{MOST, Outcome, Phase, Rule, Rules, Verb, forgetting_of};
+pub use phase::{MOST, Outcome, Phase, Rule, Rules, Verb, Word, forgetting_of};
+pub use told::Told;

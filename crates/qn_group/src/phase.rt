@@ -31,6 +31,25 @@ pub enum Outcome {
     Unknown,
 }
 
+/// What is told of a resource, and of a group.
+#[derive(Clone, Copy, PartialEq, Eq)]
+pub enum Word {
+    /// A stop failed, or nothing says that it is down.
+    Stuck,
+    Stopping,
+    /// It does not run as it should.
+    Failed,
+    Starting,
+    Down,
+    /// Nothing is known yet.
+    Looking,
+    /// It ran, and its monitor does not know.
+    Unsure,
+    /// An operator sees to it: nothing is started.
+    Maintenance,
+    Runs,
+}
+
 /// The times of a resource in milliseconds.
 #[derive(Clone, Copy)]
 pub struct Rule {
@@ -40,7 +59,7 @@ pub struct Rule {
     /// How long a start is checked (0: without end), and a stop verified.
     pub check: u64,
     pub stop: u64,
-    /// How many failures within how long end in a restart.
+    /// After how many failures within how long the next one ends in a leave (8 of each resource are remembered).
     pub limit: usize,
     pub window: u64,
 }
@@ -97,6 +116,7 @@ pub enum Phase {
 impl Phase {
     ghost use Rattle.std.specs.Prelude.{◌≡◌};
     ghost use Rattle.qn_group.specs.Phases.{is_down, is_up};
+    ghost use Rattle.qn_group.specs.Told.{word_of};
 
     /// Whether nothing of it runs, by a monitor's word.
     pub fn is_down(self) -> bool
@@ -110,6 +130,24 @@ impl Phase {
         ensures { result ≡ is_up self }
     {
         matches!(self, Phase::Up { .. } | Phase::Looking { .. })
+    }
+
+    /// What is told of a group for a resource in this phase.
+    pub fn word(self) -> Word
+        ensures { result ≡ word_of self }
+    {
+        match self {
+            Phase::New | Phase::Probing => Word::Looking,
+            Phase::Down => Word::Down,
+            Phase::Starting { .. } | Phase::Checking { .. } => Word::Starting,
+            Phase::Up { unsure, .. } | Phase::Looking { unsure, .. } => match unsure {
+                Some(_) => Word::Unsure,
+                None => Word::Runs,
+            },
+            Phase::Failed => Word::Failed,
+            Phase::Stopping | Phase::Verifying { .. } => Word::Stopping,
+            Phase::Stuck => Word::Stuck,
+        }
     }
 }
 

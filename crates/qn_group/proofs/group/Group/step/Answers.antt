@@ -1,5 +1,5 @@
 -- Each event by what its part ensures; the stop's arm needs no answer.
-use Rattle.std.proofs.Common.{None, refl, sym, subst, ◌∙◌}
+use Rattle.std.proofs.Common.{None, false, refl, sym, subst, ◌∙◌}
 use Rattle.qn_group.specs.declared.group.Event.{Event}
 use Rattle.qn_group.specs.declared.group.Event.TheVariants as event
 use Rattle.qn_group.specs.Steps.{Step}
@@ -9,7 +9,7 @@ use Rattle.qn_group.proofs.group.Group.step.Goals as goal
 
 pub returns-in-Tick : goal.returns-in-Tick
 returns-in-Tick c =
-    let after = λ (happened : Event). Step c.args.self.now happened (record { answer = None; act = c.tick.result }) c.tick.new.self in
+    let after = λ (happened : Event). Step c.args.self.now happened (record { answer = None; act = c.tick.result; is_counted = false }) c.tick.new.self in
     subst after (sym c.in-Tick.is) (
     Step-unstopped _ (event.Tick c.in-Tick.tick) _ _ refl c.tick.ensures.started (λ yes. sym c.tick.ensures.held ∙ yes) (λ at. Moved-from_Acted _ _ _ at c.tick.ensures.acted)
     )
@@ -32,7 +32,7 @@ returns-in-Move c =
 
 pub returns-in-Maintenance : goal.returns-in-Maintenance
 returns-in-Maintenance c =
-    let after = λ (happened : Event). Step c.args.self.now happened (record { answer = None; act = c.drive.result }) c.drive.new.self in
+    let after = λ (happened : Event). Step c.args.self.now happened (record { answer = None; act = c.drive.result; is_counted = false }) c.drive.new.self in
     subst after (sym c.in-Maintenance.is) (
     Step-unstopped _ (event.Maintenance c.in-Maintenance.on) _ _ refl c.drive.ensures.started (λ yes. sym c.drive.ensures.held ∙ yes) (
     λ at. Moved-from_Acted _ _ _ at c.drive.ensures.acted
@@ -41,11 +41,11 @@ returns-in-Maintenance c =
 
 pub returns-in-Ended : goal.returns-in-Ended
 returns-in-Ended c =
-    let after = λ (happened : Event). Step c.args.self.now happened (record { answer = None; act = c.drive-in-Ended.result }) c.drive-in-Ended.new.self in
+    let after = λ (happened : Event). Step c.args.self.now happened (record { answer = None; act = c.drive-in-Ended.result; is_counted = c.ended-is_counted.result }) c.drive-in-Ended.new.self in
     subst after (sym c.in-Ended.is) (
     Step-unstopped _ (event.Ended c.in-Ended.at c.in-Ended.verb c.in-Ended.outcome) _ _ refl c.drive-in-Ended.ensures.started (
-    λ yes. sym (c.drive-in-Ended.ensures.held ∙ c.ended.ensures.held) ∙ yes
+    λ yes. sym (c.drive-in-Ended.ensures.held ∙ c.ended-is_counted.ensures.held) ∙ yes
     ) (
-    Moved-ended c.args.self.now c.ended.new.self c.drive-in-Ended.new.self.phases c.in-Ended.at c.in-Ended.verb c.in-Ended.outcome c.drive-in-Ended.result c.ended.ensures.here c.ended.ensures.others c.drive-in-Ended.ensures.acted
+    Moved-ended c.args.self.now c.ended-is_counted.new.self c.drive-in-Ended.new.self.phases c.in-Ended.at c.in-Ended.verb c.in-Ended.outcome c.drive-in-Ended.result c.ended-is_counted.ensures.here c.ended-is_counted.ensures.others c.drive-in-Ended.ensures.acted
     )
     )
