@@ -37,6 +37,7 @@ set_up() {
     mkdir -p "$shared"
     : > "$shared/journal"
     : > "$room/events"
+    : > "$room/signs"
     {
         echo 'nodelist {'
         for n in 1 2 3; do printf ' node {\n  nodeid: %s\n  ring0_addr: 192.0.2.%s\n }\n' "$n" "$n"; done
@@ -143,6 +144,32 @@ power() {
         done
     ) &
     powered+=($!)
+    look "$n" &
+    powered+=($!)
+}
+
+# fault TEXT: the deed of the scene, from which its bounds count; a liar, where one is wanted, begins to lie with it
+fault() {
+    printf '%s scene fault %s\n' "$(date +%s.%3N)" "$*" >> "$room/events"
+    [ -z "${QUORUMD_TEST_LIAR-}" ] || "lie_$QUORUMD_TEST_LIAR"
+}
+
+# look N: which of its resources host N has, five times a second, by its own looking: the address, the file system, the database, each for itself
+look() {
+    local signs
+    while [ ! -e "$room/ending" ]; do
+        on "$1" sh -c 'while :; do
+            signs=
+            ! ip -o address show | grep -q " 192\.0\.2\.100/" || signs=$signs,address
+            ! grep -qE "^[^ ]+ (/srv/db|/var/lib/postgresql) " /proc/mounts || signs=$signs,store
+            ! pgrep -f "^(/usr/bin/python3 /usr/local/bin/database|.*bin/postgres -D)" > /dev/null || signs=$signs,database
+            echo "${signs:--}"
+            sleep 0.15
+        done' 2> /dev/null | while read -r signs; do
+            printf '%s host%s %s\n' "${EPOCHREALTIME/,/.}" "$1" "${signs#,}"
+        done >> "$room/signs"
+        sleep 0.2
+    done
 }
 
 # lead N: the first process of host N

@@ -18,6 +18,7 @@ said() { on "$1" journalctl -o cat "${@:3}" | grep -e "$2"; }
 # A clean stop of the unit lets the node leave: another host takes over, and this one stays up.
 scene_clean_stop() {
     begun || return 1
+    fault 'the unit of host 1 is stopped'
     on 1 systemctl stop quorumd@1.service || { echo "stop: $?"; return 1; }
     until_true 20 another_owns 1 || return 1
     sleep 3
@@ -35,6 +36,7 @@ small_resource() {
 scene_exit_message() {
     small_resource
     begun || return 1
+    fault 'host 2 leaves an exit for host 1'
     on 2 quorumd message --image /srv/cluster/disk --id 1 --kind exit || return 1
     until_true 20 another_owns 1 || return 1
     sleep 3
@@ -44,6 +46,7 @@ scene_exit_message() {
 # The message off switches the host off, and it stays off.
 scene_off_message() {
     begun || return 1
+    fault 'host 2 leaves an off for host 1'
     on 2 quorumd message --image /srv/cluster/disk --id 1 --kind off || return 1
     until_true 30 is_off 1 || return 1
     until_true 30 another_owns 1 || return 1
@@ -54,6 +57,7 @@ scene_off_message() {
 # A reboot of the host that holds: another takes over within seconds, and the host goes down in order and comes back as a standby.
 scene_reboot_of_holder() {
     begun || return 1
+    fault 'host 1 is rebooted'
     on 1 systemctl reboot
     until_true 20 another_owns 1 || { on 1 systemctl list-jobs; return 1; }
     until_true 60 unit_is 1 active || return 1
@@ -65,6 +69,7 @@ scene_reboot_of_holder() {
 # A power-off of the host that holds is none that ends in a reset.
 scene_poweroff_of_holder() {
     begun || return 1
+    fault 'host 1 is switched off in order'
     on 1 systemctl poweroff
     until_true 20 another_owns 1 || return 1
     until_true 30 is_off 1 || return 1
@@ -75,6 +80,7 @@ scene_poweroff_of_holder() {
 # A killed node: its host is reset at once and says why, another takes over after msgwait, and it comes back as a standby.
 scene_kill_node() {
     FIRMWARE=20 begun || return 1
+    fault 'the node of host 1 is killed'
     on 1 systemctl kill --kill-whom=main -s KILL quorumd@1.service
     until_true 5 nobody_owns || return 1
     until_true 30 another_owns 1 || return 1
@@ -87,6 +93,7 @@ scene_kill_node() {
 # A node that hangs is fed no more: its watchdog resets the host.
 scene_hang_node() {
     FIRMWARE=20 begun || return 1
+    fault 'the node of host 1 stands still'
     on 1 systemctl kill --kill-whom=main -s STOP quorumd@1.service
     until_true 30 another_owns 1 || return 1
     grep 'host1 watchdog' "$room/events" && until_true 60 unit_is 1 active
@@ -120,6 +127,7 @@ slowly() {
 scene_slow_stop() {
     begun || return 1
     slowly 1
+    fault 'the unit of host 1 is stopped, and its database takes nine seconds'
     on 1 systemctl stop quorumd@1.service || return 1
     until_true 20 another_owns 1 || return 1
     not_reset 1

@@ -67,6 +67,12 @@ inside() { ip netns exec "$tag" "$@"; }
 quickly() { exec nice -n -15 ip netns exec "$tag" setsid sh -c 'echo -15 2> /dev/null > /proc/self/autogroup; exec "$@"' sh "$@"; }
 note() { printf '%s scene note %s\n' "$(date +%s.%3N)" "$*" >> "$room/events"; }
 
+# fault TEXT: the deed of the scene, from which its bounds count; a liar, where one is wanted, begins to lie with it
+fault() {
+    printf '%s scene fault %s\n' "$(date +%s.%3N)" "$*" >> "$room/events"
+    [ -z "${QUORUMD_TEST_LIAR-}" ] || "lie_$QUORUMD_TEST_LIAR"
+}
+
 # set_up WAY: three machines that are off, their network, and a disk made in that way: nbd, three, etcd
 set_up() {
     way=$1
@@ -86,12 +92,15 @@ set_up() {
     exec 7> "$room/commands"
 }
 
+# with DEVICE a quorum device of so many votes, for which nobody speaks
 make_settings() {
     local number
     {
         echo 'nodelist {'
         for number in 1 2 3; do printf ' node {\n  nodeid: %s\n  ring0_addr: 10.7.0.%s\n }\n' "$number" "$number"; done
-        printf '}\nquorum {\n provider: corosync_votequorum\n}\n'
+        printf '}\nquorum {\n provider: corosync_votequorum\n'
+        [ -z "${DEVICE-}" ] || printf ' device {\n  model: net\n  votes: %s\n }\n' "$DEVICE"
+        printf '}\n'
     } > "$room/conf"
     (umask 077 && head -c 32 /dev/urandom > "$room/key")
 }
@@ -183,7 +192,7 @@ qemu_words() {
     [ "$number" != "${WRONG-0}" ] || seconds=30
     printf '%s\n' qemu-system-x86_64 -machine pc -accel "$ACCEL" -cpu max -m 256 -smp 1 -nodefaults -no-user-config -display none -no-reboot \
         -kernel "$cache/vmlinux" -initrd "$room/initrd" -append \
-        "console=ttyS0 quiet panic=0 clocksource=hpet tsc=unstable no_timer_check lab.id=$number lab.way=$way lab.watchdog=$seconds lab.image=$image lab.start=$2" \
+        "console=ttyS0 quiet panic=0 clocksource=hpet tsc=unstable no_timer_check lab.id=$number lab.way=$way lab.watchdog=$seconds lab.image=$image lab.start=$2 lab.liar=${QUORUMD_TEST_LIAR-none}" \
         -device i6300esb -action watchdog=reset \
         -netdev "tap,id=net,ifname=t$number,script=no,downscript=no" -device "virtio-net-pci,netdev=net,mac=52:54:00:07:00:0$number,romfile="
     for port in console orders signs; do

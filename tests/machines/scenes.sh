@@ -4,7 +4,7 @@
 # The scenes. Each is a function that fails where something else came than should. Sourced by `machines`.
 all_scenes=(kill_nbd kill_three kill_etcd hang panic power_off cut_nbd cut_three cut_etcd not_heard hears_nobody slow_disk dead_disk dead_server
     one_server_of_three two_servers_of_three leader_killed member_killed wrong_watchdog long_sectors long_sectors_unsaid
-    message_test message_reset message_off message_exit message_crashdump paused_machine)
+    message_test message_reset message_off message_exit message_crashdump mail_unread forged paused_machine)
 
 # all_on WAY: three machines that boot
 all_on() {
@@ -54,7 +54,7 @@ goes_on() {
 
 kill_node() {
     FIRMWARE=60 begun "$1" || return 1
-    note 'the node of machine 1 is killed'
+    fault 'the node of machine 1 is killed'
     order 1 'kill -KILL $(cat /run/node)'
     by_watchdog
 }
@@ -72,7 +72,7 @@ scene_kill_etcd() { kill_node etcd; }
 # A node that stands still is fed no more.
 scene_hang() {
     FIRMWARE=60 begun nbd || return 1
-    note 'the node of machine 1 stands still'
+    fault 'the node of machine 1 stands still'
     order 1 'kill -STOP $(cat /run/node)'
     by_watchdog
 }
@@ -80,7 +80,7 @@ scene_hang() {
 # A kernel that panics, and stays so.
 scene_panic() {
     FIRMWARE=60 begun nbd || return 1
-    note 'the kernel of machine 1 panics'
+    fault 'the kernel of machine 1 panics'
     order 1 'echo c > /proc/sysrq-trigger'
     by_watchdog
 }
@@ -88,14 +88,14 @@ scene_panic() {
 # A machine without power is taken over after msgwait.
 scene_power_off() {
     begun nbd || return 1
-    note 'machine 1 is switched off'
+    fault 'machine 1 is switched off'
     tell off 1
     taken_over && resets_are 0 0 0
 }
 
 cut_off() {
     FIRMWARE=60 begun "$1" || return 1
-    note 'the cable of machine 1 is pulled'
+    fault 'the cable of machine 1 is pulled'
     ip -n "$tag" link set t1 nomaster
 }
 
@@ -109,7 +109,7 @@ scene_cut_etcd() { cut_off etcd && by_watchdog; }
 # A holder that hears the others, but that they do not hear: it is reset, and another one takes over.
 scene_not_heard() {
     FIRMWARE=60 begun nbd || return 1
-    note 'what machine 1 sends comes to nobody'
+    fault 'what machine 1 sends comes to nobody'
     order 1 'arp -s 10.7.0.2 52:54:00:07:00:22; arp -s 10.7.0.3 52:54:00:07:00:33'
     by_message
 }
@@ -123,7 +123,7 @@ hears() {
 # A holder that hears nobody stops, and is not reset, since the others hear it. Nobody starts until it hears again.
 scene_hears_nobody() {
     begun nbd || return 1
-    note 'machine 1 hears nobody'
+    fault 'machine 1 hears nobody'
     hears off
     until_true 30 nobody_owns || return 1
     sleep 30
@@ -136,7 +136,7 @@ scene_hears_nobody() {
 # A disk that moves a hundred bytes a second answers after the read limit.
 scene_slow_disk() {
     FIRMWARE=60 begun nbd || return 1
-    note 'the disk of machine 1 is slow'
+    fault 'the disk of machine 1 is slow'
     tell slow 1 100
     by_watchdog
 }
@@ -144,7 +144,7 @@ scene_slow_disk() {
 # A disk that is gone fails each call at once.
 scene_dead_disk() {
     FIRMWARE=60 begun nbd || return 1
-    note 'machine 1 loses its disk'
+    fault 'machine 1 loses its disk'
     tell unplug 1
     by_watchdog
 }
@@ -152,7 +152,7 @@ scene_dead_disk() {
 # The block server of the holder is killed.
 scene_dead_server() {
     FIRMWARE=60 begun nbd || return 1
-    note 'the block server of machine 1 is killed'
+    fault 'the block server of machine 1 is killed'
     order 1 'kill -KILL $(cat /run/server)'
     by_watchdog
 }
@@ -160,7 +160,7 @@ scene_dead_server() {
 # One block server of three may stand still, die and come back: the holder goes on.
 scene_one_server_of_three() {
     begun three || return 1
-    note 'the first server stands still'
+    fault 'the first server stands still'
     kill -STOP "${servers[0]}"
     goes_on 15 || return 1
     note 'it is killed'
@@ -214,7 +214,7 @@ scene_leader_killed() {
 # The holder's own member is killed.
 scene_member_killed() {
     FIRMWARE=60 begun etcd || return 1
-    note 'the member of machine 1 is killed'
+    fault 'the member of machine 1 is killed'
     kill -KILL "${servers[1]}"
     by_watchdog
 }
@@ -230,7 +230,6 @@ scene_wrong_watchdog() {
 # A disk of sectors of 4096 bytes, and an image that is laid out for it
 scene_long_sectors() {
     STRIDE=@4096 FIRMWARE=60 begun nbd || return 1
-    note 'machine 2 leaves a reset for machine 1'
     leave reset
     by_message
 }
@@ -245,7 +244,10 @@ scene_long_sectors_unsaid() {
 }
 
 # leave KIND: machine 2 leaves a message for the node of machine 1
-leave() { order 2 "quorumd message --image $image --id 1 --kind $1"; }
+leave() {
+    fault "machine 2 leaves $1 for machine 1"
+    order 2 "quorumd message --image $image --id 1 --kind $1"
+}
 
 scene_message_test() {
     begun nbd || return 1
@@ -260,6 +262,24 @@ scene_message_reset() {
 }
 
 # A machine that was told to go off stays off.
+# A reset is written to a node whose network is well, and which nobody misses: it reads its mailbox each loop, and is gone within two.
+scene_mail_unread() {
+    FIRMWARE=60 begun nbd || return 1
+    leave reset
+    by_message
+}
+
+# Votes of a quorum device that anybody on the machine can send: machine 1 is cut off, and with them it would be a majority. It must not believe
+# them: nobody is reset, and since the two others are no majority without the device either, nobody holds.
+scene_forged() {
+    DEVICE=2 begun nbd || return 1
+    order 1 'while :; do printf "QN\\005\\001" | nc -u -w 1 127.0.0.1 7401; done &'
+    fault 'machine 1 is cut off, and votes are forged on it'
+    ip -n "$tag" link set t1 nomaster
+    sleep 45
+    nobody_owns && resets_are 0 0 0
+}
+
 scene_message_off() {
     FIRMWARE=5 begun nbd || return 1
     leave off
@@ -286,7 +306,7 @@ scene_message_crashdump() {
 # a second and a half, the loop, and a read.
 scene_paused_machine() {
     FIRMWARE=60 begun nbd || return 1
-    note 'machine 1 stands still'
+    fault 'machine 1 stands still'
     tell pause 1
     until_true 60 another_owns 1 || return 1
     sleep 3

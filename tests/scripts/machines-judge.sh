@@ -43,4 +43,50 @@ judged 1 '1.000 1 sign 1 1\n5.000 1 sign 7\n5.100 2 sign 1 1\n' \
     '0.00 machine 1 holds until 4.00: 2 signs, 0 lost|4.10 machine 2 holds until 4.10: 1 signs, 0 lost|TWO OWNERS: 1 and 2, from 4.00 to 4.10'
 judged 0 '1.000 1 sign \n' '0.00 machine 1 holds until 0.00: 1 signs, 0 lost'
 
+# bounded STATUS SCENE SLOW 'EVENTS' 'LINE..': what the judge says of the bounds of that scene, with the times 8, 16, 1.5, 3, 1 s
+bounded() {
+    local status=0
+    printf "$4" > events
+    "$TOP/tests/machines/judge" --scene "$2" --times 8000,16000,1500,3000,1000 --slow "$3" events > said || status=$?
+    same "$status" "$1"
+    same "$(grep '^OUT OF BOUNDS' said | paste -sd '|')" "$5"
+}
+
+# scene RESET OWNER [EVENT..]: machine 1 holds until its reset, so many seconds after the fault at 100, and machine 2 from so many seconds on; - is never
+scene() {
+    printf '90.000 1 sign 1 1\\n100.000 scene fault it is killed\\n'
+    [ "$1" = - ] || awk -v at="$1" 'BEGIN { printf "%.3f 1 sign 1 2\\n%.3f 1 reset\\n", 99 + at, 100 + at }'
+    [ "$2" = - ] || awk -v at="$2" 'BEGIN { printf "%.3f 2 sign 1 1\\n", 100 + at }'
+    shift 2
+    [ $# = 0 ] || printf '%s\\n' "$@"
+}
+
+# as it is; a watchdog that resets too soon, too late, never; a start before the fence and msgwait, too late, never; a reset that nobody ordered
+bounded 0 hang 1 "$(scene 7 22)" ''
+bounded 1 hang 1 "$(scene 5.2 22)" 'OUT OF BOUNDS: machine 1 was reset after 5.20 s, and 5.25 is the least'
+bounded 0 hang 1 "$(scene 9.3 22)" ''
+bounded 1 hang 1 "$(scene 12.6 22)" 'OUT OF BOUNDS: machine 1 was reset after 12.60 s, and 9.33 is the most'
+bounded 1 hang 1 "$(scene - 22)" 'OUT OF BOUNDS: machine 1 was reset never, and 9.33 s is the most'
+bounded 1 hang 1 "$(scene 4 6)" 'OUT OF BOUNDS: machine 1 was reset after 4.00 s, and 5.25 is the least|OUT OF BOUNDS: another machine held after 6.00 s, and 18.84 is the least'
+bounded 1 hang 1 "$(scene 7 32)" 'OUT OF BOUNDS: another machine held after 32.00 s, and 31.00 is the most'
+bounded 1 hang 1 "$(scene 7 -)" 'OUT OF BOUNDS: another machine held never, and 31.00 s is the most'
+bounded 1 hang 1 "$(scene 7 22 '107.000 3 reset')" 'OUT OF BOUNDS: machine 3 was reset, and nobody ordered it'
+# upper bounds grow with the load of the bed, lower ones do not
+bounded 0 hang 1.5 "$(scene 12.6 40)" ''
+bounded 1 hang 1.5 "$(scene 5.2 18)" 'OUT OF BOUNDS: machine 1 was reset after 5.20 s, and 5.25 is the least|OUT OF BOUNDS: another machine held after 18.00 s, and 18.84 is the least'
+# where nothing must come, and where nothing is asked
+bounded 0 message_test 1 "$(scene - -)" ''
+bounded 1 message_test 1 "$(scene - 5)" 'OUT OF BOUNDS: another machine held after 5.00 s, and must not be'
+bounded 1 power_off 1 "$(scene 3 22)" 'OUT OF BOUNDS: machine 1 was reset after 3.00 s, and must not be'
+bounded 0 mail_unread 1 "$(scene 2 22)" ''
+bounded 1 mail_unread 1 "$(scene 7 24)" 'OUT OF BOUNDS: machine 1 was reset after 7.00 s, and 4.50 is the most'
+bounded 0 wrong_watchdog 1 "$(scene 3 6)" ''
+bounded 1 hang 1 '90.000 1 sign 1 1\n' 'OUT OF BOUNDS: the scene has no fault'
+
+# each scene has its line of bounds, or is one that begins no machine, or loses others than machine 1
+(. "$TOP/tests/machines/scenes.sh" && printf '%s\n' "${all_scenes[@]}") | sort > scenes
+grep -v '^#' "$TOP/tests/machines/bounds" | cut -f 1 | sort > bounded
+same "$(comm -13 scenes bounded)" ''
+same "$(comm -23 scenes bounded | paste -sd ' ')" 'leader_killed long_sectors_unsaid two_servers_of_three wrong_watchdog'
+
 "$TOP/bin/timeline" --title 'The node of the holder is killed' --journal "$TOP/tests/machines/take-over.journal" | cmp - "$TOP/docs/take-over.svg"

@@ -1,0 +1,28 @@
+# shellcheck shell=bash
+# What bed.sh sets is used here.
+# shellcheck disable=SC2154,SC2034
+# What a liar does on the hosts, and the scene that has to fail by it. Sourced by `containers`, which lies where QUORUMD_TEST_LIAR names one; `tests/liars`
+# plays them all. No unproved program can be built, so what lies is what stands around the right one.
+liars=(early_start:kill_node early_start:hang_node second_mount:clean_stop agent_goes_on:exit_message)
+
+# The next host takes the address six seconds after the loss, as if msgwait were none.
+lie_early_start() {
+    {
+        sleep 6
+        on 2 ip address add 192.0.2.100/24 dev host0
+    } > /dev/null 2>&1 &
+}
+
+# A standby mounts the shared file system and takes the address for three seconds.
+lie_second_mount() {
+    on 3 sh -c 'mkdir -p /srv/db && mount -o ro,noload /srv/store /srv/db && ip address add 192.0.2.100/24 dev host0
+        sleep 3
+        umount /srv/db; ip address del 192.0.2.100/24 dev host0' > /dev/null 2>&1
+}
+
+# The agent of host 1 answers `ok` to a stop at once, and its resources go on.
+lie_agent_goes_on() {
+    on 1 sh -c 'mkdir -p /run/systemd/system/quorumd-agent@.service.d
+        printf "[Service]\nExecStart=\nExecStart=/bin/echo ok\n" > /run/systemd/system/quorumd-agent@.service.d/liar.conf
+        systemctl daemon-reload'
+}

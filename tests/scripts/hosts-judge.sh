@@ -1,0 +1,68 @@
+# tests/hosts/judge: each resource signs for itself, and two hosts with any of them at once are two owners; a reset ends a holding; what a scene has to
+# keep to; a host at which nobody looked is not judged. tests/liars refuses words that are none.
+. "$TOP/tests/expect.sh"
+
+# judged STATUS 'SIGNS' 'EVENTS' 'LINE..' [WORD..]: what the judge makes of these files
+judged() {
+    local status=0 want=$1 lines=$4
+    printf "$2" > signs
+    printf "$3" > events
+    shift 4
+    "$TOP/tests/hosts/judge" "$@" signs events > said || status=$?
+    same "$status" "$want"
+    same "$(tr -s ' ' < said | sed 's/^ //' | paste -sd '|')" "$lines"
+}
+
+# every HOST FROM TO SIGNS: five looks a second at that host
+every() { awk -v host="$1" -v from="$2" -v to="$3" -v signs="$4" 'BEGIN { for (t = from; t <= to + 0.001; t += 0.2) printf "%.3f %s %s\\n", t, host, signs }'; }
+
+# nothing at all, and lines that are none
+judged 0 '' '' ''
+judged 0 'neither\n' 'neither\n' ''
+
+# one after the other; the store of one beside the address of another; the same host twice
+judged 0 '1.000 host1 address,store\n2.000 host1 address\n2.200 host1 -\n2.400 host2 address\n' '' \
+    '0.00 host1 has its resources until 1.00|1.40 host2 has its resources until 1.40'
+judged 1 '1.000 host1 address\n1.200 host3 store\n1.400 host1 address\n' '' \
+    '0.00 host1 has its resources until 0.40|0.20 host3 has its resources until 0.20|TWO OWNERS: host1 until 1.40, host3 from 1.20'
+judged 0 '1.000 host1 address\n1.200 host1 -\n1.400 host1 address\n' '' \
+    '0.00 host1 has its resources until 0.00|0.40 host1 has its resources until 0.40'
+# a reset ends what a host had, also where nobody looked at it in between
+judged 0 '1.000 host1 store\n5.000 host2 store\n6.000 host2 -\n9.000 host1 store\n' '1.500 host1 reset\n' \
+    '0.00 host1 has its resources until 0.00|4.00 host2 has its resources until 4.00|8.00 host1 has its resources until 8.00'
+
+# scene SCENE STATUS RESET OWNER LINE..: the fault is at 10; host 1 is reset so many seconds after it, and host 2 has all from so many on; - is never
+scene() {
+    local end=$3 name=$1 want=$2 lines=$5 events='10.000 scene fault x\n' signs
+    [ "$3" != - ] || end=30
+    signs=$(every host1 0 "$(awk -v e="$end" 'BEGIN { print 10 + e }')" address,store,database)
+    [ "$3" = - ] || events+="$(awk -v e="$3" 'BEGIN { printf "%.3f host1 reset\\n", 10 + e }')"
+    [ "$4" = - ] || signs+=$(every host2 "$(awk -v e="$4" 'BEGIN { print 10 + e }')" 60 address,store,database)
+    printf "$signs" > signs
+    printf "$events" > events
+    local status=0
+    "$TOP/tests/hosts/judge" --scene "$name" --times 5000,10000,1000,2000,1000 signs events > said || status=$?
+    same "$status" "$want"
+    same "$(grep -E '^(OUT|NOT|TWO)' said | paste -sd '|')" "$lines"
+}
+
+scene hang_node 0 4.4 14.2 ''
+scene hang_node 1 9.6 14.2 'OUT OF BOUNDS: host host1 was reset after 9.60 s, and 6.05 is the most'
+scene hang_node 1 0.4 14.2 'OUT OF BOUNDS: host host1 was reset after 0.40 s, and 3.00 is the least'
+scene kill_node 0 0.4 14.2 ''
+scene kill_node 1 0.4 6 'OUT OF BOUNDS: another host held after 6.00 s, and 11.90 is the least'
+scene kill_node 1 0.4 - 'OUT OF BOUNDS: another host held never, and 24.00 s is the most'
+scene kill_node 1 - 14.2 'TWO OWNERS: host1 until 40.00, host2 from 24.20|OUT OF BOUNDS: host host1 was reset never, and 3.00 s is the most'
+
+# a host that nobody looked at for five seconds within one boot
+judged 1 "$(every host1 0 11 store)$(every host2 0 5 -)$(every host2 10 30 -)$(every host2 30.2 40 store)" '10.000 scene fault x\n11.100 host1 reset\n' \
+    '0.00 host1 has its resources until 11.00|30.20 host2 has its resources until 40.00|NOT JUDGED: host2 was not looked at for 5.0 s' \
+    --scene kill_node --times 5000,10000,1000,2000,1000
+
+# each liar names a scene of its lab that has bounds
+for lab in machines hosts; do
+    (. "$TOP/tests/$lab/lies.sh" && printf '%s\n' "${liars[@]}") | cut -d : -f 2 | while IFS= read -r name; do
+        grep -q "^$name	" "$TOP/tests/$lab/bounds"
+        grep -q "^scene_$name() {" "$TOP/tests/$lab/scenes.sh"
+    done
+done
