@@ -15,7 +15,8 @@ use Rattle.qn_model.specs.Steps.{entry_of}
 use Rattle.qn_base.specs.declared.ids.View.{View}
 use Rattle.std.specs.Option.{option_map_or}
 use Rattle.qn_model.specs.lemmas.Entries.{packet_answers_none}
-use Rattle.qn_member.specs.Maker.{Maker, view_to_announce}
+use Rattle.qn_member.specs.Announcing.{view_to_announce}
+use Rattle.qn_member.specs.Maker.{Maker}
 use Rattle.qn_wire.specs.Reading.{packet_of}
 use Rattle.qn_live.specs.declared.live_end.LiveEnd.{LiveEnd}
 use Rattle.qn_live.specs.declared.place.Choice.TheVariants as choice

@@ -7,7 +7,8 @@ use Rattle.qn_base.specs.Plans.{Ends, ◌>>=◌, Follows}
 use Rattle.qn_model.specs.declared.configuration.Settings.{Settings}
 use Rattle.qn_model.specs.declared.packets.Sent.{Sent}
 use Rattle.qn_model.specs.Log.{now}
-use Rattle.qn_member.specs.Maker.{Maker, after_hello_due, is_beat, is_hello_due, view_to_announce}
+use Rattle.qn_member.specs.Announcing.{after_hello_due, is_beat, is_hello_due, view_to_announce}
+use Rattle.qn_member.specs.Maker.{Maker}
 use Rattle.qn_live.specs.declared.place.Greeting.TheVariants as greeting
 use Rattle.qn_live.specs.Greetings.{is_due, maker_of, sends_plan, to_send}
 use Rattle.qn_live.specs.Hellos.{hellos_of, send_call}

@@ -16,7 +16,8 @@ use Rattle.qn_model.specs.Log.{Line, now}
 use Rattle.qn_model.specs.Moments.{begin_of}
 use Rattle.qn_model.specs.NodeOutputs.{newest_outs, with_entry}
 use Rattle.qn_model.specs.Wanted.{rank_of}
-use Rattle.qn_member.specs.Maker.{Maker, after_hello_due}
+use Rattle.qn_member.specs.Announcing.{after_hello_due}
+use Rattle.qn_member.specs.Maker.{Maker}
 use Rattle.qn_live.specs.declared.live_end.LiveEnd.{LiveEnd}
 use Rattle.qn_live.specs.declared.live_end.LiveEnd.TheVariants as end
 use Rattle.qn_live.specs.declared.place.Choice.{Choice}

@@ -24,7 +24,8 @@ use Rattle.qn_model.specs.declared.outputs.Out.TheVariants as out
 use Rattle.qn_model.specs.Log.{Line, now}
 use Rattle.qn_model.specs.Moments.{begin_of}
 use Rattle.qn_model.specs.NodeOutputs.{newest_outs, with_entry}
-use Rattle.qn_member.specs.Maker.{Maker, view_to_announce}
+use Rattle.qn_member.specs.Announcing.{view_to_announce}
+use Rattle.qn_member.specs.Maker.{Maker}
 use Rattle.qn_wire.specs.Packets.{packet_bytes}
 use Rattle.qn_live.specs.declared.live_end.LiveEnd.{LiveEnd}
 use Rattle.qn_live.specs.declared.live_end.LiveEnd.TheVariants as end

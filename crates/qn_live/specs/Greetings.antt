@@ -15,7 +15,8 @@ use Rattle.qn_model.specs.declared.packets.Sent.{Sent}
 use Rattle.qn_model.specs.Phases.{phase, is_live}
 use Rattle.qn_model.specs.Wanted.{rank_of}
 use Rattle.qn_wire.specs.Packets.{packet_bytes}
-use Rattle.qn_member.specs.Maker.{Maker, first_maker, is_hello_due, view_to_announce, view_to_leave}
+use Rattle.qn_member.specs.Announcing.{is_hello_due, view_to_announce, view_to_leave}
+use Rattle.qn_member.specs.Maker.{Maker, first_maker}
 use Rattle.qn_live.specs.declared.live_end.LiveEnd.{LiveEnd}
 use Rattle.qn_live.specs.declared.live_end.LiveEnd.TheVariants as end
 use Rattle.qn_live.specs.declared.place.Greeting.{Greeting}

@@ -6,7 +6,8 @@ use Rattle.qn_base.specs.declared.calls.Call.TheVariants as call
 use Rattle.qn_model.specs.declared.configuration.Settings.{Settings}
 use Rattle.qn_model.specs.declared.packets.Sent.{Sent}
 use Rattle.qn_wire.specs.Packets.{packet_bytes}
-use Rattle.qn_member.specs.Maker.{Maker, view_to_announce}
+use Rattle.qn_member.specs.Announcing.{view_to_announce}
+use Rattle.qn_member.specs.Maker.{Maker}
 use Rattle.qn_live.specs.declared.place.Greeting.TheVariants as greeting
 use Rattle.qn_live.specs.Greetings.{to_all}
 

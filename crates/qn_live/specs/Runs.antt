@@ -14,7 +14,8 @@ use Rattle.qn_model.specs.Moments.{begin_of}
 use Rattle.qn_model.specs.NodeVotes.{answer_with_tie}
 use Rattle.qn_model.specs.NodeOutputs.{newest_outs, with_entry}
 use Rattle.qn_model.specs.Unmet.{unmet}
-use Rattle.qn_member.specs.Maker.{Maker, after_hello_due}
+use Rattle.qn_member.specs.Announcing.{after_hello_due}
+use Rattle.qn_member.specs.Maker.{Maker}
 use Rattle.qn_live.specs.declared.live_end.LiveEnd.{LiveEnd}
 use Rattle.qn_live.specs.declared.live_end.LiveEnd.TheVariants as end
 use Rattle.qn_live.specs.declared.place.Choice.{Choice}

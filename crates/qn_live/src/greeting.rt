@@ -1,7 +1,7 @@
 //! What a node that takes part sends to the others, and its view maker.
 ghost use Rattle.std.specs.Prelude.{◌≡◌, ◌<◌, ◌≤◌, ◌+◌, IfSome, length, option_map, option_and_then, true};
 ghost use Rattle.qn_live.specs.Greetings.{farewell_after, greeting_after, greeting_packet, is_due, maker_where};
-ghost use Rattle.qn_member.specs.Maker.{after_hello_due, view_to_announce};
+ghost use Rattle.qn_member.specs.Announcing.{after_hello_due, view_to_announce};
 
 use crate::live_end::LiveEnd;
 use crate::place::Greeting;

@@ -3,7 +3,8 @@ ghost use Rattle.std.specs.Prelude.{◌≡◌, ◌<◌, ◌++◌, ◌∷◌, ℕ
 ghost use Rattle.qn_base.specs.declared.calls.Call.{Call};
 ghost use Rattle.qn_base.specs.Calls.{blank, some_failed};
 ghost use Rattle.qn_base.specs.Plans.{Follows, Plan, question};
-ghost use Rattle.qn_member.specs.Maker.{Maker, is_hello_due};
+ghost use Rattle.qn_member.specs.Announcing.{is_hello_due};
+ghost use Rattle.qn_member.specs.Maker.{Maker};
 ghost use Rattle.qn_model.specs.declared.configuration.Settings.{Settings};
 ghost use Rattle.qn_model.specs.declared.entries.What.{What};
 ghost use Rattle.qn_model.specs.declared.outputs.BootCause.{BootCause};

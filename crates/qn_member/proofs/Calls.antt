@@ -12,7 +12,8 @@ use Rattle.qn_model.specs.declared.configuration.Settings.{Settings}
 use Rattle.qn_model.specs.Votes.{are_all_in}
 use Rattle.qn_member.specs.declared.change.Change.{Change}
 use Rattle.qn_base.specs.declared.ids.Said.{Said}
-use Rattle.qn_member.specs.Maker.{Maker, after_hello, after_tick, changed, company_at, differs_at, differs_still, enough_of, first_loops, first_maker, has_configured, installed, is_configured, is_hello_due, is_in_one, is_present, is_present_member, leader_at, looked, may_install, of_rank, plain, says_more, seeing, view_at, view_under}
+use Rattle.qn_member.specs.Announcing.{is_hello_due}
+use Rattle.qn_member.specs.Maker.{Maker, after_hello, after_tick, changed, company_at, differs_at, differs_still, enough_of, first_loops, first_maker, has_configured, installed, is_configured, is_in_one, is_present, is_present_member, leader_at, looked, may_install, of_rank, plain, says_more, seeing, view_at, view_under}
 use Rattle.qn_member.specs.MakerCalls.{Announce, ChangeOf, Differs, Due, Finds, Hello, Look, LooksBackTo, MakerCall, MakerRun, MayBegin, Misses, NeverFalls, PlainHello, after_calls, company_of, first_look_before, first_of, greatest_of, ids_had, maker_of}
 use Rattle.qn_member.proofs.Differs.{item_of_rank, length-with_ranks}
 use Rattle.qn_member.proofs.Heard.{Kept, Still, greeted, kept_calls, still_announce, still_due, still_hello, still_plain, told}

@@ -1,6 +1,6 @@
 -- Who follows whom: the view of a leader is taken, and one Hello counts on one side.
 use Rattle.std.proofs.Common.{arith, ◌≡◌, ◌≢◌, ℕ, ◌≤◌, ◌<◌, Bool, true, false, not, List, [], ◌∷◌, length, Option, Some, None, IfSome, refl, sym, ap, ◌∙◌, subst, ◌==◌, ◌&&◌, if◌then◌else◌, ◌⊎◌, inl, inr, nat_lt, ◌||◌, nat_le}
-use Rattle.qn_member.proofs.Company.{leader_within}
+use Rattle.qn_member.proofs.Companies.{leader_within}
 use Rattle.qn_model.specs.Votes.{votes_among}
 use Rattle.qn_model.specs.LeastMembers.{least_from-some}
 use Rattle.std.specs.Option.{option_map_or, option_or, option_map}
@@ -15,7 +15,8 @@ use Rattle.qn_model.specs.NodeVotes.{is_same_view}
 use Rattle.qn_model.specs.declared.nodelist.NodeEntry.{NodeEntry}
 use Rattle.qn_model.specs.declared.configuration.Settings.{Settings}
 use Rattle.qn_base.specs.declared.ids.Said.{Said}
-use Rattle.qn_member.specs.Maker.{Maker, able_nodes, after_hello, after_tick, company_at, enough_of, first_maker, followed, followed_view, follows_of, follows_other, forgotten_nodes, has_configured, installed, is_configured, is_forgotten, is_forgotten_beside, is_heard, is_hello_due, is_led, is_missed, is_taken, leader_at, least_of, looked, may_install, may_lead, of_rank, own_view, plain, ranks_that, said_at, says_more, seeing, view_at, view_under, visible_nodes, upper_nodes, is_upper, is_visible, is_able}
+use Rattle.qn_member.specs.Announcing.{is_hello_due}
+use Rattle.qn_member.specs.Maker.{Maker, able_nodes, after_hello, after_tick, company_at, enough_of, first_maker, followed, followed_view, follows_of, follows_other, forgotten_nodes, has_configured, installed, is_configured, is_forgotten, is_forgotten_beside, is_heard, is_led, is_missed, is_taken, leader_at, least_of, looked, may_install, may_lead, of_rank, own_view, plain, ranks_that, said_at, says_more, seeing, view_at, view_under, visible_nodes, upper_nodes, is_upper, is_visible, is_able}
 use Rattle.qn_member.specs.MakerCalls.{Announce, Due, Hello, Look, MakerCall, MakerRun, PlainHello, after_calls, company_of, first_of, last_said, leader_found, maker_of}
 use Rattle.qn_member.specs.Following.{HasLost, LeadsAble, LeadsLeast, Loses, Makes, last_says, last_seen, IsFollower, FollowsItself, FollowsItselfIs, SameWord, SameWordIs}
 use Rattle.qn_model.specs.lemmas.LeastRanks.{least_below, least_bound, least_none, least_passes}

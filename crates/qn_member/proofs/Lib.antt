@@ -1,5 +1,5 @@
 pub mod Calls
-pub mod Company
+pub mod Companies
 pub mod Differs
 pub mod Follows
 pub mod Heard

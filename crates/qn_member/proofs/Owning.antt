@@ -13,9 +13,10 @@ use Rattle.qn_base.specs.Members.{is_member}
 use Rattle.qn_model.specs.declared.configuration.Settings.{Settings}
 use Rattle.qn_model.specs.Votes.{are_all_in}
 use Rattle.qn_base.specs.declared.ids.Said.{Said}
-use Rattle.qn_member.specs.Maker.{Maker, after_hello, after_tick, company_at, company_under, disputed_nodes, first_maker, followed_view, follows_other, has_configured, has_left, installed, is_configured, is_disputed, is_heard, is_hello_due, is_kept, is_known, is_led, is_overdue, is_present, is_present_member, is_quiet, is_steady, kept_nodes, known_nodes, leader_at, led_nodes, looked, may_install, members_at, next_id, of_rank, overdue_nodes, own_view, plain, says_more, three_loops_after, view_at, view_under}
+use Rattle.qn_member.specs.Announcing.{is_hello_due}
+use Rattle.qn_member.specs.Maker.{Maker, after_hello, after_tick, company_at, company_under, disputed_nodes, first_maker, followed_view, follows_other, has_configured, has_left, installed, is_configured, is_disputed, is_heard, is_kept, is_known, is_led, is_overdue, is_present, is_present_member, is_quiet, is_steady, kept_nodes, known_nodes, leader_at, led_nodes, looked, may_install, members_at, next_id, of_rank, overdue_nodes, own_view, plain, says_more, three_loops_after, view_at, view_under}
 use Rattle.qn_member.specs.MakerCalls.{Announce, Due, Hello, IsOwnView, Look, MakerCall, MakerRun, OwnView, PlainHello, after_call, after_calls, leader_found, maker_of}
-use Rattle.qn_member.proofs.Company.{company_has_own, keeps_company}
+use Rattle.qn_member.proofs.Companies.{company_has_own, keeps_company}
 use Rattle.qn_member.proofs.Heard.{greeted, if_both, told}
 use Rattle.qn_member.proofs.Ranks.{all_ranks-lt, member_of-ranks_that}
 

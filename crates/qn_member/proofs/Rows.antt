@@ -6,7 +6,8 @@ use Rattle.qn_model.specs.declared.configuration.Settings.{Settings}
 use Rattle.qn_model.specs.Unmet.{least_from}
 use Rattle.qn_base.specs.declared.ids.Said.{Said}
 use Rattle.qn_member.specs.MakerCalls.{company_of, leader_found}
-use Rattle.qn_member.specs.Maker.{after_hello, disputed_nodes, looked, first_maker, ranks_that, with_ranks, after_announce, after_plain_hello, after_hello_due, after_tick, is_hello_due, view_at, view_to_announce, view_to_leave}
+use Rattle.qn_member.specs.Announcing.{after_hello_due, is_hello_due, view_to_announce, view_to_leave}
+use Rattle.qn_member.specs.Maker.{after_hello, disputed_nodes, looked, first_maker, ranks_that, with_ranks, after_announce, after_plain_hello, after_tick, view_at}
 
 -- a node of one vote
 node : ℕ → NodeEntry

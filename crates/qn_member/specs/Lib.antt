@@ -1,3 +1,4 @@
+pub mod Announcing
 pub mod Following
 pub mod Maker
 pub mod MakerCalls

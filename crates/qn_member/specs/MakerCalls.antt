@@ -9,7 +9,8 @@ use Rattle.qn_model.specs.declared.configuration.Settings.{Settings}
 use Rattle.qn_model.specs.Votes.{are_all_in}
 use Rattle.qn_member.specs.declared.change.Change.{Change}
 use Rattle.qn_base.specs.declared.ids.Said.{Said}
-use Rattle.qn_member.specs.Maker.{Maker, after_announce, after_hello, after_hello_due, after_plain_hello, after_tick, company_at, enough_of, first_loops, first_maker, has_configured, is_configured, is_heard, is_in_one, is_kept, is_overdue, is_plain, is_present, is_present_member, leader_at, looked, members_at, plain, seeing, view_at}
+use Rattle.qn_member.specs.Announcing.{after_hello_due}
+use Rattle.qn_member.specs.Maker.{Maker, after_announce, after_hello, after_plain_hello, after_tick, company_at, enough_of, first_loops, first_maker, has_configured, is_configured, is_heard, is_in_one, is_kept, is_overdue, is_plain, is_present, is_present_member, leader_at, looked, members_at, plain, seeing, view_at}
 
 pub data MakerCall : Type 0 where
   Hello : ℕ → ℕ → Said → MakerCall  -- at a tick a Hello of a rank came, which says this

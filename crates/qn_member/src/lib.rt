@@ -5,9 +5,14 @@
 //! record before and after it and its answer. Each view that is made contains the node, and its members are configured.
 #![tactic(auto)]
 
+mod announcing;
 mod change;
+mod company;
+mod following;
+mod hearing;
 mod laws;
 mod member;
+mod settling;
 mod told;
 
 pub use change::Change;

@@ -2,7 +2,7 @@ use Rattle.std.proofs.Common.{◌≡◌, rules, ap, ◌∙◌}
 use Rattle.qn_base.specs.declared.ids.Mask.{Mask}
 use Rattle.qn_base.specs.Members.{is_member}
 use Rattle.qn_member.specs.Maker.{company_at}
-use Rattle.qn_member.proofs.Company.{company_has_own}
+use Rattle.qn_member.proofs.Companies.{company_has_own}
 use Rattle.qn_member.proofs.member.Member.company.Goals as goal
 
 pub returns-in-Some-clause-own : goal.returns-in-Some-clause-own

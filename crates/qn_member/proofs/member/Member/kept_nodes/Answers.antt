@@ -1,7 +1,7 @@
 use Rattle.std.proofs.Common.{◌≡◌, ◌==◌, ◌<◌, ◌^◌, length, refl, sym, ◌∙◌, ap, arith}
 use Rattle.qn_member.specs.Maker.{is_kept, ranks_that}
 use Rattle.std.specs.Int.{bit_at}
-use Rattle.qn_member.proofs.Company.{keeps_company}
+use Rattle.qn_member.proofs.Companies.{keeps_company}
 use Rattle.qn_member.proofs.Ranks.{all_ranks-lt, with_passing, without_passing}
 use Rattle.qn_member.proofs.member.Member.kept_nodes.Goals as goal
 use Rattle.qn_member.proofs.member.Member.kept_nodes.Goals.{then-is_kept, else-is_kept}

@@ -1,5 +1,6 @@
 use Rattle.std.proofs.Common.{◌<◌, ◌^◌, refl, sym, ◌∙◌, ap, arith}
-use Rattle.qn_member.specs.Maker.{is_other_in, ranks_that}
+use Rattle.qn_member.specs.Announcing.{is_other_in}
+use Rattle.qn_member.specs.Maker.{ranks_that}
 use Rattle.qn_member.proofs.Ranks.{with_passing, without_passing}
 use Rattle.qn_member.proofs.member.Member.others_in.Goals as goal
 use Rattle.qn_member.proofs.member.Member.others_in.Goals.{then-is_other_in, else-is_other_in}
