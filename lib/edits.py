@@ -1,0 +1,46 @@
+"""The must-fail edits in tests/edits, which are tried by date: whose they are, which are due, and over which files those of a crate were refused last."""
+import datetime
+import hashlib
+import pathlib
+
+TOP = pathlib.Path(__file__).resolve().parent.parent
+FOLDER = TOP / "tests" / "edits"
+
+
+def crates():
+    """The crates with such edits, by name."""
+    return sorted(path.name for path in FOLDER.iterdir() if path.is_dir())
+
+
+def edits_of(crate):
+    return sorted((FOLDER / crate).glob("*.edit"))
+
+
+def copies_of(crate):
+    """Where rt finds the edits of a crate."""
+    return [TOP / "crates" / crate / "must-fail" / edit.name for edit in edits_of(crate)]
+
+
+def crate_of_day(day=None):
+    """The crate whose edits are tried on a day: another one each day."""
+    day = day or datetime.datetime.now(datetime.timezone.utc).date()
+    return crates()[day.toordinal() % len(crates())]
+
+
+def digest(crate):
+    """The sum of the files of a crate that a check reads, and of its edits here, by their names and texts."""
+    folder = TOP / "crates" / crate
+    files = [path for part in ("src", "specs", "proofs") for path in sorted((folder / part).rglob("*")) if path.is_file()]
+    texts = [(str(path.relative_to(folder)), path.read_bytes()) for path in files] + [(edit.name, edit.read_bytes()) for edit in edits_of(crate)]
+    lines = ["%s  %s\n" % (hashlib.sha256(text).hexdigest(), name) for name, text in texts]
+    return hashlib.sha256("".join(lines).encode()).hexdigest()
+
+
+def tried(crate):
+    """The file that keeps the digest over which all edits of a crate were refused last."""
+    return FOLDER / crate / "tried"
+
+
+def is_changed(crate):
+    """Whether a crate has another digest than that over which its edits were refused."""
+    return not tried(crate).exists() or tried(crate).read_text().strip() != digest(crate)

@@ -1,0 +1,168 @@
+"""What the crates of the gate cost: their sizes now, the seconds and sizes that bench/seconds keeps, what a crate is estimated at, and the clock of a
+whole run on so many processors."""
+import collections
+import heapq
+import pathlib
+import re
+
+TOP = pathlib.Path(__file__).resolve().parent.parent
+SECONDS = TOP / "bench" / "seconds"
+HEAD = """# Written by bench/gate: of each crate of the gate the seconds of processor time of its proof, when it was last made from nothing, and of its must-fail
+# edits, without the proof before the first of them; and how many functions, lines of specs/ and proofs/, and edits these were.
+"""
+FUNCTION = re.compile(r"^\s*(?:pub(?:\([a-z]+\))? )?(?:const )?fn ", re.M)
+LINE = re.compile(r"(\w+)[^:#]*:([^#]*)")
+FEWEST_LINES = 100  # a crate with fewer lines of specs/ and proofs/ grows by its functions
+SHARE_OF_AN_EDIT = 0.1  # of the proof of its crate, where none was measured
+
+Size = collections.namedtuple("Size", "functions lines edits length")
+Kept = collections.namedtuple("Kept", "proof edits size")
+Cost = collections.namedtuple("Cost", "proof seed edits length")
+
+
+def crates_in(text):
+    """Each crate of crates.txt with the crates of this repository that it stands on."""
+    lines = [LINE.match(line) for line in text.splitlines() if not line.startswith("#")]
+    crates = {line[1]: line[2].split() for line in lines if line}
+    return {name: [other for other in below if other in crates] for name, below in crates.items()}
+
+
+def texts_of(folder, parts, ending):
+    return [path.read_text() for part in parts for path in (folder / part).rglob("*" + ending)]
+
+
+def is_of_rotation(name):
+    """Whether the edits of a crate are tried by date."""
+    return (TOP / "tests" / "edits" / name).is_dir()
+
+
+def edits_of(name):
+    """The must-fail edits of a crate, in it or in tests/edits: a copy of one of these counts once."""
+    return {path.name for folder in (TOP / "crates" / name / "must-fail", TOP / "tests" / "edits" / name) for path in folder.glob("*.edit")}
+
+
+def size_of(name):
+    """How large a crate is now: its functions, its lines of specs/ and proofs/, its edits, and its lines of code."""
+    folder = TOP / "crates" / name
+    code = texts_of(folder, ["src"], ".rt")
+    lines = sum(text.count("\n") for text in texts_of(folder, ["specs", "proofs"], ".antt"))
+    return Size(sum(len(FUNCTION.findall(text)) for text in code), lines, len(edits_of(name)), sum(text.count("\n") for text in code))
+
+
+def read_kept():
+    """What bench/seconds keeps, by crate."""
+    rows = [line.split() for line in SECONDS.read_text().splitlines() if line and not line.startswith("#")]
+    return {name: Kept(float(proof), float(edits), Size(*map(int, sizes), 0)) for name, proof, edits, *sizes in rows}
+
+
+def write_kept(kept):
+    rows = ["%s %.0f %.0f %d %d %d\n" % (name, it.proof, it.edits, *it.size[:3]) for name, it in sorted(kept.items())]
+    SECONDS.write_text(HEAD + "".join(rows))
+
+
+def measured(name, proof, edits, tried, before):
+    """What is kept of a crate that was proved from nothing in so many seconds, and so many of whose edits were tried; where none was, what was kept
+    of them before stays."""
+    if tried or before is None:
+        return Kept(proof, max(edits - proof, 0), size_of(name)._replace(edits=tried))
+    return Kept(proof, before.edits, size_of(name)._replace(edits=before.size.edits))
+
+
+def growth(now, then):
+    """How many times larger a crate is than it was, by what of it grew more."""
+    return max(now.functions / max(then.functions, 1), now.lines / max(then.lines, FEWEST_LINES))
+
+
+class Estimate:
+    """What each crate costs now, in seconds of processor time of the host of bench/seconds."""
+
+    def __init__(self, names, kept):
+        self.kept = {name: kept[name] for name in names if name in kept}
+        proofs = sum(it.proof for it in self.kept.values())
+        self.a_function = proofs / sum(it.size.functions for it in self.kept.values())
+        self.a_line = proofs / sum(it.size.lines for it in self.kept.values())
+        self.costs = {name: self.cost_of(name, size_of(name)) for name in names}
+
+    def cost_of(self, name, size):
+        """A crate that is new counts for what its functions take on average, or its lines. One with edits is proved once more before they are tried."""
+        then = self.kept.get(name)
+        proof = then.proof * growth(size, then.size) if then else max(self.a_function * size.functions, self.a_line * size.lines)
+        an_edit = SHARE_OF_AN_EDIT * proof
+        if then and then.size.edits:
+            an_edit = then.edits / then.size.edits
+        return Cost(proof, proof if size.edits else 0, [an_edit] * size.edits, size.length)
+
+    def seconds_of(self, name):
+        cost = self.costs[name]
+        return cost.proof + cost.seed + sum(cost.edits)
+
+    def without_edits(self, names):
+        """Leaves out the edits of these crates."""
+        for name in names:
+            self.costs[name] = self.costs[name]._replace(seed=0, edits=[])
+
+
+def longest_chain(crates, costs):
+    """The longest chain in which each crate waits for the one before: its seconds and its crates."""
+    known = {}
+
+    def chain_to(name):
+        if name not in known:
+            seconds, names = max((chain_to(other) for other in crates[name]), default=(0, []))
+            known[name] = seconds + costs[name].proof, [*names, name]
+        return known[name]
+
+    return max(map(chain_to, crates), default=(0, []))
+
+
+class Plan:
+    """A run as rt ci plans it: a processor to each task, proofs before edits, and first the proof for which the most lines wait."""
+
+    def __init__(self, crates, costs):
+        self.costs, self.above, self.waiting = costs, collections.defaultdict(list), {}
+        for name, below in crates.items():
+            for other in below:
+                self.above[other].append(name)
+        self.lacks = {name: len(below) for name, below in crates.items()}
+        self.proofs, self.edits, self.running, self.now = [], [], [], 0
+        for name in crates:
+            if not self.lacks[name]:
+                self.offer(name)
+
+    def lines_behind(self, name):
+        if name not in self.waiting:
+            self.waiting[name] = self.costs[name].length + max(map(self.lines_behind, self.above[name]), default=0)
+        return self.waiting[name]
+
+    def offer(self, name):
+        heapq.heappush(self.proofs, (-self.lines_behind(name), name))
+
+    def begin(self):
+        """Gives a processor the next task."""
+        if self.proofs:
+            name = heapq.heappop(self.proofs)[1]
+            task = self.costs[name].proof, name, "proof"
+        else:
+            task = self.edits.pop(0)
+        heapq.heappush(self.running, (self.now + task[0], *task[1:]))
+
+    def end(self):
+        """Waits for the first task that ends, and takes what it makes possible."""
+        self.now, name, kind = heapq.heappop(self.running)
+        if kind == "seed":
+            self.edits[:0] = [(seconds, name, "edit") for seconds in self.costs[name].edits]
+        if kind == "proof":
+            if self.costs[name].edits:
+                self.edits.append((self.costs[name].seed, name, "seed"))
+            for other in self.above[name]:
+                self.lacks[other] -= 1
+                if not self.lacks[other]:
+                    self.offer(other)
+
+    def seconds(self, processors):
+        """The seconds by the clock."""
+        while self.proofs or self.edits or self.running:
+            while len(self.running) < processors and (self.proofs or self.edits):
+                self.begin()
+            self.end()
+        return self.now

@@ -1,0 +1,73 @@
+# tests/edits: a crate a day its edits are tried, and those of each crate that was changed since they were refused; one that is not refused, or is a
+# bad one, fails. And each edit of this repository can be applied: its texts stand once in its file.
+. "$TOP/tests/expect.sh"
+
+mkdir -p clone/tests/edits clone/crates/apart/must-fail
+cp -R "$TOP/lib" clone
+cp "$TOP/tests/edits/into" "$TOP/tests/edits/back" clone/tests/edits
+for crate in one two three; do
+    mkdir -p clone/crates/$crate/src clone/tests/edits/$crate
+    echo "fn $crate() {}" > clone/crates/$crate/src/lib.rt
+    touch clone/tests/edits/$crate/a.edit clone/tests/edits/$crate/b.edit
+done
+mkdir clone/crates/two/must-fail
+touch clone/crates/two/must-fail/kept.edit
+
+copies() {
+    (cd clone/crates && find . -name '*.edit' | LC_ALL=C sort | tr '\n' ' ')
+}
+# refused CRATE..: what rt ci says of them
+refused() {
+    local crate
+    for crate; do
+        printf 'rt: must-fail %s/%s.edit: refused, as it must be: src/lib.rt:1:1: error\n' "$crate" a "$crate" b
+    done
+}
+kept='./two/must-fail/kept.edit '
+all="./one/must-fail/a.edit ./one/must-fail/b.edit ./three/must-fail/a.edit ./three/must-fail/b.edit ./two/must-fail/a.edit ./two/must-fail/b.edit $kept"
+
+# none was tried yet: all are due, and then no longer
+clone/tests/edits/into --due > said
+same "$(tail -n 1 said)" 'edits of crates that were changed: one three two'
+same "$(copies)" "$all"
+refused one two three > log
+clone/tests/edits/back log
+same "$(copies)" "$kept"
+[ ! -e clone/crates/one/must-fail ]
+clone/tests/edits/into --due > said
+same "$(tail -n 1 said)" 'edits of crates that were changed: none'
+of_day=$(sed -n 's/^edits of this day: //p' said)
+same "$(copies | tr ' ' '\n' | grep -v kept)" "./$of_day/must-fail/a.edit
+./$of_day/must-fail/b.edit"
+clone/tests/edits/back
+# each day another one
+PYTHONPATH=clone/lib python3 -B -c 'import datetime, edits
+days = [edits.crate_of_day(datetime.date(2026, 12, 30) + datetime.timedelta(day)) for day in range(6)]
+assert sorted(days[:3]) == ["one", "three", "two"] and days[3:] == days[:3], days'
+
+# changed: a source, an edit; not its must-fail folder
+echo '// new' >> clone/crates/one/src/lib.rt
+echo new > clone/tests/edits/three/b.edit
+clone/tests/edits/into --due > said
+same "$(tail -n 1 said)" 'edits of crates that were changed: one three'
+
+# one is still proved, and one is a bad one, also of a crate whose edits are tried always
+refused one two three | sed '/one.a/s/refused.*/NOT REFUSED: the crate is still proved with this edit/' > log
+echo 'rt: must-fail apart/c.edit: BAD EDIT: its text is gone' >> log
+status=0
+clone/tests/edits/back log > said || status=$?
+same "$status" 1
+same "$(cat said)" 'edits: apart/c.edit: BAD EDIT: its text is gone
+edits: one/a.edit: NOT REFUSED: the crate is still proved with this edit'
+clone/tests/edits/into --due > said
+same "$(tail -n 1 said)" 'edits of crates that were changed: one'
+# one that rt ci did not come to
+refused two three > log
+if clone/tests/edits/back log > said; then exit 1; fi
+grep -q '^edits: one/a.edit: not tried$' said
+
+clone/tests/edits/into --all > said
+same "$(copies)" "$all"
+clone/tests/edits/back
+
+python3 -B "$TOP/tests/parts/edits-apply.py"
