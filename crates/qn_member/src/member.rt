@@ -1,6 +1,6 @@
 //! The view maker and its calls.
 ghost use Rattle.std.specs.Prelude.{◌≡◌};
-ghost use Rattle.qn_member.specs.Maker.{alone, enough_of, is_in_one};
+ghost use Rattle.qn_member.specs.Maker.{alone, enough_of};
 
 use crate::change::Change;
 use crate::told::Told;

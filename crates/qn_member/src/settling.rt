@@ -4,7 +4,7 @@ ghost use Rattle.qn_member.specs.Maker.{is_in_one};
 
 use crate::change::Change;
 use crate::member::Member;
-use qn_base::{Mask, Rank, Said, View};
+use qn_base::{Mask, Rank, View};
 
 /// Whether a node is in one of two sets alone.
 fn is_in_one(here: bool, there: bool) -> bool
