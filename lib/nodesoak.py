@@ -105,9 +105,9 @@ def compared_in(folder, run):
         replayed = subprocess.run([program(), command], stdin=schedule, stdout=subprocess.PIPE, check=False, text=True).stdout
     if replayed.rstrip("\n").rsplit("\n", 1)[-1] != end:
         return "its schedule does not replay to %s" % end
-    for ident, words in write_logs(folder, run):
+    for ident, leave, words in write_logs(folder, run):
         refused = audit_fault(settings.read_text(), words, (folder / ("log.%d" % ident)).read_text())
-        refused = refused or journal_fault(settings.read_text(), ident, run, folder)
+        refused = refused or journal_fault(settings.read_text(), ident, leave, run, folder)
         if refused:
             return "node %d: %s" % (ident, refused)
     return ""
@@ -123,14 +123,15 @@ def write_schedule(folder, run):
 
 
 def write_logs(folder, run):
-    """Writes the log and the journal of the last process of each node: their ids, and the words of their audits."""
+    """Writes the log and the journal of the last process of each node: their ids, the turns from which on they were to leave, and the words of
+    their audits."""
     _, text, errors = written(run, "journals")
     audits = []
     for log in text.split("\n", 1)[1].split("log ")[1:]:
         head, lines = log.split("\n", 1)
         ident, _, mode, _, leave = map(int, re.sub(r"[a-z-]+", "0", head).split())
         words = ["--id", str(ident), "--turns", "1000000000"] + ["--images", "3"] * (run.images == 3)
-        audits.append((ident, words + ["--start-mode", "1"] * (mode == 1) + ["--leave", str(leave)] * (leave != 0)))
+        audits.append((ident, leave or None, words + ["--start-mode", "1"] * (mode == 1) + ["--leave", str(leave)] * (leave != 0)))
         (folder / ("log.%d" % ident)).write_text(lines)
         said = [line for line in errors.splitlines(True) if line.startswith("quorumd: node=%d " % ident)]
         (folder / ("journal.%d" % ident)).write_text("".join(said))
@@ -145,7 +146,7 @@ def audit_fault(conf, words, log):
     return "" if said.startswith(("run prefix", "run whole")) else "its log: %s" % said.strip()
 
 
-def journal_fault(conf, ident, run, folder):
+def journal_fault(conf, ident, leave, run, folder):
     """Where the journal of a node is not what a second reader makes of its log; settings with more votes than nodes are not read."""
     if not has_plain_votes(conf):
         return ""
@@ -153,17 +154,17 @@ def journal_fault(conf, ident, run, folder):
     if run.images == 3:
         log = on_one(log, ident - 1)
     ids, got = range(1, run.nodes + 1), said_in((folder / ("journal.%d" % ident)).read_text())
-    for place, (one, other) in enumerate(itertools.zip_longest(got, told_of(log, ids, ident))):
-        if one != other and not is_cut_off(got, place, log, ids, ident):
+    before, tick = without_last_turn(log)
+    for place, (one, other) in enumerate(itertools.zip_longest(got, told_of(log, ids, ident, leave))):
+        if one != other and not is_cut_off(got, place, told_of(before, ids, ident, leave), tick):
             return "its journal has %r, and a second reader of its log %r" % (one, other)
     return ""
 
 
-def is_cut_off(got, place, log, ids, ident):
-    """Whether the line of that place, and what follows it, is of the last turn of the log. A machine that ends in a turn has told of its entry, and may
-    not have made the calls that its outputs ask for: the log then does not say them."""
-    before, tick = without_last_turn(log)
-    return place >= len(told_of(before, ids, ident)) and all(line.startswith("tick=%s " % tick) for line in got[place:])
+def is_cut_off(got, place, told_before, tick):
+    """Whether the line of that place, and what follows it, is of the last turn of the log, at this tick; `told_before` are the lines before it. A
+    machine that ends in a turn has told of its entry, and may not have made the calls that its outputs ask for: the log then does not say them."""
+    return place >= len(told_before) and all(line.startswith("tick=%s " % tick) for line in got[place:])
 
 
 def smaller(run, line, tries=200):

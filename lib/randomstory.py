@@ -64,7 +64,8 @@ class Chooser:
         self.loop, self.msgwait = world.timing.loop, world.timing.msgwait
         self.image = rng.choice(IMAGES)  # the one that may be lost
         self.choices = [
-            (16, self.take_over), (30, self.hand_over), (6, self.cut_off), (8, self.outage), (2, self.dark), (3, self.parted),
+            (16, self.take_over), (30, self.hand_over), (6, self.cut_off), (8, self.outage), (2, self.dark), (3, self.parted), (6, self.unlinked),
+            (4, self.booted_unlinked),
             (6, self.wait), (10, self.up), (2, self.kill), (2, self.hang), (3, self.wake), (1, self.leave), (3, self.heal), (1, self.message),
             (1, self.slow_network), (1, self.slow_disk), (1, self.broken_disk), (3, self.good_disk), (1, self.slow_stop), (2, self.clock)]
         self.choices += {
@@ -121,9 +122,35 @@ class Chooser:
         return [[word, ident], self.take_over_time(), ["heal"], self.up, self.loops(2, 6)]
 
     def outage(self):
-        """Packets are lost for less than three loops: of a node, between two sides, or all."""
-        cut = self.rng.choice((self.of_any("cut")[0], self.of_any("cut-in")[0], self.of_any("cut-out")[0], self.sides(), self.all_apart()))
+        """Packets are lost for less than three loops: of a node, of a link, between two sides, or all."""
+        cut = self.rng.choice((self.of_any("cut")[0], self.of_any("cut-in")[0], self.of_any("cut-out")[0], self.sides(), self.all_apart(), self.link()))
         return [cut, self.loops(.5, 2.9), ["heal"], self.loops(4, 6)] if cut else None
+
+    def link(self):
+        """A link that is cut, both ways or one way."""
+        if len(self.world.ids) < 2:
+            return None
+        return [self.rng.choice(("cut-link", "cut-link-in")), *self.rng.sample(self.world.ids, 2)]
+
+    def links(self):
+        """One link or two."""
+        return [cut for cut in (self.link() for _ in range(self.rng.randrange(1, 3))) if cut]
+
+    def unlinked(self):
+        """Links are cut for good, at times until the holder is killed too; then the network heals."""
+        cuts = self.links()
+        killed = [self.kill_holder, self.take_over_time(), self.up] if self.rng.randrange(3) == 0 else []
+        return [*cuts, self.take_over_time(), *killed, self.loops(4, 9), ["heal"], self.up, self.loops(4, 9)] if cuts else None
+
+    def booted_unlinked(self):
+        """All are off, and boot while links are cut."""
+        cuts = self.links()
+        running = self.those(lambda host: host.node.runs)
+        off = [["kill", *running]] if running else []
+        return [*cuts, *off, self.up, self.take_over_time(), ["heal"], self.up, self.loops(4, 9)] if cuts else None
+
+    def kill_holder(self):
+        return [["kill", self.world.holders[0]]] if self.world.holders else None
 
     def dark(self):
         """All packets are lost for longer."""
@@ -240,7 +267,7 @@ class RandomStory:
     def play(self, watch):
         """Plays it to its end. Where that fails, the text ends with the command that did."""
         ids = ids_of(head_of(self.head.settings, self.head.timing))
-        play = Play(self.head, ids, watch)
+        play = Play(self.head, watch)
         watch.knows(play.world, self.setting.enough, self.setting.delay)
         try:
             self.do(play, [["arbiter-up"]] if self.head.lease else [])

@@ -7,16 +7,17 @@ from storytext import head_of_story, lines_of
 from storytriple import TripleWorld
 from storyworld import World
 from traces import head_of, ids_of
+from votes import votes_of
 
 
 class Play:
-    """A world of a story's head that lines can be played in. `watch` is told of each event."""
+    """A world of a story's head that lines can be played in. Its settings are ones that quorumd takes. `watch` is told of each event."""
 
-    def __init__(self, head, ids, watch, kept=None):
+    def __init__(self, head, watch, kept=None):
         kind = TripleWorld if head.images == 3 else ArbiterWorld if head.lease else World
         lease = "lease %d %d\n" % tuple(head.lease) if head.lease else ""
         self.replay = Replay(head_of(head.settings, head.timing) + lease, kept, kind.COMMAND)
-        self.world = kind(self.replay, ids, head.timing, watch)
+        self.world = kind(self.replay, votes_of(head.settings), head.timing, watch)
         self.commands = Commands(self.world)
 
     def nodes(self):
@@ -36,7 +37,7 @@ def tell_story(text, write, keep=None):
     account = Account(write, head.timing.loop)
     kept = open(keep, "wb") if keep else None
     try:
-        play = Play(head, ids, account, kept)
+        play = Play(head, account, kept)
         account.knows(play.nodes())
         try:
             for line in lines:

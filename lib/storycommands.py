@@ -26,6 +26,8 @@ class Commands:
             "cut": self.cut,
             "cut-out": self.cut_out,
             "cut-in": self.cut_in,
+            "cut-link": self.cut_link,
+            "cut-link-in": self.cut_link_in,
             "heal": world.network.heal,
             "slow-network": self.slow_network,
             "slow-disk": self.slow_disk,
@@ -115,6 +117,13 @@ class Commands:
 
     def cut_in(self, ids):
         self.world.network.deaf.update(ids)
+
+    def cut_link(self, one, other):
+        self.cut_link_in(one, other)
+        self.cut_link_in(other, one)
+
+    def cut_link_in(self, hearer, sender):
+        self.world.network.links.add((sender, hearer))
 
     def slow_network(self, milliseconds):
         self.world.network.milliseconds = milliseconds

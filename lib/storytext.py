@@ -31,6 +31,8 @@ COMMANDS = {
     "cut": Command("cut ID..", "ids"),
     "cut-out": Command("cut-out ID..", "ids"),
     "cut-in": Command("cut-in ID..", "ids"),
+    "cut-link": Command("cut-link ID ID", "two ids"),
+    "cut-link-in": Command("cut-link-in ID ID", "two ids"),
     "heal": Command("heal", ""),
     "slow-network": Command("slow-network MS", "delay"),
     "slow-disk": Command("slow-disk ID MS", "id delay"),
@@ -160,10 +162,17 @@ class Reader:
             return [self.all_ids(words)]
         if what == "parts":
             return [self.parts(words)]
+        if what == "two ids":
+            self.counted(2)
+            return self.all_ids(words)
         kinds = what.split()
-        if len(words) != len(kinds):
-            raise self.fault(self.words[0], "%d words after it, not %d" % (len(kinds), len(words)))
+        self.counted(len(kinds))
         return [self.value(kind, word) for kind, word in zip(kinds, words)]
+
+    def counted(self, count):
+        """So many words have to stand after the command."""
+        if len(self.words) != 1 + count:
+            raise self.fault(self.words[0], "%d words after it, not %d" % (count, len(self.words) - 1))
 
     def value(self, kind, word):
         if kind == "id":

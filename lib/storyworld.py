@@ -37,6 +37,7 @@ class Host:
         self.hangs = False
         self.missed = []  # what its machine would have handed it while it hung
         self.member = None
+        self.has_news = False  # it waits to say them
         self.voted = None  # its tick when the device was heard or asked last, and the view then
 
     def begin(self, now):
@@ -45,7 +46,7 @@ class Host:
         self.boots += 1
         self.clock, self.fed = 0, now
         self.hangs, self.missed = False, []
-        self.member, self.voted = None, None
+        self.member, self.has_news, self.voted = None, False, None
 
     @property
     def tick(self):
@@ -59,7 +60,8 @@ class Host:
 
 
 class Network:
-    """Which nodes the network joins: those of one part, where neither the sender nor the receiver is cut off."""
+    """Which nodes the network joins: those of one part, where neither the sender nor the receiver is cut off, nor the link from the one to the
+    other."""
 
     def __init__(self, ids):
         self.ids = ids
@@ -69,19 +71,21 @@ class Network:
     def heal(self):
         self.part = {ident: 0 for ident in self.ids}
         self.unheard, self.deaf = set(), set()
+        self.links = set()  # the sender and the receiver of each link that is cut
         self.without_arbiter = set()
 
     def split(self, parts):
         self.part = {ident: number for number, part in enumerate(parts) for ident in part}
 
     def joins(self, sender, receiver):
-        return self.part[sender] == self.part[receiver] and sender not in self.unheard and receiver not in self.deaf
+        return (self.part[sender] == self.part[receiver] and sender not in self.unheard and receiver not in self.deaf
+                and (sender, receiver) not in self.links)
 
     def reaches_arbiter(self, ident):
         return ident not in self.without_arbiter | self.unheard | self.deaf
 
     def is_whole(self):
-        return set(self.part.values()) == {0} and not self.without_arbiter | self.unheard | self.deaf
+        return set(self.part.values()) == {0} and not self.without_arbiter | self.unheard | self.deaf | self.links
 
 
 class World:
@@ -90,10 +94,10 @@ class World:
     COMMAND = "replay"
     NODE = Node
 
-    def __init__(self, replay, ids, timing, watch):
-        self.replay, self.timing, self.watch = replay, timing, watch
-        self.ids = tuple(ids)
-        self.hosts = {ident: Host(self.NODE(ident)) for ident in ids}
+    def __init__(self, replay, votes, timing, watch):
+        self.replay, self.votes, self.timing, self.watch = replay, votes, timing, watch
+        self.ids = tuple(votes.of_nodes)
+        self.hosts = {ident: Host(self.NODE(ident)) for ident in self.ids}
         self.now = 0
         self.queue, self.order = [], itertools.count()
         self.network = Network(self.ids)
@@ -150,7 +154,7 @@ class World:
         self.serve(host, report.outs)
         for deed in deeds:
             if deed.kind == "up":
-                host.member = Member(host.ident, self.ids, self.timing.loop)
+                host.member = Member(host.ident, self.votes.of_nodes, self.votes.enough, self.timing.loop)
             if deed.kind == "halts" and host.node.runs:
                 self.later_in_boot(DOWN_MS, host, self.crash, "by that message")
             if deed.kind == "left" and host.node.is_closed:
@@ -268,8 +272,7 @@ class World:
             return
         if not self.look(host):
             self.event("tick %d" % host.ident)
-        if host.takes_part() and host.member.is_hello_due(host.tick):
-            self.greet(host)
+        self.greet(host)
         if host.takes_part():
             self.vote(host)
 
@@ -281,10 +284,22 @@ class World:
         return view is not None
 
     def greet(self, host):
-        view = host.member.to_announce()
-        self.tell_others(host, self.hear_hello)
-        if view is not None:
-            self.tell_others(host, self.hear_announce, view)
+        """Hellos where they are due, and an announcement after them. News that may not be said yet are said as soon as they may."""
+        if not host.takes_part():
+            return
+        member = host.member
+        if member.is_hello_due(host.tick):
+            view = member.to_announce()
+            self.tell_others(host, self.hear_hello, member.says)
+            if view is not None:
+                self.tell_others(host, self.hear_announce, view)
+        elif member.has_news() and not host.has_news:
+            host.has_news = True
+            self.later_in_boot(member.news_wait(host.tick), host, self.say_news)
+
+    def say_news(self, host):
+        host.has_news = False
+        self.greet(host)
 
     def part_from(self, host):
         """A node that left clean says farewell to the others, unless nobody else is in its view."""
@@ -292,15 +307,17 @@ class World:
         if view is not None:
             self.tell_others(host, self.hear_announce, view)
 
-    def hear_hello(self, host, sender):
+    def hear_hello(self, host, sender, said):
         if host.takes_part():
-            host.member.on_hello(host.tick, sender)
+            host.member.on_hello(host.tick, sender, said)
             self.look(host)
+            self.greet(host)
 
     def hear_announce(self, host, sender, view):
         if host.takes_part():
             host.member.on_announce(sender, view)
             self.look(host)
+            self.greet(host)
 
     def vote(self, host):
         """The device says yes to some nodes: under each new view, and once in the loop's time."""

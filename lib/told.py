@@ -4,7 +4,7 @@ import re
 import struct
 from collections import namedtuple
 
-from members import Member, View
+from members import PLAIN, Member, Said, View
 from records import whole_lines
 
 ERROR, WARNING, NOTICE, INFORMATION = 3, 4, 5, 6
@@ -43,7 +43,7 @@ def turns_of(lines):
 
 def packet_of(data):
     """A packet as its kind and its fields, or None where the bytes are none."""
-    lengths = {1: 33, 2: 34, 3: 4, 4: 16, 5: 4}
+    lengths = {1: 33, 2: 34, 3: 4, 4: 16, 5: 4, 8: 12}
     if data[:2] != b"QN" or len(data) < 4 or lengths.get(data[2]) != len(data):
         return None
     kind, fields = data[2], data[3:]
@@ -54,6 +54,10 @@ def packet_of(data):
     if kind == 4:
         number, members = struct.unpack(">QL", fields[1:13])
         return (kind, fields[0], (number, members)) if fields[0] < 32 and members else None
+    if kind == 8:
+        hears, follows, able = struct.unpack(">LBB", fields[1:7])
+        is_packet = fields[0] < 32 and hears >> fields[0] & 1 and follows <= 32 and able < 2
+        return (kind, fields[0], (hears, None if follows == 32 else follows, able == 1)) if is_packet else None
     sender, to, incarnation, install, number, members = struct.unpack(">BBQQQL", fields[:30])
     if sender >= 32 or to >= 32 or not members or (kind == 2 and fields[30] > 3):
         return None
@@ -95,6 +99,7 @@ class Told:
         self.waits_stopped, self.waits_disk, self.rests, self.asked_tick = None, None, False, 0
         self.out_place, self.slots, self.resets = {}, [], []
         self.mail, self.mail_state = ("empty", None), None
+        self.last_look = 0
         self.hellos, self.seen = {}, set()
         self.late, self.refused = Seldom(), Seldom()
         self.before = self.standing()
@@ -104,22 +109,22 @@ class Told:
 
     # what the node is handed
 
-    def entry(self, turn):
-        """The kind of the entry of a turn, and what comes with it."""
+    def entry(self, turn, is_late):
+        """The kind of the entry of a turn, and what comes with it. `is_late` is whether the view maker looks in a turn that waits for nothing."""
         if turn.received is False:
-            return self.waiting()
+            return self.waiting(is_late)
         if turn.received is None:
             return self.looked(None)
         packet = packet_of(turn.received)
         if packet is None:
             self.refused.untold += 1
-        elif packet[0] == 3:
+        elif packet[0] in (3, 8):
             self.greeted = packet[1]
         if packet is not None and (packet[0] == 5 or packet[0] in (1, 2) and packet[2] == self.me):
             return {1: "ask", 2: "tell", 5: "device"}[packet[0]], packet
         return self.looked(packet)
 
-    def waiting(self):
+    def waiting(self, is_late):
         """The entry of a turn in which no packet is received."""
         if self.place == 0:
             return "begin", None
@@ -129,23 +134,43 @@ class Told:
         if self.waits_disk is not None and not self.rests:
             answer, self.waits_disk = self.waits_disk, None
             return "disk", answer
-        return "leave", None
+        return self.looked(None) if is_late and not self.is_to_leave() else ("leave", None)
+
+    def is_to_leave(self):
+        return self.phase == "up" and self.leave is not None and self.leave <= self.turns
+
+    def is_late(self):
+        """Whether the last entry came a loop after the last look of the view maker, or later: a turn then receives nothing, and looks."""
+        return self.member is not None and self.tick - self.last_look >= self.loop
 
     def looked(self, packet):
         """The view maker hears a packet and looks."""
         if self.member is None:
             return "tick", None
-        if packet and packet[0] in (3, 4) and packet[1] < len(self.ids) and packet[1] != self.me:
-            sender = self.ids[packet[1]]
-            if packet[0] == 3:
-                self.member.on_hello(self.tick, sender)
-            elif packet[2][1] < 1 << len(self.ids):
-                self.member.on_announce(sender, self.view_of(packet[2]))
+        if packet and packet[0] in (3, 4, 8) and packet[1] < len(self.ids) and packet[1] != self.me:
+            self.heard(self.ids[packet[1]], packet)
+        self.last_look = self.tick
         view = self.member.look(self.tick)
         return ("view", view) if view is not None else ("tick", None)
 
+    def heard(self, sender, packet):
+        if packet[0] == 3:
+            self.member.on_plain_hello(self.tick, sender)
+        elif packet[0] == 8:
+            self.member.on_hello(self.tick, sender, self.said_of(*packet[2]))
+        elif packet[2][1] < 1 << len(self.ids):
+            self.member.on_announce(sender, self.view_of(packet[2]))
+
+    def said_of(self, hears, follows, able):
+        """What a Hello says, by ids; whoever is not configured is no id."""
+        ids = dict(enumerate(self.ids))
+        return Said(PLAIN.hears if hears == 2 ** 32 - 1 else self.ids_of(hears), None if follows is None else ids.get(follows, 0), able)
+
     def view_of(self, view):
-        return View(view[0], tuple(ident for rank, ident in enumerate(self.ids) if view[1] >> rank & 1))
+        return View(view[0], self.ids_of(view[1]))
+
+    def ids_of(self, mask):
+        return tuple(ident for rank, ident in enumerate(self.ids) if mask >> rank & 1)
 
     # what it knows then
 
@@ -253,9 +278,10 @@ class Told:
     # what it tells
 
     def turn(self, turn):
+        is_late = self.is_late()
         self.tick, self.greeted = turn.tick, None
         self.turns += 1
-        kind, given = self.entry(turn)
+        kind, given = self.entry(turn, is_late)
         self.take(kind, given)
         words = [call[0] for call in turn.calls]
         self.holds = self.holds or "start" in words
@@ -265,10 +291,10 @@ class Told:
         self.tell_seldom()
         for call in turn.calls:
             self.answered(call)
-        if self.phase in ("up", "leaving"):
-            self.member = self.member or Member(self.ident, self.ids, self.loop)
-        else:
+        if self.phase not in ("up", "leaving"):
             self.member = None
+        elif self.member is None:
+            self.member, self.last_look = Member(self.ident, dict.fromkeys(self.ids, 1), len(self.ids) // 2 + 1, self.loop), self.tick
 
     def tell_mail(self, kind, given):
         if kind != "disk" or given.kind not in ("mail", "check"):
@@ -400,11 +426,12 @@ def without_numbers(why):
     return re.sub(r"^(unfenced:\d+):\d+$", r"\1:written", re.sub(r"^not-quorate:.*", "not-quorate", why))
 
 
-def told_of(record, ids, ident):
-    """The lines of the journal of a record, without node and time, and without the line of the opening."""
+def told_of(record, ids, ident, leave=None):
+    """The lines of the journal of a record, without node and time, and without the line of the opening. `leave` is the turn from which on the node
+    was to leave."""
     lines = record.splitlines()
     end = lines.pop() if lines and re.match(r"turns |left |fault ", lines[-1]) else None
-    node = Told(ids, ident)
+    node = Told(ids, ident, leave)
     for turn in turns_of(lines):
         node.turn(turn)
     if end:

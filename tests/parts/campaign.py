@@ -6,7 +6,7 @@ from stories import Play, read_story
 
 head, ids, lines = read_story(open(sys.argv[1]).read())
 watch = Judge()
-play = Play(head, ids, watch)
+play = Play(head, watch)
 watch.knows(play.world, 2, 0)
 try:
     for line in lines:

@@ -4,24 +4,40 @@ import pathlib
 import sys
 
 TOP = pathlib.Path(os.environ["TOP"])
-from members import Member, View
+from members import PLAIN, Member, Said, View
+
+RANKS = 32
 
 
-def members_of(text):
+def numbers_of(text):
     return tuple(map(int, text.split(",")))
+
+
+def said_of(hears, follows, able):
+    """What a Hello says; one that names each rank names everybody."""
+    named = numbers_of(hears)
+    return Said(PLAIN.hears if len(named) == RANKS else named, None if follows == "-" else int(follows), able == "yes")
 
 
 def text_of(view):
     return "none" if view is None else "%d %s" % (view.number, ",".join(map(str, view.members)))
 
 
+def maker_of(count, me, loop, enough, votes):
+    return Member(int(me), dict(zip(range(int(count)), numbers_of(votes), strict=True)), int(enough), int(loop))
+
+
 def answer(member, word, values):
     """What a call answers, as the row has it."""
     if word == "on_hello":
-        member.on_hello(int(values[0]), int(values[1]))
+        tick, sender, *said = values
+        if said:
+            member.on_hello(int(tick), int(sender), said_of(*said))
+        else:
+            member.on_plain_hello(int(tick), int(sender))
         return "-"
     if word == "on_announce":
-        member.on_announce(int(values[1]), View(int(values[2]), members_of(values[3])))
+        member.on_announce(int(values[1]), View(int(values[2]), numbers_of(values[3])))
         return "-"
     if word == "on_tick":
         return text_of(member.look(int(values[0])))
@@ -29,6 +45,11 @@ def answer(member, word, values):
         return text_of(member.to_announce())
     if word == "hello_due":
         return "yes" if member.is_hello_due(int(values[0])) else "no"
+    if word == "says":
+        says = member.says
+        return "%s %s %s" % (",".join(map(str, says.hears)), "-" if says.follows is None else says.follows, "yes" if says.able else "no")
+    if word == "leads":
+        return str(member.leader)
     sys.exit("a row of no kind: %s" % word)
 
 
@@ -38,8 +59,7 @@ wrong, member = [], None
 for number, (call, wanted) in enumerate(rows, 1):
     word, *values = call.split(" ")
     if word == "new":
-        count, me, loop = map(int, values)
-        member = Member(me, tuple(range(count)), loop)
+        member = maker_of(*values)
     elif answer(member, word, values) != wanted:
         wrong.append("row %d: %s: not %s" % (number, call, wanted))
 if wrong or len(rows) < 4900:
