@@ -3,7 +3,7 @@ simulator's stand in simulator/, where each file that a check reads ends in .txt
 import os
 import pathlib
 
-TOP = pathlib.Path(os.environ["TOP"])
+TOP = pathlib.Path(os.environ.get("TOP", pathlib.Path(__file__).resolve().parents[1]))
 LINES = (TOP / "crates.txt").read_text().splitlines() + (TOP / "simulator" / "crates").read_text().splitlines()
 READ = (".antt", ".rt")
 

@@ -1,7 +1,7 @@
 """No crate cites the proofs of another one, and each names every library of its line in crates.txt. crates.txt stands in layers, with that of
-simulator/crates behind them, each crate on crates that stand before it there; docs/ARCHITECTURE.md has the same layers with the same crates, and what each stands on: a row
-names crates of its line, and the others of that line stand below those. What a layer says that it is never on, no crate of it stands on,
-not even through other crates, but for those that it names."""
+simulator/crates behind them, each crate on crates that stand before it there; docs/ARCHITECTURE.md has the same layers with the same crates, and what
+each stands on: a row names crates of its line, and the others of that line stand below those. What a layer says that it is never on, no crate of it
+stands on, not even through other crates, but for those that it names. crates/README.md is that map in short: after the word --write it is written."""
 import re
 import sys
 
@@ -9,6 +9,23 @@ from cratefiles import LINES, TOP, files_of
 
 LAYER = re.compile(r"# ([A-Z][\w ]*): (.*)")
 NEVER = re.compile(r"; never on ([\w ,]+?)(?: but through ([\w ]+))?$")
+MAP = """# The crates
+
+For whoever opens this folder: which crate does what, from below upward. A crate stands on crates of its own layer and of those above it on this page.
+[The map](../docs/ARCHITECTURE.md#layers-and-crates) says what each promises and what it stands on.
+
+From a rule of a page to what says it and what does it:
+
+| Looked for | Where it is |
+|---|---|
+| its definition | the page names it, or its crate; `grep -rn 'pub NAME :' crates/*/specs` |
+| the code | `src/` of a crate that cites the definition in an `ensures`: `grep -rnw NAME crates/*/src` |
+| the proof | `proofs/FILE/FUNCTION/` of that crate; without such a folder the check needed no help |
+| a wrong edit that the check refuses | `must-fail/` of that crate |
+| a row from outside | `tests/rows`, `tests/cases` |
+
+[Four walks](../docs/CHANGING.md#four-walks) go that way, for one rule each of settings, quorum, safety and views. This page is written by
+`PYTHONPATH=tests python3 tests/scripts/layers.py --write`."""
 wrong = []
 
 
@@ -31,13 +48,13 @@ def layers_of_crates():
 
 
 def layers_of_page():
-    """The layers of the page: of each its name, what it speaks of, and its crates, each with what its row says that it stands on."""
+    """The layers of the page: of each its name, what it speaks of, and its crates, each with the cells of its row."""
     part = (TOP / "docs" / "ARCHITECTURE.md").read_text().split("\n## Layers and crates\n")[1].split("\n### Crates with one user\n")[0]
     layers = []
     for text in part.split("\n### ")[1:]:
         rows = [[cell.strip() for cell in line.strip("|").split("|")] for line in text.splitlines() if line.startswith("| `")]
         of = re.search(r"^Speaks of (.*)\.$", text, re.M)
-        crates = {row[0].strip("`"): set(re.findall(r"`(\w+)`", row[-1])) for row in rows}
+        crates = {row[0].strip("`"): row for row in rows}
         layers.append((text.splitlines()[0], of[1] if of else "", crates))
     return layers
 
@@ -101,7 +118,7 @@ def look_at_order(uses):
 
 def look_at_rows(uses, rows):
     for crate in uses.keys() & rows.keys():
-        named = rows[crate]
+        named = set(re.findall(r"`(\w+)`", rows[crate][-1]))
         for other in sorted(named - uses[crate]):
             wrong.append("docs/ARCHITECTURE.md says that %s stands on %s, and crates.txt does not" % (crate, other))
         for other in sorted(uses[crate] - below(named & uses.keys(), uses)):
@@ -126,13 +143,31 @@ def look_at_sources(libraries):
                     wrong.append("%s:%d cites the proofs of %s" % (file.relative_to(TOP), number, other))
 
 
+def map_of(page):
+    """The text of crates/README.md: the crates by layer, each with what it is for."""
+    lines = [MAP]
+    for name, of, crates in page:
+        lines += ["\n## %s\n\nSpeaks of %s.\n\n| Crate | What it is for |\n|---|---|" % (name, of)]
+        lines += ["| [`%s`](%s) | %s |" % (crate, crate if (TOP / "crates" / crate).exists() else "../simulator/" + crate, row[1]) for crate, row in crates.items()]
+    return "\n".join(lines) + "\n"
+
+
+def look_at_map(page):
+    file = TOP / "crates" / "README.md"
+    if "--write" in sys.argv[1:]:
+        file.write_text(map_of(page))
+    elif not file.exists() or file.read_text() != map_of(page):
+        wrong.append("crates/README.md is not that of docs/ARCHITECTURE.md: layers.py --write writes it")
+
+
 libraries = lines_of_crates()
 own = {crate: used & libraries.keys() for crate, used in libraries.items()}
 page = layers_of_page()
 look_at_layers(page)
 look_at_order(own)
 look_at_never(own)
-look_at_rows(own, {crate: stands for _, _, crates in page for crate, stands in crates.items()})
+look_at_rows(own, {crate: row for _, _, crates in page for crate, row in crates.items()})
 look_at_sources(libraries)
+look_at_map(page)
 print("\n".join(dict.fromkeys(wrong)))
 sys.exit(1 if wrong else 0)
