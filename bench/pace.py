@@ -12,16 +12,22 @@ import termios
 import time
 
 FEW, MANY = 20000, 200000
+# as rt builds quorumd: the whole program at once, for the same processors
+RUSTC = ("rustc", "--edition", "2021", "-C", "opt-level=3", "-C", "lto=fat", "-C", "codegen-units=1", "-C", "panic=abort", "-C", "target-cpu=x86-64-v2")
 
 
-def programs(top, work):
-    """quorumd, and the plain program, which is built into the folder `work`, where rustc is there."""
-    found = [("quorumd", [os.path.join(top, "crates/quorumd/out/quorumd")])]
+def built(top, work, name, source):
+    """The path of a plain Rust program of bench, which is built into the folder `work`."""
+    path = os.path.join(work, name)
+    subprocess.run([*RUSTC, "-o", path, os.path.join(top, "bench", source)], check=True)
+    return path
+
+
+def programs(program, top, work):
+    """quorumd, and the plain program, where rustc is there."""
+    found = [("quorumd", [program])]
     if shutil.which("rustc"):
-        plain = os.path.join(work, "plain")
-        source = os.path.join(top, "bench/plain/main.rs")
-        subprocess.run(["rustc", "--edition", "2021", "-O", "-o", plain, source], check=True)
-        found.append(("plain Rust", [plain]))
+        found.append(("plain Rust", [built(top, work, "plain", "plain/main.rs")]))
     return found
 
 

@@ -4,6 +4,8 @@
 //! ```text
 //! plain replay           reads a schedule from standard input and writes its trace
 //! plain soak SEED N      plays N events drawn from the seed and writes the summary
+//! plain random SEED N    writes those N events as a schedule
+//! plain lively NODES N   writes N events of a cluster in which packets are heard, clocks drift and nodes crash
 //! ```
 //!
 //! Nodes vote, ask and tell, fence, read their mailboxes, feed their watchdogs and hold the resource as in
@@ -16,6 +18,7 @@
 //! an operator, damaged sectors, faults by name, and the limits of lines, events and memory. Whatever is not
 //! good ends with a line on standard error and status 1.
 
+mod drawn;
 mod fence;
 mod heard;
 mod model;
@@ -65,7 +68,7 @@ fn replay() -> Result<(), String> {
 }
 
 /// A number of the command line.
-fn word(text: &str) -> Result<u64, String> {
+fn word<T: std::str::FromStr>(text: &str) -> Result<T, String> {
     text.parse().map_err(|_| format!("{text} is no number"))
 }
 
@@ -76,7 +79,18 @@ fn run(words: &[&str]) -> Result<(), String> {
             print!("{}", soak::soak(word(seed)?, word(events)?));
             Ok(())
         }
-        _ => Err("usage: plain replay, or plain soak SEED N".to_string()),
+        ["random", seed, events] => {
+            print!("{}", drawn::random(word(seed)?, word(events)?));
+            Ok(())
+        }
+        ["lively", nodes, events] => {
+            print!("{}", drawn::lively(word(nodes)?, word(events)?));
+            Ok(())
+        }
+        _ => Err(
+            "usage: plain replay, plain soak SEED N, plain random SEED N, or plain lively NODES N"
+                .to_string(),
+        ),
     }
 }
 

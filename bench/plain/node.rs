@@ -38,6 +38,8 @@ pub struct Node {
     op: Option<DiskOp>,
     mail_asked: u64,
     expected: u64,
+    /// The votes of the view.
+    votes: u64,
     heard: Heard,
     fence: Fence,
     resource: Resource,
@@ -67,6 +69,7 @@ impl Node {
             op: None,
             mail_asked: 0,
             expected: settings.votes_among(settings.all()),
+            votes: 0,
             heard: Heard::default(),
             fence: Fence::new(),
             resource: Resource::Free,
@@ -203,7 +206,8 @@ impl Node {
     }
 
     fn install(&mut self, settings: &Settings, tick: u64, view: View) {
-        self.expected = self.expected.max(settings.votes_among(view.members));
+        self.votes = settings.votes_among(view.members);
+        self.expected = self.expected.max(self.votes);
         self.heard.on_view(tick, view);
         self.fence.on_view(view);
     }
@@ -217,7 +221,7 @@ impl Node {
         feeds: bool,
         outs: &mut Vec<Out>,
     ) {
-        let count = self.count(settings);
+        let count = self.count();
         let op = self.wanted(settings, tick, count);
         if self.gives_stop(tick, count) {
             outs.push(Out::Stop);
@@ -306,15 +310,11 @@ impl Node {
         view.members.without(Members::of(self.me))
     }
 
-    pub fn count(&self, settings: &Settings) -> Count {
-        let votes = self
-            .heard
-            .view
-            .map_or(0, |view| settings.votes_among(view.members));
+    pub fn count(&self) -> Count {
         let quorum = quorum_of(self.expected);
         Count {
-            quorate: votes >= quorum,
-            votes,
+            quorate: self.votes >= quorum,
+            votes: self.votes,
             quorum,
         }
     }

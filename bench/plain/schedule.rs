@@ -96,15 +96,21 @@ impl Schedule {
 
 /// A number without leading zeros, in a range.
 fn number(word: &[u8], low: u64, high: u64) -> Option<u64> {
-    if word.is_empty() || word.len() > 1 && word[0] == b'0' {
+    let (first, rest) = word.split_first()?;
+    let mut value = u64::from(first.wrapping_sub(b'0'));
+    if value > 9 || value == 0 && !rest.is_empty() || rest.len() > 19 {
         return None;
     }
-    let mut value = 0u64;
-    for byte in word {
-        if !byte.is_ascii_digit() {
+    for byte in rest {
+        let digit = u64::from(byte.wrapping_sub(b'0'));
+        if digit > 9 {
             return None;
         }
-        value = value.checked_mul(10)?.checked_add(u64::from(byte - b'0'))?;
+        value = if rest.len() < 18 {
+            value * 10 + digit
+        } else {
+            value.checked_mul(10)?.checked_add(digit)?
+        };
     }
     (low <= value && value <= high).then_some(value)
 }

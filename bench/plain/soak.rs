@@ -6,7 +6,7 @@ use crate::model::{
 use crate::world::{Report, Seen, World};
 
 /// The times of a soak.
-const TIMING: Timing = Timing {
+pub const TIMING: Timing = Timing {
     watchdog: 5000,
     msgwait: 10000,
     loop_ms: 1000,
@@ -17,8 +17,9 @@ const TIMING: Timing = Timing {
 /// The nodes of a soak.
 const RANKS: [Rank; 3] = [Rank(0), Rank(1), Rank(2)];
 
-struct Generator {
-    state: u64,
+/// What events are drawn from.
+pub struct Generator {
+    pub state: u64,
 }
 
 /// Counts of events, of outputs, and the most nodes that held the resource at once.
@@ -91,7 +92,7 @@ impl Generator {
 
     /// A candidate, or what happens where it is not allowed: a millisecond, or the crash of a node whose
     /// watchdog is over.
-    fn next(&mut self, world: &World) -> Event {
+    pub fn next(&mut self, world: &World) -> Event {
         let candidate = self.candidate(world);
         if world.allowed(&candidate).is_ok() {
             return candidate;

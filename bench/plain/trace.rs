@@ -3,6 +3,21 @@
 use crate::model::{DiskOp, Out, Packet, Rank, Settings, Why};
 use crate::world::Report;
 
+/// The digits of 0 to 99, two each.
+const PAIRS: [u8; 200] = {
+    let mut pairs = [b'0'; 200];
+    let mut number = 0;
+    while number < 100 {
+        pairs[2 * number] += (number / 10) as u8;
+        pairs[2 * number + 1] += (number % 10) as u8;
+        number += 1;
+    }
+    pairs
+};
+
+/// More than the length of most lines.
+const ROOM: usize = 1024;
+
 /// A line under way.
 struct Line<'a> {
     text: &'a mut Vec<u8>,
@@ -11,6 +26,7 @@ struct Line<'a> {
 
 /// Adds the line of an event, of that number from 1.
 pub fn add_line(text: &mut Vec<u8>, settings: &Settings, number: u64, report: &Report) {
+    text.reserve(ROOM);
     let mut line = Line { text, settings };
     line.number(number);
     line.word(" ");
@@ -30,17 +46,27 @@ impl Line<'_> {
         self.text.extend_from_slice(word.as_bytes());
     }
 
-    /// Decimal digits.
+    /// Decimal digits, two at a time.
     fn number(&mut self, mut number: u64) {
+        if number < 10 {
+            self.text.push(b'0' + number as u8);
+            return;
+        }
         let mut digits = [0; 20];
         let mut first = digits.len();
-        loop {
+        while number >= 100 {
+            let pair = (number % 100) as usize;
+            number /= 100;
+            first -= 2;
+            digits[first..first + 2].copy_from_slice(&PAIRS[2 * pair..2 * pair + 2]);
+        }
+        if number >= 10 {
+            first -= 2;
+            digits[first..first + 2]
+                .copy_from_slice(&PAIRS[2 * number as usize..2 * number as usize + 2]);
+        } else {
             first -= 1;
-            digits[first] = b'0' + (number % 10) as u8;
-            number /= 10;
-            if number == 0 {
-                break;
-            }
+            digits[first] = b'0' + number as u8;
         }
         self.text.extend_from_slice(&digits[first..]);
     }

@@ -432,7 +432,7 @@ impl World {
         report.holders = self.holders();
         match report.touched.map(|rank| self.seat(rank)) {
             Some(seat) if seat.on => {
-                report.count = seat.node.count(&self.settings);
+                report.count = seat.node.count();
                 report.why = seat.node.why(&self.settings, seat.tick(), report.count);
             }
             _ => {
