@@ -32,18 +32,22 @@ RUNS = [Run(0, 3 if kind == "device" else nodes, SECONDS, kind, delay, images)
 
 
 def soaker():
-    """The path of the program: $SOAK_NODES, else where bench/qn_soak_nodes builds it."""
-    return os.environ.get("SOAK_NODES", str(TOP / "simulator" / "out" / "qn_soak_nodes"))
-
-
-def is_built():
-    """Builds the two programs, where they are not given."""
-    builds = []
-    if "QUORUMD" not in os.environ:
-        builds.append(["bash", "-c", '"$0/bin/quorumd" --build-only', str(TOP)])
+    """The path of the program: $SOAK_NODES, else that which bench/qn_soak_nodes starts."""
     if "SOAK_NODES" not in os.environ:
-        builds.append([str(TOP / "bench" / "qn_soak_nodes"), "--build-only"])
-    return all(subprocess.run(words, check=False).returncode == 0 for words in builds)
+        os.environ["SOAK_NODES"] = found_by("bench/qn_soak_nodes")
+    return os.environ["SOAK_NODES"]
+
+
+def found_by(script):
+    """The path of the program that a script starts; empty where there is none, of which it has said why."""
+    return subprocess.run([str(TOP / script), "--program"], stdout=subprocess.PIPE, check=False, text=True).stdout.strip()
+
+
+def has_programs():
+    """Whether the two programs are there. Nothing is proved for it."""
+    if "QUORUMD" not in os.environ:
+        os.environ["QUORUMD"] = found_by("bin/quorumd")
+    return bool(os.environ["QUORUMD"] and soaker())
 
 
 def run_of(number):

@@ -29,8 +29,7 @@ class Refused(Exception):
 
 
 def program():
-    """The path of quorumd: $QUORUMD, else bin/quorumd beside these scripts, which builds it where it has to, else that of the path or of
-    /usr/sbin, where a package has it."""
+    """The path of quorumd: $QUORUMD, else bin/quorumd beside these scripts, else that of the path or of /usr/sbin, where a package has it."""
     beside = TOP / "bin" / "quorumd"
     if "QUORUMD" in os.environ or beside.exists():
         return os.environ.get("QUORUMD", str(beside))

@@ -3,7 +3,6 @@
 . "$TOP/tests/expect.sh"
 
 export QUORUMD
-export SOAK_NODES=$TOP/simulator/out/qn_soak_nodes
 
 # soaker FILE WORD..: makes a program that says so of each run
 soaker() {
@@ -12,11 +11,13 @@ soaker() {
     chmod +x "$1"
 }
 
-if [ ! -x "$SOAK_NODES" ]; then
-    echo 'skipped: not built (bench/qn_soak_nodes --build-only), to run clusters of running nodes'
+# the program that was built here or released from these sources
+if ! SOAK_NODES=$("$TOP/bench/qn_soak_nodes" --program 2> /dev/null); then
+    echo 'skipped: neither built from these sources (bench/qn_soak_nodes --build-only) nor released, to run clusters of running nodes'
     soaker well ok 'exit 0'
     SOAK_NODES=$PWD/well
 fi
+export SOAK_NODES
 
 campaign() {
     "$TOP/bench/campaign" "$@"
@@ -79,8 +80,33 @@ REAL=$QUORUMD QUORUMD=$PWD/faulty "$TOP/bin/story" story > account 2> errors || 
 same "$status" 9
 grep -qE '^story: quorumd replay[a-z0-9-]* ended with status 9$' errors
 
-for words in '' x '1 x' '1 2 3' '--story' '--story x' '--story 1 2' '--other'; do
+# value FILE TEXT: what Python says of it, of the campaign `it` that is kept in the file
+value() {
+    python3 -c 'import json, sys; it = json.load(open(sys.argv[1])); print(eval(sys.argv[2]))' "$@"
+}
+# one that goes on from where another one ended: the kinds that it is of, and what was counted; a seed is run once
+soaker well ok 'exit 0'
+SOAK_NODES=$PWD/well campaign --only soaks,nodes --resume going 1 5 > said 2> progress
+grep -qE '^campaign from seed 5: [0-9]+ s: [1-9][0-9]* soaks of .*; 0 stories of 0 events.*; [1-9][0-9]* clusters of running nodes of ' said
+runs=$(sed -E 's/.* s: ([0-9]+) soaks.*/\1/' said)
+same "$(value going '[it["soaks"][name] for name in ("next", "runs", "left")]')" "[$((runs + 5)), $runs, []]"
+same "$(value going 'it["stories"]["next"]')" 5
+SOAK_NODES=$PWD/well campaign --resume going --only soaks 1 99 > again 2> progress
+grep -q '^campaign from seed 5: ' again
+same "$(value going 'it["soaks"]["next"] - it["soaks"]["runs"]')" 5
+[ "$(value going 'it["soaks"]["runs"]')" -gt "$runs" ]
+same "$(value going 'it["nodes"]["runs"]')" "$(sed -E 's/.*; ([0-9]+) clusters.*/\1/' said)"
+# seeds that were under way come first, also those of a kind that another campaign left out
+value going 'json.dumps({**it, "soaks": {**it["soaks"], "left": [3]}, "stories": {**it["stories"], "left": [8, 9]}})' > left
+SOAK_NODES=$PWD/well campaign --resume left --only soaks 0 > again 2> progress
+same "$(value left '[it[kind]["left"] for kind in ("soaks", "stories")]')" '[[], [8, 9]]'
+echo '{"seed": 1}' > other
+status=0
+campaign --resume other 1 > said 2> errors || status=$?
+same "$status $(cat errors)" '2 campaign: other is no file that --resume wrote'
+
+for words in '' x '1 x' '1 2 3' '--story' '--story x' '--story 1 2' '--other' '--only soak 1' '--only' '--resume' '--resume file'; do
     status=0
     campaign $words > said 2> errors || status=$?
-    same "$words: $status $(sed -n 2p errors)" "$words: 2 usage: bench/campaign SECONDS [SEED]"
+    same "$words: $status $(grep -m 1 ^usage errors)" "$words: 2 usage: bench/campaign [--only KIND[,KIND..]] [--resume FILE] SECONDS [SEED]"
 done

@@ -11,7 +11,7 @@ import sys
 from live import same
 
 TOP = pathlib.Path(os.environ["TOP"])
-BUILT = TOP / "simulator" / "out" / "qn_soak_nodes"
+BUILT = subprocess.run([TOP / "bench" / "qn_soak_nodes", "--program"], stdout=subprocess.PIPE, stderr=subprocess.DEVNULL, check=False, text=True).stdout.strip()
 RUNS = ("2 1 3 60 kills 0", "5 1 5 40 leaves 3000", "3 1 3 60 operators 0", "2 1 3 60 images 0 images 3", "6 1 3 60 damages 0 images 3",
         "4 1 3 60 operators 0 images 3", "7 1 5 40 mixed 3000 images 3",
         # a machine ends when its node has told that it is to start, and before it makes that call
@@ -40,8 +40,8 @@ def faulty(name, word, errors="", output=""):
     return path
 
 
-if not os.access(BUILT, os.X_OK):
-    print("skipped: not built (bench/qn_soak_nodes --build-only), to run clusters of running nodes")
+if not BUILT:
+    print("skipped: neither built from these sources (bench/qn_soak_nodes --build-only) nor released, to run clusters of running nodes")
     sys.exit(0)
 
 told = ""
