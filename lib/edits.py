@@ -5,11 +5,12 @@ import pathlib
 
 TOP = pathlib.Path(__file__).resolve().parent.parent
 FOLDER = TOP / "tests" / "edits"
+DAYS = 7
 
 
 def crates():
     """The crates with such edits, by name."""
-    return sorted(path.name for path in FOLDER.iterdir() if path.is_dir())
+    return sorted(path.name for path in FOLDER.glob("*") if path.is_dir())
 
 
 def edits_of(crate):
@@ -21,10 +22,15 @@ def copies_of(crate):
     return [TOP / "crates" / crate / "must-fail" / edit.name for edit in edits_of(crate)]
 
 
-def crate_of_day(day=None):
-    """The crate whose edits are tried on a day: another one each day."""
+def groups():
+    """The crates in seven groups, one for each day of a week."""
+    return [crates()[day::DAYS] for day in range(DAYS)]
+
+
+def crates_of_day(day=None):
+    """The crates whose edits are tried on a day, today if none is given."""
     day = day or datetime.datetime.now(datetime.timezone.utc).date()
-    return crates()[day.toordinal() % len(crates())]
+    return groups()[day.toordinal() % DAYS]
 
 
 def digest(crate):

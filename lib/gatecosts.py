@@ -31,11 +31,6 @@ def texts_of(folder, parts, ending):
     return [path.read_text() for part in parts for path in (folder / part).rglob("*" + ending)]
 
 
-def is_of_rotation(name):
-    """Whether the edits of a crate are tried by date."""
-    return (TOP / "tests" / "edits" / name).is_dir()
-
-
 def edits_of(name):
     """The must-fail edits of a crate, in it or in tests/edits: a copy of one of these counts once."""
     return {path.name for folder in (TOP / "crates" / name / "must-fail", TOP / "tests" / "edits" / name) for path in folder.glob("*.edit")}
@@ -92,9 +87,11 @@ class Estimate:
             an_edit = then.edits / then.size.edits
         return Cost(proof, proof if size.edits else 0, [an_edit] * size.edits, size.length)
 
+    def seconds_of_edits(self, name):
+        return self.costs[name].seed + sum(self.costs[name].edits)
+
     def seconds_of(self, name):
-        cost = self.costs[name]
-        return cost.proof + cost.seed + sum(cost.edits)
+        return self.costs[name].proof + self.seconds_of_edits(name)
 
     def without_edits(self, names):
         """Leaves out the edits of these crates."""

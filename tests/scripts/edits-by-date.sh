@@ -1,5 +1,5 @@
-# tests/edits: a crate a day its edits are tried, and those of each crate that was changed since they were refused; one that is not refused, or is a
-# bad one, fails. And each edit of this repository can be applied: its texts stand once in its file.
+# tests/edits: the edits of a crate are tried once a week, and those of each crate that was changed since they were refused; one that is not refused,
+# or is a bad one, fails. And each edit of this repository can be applied: its texts stand once in its file.
 . "$TOP/tests/expect.sh"
 
 mkdir -p clone/tests/edits clone/crates/apart/must-fail
@@ -37,13 +37,18 @@ same "$(copies)" "$kept"
 clone/tests/edits/into --due > said
 same "$(tail -n 1 said)" 'edits of crates that were changed: none'
 of_day=$(sed -n 's/^edits of this day: //p' said)
-same "$(copies | tr ' ' '\n' | grep -v kept)" "./$of_day/must-fail/a.edit
-./$of_day/must-fail/b.edit"
+wanted=$kept
+[ "$of_day" = none ] || wanted=$(printf './%s/must-fail/%s.edit\n' "$of_day" a "$of_day" b "two" kept | LC_ALL=C sort | tr '\n' ' ')
+same "$(copies)" "$wanted"
 clone/tests/edits/back
-# each day another one
-PYTHONPATH=clone/lib python3 -B -c 'import datetime, edits
-days = [edits.crate_of_day(datetime.date(2026, 12, 30) + datetime.timedelta(day)) for day in range(6)]
-assert sorted(days[:3]) == ["one", "three", "two"] and days[3:] == days[:3], days'
+# each crate once a week, three of them on three days and eight on seven
+days='import datetime, edits
+days = [edits.crates_of_day(datetime.date(2026, 12, 30) + datetime.timedelta(day)) for day in range(14)]
+print(sorted(days[:7]), days[7:] == days[:7])'
+same "$(PYTHONPATH=clone/lib python3 -B -c "$days")" "[[], [], [], [], ['one'], ['three'], ['two']] True"
+mkdir clone/tests/edits/{four,five,six,seven,eight}
+same "$(PYTHONPATH=clone/lib python3 -B -c "$days")" "[['eight', 'two'], ['five'], ['four'], ['one'], ['seven'], ['six'], ['three']] True"
+rmdir clone/tests/edits/{four,five,six,seven,eight}
 
 # changed: a source, an edit; not its must-fail folder
 echo '// new' >> clone/crates/one/src/lib.rt
