@@ -122,7 +122,7 @@ fn is_recent(tick: Option<u64>, now: u64, window: u64) -> bool {
 pub struct Group {
     /// The node was told that it starts, and no stop was answered as done since.
     pub(crate) held: bool,
-    pub(crate) goal: Goal,
+    goal: Goal,
     /// Places that are not used are down.
     pub(crate) phases: [Phase; MOST],
     pub(crate) count: usize,
@@ -166,6 +166,13 @@ impl Group {
             left: false,
             clock: 0,
         })
+    }
+
+    /// What is wanted of the group.
+    pub fn goal(&self) -> Goal
+        ensures { result ≡ self.now.goal }
+    {
+        self.goal
     }
 
     /// A failure of the resource of that place was counted at this tick, before this group began.
@@ -404,9 +411,8 @@ impl Group {
             outcome,
         );
         self.put(at, after);
-        after == Phase::Failed
-            && counts(before)
-            && self.fail(rules.resources[at], at, is_in_vain(verb, before, outcome))
+        let is_in_vain = verb == Verb::Start && outcome == Outcome::Hard;
+        after == Phase::Failed && counts(before) && self.fail(rules.resources[at], at, is_in_vain)
     }
 
     /// The resource of that place failed; whether that is counted.
@@ -605,13 +611,6 @@ fn counts(before: Phase) -> bool {
         | Phase::Checking { killed, .. } => !killed,
         _ => false,
     }
-}
-
-fn is_in_vain(verb: Verb, before: Phase, outcome: Outcome) -> bool {
-    matches!(
-        (verb, before, outcome),
-        (Verb::Start, Phase::Starting { .. }, Outcome::Hard)
-    )
 }
 
 /// The phase of a resource that is looked at from now on, where that is due.
