@@ -1,5 +1,5 @@
 # Completion of the words of quorumd, quorumctl and the scripts beside them for bash 4 or later. Source this file; a package has it in
-# /usr/share/bash-completion/completions by the name of each program. Written by completions/make from completions/words.
+# /usr/share/bash-completion/completions by the name of each program. Written by completions/make.
 
 # _quorumd_takes PROGRAM [COMMAND]: what it takes, in `commands`, `operands` and `options`: an option is NAME/ACTION/EXCLUDED..
 _quorumd_takes() {
@@ -93,7 +93,7 @@ _quorumd_takes() {
         ;;
     campaign)
         operands=(none none)
-        options=(--story/none/--story)
+        options=(--only/none/--only --resume/file/--resume --story/none/--story)
         ;;
     soak-nodes)
         operands=(none none none none none none none none)

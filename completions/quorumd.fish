@@ -1,5 +1,5 @@
 # Completion of the words of quorumd, quorumctl and the scripts beside them for fish. Source this file; a package has it in
-# /usr/share/fish/vendor_completions.d by the name of each program. Written by completions/make from completions/words.
+# /usr/share/fish/vendor_completions.d by the name of each program. Written by completions/make.
 
 # __quorumd_takes PROGRAM [COMMAND]: what it takes: an option is NAME/ACTION/EXCLUDED../VALUE
 function __quorumd_takes
@@ -68,7 +68,7 @@ function __quorumd_takes
             set -g __quorumd_operands folder none none
         case campaign
             set -g __quorumd_operands none none
-            set -g __quorumd_options --story/none/--story/SEED
+            set -g __quorumd_options '--only/none/--only/KIND[,KIND..]' --resume/file/--resume/FILE --story/none/--story/SEED
         case soak-nodes
             set -g __quorumd_operands none none none none none none none none
             set -g __quorumd_options --written/folder/--written/FOLDER

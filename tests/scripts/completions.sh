@@ -1,5 +1,5 @@
-# The completions of bash, zsh and fish, each in a shell of its own: what is offered after which words. They are what completions/make writes from
-# the table completions/words, each line of which is what the program itself says that it takes.
+# The completions of bash, zsh and fish, each in a shell of its own: what is offered after which words. They are what completions/make writes from its
+# table, each line of which is what the program or script itself says that it takes.
 . "$TOP/tests/expect.sh"
 
 mkdir written
@@ -8,16 +8,17 @@ for file in quorumd.bash _quorumd quorumd.fish; do
     cmp "written/$file" "$TOP/completions/$file"
 done
 
+"$TOP/completions/make" --table > table
 # taken PROGRAM: its lines of the table
 taken() {
-    grep "^$1 " "$TOP/completions/words"
+    grep "^$1 " table
 }
 
 # the help of the two programs has these lines, each with what it reads behind it
 for program in "$QUORUMD" "$QUORUMCTL"; do
     name=$(basename "$program")
     "$program" --help | sed -n -e 's/ < .*//' -e '/--help/d' -e "/^$name [0-9]/d" -e "/^$name \\[/p" -e "/^$name [a-z]/{p;n;p}" | sort > said
-    grep -v '^#' "$TOP/completions/words" | sed -n -e "/^$name \\[/p" -e "/^$name [a-z]/{p;n;p}" | sort | cmp said -
+    sed -n -e "/^$name \\[/p" -e "/^$name [a-z]/{p;n;p}" table | sort | cmp said -
 done
 
 # a script says them of words that it does not take
@@ -28,7 +29,7 @@ for script in "${scripts[@]}"; do
     same "$script $status $(sed -n '/^usage: /,$p' said | sed -e 's/^usage: //' -e 's/^ *//' -e "s|^$script|$(basename "$script")|")" \
         "$script 2 $(taken "$(basename "$script")")"
 done
-same "$(grep -v '^[# ]' "$TOP/completions/words" | cut -d ' ' -f 1 | grep . | sort -u | xargs)" "$(printf '%s\n' quorumd quorumctl "${scripts[@]##*/}" | sort | xargs)"
+same "$(grep -v '^ ' table | cut -d ' ' -f 1 | grep . | sort -u | xargs)" "$(printf '%s\n' quorumd quorumctl "${scripts[@]##*/}" | sort | xargs)"
 
 # offers WANTED WORD..: what is offered for the last of these words after the program's name, whatever the shell's IFS
 cat > offers.bash <<'END'

@@ -8,7 +8,7 @@ else
     echo 'skipped: not installed (Debian: mandoc), to look for warnings in the manual pages'
 fi
 # each program of the table has a page, which names its options
-grep -v '^[# ]' "$TOP/completions/words" | grep . > lines
+"$TOP/completions/make" --table | grep -v '^ ' | grep . > lines
 while read -r program words; do
     page=$(grep -lE "^\.Nm $program( ,)?\$" "$TOP"/man/*.[18] | head -n 1)
     [ "$page" ] || { printf '%s has no manual page\n' "$program"; exit 1; }
