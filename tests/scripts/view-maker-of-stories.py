@@ -23,8 +23,10 @@ def text_of(view):
     return "none" if view is None else "%d %s" % (view.number, ",".join(map(str, view.members)))
 
 
-def maker_of(count, me, loop, enough, votes):
-    return Member(int(me), dict(zip(range(int(count)), numbers_of(votes), strict=True)), int(enough), int(loop))
+def maker_of(count, me, loop, enough=None, votes=None):
+    """A view maker; where nothing is said of votes, each node has one, and a majority is enough."""
+    of_nodes = numbers_of(votes) if votes else (1,) * int(count)
+    return Member(int(me), dict(enumerate(of_nodes)), int(enough) if enough else len(of_nodes) // 2 + 1, int(loop))
 
 
 def answer(member, word, values):
