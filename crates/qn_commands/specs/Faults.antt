@@ -10,7 +10,7 @@ use Rattle.qn_model.specs.declared.rules.Rule.{Rule}
 use Rattle.qn_model.specs.declared.times.Timing.{Timing}
 use Rattle.qn_model.specs.Lines.{name_of}
 use Rattle.qn_model.specs.Messages.{message_name}
-use Rattle.qn_sched.specs.TraceLines.{cause_number}
+use Rattle.qn_names.specs.CauseNumbers.{cause_number}
 use Rattle.qn_settings.specs.declared.faults.SettingsFault.{SettingsFault}
 use Rattle.qn_settings.specs.declared.faults.SettingsFault.TheVariants as settings
 use Rattle.qn_settings.specs.declared.faults.TextFault.{TextFault}

@@ -9,7 +9,7 @@ use qn_base::{NodeId, ShortText};
 use qn_conf::ConfFault;
 use qn_image::ImageFault;
 use qn_model::{BootCause, LineFault, Message, Rule, Timing};
-use qn_sched::cause_number;
+use qn_names::cause_number;
 use qn_settings::{Key, SettingsFault, TextFault};
 
 /// The two times of a lease and the timeout of the device, 0 without one, in milliseconds.

@@ -2,7 +2,7 @@
 use arrayvec::ArrayVec;
 use qn_base::{ShortText, yes_no};
 use qn_live::LiveEnd;
-use qn_sched::{answer_text, cause_number, phase_name, write_why};
+use qn_names::{answer_text, cause_number, phase_name, write_why};
 
 /// The text of an end, of a run of so many turns, and whether the end is a fault.
 pub(crate) fn end_text(end: LiveEnd, turns: u64) -> (ShortText, bool) {

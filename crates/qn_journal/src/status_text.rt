@@ -7,7 +7,7 @@ use qn_base::{Mask, Rank, View};
 use qn_event::Moment;
 use qn_live::Standing;
 use qn_model::{Nodes, Phase};
-use qn_sched::{phase_name, write_why};
+use qn_names::{phase_name, write_why};
 
 /// What a status says of its node besides where it stands.
 #[derive(Clone, Copy)]

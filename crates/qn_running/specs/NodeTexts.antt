@@ -7,8 +7,9 @@ use Rattle.qn_model.specs.declared.life.Phase.{Phase}
 use Rattle.qn_model.specs.declared.life.Why.{Why}
 use Rattle.qn_model.specs.declared.votes.Answer.{Answer}
 use Rattle.qn_model.specs.Lines.{Outcome}
-use Rattle.qn_sched.specs.PhaseNames.{phase_name}
-use Rattle.qn_sched.specs.TraceLines.{answer_text, why_text}
+use Rattle.qn_names.specs.PhaseNames.{phase_name}
+use Rattle.qn_names.specs.AnswerTexts.{answer_text}
+use Rattle.qn_names.specs.WhyTexts.{why_text}
 use Rattle.qn_commands.specs.declared.fault.Fault.TheVariants.{BootHalted, ClockBack, SelfReset}
 use Rattle.qn_commands.specs.Endings.{refused}
 

@@ -12,7 +12,7 @@ use qn_commands::{Fault, Status, refuse, say};
 use qn_io::Sink;
 use qn_live::LiveEnd;
 use qn_model::{Answer, Phase, Why};
-use qn_sched::{answer_text, phase_name, write_why};
+use qn_names::{answer_text, phase_name, write_why};
 
 /// Writes how a run of so many turns ended.
 pub(crate) fn finish_node<O: Sink>(out: &mut O, turns: u64, end: LiveEnd) -> Status

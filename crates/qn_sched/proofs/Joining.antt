@@ -6,7 +6,7 @@ use Rattle.qn_base.specs.declared.ids.Mask.{Mask}
 use Rattle.qn_base.specs.Members.{is_member}
 use Rattle.qn_model.specs.declared.nodelist.NodeEntry.{NodeEntry}
 use Rattle.qn_model.specs.Settings.{ids}
-use Rattle.qn_sched.specs.EventLines.{ids_from}
+use Rattle.qn_names.specs.MemberWords.{ids_from}
 
 -- each word after a byte
 abbrev pub behind : ℕ → List (List ℕ) → List ℕ
@@ -49,15 +49,6 @@ module _ {X : Type 0} (byte : ℕ) (f : X → List ℕ) (xs : List X) where
       ∙ ap (λ ys. (old ++ first) ++ behind byte (map f ys)) (take_all i xs past)
       ∙ append_assoc old first (behind byte (map f xs))
       ∙ ap (λ rest. old ++ rest) (sym (join-behind byte first (map f xs)))
-
--- two texts were added, each of two parts
-pub added_both : (start first second third fourth middle end : List ℕ) → middle ≡ start ++ (first ++ second) → end ≡ middle ++ (third ++ fourth)
-    → end ≡ start ++ (((first ++ second) ++ third) ++ fourth)
-added_both start first second third fourth middle end one other =
-    other
-    ∙ ap (λ text. text ++ (third ++ fourth)) one
-    ∙ append_assoc start (first ++ second) (third ++ fourth)
-    ∙ ap (λ text. start ++ text) (sym (append_assoc (first ++ second) third fourth))
 
 -- no node is a member
 pub ids_from-none : (rank : ℕ) (all : List ℕ) (members : Mask) → ((j : ℕ) → j < rank + length all → is_member members j ≡ false)

@@ -19,7 +19,8 @@ use Rattle.qn_model.specs.Lines.{is_ascending, words_of}
 use Rattle.qn_model.specs.Messages.{operator_word}
 use Rattle.qn_model.specs.Rules.{is_between, is_configured, is_well_formed}
 use Rattle.qn_model.specs.Settings.{ids}
-use Rattle.qn_sched.specs.EventLines.{clock_word, event_words, id_word, joined, member_word}
+use Rattle.qn_names.specs.MemberWords.{joined, member_word}
+use Rattle.qn_sched.specs.EventLines.{clock_word, event_words, id_word}
 use Rattle.qn_sched.proofs.ClocksListed.{ascends_from, ascends_whole}
 use Rattle.qn_sched.proofs.ClockSpelling.{is_clock, ranks_of}
 use Rattle.qn_sched.proofs.Joining.{behind, join-behind}

@@ -17,7 +17,7 @@ use Rattle.qn_base.specs.lemmas.Masks.{bit_cases}
 use Rattle.qn_model.specs.declared.line_fault.LineFault.TheVariants.{BadView}
 use Rattle.qn_model.specs.lemmas.Lines.{bind_ok, good, same_ok}
 use Rattle.qn_model.specs.Lines.{is_ascending, is_filled, known_rank, known_ranks, mask_of, members_of, parts}
-use Rattle.qn_sched.specs.EventLines.{ids_from, joined, member_word}
+use Rattle.qn_names.specs.MemberWords.{ids_from, joined, member_word}
 use Rattle.qn_sched.proofs.PartsLemmas.{AreWithout, parts-joined, parts-some}
 use Rattle.qn_sched.specs.WrittenNumbers.{decimal_without}
 use Rattle.qn_sched.proofs.RankSpelling.{AreIds, id_lt, known_rank-id, known_rank-ok}

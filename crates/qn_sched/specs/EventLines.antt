@@ -1,31 +1,16 @@
 -- The line of an event, as a schedule spells it: this project's profile.
-use Rattle.std.specs.Prelude.{ℕ, ◌+◌, if◌then◌else◌, List, [], ◌∷◌, ◌++◌, map, slice_index, codes, decimal}
+use Rattle.std.specs.Prelude.{ℕ, List, [], ◌∷◌, ◌++◌, map, slice_index, codes, decimal}
 use Rattle.std.specs.List.{join_with_byte}
-use Rattle.qn_base.specs.declared.ids.Mask.{Mask}
 use Rattle.qn_base.specs.declared.ids.Rank.{Rank}
-use Rattle.qn_base.specs.Members.{is_member}
 use Rattle.qn_base.specs.Text.{yes_no}
 use Rattle.qn_model.specs.declared.events.Event.{Event}
 use Rattle.qn_model.specs.declared.events.Event.TheVariants.{Pass, Boot, BootClean, Crash, Land, Done, Fail, Late, View, Deliver, Device, Tick, Stopped, Unstopped, Leave, Feed, Operator}
 use Rattle.qn_model.specs.Messages.{operator_word}
+use Rattle.qn_names.specs.MemberWords.{member_word}
 
 -- the id of the node of a rank, in decimal digits
 abbrev pub id_word : List ℕ → Rank → List ℕ
 id_word ids rank = decimal (slice_index ids rank.0)
-
--- the ids of the members among these nodes, of which the first has rank `rank`
-abbrev pub ids_from : ℕ → List ℕ → Mask → List ℕ
-ids_from rank [] members = []
-ids_from rank (id ∷ ids) members =
-    if is_member members rank then id ∷ ids_from (rank + 1) ids members else ids_from (rank + 1) ids members
-
--- numbers in decimal digits, joined by a byte
-abbrev pub joined : ℕ → List ℕ → List ℕ
-joined byte numbers = join_with_byte byte (map decimal numbers)
-
--- a list of members: their ids, ascending, joined by commas
-abbrev pub member_word : List ℕ → Mask → List ℕ
-member_word ids members = joined 44 (ids_from 0 ids members)
 
 -- a clock of a pass: `ID=ADVANCE`
 abbrev pub clock_word : List ℕ → Rank × ℕ → List ℕ

@@ -5,7 +5,6 @@ pub mod EventNames
 pub mod EventReading
 pub mod Head
 pub mod MemberList
-pub mod PhaseNames
 pub mod TimingLine
 pub mod TraceLines
 pub mod Words

@@ -1,13 +1,9 @@
 -- The lines that a replay writes for its events: this project's profile.
-use Rattle.std.specs.Prelude.{ℕ, true, false, List, [], ◌∷◌, ◌++◌, Option, None, Some, map, codes, decimal}
+use Rattle.std.specs.Prelude.{ℕ, List, [], ◌∷◌, ◌++◌, Option, None, Some, map, codes, decimal}
 use Rattle.std.specs.List.{join_with_byte}
 use Rattle.qn_base.specs.declared.ids.Mask.{Mask}
 use Rattle.qn_base.specs.declared.ids.Rank.{Rank}
-use Rattle.qn_base.specs.Text.{yes_no}
 use Rattle.qn_model.specs.declared.life.Why.{Why}
-use Rattle.qn_model.specs.declared.life.Why.TheVariants.{Down, Holding, NoView, WaitForAll, NotQuorate, NotChosen, HeldBy, Unheard, Unfenced, Clear}
-use Rattle.qn_model.specs.declared.outputs.BootCause.{BootCause}
-use Rattle.qn_model.specs.declared.outputs.BootCause.TheVariants as cause
 use Rattle.qn_model.specs.declared.outputs.DiskOp.{DiskOp}
 use Rattle.qn_model.specs.declared.outputs.DiskOp.TheVariants as disk
 use Rattle.qn_model.specs.declared.outputs.HaltKind.{HaltKind}
@@ -19,21 +15,11 @@ use Rattle.qn_model.specs.declared.packets.Packet.TheVariants as packet
 use Rattle.qn_model.specs.declared.reports.Report.{Report}
 use Rattle.qn_model.specs.declared.votes.Answer.{Answer}
 use Rattle.qn_model.specs.Messages.{message_name}
-use Rattle.qn_sched.specs.EventLines.{id_word, ids_from}
-
--- the first condition that blocks a start
-abbrev pub why_text : Why → List ℕ
-why_text Down = codes "down"
-why_text Holding = codes "holding"
-why_text NoView = codes "no-view"
-why_text WaitForAll = codes "wait-for-all"
-why_text (NotQuorate votes quorum) = codes "not-quorate:" ++ decimal votes ++ codes "/" ++ decimal quorum
-why_text (NotChosen id) = codes "not-chosen:" ++ decimal id.0
-why_text (HeldBy id) = codes "held-by:" ++ decimal id.0
-why_text (Unheard id) = codes "unheard:" ++ decimal id.0
-why_text (Unfenced id false left) = codes "unfenced:" ++ decimal id.0 ++ codes ":unwritten"
-why_text (Unfenced id true left) = codes "unfenced:" ++ decimal id.0 ++ codes ":" ++ decimal left
-why_text Clear = codes "clear"
+use Rattle.qn_names.specs.AnswerTexts.{answer_text}
+use Rattle.qn_names.specs.CauseNumbers.{cause_number}
+use Rattle.qn_names.specs.MemberWords.{ids_from}
+use Rattle.qn_names.specs.WhyTexts.{why_text}
+use Rattle.qn_sched.specs.EventLines.{id_word}
 
 -- a packet that is sent, before the `>` and the id of its receiver
 abbrev pub packet_word : Packet → List ℕ
@@ -43,16 +29,6 @@ packet_word (packet.Hello from) = codes "hello"
 packet_word (packet.Announce from view) = codes "announce"
 packet_word (packet.Vote agrees) = codes "vote"
 packet_word (packet.Heard from said standing) = codes "heard"
-
--- the number of a cause
-abbrev pub cause_number : BootCause → ℕ
-cause_number cause.ReadFailed = 1
-cause_number cause.NotImage = 2
-cause_number cause.UnsafeTiming = 3
-cause_number cause.ClaimFailed = 4
-cause_number cause.ClearFailed = 5
-cause_number cause.IncarnationSpent = 6
-cause_number cause.NotClean = 7
 
 abbrev pub halt_word : HaltKind → List ℕ
 halt_word (halt.Deadly message) = codes "halt:" ++ message_name message
@@ -89,10 +65,6 @@ outs_text ids outs = joined_or_dash 44 (map (out_word ids) outs)
 -- the ids of the nodes that hold the resource
 abbrev pub holders_text : List ℕ → Mask → List ℕ
 holders_text ids holders = joined_or_dash 43 (map decimal (ids_from 0 ids holders))
-
--- the count of a node
-abbrev pub answer_text : Answer → List ℕ
-answer_text answer = codes " quorate=" ++ yes_no answer.quorate ++ codes " " ++ decimal answer.votes ++ codes "/" ++ decimal answer.quorum
 
 -- what stands after the holders in the line of a node
 abbrev pub end_text : Answer → Why → List ℕ

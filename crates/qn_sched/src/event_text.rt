@@ -4,7 +4,8 @@ ghost use Rattle.std.specs.List.{join_with_byte};
 ghost use Rattle.qn_base.specs.Text.{yes_no};
 ghost use Rattle.qn_model.specs.Messages.{operator_word};
 ghost use Rattle.qn_model.specs.Settings.{ids};
-ghost use Rattle.qn_sched.specs.EventLines.{clock_word, event_line, id_word, member_word};
+ghost use Rattle.qn_names.specs.MemberWords.{member_word};
+ghost use Rattle.qn_sched.specs.EventLines.{clock_word, event_line, id_word};
 
 use crate::text::{add_id, add_members};
 use arrayvec::ArrayVec;

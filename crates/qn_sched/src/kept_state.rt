@@ -1,8 +1,8 @@
 //! The end of the trace line of a node, which seldom changes from one event to the next.
-use crate::trace::{add_answer, add_why};
 use arrayvec::ArrayVec;
 use qn_base::add;
 use qn_model::{Answer, Why};
+use qn_names::{add_answer, add_why};
 use std::marker::Model;
 
 /// A count of a node and the first condition that blocks a start, with the text of both in a trace line.

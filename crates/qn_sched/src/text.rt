@@ -1,7 +1,8 @@
 //! Writes ids and lists of numbers.
 ghost use Rattle.std.specs.Prelude.{◌≡◌, ◌≤◌, ◌+◌, ◌*◌, ◌++◌, [], ◌∷◌, length, map, decimal};
 ghost use Rattle.qn_model.specs.Settings.{ids};
-ghost use Rattle.qn_sched.specs.EventLines.{id_word, ids_from, joined};
+ghost use Rattle.qn_names.specs.MemberWords.{ids_from, joined};
+ghost use Rattle.qn_sched.specs.EventLines.{id_word};
 
 use arrayvec::ArrayVec;
 use qn_base::{Mask, Rank, add, add_number};

@@ -1,72 +1,15 @@
-//! Writes the trace line of a report, and the condition that blocks a start.
+//! Writes the trace line of a report.
 ghost use Rattle.std.specs.Prelude.{◌≡◌, ◌≤◌, ◌+◌, ◌*◌, ◌++◌, [], None, Some, length, map, codes, decimal};
-ghost use Rattle.qn_base.specs.Text.{yes_no};
-ghost use Rattle.qn_model.specs.declared.life.Why.{Why};
 ghost use Rattle.qn_model.specs.Messages.{message_name};
 ghost use Rattle.qn_model.specs.Settings.{ids};
 ghost use Rattle.qn_sched.specs.EventLines.{id_word};
-ghost use Rattle.qn_sched.specs.TraceLines.{answer_text, cause_number, disk_word, halt_word, holders_text, out_word, outs_text, packet_word, state_text, touched_text, touched_with, trace_line, trace_line_with, why_text};
+ghost use Rattle.qn_sched.specs.TraceLines.{disk_word, halt_word, holders_text, out_word, outs_text, packet_word, state_text, touched_text, touched_with, trace_line, trace_line_with};
 
 use crate::text::{add_id, add_joined, member_ids};
 use arrayvec::ArrayVec;
-use qn_base::{Mask, NodeId, Rank, ShortText, add, add_number};
-use qn_model::{
-    Answer, BootCause, DiskOp, HaltKind, Message, Nodes, Out, Outs, Packet, Report, Settings, Why,
-};
-
-/// Empties `into` and writes the first condition that blocks a start of the resource, as a trace and a status
-/// print it.
-pub fn write_why(why: &Why, into: &mut ArrayVec<u8, 64>)
-    ensures { into.new.items ≡ why_text why.now }
-{
-    into.clear();
-    add_why(into, why);
-}
-
-/// Adds the first condition that blocks a start, at the end of a list that has room for 64 bytes.
-pub(crate) fn add_why<const N: usize>(into: &mut ArrayVec<u8, N>, why: &Why)
-    requires { length into.old.items + 64 ≤ N }
-    ensures text { into.new.items ≡ into.old.items ++ why_text why.now }
-    ensures len { length into.new.items ≤ length into.old.items + 64 }
-{
-    match *why {
-        Why::Down => add(into, b"down"),
-        Why::Holding => add(into, b"holding"),
-        Why::NoView => add(into, b"no-view"),
-        Why::WaitForAll => add(into, b"wait-for-all"),
-        Why::NotQuorate { votes, quorum } => add_not_quorate(into, votes, quorum),
-        Why::NotChosen { id } => add_numbered(into, b"not-chosen:", u64::from(id.0)),
-        Why::HeldBy { id } => add_numbered(into, b"held-by:", u64::from(id.0)),
-        Why::Unheard { id } => add_numbered(into, b"unheard:", u64::from(id.0)),
-        Why::Unfenced { id, written, left } => add_unfenced(into, id, written, left),
-        Why::Clear => add(into, b"clear"),
-    }
-}
-
-/// Adds a count that is too low.
-fn add_not_quorate<const N: usize>(into: &mut ArrayVec<u8, N>, votes: u64, quorum: u64)
-    requires { length into.old.items + 64 ≤ N }
-    ensures text { into.new.items ≡ into.old.items
-        ++ (codes "not-quorate:" ++ decimal votes ++ codes "/" ++ decimal quorum) }
-    ensures len { length into.new.items ≤ length into.old.items + 64 }
-{
-    add_numbered(into, b"not-quorate:", votes);
-    add_numbered(into, b"/", quorum);
-}
-
-/// Adds a node that is neither cleanly stopped nor fenced.
-fn add_unfenced<const N: usize>(into: &mut ArrayVec<u8, N>, id: NodeId, written: bool, left: u64)
-    requires { length into.old.items + 64 ≤ N }
-    ensures text { into.new.items ≡ into.old.items ++ why_text (Why.Unfenced id written left) }
-    ensures len { length into.new.items ≤ length into.old.items + 64 }
-{
-    add_numbered(into, b"unfenced:", u64::from(id.0));
-    if written {
-        add_numbered(into, b":", left);
-    } else {
-        add(into, b":unwritten");
-    }
-}
+use qn_base::{Mask, Rank, add, add_number};
+use qn_model::{DiskOp, HaltKind, Message, Nodes, Out, Outs, Packet, Report, Settings};
+use qn_names::{add_answer, add_numbered, add_why, cause_number};
 
 /// Empties `into` and writes the trace line of the event of that number, without its end, in the form of a
 /// pass where no node is touched. The id of a rank that is not configured is 0.
@@ -176,40 +119,6 @@ fn add_state(into: &mut ArrayVec<u8, 4096>, nodes: &Nodes, report: &Report)
     add_answer(into, &report.answer);
     add(into, b" why=");
     add_why(into, &report.why);
-}
-
-/// Adds the count of a node, at the end of a list that has room for 60 bytes.
-pub(crate) fn add_answer<const N: usize>(into: &mut ArrayVec<u8, N>, answer: &Answer)
-    requires { length into.old.items + 60 ≤ N }
-    ensures text { into.new.items ≡ into.old.items ++ answer_text answer.now }
-    ensures len { length into.new.items ≤ length into.old.items + 60 }
-{
-    add_numbered(into, quorate_text(answer.quorate), answer.votes);
-    add_numbered(into, b"/", answer.quorum);
-}
-
-/// What stands before the votes of a node: whether it is quorate.
-fn quorate_text(quorate: bool) -> &'static [u8]
-    ensures text { result.now ≡ codes " quorate=" ++ yes_no quorate ++ codes " " }
-    ensures len { length result.now ≤ 13 }
-{
-    if quorate {
-        b" quorate=yes "
-    } else {
-        b" quorate=no "
-    }
-}
-
-/// The count of a node, as a trace, a status and the line of a running node print it, after what stands before it.
-pub fn answer_text(answer: &Answer) -> ShortText
-    ensures text { result ≡ answer_text answer.now }
-    ensures len { length result ≤ 60 }
-{
-    let mut bytes = ArrayVec::<u8, 60>::new();
-    add_answer(&mut bytes, answer);
-    let mut text = ShortText::new();
-    text.add(bytes.as_slice());
-    text
 }
 
 /// Adds the ids of the nodes that hold the resource, or a dash.
@@ -326,16 +235,6 @@ fn add_at(into: &mut ArrayVec<u8, 4096>, word: &[u8], nodes: &Nodes, rank: Rank)
     add_id(into, nodes, rank);
 }
 
-/// Adds a word and a number.
-fn add_numbered<const N: usize>(into: &mut ArrayVec<u8, N>, word: &[u8], number: u64)
-    requires { length into.old.items + (length word.now + 20) ≤ N }
-    ensures text { into.new.items ≡ into.old.items ++ (word.now ++ decimal number) }
-    ensures len { length into.new.items ≤ length into.old.items + length word.now + 20 }
-{
-    add(into, word);
-    add_number(into, number);
-}
-
 fn add_halt(into: &mut ArrayVec<u8, 4096>, kind: HaltKind)
     requires { length into.old.items ≤ 4000 }
     ensures text { into.new.items ≡ into.old.items ++ halt_word kind }
@@ -354,19 +253,4 @@ fn add_message(into: &mut ArrayVec<u8, 4096>, message: Message)
 {
     add(into, b"halt:");
     add(into, message.name().as_bytes());
-}
-
-/// The number of a cause, 1 to 7.
-pub fn cause_number(cause: BootCause) -> u64
-    ensures { result ≡ cause_number cause }
-{
-    match cause {
-        BootCause::ReadFailed => 1,
-        BootCause::NotImage => 2,
-        BootCause::UnsafeTiming => 3,
-        BootCause::ClaimFailed => 4,
-        BootCause::ClearFailed => 5,
-        BootCause::IncarnationSpent => 6,
-        BootCause::NotClean => 7,
-    }
 }

@@ -6,8 +6,8 @@ use Rattle.json.specs.Token.{Token}
 use Rattle.serde_json.specs.Written.{compact_text, items_text, has_float}
 use Rattle.qn_model.specs.declared.life.Phase.{Phase}
 use Rattle.qn_model.specs.declared.life.Phase.TheVariants.{Booting, Up, Leaving, Dying, Gone}
-use Rattle.qn_sched.specs.PhaseNames.{phase_name}
-use Rattle.qn_sched.specs.TraceLines.{why_text}
+use Rattle.qn_names.specs.PhaseNames.{phase_name}
+use Rattle.qn_names.specs.WhyTexts.{why_text}
 use Rattle.qn_status.specs.declared.node_state.NodeState.{NodeState}
 use Rattle.qn_status.specs.StateData.{state_data, states_items, states_data}
 use Rattle.qn_status.specs.StatusJson.{truth, state_object, states_line}

@@ -9,7 +9,7 @@ use Rattle.std.proofs.lemmas.Str.Ascii.{IsAscii-cons, IsAscii-nil}
 use Rattle.json.specs.Print.{escape, escape_byte}
 use Rattle.qn_model.specs.declared.life.Why.{Why}
 use Rattle.qn_model.specs.declared.life.Why.TheVariants.{Down, Holding, NoView, WaitForAll, NotQuorate, NotChosen, HeldBy, Unheard, Unfenced, Clear}
-use Rattle.qn_sched.specs.TraceLines.{why_text}
+use Rattle.qn_names.specs.WhyTexts.{why_text}
 use Rattle.qn_status.specs.PlainTexts.{is_plain, are_plain}
 
 plain_glyph : (d : ℕ) → d < 10 → is_plain (digit_glyph false d) ≡ true

@@ -1,8 +1,8 @@
 -- The status of nodes as JSON data.
 use Rattle.std.specs.Prelude.{List, [], ◌∷◌, codes}
 use Rattle.serde_json.specs.Data.{Data, Items, array, boolean, item, member, no_items, no_members, number, object, string, unsigned}
-use Rattle.qn_sched.specs.PhaseNames.{phase_name}
-use Rattle.qn_sched.specs.TraceLines.{why_text}
+use Rattle.qn_names.specs.PhaseNames.{phase_name}
+use Rattle.qn_names.specs.WhyTexts.{why_text}
 use Rattle.qn_status.specs.declared.node_state.NodeState.{NodeState}
 
 -- the object of a node

@@ -3,8 +3,8 @@ use Rattle.std.specs.Prelude.{ℕ, Bool, true, false, List, ◌++◌, map, codes
 use Rattle.std.specs.List.{join_with_byte}
 use Rattle.qn_model.specs.declared.configuration.Settings.{Settings}
 use Rattle.qn_model.specs.World.{World}
-use Rattle.qn_sched.specs.PhaseNames.{phase_name}
-use Rattle.qn_sched.specs.TraceLines.{why_text}
+use Rattle.qn_names.specs.PhaseNames.{phase_name}
+use Rattle.qn_names.specs.WhyTexts.{why_text}
 use Rattle.qn_status.specs.declared.node_state.NodeState.{NodeState}
 use Rattle.qn_status.specs.NodeStates.{node_states}
 

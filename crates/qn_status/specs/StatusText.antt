@@ -4,8 +4,9 @@ use Rattle.qn_model.specs.declared.configuration.Settings.{Settings}
 use Rattle.qn_model.specs.declared.votes.Answer.{Answer}
 use Rattle.qn_base.specs.Text.{yes_no}
 use Rattle.qn_model.specs.World.{World}
-use Rattle.qn_sched.specs.PhaseNames.{phase_name}
-use Rattle.qn_sched.specs.TraceLines.{answer_text, why_text}
+use Rattle.qn_names.specs.PhaseNames.{phase_name}
+use Rattle.qn_names.specs.AnswerTexts.{answer_text}
+use Rattle.qn_names.specs.WhyTexts.{why_text}
 use Rattle.qn_status.specs.declared.node_state.NodeState.{NodeState}
 use Rattle.qn_status.specs.NodeStates.{node_states}
 

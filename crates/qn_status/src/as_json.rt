@@ -1,14 +1,14 @@
 //! The status of nodes as one line of JSON.
 ghost use Rattle.std.specs.Prelude.{◌≡◌, string_bytes, IfOk};
 ghost use Rattle.serde_json.specs.View.{view};
-ghost use Rattle.qn_sched.specs.TraceLines.{why_text};
+ghost use Rattle.qn_names.specs.WhyTexts.{why_text};
 ghost use Rattle.qn_status.specs.StateData.{state_data, states_data};
 ghost use Rattle.qn_status.specs.StatusJson.{states_line};
 
 use crate::node_state::NodeState;
 use arrayvec::ArrayVec;
 use qn_model::Why;
-use qn_sched::{phase_name, write_why};
+use qn_names::{phase_name, write_why};
 use serde_json::{Value, json};
 use std::alloc::{AllocError, Global};
 use std::str::from_utf8;

@@ -3,7 +3,7 @@ ghost use Rattle.std.specs.Prelude.{◌≡◌, ◌≤◌, ◌+◌, ◌++◌, ℕ
 ghost use Rattle.std.specs.Io.KnownBytes.{append_known};
 ghost use Rattle.qn_io.specs.Outside.{HasRisen};
 ghost use Rattle.qn_io.specs.Writes.{AppendsFront};
-ghost use Rattle.qn_sched.specs.TraceLines.{why_text};
+ghost use Rattle.qn_names.specs.WhyTexts.{why_text};
 ghost use Rattle.qn_status.specs.StatusText.{count_text, state_line};
 
 use crate::node_state::NodeState;
@@ -11,7 +11,7 @@ use arrayvec::ArrayVec;
 use qn_base::{Failed, ShortText, yes_no};
 use qn_io::{Sink, put_all};
 use qn_model::{Answer, Why};
-use qn_sched::{answer_text, phase_name, write_why};
+use qn_names::{answer_text, phase_name, write_why};
 
 /// Writes the line of each node. At `Failed` a prefix of the lines was written.
 pub(crate) fn write_lines<O: Sink>(nodes: &[NodeState], out: &mut O) -> Result<(), Failed>

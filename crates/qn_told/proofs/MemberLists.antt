@@ -7,7 +7,7 @@ use Rattle.qn_base.specs.declared.ids.Mask.{Mask}
 use Rattle.qn_base.specs.Members.{is_member}
 use Rattle.qn_model.specs.declared.nodelist.NodeEntry.{NodeEntry}
 use Rattle.qn_model.specs.Settings.{ids}
-use Rattle.qn_sched.specs.EventLines.{ids_from}
+use Rattle.qn_names.specs.MemberWords.{ids_from}
 
 -- the id of a member, after a comma where it is not the first
 abbrev pub one_id : Bool → ℕ → List ℕ

@@ -12,9 +12,10 @@ use Rattle.qn_model.specs.Messages.{message_name}
 use Rattle.qn_model.specs.Settings.{ids}
 use Rattle.qn_notice.specs.declared.kinds.Event.{Event}
 use Rattle.qn_notice.specs.declared.kinds.Event.TheVariants as event
-use Rattle.qn_sched.specs.EventLines.{member_word}
-use Rattle.qn_sched.specs.PhaseNames.{phase_name}
-use Rattle.qn_sched.specs.TraceLines.{cause_number, why_text}
+use Rattle.qn_names.specs.MemberWords.{member_word}
+use Rattle.qn_names.specs.PhaseNames.{phase_name}
+use Rattle.qn_names.specs.CauseNumbers.{cause_number}
+use Rattle.qn_names.specs.WhyTexts.{why_text}
 use Rattle.qn_event.specs.WholeLines.{Word, line, number, text, truth}
 
 -- the name of an event

@@ -1,8 +1,8 @@
 //! The name, the level and the words of an event.
 ghost use Rattle.std.specs.Prelude.{◌≡◌, ◌≤◌, ◌+◌, ◌++◌, ◌∷◌, [], codes, decimal, length, if◌then◌else◌};
 ghost use Rattle.qn_model.specs.Settings.{ids};
-ghost use Rattle.qn_sched.specs.EventLines.{member_word};
-ghost use Rattle.qn_sched.specs.TraceLines.{why_text};
+ghost use Rattle.qn_names.specs.MemberWords.{member_word};
+ghost use Rattle.qn_names.specs.WhyTexts.{why_text};
 ghost use Rattle.qn_told.specs.Events.{answer_words, cause_text, event_line, level_of, name_of, words_of};
 ghost use Rattle.qn_event.specs.WholeLines.{text, with_words};
 
@@ -10,8 +10,8 @@ use arrayvec::ArrayVec;
 use qn_base::{Mask, NodeId, Rank, add, add_number};
 use qn_event::{EventLine, Level, Moment};
 use qn_model::{Answer, HaltKind, Nodes, Why};
+use qn_names::{cause_number, phase_name, write_why};
 use qn_notice::Event;
-use qn_sched::{cause_number, phase_name, write_why};
 
 /// The most bytes of a list of members in a line; a longer one is cut.
 const MEMBERS: usize = 250;

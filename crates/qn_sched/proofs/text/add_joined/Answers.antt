@@ -1,6 +1,6 @@
 use Rattle.std.proofs.Common.{◌≤◌, ◌+◌, ◌∙◌, ◌++◌, List, ℕ, ap, arith, get_or, length, lit<, sym}
 use Rattle.std.specs.Prelude.{decimal}
-use Rattle.qn_sched.specs.EventLines.{joined}
+use Rattle.qn_names.specs.MemberWords.{joined}
 use Rattle.qn_sched.proofs.Joining.{joined_all, joined_more}
 use Rattle.qn_sched.proofs.text.add_joined.Goals as goal
 

@@ -1,6 +1,6 @@
 use Rattle.std.proofs.Common.{◌≡◌, ◌≤◌, ◌++◌, length, drop}
 use Rattle.qn_model.specs.Settings.{ids}
-use Rattle.qn_sched.specs.EventLines.{ids_from}
+use Rattle.qn_names.specs.MemberWords.{ids_from}
 use Rattle.qn_sched.proofs.Joining.{left_ids}
 use Rattle.qn_sched.proofs.text.member_ids.Given as goal
 

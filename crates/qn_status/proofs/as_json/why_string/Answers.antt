@@ -1,7 +1,7 @@
 use Rattle.std.proofs.Common.{subst, sym, List, ℕ}
 use Rattle.std.specs.Str.{IsUtf8}
 use Rattle.std.proofs.lemmas.Str.{IsUtf8-from_ascii}
-use Rattle.qn_sched.specs.TraceLines.{why_text}
+use Rattle.qn_names.specs.WhyTexts.{why_text}
 use Rattle.qn_status.proofs.PlainBytes.{plain_why, ascii_plain}
 use Rattle.qn_status.proofs.as_json.why_string.Goals as goal
 

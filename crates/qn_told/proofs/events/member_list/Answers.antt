@@ -3,7 +3,7 @@ use Rattle.std.proofs.lemmas.List.{drop_all}
 use Rattle.arrayvec.specs.ArrayVec.{ArrayVec}
 use Rattle.qn_model.specs.declared.nodelist.NodeEntry.{NodeEntry}
 use Rattle.qn_model.specs.Settings.{ids}
-use Rattle.qn_sched.specs.EventLines.{ids_from, member_word}
+use Rattle.qn_names.specs.MemberWords.{ids_from, member_word}
 use Rattle.qn_told.proofs.MemberLists.{all_ids, member_more, one_id, outsider_more, with_members}
 use Rattle.qn_told.proofs.events.member_list.Goals as goal
 use Rattle.qn_told.proofs.events.member_list.Goals.{then-contains, else-contains}

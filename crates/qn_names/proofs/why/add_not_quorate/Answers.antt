@@ -1,6 +1,6 @@
 use Rattle.std.specs.Prelude.{codes, decimal}
-use Rattle.qn_sched.proofs.Joining.{added_both}
-use Rattle.qn_sched.proofs.trace.add_not_quorate.Goals as goal
+use Rattle.qn_names.proofs.Added.{added_both}
+use Rattle.qn_names.proofs.why.add_not_quorate.Goals as goal
 
 pub returns-clause-text : goal.returns-clause-text
 returns-clause-text g c =

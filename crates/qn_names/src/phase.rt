@@ -1,6 +1,6 @@
 //! The words of phases.
 ghost use Rattle.std.specs.Prelude.{◌≡◌, ◌≤◌, length};
-ghost use Rattle.qn_sched.specs.PhaseNames.{phase_name};
+ghost use Rattle.qn_names.specs.PhaseNames.{phase_name};
 
 use qn_model::Phase;
 
