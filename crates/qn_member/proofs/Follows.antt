@@ -11,6 +11,7 @@ use Rattle.qn_base.specs.declared.ids.Mask.{Mask}
 use Rattle.qn_base.specs.declared.ids.Rank.{Rank}
 use Rattle.qn_base.specs.declared.ids.View.{View}
 use Rattle.qn_base.specs.Members.{is_member}
+use Rattle.qn_base.specs.lemmas.Masks.{empty_has_none}
 use Rattle.qn_model.specs.NodeVotes.{is_same_view}
 use Rattle.qn_model.specs.declared.nodelist.NodeEntry.{NodeEntry}
 use Rattle.qn_model.specs.declared.configuration.Settings.{Settings}
@@ -22,17 +23,10 @@ use Rattle.qn_member.specs.Following.{HasLost, LeadsAble, LeadsLeast, Loses, Mak
 use Rattle.qn_model.specs.lemmas.LeastRanks.{least_below, least_bound, least_none, least_passes}
 use Rattle.qn_member.proofs.Calls.{same_set}
 use Rattle.qn_member.proofs.Heard.{Kept, greeted, kept_calls, said_by_calls, still_announce, still_due, still_hello, still_plain, told}
-use Rattle.qn_member.proofs.Owning.{company_is, no_member, own_views_by_calls, led_above}
+use Rattle.qn_member.proofs.Owning.{company_is, own_views_by_calls, led_above}
 use Rattle.qn_member.proofs.Ranks.{member_of-ranks_that, ranks_that-same}
 
 -- ## The view of a leader
-
-same_view : (one other : View) → is_same_view one other ≡ true → one ≡ other
-same_view one other is =
-    let parts = and_parts (one.id == other.id) (one.members.0 == other.members.0) is in
-    let id : one.id ≡ other.id = (Decides-eqb one.id other.id).0 parts.0 in
-    let members : one.members ≡ other.members = same_set one.members other.members parts.1 in
-    ap (λ (n : ℕ). record { id = n; members = one.members }) id ∙ ap (λ (v : Mask). record { id = other.id; members = v }) members
 
 pub takes_view : (run : MakerRun) (tick leader : ℕ) (view : View) → leader_found tick (maker_of run) ≡ Some leader → leader ≢ run.me
     → of_rank (maker_of run).announced leader ≡ Some view → is_member view.members run.me ≡ true → is_member view.members leader ≡ true
@@ -64,7 +58,11 @@ takes_view run tick leader view leads other announced has_me has_leader may = by
 
     present_is : (present : Option View) → option_map_or (λ p. is_same_view p view) present false ≡ true → present ≡ Some view
     present_is None is = absurd (false≢true is)
-    present_is (Some p) is = ap Some (same_view p view is)
+    present_is (Some p) is =
+        let parts = and_parts (p.id == view.id) (p.members.0 == view.members.0) is in
+        let id : p.id ≡ view.id = (Decides-eqb p.id view.id).0 parts.0 in
+        let members : p.members ≡ view.members = same_set p.members view.members parts.1 in
+        ap (λ (n : ℕ). Some (record { id = n; members = p.members })) id ∙ ap (λ (v : Mask). Some (record { id = view.id; members = v })) members
 
     by_test : (same : Bool) → option_map_or (λ present. is_same_view present view) (maker_of run).view false ≡ same → (after_tick tick (maker_of run)).view ≡ Some view
     by_test false is =
@@ -232,7 +230,7 @@ module _ (s : Settings) (me loop_ms rank : ℕ) (configured : rank < length s.no
 
   lost_of_calls : (calls : List MakerCall) → is_member (after_calls calls (first_maker s me loop_ms)).forgotten rank ≡ true → HasLost rank (first_maker s me loop_ms) calls
   unfolding after_calls after_tick
-  lost_of_calls [] member = absurd (false≢true (sym (no_member rank) ∙ member))
+  lost_of_calls [] member = absurd (false≢true (sym (empty_has_none rank) ∙ member))
   lost_of_calls (Look tick ∷ earlier) member =
       let m = after_calls earlier (first_maker s me loop_ms) in
       by_case (forgotten_look tick rank m (subst (λ (f : Mask). is_member f rank ≡ true) (forgotten_after tick (view_at tick m) m) member)) (λ was. lost_of_calls earlier was)

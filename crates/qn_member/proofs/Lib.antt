@@ -5,7 +5,6 @@ pub mod Follows
 pub mod Heard
 pub mod Kept
 pub mod Lasting
-pub mod Least
 pub mod Owning
 pub mod Ranks
 mod Rows

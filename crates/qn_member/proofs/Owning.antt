@@ -5,11 +5,11 @@ use Rattle.std.specs.List.{list_all, range_with_len}
 use Rattle.std.specs.Option.{option_map_or}
 use Rattle.std.proofs.lemmas.Bool.{cases_lt, false≢true, true≢false, and_parts, or_cases, or_left, ltb-true}
 use Rattle.std.proofs.lemmas.Bool.Decides.{nat_tests, Decides-eqb}
-use Rattle.std.proofs.lemmas.Nat.Bits.{bit_at-zero}
 use Rattle.std.proofs.Math.Nat.{le-max_left, le-max_right}
 use Rattle.qn_base.specs.declared.ids.Mask.{Mask}
 use Rattle.qn_base.specs.declared.ids.View.{View}
 use Rattle.qn_base.specs.Members.{is_member}
+use Rattle.qn_base.specs.lemmas.Masks.{empty_has_none}
 use Rattle.qn_model.specs.declared.configuration.Settings.{Settings}
 use Rattle.qn_model.specs.Votes.{are_all_in}
 use Rattle.qn_base.specs.declared.ids.Said.{Said}
@@ -144,14 +144,10 @@ overdue_from true false false true heard agreed p c l h = refl
 overdue_from true false false false false agreed p c l h = absurd (false≢true h)
 overdue_from true false false false true agreed p c l h = absurd (true≢false agreed)
 
--- an empty set has no member
-pub no_member : (rank : ℕ) → is_member (record { 0 = 0 }) rank ≡ false
-no_member rank = ap (λ bit. bit == 1) (bit_at-zero rank)
-
 none_of : (test : ℕ → Bool) (count rank : ℕ) (set : Mask) → (set.0 == 0) ≡ true → is_member set rank ≡ (nat_lt rank count && test rank) → nat_lt rank count ≡ true → test rank ≡ false
 none_of test count rank set none is below =
     let empty : set.0 ≡ 0 = (Decides-eqb set.0 0).0 none in
-    let out : is_member set rank ≡ false = ap (λ n. is_member (record { 0 = n }) rank) empty ∙ no_member rank in
+    let out : is_member set rank ≡ false = ap (λ n. is_member (record { 0 = n }) rank) empty ∙ empty_has_none rank in
     by_below (nat_lt rank count) below (sym is ∙ out)
   where
     by_below : (b : Bool) → b ≡ true → (b && test rank) ≡ false → test rank ≡ false
