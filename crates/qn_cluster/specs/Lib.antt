@@ -2,6 +2,7 @@ pub mod DiskStanding
 pub mod EventLaws
 pub mod EventRanks
 pub mod Events
+pub mod Holders
 pub mod Kept
 pub mod ListLaws
 pub mod Nodes

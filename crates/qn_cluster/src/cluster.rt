@@ -1,7 +1,7 @@
 //! What a cluster keeps, and the small changes of it.
-use crate::clocks::advance_all;
 use crate::packets::Packets;
 use crate::seat::Seat;
+use crate::seats::Seats;
 use qn_base::Rank;
 use qn_model::{Clocks, Outs, Settings, What};
 use std::marker::Model;
@@ -11,7 +11,7 @@ use std::marker::Model;
 pub struct Cluster {
     pub(crate) settings: Settings,
     pub(crate) time: u64,
-    pub(crate) seats: Vec<Seat>,
+    pub(crate) seats: Seats,
     pub(crate) packets: Packets,
     pub(crate) steps: u64,
 }
@@ -25,7 +25,7 @@ impl Model for Cluster {
     ghost view = { λ c. record {
       settings = c.settings;
       time = c.time;
-      seats = c.seats.items;
+      seats = c.seats;
       packets = sents c.packets;
       steps = c.steps;
     } };
@@ -72,7 +72,7 @@ impl Cluster {
         requires { i.0 < length self.now.seats }
         ensures { slice_get self.now.seats i.0 ≡ Some result.now }
     {
-        &self.seats[usize::from(i.0)]
+        self.seats.get(i)
     }
 
     /// Another seat in place of that of a rank.
@@ -80,7 +80,7 @@ impl Cluster {
         requires { i.0 < length self.old.seats }
         ensures { self.new ≡ record self.old { seats = slice_set self.old.seats i.0 seat } }
     {
-        self.seats[usize::from(i.0)] = seat;
+        self.seats.set(i, seat);
     }
 
     /// The seat of a rank is off.
@@ -92,8 +92,7 @@ impl Cluster {
                   (record seat { on = false });
             } }
     {
-        let seat = &mut self.seats[usize::from(i.0)];
-        seat.on = false;
+        self.seats.switch_off(i);
     }
 
     /// The last feed of a rank that was decided takes effect.
@@ -105,9 +104,7 @@ impl Cluster {
                   (record seat { fed = self.old.time });
             } }
     {
-        let time = self.time;
-        let seat = &mut self.seats[usize::from(i.0)];
-        seat.fed = time;
+        self.seats.feed(i, self.time);
     }
 
     /// The seat of a running node is handed an entry.
@@ -119,9 +116,7 @@ impl Cluster {
             × (self.new ≡ record self.old { seats = slice_set self.old.seats i.0 new })
             × HandedSeat old new self.old.time what outs.new }
     {
-        let time = self.time;
-        let seat = &mut self.seats[usize::from(i.0)];
-        seat.hand(time, what, outs);
+        self.seats.hand(i, self.time, what, outs);
     }
 
     /// The seat of a node that is off boots, as a clean start or not.
@@ -132,9 +127,8 @@ impl Cluster {
             × (self.new ≡ record self.old { seats = slice_set self.old.seats i.0 new })
             × BootedSeat new self.old.settings i.0 self.old.time base clean outs.new }
     {
-        let time = self.time;
-        let seat = &mut self.seats[usize::from(i.0)];
-        seat.boot(&self.settings, i, time, base, clean, outs);
+        self.seats
+            .boot(&self.settings, i, self.time, base, clean, outs);
     }
 
     /// Each running node's clock advances.
@@ -151,7 +145,7 @@ impl Cluster {
             ≡ option_map (advanced_seat (advance_of dt clocks.now rank))
             (slice_get self.old.seats rank) }
     {
-        advance_all(self.seats.as_mut_slice(), dt, clocks);
+        self.seats.advance(dt, clocks);
     }
 
     /// So many milliseconds pass.

@@ -6,6 +6,7 @@ ghost use Rattle.qn_cluster.specs.Seats.{IsFresh};
 use crate::cluster::Cluster;
 use crate::packets::Packets;
 use crate::seat::Seat;
+use crate::seats::Seats;
 use qn_base::{NoMemory, Rank};
 use qn_model::Settings;
 use std::alloc::Global;
@@ -45,7 +46,7 @@ impl Cluster {
         Ok(Cluster {
             settings,
             time: 0,
-            seats,
+            seats: Seats::of(seats),
             packets: Packets::new(alloc),
             steps: u64::MAX,
         })

@@ -1,7 +1,6 @@
 //! The steps of a cluster: one moment more.
 use crate::cluster::Cluster;
-use crate::outputs::{MOST_OUTPUTS, sends};
-use crate::seat::hand_with_room;
+use crate::outputs::{MOST_OUTPUTS, send_all, sends};
 use qn_base::{NoMemory, Rank};
 use qn_model::{Clocks, Outs, What};
 
@@ -83,9 +82,8 @@ impl Cluster {
         if self.packets.reserve(MOST_OUTPUTS).is_err() {
             return self.hand_copy(i, what, outs);
         }
-        let time = self.time;
-        let seat = &mut self.seats[usize::from(i.0)];
-        hand_with_room(seat, &mut self.packets, time, what, outs);
+        self.seats.hand(i, self.time, what, outs);
+        send_all(&mut self.packets, outs.as_slice());
         Ok(())
     }
 

@@ -30,6 +30,7 @@ mod outputs;
 mod packets;
 mod rules;
 mod seat;
+mod seats;
 mod sectors;
 mod shows;
 mod steps;

@@ -1,10 +1,6 @@
 //! What a cluster shows of its nodes, and what is reported of an event.
-ghost use Rattle.std.specs.Prelude.{◌≡◌, ◌<◌, ◌≤◌, ℕ, Some, false, length, slice_get};
-ghost use Rattle.qn_model.specs.declared.configuration.Settings.{Settings};
-ghost use Rattle.qn_model.specs.Steps.{answer_off, holders, touched};
-ghost use Rattle.qn_model.specs.World.{World, node_at};
-ghost use Rattle.qn_cluster.specs.declared.seat.Seat.{Seat};
-ghost use Rattle.qn_cluster.specs.Seats.{SeatFor};
+ghost use Rattle.std.specs.Prelude.{◌≡◌, false};
+ghost use Rattle.qn_model.specs.Steps.{answer_off, touched};
 ghost use Rattle.qn_cluster.specs.Seen.{blank_report};
 
 use crate::cluster::Cluster;
@@ -23,8 +19,9 @@ impl Seat {
     ghost use Rattle.qn_cluster.specs.Seen.{phase_now, polls_now, tick_now};
 
     /// Whether the node is running and holds the resource.
-    fn holds(&self) -> bool
-        ensures { (s : Settings) (me : ℕ) (node : Running)
+    pub(crate) fn holds(&self) -> bool
+        ensures value { result ≡ (self.now.on && self.now.held) }
+        ensures exact { (s : Settings) (me : ℕ) (node : Running)
             → SeatFor self.now s me node
             → result ≡ (node.on && holds node.log) }
     {
@@ -122,7 +119,7 @@ impl Cluster {
         ensures { (d : World) → ClusterFor self.now d.moments
             → result ≡ holders self.now.settings d }
     {
-        holders_of(self.seats.as_slice())
+        self.seats.holders()
     }
 
     /// Whether the node of a rank holds the resource.
@@ -341,23 +338,4 @@ fn answer_off(settings: &Settings) -> Answer
         expected: settings.expected,
         released: !settings.wait_for_all,
     }
-}
-
-/// Which of these seats, by rank, hold the resource.
-fn holders_of(seats: &[Seat]) -> Mask
-    requires { length seats.now ≤ 32 }
-    ensures { (d : World) (s : Settings)
-        → ((rank : ℕ) (seat : Seat) → slice_get seats.now rank ≡ Some seat
-        → SeatFor seat s rank (node_at s rank d))
-        → length seats.now ≡ length s.nodes
-        → result ≡ holders s d }
-{
-    let mut holders = 0u32;
-    for rank in 0..seats.len() {
-        let seat = &seats[rank];
-        if seat.holds() {
-            holders |= 1 << rank;
-        }
-    }
-    Mask(holders)
 }

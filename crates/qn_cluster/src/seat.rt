@@ -1,12 +1,5 @@
 //! One configured node of the cluster, running or off.
-ghost use Rattle.std.specs.Prelude.{◌≡◌, ◌<◌, ◌++◌};
-ghost use Rattle.qn_model.specs.Moments.{packets_of};
-ghost use Rattle.qn_node.specs.Node.{steps_of};
-ghost use Rattle.qn_cluster.specs.Packets.{HasRoomFor, sents};
-ghost use Rattle.qn_cluster.specs.Seats.{HandedSeat};
-
-use crate::outputs::{MOST_OUTPUTS, is_gone, send_all};
-use crate::packets::Packets;
+use crate::outputs::is_gone;
 use qn_base::Rank;
 use qn_model::{DiskOp, Entry, Outs, Phase, Settings, What};
 use qn_node::Node;
@@ -147,22 +140,4 @@ impl Seat {
             .or(if what.is_answer() { None } else { self.op });
         self.stop_due = outs.has_stop() || (self.stop_due && !what.answers_stop());
     }
-}
-
-/// A running node is handed an entry at the present tick of its clock, and what it sends is added to the packets,
-/// which have room for it.
-pub(crate) fn hand_with_room(
-    seat: &mut Seat,
-    packets: &mut Packets,
-    time: u64,
-    what: What,
-    outs: &mut Outs,
-)
-    requires steps { 0 < steps_of seat.old.node }
-    requires room { HasRoomFor MOST_OUTPUTS packets.old }
-    ensures hands { HandedSeat seat.old seat.new time what outs.new }
-    ensures sends { sents packets.new ≡ sents packets.old ++ packets_of outs.new }
-{
-    seat.hand(time, what, outs);
-    send_all(packets, outs.as_slice());
 }

@@ -1,10 +1,7 @@
-use Rattle.std.proofs.Common.{◌≡◌, ap, ◌∙◌, length, sym}
-use Rattle.std.specs.Prelude.{slice_get}
+use Rattle.std.proofs.Common.{◌∙◌, ap}
+use Rattle.qn_cluster.specs.Holders.{holders_among}
+use Rattle.qn_cluster.proofs.Holders.{holders_for}
 use Rattle.qn_cluster.proofs.cluster.Cluster.holders.Goals as goal
 
 pub returns : goal.returns
-returns c = λ d is.
-    let same : c.as_slice.result.now ≡ c.args.self.now.seats = c.as_slice.ensures.value ∙ ap (λ w. w.seats) c.self.view_is in
-    c.holders_of.ensures d c.args.self.now.settings
-    (λ rank seat here. is.nodes rank seat (ap (λ seats. slice_get seats rank) (sym same) ∙ here))
-    (ap length same ∙ is.count)
+returns c = λ d is. c.holders.ensures ∙ (ap (λ w. holders_among w.seats) c.self.view_is ∙ holders_for c.args.self.now d is)

@@ -5,4 +5,4 @@ pub returns : goal.returns
 returns c = λ d is.
     let rank = c.args.i.0 in
     let s = c.args.self.now.settings in
-    c.holds.ensures s rank (node s rank d) (is.nodes rank c.seat.result.now c.seat.ensures)
+    c.holds.ensures.exact s rank (node s rank d) (is.nodes rank c.seat.result.now c.seat.ensures)
