@@ -1,13 +1,12 @@
 """For the scripts that drop packets between nodes: clusters whose nodes start one after the other, and a network in which each way from
 one node to another can be cut. It is the firewall of a network namespace of its own, where those are to be had, else a relay between
 the nodes."""
-import os
 import selectors
 import socket
 import subprocess
 import threading
 
-from live import Cluster, Wrong, free_ports, milliseconds, same, wait_for
+from live import Cluster, Wrong, free_ports, in_namespace, milliseconds, same, wait_for
 
 TIMES = "500,2100,1000,1000,500"
 MSGWAIT, LOOP = 2100, 1000
@@ -121,8 +120,11 @@ class Relay:
 
 
 def network():
-    """The network of a script: the one that its shell found to be had."""
-    return Firewall() if os.environ["NETWORK"] == "namespace" else Relay()
+    """The network of a script: a namespace with a firewall, in which it is started again, or where that is not to be had a relay."""
+    if in_namespace("ip link set lo up && nft list ruleset"):
+        return Firewall()
+    print("skipped: no network namespace with nft: the packets are dropped by a relay")
+    return Relay()
 
 
 class CutCluster(Cluster):

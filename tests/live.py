@@ -7,6 +7,7 @@ import concurrent.futures
 import os
 import pathlib
 import re
+import shutil
 import signal
 import socket
 import subprocess
@@ -24,6 +25,7 @@ WARNINGS = (": a file or a pipe: it resets nothing", ": nothing was there, and a
 PLAIN = {name: value for name, value in os.environ.items() if name != "JOURNAL_STREAM"}  # with that, lines begin with their level
 RESERVED = []  # a TCP socket for each UDP port that a script uses, so that two scripts never use the same one
 STARTED = []
+INSIDE = "INSIDE_NETWORK_NAMESPACE"
 
 
 class Wrong(Exception):
@@ -45,6 +47,28 @@ def wait_for(what, test):
         if time.monotonic() > end:
             raise Wrong("after %d seconds still not: %s" % (PATIENCE, what))
         time.sleep(0.02)
+
+
+def as_nobody():
+    """The words before a program that may not write everywhere: root starts a copy of it as nobody, in a folder that nobody may enter."""
+    global QUORUMD
+    if os.getuid() != 0:
+        return ()
+    os.chmod(".", 0o755)
+    QUORUMD = str(shutil.copy(QUORUMD, pathlib.Path("program").absolute()))
+    return "setpriv", "--reuid=65534", "--regid=65534", "--clear-groups"
+
+
+def in_namespace(tried):
+    """Whether the script runs in a network namespace in which this command of a shell succeeds: it is started again in one, as root or as a user of
+    a namespace of its own, where there is such a one."""
+    if INSIDE in os.environ:
+        return True
+    for words in "-n", "-rn":
+        if subprocess.run(["sh", "-c", "unshare %s sh -c '%s'" % (words, tried)], capture_output=True, check=False).returncode == 0:
+            os.environ[INSIDE] = "yes"
+            os.execvp("unshare", ["unshare", words, sys.executable, "-B", *sys.argv])
+    return False
 
 
 def milliseconds():

@@ -1,4 +1,5 @@
-"""For tests/scripts/images-under-a-node.sh, which says what is tested."""
+"""An image that is unlinked or replaced while a node runs fails its calls, and the node is fed no more; a copy that may only be read is read;
+a full standard error does not hold a node up, and the next line says what was passed over."""
 import os
 import shutil
 import time

@@ -1,10 +1,11 @@
-"""For tests/scripts/image-sectors.sh, which says what is tested."""
+"""Sectors with what they spell, from tests/rows/sectors.tsv, each in an image of one node: what `dump` says of a header, and `list` of a slot and
+of a mailbox, in both versions of an image."""
 import os
 import re
 import subprocess
 import sys
 
-PROGRAM = os.environ["QUORUMD"]
+PROGRAM, TOP = os.environ["QUORUMD"], os.environ["TOP"]
 # of each kind: the version of its image, its sector, and the line of `list`, if `dump` is not to read it
 KINDS = {
     "header-1": (1, 0, None),
@@ -22,7 +23,15 @@ def read(path):
         return file.read()
 
 
-IMAGES = {version: read("version-%d" % version) for version in (1, 2)}
+def images():
+    """An image of one node of each version, whole; no command makes one of version 1."""
+    with open(TOP + "/examples/one-node.conf") as settings:
+        subprocess.run([PROGRAM, "create", "--image", "version-2"], stdin=settings, stdout=subprocess.DEVNULL, check=True, timeout=60)
+    subprocess.run(["bash", "-eu", "-c", '. "$TOP/tests/version-1.sh" && version_1 version-1 1'], check=True, timeout=60)
+    return {version: read("version-%d" % version) for version in (1, 2)}
+
+
+IMAGES = images()
 
 
 def sector_of(first, stray):
@@ -57,7 +66,7 @@ def value_of(kind, sector):
     return "nodes {1} timing {2} {3} {4} {5} {6}".format(*found.groups()) if int(found[1]) == version else "none"
 
 
-rows = [line.split("\t") for line in read(os.environ["TOP"] + "/tests/rows/sectors.tsv").decode().splitlines() if line[0] != "#"]
+rows = [line.split("\t") for line in read(TOP + "/tests/rows/sectors.tsv").decode().splitlines() if line[0] != "#"]
 for kind, first, stray, spells in rows:
     value = value_of(kind, sector_of(first, stray))
     if value != spells:

@@ -1,4 +1,7 @@
-"""For tests/scripts/nodes-that-are-cut.sh, which says what is tested."""
+"""Three and five nodes whose packets are dropped: the cluster's majority has a holder within the bound of docs/LIVE.md, no node that it sees
+is reset, and no two hold. The holder is cut off, and another node; no packet comes for two seconds and for five; one way is cut; the
+network heals. A holder that leaves clean is followed within two loops, and an announced view of the greatest number stops no take-over.
+The packets are dropped by the firewall of a network namespace, where both are to be had, else by a relay between the nodes."""
 import struct
 
 from live import milliseconds, same, try_all, wait_for

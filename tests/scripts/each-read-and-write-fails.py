@@ -1,7 +1,9 @@
-"""For tests/scripts/each-read-and-write-fails.sh, which says what is tested."""
-import os, resource, shutil, signal, socket, subprocess, sys
+"""For each command: a read of standard input fails after each of its bytes, a write of standard output after each byte that was
+written, and a write of the image at each of its sectors. The faults are the system's own: a connection that its other end
+resets, a limit of the size of a file, a full device, a pipe that nobody reads, a directory, and a stream that is closed."""
+import os, pathlib, resource, shutil, signal, socket, subprocess, sys
 
-PROGRAM = os.environ["QUORUMD"]
+PROGRAM, TOP = os.environ["QUORUMD"], pathlib.Path(os.environ["TOP"])
 # the size of a file that a limited run may write
 ROOM = 1 << 20
 
@@ -157,6 +159,16 @@ def is_as_before(where, sector):
 
 
 NODE = b"nodelist {\nnode {\nnodeid: 1\n}\n}\n"
+LEAVING = TOP / "examples" / "incidents" / "leaving"
+WITHOUT_IMAGE_3 = TOP / "tests" / "cases" / "replay3" / "a-node-starts-without-image-3"
+FILES = {
+    "votes": b"node 1 1\nnode 2 1\nnode 3 1\nnode 4 1\nview 1 1,2\nview 2 1,2,3\n",
+    "counted": b"view 1 votes 2 quorum 3 quorate no\nview 2 votes 3 quorum 3 quorate yes\nend 2\n",
+    "schedule": read(LEAVING / "schedule"), "trace": read(LEAVING / "trace"),
+    "schedule3": read(WITHOUT_IMAGE_3 / "stdin"), "trace3": read(WITHOUT_IMAGE_3 / "stdout"),
+    "settings": NODE, "created": b"created nodes 1\n",
+    "listed": b"node 1 incarnation 0 clean mail empty\n", "sent": b"sent off to 1\n",
+}
 TIMES = b"----\ntiming 5000 10000 1000 2000 1000\n"
 COUNT = (["count"], "votes", "counted")
 REPLAY = (["replay"], "schedule", "trace")
@@ -170,6 +182,11 @@ LIST = (["list", "--image", "disk"], os.devnull, "listed")
 MESSAGE = (["message", "--image", "disk", "--id", "1", "--kind", "off"], os.devnull, "sent")
 HELP = (["help"], os.devnull)
 
+for name, content in FILES.items():
+    pathlib.Path(name).write_bytes(content)
+with open("settings") as stdin, open("answer", "wb") as stdout:
+    subprocess.run([PROGRAM, "create", "--image", "image"], stdin=stdin, stdout=stdout, stderr=subprocess.DEVNULL, check=True)
+want(["create"], "of the image", read("answer"), read("created"))
 each_read_fails(*COUNT, answered=views)
 each_read_fails(*REPLAY, answered=events)
 each_read_fails(*REPLAY3, answered=events)

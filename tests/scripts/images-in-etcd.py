@@ -1,18 +1,24 @@
-"""For tests/scripts/images-in-etcd.sh, which says what is tested."""
+"""Images in an etcd cluster: each command as over a file, words that are none, a prefix in use, the tokens of nodes, a write of an earlier boot that
+comes late, a second start of an id, a machine that has not left, and a server that does what it should not."""
 import base64
 import concurrent.futures
 import os
 import pathlib
 import re
+import shutil
 import socket
 import struct
 import subprocess
+import sys
 import threading
 import time
 
 from etcd import Crooked, Keys, servers, text
 from live import QUORUMD, Cluster, Wrong, free_ports, same, try_all, wait_for
 
+if not shutil.which("etcd"):
+    print("skipped: no etcd (Debian: etcd-server)")
+    sys.exit(0)
 HOST = servers()[0].host
 TOP = os.environ["TOP"]
 MACHINE = pathlib.Path("/etc/machine-id").read_text().strip()

@@ -1,11 +1,10 @@
-"""For tests/scripts/nodes-on-three-images.sh, which says what is tested."""
+"""Nodes on three images, of which one is lost, before the start or while they run: they start, are fed, take over and leave as ever. With two
+lost a boot ends, and a node that runs is fed no more."""
 import os
-import pathlib
 import random
 import time
 
-import live
-from live import Cluster, TripleCluster, Wrong, milliseconds, same, try_all, wait_for
+from live import Cluster, TripleCluster, Wrong, as_nobody, milliseconds, same, try_all, wait_for
 
 Cluster.BEFORE = ()  # the opening of nodes that no word of a machine was said of
 LOOP = 1.0  # seconds, of live.LONG_LOOP
@@ -176,10 +175,8 @@ def two_lost_while_it_runs():
 def no_rights():
     """An image that may not be written is lost for a node that starts, and not for one that runs."""
     cluster = TripleCluster("rights", ids=(1, 2))
-    run_as = ()
-    if os.getuid() == 0:  # root may write everywhere: start the program as nobody
-        run_as = ("setpriv", "--reuid=65534", "--regid=65534", "--clear-groups")
-        live.QUORUMD = str(pathlib.Path("program").absolute())
+    run_as = as_nobody()
+    if run_as:
         os.chmod(cluster.folder, 0o777)
     for image in cluster.images:
         os.chmod(image, 0o666)

@@ -1,11 +1,15 @@
-"""For tests/scripts/quiet-runs.sh, which says what is tested."""
+"""Runs in which a node ends and the world is quiet: the other one has started by the longest take-over of `quorumctl timing`, and where
+a call of the disk takes as long as a loop it writes no reset at all. And some runs drawn at random, none above the bound."""
+import os
+import pathlib
+import re
 import subprocess
-import sys
 
 from quietruns import Pace, Survivor, Times
 
 LONG = 300000
-quorumd, quorumctl, rows = sys.argv[1:]
+quorumd, quorumctl, top = os.environ["QUORUMD"], os.environ["QUORUMCTL"], pathlib.Path(os.environ["TOP"])
+NONE_ABOVE = r"quiet runs from seed 1: [0-9]+, and 0 more in which the watchdog ended the node; 0 above the bound, the nearest 0\.[0-9]+ of it"
 
 
 def slowest(low, high):
@@ -43,7 +47,7 @@ def printed(times, disk):
     return dict(line.rsplit(" ", 1) if "none" not in line else (line.split(" none")[0], "none") for line in said.splitlines())
 
 
-for line in open(rows):
+for line in open(top / "tests" / "rows" / "take-over-runs.tsv"):
     if line.startswith("#"):
         continue
     watchdog, loop, read_limit, feed_delay, msgwait, disk, bound, resets = line.rstrip("\n").split("\t")
@@ -55,3 +59,5 @@ for line in open(rows):
     assert any("reset:" in said for said in trace) == (resets == "yes"), "%s: resets" % line
     if bound != "none":
         assert starts and starts[0] <= int(bound), "%s: it starts at %s" % (line, starts)
+drawn = subprocess.run([top / "bench" / "quiet", "500", "1"], stdout=subprocess.PIPE, stderr=subprocess.DEVNULL, check=True, text=True).stdout
+assert any(re.match(NONE_ABOVE, said) for said in drawn.splitlines()), drawn

@@ -1,9 +1,9 @@
-"""For tests/scripts/nodes-that-cannot-open.sh, which says what is tested."""
+"""Openings of a node that fail: a port in use, a folder, no rights, no image. What comes after the thing that failed is not touched; a second
+start of a node that runs leaves that one in peace. And an image that is none, or is not that of the settings, ends the boot."""
 import os
-import pathlib
 import socket
 
-from live import Cluster, same, try_all, wait_for
+from live import Cluster, as_nobody, same, try_all, wait_for
 
 Cluster.BEFORE = ()  # the opening of nodes that no word of a machine was said of
 DIRECTORY = "Is a directory (os error 21)"
@@ -49,11 +49,7 @@ def folders():
 
 def no_rights():
     cluster = Cluster("rights", ids=(1,))
-    run_as = ()
-    if os.getuid() == 0:  # root may write everywhere: start the program as nobody
-        run_as = ("setpriv", "--reuid=65534", "--regid=65534", "--clear-groups")
-        import live
-        live.QUORUMD = str(pathlib.Path("program").absolute())
+    run_as = as_nobody()
     why = "%s: Permission denied (os error 13)"
     os.chmod(cluster.image, 0o444)
     is_refused(cluster.node(1, run_as=run_as), why % cluster.image)
