@@ -90,7 +90,10 @@ pub fn greeting_packet(me: Rank, greeting: Greeting) -> Packet
         Greeting::Heard(said) => Packet::Heard {
             from: me,
             said,
-            standing: Standing::default(),
+            standing: Standing {
+                flags: 0,
+                weight: 0,
+            },
         },
         Greeting::Announce(view) => Packet::Announce { from: me, view },
     }
