@@ -101,7 +101,7 @@ pub record Quietly (s : Settings) (t : Timing) (me : ℕ) (pace : Pace) (past : 
   pub plain : Plain (line_with past tick entry [])
   pub gentle : is_gentle entry ≡ true
   pub quorate : quorate_with_tie s (taken_in past tick entry) tick ≡ true
-  pub least : is_chosen s me (taken_in past tick entry) ≡ true
+  pub chosen : is_chosen s me (taken_in past tick entry) ≡ true
   pub delays : (j : ℕ) → j < length s.nodes → is_in_view past j ≡ false → view_tick (votes past) + fence_delay s j ≤ tick
   pub answers : ¬ (op_out past ≡ None) → tick ≤ ask_tick past + pace.disk
   pub turns : tick ≤ now past + pace.turn

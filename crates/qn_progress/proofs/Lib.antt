@@ -13,3 +13,6 @@ mod Asking
 mod Asked
 mod Telling
 mod Hearing
+mod HearingRows
+mod Keeping
+mod Majority

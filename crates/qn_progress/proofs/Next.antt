@@ -76,9 +76,9 @@ fence_on p q c ep eq ec = ap (λ x. is_up x && q && c) ep ∙ ap (λ x. x && c) 
 pub wants : (s : Settings) (me : ℕ) (log : List Line) → op_out log ≡ None → phase s log ≡ Up → quorate_with_tie s log (now log) ≡ true → is_chosen s me log ≡ true
     → wanted_with_delay s me log ≡ (if is_mail_due log then Some disk.ReadMail else fencing_op_with_delay s log)
 unfolding wanted_with_delay
-wants s me log out up quorate least =
+wants s me log out up quorate chosen =
     given (op_out log) (is_mail_due log) (is_leaving (phase s log) && not (holds log)) (may_fence s me log) (close_op log) (fencing_op_with_delay s log) out
-    (not_leaving (phase s log) (not (holds log)) up) (fence_on (phase s log) (quorate_with_tie s log (now log)) (is_chosen s me log) up quorate least)
+    (not_leaving (phase s log) (not (holds log)) up) (fence_on (phase s log) (quorate_with_tie s log (now log)) (is_chosen s me log) up quorate chosen)
 
 -- where one is out none is asked for
 pub wants_none : (s : Settings) (me : ℕ) (log : List Line) (op : DiskOp) → op_out log ≡ Some op → wanted_with_delay s me log ≡ None

@@ -98,7 +98,7 @@ handed_move s me now' entry old = Enters (read_as s me old.log entry) (read_fits
 still : (s : Settings) (me : ℕ) (old : Running) → Move s me old old
 still s me old = Rests refl (omega arith) refl
 
-move : (s : Settings) (me : ℕ) (moment : Moment) (earlier : List Moment) → Move s me (node s me earlier) (node s me (moment ∷ earlier))
+pub move : (s : Settings) (me : ℕ) (moment : Moment) (earlier : List Moment) → Move s me (node s me earlier) (node s me (moment ∷ earlier))
 unfolding node
 move s me (Passes dt clocks) earlier = by_on (node s me earlier).on
   where
@@ -170,11 +170,11 @@ pub view_alike : (s : Settings) (me : ℕ) (past : List Line) (tick : ℕ) (entr
 unfolding view
 view_alike s me past tick entry = refl
 
-least_alike : (s : Settings) (me : ℕ) (past : List Line) (tick : ℕ) (entry : What) → is_chosen s me (taken_in past tick entry) ≡ is_chosen s me (with_read s me past tick entry)
+chosen_alike : (s : Settings) (me : ℕ) (past : List Line) (tick : ℕ) (entry : What) → is_chosen s me (taken_in past tick entry) ≡ is_chosen s me (with_read s me past tick entry)
 unfolding view
-least_alike s me past tick entry = refl
+chosen_alike s me past tick entry = refl
 
-quorate_alike : (s : Settings) (me : ℕ) (past : List Line) (tick : ℕ) (entry : What) → quorate_with_tie s (taken_in past tick entry) tick ≡ quorate_with_tie s (with_read s me past tick entry) tick
+pub quorate_alike : (s : Settings) (me : ℕ) (past : List Line) (tick : ℕ) (entry : What) → quorate_with_tie s (taken_in past tick entry) tick ≡ quorate_with_tie s (with_read s me past tick entry) tick
 quorate_alike s me past tick entry = ap (λ v. Rattle.qn_model.specs.Tie.is_quorate_with_tie s v tick) (votes_alike s me past tick entry)
 
 free_alike : (s : Settings) (me : ℕ) (past : List Line) (tick : ℕ) (entry : What) → released s (taken_in past tick entry) ≡ released s (with_read s me past tick entry)
@@ -186,11 +186,11 @@ pub record QuietLog (s : Settings) (me : ℕ) (views : ℕ) (log : List Line) : 
   pub installed : install log ≡ views
   pub free : released s log ≡ true
   pub quorate : quorate_with_tie s log (now log) ≡ true
-  pub least : is_chosen s me log ≡ true
+  pub chosen : is_chosen s me log ≡ true
   pub gentle : is_gentle (newest log) ≡ true
 
 pub quiet_log : {s : Settings} {me : ℕ} {pace : Pace} {views : ℕ} {moments : List Moment} → IsQuiet s me pace views moments → QuietLog s me views (node s me moments).log
-quiet_log quiet = record { up = quiet.up; installed = quiet.view; free = quiet.free; quorate = quiet.quorate; least = quiet.least; gentle = quiet.gentle }
+quiet_log quiet = record { up = quiet.up; installed = quiet.view; free = quiet.free; quorate = quiet.quorate; chosen = quiet.chosen; gentle = quiet.gentle }
 
 -- what is known of the log of a node that is up in a timed run
 pub record Known (s : Settings) (t : Timing) (me : ℕ) (log : List Line) : Type 0 where
@@ -240,7 +240,7 @@ quietly {s = s} {me = me} {past = past} {tick = tick} {entry = entry} was times 
       plain = record { not_view = plain; stays_out = plain_entry entry plain (never_cleared s me past entry was.cleared before.up fit) };
       gentle = after.gentle;
       quorate = quorate_alike s me past tick entry ∙ after.quorate;
-      least = least_alike s me past tick entry ∙ after.least;
+      chosen = chosen_alike s me past tick entry ∙ after.chosen;
       delays = delays;
       answers = answers;
       turns = turns;
@@ -374,7 +374,7 @@ hears {s = s} {t = t} {me = me} {pace = pace} {old = old} {mid = mid} law timed 
     next_hears (known law timed (before_tail back) before) (known law timed back quiet) over (quiet_log before) (quiet_log quiet) before.answers before.turns (move s me moment earlier)
     (stands law timed (before_tail back) fast (joined first since) over) (hears law timed (before_tail back) fast first since over heard)
 
--- the least member of a view holds, and goes on holding, from the bound on
+-- the chosen member of a view holds, and goes on holding, from the bound on
 pub least_member : {s : Settings} {t : Timing} {me : ℕ} {pace : Pace} {views : ℕ} {old mid new : List Moment} → Below → IsTimedRun s t new → pace.disk < t.loop_ms
     → QuietSince s me pace views old mid → QuietSince s me pace views mid new
     → DelaysOver s (tick_of (node s me old).clock) (node s me old).log → HasHeardAll s me (node s me mid).log

@@ -21,10 +21,10 @@ use Rattle.qn_progress.specs.Quiet.{IsQuiet, QuietSince, FromHere, AndThen, Dela
 use Rattle.qn_progress.proofs.Over.{start_of}
 use Rattle.qn_progress.specs.Premises.{TakesOver}
 
-abbrev sees : ℕ → View
+abbrev pub sees : ℕ → View
 sees members = record { id = 1; members = record { 0 = members } }
 
-abbrev short_times : Timing
+abbrev pub short_times : Timing
 short_times = record { watchdog = 60; msgwait = 79; loop_ms = 20; read_limit = 10; feed_delay = 5 }
 
 -- a disk that answers after 5 ticks, and an entry each 40
@@ -116,103 +116,103 @@ m24 = Passes 10 [] ∷ m23
 
 quiet0 : IsQuiet two_nodes 0 short_pace 1 m0
 unfolding world_steps run AllAllowed total
-quiet0 = record { on = refl; up = refl; view = refl; free = refl; quorate = refl; least = refl; gentle = refl; turns = leb-true _ _ refl; answers = λ some. leb-true _ _ refl }
+quiet0 = record { on = refl; up = refl; view = refl; free = refl; quorate = refl; chosen = refl; gentle = refl; turns = leb-true _ _ refl; answers = λ some. leb-true _ _ refl }
 
 quiet1 : IsQuiet two_nodes 0 short_pace 1 m1
 unfolding world_steps run AllAllowed total
-quiet1 = record { on = refl; up = refl; view = refl; free = refl; quorate = refl; least = refl; gentle = refl; turns = leb-true _ _ refl; answers = λ some. leb-true _ _ refl }
+quiet1 = record { on = refl; up = refl; view = refl; free = refl; quorate = refl; chosen = refl; gentle = refl; turns = leb-true _ _ refl; answers = λ some. leb-true _ _ refl }
 
 quiet2 : IsQuiet two_nodes 0 short_pace 1 m2
 unfolding world_steps run AllAllowed total
-quiet2 = record { on = refl; up = refl; view = refl; free = refl; quorate = refl; least = refl; gentle = refl; turns = leb-true _ _ refl; answers = λ some. leb-true _ _ refl }
+quiet2 = record { on = refl; up = refl; view = refl; free = refl; quorate = refl; chosen = refl; gentle = refl; turns = leb-true _ _ refl; answers = λ some. leb-true _ _ refl }
 
 quiet3 : IsQuiet two_nodes 0 short_pace 1 m3
 unfolding world_steps run AllAllowed total
-quiet3 = record { on = refl; up = refl; view = refl; free = refl; quorate = refl; least = refl; gentle = refl; turns = leb-true _ _ refl; answers = λ some. leb-true _ _ refl }
+quiet3 = record { on = refl; up = refl; view = refl; free = refl; quorate = refl; chosen = refl; gentle = refl; turns = leb-true _ _ refl; answers = λ some. leb-true _ _ refl }
 
 quiet4 : IsQuiet two_nodes 0 short_pace 1 m4
 unfolding world_steps run AllAllowed total
-quiet4 = record { on = refl; up = refl; view = refl; free = refl; quorate = refl; least = refl; gentle = refl; turns = leb-true _ _ refl; answers = λ some. leb-true _ _ refl }
+quiet4 = record { on = refl; up = refl; view = refl; free = refl; quorate = refl; chosen = refl; gentle = refl; turns = leb-true _ _ refl; answers = λ some. leb-true _ _ refl }
 
 quiet5 : IsQuiet two_nodes 0 short_pace 1 m5
 unfolding world_steps run AllAllowed total
-quiet5 = record { on = refl; up = refl; view = refl; free = refl; quorate = refl; least = refl; gentle = refl; turns = leb-true _ _ refl; answers = λ some. leb-true _ _ refl }
+quiet5 = record { on = refl; up = refl; view = refl; free = refl; quorate = refl; chosen = refl; gentle = refl; turns = leb-true _ _ refl; answers = λ some. leb-true _ _ refl }
 
 quiet6 : IsQuiet two_nodes 0 short_pace 1 m6
 unfolding world_steps run AllAllowed total
-quiet6 = record { on = refl; up = refl; view = refl; free = refl; quorate = refl; least = refl; gentle = refl; turns = leb-true _ _ refl; answers = λ some. leb-true _ _ refl }
+quiet6 = record { on = refl; up = refl; view = refl; free = refl; quorate = refl; chosen = refl; gentle = refl; turns = leb-true _ _ refl; answers = λ some. leb-true _ _ refl }
 
 quiet7 : IsQuiet two_nodes 0 short_pace 1 m7
 unfolding world_steps run AllAllowed total
-quiet7 = record { on = refl; up = refl; view = refl; free = refl; quorate = refl; least = refl; gentle = refl; turns = leb-true _ _ refl; answers = λ some. leb-true _ _ refl }
+quiet7 = record { on = refl; up = refl; view = refl; free = refl; quorate = refl; chosen = refl; gentle = refl; turns = leb-true _ _ refl; answers = λ some. leb-true _ _ refl }
 
 quiet8 : IsQuiet two_nodes 0 short_pace 1 m8
 unfolding world_steps run AllAllowed total
-quiet8 = record { on = refl; up = refl; view = refl; free = refl; quorate = refl; least = refl; gentle = refl; turns = leb-true _ _ refl; answers = λ some. absurd (some refl) }
+quiet8 = record { on = refl; up = refl; view = refl; free = refl; quorate = refl; chosen = refl; gentle = refl; turns = leb-true _ _ refl; answers = λ some. absurd (some refl) }
 
 quiet9 : IsQuiet two_nodes 0 short_pace 1 m9
 unfolding world_steps run AllAllowed total
-quiet9 = record { on = refl; up = refl; view = refl; free = refl; quorate = refl; least = refl; gentle = refl; turns = leb-true _ _ refl; answers = λ some. leb-true _ _ refl }
+quiet9 = record { on = refl; up = refl; view = refl; free = refl; quorate = refl; chosen = refl; gentle = refl; turns = leb-true _ _ refl; answers = λ some. leb-true _ _ refl }
 
 quiet10 : IsQuiet two_nodes 0 short_pace 1 m10
 unfolding world_steps run AllAllowed total
-quiet10 = record { on = refl; up = refl; view = refl; free = refl; quorate = refl; least = refl; gentle = refl; turns = leb-true _ _ refl; answers = λ some. leb-true _ _ refl }
+quiet10 = record { on = refl; up = refl; view = refl; free = refl; quorate = refl; chosen = refl; gentle = refl; turns = leb-true _ _ refl; answers = λ some. leb-true _ _ refl }
 
 quiet11 : IsQuiet two_nodes 0 short_pace 1 m11
 unfolding world_steps run AllAllowed total
-quiet11 = record { on = refl; up = refl; view = refl; free = refl; quorate = refl; least = refl; gentle = refl; turns = leb-true _ _ refl; answers = λ some. leb-true _ _ refl }
+quiet11 = record { on = refl; up = refl; view = refl; free = refl; quorate = refl; chosen = refl; gentle = refl; turns = leb-true _ _ refl; answers = λ some. leb-true _ _ refl }
 
 quiet12 : IsQuiet two_nodes 0 short_pace 1 m12
 unfolding world_steps run AllAllowed total
-quiet12 = record { on = refl; up = refl; view = refl; free = refl; quorate = refl; least = refl; gentle = refl; turns = leb-true _ _ refl; answers = λ some. absurd (some refl) }
+quiet12 = record { on = refl; up = refl; view = refl; free = refl; quorate = refl; chosen = refl; gentle = refl; turns = leb-true _ _ refl; answers = λ some. absurd (some refl) }
 
 quiet13 : IsQuiet two_nodes 0 short_pace 1 m13
 unfolding world_steps run AllAllowed total
-quiet13 = record { on = refl; up = refl; view = refl; free = refl; quorate = refl; least = refl; gentle = refl; turns = leb-true _ _ refl; answers = λ some. leb-true _ _ refl }
+quiet13 = record { on = refl; up = refl; view = refl; free = refl; quorate = refl; chosen = refl; gentle = refl; turns = leb-true _ _ refl; answers = λ some. leb-true _ _ refl }
 
 quiet14 : IsQuiet two_nodes 0 short_pace 1 m14
 unfolding world_steps run AllAllowed total
-quiet14 = record { on = refl; up = refl; view = refl; free = refl; quorate = refl; least = refl; gentle = refl; turns = leb-true _ _ refl; answers = λ some. leb-true _ _ refl }
+quiet14 = record { on = refl; up = refl; view = refl; free = refl; quorate = refl; chosen = refl; gentle = refl; turns = leb-true _ _ refl; answers = λ some. leb-true _ _ refl }
 
 quiet15 : IsQuiet two_nodes 0 short_pace 1 m15
 unfolding world_steps run AllAllowed total
-quiet15 = record { on = refl; up = refl; view = refl; free = refl; quorate = refl; least = refl; gentle = refl; turns = leb-true _ _ refl; answers = λ some. leb-true _ _ refl }
+quiet15 = record { on = refl; up = refl; view = refl; free = refl; quorate = refl; chosen = refl; gentle = refl; turns = leb-true _ _ refl; answers = λ some. leb-true _ _ refl }
 
 quiet16 : IsQuiet two_nodes 0 short_pace 1 m16
 unfolding world_steps run AllAllowed total
-quiet16 = record { on = refl; up = refl; view = refl; free = refl; quorate = refl; least = refl; gentle = refl; turns = leb-true _ _ refl; answers = λ some. absurd (some refl) }
+quiet16 = record { on = refl; up = refl; view = refl; free = refl; quorate = refl; chosen = refl; gentle = refl; turns = leb-true _ _ refl; answers = λ some. absurd (some refl) }
 
 quiet17 : IsQuiet two_nodes 0 short_pace 1 m17
 unfolding world_steps run AllAllowed total
-quiet17 = record { on = refl; up = refl; view = refl; free = refl; quorate = refl; least = refl; gentle = refl; turns = leb-true _ _ refl; answers = λ some. leb-true _ _ refl }
+quiet17 = record { on = refl; up = refl; view = refl; free = refl; quorate = refl; chosen = refl; gentle = refl; turns = leb-true _ _ refl; answers = λ some. leb-true _ _ refl }
 
 quiet18 : IsQuiet two_nodes 0 short_pace 1 m18
 unfolding world_steps run AllAllowed total
-quiet18 = record { on = refl; up = refl; view = refl; free = refl; quorate = refl; least = refl; gentle = refl; turns = leb-true _ _ refl; answers = λ some. leb-true _ _ refl }
+quiet18 = record { on = refl; up = refl; view = refl; free = refl; quorate = refl; chosen = refl; gentle = refl; turns = leb-true _ _ refl; answers = λ some. leb-true _ _ refl }
 
 quiet19 : IsQuiet two_nodes 0 short_pace 1 m19
 unfolding world_steps run AllAllowed total
-quiet19 = record { on = refl; up = refl; view = refl; free = refl; quorate = refl; least = refl; gentle = refl; turns = leb-true _ _ refl; answers = λ some. leb-true _ _ refl }
+quiet19 = record { on = refl; up = refl; view = refl; free = refl; quorate = refl; chosen = refl; gentle = refl; turns = leb-true _ _ refl; answers = λ some. leb-true _ _ refl }
 
 quiet20 : IsQuiet two_nodes 0 short_pace 1 m20
 unfolding world_steps run AllAllowed total
-quiet20 = record { on = refl; up = refl; view = refl; free = refl; quorate = refl; least = refl; gentle = refl; turns = leb-true _ _ refl; answers = λ some. absurd (some refl) }
+quiet20 = record { on = refl; up = refl; view = refl; free = refl; quorate = refl; chosen = refl; gentle = refl; turns = leb-true _ _ refl; answers = λ some. absurd (some refl) }
 
 quiet21 : IsQuiet two_nodes 0 short_pace 1 m21
 unfolding world_steps run AllAllowed total
-quiet21 = record { on = refl; up = refl; view = refl; free = refl; quorate = refl; least = refl; gentle = refl; turns = leb-true _ _ refl; answers = λ some. leb-true _ _ refl }
+quiet21 = record { on = refl; up = refl; view = refl; free = refl; quorate = refl; chosen = refl; gentle = refl; turns = leb-true _ _ refl; answers = λ some. leb-true _ _ refl }
 
 quiet22 : IsQuiet two_nodes 0 short_pace 1 m22
 unfolding world_steps run AllAllowed total
-quiet22 = record { on = refl; up = refl; view = refl; free = refl; quorate = refl; least = refl; gentle = refl; turns = leb-true _ _ refl; answers = λ some. leb-true _ _ refl }
+quiet22 = record { on = refl; up = refl; view = refl; free = refl; quorate = refl; chosen = refl; gentle = refl; turns = leb-true _ _ refl; answers = λ some. leb-true _ _ refl }
 
 quiet23 : IsQuiet two_nodes 0 short_pace 1 m23
 unfolding world_steps run AllAllowed total
-quiet23 = record { on = refl; up = refl; view = refl; free = refl; quorate = refl; least = refl; gentle = refl; turns = leb-true _ _ refl; answers = λ some. leb-true _ _ refl }
+quiet23 = record { on = refl; up = refl; view = refl; free = refl; quorate = refl; chosen = refl; gentle = refl; turns = leb-true _ _ refl; answers = λ some. leb-true _ _ refl }
 
 quiet24 : IsQuiet two_nodes 0 short_pace 1 m24
 unfolding world_steps run AllAllowed total
-quiet24 = record { on = refl; up = refl; view = refl; free = refl; quorate = refl; least = refl; gentle = refl; turns = leb-true _ _ refl; answers = λ some. absurd (some refl) }
+quiet24 = record { on = refl; up = refl; view = refl; free = refl; quorate = refl; chosen = refl; gentle = refl; turns = leb-true _ _ refl; answers = λ some. absurd (some refl) }
 
 quiet : QuietSince two_nodes 0 short_pace 1 m0 m24
 quiet = AndThen (AndThen (AndThen (AndThen (AndThen (AndThen (AndThen (AndThen (AndThen (AndThen (AndThen (AndThen (AndThen (AndThen (AndThen (AndThen (AndThen (AndThen (AndThen (AndThen (AndThen (AndThen (AndThen (AndThen (FromHere quiet0) quiet1) quiet2) quiet3) quiet4) quiet5) quiet6) quiet7) quiet8) quiet9) quiet10) quiet11) quiet12) quiet13) quiet14) quiet15) quiet16) quiet17) quiet18) quiet19) quiet20) quiet21) quiet22) quiet23) quiet24

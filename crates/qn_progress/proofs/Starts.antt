@@ -158,8 +158,8 @@ nothing_lacks {s = s} {t = t} {me = me} {pace = pace} {past = past} {tick = tick
     (other_chosen s me log) (holder s me log) (unheard s me log) (unfenced s log tick)
     (λ rank. why.NotChosen (id_of s rank)) (λ rank. why.HeldBy (id_of s rank)) (λ rank. why.Unheard (id_of s rank))
     (λ rank. why.Unfenced (id_of s rank) (is_written log rank) (left_to_wait log rank tick))
-    (ap is_up quiet.up) idle (view_there s me log (chosen s log) refl quiet.least) free quiet.quorate
-    (ap (λ b. if b then None else Some (unwrap_or (chosen s log) 255)) quiet.least)
+    (ap is_up quiet.up) idle (view_there s me log (chosen s log) refl quiet.chosen) free quiet.quorate
+    (ap (λ b. if b then None else Some (unwrap_or (chosen s log) 255)) quiet.chosen)
     (least_from-none (length s.nodes) 0 _ (λ j above below. no_holder (is_in_view log j) (not (j == me)) (told (λ tell. true) j log) (is_free log j) (said j (omega arith))))
     (least_from-none (length s.nodes) 0 _ (λ j above below. all_heard (is_in_view log j) (not (j == me)) (is_free log j) (is_held log j) (said j (omega arith))))
     (least_from-none (length s.nodes) 0 _ (λ j above below. licensed j (omega arith)))

@@ -71,7 +71,7 @@ asks_next {s = s} {t = t} {me = me} {pace = pace} {past = past} {tick = tick} {e
     outs = outs_now s me past tick entry
 
     wanted : disk_of outs ≡ (if is_mail_due (taken_in past tick entry) then Some disk.ReadMail else fencing_op_with_delay s (taken_in past tick entry))
-    wanted = disk_now quiet ∙ wants s me (taken_in past tick entry) out quiet.up quiet.quorate quiet.least
+    wanted = disk_now quiet ∙ wants s me (taken_in past tick entry) out quiet.up quiet.quorate quiet.chosen
 
     is_pending : pending s (with_read s me past tick entry) ≡ pending s (taken_in past tick entry)
     is_pending = pending_alike s past tick entry outs

@@ -67,7 +67,7 @@ pub record HasHeld (s : Settings) (rank : ℕ) (old new : List Moment) : Type 0 
   pub back : Before at new
   pub holds : is_holder s at rank ≡ true
 
--- The world is quiet from an old moment to a new one, as the least member of a view sees it, and by a moment between the two each other member had
+-- The world is quiet from an old moment to a new one, as the chosen member of a view sees it, and by a moment between the two each other member had
 -- time to be heard.
 pub record StaysHeard (s : Settings) (t : Timing) (rank : ℕ) (pace : Pace) (post : ℕ) (present : View) (old mid new : List Moment) : Type 0 where
   pub fast : pace.disk < t.loop_ms

@@ -44,13 +44,13 @@ is_gentle (what.Closed ok) = true
 
 -- The node of a rank at one quiet moment; `views` is how many views it has installed since its boot.
 pub record IsQuiet (s : Settings) (rank : ℕ) (pace : Pace) (views : ℕ) (moments : List Moment) : Type 0 where
-  -- it runs, it is up, released, quorate, and the least member of its view, which stays
+  -- it runs, it is up, released, quorate, and the chosen member of its view, which stays
   pub on : (node s rank moments).on ≡ true
   pub up : phase s (node s rank moments).log ≡ Up
   pub view : install (node s rank moments).log ≡ views
   pub free : released s (node s rank moments).log ≡ true
   pub quorate : quorate_with_tie s (node s rank moments).log (now (node s rank moments).log) ≡ true
-  pub least : is_chosen s rank (node s rank moments).log ≡ true
+  pub chosen : is_chosen s rank (node s rank moments).log ≡ true
   -- what it was handed last is no failure
   pub gentle : is_gentle (newest (node s rank moments).log) ≡ true
   -- it was handed an entry, and its disk answers, at their pace

@@ -1,12 +1,14 @@
 //! The bounded take-over.
 ghost use Rattle.std.specs.Prelude.{◌≡◌, ◌≤◌, ◌<◌, ◌+◌, ◌⊎◌, ℕ, true, List, IsTrue};
+ghost use Rattle.qn_base.specs.declared.ids.Mask.{Mask};
 ghost use Rattle.qn_base.specs.declared.ids.View.{View};
 ghost use Rattle.qn_model.specs.declared.configuration.Settings.{Settings};
 ghost use Rattle.qn_model.specs.declared.events.Event.{Event};
 ghost use Rattle.qn_model.specs.declared.times.Timing.{Timing};
 ghost use Rattle.qn_model.specs.Hearing.{is_free};
 ghost use Rattle.qn_model.specs.Moments.{Moment, is_holder, node, tick_of};
-ghost use Rattle.qn_model.specs.NodeVotes.{install};
+ghost use Rattle.qn_model.specs.Log.{Line};
+ghost use Rattle.qn_model.specs.NodeVotes.{install, quorate_with_tie, view};
 ghost use Rattle.qn_model.specs.Steps.{AllAllowed, run};
 ghost use Rattle.qn_safety.specs.declared.triple_event.TripleEvent.{TripleEvent};
 ghost use Rattle.qn_safety.specs.Timed.{IsTimedRun};
@@ -15,8 +17,10 @@ ghost use Rattle.qn_safety.specs.declared.arbiter_event.ArbiterEvent.{ArbiterEve
 ghost use Rattle.qn_safety.specs.declared.lease.Lease.{Lease};
 ghost use Rattle.qn_safety.specs.ArbiterSteps.{AllAllowedBeside, run_beside};
 ghost use Rattle.qn_progress.specs.Hearing.{HasHeld, HearsQuietly, StaysHeard};
+ghost use Rattle.qn_progress.specs.Keeping.{KeepsQuorum};
+ghost use Rattle.qn_progress.specs.Majority.{IsMajority};
 ghost use Rattle.qn_progress.specs.Pace.{Pace, outside, take_over_ticks};
-ghost use Rattle.qn_progress.specs.Premises.{TakesOver};
+ghost use Rattle.qn_progress.specs.Premises.{HearsAndTakesOver, TakesOver};
 ghost use Rattle.qn_progress.specs.Quiet.{
   DelaysOver,
   HasTakenTicks,
@@ -31,9 +35,10 @@ use qn_safety::{
     law_triple_runs_are_timed, law_up_nodes,
 };
 
-/// In a quiet world the least member of a view holds the resource after a bounded time, and from then on: once the nodes
-/// outside the view are fenced, and each other member was heard. In ticks of its clock, in every timed run.
-pub fn law_least_member_holds()
+/// In a quiet world the chosen member of a view holds the resource after a bounded time, and from then on: once the nodes
+/// outside the view are fenced, and each other member was heard. In ticks of its clock, in every timed run. The chosen one is
+/// the member that the view names, else its least.
+pub fn law_chosen_member_holds()
     ensures heard { (s : Settings) (t : Timing) (pace : Pace) (rank : ℕ) (old mid new : List Moment)
         → IsTimedRun s t new
         → StaysQuiet s t rank pace old mid new
@@ -95,7 +100,7 @@ pub fn law_take_over_is_met()
 {}
 
 /// In a quiet world in which packets arrive in time, each other member that is up under the view of a node says within a loop, a
-/// turn and the ways of two packets that it does not hold, or holds meanwhile. So the least member of the view, where all are up
+/// turn and the ways of two packets that it does not hold, or holds meanwhile. So the chosen member of the view, where all are up
 /// under it, holds after a bounded time, or another one held. In ticks of its clock, in every timed run.
 pub fn law_members_are_heard()
     ensures each { (s : Settings) (t : Timing) (pace : Pace) (rank post : ℕ) (present : View) (other : ℕ)
@@ -114,3 +119,42 @@ pub fn law_members_are_heard()
     law_clocks();
     law_up_nodes();
 }
+
+/// A member that held at some moment goes on holding while it runs, is up and is quorate, where no Stop of it was unanswered when
+/// that began. Its view, its rank, its disk and its pace do not matter.
+pub fn law_holder_holds()
+    ensures { (s : Settings) (rank : ℕ) (old new : List Moment)
+        → KeepsQuorum s rank old new
+        → HasHeld s rank old new
+        → IsTrue (is_holder s new rank) }
+{}
+
+/// So in a quiet world in which packets arrive in time, and who held meanwhile keeps its quorum, some node holds after a bounded
+/// time: the chosen member of the view, or one that held before.
+pub fn law_some_node_holds()
+    ensures { (s : Settings) (t : Timing) (pace : Pace) (rank post : ℕ) (present : View) (old mid new : List Moment)
+        → IsTimedRun s t new
+        → StaysHeard s t rank pace post present old mid new
+        → HasTakenTicks s t rank pace old mid new
+        → ((other : ℕ) → HasHeld s other old mid → KeepsQuorum s other old new)
+        → (holder : ℕ) × IsTrue (is_holder s new holder) }
+{
+    law_boots();
+    law_clocks();
+    law_up_nodes();
+}
+
+/// The premises of `law_members_are_heard` are met: there are valid settings, safe timing and allowed events with two nodes up under
+/// one view, of which one asks, hears the other, and has had the time of a take-over.
+pub fn law_hearing_is_met()
+    ensures { HearsAndTakesOver }
+{}
+
+/// A node whose view is a majority of its own is quorate at each tick, whatever it was handed before.
+pub fn law_majority_is_quorate()
+    ensures { (s : Settings) (set : Mask) (log : List Line) (given : View) (tick : ℕ)
+        → IsMajority s set
+        → view log ≡ Some given
+        → given.members ≡ set
+        → quorate_with_tie s log tick ≡ true }
+{}

@@ -1,6 +1,6 @@
 use Rattle.qn_progress.proofs.Below.{Below}
 use Rattle.qn_progress.proofs.Over.{least_member, sole_member}
-use Rattle.qn_progress.proofs.laws.law_least_member_holds.Goals as goal
+use Rattle.qn_progress.proofs.laws.law_chosen_member_holds.Goals as goal
 
 pub returns-clause-heard : goal.returns-clause-heard
 returns-clause-heard c = λ s t pace rank old mid new timed quiet taken. least_member below timed quiet.fast quiet.first quiet.since quiet.over quiet.heard taken.late taken.behind
