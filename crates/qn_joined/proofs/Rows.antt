@@ -16,7 +16,7 @@ use Rattle.qn_sector.specs.Reading.{header_in, mail_of, slot_of}
 use Rattle.qn_member.specs.Maker.{after_tick, ranks_that, view_at, with_ranks}
 use Rattle.qn_wire.specs.Packets.{packet_bytes}
 use Rattle.qn_live.specs.Choosing.{choice_plan}
-use Rattle.qn_live.specs.Greetings.{sends_plan}
+use Rattle.qn_live.specs.Greetings.{no_standing, sends_plan}
 use Rattle.qn_live.specs.Performing.{disk_call, done, out_call, outs_plan, reset_by, waits_after}
 use Rattle.qn_live.specs.Runs.{clocked, greeted, handled, live_plan, parted, run_plan, settled}
 use Rattle.qn_joined.specs.Stands.{after_spot, left_plan}
@@ -69,7 +69,7 @@ abbrev pub comes_up : ℕ → ℕ → List Happening
 comes_up me other =
     Returns me (call.Feed true)
     ∷ Returns me (call.Now 0)
-    ∷ Returns me (call.Send (record { 0 = other }) (packet_bytes (packet.Heard (record { 0 = me }) (begins_alone me))) true)
+    ∷ Returns me (call.Send (record { 0 = other }) (packet_bytes (packet.Heard (record { 0 = me }) (begins_alone me) no_standing)) true)
     ∷ Returns me (call.Send (record { 0 = other }) (packet_bytes (packet.Hello (record { 0 = me }))) true)
     ∷ Returns me (call.Read (mail_place me) (mail_bytes (anonymous message.Empty)) true)
     ∷ Lands me
@@ -86,7 +86,7 @@ is_alone me other =
     ∷ Returns me (call.Feed true)
     ∷ Returns me (call.Now 3)
     ∷ Returns me (call.Send (record { 0 = other }) (packet_bytes (packet.Announce (record { 0 = me }) (record { id = 1; members = record { 0 = 2 ^ me } }))) true)
-    ∷ Returns me (call.Send (record { 0 = other }) (packet_bytes (packet.Heard (record { 0 = me }) (leads_alone me))) true)
+    ∷ Returns me (call.Send (record { 0 = other }) (packet_bytes (packet.Heard (record { 0 = me }) (leads_alone me) no_standing)) true)
     ∷ Returns me (call.Send (record { 0 = other }) (packet_bytes (packet.Hello (record { 0 = me }))) true)
     ∷ Returns me (call.Read (mail_place me) (mail_bytes (anonymous message.Empty)) true)
     ∷ Lands me
@@ -129,7 +129,7 @@ waits =
     ∷ Returns 0 (call.Feed true)
     ∷ Returns 0 (call.Now 993)
     ∷ Returns 0 (call.Send (record { 0 = 1 }) (packet_bytes (packet.Announce (record { 0 = 0 }) (record { id = 1; members = record { 0 = 2 ^ 0 } }))) true)
-    ∷ Returns 0 (call.Send (record { 0 = 1 }) (packet_bytes (packet.Heard (record { 0 = 0 }) (leads_alone 0))) true)
+    ∷ Returns 0 (call.Send (record { 0 = 1 }) (packet_bytes (packet.Heard (record { 0 = 0 }) (leads_alone 0) no_standing)) true)
     ∷ Returns 0 (call.Send (record { 0 = 1 }) (packet_bytes (packet.Hello (record { 0 = 0 }))) true)
     ∷ Returns 0 (call.Read (mail_place 0) (mail_bytes (anonymous message.Empty)) true)
     ∷ Lands 0
