@@ -1,5 +1,5 @@
 -- The boot of a running node, its feeds and its end, as events of its world.
-use Rattle.std.proofs.Common.{◌≡◌, ◌<◌, ◌≤◌, ℕ, suc, Bool, true, false, not, ◌&&◌, ◌+◌, List, [], ◌∷◌, Option, None, if◌then◌else◌, refl, sym, ap, subst, ◌∙◌, arith}
+use Rattle.std.proofs.Common.{◌≡◌, ◌<◌, ◌≤◌, ℕ, suc, Bool, true, false, not, ◌&&◌, ◌||◌, ◌+◌, List, [], ◌∷◌, Option, None, if◌then◌else◌, refl, sym, ap, subst, ◌∙◌, arith}
 use Rattle.std.specs.Prelude.{◌==◌, length, nat_le}
 use Rattle.std.specs.Option.{option_or, option_map_or}
 use Rattle.std.proofs.lemmas.Bool.{lt-ltb}
@@ -16,7 +16,7 @@ use Rattle.qn_model.specs.lemmas.Entries.{begin_answers_none}
 use Rattle.qn_model.specs.lemmas.Moments.{node_boots, boots_apart, node_feeds, put_same, put_other}
 use Rattle.qn_model.specs.Holding.{holds}
 use Rattle.qn_model.specs.Log.{now, op_out}
-use Rattle.qn_model.specs.Moments.{Boots, Feeds, Moment, Running, begin_of, booted, given_out, handed, is_gone, node, packets, tick_of, time}
+use Rattle.qn_model.specs.Moments.{Itself, Later, Boots, Feeds, Moment, Running, begin_of, booted, given_out, handed, is_gone, node, packets, tick_of, time}
 use Rattle.qn_model.specs.NodeOutputs.{newest_outs}
 use Rattle.qn_model.specs.Phases.{phase}
 use Rattle.qn_model.specs.Rules.{may_feed, refusal, unless}
@@ -26,7 +26,7 @@ use Rattle.qn_model.specs.World.{World, node_at}
 use Rattle.qn_live.specs.declared.place.Choice.{Choice}
 use Rattle.qn_live.specs.declared.place.Choice.TheVariants as choice
 use Rattle.qn_live.specs.Running.{RunState, first_state}
-use Rattle.qn_joined.specs.Joints.{Host, looked_first, returned}
+use Rattle.qn_joined.specs.Joints.{Host, looked_first, returned, began, is_none_left, is_over, is_timed, may_begin}
 use Rattle.qn_joined.specs.Moves.{BeginsAsNode, BootsInWorld, Changes, FeedsInWorld, IsNodeIn, Moved}
 use Rattle.qn_safety.specs.NodeLogs.{IsNodeLog, LogsHold}
 use Rattle.qn_joined.specs.Nodes.{AllSaid, IsReady, Spends}
@@ -37,10 +37,12 @@ use Rattle.qn_joined.proofs.Frames.{grows_more, node_grows}
 use Rattle.qn_joined.proofs.Handing.{handed_at}
 use Rattle.qn_joined.proofs.Looks.{all_said}
 
--- a process that begins is a node that is off
-pub begins_as_node : (s : Settings) (rank : ℕ) → BeginsAsNode s rank
+-- a process that begins where the node takes no part in time is a node that is off
+pub begins_untimed : (s : Settings) (rank : ℕ) (host : Host) (n : Running) (took : Option What) (left : List DiskOp) (all : List Sent)
+    (clean : Bool) (leave : Option ℕ) (turns begun : ℕ) → IsNode s rank host n took left all → is_timed s host ≡ false
+    → IsNode s rank (began clean leave turns begun) n took left all
 unfolding phase holds
-begins_as_node s rank host n took left all clean leave turns begun is off =
+begins_untimed s rank host n took left all clean leave turns begun is untimed =
     record {
       on = off_now;
       log = λ on. absurd (lives on);
@@ -59,10 +61,27 @@ begins_as_node s rank host n took left all clean leave turns begun is off =
     }
   where
     off_now : n.on ≡ false
-    off_now = is.on ∙ ap (λ b. b && host.asked && not (is_gone (phase s (log_at host.stand.spot)))) off
+    off_now = is.on ∙ untimed
 
     lives : n.on ≡ true → ⊥
     lives on = let both = sym off_now ∙ on in cc
+
+-- a process that begins is a node that is off
+pub begins_as_node : (s : Settings) (rank : ℕ) → BeginsAsNode s rank
+begins_as_node s rank host n took left all clean leave turns begun is off =
+    begins_untimed s rank host n took left all clean leave turns begun is
+    (ap (λ b. b && host.asked && not (is_gone (phase s (log_at host.stand.spot)))) off)
+
+-- where a process may begin, the node before takes no part in time
+pub may_begin_untimed : (s : Settings) (host : Host) → may_begin s host ≡ true → is_timed s host ≡ false
+may_begin_untimed s host may = by_on host.on host.asked (is_gone (phase s (log_at host.stand.spot))) may
+  where
+    by_on : (on asked gone : Bool) → (not on || (gone && is_over host.stand.spot && not host.runs && is_none_left host.left)) ≡ true
+        → (on && asked && not gone) ≡ false
+    by_on false asked gone may = refl
+    by_on true true true may = refl
+    by_on true false true may = refl
+    by_on true asked false may = absurd cc
 
 said_at_boot : (s : Settings) (rank base : ℕ) (clean : Bool) (ms : List Moment)
     → AllSaid (packets s (Boots rank base clean ∷ ms)) (newest_outs (node s rank (Boots rank base clean ∷ ms)).log)
@@ -192,6 +211,7 @@ module _ (s : Settings) (t : Timing) (rank : ℕ) (events : List Event) (host : 
   boots_here : Moved s t rank events (looked_first s rank base (time w.moments) host)
   boots_here = record {
     events' = boot_event rank base fresh.clean ∷ events;
+    grew = Later _ Itself;
     may = may_boot;
     changes = subst (λ x. Changes s rank w x) (sym run_is) (boots_changes s rank base fresh.clean w);
     slots = ap (λ x. x.slots) run_is;
@@ -207,6 +227,7 @@ pub no_event : {s : Settings} {t : Timing} {rank : ℕ} {events : List Event} {h
 no_event {s} {t} {rank} {events} {host} may is =
     record {
       events' = events;
+      grew = Itself;
       may = may;
       changes = record { time = refl; grows = λ r p h. h; node = λ r apart. refl; took = λ r apart. refl; left = λ r apart. refl };
       slots = refl;
@@ -289,6 +310,7 @@ module _ (s : Settings) (t : Timing) (rank : ℕ) (events : List Event) (host : 
   feeds_here true on =
       record {
         events' = event.Feed (rank_of rank) ∷ events;
+        grew = Later _ Itself;
         may = may_feed_now on;
         changes = feeds_changes s rank fed_world;
         slots = refl;

@@ -13,7 +13,7 @@ use Rattle.qn_model.specs.declared.outputs.Out.TheVariants as out
 use Rattle.qn_model.specs.declared.packets.Sent.{Sent}
 use Rattle.qn_model.specs.lemmas.Moments.{node_ends, ends_apart, put_same, put_other}
 use Rattle.qn_model.specs.Log.{disk_of, op_out}
-use Rattle.qn_model.specs.Moments.{Ends, Running, is_gone, packets, time}
+use Rattle.qn_model.specs.Moments.{Itself, Later, Ends, Running, is_gone, packets, time}
 use Rattle.qn_model.specs.Phases.{phase}
 use Rattle.qn_model.specs.Rules.{refusal, unless}
 use Rattle.qn_model.specs.Steps.{gives_up, happens, run, step}
@@ -174,6 +174,7 @@ module _ (s : Settings) (t : Timing) (rank : ℕ) (events : List Event) (host : 
   ends_here : (b : Bool) → (node_at s rank w).on ≡ b → Moved s t rank events (ended s rank host)
   ends_here true lives = record {
     events' = event.Crash (rank_of rank) ∷ events;
+    grew = Later _ Itself;
     may = may_crash lives;
     changes = subst (λ x. Changes s rank w x) (sym run_is) (ends_changes s rank w);
     slots = ap (λ x. x.slots) run_is;

@@ -1,3 +1,4 @@
+mod AnyImage
 mod Boots
 mod Calls
 mod Endings
@@ -14,6 +15,7 @@ mod Owners
 mod Owning
 mod Passing
 mod Processes
+mod Reaching
 mod Returning
 mod Returns
 mod Rows

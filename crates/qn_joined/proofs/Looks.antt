@@ -13,7 +13,7 @@ use Rattle.qn_model.specs.declared.outputs.Out.TheVariants as out
 use Rattle.qn_model.specs.declared.packets.Sent.{Sent}
 use Rattle.qn_model.specs.lemmas.Moments.{node_adds}
 use Rattle.qn_model.specs.Log.{Line, op_out}
-use Rattle.qn_model.specs.Moments.{Adds, Moment, Running, given_out, handed, is_gone, node, packets, packets_of, time}
+use Rattle.qn_model.specs.Moments.{Itself, Later, Adds, Moment, Running, given_out, handed, is_gone, node, packets, packets_of, time}
 use Rattle.qn_model.specs.NodeOutputs.{newest_outs}
 use Rattle.qn_model.specs.Phases.{phase}
 use Rattle.qn_model.specs.Steps.{run, step}
@@ -98,6 +98,7 @@ unfolding run AllMay
 looks_in_world s t logs rank events host chosen tick below may is on asked clock =
     record {
       events' = h.of ∷ events;
+      grew = Later _ Itself;
       may = (h.ranked, h.allowed, may);
       changes = adds_changes s rank h.given w w' h.moments h.took h.left;
       slots = h.slots;

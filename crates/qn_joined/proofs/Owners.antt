@@ -55,7 +55,7 @@ node_holds {s} {host = host} {n = n} is owned on runs =
     let lives = is.on ∙ timed_on host.on host.asked (is_gone (phase s (log_at host.stand.spot))) on (asked_runs is on runs) (living_runs is on owns runs) in
     and_from n.on (holds n.log) lives (ap holds (is.log lives) ∙ (owns.held runs).0)
 
-runner_holds : {s : Settings} {t : Timing} {j : Joint} (has : HasWorld s t j) (rank : ℕ) → HostOwns (j.hosts rank)
+pub runner_holds : {s : Settings} {t : Timing} {j : Joint} (has : HasWorld s t j) (rank : ℕ) → HostOwns (j.hosts rank)
     → ((j.hosts rank).on && (j.hosts rank).runs) ≡ true → is_holder s (run s t has.events).moments rank ≡ true
 runner_holds {j = j} has rank owned runs =
     let two = and_parts (j.hosts rank).on (j.hosts rank).runs runs in

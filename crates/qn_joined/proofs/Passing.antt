@@ -13,7 +13,7 @@ use Rattle.qn_model.specs.declared.events.Event.TheVariants as event
 use Rattle.qn_model.specs.declared.outputs.DiskOp.{DiskOp}
 use Rattle.qn_model.specs.declared.packets.Sent.{Sent}
 use Rattle.qn_model.specs.Log.{now}
-use Rattle.qn_model.specs.Moments.{Running, advance_of, advanced, is_gone, node, packets, tick_of, time}
+use Rattle.qn_model.specs.Moments.{Itself, Later, Running, advance_of, advanced, is_gone, node, packets, tick_of, time}
 use Rattle.qn_model.specs.Phases.{phase}
 use Rattle.qn_model.specs.Rules.{is_on, is_within_bounds, may_pass, outlives, passes, refusal, unless}
 use Rattle.qn_model.specs.Steps.{run, step}
@@ -23,7 +23,7 @@ use Rattle.qn_joined.specs.Joints.{Host, Joint, MayHappen, happens, host_passes,
 use Rattle.qn_joined.specs.Moves.{Grows}
 use Rattle.qn_safety.specs.AnyNumbers.{AllMay}
 use Rattle.qn_joined.specs.Stands.{log_at}
-use Rattle.qn_joined.specs.WorldOf.{HasWorld, IsNode, IsWorld}
+use Rattle.qn_joined.specs.WorldOf.{HasGrown, IsNode, IsWorld}
 use Rattle.qn_joined.proofs.Frames.{backed_grows, grows_more, knows_grows}
 use Rattle.qn_joined.proofs.Images.{same_image}
 
@@ -89,11 +89,12 @@ passes_by t dt advance now n fed true e le is =
     both false b c h is = is
 
 pub passes_in_world : (s : Settings) (t : Timing) (events : List Event) (j : Joint) (dt : ℕ) (clocks : List (Rank × ℕ))
-    → AllMay s t events → IsWorld s t j (run s t events) → joints.FitsImage s t → MayHappen s t (joints.Passes dt clocks) j → HasWorld s t (happens s (joints.Passes dt clocks) j)
+    → AllMay s t events → IsWorld s t j (run s t events) → joints.FitsImage s t → MayHappen s t (joints.Passes dt clocks) j → HasGrown s t events (happens s (joints.Passes dt clocks) j)
 unfolding AllMay run step refusal happens node time packets
 passes_in_world s t events j dt clocks may is fits happen =
     record {
-      events = event.Pass dt clocks ∷ events;
+      events' = event.Pass dt clocks ∷ events;
+      grew = Later _ Itself;
       may = (refl, ap (λ b. unless b 1) allowed, may);
       world = record {
         time = ap (λ k. k + dt) is.time;

@@ -25,7 +25,7 @@ use Rattle.qn_model.specs.Phases.{phase}
 use Rattle.qn_model.specs.Steps.{run}
 use Rattle.qn_model.specs.World.{World, node_at}
 use Rattle.qn_wire.specs.Packets.{is_well_formed, packet_bytes}
-use Rattle.qn_wire.specs.Reading.{fields_of, packet_of, rank_at, said_at, view_at}
+use Rattle.qn_wire.specs.Reading.{fields_of, packet_of, rank_at, said_at, view_at, standing_at}
 use Rattle.qn_live.specs.Greetings.{sends_plan}
 use Rattle.qn_live.specs.Performing.{disk_call, out_call, outs_plan, own_number}
 use Rattle.qn_safety.specs.NodeLogs.{LogsHold}
@@ -36,7 +36,7 @@ use Rattle.qn_joined.specs.Nodes.{at, is_looking}
 use Rattle.qn_safety.specs.AnyNumbers.{AllMay}
 use Rattle.qn_joined.specs.Theorem.{PacketsReadBack}
 use Rattle.qn_joined.specs.Stands.{Spot, Receiving, Looking, Acting, Saying, Parting, Ended, left_plan}
-use Rattle.qn_joined.specs.WorldOf.{HasWorld, IsNode, IsWorld, WasSentTo, is_greeting}
+use Rattle.qn_joined.specs.WorldOf.{HasGrown, IsNode, IsWorld, WasSentTo, is_greeting}
 use Rattle.qn_joined.proofs.Boots.{no_event}
 use Rattle.qn_joined.proofs.Calls.{returns_at, timed_on}
 use Rattle.qn_joined.proofs.Frames.{Knows, one_moves}
@@ -215,12 +215,13 @@ first_fed s rank base now host = returned_fed s rank (call.Now (tick_of base)) n
 
 pub returns_in_world : (s : Settings) (t : Timing) (events : List Event) (j : Joint) (rank : ℕ) (made : Call)
     → PacketsReadBack → LogsHold s t → rank < length s.nodes
-    → AllMay s t events → IsWorld s t j (run s t events) → FitsImage s t → MayHappen s t (joints.Returns rank made) j → HasWorld s t (happens s (joints.Returns rank made) j)
+    → AllMay s t events → IsWorld s t j (run s t events) → FitsImage s t → MayHappen s t (joints.Returns rank made) j → HasGrown s t events (happens s (joints.Returns rank made) j)
 unfolding happens
 returns_in_world s t events j rank made back logs below may is fits happen =
-    subst (λ k. HasWorld s t (record (with_host rank (returned s rank made k (j.hosts rank)) j) { sent = j.sent ++ sent_by made })) is.time
+    subst (λ k. HasGrown s t events (record (with_host rank (returned s rank made k (j.hosts rank)) j) { sent = j.sent ++ sent_by made })) is.time
     (record {
-      events = m.events';
+      events' = m.events';
+      grew = m.grew;
       may = m.may;
       world =
           one_moves rank (run s t m.events') (returned s rank made (time w.moments) (j.hosts rank)) j.image (j.sent ++ sent_by made) is below m.changes m.node

@@ -60,7 +60,8 @@ pub record Joint : Type 0 where
 pub data Happening : Type 0 where
   -- so many milliseconds pass, and these clocks advance so far
   Passes : ℕ → List (Rank × ℕ) → Happening
-  -- the machine of a rank is on, its watchdog armed, and its process begins: a clean start or not, and when it is to leave
+  -- the machine of a rank is on, its watchdog armed, and its process begins: a clean start or not, and when it is to leave. The machine was
+  -- off, or its process before was over.
   Begins : ℕ → Bool → Option ℕ → ℕ → Happening
   -- the process of a rank looks at its clock for the first time, which stands at this base
   Looks : ℕ → ℕ → Happening
@@ -137,6 +138,25 @@ is_timed s host = host.on && host.asked && not (is_gone (phase s (log_at host.st
 abbrev pub host_passes : Settings → Timing → ℕ → ℕ → ℕ → Host → Bool
 host_passes s t dt advance now host = if is_timed s host then is_within_bounds dt advance && outlives t (now + dt) host.fed else true
 
+-- the process is over
+abbrev pub is_over : Spot → Bool
+is_over (Ended ran) = true
+is_over (Receiving st) = false
+is_over (Looking chosen) = false
+is_over (Acting entry outs o rest st) = false
+is_over (Saying sent rest st) = false
+is_over (Parting end sent rest st) = false
+
+abbrev pub is_none_left : List Call → Bool
+is_none_left [] = true
+is_none_left (write ∷ more) = false
+
+-- A process may begin where the machine is off, or where the one before it on the machine is over and has left or halted its boot, its
+-- resource does not run, and no write of it is left over: one that is, as the close of a node that left dirty may be, lands too late.
+abbrev pub may_begin : Settings → Host → Bool
+may_begin s host =
+    not host.on || (is_gone (phase s (log_at host.stand.spot)) && is_over host.stand.spot && not host.runs && is_none_left host.left)
+
 -- the message that a mailbox of the image holds is deadly
 abbrev pub is_deadly_mail : List ℕ → Bool
 is_deadly_mail bytes = option_map_or (λ found. is_deadly found.message) (mail_of bytes) false
@@ -172,7 +192,7 @@ abbrev pub MayHappen : Settings → Timing → Happening → Joint → Type 0
 MayHappen s t (Passes dt clocks) j =
     ((rank : ℕ) → rank < length s.nodes → host_passes s t dt (advance_of dt clocks rank) j.time (j.hosts rank) ≡ true)
     × (list_all (λ clock. is_timed s (j.hosts clock.0.0)) clocks ≡ true)
-MayHappen s t (Begins rank clean leave turns) j = (rank < length s.nodes) × (1 ≤ turns) × ((j.hosts rank).on ≡ false)
+MayHappen s t (Begins rank clean leave turns) j = (rank < length s.nodes) × (1 ≤ turns) × (may_begin s (j.hosts rank) ≡ true)
 MayHappen s t (Looks rank base) j =
     ((j.hosts rank).on ≡ true)
     × ((j.hosts rank).asked ≡ false)

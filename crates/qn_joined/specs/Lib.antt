@@ -1,11 +1,12 @@
+pub mod AnyImage
 pub mod Joints
 pub mod Moves
 pub mod Nodes
 pub mod Owning
 pub mod Stands
 pub mod Theorem
-pub mod WorldOf
 pub mod TripleJoints
 pub mod TripleNodes
 pub mod TripleTheorem
 pub mod TripleWorldOf
+pub mod WorldOf

@@ -9,7 +9,7 @@ use Rattle.qn_model.specs.declared.events.Event.{Event}
 use Rattle.qn_model.specs.declared.outputs.DiskOp.{DiskOp}
 use Rattle.qn_model.specs.declared.packets.Packet.{Packet}
 use Rattle.qn_model.specs.declared.packets.Sent.{Sent}
-use Rattle.qn_model.specs.Moments.{Running, packets, tick_of, time}
+use Rattle.qn_model.specs.Moments.{Before, Running, packets, tick_of, time}
 use Rattle.qn_model.specs.Steps.{run}
 use Rattle.qn_model.specs.World.{World, node_at}
 use Rattle.qn_live.specs.declared.place.Choice.{Choice}
@@ -40,6 +40,7 @@ IsNodeIn s rank host w =
 -- further events, of that rank alone and none of the image, after which a host is the node of the rank
 pub record Moved (s : Settings) (t : Timing) (rank : ℕ) (events : List Event) (host : Host) : Type 0 where
   pub events' : List Event
+  pub grew : Before events events'
   pub may : AllMay s t events'
   pub changes : Changes s rank (run s t events) (run s t events')
   pub slots : (run s t events').slots ≡ (run s t events).slots

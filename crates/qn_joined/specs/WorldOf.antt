@@ -15,7 +15,7 @@ use Rattle.qn_model.specs.declared.entries.What.{What}
 use Rattle.qn_model.specs.declared.entries.What.TheVariants as what
 use Rattle.qn_model.specs.Holding.{holds, stop_due}
 use Rattle.qn_model.specs.Log.{Line, disk_of, is_answer, now, op_out}
-use Rattle.qn_model.specs.Moments.{Running, is_gone, packets, tick_of, time}
+use Rattle.qn_model.specs.Moments.{Before, Running, is_gone, packets, tick_of, time}
 use Rattle.qn_model.specs.Phases.{phase}
 use Rattle.qn_model.specs.Sectors.{IsSender, header_bytes, mail_bytes, mail_place, slot_bytes, slot_place}
 use Rattle.qn_model.specs.Steps.{run}
@@ -223,6 +223,21 @@ pub record HasWorld (s : Settings) (t : Timing) (j : Joint) : Type 0 where
   pub events : List Event
   pub may : AllMay s t events
   pub world : IsWorld s t j (run s t events)
+
+-- further events led to such a world
+pub record HasGrown (s : Settings) (t : Timing) (events : List Event) (j : Joint) : Type 0 where
+  pub events' : List Event
+  pub grew : Before events events'
+  pub may : AllMay s t events'
+  pub world : IsWorld s t j (run s t events')
+
+-- a joint to which further happenings led has a world to which further events led
+abbrev pub WorldsGrow : Settings → Timing → Type 0
+WorldsGrow s t =
+    (image : ℕ → List ℕ) (newer older : List Happening)
+    → IsJoined s t image (newer ++ older)
+    → (has : HasWorld s t (joint_after s image older))
+    → HasGrown s t has.events (joint_after s image (newer ++ older))
 
 -- every joint has a world
 abbrev pub EveryJointHasAWorld : Settings → Timing → Type 0

@@ -5,7 +5,8 @@ ghost use Rattle.qn_base.specs.Plans.{left};
 ghost use Rattle.qn_model.specs.declared.configuration.Settings.{Settings};
 ghost use Rattle.qn_model.specs.declared.times.Timing.{Timing};
 ghost use Rattle.qn_joined.specs.Theorem.{AlwaysOwns, AtMostOneRuns, MailsReadBack, OneAfterAnother, PacketsReadBack, RunsAreRuns, TakesAlike};
-ghost use Rattle.qn_joined.specs.WorldOf.{EveryJointHasAWorld};
+ghost use Rattle.qn_joined.specs.WorldOf.{EveryJointHasAWorld, WorldsGrow};
+ghost use Rattle.qn_joined.specs.AnyImage.{AtMostOneRunsAgain, EveryJointHasAWorldAgain, NewImagesAreLeft};
 ghost use Rattle.qn_joined.specs.Moves.{BeginsAsNode, BootsInWorld, EndsInWorld, FeedsInWorld, LooksInWorld};
 ghost use Rattle.qn_joined.specs.Nodes.{LooksAsNode, ReturnsAsNode};
 ghost use Rattle.qn_model.specs.Timing.{is_safe};
@@ -42,6 +43,41 @@ pub fn law_worlds()
     law_packets_read_back();
     law_mails_read_back();
 }
+
+/// Law: where further happenings lead from a joint that has a world to another one, further events lead from that world to a world
+/// of the other.
+pub fn law_worlds_grow()
+    ensures { (s : Settings) (t : Timing) → WorldsGrow s t }
+{
+    law_node_logs();
+    law_takes_alike();
+    law_packets_read_back();
+    law_mails_read_back();
+}
+
+/// Law: at most one resource runs at any moment of running nodes that began, every machine off, on an image that was used before,
+/// whatever nodes and operators left in its slots and mailboxes, for all safe timing.
+pub fn law_one_owner_again()
+    ensures { (s : Settings) (t : Timing) → IsTrue (is_safe t) → AtMostOneRunsAgain s t }
+{
+    law_any_numbers();
+    law_worlds_again();
+}
+
+/// Law: every such joint has a world.
+pub fn law_worlds_again()
+    ensures { (s : Settings) (t : Timing) → IsTrue (is_safe t) → EveryJointHasAWorldAgain s t }
+{
+    law_node_logs();
+    law_takes_alike();
+    law_packets_read_back();
+    law_mails_read_back();
+}
+
+/// Law: a new image is one that nodes and operators may have left.
+pub fn law_new_images_are_left()
+    ensures { (s : Settings) (t : Timing) → NewImagesAreLeft s t }
+{}
 
 /// Law: a packet whose numbers fit their bytes is read as what it is.
 pub fn law_packets_read_back()
