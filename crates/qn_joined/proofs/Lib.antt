@@ -11,6 +11,7 @@ mod Late
 mod Looks
 mod Moving
 mod Owned
+mod OwnerRows
 mod Owners
 mod Owning
 mod Passing

@@ -9,6 +9,7 @@ use Rattle.qn_model.specs.declared.outputs.DiskOp.TheVariants as disk
 use Rattle.qn_model.specs.declared.mailbox.Mail.{Mail}
 use Rattle.qn_model.specs.declared.packets.Packet.{Packet}
 use Rattle.qn_model.specs.Sectors.{IsSender, mail_bytes, mail_place, slot_place}
+use Rattle.qn_model.specs.Settings.{IsValid}
 use Rattle.qn_model.specs.Timing.{is_safe}
 use Rattle.qn_model.specs.World.{World, taken}
 use Rattle.qn_sector.specs.Reading.{mail_of}
@@ -95,6 +96,27 @@ pub record OneAfterAnother : Type 0 where
   pub second_runs : runs_at settings image (later ++ earlier) second ≡ true
   pub reset : is_deadly_mail ((joint_after settings image (later ++ earlier)).image (mail_place first)) ≡ true
   pub differ : ¬ (first ≡ second)
+
+-- The premises are met by a richer run too: both machines run, the resource of one of them runs, and it still runs when a deadly message
+-- stands in its mailbox; then the resource of the other one runs.
+pub record OwnerIsReset : Type 0 where
+  pub settings : Settings
+  pub timing : Timing
+  pub image : ℕ → List ℕ
+  pub started : List Happening
+  pub between : List Happening
+  pub after : List Happening
+  pub owner : ℕ
+  pub next : ℕ
+  pub valid : IsValid settings
+  pub safe : is_safe timing ≡ true
+  pub joined : IsJoined settings timing image (after ++ (between ++ started))
+  pub owner_runs : runs_at settings image started owner ≡ true
+  pub beside : ((joint_after settings image started).hosts next).on ≡ true
+  pub still_runs : runs_at settings image (between ++ started) owner ≡ true
+  pub reset_stands : is_deadly_mail ((joint_after settings image (between ++ started)).image (mail_place owner)) ≡ true
+  pub next_runs : runs_at settings image (after ++ (between ++ started)) next ≡ true
+  pub differ : ¬ (owner ≡ next)
 
 -- what is put is read back: a packet whose numbers fit their bytes, and a mailbox
 abbrev pub PacketsReadBack : Type 0

@@ -4,7 +4,7 @@ ghost use Rattle.qn_base.specs.declared.calls.Call.{Call};
 ghost use Rattle.qn_base.specs.Plans.{left};
 ghost use Rattle.qn_model.specs.declared.configuration.Settings.{Settings};
 ghost use Rattle.qn_model.specs.declared.times.Timing.{Timing};
-ghost use Rattle.qn_joined.specs.Theorem.{AlwaysOwns, AtMostOneRuns, MailsReadBack, OneAfterAnother, PacketsReadBack, RunsAreRuns, TakesAlike};
+ghost use Rattle.qn_joined.specs.Theorem.{AlwaysOwns, AtMostOneRuns, MailsReadBack, OneAfterAnother, OwnerIsReset, PacketsReadBack, RunsAreRuns, TakesAlike};
 ghost use Rattle.qn_joined.specs.WorldOf.{EveryJointHasAWorld, WorldsGrow};
 ghost use Rattle.qn_joined.specs.AnyImage.{AtMostOneRunsAgain, EveryJointHasAWorldAgain, NewImagesAreLeft};
 ghost use Rattle.qn_joined.specs.Moves.{BeginsAsNode, BootsInWorld, EndsInWorld, FeedsInWorld, LooksInWorld};
@@ -122,6 +122,12 @@ pub fn law_owned()
 /// deadly message stands in the mailbox of the first.
 pub fn law_joints_are_met()
     ensures { OneAfterAnother }
+{}
+
+/// The premises are met by two machines that run beside each other, with valid settings: an Ask and a Tell count, the owner is reset
+/// while its resource runs, a write that failed lands after all, an operator writes, and the other node takes over.
+pub fn law_owner_is_reset()
+    ensures { OwnerIsReset }
 {}
 
 /// Law: a call that returns, and that is no look at the clock, leaves a running node the node of the world that it was.

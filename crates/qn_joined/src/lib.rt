@@ -30,9 +30,9 @@ mod triple_laws;
 pub use laws::{
     law_begins_as_node, law_boots_in_world, law_ends_in_world, law_feeds_in_world,
     law_joints_are_met, law_looks_as_node, law_looks_in_world, law_mails_read_back,
-    law_new_images_are_left, law_one_owner, law_one_owner_again, law_owned, law_packets_read_back,
-    law_processes, law_returns_as_node, law_returns_own, law_stands, law_takes_alike, law_worlds,
-    law_worlds_again, law_worlds_grow,
+    law_new_images_are_left, law_one_owner, law_one_owner_again, law_owned, law_owner_is_reset,
+    law_packets_read_back, law_processes, law_returns_as_node, law_returns_own, law_stands,
+    law_takes_alike, law_worlds, law_worlds_again, law_worlds_grow,
 };
 pub use triple_laws::{
     law_triple_begins, law_triple_calls, law_triple_ends, law_triple_feeds,
