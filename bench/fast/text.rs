@@ -121,6 +121,7 @@ impl Counter {
         }
     }
 
+    #[inline(always)]
     pub fn count(&mut self) {
         let mut place = 19;
         while self.digits[place] == b'9' {
@@ -259,7 +260,7 @@ impl Writer {
                 )
             };
             copied += BLOCK;
-            if copied >= text.length {
+            if copied == ROOM || copied >= text.length {
                 break;
             }
         }

@@ -4,6 +4,7 @@ use crate::seat::{ranks, Blocked, ByRank, Count, Seat, Sectors, View, Why};
 use crate::text::{Counter, Fault, Reader, Text, Writer};
 
 const NOBODY: u8 = 255;
+const MOST_NODES: usize = 32;
 
 /// The settings: ids in ascending order, votes, and times.
 pub struct Cluster {
@@ -172,12 +173,15 @@ impl Packets {
     pub fn send(&mut self, message: Message, to: u32) {
         let number = self.messages.len() as u32;
         self.messages.push(message);
-        let first = self.sent.len();
-        self.sent
-            .resize(first + to.count_ones() as usize, (number, 0));
-        for (packet, rank) in self.sent[first..].iter_mut().zip(ranks(to)) {
-            packet.1 = rank;
+        self.sent.reserve(MOST_NODES);
+        let room = self.sent.spare_capacity_mut().iter_mut();
+        for (place, rank) in room.zip(ranks(to)) {
+            place.write((number, rank));
         }
+        unsafe {
+            self.sent
+                .set_len(self.sent.len() + to.count_ones() as usize)
+        };
     }
 
     /// The packet of that number, if it was sent to that rank.
