@@ -1,7 +1,10 @@
-"""For tests/scripts/status-as-json.sh, which says what is tested."""
+"""The two forms of `status` over the schedules of the repository: the JSON has the shape that docs/status.schema.json says,
+and both forms say the same of each node. The schema refuses what is no status."""
 import json
+import os
 import pathlib
 import re
+import subprocess
 import sys
 
 try:
@@ -24,12 +27,30 @@ def demand(holds, what):
         sys.exit("wrong: %s" % what)
 
 
-def try_forms(place):
+def said_of(schedule, *words):
+    """The exit status of a call, and what it writes."""
+    with open(schedule, "rb") as source:
+        done = subprocess.run([os.environ["QUORUMD"], "status", *words], stdin=source, stdout=subprocess.PIPE, stderr=subprocess.DEVNULL)
+    return done.returncode, done.stdout.decode()
+
+
+def try_schedule(schedule):
+    """The nodes of the status of a schedule; None where that is at fault: then both forms write the fault line alone."""
+    plain = said_of(schedule)
+    demand(said_of(schedule, "--form", "text") == plain, "%s: the text is not the form where none is written" % schedule)
+    ended, written = said_of(schedule, "--form", "json")
+    demand(ended == plain[0], "%s: the forms end with %d and %d" % (schedule, *sorted((ended, plain[0]))))
+    if ended == 0:
+        return try_forms(plain[1], written)
+    demand(written == plain[1] and written.startswith("fault ") and written.count("\n") == 1, "%s: %r is no fault line alone" % (schedule, written))
+    return None
+
+
+def try_forms(lines, text):
     """Compares the two forms of one status, and gives its nodes."""
-    text = place.with_suffix(".json").read_text()
     nodes = json.loads(text)
     demand(text == json.dumps(nodes, separators=(",", ":"), sort_keys=True) + "\n", "%r is not one line in order" % text)
-    demand(nodes == [of_line(line) for line in place.read_text().splitlines(keepends=True)], "the forms differ: %r" % text)
+    demand(nodes == [of_line(line) for line in lines.splitlines(keepends=True)], "the forms differ: %r" % text)
     ids = [node["id"] for node in nodes]
     demand(ids == sorted(set(ids)), "ids that do not rise: %r" % ids)
     return nodes
@@ -66,11 +87,14 @@ def try_schema(schema):
     return judge
 
 
-statuses = [try_forms(place) for place in sorted(pathlib.Path("good").glob("*.text"))]
+top = pathlib.Path(os.environ["TOP"])
+schedules = sorted([*top.glob("tests/cases/status/*/stdin"), *top.glob("examples/incidents/*/schedule")])
+statuses = [nodes for nodes in map(try_schedule, schedules) if nodes is not None]
+demand(len(statuses) >= 20, "only %d schedules are good to their end" % len(statuses))
 if Draft202012Validator is None:
     print("skipped: this Python has no module jsonschema for draft 2020-12 (Debian: python3-jsonschema), so the schema was not tried")
 else:
-    judge = try_schema(json.loads(pathlib.Path(sys.argv[1]).read_text()))
+    judge = try_schema(json.loads((top / "docs" / "status.schema.json").read_text()))
     for nodes in statuses:
         for fault in judge.iter_errors(nodes):
             demand(False, "%s, in %r" % (fault.message, nodes))

@@ -1,12 +1,16 @@
-"""For tests/scripts/where-corosync-differs.sh, which says what is tested."""
+"""Where Corosync differs: our side of each row of the table of docs/QUORUM.md, from the settings and events that it names; and of each text
+of tests/rows/corosync-texts.tsv, which docs/SETTINGS.md names. Where Corosync 3.1.7 is installed, `corosync -t` judges each text as the
+table says (column 4; `-` says nothing)."""
 import os
 import pathlib
 import re
+import shutil
 import subprocess
 import sys
 
-PAGE = (pathlib.Path(os.environ["TOP"]) / "docs" / "QUORUM.md").read_text()
-PART = PAGE.split("\n## Where a user of corosync may be surprised\n")[1].split("\n## ")[0]
+TOP = pathlib.Path(os.environ["TOP"])
+SETTINGS = (TOP / "docs" / "SETTINGS.md").read_text()
+PART = (TOP / "docs" / "QUORUM.md").read_text().split("\n## Where a user of corosync may be surprised\n")[1].split("\n## ")[0]
 UP = ["land", "done"] * 4  # the header, the own slot, the claim and the clear: the node is up
 wrong = []
 
@@ -61,8 +65,43 @@ def look(subject, votes, keys, events, answer):
         wrong.append("%s: wanted %s, got %s" % (subject, code(answer), got))
 
 
+def has_corosync():
+    """Whether the Corosync that the tables were seen with is there, and can be run."""
+    if os.getuid() == 0 and shutil.which("corosync"):
+        return "version '3.1.7'" in subprocess.run(["corosync", "-v"], capture_output=True, text=True, check=False).stdout
+    return False
+
+
+def look_at_text(name, text, answer, judged):
+    """A text of the table: what `replay` answers to it as a head, its row of the page, and the status of `corosync -t`, if that is to be tried."""
+    head = text + b"\n----\ntiming 5000 10000 1000 2000 1000\n"
+    got = subprocess.run([os.environ["QUORUMD"], "replay"], input=head, stdout=subprocess.PIPE, check=False).stdout.decode()
+    if got != answer + "\n":
+        wrong.append("%s: wanted %s, got %s" % (name, answer, got))
+    if "`%s`" % name not in SETTINGS:
+        wrong.append("docs/SETTINGS.md does not name the row %s" % name)
+    if judged is not None:
+        pathlib.Path("text").write_bytes(text)
+        status = subprocess.run(["corosync", "-t", "-c", os.path.abspath("text")], capture_output=True, check=False).returncode
+        if status != judged:
+            wrong.append("%s: Corosync ends with %d, and not %d" % (name, status, judged))
+
+
+def texts():
+    """The rows of the table of texts: a name, the bytes that `printf %b` makes of the second column, our answer, and what Corosync's status is to be."""
+    for line in (TOP / "tests" / "rows" / "corosync-texts.tsv").read_text().splitlines():
+        name, text, answer, judged = line.split("\t")
+        made = subprocess.run(["bash", "-c", "printf %b \"$1\"", "-", text], stdout=subprocess.PIPE, check=True).stdout
+        yield name, made, answer, None if judged == "-" else int(judged)
+
+
 for row in rows():
     look(*row[:5])
+is_tried = has_corosync()
+if not is_tried:
+    print("skipped: not installed (Debian 12: corosync), to let Corosync judge the texts")
+for name, text, answer, judged in texts():
+    look_at_text(name, text, answer, judged if is_tried else None)
 if len(rows()) < 20:
     wrong.append("the table of docs/QUORUM.md has %d rows" % len(rows()))
 print("\n".join(wrong))
