@@ -63,7 +63,7 @@ ROWS = {
     "tests/run": "- 2 help - - - - -",
 }
 # no words of an operator: what starts a program or the gate, what dpkg or a machine starts
-LEFT_OUT = {"bin/quorumd", "bin/quorumctl", "bench/qn_soak_nodes", "bench/qn_tests", ".ci/run", ".ci/tools", "packaging/postinst", "packaging/postrm", "packaging/prerm", "tests/hosts/database",
+LEFT_OUT = {"bin/quorumd", "bin/quorumctl", "bench/qn_soak_nodes", "bench/qn_tests", ".ci/run", ".ci/daily", ".ci/tools", "packaging/postinst", "packaging/postrm", "packaging/prerm", "tests/hosts/database",
             "tests/machines/init"}
 
 
