@@ -97,6 +97,29 @@ def slow_stop():
     same("fed after it", cluster.watchdog(1), fed[0] + "1V")
 
 
+def feeds_by_the_feed_delay():
+    """A stop of 400 ms in a turn with a feed: that is given where 400 ms are less than half of the feed delay of the image, and else is not."""
+    for feed_delay, msgwait, is_given in (100, 2100, False), (500, 2100, False), (1000, 2600, True):
+        cluster = Cluster("delay-%d" % feed_delay, ids=(1,), timing="500,%d,400,1000,%d" % (msgwait, feed_delay))
+        fed = []
+
+        def answers(line, number, cluster=cluster, fed=fed):
+            if number == 3:
+                fed.append(cluster.watchdog(1))
+                time.sleep(0.4)
+                fed.append(cluster.watchdog(1))
+            return OK
+
+        agent = Agent(cluster.folder / "agent", answers)
+        node = cluster.node(1, resource=agent.word())
+        node.waits_for("start: ok")
+        cluster.message(1, "exit")
+        same("answer at %d" % feed_delay, node.end(), (0, "left clean\n"))
+        late = [] if is_given else ["%s: too late for a feed" % node.words["watchdog"]]
+        same("said at %d" % feed_delay, node.said()[1:], ["start: ok", "stop: ok", *late, "disarm: ok"])
+        same("fed at %d" % feed_delay, cluster.watchdog(1), fed[0] + ("11V" if is_given else "1V"))
+
+
 def slow_start():
     """A start that takes 800 ms, in a turn without a feed: each feed is given."""
     cluster = Cluster("slow-start", ids=(1,), timing=SHORT_LOOP)
@@ -127,4 +150,4 @@ def agent_of_contrib():
     same("the lock is free", subprocess.run(["flock", "-n", work / "lock", "true"], check=False).returncode, 0)
 
 
-try_all(agent_of_contrib, wrong_answers, late_answer, no_answer, no_agent, refused_start, refused_stop, slow_stop, slow_start)
+try_all(agent_of_contrib, wrong_answers, late_answer, no_answer, no_agent, refused_start, refused_stop, slow_stop, feeds_by_the_feed_delay, slow_start)

@@ -13,7 +13,7 @@ ABSENT = "%s: No such file or directory (os error 2)"
 NO_WATCHDOG = "%s: its time cannot be read: perhaps it is no watchdog, and resets nothing"
 A_HALT = "%s: a file: a halt that is told to it ends nothing"
 A_FILE = "%s: a file or a pipe: it resets nothing"
-NO_HEADER = "%s: no image: its first sector is no header"
+NO_HEADER = "%s: no image: its first sector is no header of version 2"
 LIMIT = "file size: the size of a file is limited (ulimit -f), which would end this program"
 
 

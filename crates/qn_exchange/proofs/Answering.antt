@@ -1,8 +1,8 @@
 -- What was read of an answer so far, and why it is none.
-use Rattle.std.proofs.Common.{◌≡◌, ℕ, true, false, List, [], ◌++◌, Option, None, Some, Result, Ok, Err, sym, ap, subst, ◌∙◌, append-nil}
+use Rattle.std.proofs.Common.{◌≡◌, ℕ, true, false, List, [], ◌++◌, Option, None, Some, Result, Ok, Err, sym, ap, subst, ◌∙◌, append-nil, append_assoc}
 use Rattle.std.specs.Prelude.{is_err, IsOk, OnErr}
 use Rattle.std.specs.Io.KnownBytes.{Appends, Consumes, Keeps}
-use Rattle.std.proofs.KnownBytes.{Consumes-kept, Consumes-trans}
+use Rattle.std.proofs.KnownBytes.{Appends-trans, Consumes-kept, Consumes-trans}
 use Rattle.qn_etcd.specs.Heads.{IsAnswer}
 use Rattle.qn_exchange.specs.Exchanges.{ReadsNoAnswer}
 use Rattle.qn_exchange.specs.Writes.{SendsFront}
@@ -36,3 +36,25 @@ takes_more a b c old xs new first second is = subst (Consumes a c) (sym is) (Con
 -- the whole text was written
 pub all_sent : (a b : Option (List ℕ)) (text : List ℕ) → Appends a b text → SendsFront a b text
 all_sent a b text adds = record { front = text; rest = []; parts = sym (append-nil text); adds = adds }
+
+-- a part of the first of two texts was written
+pub front_of_two : (a b : Option (List ℕ)) (first second : List ℕ) → SendsFront a b first → SendsFront a b (first ++ second)
+front_of_two a b first second sends =
+    record {
+      front = sends.front;
+      rest = sends.rest ++ second;
+      parts = ap (λ l. l ++ second) sends.parts ∙ append_assoc sends.front sends.rest second;
+      adds = sends.adds;
+    }
+
+-- the first of two texts was written, and a part of the second
+pub front_after : {A E : Type 0} (a b c : Option (List ℕ)) (first second : List ℕ) (r : Result A E) → Appends a b first → OnErr r (SendsFront b c second)
+    → OnErr r (SendsFront a c (first ++ second))
+front_after a b c first second (Ok x) whole part = tt
+front_after a b c first second (Err e) whole part =
+    record {
+      front = first ++ part.front;
+      rest = part.rest;
+      parts = ap (λ l. first ++ l) part.parts ∙ sym (append_assoc first part.front part.rest);
+      adds = Appends-trans a b c first part.front whole part.adds;
+    }

@@ -1,4 +1,6 @@
+pub mod Clients
 pub mod Exchanges
+pub mod Feeds
 pub mod Halts
 pub mod Orders
 pub mod WatchdogTimes

@@ -1,4 +1,5 @@
 pub mod Admission
+pub mod Headers
 pub mod JournalLines
 pub mod Peers
 pub mod Places

@@ -3,7 +3,7 @@
 use crate::deadline::{Deadline, is_late};
 use crate::image_word::ServerAt;
 use crate::named_file::FIRST_OF_A_FILE;
-use qn_exchange::{read_again, write_again};
+use qn_exchange::{Line, read_again, write_again, write_whole};
 use std::io::{self, ErrorKind, Read, Write};
 use std::net::{Net, TcpStream};
 use std::os::fd::AsRawFd;
@@ -136,4 +136,33 @@ pub(crate) fn late() -> io::Error {
 /// The server closed the connection.
 fn closed() -> io::Error {
     io::Error::new(ErrorKind::UnexpectedEof, "the server closed the connection")
+}
+
+/// A connection that a client of a server is handed, up to a moment of the clock. It tells none of its bytes.
+#[derive(Drop)]
+pub(crate) struct TimedLine<'a, C: Clock> {
+    pub(crate) connection: Connection,
+    clock: &'a C,
+    end: Deadline,
+}
+
+impl<'a, C: Clock> TimedLine<'a, C> {
+    /// The connection up to that moment.
+    pub(crate) fn new(connection: Connection, clock: &'a C, end: Deadline) -> TimedLine<'a, C> {
+        TimedLine {
+            connection,
+            clock,
+            end,
+        }
+    }
+}
+
+impl<'a, C: Clock> Line for TimedLine<'a, C> {
+    fn send(&mut self, from: &[u8]) -> io::Result<()> {
+        write_whole(&mut self.connection.until(self.clock, self.end), from)
+    }
+
+    fn fill(&mut self, into: &mut [u8]) -> io::Result<()> {
+        self.connection.until(self.clock, self.end).read_exact(into)
+    }
 }

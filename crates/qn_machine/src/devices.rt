@@ -4,6 +4,7 @@ use crate::edge::Edge;
 use crate::etcd_word::check_reach;
 use crate::file_size_limit::refuse_file_size_limit;
 use crate::halt_file::HaltFile;
+use crate::headers::EdgeTimes;
 use crate::image::Opener;
 use crate::named_file::Absent;
 use crate::network::Network;
@@ -25,6 +26,8 @@ pub(crate) struct Devices {
     pub(crate) resource: Resource,
     pub(crate) halt: Option<HaltFile>,
     pub(crate) watchdog: Watchdog,
+    /// The feed delay of the images, in milliseconds.
+    pub(crate) feed_delay: u64,
 }
 
 impl Devices {
@@ -45,19 +48,20 @@ impl Devices {
         let opener = Opener::Node(opening.rank);
         reported(errors, opening.image, check_reach(edge, opening.image))?;
         let mut disk = Disk::open(rt, errors, opening.images, opening.image, opener, absent)?;
-        let time = match absent {
-            Absent::Made => None,
-            Absent::Refused => Some(disk.watchdog_time(rt, errors)?),
+        let found = disk.edge_times(rt, errors, edge);
+        let times = match absent {
+            Absent::Made => found.unwrap_or(EdgeTimes::longest()),
+            Absent::Refused => found?,
         };
         let resource = Resource::open(rt, opening.resource, absent);
         let resource = reported(errors, opening.resource, resource)?;
         let halt = open_halt(rt, errors, edge)?;
-        if let Some(time) = time {
-            look_before(rt, errors, opening.watchdog, time)?;
+        if absent == Absent::Refused {
+            look_before(rt, errors, opening.watchdog, times.watchdog)?;
         }
         let watchdog = Watchdog::open(rt, opening.watchdog, absent);
         let watchdog = reported(errors, opening.watchdog, watchdog)?;
-        if time.is_none() {
+        if absent == Absent::Made {
             look_after(rt, errors, opening.watchdog);
         }
         let devices = Devices {
@@ -65,6 +69,7 @@ impl Devices {
             resource,
             halt,
             watchdog,
+            feed_delay: times.feed_delay,
         };
         Ok((disk, devices))
     }

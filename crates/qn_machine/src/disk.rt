@@ -1,12 +1,14 @@
 //! The disk of a node: one image, or three of which one may be lost.
 ghost use Rattle.std.specs.Prelude.{◌<◌};
 
+use crate::edge::Edge;
+use crate::headers::{EdgeTimes, times_of};
 use crate::image::{Image, Opener};
 use crate::named_file::Absent;
 use crate::reported::reported;
 use qn_base::Failed;
-use qn_exchange::watchdog_of;
 use qn_io::SECTOR;
+use qn_sector::get_header;
 use std::fs::File;
 use std::io::{self, ErrorKind};
 use std::net::{Net, TcpStream};
@@ -17,7 +19,7 @@ use std::time::{Clock, Duration};
 const IMAGE_SECTORS: u32 = 1024;
 
 /// How the sectors stand on the images.
-#[derive(Clone, Copy)]
+#[derive(Clone, Copy, PartialEq, Eq)]
 enum Layout {
     /// All on the first one.
     One,
@@ -32,6 +34,8 @@ pub(crate) struct Disk {
     images: [Option<Image>; 3],
     /// Of each image what was said last of a call that failed.
     told: [Option<Told>; 3],
+    /// Of each image whether the last write to it was done.
+    wrote: [bool; 3],
 }
 
 /// How long the same of an image is not said again, in milliseconds.
@@ -45,7 +49,8 @@ struct Told {
 }
 
 impl Disk {
-    ghost use Rattle.std.specs.Prelude.{◌<◌};
+    ghost use Rattle.std.specs.Prelude.{◌≡◌, ◌<◌};
+    ghost use Rattle.qn_machine.specs.Places.{image_of, is_written, sector_there};
 
     /// A disk of which no image is open.
     pub(crate) fn closed() -> Disk {
@@ -53,6 +58,7 @@ impl Disk {
             layout: Layout::One,
             images: [None, None, None],
             told: [None, None, None],
+            wrote: [false; 3],
         }
     }
 
@@ -77,6 +83,7 @@ impl Disk {
                     None,
                 ],
                 told: [None, None, None],
+                wrote: [false; 3],
             }),
             3 => open_three(rt, errors, word, opener, absent),
             _ => reported(
@@ -95,22 +102,23 @@ impl Disk {
         }
     }
 
-    /// The least watchdog's time, in milliseconds, of the headers of the images. Of three images one may be lost, or have no header.
-    pub(crate) fn watchdog_time<R: Files<File = File> + Net<Stream = TcpStream> + Clock, E: Eprint>(
+    /// The least watchdog's time and the least feed delay of the headers of the images. Of three images one may be lost, or have no header.
+    pub(crate) fn edge_times<R: Files<File = File> + Net<Stream = TcpStream> + Clock, E: Eprint>(
         &mut self,
         rt: &R,
         errors: &E,
-    ) -> Result<u64, Failed> {
+        edge: &Edge,
+    ) -> Result<EdgeTimes, Failed> {
         let wanted = match self.layout {
             Layout::One => 1,
             Layout::Three => 2,
         };
         let mut found: u32 = 0;
-        let mut least = u64::MAX;
+        let mut least = EdgeTimes::longest();
         'images: for image in &mut self.images {
-            if let Some(time) = header_time(rt, errors, image) {
+            if let Some(times) = header_times(rt, errors, edge, image) {
                 found = found.saturating_add(1);
-                least = least.min(time);
+                least = least.least(times);
             }
         }
         if found < wanted {
@@ -151,9 +159,22 @@ impl Disk {
         if sector == 0 && !is_locked(errors, &self.images[index]) {
             self.images[index] = None;
         }
+        self.wrote[index] = false;
         let image = self.images[index].as_mut().ok_or(Failed)?;
         let done = image.write(rt, sector, from);
+        self.wrote[index] = done.is_ok();
         tell(rt, errors, image.name(), &mut self.told[index], done)
+    }
+
+    /// Whether the last write was done, of three images that to two of them: then no write of it can land later and count.
+    pub(crate) fn is_written(&self) -> bool
+        ensures { result ≡ is_written self.now.layout self.now.wrote }
+    {
+        let [first, second, third] = self.wrote;
+        match self.layout {
+            Layout::One => first,
+            Layout::Three => first && second || third && (first || second),
+        }
     }
 
     /// Ends the boot of a node that has left, in each image that knows of boots. Where that fails another machine cannot open the node
@@ -174,8 +195,10 @@ impl Disk {
     /// The place of the image that has a sector, and the number of the sector there.
     fn place(&self, sector: u32) -> (usize, u32)
         requires { sector < 3072 }
-        ensures image { result.0 < 3 }
-        ensures sector { result.1 < 3072 }
+        ensures image { result.0 ≡ image_of self.now.layout sector }
+        ensures sector { result.1 ≡ sector_there self.now.layout sector }
+        ensures few { result.0 < 3 }
+        ensures there { result.1 < 3072 }
     {
         match self.layout {
             Layout::One => (0, sector),
@@ -221,6 +244,7 @@ fn open_three<R: Files<File = File> + Net<Stream = TcpStream> + Clock + AllocGlo
         layout: Layout::Three,
         images,
         told: [None, None, None],
+        wrote: [false; 3],
     })
 }
 
@@ -270,21 +294,33 @@ fn tell<C: Clock, E: Eprint>(
     reported(errors, name, Err(error))
 }
 
-/// The watchdog's time of the header of an image, where it is open and has one.
-fn header_time<R: Files<File = File> + Net<Stream = TcpStream> + Clock, E: Eprint>(
+/// The times of the header of an image, where it is open and has one. Where a word of a machine was said before the command the header is
+/// judged, and a line says why it is not taken.
+fn header_times<R: Files<File = File> + Net<Stream = TcpStream> + Clock, E: Eprint>(
     rt: &R,
     errors: &E,
+    edge: &Edge,
     image: &mut Option<Image>,
-) -> Option<u64> {
+) -> Option<EdgeTimes> {
     let image = image.as_mut()?;
     let mut sector = [0; SECTOR];
-    let done = image.read(rt, 0, &mut sector);
-    reported(errors, image.name(), done).ok()?;
-    let time = watchdog_of(&sector).ok_or_else(no_header);
-    reported(errors, image.name(), time).ok()
-}
-
-/// The first sector of an image is no header.
-fn no_header() -> io::Error {
-    io::Error::other("no image: its first sector is no header")
+    let read = image.read(rt, 0, &mut sector);
+    let name = image.name();
+    match edge.absent() {
+        Absent::Made => {
+            read.ok()?;
+            let (_, timing) = get_header(&sector)?;
+            Some(EdgeTimes::of(&timing))
+        }
+        Absent::Refused => {
+            reported(errors, name, read).ok()?;
+            match times_of(&sector, edge.nodes()) {
+                Ok(times) => Some(times),
+                Err(fault) => {
+                    let _ = eprintln!(errors; "quorumd: {name}: {fault}");
+                    None
+                }
+            }
+        }
+    }
 }

@@ -40,6 +40,19 @@ impl Edge {
         }
     }
 
+    /// Whether votes of a quorum device of this host are taken: only where nothing was said of the network, since any user of the host can
+    /// send one.
+    pub(crate) fn takes_votes(&self) -> bool {
+        self.addresses.is_none() && matches!(self.guard, Guard::Unsaid)
+    }
+
+    /// How many nodes the settings text has, where one was given.
+    pub(crate) fn nodes(&self) -> Option<u32> {
+        let addresses = self.addresses.as_ref()?;
+        let count = addresses.iter().filter(|address| address.is_some()).count();
+        u32::try_from(count).ok()
+    }
+
     /// What becomes of an opening of a node where something is absent: with any word of a machine nothing is made, since a path that
     /// is wrong is no other node's.
     pub(crate) fn absent(&self) -> Absent {

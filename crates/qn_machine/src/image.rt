@@ -2,10 +2,11 @@
 
 use crate::etcd_image::EtcdImage;
 use crate::image_file::ImageFile;
-use crate::image_word::{ImageWord, Place, Stride};
+use crate::image_word::{ImageWord, Place};
 use crate::named_file::Absent;
 use crate::nbd_image::NbdImage;
 use qn_base::Rank;
+use qn_exchange::Stride;
 use qn_io::SECTOR;
 use std::fs::File;
 use std::io;

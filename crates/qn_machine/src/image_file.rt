@@ -2,9 +2,8 @@
 ghost use Rattle.std.specs.Prelude.{◌≤◌, IfOk, length};
 
 use crate::image::Opener;
-use crate::image_word::{MOST_PLACE, Stride};
 use crate::named_file::{Absent, NamedFile};
-use qn_exchange::TRIES;
+use qn_exchange::{MOST_PLACE, Stride, TRIES};
 use qn_io::SECTOR;
 use std::fs::{self, File, Metadata, TryLockError};
 use std::io::{self, ErrorKind};

@@ -1,8 +1,8 @@
 //! An image that is looked at by a program which is no node and writes nothing.
 
 use crate::image::{Image, Opener};
-use crate::image_word::Stride;
 use crate::named_file::Absent;
+use qn_exchange::Stride;
 use qn_io::SECTOR;
 use std::fs::File;
 use std::io;

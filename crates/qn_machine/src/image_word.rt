@@ -1,7 +1,7 @@
 //! The word of an image: where the image lies, and how far apart its sectors stand.
 
 use crate::etcd_word::{CLUSTER, EtcdAt};
-use qn_io::SECTOR;
+use qn_exchange::Stride;
 use std::io::{self, ErrorKind};
 use std::net::SocketAddr;
 
@@ -13,38 +13,6 @@ const SOCKET: &str = "unix:";
 
 /// What stands after an image whose sectors have places of 4096 bytes.
 pub(crate) const LONG: &str = "@4096";
-
-/// The most bytes from the place of a sector to that of the next one.
-pub(crate) const MOST_PLACE: usize = 4096;
-
-/// How many bytes a sector has there from its place to the next one.
-#[derive(Clone, Copy, PartialEq, Eq)]
-pub(crate) enum Stride {
-    Short,
-    Long,
-}
-
-impl Stride {
-    ghost use Rattle.std.specs.Prelude.{◌≡◌, ◌*◌, ◌<◌};
-    ghost use Rattle.qn_machine.specs.Places.{stride_bytes};
-
-    /// It in bytes: 512 or 4096.
-    pub(crate) fn bytes(self) -> usize
-        ensures { result ≡ stride_bytes self }
-    {
-        match self {
-            Stride::Short => SECTOR,
-            Stride::Long => MOST_PLACE,
-        }
-    }
-
-    /// The place of a sector.
-    pub(crate) fn place_of(self, sector: u32) -> u64
-        ensures { result ≡ sector * stride_bytes self }
-    {
-        u64::from(sector) * self.bytes() as u64
-    }
-}
 
 /// Where a server is.
 #[derive(Clone, Copy)]

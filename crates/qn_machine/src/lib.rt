@@ -18,6 +18,7 @@ mod etcd_image;
 mod etcd_word;
 mod file_size_limit;
 mod halt_file;
+mod headers;
 mod image;
 mod image_file;
 mod image_reader;

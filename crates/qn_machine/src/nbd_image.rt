@@ -1,18 +1,15 @@
 //! An image on a block server (NBD).
 ghost use Rattle.std.specs.Prelude.{◌≤◌, length};
 
-use crate::connection::Connection;
+use crate::connection::{Connection, TimedLine};
 use crate::deadline::Deadline;
 use crate::image::Opener;
-use crate::image_word::{ImageWord, MOST_PLACE, Place, Stride};
+use crate::image_word::{ImageWord, Place};
 use crate::server_times::ServerTimes;
 use arrayvec::{ArrayString, ArrayVec};
-use qn_exchange::{Request, ask_server};
+use qn_exchange::{NbdClient, Stride};
 use qn_io::SECTOR;
-use qn_nbd::{
-    Answer, Command, Export, GREETING, MOST_NAME, REPLY, Reply, Unfit, greeting_of, put_option,
-    reply_of,
-};
+use qn_nbd::{Export, GREETING, MOST_NAME, REPLY, Reply, Unfit, greeting_of, put_option, reply_of};
 use std::io::{self, ErrorKind, Read, Write};
 use std::net::{Net, TcpStream};
 use std::time::Clock;
@@ -33,12 +30,11 @@ const WORD: usize = 512;
 #[derive(Drop)]
 pub(crate) struct NbdImage {
     word: ArrayString<WORD>,
-    stride: Stride,
+    /// It counts its requests over all connections.
+    client: NbdClient,
     times: ServerTimes,
     is_read_only: bool,
     connection: Option<Connection>,
-    /// The number of the last request, over all connections.
-    number: u64,
 }
 
 impl NbdImage {
@@ -55,11 +51,10 @@ impl NbdImage {
         }
         let mut image = NbdImage {
             word: kept,
-            stride,
+            client: NbdClient::new(stride),
             times: ServerTimes::of(opener),
             is_read_only: false,
             connection: None,
-            number: 0,
         };
         let end = image.times.end(rt)?;
         image.connection = Some(image.connect(rt, end)?);
@@ -71,7 +66,7 @@ impl NbdImage {
 
     /// How far apart its sectors stand.
     pub(crate) fn stride(&self) -> Stride {
-        self.stride
+        self.client.stride
     }
 
     /// The word that it was opened by.
@@ -86,13 +81,10 @@ impl NbdImage {
         sector: u32,
         into: &mut [u8; SECTOR],
     ) -> io::Result<()> {
-        let mut place = [0; MOST_PLACE];
         let end = self.times.end(rt)?;
-        let connection = self.ready(rt, end)?;
-        let done = self.read_place(rt, &connection, end, sector, &mut place);
-        self.keep(rt, connection, done)?;
-        into.copy_from_slice(place.split_at(SECTOR).0);
-        Ok(())
+        let line = TimedLine::new(self.ready(rt, end)?, rt, end);
+        let done = self.client.read(line, sector, into);
+        self.keep(rt, done)
     }
 
     /// Writes a sector, which lasts when that is done.
@@ -105,12 +97,10 @@ impl NbdImage {
         if self.is_read_only {
             return Err(read_only());
         }
-        let mut place = [0; MOST_PLACE];
-        place[..SECTOR].copy_from_slice(from);
         let end = self.times.end(rt)?;
-        let connection = self.ready(rt, end)?;
-        let done = self.write_place(rt, &connection, end, sector, &place);
-        self.keep(rt, connection, done)
+        let line = TimedLine::new(self.ready(rt, end)?, rt, end);
+        let done = self.client.write(line, sector, from);
+        self.keep(rt, done)
     }
 
     /// The connection, which is made anew where the last one failed; but not sooner than a second after that.
@@ -127,69 +117,18 @@ impl NbdImage {
         self.times.noted(rt, made)
     }
 
-    /// Keeps the connection where the server answered, also that it failed; else drops it, and tries none for a second.
+    /// Keeps the connection that the client gave back, where the server answered, also that it failed; else tries none for a second.
     fn keep<R: Clock>(
         &mut self,
         rt: &R,
-        connection: Connection,
-        done: io::Result<Answer>,
+        done: io::Result<(TimedLine<'_, R>, bool)>,
     ) -> io::Result<()> {
-        let is_done = self.times.noted(rt, done.and_then(is_done))?;
-        self.connection = Some(connection);
+        let (line, is_done) = self.times.noted(rt, done)?;
+        self.connection = Some(line.connection);
         if is_done {
             Ok(())
         } else {
             Err(wrong("the server could not do it"))
-        }
-    }
-
-    /// Reads the place of a sector over the connection.
-    fn read_place<R: Clock>(
-        &mut self,
-        rt: &R,
-        connection: &Connection,
-        end: Deadline,
-        sector: u32,
-        place: &mut [u8; MOST_PLACE],
-    ) -> io::Result<Answer> {
-        let request = self.next_request(Command::Read, sector);
-        let mut reader = connection.until(rt, end);
-        let answer = ask_server(request, &[], &mut connection.until(rt, end), &mut reader)?;
-        if answer == Answer::Done {
-            let bytes = self.stride.bytes();
-            reader.read_exact(&mut place[..bytes])?;
-        }
-        Ok(answer)
-    }
-
-    /// Writes the place of a sector over the connection.
-    fn write_place<R: Clock>(
-        &mut self,
-        rt: &R,
-        connection: &Connection,
-        end: Deadline,
-        sector: u32,
-        place: &[u8; MOST_PLACE],
-    ) -> io::Result<Answer> {
-        let request = self.next_request(Command::Write, sector);
-        let bytes = self.stride.bytes();
-        let mut reader = connection.until(rt, end);
-        ask_server(
-            request,
-            &place[..bytes],
-            &mut connection.until(rt, end),
-            &mut reader,
-        )
-    }
-
-    /// The next request, for the place of a sector.
-    fn next_request(&mut self, command: Command, sector: u32) -> Request {
-        self.number = self.number.wrapping_add(1);
-        Request {
-            command,
-            number: self.number,
-            at: self.stride.place_of(sector),
-            count: self.stride.bytes() as u32,
         }
     }
 
@@ -207,21 +146,12 @@ impl NbdImage {
         }
         let connection = Connection::open(rt, at, end)?;
         let export = export_of(name.as_bytes(), &mut connection.until(rt, end))?;
-        let place = self.stride.bytes();
+        let place = self.client.stride.bytes();
         if let Some(unfit) = export.unfit(place as u32, place as u64 * ROOM) {
             return Err(unfit_export(unfit));
         }
         self.is_read_only = export.is_read_only();
         Ok(connection)
-    }
-}
-
-/// Whether a server did what it was asked for; it fails where that is no answer to it.
-fn is_done(answer: Answer) -> io::Result<bool> {
-    match answer {
-        Answer::Done => Ok(true),
-        Answer::Failed => Ok(false),
-        Answer::Strange => Err(wrong("not the answer to what was asked")),
     }
 }
 

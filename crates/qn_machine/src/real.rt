@@ -190,8 +190,9 @@ impl<
     /// Feeds the watchdog where that is in time.
     fn feed_in_time(&self) -> Result<(), Failed> {
         let tick = self.tick().ok_or(Failed)?;
-        let watchdog = &self.devices.as_ref().ok_or(Failed)?.watchdog;
-        let done = watchdog.feed(self.last_tick, tick);
+        let devices = self.devices.as_ref().ok_or(Failed)?;
+        let watchdog = &devices.watchdog;
+        let done = watchdog.feed(self.last_tick, tick, devices.feed_delay);
         let errors = self.lines.over(&self.rt);
         reported(&errors, watchdog.path(), done)
     }
@@ -284,8 +285,8 @@ impl<'a, R: Files<File = File> + Net<Stream = TcpStream> + Clock + Eprint + Allo
         self.counted(done)
     }
 
-    /// Feeds the watchdog. Later than 500 ms after the last answer of `now` nothing is fed, and the call has
-    /// failed.
+    /// Feeds the watchdog. Later than half the feed delay of the images, and than 500 ms, after the last answer of `now` nothing is fed,
+    /// and the call has failed.
     fn feed(&mut self) -> Result<(), Failed> {
         let done = self.feed_in_time();
         self.counted(done)

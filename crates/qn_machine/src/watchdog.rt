@@ -32,8 +32,13 @@ impl Watchdog {
 
     /// Feeds it, where that is in time at that tick after the last answer of `now`. The byte stands after those before it: a device and
     /// a pipe take no write at a place of a file.
-    pub(crate) fn feed(&self, last_tick: Option<u64>, tick: u64) -> io::Result<()> {
-        feed_once(last_tick, tick, &mut &self.opened.file)
+    pub(crate) fn feed(
+        &self,
+        last_tick: Option<u64>,
+        tick: u64,
+        feed_delay: u64,
+    ) -> io::Result<()> {
+        feed_once(last_tick, tick, feed_delay, &mut &self.opened.file)
     }
 
     /// Disarms it.
