@@ -10,11 +10,16 @@ cat > calls/systemctl << 'END'
 case $* in
 'list-units --plain --no-legend --state=active,activating,deactivating '*) printf '%s' "${UNITS-}" ;;
 'show -P RuntimeWatchdogUSec') echo "${RUNTIME-0}" ;;
+'is-active --quiet chrony.service chronyd.service') [ "${CHRONY-no}" = yes ] ;;
 list-jobs*) printf '%s' "${JOBS-}" ;;
 *) echo "$@" ;;
 esac
 END
-chmod 755 calls/systemctl
+cat > calls/chronyd << 'END'
+#!/bin/sh
+printf 'driftfile drift\n%s\n' "${SLEW-}"
+END
+chmod 755 calls/systemctl calls/chronyd
 export PATH=$PWD/calls:$PATH STATE=$PWD/state RUN=$PWD/run SYSFS=$PWD/sysfs SETTINGS=$PWD/three.conf
 printf 'nodelist {\n node {\n nodeid: 1\n }\n node {\n nodeid: 2\n }\n node {\n nodeid: 3\n }\n}\n' > three.conf
 printf 'nodelist {\n node {\n nodeid: 2\n }\n}\n' > other.conf
@@ -105,6 +110,15 @@ checked 1 "$no /dev/null has no magic close (options 0x8080): it stops where the
 device 5 1 0x8080
 checked 0 'node 2: /dev/null has nowayout=1: also after a node that left, it resets the host' $real
 
+# a software watchdog goes by the clock that time daemons slew
+device 5 0 0x8180
+echo 'Software Watchdog' > sysfs/class/watchdog/null/identity
+checked 0 'node 2: /dev/null is a software watchdog: it ends with the kernel, and goes by a clock that a time daemon slews' $real
+slew="write 'maxslewrate 10000' into its configuration, or take a hardware watchdog"
+checked 1 "$no chronyd may slew the clock of /dev/null by 83333 ppm: $slew" $real CHRONY=yes
+checked 1 "$no chronyd may slew the clock of /dev/null by 10001 ppm: $slew" $real CHRONY=yes 'SLEW=maxslewrate 10001.5'
+checked 0 'node 2: /dev/null is a software watchdog: it ends with the kernel, and goes by a clock that a time daemon slews' $real CHRONY=yes 'SLEW=maxslewrate 10000'
+
 # ended CODE/STATUS 'WHAT IS CALLED' 'LINE': what becomes of the host at this end of node 2
 ended() {
     printf '%s' "$3" > run/node-2
@@ -115,7 +129,7 @@ export IMAGE=d
 "$QUORUMD" message --image d --id 2 --kind clear > said
 "$QUORUMD" message --image d --id 2 --kind exit > said
 ended exited/0 '' $'left clean\n'
-ended exited/0 '' $'left dirty\n'
+ended exited/0 "$reset" $'left dirty\n'
 IMAGE=none ended exited/0 '' $'left clean\n'
 # nobody sent an exit: its turns were used up
 "$QUORUMD" message --image d --id 2 --kind clear > said

@@ -14,6 +14,7 @@ use qn_base::{Failed, Rank};
 use qn_exchange::Order;
 use qn_io::{Env, Got, Opening, PACKET, SECTOR};
 use std::fs::File;
+use std::io;
 use std::marker::Model;
 use std::net::{Net, TcpStream};
 use std::rt::Files;
@@ -197,10 +198,14 @@ impl<
         reported(&errors, watchdog.path(), done)
     }
 
-    /// Disarms the watchdog, where that is open.
+    /// Disarms the watchdog, where that is open and the closing write was done. A write that failed may land later, which has to be before the
+    /// machine is up again; so the watchdog is left armed then, and ends the machine.
     fn disarm_watchdog(&self) -> Result<(), Failed> {
         let watchdog = &self.devices.as_ref().ok_or(Failed)?.watchdog;
         let errors = self.lines.over(&self.rt);
+        if !self.disk.is_written() {
+            return reported(&errors, watchdog.path(), Err(left_armed()));
+        }
         reported(&errors, watchdog.path(), watchdog.disarm())
     }
 }
@@ -328,4 +333,9 @@ impl<'a, R: Files<File = File> + Net<Stream = TcpStream> + Clock + Eprint + Allo
     fn halt(&mut self, code: u8) {
         let _ = self.tell_halt(code);
     }
+}
+
+/// The closing write of a node was not done.
+fn left_armed() -> io::Error {
+    io::Error::other("left armed, since the closing write was not done: it resets the machine")
 }
