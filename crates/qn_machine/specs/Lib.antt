@@ -1,6 +1,7 @@
 pub mod Admission
 pub mod Headers
 pub mod JournalLines
+pub mod Numbers
 pub mod Peers
 pub mod Places
 pub mod Refusals

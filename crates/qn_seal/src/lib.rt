@@ -7,12 +7,14 @@
 #![tactic(auto)]
 
 mod keys;
+mod laws;
 mod mac;
 mod opening;
 mod receiver;
 mod seals;
 
 pub use keys::{Key, Keys, text_of};
+pub use laws::law_taken_once;
 pub use opening::open;
 pub use receiver::{Newest, Receiver, Refused, is_newer};
 pub use seals::{INNER, Seal, put_sealed};
