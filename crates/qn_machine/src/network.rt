@@ -22,21 +22,19 @@ use std::time::{Clock, Duration};
 /// is 10 ms at most, so that the whole call takes 50 ms at most.
 const WAIT: u64 = 40;
 
-/// How long one of two sockets is waited for before the other one is looked at, in milliseconds.
-const SLICE: u64 = 10;
-
 /// How many datagrams a call looks at.
 const LOOKS: u32 = 10_000;
-
-/// How many datagrams of this host are looked at before those of other machines.
-const LOCAL_LOOKS: u32 = 100;
 
 /// The sockets of one node, and what is between them and the node.
 #[derive(Drop)]
 pub(crate) struct Network {
     socket: UdpSocket,
-    /// Where votes of the quorum device come, where that is another socket.
-    local: Option<UdpSocket>,
+    /// How long the system lets a read of the socket wait.
+    wait: Duration,
+    /// The same port of this host, where the node has another address: the lock on the node, of which nothing is read.
+    _lock: Option<UdpSocket>,
+    /// Whether votes of a quorum device of this host are taken.
+    takes_votes: bool,
     admission: Admission,
     sealing: Option<Sealing>,
     refusals: Refusals,
@@ -56,12 +54,14 @@ impl Network {
             return Err(io::Error::new(ErrorKind::InvalidInput, "no address of this node"));
         };
         let host = IpAddr::V4(Ipv4Addr::LOCALHOST);
-        let local = if own.ip() == host {
+        let lock = if own.ip() == host {
             None
         } else {
-            Some(open_local(rt, SocketAddr::new(host, own.port()))?)
+            Some(open_socket(rt, SocketAddr::new(host, own.port()))?)
         };
         let socket = open_socket(rt, own)?;
+        let wait = Duration::from_millis(WAIT);
+        socket.set_read_timeout(Some(wait))?;
         let (receiver, sealing) = match edge.guard {
             Guard::Unsaid | Guard::ClosedNetwork => (None, None),
             Guard::Sealed(keys) => (
@@ -71,7 +71,9 @@ impl Network {
         };
         Ok(Network {
             socket,
-            local,
+            wait,
+            _lock: lock,
+            takes_votes: edge.takes_votes(),
             admission: Admission { peers, receiver },
             sealing,
             refusals: Refusals::default(),
@@ -88,45 +90,15 @@ impl Network {
         ensures { IfOk result (λ came. IfSome came (λ count. count ≤ 129)) }
     {
         let end = Deadline::after(clock, WAIT)?;
+        let mut left = Duration::from_millis(WAIT);
         'looks: for _ in 0..LOOKS {
-            let Some(left) = end.left(clock)? else {
-                return Ok(None);
-            };
-            if let Some(count) = self.take_local(packet)? {
-                return Ok(Some(count));
-            }
-            let left = match self.local {
-                Some(_) => left.min(Duration::from_millis(SLICE)),
-                None => left,
-            };
             if let Some(count) = self.take_within(clock, left, packet)? {
                 return Ok(Some(count));
             }
-        }
-        Ok(None)
-    }
-
-    /// Takes a vote from the socket of this host, where that is another one and a vote waits there.
-    fn take_local(&mut self, packet: &mut [u8; PACKET]) -> io::Result<Option<usize>>
-        ensures { IfOk result (λ came. IfSome came (λ count. count ≤ 129)) }
-    {
-        let Some(local) = &self.local else {
-            return Ok(None);
-        };
-        'looks: for _ in 0..LOCAL_LOOKS {
-            let mut datagram = [0; PACKET];
-            match local.recv_from(&mut datagram) {
-                Ok((count, from)) => {
-                    let bytes = &datagram[..count];
-                    if is_vote_of_host(from, bytes) {
-                        return Ok(Some(put(bytes, packet)));
-                    }
-                    self.refusals.count(Reason::Elsewhere);
-                }
-                Err(error) if error.kind() == ErrorKind::Interrupted => {}
-                Err(error) if is_late(&error) => return Ok(None),
-                Err(error) => return Err(error),
-            }
+            left = match end.left(clock)? {
+                Some(left) => left,
+                None => return Ok(None),
+            };
         }
         Ok(None)
     }
@@ -140,7 +112,7 @@ impl Network {
     ) -> io::Result<Option<usize>>
         ensures { IfOk result (λ came. IfSome came (λ count. count ≤ 129)) }
     {
-        self.socket.set_read_timeout(Some(time))?;
+        self.set_wait(time)?;
         let mut datagram = [0; PACKET];
         match self.socket.recv_from(&mut datagram) {
             Ok((count, from)) => {
@@ -150,6 +122,15 @@ impl Network {
             Err(error) if error.kind() == ErrorKind::Interrupted || is_late(&error) => Ok(None),
             Err(error) => Err(error),
         }
+    }
+
+    /// Has a read of the socket wait so long. The system is told where that changes alone: a node at rest asks it for nothing but packets.
+    fn set_wait(&mut self, time: Duration) -> io::Result<()> {
+        if time != self.wait {
+            self.socket.set_read_timeout(Some(time))?;
+            self.wait = time;
+        }
+        Ok(())
     }
 
     /// Puts a datagram of that address into the buffer, where it is for the node, and gives how many bytes it has there.
@@ -162,7 +143,7 @@ impl Network {
     ) -> Option<usize>
         ensures { IfSome result (λ count. count ≤ 129) }
     {
-        if self.local.is_none() && is_vote_of_host(from, bytes) {
+        if self.takes_votes && is_vote_of_host(from, bytes) {
             return Some(put(bytes, packet));
         }
         match self.admission.take(tick, from, bytes) {
@@ -210,13 +191,6 @@ fn open_socket<R: Net>(rt: &R, at: SocketAddr) -> io::Result<UdpSocket> {
     if socket.as_raw_fd() < FIRST_OF_A_FILE {
         return socket.try_clone();
     }
-    Ok(socket)
-}
-
-/// Opens a socket that is looked at and not waited for.
-fn open_local<R: Net>(rt: &R, at: SocketAddr) -> io::Result<UdpSocket> {
-    let socket = open_socket(rt, at)?;
-    socket.set_nonblocking(true)?;
     Ok(socket)
 }
 
