@@ -1,8 +1,8 @@
 -- Whom a view chooses, by the high byte of its number.
-use Rattle.std.proofs.Common.{◌≡◌, ℕ, ◌+◌, ◌/◌, ◌^◌, ◌<◌, ◌≤◌, Bool, true, false, Some, None, Option, List, length, refl, sym, ap, ap₂, ◌∙◌, arith}
+use Rattle.std.proofs.Common.{◌≡◌, ℕ, ◌+◌, ◌/◌, ◌^◌, ◌<◌, ◌≤◌, Bool, true, false, Some, None, Option, List, length, refl, sym, ap, ◌∙◌, arith}
 use Rattle.std.specs.Prelude.{◌&&◌, ◌||◌, ◌==◌, nat_lt, if◌then◌else◌}
 use Rattle.std.specs.Option.{option_map_or, option_or}
-use Rattle.std.proofs.lemmas.Bool.{eq-eqb, ne_eqb, lt-ltb, true≢false}
+use Rattle.std.proofs.lemmas.Bool.{and_from, eq-eqb, ne_eqb, lt-ltb, true≢false}
 use Rattle.qn_base.specs.Candidates.{is_barred, is_named}
 use Rattle.qn_base.specs.Members.{is_member}
 use Rattle.qn_base.specs.declared.ids.Mask.{Mask}
@@ -43,9 +43,6 @@ choose_none count high members is =
     closed_by (high == 254) (least_from count 0 (λ rank. is_member members rank && (high == rank + 1))) (least_from count 0 (λ rank. is_member members rank))
     (eq-eqb high 254 is)
 
-both_true : (a b : Bool) → a ≡ true → b ≡ true → (a && b) ≡ true
-both_true a b first second = ap₂ (λ x y. x && y) first second
-
 second_false : (a b : Bool) → b ≡ false → (a && b) ≡ false
 second_false true b fails = fails
 second_false false b fails = refl
@@ -55,7 +52,7 @@ pub named_rank : (count high rank : ℕ) (members : Mask) → high ≡ rank + 1 
     → least_from count 0 (λ r. is_member members r && (high == r + 1)) ≡ Some rank
 named_rank count high rank members is within member =
     least_from-some count 0 rank (λ r. is_member members r && (high == r + 1)) (omega arith) (omega arith)
-    (both_true (is_member members rank) (high == rank + 1) member (eq-eqb high (rank + 1) is))
+    (and_from (is_member members rank) (high == rank + 1) member (eq-eqb high (rank + 1) is))
     (λ j above below. second_false (is_member members j) (high == j + 1) (ne_eqb high (j + 1) (λ e. omega arith)))
 
 pub choose_rank : (count high rank : ℕ) (members : Mask) → high ≡ rank + 1 → rank < count → count ≤ 32 → is_member members rank ≡ true
@@ -67,7 +64,7 @@ choose_rank count high rank members is within few member =
 
 name_found : (high rank : ℕ) → rank < 32 → (nat_lt 0 high && nat_lt high 33) ≡ false → high ≡ rank + 1 → false ≡ true
 name_found high rank below none e =
-    sym none ∙ both_true (nat_lt 0 high) (nat_lt high 33) (lt-ltb 0 high (omega arith)) (lt-ltb high 33 (omega arith))
+    sym none ∙ and_from (nat_lt 0 high) (nat_lt high 33) (lt-ltb 0 high (omega arith)) (lt-ltb high 33 (omega arith))
 
 -- where the number is no name, no rank is found
 pub named_none : (count high : ℕ) (members : Mask) → count ≤ 32 → (nat_lt 0 high && nat_lt high 33) ≡ false

@@ -32,22 +32,22 @@ clear_by false false false false true count quorum other id rest e = absurd (fal
 clear_by false false false false false count quorum None id rest e = refl
 clear_by false false false false false count quorum (Some rank) id rest e = absurd (false≢true e)
 
-itself_by : (me rank : ℕ) (b : Bool) → (rank == me) ≡ b → (if b then None else Some rank) ≡ None → Some rank ≡ Some me
-itself_by me rank true same e = ap Some (eqb-true rank me same)
-itself_by me rank false other e = absurd (none-some rank (sym e))
-
-itself : (me : ℕ) (found : Option ℕ) → (if option_map_or (λ rank. rank == me) found false then None else Some (unwrap_or found 255)) ≡ None
-    → found ≡ Some me
-itself me None e = absurd (none-some 255 (sym e))
-itself me (Some rank) e = itself_by me rank (rank == me) refl e
-
 start_chosen : (s : Settings) (me : ℕ) (log : List Line) → gives_start s me log ≡ true → chosen s log ≡ Some me
 unfolding unmet
 start_chosen s me log e =
-    itself me (chosen s log)
+    itself (chosen s log)
     (clear_by (not (is_up (phase s log))) (holds log) (is_none (view log)) (not (released s log)) (not (quorate_with_tie s log (now log)))
     (answer_with_tie s log (now log)).votes (answer_with_tie s log (now log)).quorum (other_chosen s me log) (λ rank. id_of s rank)
     (lacks_of_others s me log (now log)) e)
+  where
+    by_test : (rank : ℕ) (b : Bool) → (rank == me) ≡ b → (if b then None else Some rank) ≡ None → Some rank ≡ Some me
+    by_test rank true same o = ap Some (eqb-true rank me same)
+    by_test rank false other o = absurd (none-some rank (sym o))
+
+    itself : (found : Option ℕ) → (if option_map_or (λ rank. rank == me) found false then None else Some (unwrap_or found 255)) ≡ None
+        → found ≡ Some me
+    itself None o = absurd (none-some 255 (sym o))
+    itself (Some rank) o = by_test rank (rank == me) refl o
 
 never : (s : Settings) (me : ℕ) (log : List Line) (b : Bool) → gives_start s me log ≡ b → chosen s log ≢ Some me → b ≡ false
 never s me log true starts other = absurd (other (start_chosen s me log starts))
