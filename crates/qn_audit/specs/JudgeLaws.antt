@@ -4,7 +4,7 @@ use Rattle.std.proofs.Common.{◌≡◌, Some, List, [], ◌∷◌, ◌++◌, re
 use Rattle.qn_base.specs.declared.calls.Call.{Call}
 use Rattle.qn_base.specs.Calls.{blank}
 use Rattle.qn_base.specs.Plans.{Plan, Ends, Asks, Follows, left}
-use Rattle.qn_audit.specs.Judging.{AsksWiped, IsFirstOther, IsNext, IsPrefix, IsWhole, Keeps, left_after}
+use Rattle.qn_audit.specs.Judging.{AsksWiped, IsFirstOther, IsPrefix, IsWhole}
 
 -- a whole run ends with a value
 pub whole_follows : {A : Type 0} (plan : Plan A) (calls : List Call) → IsWhole plan calls → (value : A) × Follows plan calls value
@@ -67,19 +67,3 @@ one_first_other plan (one ∷ before) (other ∷ others) call next more rest fir
     let firsts : IsFirstOther (left plan other) before call = subst (λ (c : Call). IsFirstOther (left plan c) before call) is (first.0.1, first.1) in
     let same_front = one_first_other (left plan other) before others call next more rest firsts (second.0.1, second.1) behind in
     rw is (ap (λ calls. other ∷ calls) same_front)
-
--- one call further
-pub keeps_call : {A : Type 0} (plan : Plan A) (calls : List Call) (call : Call) → Keeps plan calls → IsNext (left_after plan calls) call → Keeps plan (calls ++ call ∷ [])
-keeps_call plan [] call kept next = (next, tt)
-keeps_call plan (first ∷ calls) call kept next = (kept.0, keeps_call (left plan first) calls call kept.1 next)
-
-pub left_call_after : {A : Type 0} (plan : Plan A) (calls : List Call) (call : Call) → left_after plan (calls ++ call ∷ []) ≡ left (left_after plan calls) call
-left_call_after plan [] call = refl
-left_call_after plan (first ∷ calls) call = left_call_after (left plan first) calls call
-
--- calls after which the plan is over follow it
-pub kept_follows : {A : Type 0} (plan : Plan A) (calls : List Call) (value : A) → Keeps plan calls → left_after plan calls ≡ Ends value → Follows plan calls value
-kept_follows (Ends end) [] value kept over = (refl, cc)
-kept_follows (Ends end) (call ∷ calls) value kept over = absurd cc
-kept_follows (Asks wanted left_of) [] value kept over = absurd cc
-kept_follows (Asks wanted left_of) (call ∷ calls) value kept over = (cc, kept_follows (left_of call) calls value kept.1 over)
