@@ -4,11 +4,13 @@ import collections
 import heapq
 import pathlib
 import re
+import statistics
 
 TOP = pathlib.Path(__file__).resolve().parent.parent
 SECONDS = TOP / "bench" / "seconds"
 HEAD = """# Written by bench/gate: of each crate of the gate the seconds of processor time of its proof, when it was last made from nothing, and of its must-fail
-# edits, without the proof before the first of them; and how many functions, lines of specs/ and proofs/, and edits these were.
+# edits, without the proof before the first of them; and how many functions, lines of specs/ and proofs/, and edits these were. They are seconds of one
+# host, the slow one of bench/README.md: those of a run on another are counted by what crates took there that had not changed.
 """
 FUNCTION = re.compile(r"^\s*(?:pub(?:\([a-z]+\))? )?(?:const )?fn ", re.M)
 LINE = re.compile(r"(\w+)[^:#]*:([^#]*)")
@@ -53,6 +55,12 @@ def read_kept():
 def write_kept(kept):
     rows = ["%s %.0f %.0f %d %d %d\n" % (name, it.proof, it.edits, *it.size[:3]) for name, it in sorted(kept.items())]
     SECONDS.write_text(HEAD + "".join(rows))
+
+
+def scale(proofs, kept):
+    """How many times longer crates took on the host of what is kept than in a run with these seconds, by those that have not changed."""
+    alike = [name for name in proofs if name in kept and size_of(name)[:2] == kept[name].size[:2]]
+    return statistics.median([kept[name].proof / proofs[name] for name in alike if proofs[name]] or [1])
 
 
 def measured(name, proof, edits, tried, before):

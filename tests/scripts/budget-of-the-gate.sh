@@ -80,6 +80,11 @@ status=0
 PATH=$PWD/bin:$PATH clone/bench/gate > said || status=$?
 same "$status" 3
 grep -q '^rt: three proved$' said
-same "$(sed 1,2d clone/bench/seconds)" 'one 0 0 10 300 0
+same "$(sed '/^#/d' clone/bench/seconds)" 'one 0 0 10 300 0
 three 0 0 12 300 1
 two 1800 0 10 300 0'
+# another machine: a crate that has not changed took half of its seconds there, so each second counts twice
+PYTHONPATH=clone/lib python3 -B -c 'import gatecosts
+kept = {"one": gatecosts.Kept(100, 0, gatecosts.Size(10, 300, 0, 0)), "three": gatecosts.Kept(100, 0, gatecosts.Size(10, 300, 0, 0))}
+assert gatecosts.scale({"one": 50, "three": 300, "new": 7}, kept) == 2'
+
