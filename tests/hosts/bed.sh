@@ -188,19 +188,6 @@ on() {
     nsenter -t "$first" -m -u -i -p -n --root env -i -C / PATH=/usr/sbin:/usr/bin:/sbin:/bin HOME=/root LANG=C.UTF-8 SYSTEMD_COLORS=0 "$@"
 }
 
-# until_true SECONDS COMMAND..: waits for it; says how long it took
-until_true() {
-    local began now limit=$1
-    began=$(date +%s%3N)
-    shift
-    until "$@" > /dev/null 2>&1; do
-        now=$(date +%s%3N)
-        [ $((now - began)) -lt $((limit * 1000)) ] || { echo "not within $limit s: $*"; return 1; }
-        sleep 0.1
-    done
-    echo "after $(($(date +%s%3N) - began)) ms: $*"
-}
-
 # owner: the host that wrote into the journal within the last second
 owner() {
     local when who now=${EPOCHREALTIME/[.,]/}

@@ -13,6 +13,7 @@ MODULES='watchdog virtio_ring virtio virtio_pci_legacy_dev virtio_pci_modern_dev
 # the commands of the block servers and the options of the watchdog are those of the page for operators
 page=$here/../../docs/MACHINES.md
 . "$here/../page.bash"
+. "$here/../waiting.bash"
 
 # server_words UNIT: the command of that unit of the page
 server_words() { block "file /etc/systemd/system/$1" | sed -n 's|^ExecStart=/usr/bin/||p'; }
@@ -206,19 +207,6 @@ qemu_words() {
 # tell COMMAND..: a command for the hypervisor
 tell() { echo "$*" >&7; }
 order() { tell order "$@"; }
-
-# until_true SECONDS COMMAND..: waits for it; says how long it took
-until_true() {
-    local began now limit=$1
-    began=$(date +%s%3N)
-    shift
-    until "$@" > /dev/null 2>&1; do
-        now=$(date +%s%3N)
-        [ $((now - began)) -lt $((limit * 1000)) ] || { echo "not within $limit s: $*"; return 1; }
-        sleep 0.2
-    done
-    echo "after $(($(date +%s%3N) - began)) ms: $*"
-}
 
 # owner: the machine that signed within the last second
 owner() {

@@ -1,18 +1,7 @@
 # Lines of a schedule at fault by their fault, and events that a rule refuses, in a cluster of the
 # nodes 1 and 2.
-. "$TOP/tests/expect.sh"
-
-HEAD='nodelist {\nnode {\nnodeid: 1\n}\nnode {\nnodeid: 2\n}\n}\n----\ntiming 5000 10000 1000 2000 1000\n'
-
-# fault NAME LINE..: each of these lines, as the first event, has that fault
-fault() {
-    local name=$1 line
-    shift
-    for line; do
-        { printf "$HEAD"; printf '%s\n' "$line"; } > schedule
-        expect 4 "fault BadSchedule line 11 $name\\n" replay < schedule
-    done
-}
+COMMAND=replay
+. "$TOP/tests/schedule-lines.sh"
 
 fault TooLong "tick $(head -c 4092 /dev/zero | tr '\0' 1)"
 fault UnknownWord tock 'Tick 1' ' tick 1' '' '# tick 1' 'device 1 maybe' 'device 1 Yes' 'operator 1 empty' 'operator 1 Off' \
@@ -49,16 +38,6 @@ bad_times BadNumber 'timing 05000 10000 1000 2000 1000' 'timing 3600001 10000 10
     'timing 5000 18446744073709551616 1000 2000 1000' 'timing 5000 10000 0 2000 1000' 'timing 5000 1 1000 2000 0' \
     'timing 5000 10000 1000 2000 -1' 'timing 5000 10000 1000 2000 3600001' 'timing 5000 10000 1000 2000 000000000000000001000' \
     $'timing 5000 10000 1000 2000 1000\r'
-
-# refused RULE LINE..: the last of these events is refused by that rule, after the trace of the others
-refused() {
-    local rule=$1 status=0
-    shift
-    { printf "$HEAD"; printf '%s\n' "$@"; } > schedule
-    "$QUORUMD" replay < schedule > got || status=$?
-    same "$status $(tail -n 1 got)" "5 fault NotAllowed line $((10 + $#)) rule $rule"
-    same "$(wc -l < got)" "$#"
-}
 
 refused 1 'boot 1 0' 'pass 5051'
 refused 1 'boot 1 0' 'pass 1 1=98'

@@ -1,17 +1,6 @@
 # Lines of a schedule of three images at fault by their fault, and events that a rule refuses, in a cluster of the nodes 1 and 2.
-. "$TOP/tests/expect.sh"
-
-HEAD='nodelist {\nnode {\nnodeid: 1\n}\nnode {\nnodeid: 2\n}\n}\n----\ntiming 5000 10000 1000 2000 1000\n'
-
-# fault NAME LINE..: each of these lines, as the first event, has that fault
-fault() {
-    local name=$1 line
-    shift
-    for line; do
-        { printf "$HEAD"; printf '%s\n' "$line"; } > schedule
-        expect 4 "fault BadSchedule line 11 $name\\n" replay3 < schedule
-    done
-}
+COMMAND=replay3
+. "$TOP/tests/schedule-lines.sh"
 
 fault TooLong "land 1 $(head -c 4090 /dev/zero | tr '\0' 1)"
 fault UnknownWord 'Land 1 1' ' land 1 1' lands 'operator 1 1 empty' 'operator 1 1 Off' 'operator 1 1 '
@@ -20,16 +9,6 @@ fault BadCount land 'land 1' 'land 1 1 1' 'land 1 1 ' fail 'fail 1' 'fail 1 1 1'
 fault BadNumber 'land 1 0' 'land 1 4' 'land 1 01' 'land 1 x' 'land 1 1,2' 'land x 9' 'land 01 1' 'fail 1 0' 'fail 1 4' 'late 1 1 0' 'late 1 1 01' \
     'late 1 1 200001' 'late 1 4 0' 'late 1 0 1' 'operator 1 0 off' 'operator 1 4 empty' 'operator 1 off 1' 'operator x 1 off'
 fault UnknownNode 'land 9 9' 'land 9 1' 'land 0 1' 'fail 9 x' 'late 9 0 0' 'operator 9 1 empty'
-
-# refused RULE LINE..: the last of these events is refused by that rule, after the trace of the others
-refused() {
-    local rule=$1 status=0
-    shift
-    { printf "$HEAD"; printf '%s\n' "$@"; } > schedule
-    "$QUORUMD" replay3 < schedule > got || status=$?
-    same "$status $(tail -n 1 got)" "5 fault NotAllowed line $((10 + $#)) rule $rule"
-    same "$(wc -l < got)" "$#"
-}
 
 refused 2 'boot 1 0' 'boot 1 0'
 refused 3 'land 1 1'
