@@ -14,7 +14,6 @@ HEAD = """# Written by bench/gate: of each crate of the gate the seconds of proc
 """
 FUNCTION = re.compile(r"^\s*(?:pub(?:\([a-z]+\))? )?(?:const )?fn ", re.M)
 LINE = re.compile(r"(\w+)[^:#]*:([^#]*)")
-FEWEST_LINES = 100  # a crate with fewer lines of specs/ and proofs/ grows by its functions
 SHARE_OF_AN_EDIT = 0.1  # of the proof of its crate, where none was measured
 
 Size = collections.namedtuple("Size", "functions lines edits length")
@@ -71,11 +70,6 @@ def measured(name, proof, edits, tried, before):
     return Kept(proof, before.edits, size_of(name)._replace(edits=before.size.edits))
 
 
-def growth(now, then):
-    """How many times larger a crate is than it was, by what of it grew more."""
-    return max(now.functions / max(then.functions, 1), now.lines / max(then.lines, FEWEST_LINES))
-
-
 class Estimate:
     """What each crate costs now, in seconds of processor time of the host of bench/seconds."""
 
@@ -86,10 +80,19 @@ class Estimate:
         self.a_line = proofs / sum(it.size.lines for it in self.kept.values())
         self.costs = {name: self.cost_of(name, size_of(name)) for name in names}
 
+    def proof_of(self, size, then):
+        """A new crate counts for what its functions take on average, or its lines, whichever is more. One that was there counts for what it took and
+        for those that are new, at its own price; a line at no more than the average, since a few lines beside many functions say nothing."""
+        if then is None:
+            return max(self.a_function * size.functions, self.a_line * size.lines)
+        a_function = then.proof / max(then.size.functions, 1)
+        a_line = min(then.proof / max(then.size.lines, 1), self.a_line)
+        return then.proof + max(a_function * (size.functions - then.size.functions), a_line * (size.lines - then.size.lines))
+
     def cost_of(self, name, size):
-        """A crate that is new counts for what its functions take on average, or its lines. One with edits is proved once more before they are tried."""
+        """What a crate takes; one with edits is proved once more before they are tried."""
         then = self.kept.get(name)
-        proof = then.proof * growth(size, then.size) if then else max(self.a_function * size.functions, self.a_line * size.lines)
+        proof = self.proof_of(size, then)
         an_edit = SHARE_OF_AN_EDIT * proof
         if then and then.size.edits:
             an_edit = then.edits / then.size.edits
