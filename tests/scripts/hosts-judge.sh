@@ -61,6 +61,7 @@ judged 1 "$(every host1 0 11 store)$(every host2 0 5 -)$(every host2 10 30 -)$(e
 
 # each liar names a scene of its lab that has bounds
 for lab in machines hosts; do
+    # shellcheck disable=SC1090 # lies.sh of the lab
     (. "$TOP/tests/$lab/lies.sh" && printf '%s\n' "${liars[@]}") | cut -d : -f 2 | while IFS= read -r name; do
         grep -q "^$name	" "$TOP/tests/$lab/bounds"
         grep -q "^scene_$name() {" "$TOP/tests/$lab/scenes.sh"
