@@ -24,14 +24,16 @@ def until_look(node, tick):
 
 
 def run(times, disk, is_bounded):
-    """The trace of a run in which node 2 is off from the first moment on. Three loops and a tick later a look misses it, and the next
-    one a loop after that gives the view."""
-    node = Survivor(times, Pace(disk, 50, True), [True, False], [0, 0], slowest)
+    """The trace of a run in which node 2 is off from the first moment on. Three loops and a tick later a look misses it; a sixteenth of a
+    loop and two turns later the news of those who followed it would be there, and the look a loop after that gives the view."""
+    pace = Pace(disk, 50, True)
+    node = Survivor(times, pace, [True, False], [0, 0], slowest)
     node.leave_dirty()
     node.boot(0)
     node.view(1, 3)
     until_look(node, 3 * times.loop + 1)
-    until_look(node, node.tick() + times.loop)
+    news = (times.loop + 15) // 16 + 2 * pace.turn_ticks()
+    until_look(node, node.tick() + news + times.loop)
     node.view(2, 1)
     while node.time < LONG and not (is_bounded and node.holds):
         assert node.step(), "the watchdog ends the node"

@@ -99,8 +99,8 @@ done < "$TOP/tests/rows/take-over-times.tsv"
 measured() {
     same "$(timing "$1" "$2" "$3" "$4" --disk "$5" | tail -n 1)" "longest take-over $6"
 }
-measured 5000 1000 2000 1000 989 20362
-measured 5000 1000 2000 1000 500 16370
+measured 5000 1000 2000 1000 989 22444
+measured 5000 1000 2000 1000 500 17454
 measured 5000 1000 2000 1000 990 'none: the disk is too slow for this loop'
 measured 5000 1000 900 1000 892 'none: the disk is too slow for the read limit'
 measured 5000 1000 2000 3500 248 "none: the loop, two calls of the disk and the feed delay do not fit in the watchdog's time"

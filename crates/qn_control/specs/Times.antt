@@ -48,10 +48,16 @@ unbounded t disk =
     then (if is_in_read_limit t disk then (if is_fed_in_time t disk then None else Some Watchdog) else Some ReadLimit)
     else Some Loop
 
+-- The news of a node, what it hears and whom it follows, come so many ticks after it saw them at the latest: a sixteenth of a loop
+-- after its last Hello, and each of the two nodes takes a turn.
+abbrev pub news_ticks : Timing → ℕ → ℕ
+news_ticks t disk = (t.loop_ms + 15) / 16 + 2 * turn_on disk
+
 -- From the end of nodes until the least of the others has a view without them: three loops and a tick after their last Hello
--- none of them is visible at a look, from then on for a loop the same nodes are, and each of the two ends by a look in time.
+-- none of them is heard at a look, then come the news of who followed one of them, and from then on for a loop the company is the
+-- same; the first and the last of these end by a look in time.
 abbrev pub missing_ticks : Timing → ℕ → ℕ
-missing_ticks t disk = 3 * t.loop_ms + 1 + turn_on disk + (t.loop_ms + turn_on disk)
+missing_ticks t disk = 3 * t.loop_ms + 1 + turn_on disk + news_ticks t disk + (t.loop_ms + turn_on disk)
 
 -- From the end of so many nodes until another one starts, in true milliseconds: of these a clock may miss one in a hundred.
 abbrev pub take_over : Timing → ℕ → ℕ → ℕ

@@ -88,7 +88,8 @@ pub fn longest_take_over(timing: &Timing, disk: u64, lost: u64) -> u64
     ensures { result ≡ take_over timing.now disk lost }
 {
     let turn = turn_on(disk);
-    let missing = 3 * timing.loop_ms + 1 + turn + (timing.loop_ms + turn);
+    let news = (timing.loop_ms + 15) / 16 + 2 * turn;
+    let missing = 3 * timing.loop_ms + 1 + turn + news + (timing.loop_ms + turn);
     let fencing = ticks_of(disk).max(turn) + 4 * (ticks_of(disk) * lost);
     let ticks = missing + (fencing + 1 + timing.msgwait + turn);
     (100 * ticks + 98) / 99
