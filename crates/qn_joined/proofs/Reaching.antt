@@ -453,11 +453,6 @@ pub record IsLeft (s : Settings) (t : Timing) (slots : ℕ → Slot) (mails : �
   pub slots_are : (k : ℕ) → k < length s.nodes → (run s t events).slots k ≡ slots k
   pub mails_are : (k : ℕ) → k < count → (run s t events).mailboxes k ≡ mails k
 
-or_last : (a b c : Bool) → c ≡ true → (a || b || c) ≡ true
-or_last true b c e = refl
-or_last false true c e = refl
-or_last false false c e = e
-
 pub each_mail : (s : Settings) (t : Timing) (slots : ℕ → Slot) (mails : ℕ → Message) → IsLeft s t slots mails 0 → (count : ℕ) → IsLeft s t slots mails count
 unfolding run step refusal AllMay
 each_mail s t slots mails left zero = left
@@ -467,13 +462,18 @@ each_mail s t slots mails left (suc count) = next (each_mail s t slots mails lef
     next had =
         record {
           events = event.Operator (rank_of count) (mails count) ∷ had.events;
-          may = (refl, ap (λ b. unless b 10) (or_last (is_deadly (mails count)) (not (is_deadly ((run s t had.events).mailboxes count))) (not (node_at s count (run s t had.events)).on) (ap not (had.off count))), had.may);
+          may = (refl, ap (λ b. unless b 10) (by_last (is_deadly (mails count)) (not (is_deadly ((run s t had.events).mailboxes count))) (not (node_at s count (run s t had.events)).on) (ap not (had.off count))), had.may);
           off = had.off;
           time = had.time;
           slots_are = had.slots_are;
           mails_are = λ k below. by_order k below (count == k) refl;
         }
       where
+        by_last : (deadly stays off : Bool) → off ≡ true → (deadly || stays || off) ≡ true
+        by_last true stays off e = refl
+        by_last false true off e = refl
+        by_last false false off e = e
+
         by_order : (k : ℕ) → k < suc count → (b : Bool) → (count == k) ≡ b → (if b then mails count else (run s t had.events).mailboxes k) ≡ mails k
         by_order k below true e = ap mails (eqb-true count k e)
         by_order k below false e = let apart = eqb-false count k e in had.mails_are k (by_less k below apart (cases_lt k count))
