@@ -1,8 +1,8 @@
 -- Whom a view chooses, by the high byte of its number.
-use Rattle.std.proofs.Common.{◌≡◌, ℕ, ◌+◌, ◌/◌, ◌^◌, ◌<◌, ◌≤◌, Bool, true, false, Some, None, Option, List, length, refl, sym, ap, ◌∙◌, arith}
+use Rattle.std.proofs.Common.{◌≡◌, ℕ, ◌+◌, ◌/◌, ◌^◌, ◌<◌, ◌≤◌, Bool, true, false, Some, None, Option, List, length, refl, sym, ap, ap₂, ◌∙◌, arith}
 use Rattle.std.specs.Prelude.{◌&&◌, ◌||◌, ◌==◌, nat_lt, if◌then◌else◌}
 use Rattle.std.specs.Option.{option_map_or, option_or}
-use Rattle.std.proofs.lemmas.Bool.{and_from, eq-eqb, ne_eqb, lt-ltb, true≢false}
+use Rattle.std.proofs.lemmas.Bool.{and_from, and_right, eq-eqb, ne_eqb, lt-ltb, true≢false}
 use Rattle.qn_base.specs.Candidates.{is_barred, is_named}
 use Rattle.qn_base.specs.Members.{is_member}
 use Rattle.qn_base.specs.declared.ids.Mask.{Mask}
@@ -43,17 +43,13 @@ choose_none count high members is =
     closed_by (high == 254) (least_from count 0 (λ rank. is_member members rank && (high == rank + 1))) (least_from count 0 (λ rank. is_member members rank))
     (eq-eqb high 254 is)
 
-second_false : (a b : Bool) → b ≡ false → (a && b) ≡ false
-second_false true b fails = fails
-second_false false b fails = refl
-
 -- the rank that is named, where it is a configured member, is found
 pub named_rank : (count high rank : ℕ) (members : Mask) → high ≡ rank + 1 → rank < count → is_member members rank ≡ true
     → least_from count 0 (λ r. is_member members r && (high == r + 1)) ≡ Some rank
 named_rank count high rank members is within member =
     least_from-some count 0 rank (λ r. is_member members r && (high == r + 1)) (omega arith) (omega arith)
     (and_from (is_member members rank) (high == rank + 1) member (eq-eqb high (rank + 1) is))
-    (λ j above below. second_false (is_member members j) (high == j + 1) (ne_eqb high (j + 1) (λ e. omega arith)))
+    (λ j above below. and_right (is_member members j) (high == j + 1) (ne_eqb high (j + 1) (λ e. omega arith)))
 
 pub choose_rank : (count high rank : ℕ) (members : Mask) → high ≡ rank + 1 → rank < count → count ≤ 32 → is_member members rank ≡ true
     → choose count high members ≡ Some rank
@@ -71,7 +67,7 @@ pub named_none : (count high : ℕ) (members : Mask) → count ≤ 32 → (nat_l
     → least_from count 0 (λ r. is_member members r && (high == r + 1)) ≡ None
 named_none count high members few ranks =
     least_from-none count 0 (λ r. is_member members r && (high == r + 1))
-    (λ j above below. second_false (is_member members j) (high == j + 1) (ne_eqb high (j + 1) (λ e. true≢false (sym (name_found high j (omega arith) ranks e)))))
+    (λ j above below. and_right (is_member members j) (high == j + 1) (ne_eqb high (j + 1) (λ e. true≢false (sym (name_found high j (omega arith) ranks e)))))
 
 -- the least member, where nobody is named
 pub choose_least : (count high : ℕ) (members : Mask) → count ≤ 32 → (nat_lt 0 high && nat_lt high 33 || high == 254) ≡ false
