@@ -13,21 +13,30 @@ from told import has_plain_votes, said_in, told_of, without_last_turn
 from traces import program
 
 TOP = pathlib.Path(__file__).resolve().parent.parent
-KINDS = ("quiet", "cuts", "kills", "pauses", "disks", "damages", "operators", "losses", "leaves", "restarts", "agents", "isolations", "device",
-         "images", "mixed")
+KINDS = ("quiet", "cuts", "kills", "pauses", "disks", "damages", "operators", "losses", "leaves", "restarts", "agents", "isolations", "links",
+         "device-links", "device", "images", "mixed")
+LINKED = ("links", "device-links")  # kinds whose seeds are patterns of cut links, one after another
+SPREAD = 7919  # from one of their seeds to the next, so that few seeds are patterns of all sorts, while the nodes run and before they boot
 NODES = (3, 2, 5)
 DELAYS = (0, 3000)
 IMAGES = (1, 3)
 SECONDS = 300
-COUNTS = ("turns", "events", "disturbances", "boots", "starts", "take-overs", "resets", "hurried", "told")
+COUNTS = ("turns", "events", "disturbances", "boots", "starts", "take-overs", "resets", "of-well", "told")
 COMPARED_EACH = 53  # of so many runs one is written down and compared, and lasts COMPARED_SECONDS
 COMPARED_SECONDS = 100
 
 Run = collections.namedtuple("Run", "seed nodes seconds kind delay images")
 Line = collections.namedtuple("Line", "fault detail counts longest at")
 
-# The runs of a seed: of every kind, the losses of an image on three alone, and with a device three nodes.
-RUNS = [Run(0, 3 if kind == "device" else nodes, SECONDS, kind, delay, images)
+
+
+def nodes_of(kind, nodes):
+    """How many nodes a run of a kind has: beside a device that votes by chance three, and where links are cut for good four in place of two."""
+    return 3 if kind == "device" else 4 if kind in LINKED and nodes == 2 else nodes
+
+
+# The runs of a seed: of every kind, and the losses of an image on three alone.
+RUNS = [Run(0, nodes_of(kind, nodes), SECONDS, kind, delay, images)
         for kind, nodes, delay, images in itertools.product(KINDS, NODES, DELAYS, IMAGES) if kind != "images" or images == 3]
 
 
@@ -53,7 +62,7 @@ def has_programs():
 def run_of(number):
     """The run of that number: those of a seed, and then those of the next one."""
     seed, place = divmod(number, len(RUNS))
-    return RUNS[place]._replace(seed=seed + 1)
+    return RUNS[place]._replace(seed=(seed + 1) * (SPREAD if RUNS[place].kind in LINKED else 1))
 
 
 def words_of(run, *more):
@@ -63,7 +72,7 @@ def words_of(run, *more):
 
 def run_of_words(words):
     """The run of the words that follow the name of the program, as `command_of` has them; None where they are none."""
-    said = re.fullmatch(r"(\d+) 1 (\d+) (\d+) (\w+) (\d+)(?: line)?(?: images (1|3))?", " ".join(words), re.ASCII)
+    said = re.fullmatch(r"(\d+) 1 (\d+) (\d+) ([\w-]+) (\d+)(?: line)?(?: images (1|3))?", " ".join(words), re.ASCII)
     if said is None or said[4] not in KINDS:
         return None
     return Run(int(said[1]), int(said[2]), int(said[3]), said[4], int(said[5]), int(said[6] or 1))

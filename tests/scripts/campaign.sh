@@ -6,7 +6,7 @@ export QUORUMD
 
 # soaker FILE WORD..: makes a program that says so of each run
 soaker() {
-    printf '#!/usr/bin/env bash\necho "seed $1 kind $5 nodes $3 images 1 %s at 5000 disturbances 0 turns 9 events 9 boots 3 starts 1 take-overs 0 resets 1 hurried 0 %s"\n%s\n' \
+    printf '#!/usr/bin/env bash\necho "seed $1 kind $5 nodes $3 images 1 %s at 5000 disturbances 0 turns 9 events 9 boots 3 starts 1 take-overs 0 resets 1 of-well 0 %s"\n%s\n' \
         "$2" 'late-writes 0 told 9 idle 0 longest 0' "$3" > "$1"
     chmod +x "$1"
 }
