@@ -19,6 +19,7 @@ OFF = {"phase": "off", "quorate": False, "votes": 0, "view": None, "why": "down"
 BOOTING = {**OFF, "phase": "booting", "incarnation": None, "mail": "unread", "mail_tick": None}
 ALONE = {"quorate": False, "votes": 1, "view": {"id": 2, "members": [3]}, "why": "not-quorate:1/2"}
 PAIR = {"votes": 2, "view": {"id": 2, "members": [2, 3]}}
+NAMING = {"id": 2, "members": [1, 2, 3], "candidate": 1}
 OLD = {"tick": -3 * 60000 - 2000}  # three loops and two seconds
 
 WHYS = ["down", "no-view", "wait-for-all", "not-quorate:1/2", "not-chosen:1", "not-chosen:0", "held-by:2", "unheard:2", "unfenced:2:unwritten",
@@ -37,6 +38,9 @@ STATES = [
     ([node(1, why="held-by:3"), node(2), holder(3)], 0, "node 3 holds"),
     ([holder(1), node(2)], 0, "node 1 holds"),
     ([holder(1)], 0, "node 1 holds"),
+    # a view says whom its number names
+    ([holder(1, view=NAMING), node(2, view=NAMING), node(3, view=NAMING)], 0, "node 1 holds"),
+    ([node(own, view={**NAMING, "candidate": 0}, why="not-chosen:0") for own in (1, 2, 3)], 2, "no owner: 1 not-chosen:0; 2 not-chosen:0; 3 not-chosen:0"),
     ([holder(1, ids=(1,), votes=1, quorum=1, expected=1)], 0, "node 1 holds"),
     # a message
     ([holder(1), node(2, mail="test"), node(3)], 0, "node 1 holds"),
