@@ -1,11 +1,14 @@
 """Who may start under a view, by its number: each row of tests/rows/chosen.tsv as a schedule in which every member boots and is told the
-view, once by quorumd and once by the plain program of bench/plain, where rustc is there. A row says how many nodes are configured, the
-number of the view, its members as ranks, and the rank that may start, `-` for none."""
+view, once by quorumd and once by the plain program of bench/plain, where rustc is there; and by what reads records of nodes. A row says how
+many nodes are configured, the number of the view, its members as ranks, and the rank that may start, `-` for none."""
 import json
 import os
 import pathlib
 import shutil
 import subprocess
+
+from members import View
+from told import Told
 
 TOP = pathlib.Path(os.environ["TOP"])
 QUORUMD = os.environ["QUORUMD"]
@@ -56,6 +59,14 @@ def judge(row):
         demand(waits if ident == chosen else why == wanted, "view %d of %s: node %d says %s, and %d may start" % (number, members, ident, why, chosen))
 
 
+def judge_told(row):
+    """What is read off the record of a member."""
+    count, number, members, chosen = row
+    told = Told(range(1, count + 1), members[-1])
+    told.view = View(number, tuple(members))
+    demand(told.chosen() == chosen, "view %d of %s: %d may start, and by the record %d" % (number, members, chosen, told.chosen()))
+
+
 def main():
     table = list(rows())
     demand(len(table) == 100, "%d rows" % len(table))
@@ -63,6 +74,7 @@ def main():
     for row in table:
         if row in configured:
             judge(row)
+            judge_told(row)
         else:
             said = answer(schedule(*row[:3]), QUORUMD, "replay").splitlines()[-1]
             demand(said.endswith("UnknownNode"), "a view with a member that is not configured: %s" % said)
