@@ -1,4 +1,16 @@
-"""For tests/scripts/pages-run.sh, which says what is tested."""
+"""The blocks of README.md and of each page of docs/, bench/, contrib/ and examples/. The word after ``` says what a block is:
+
+  console          lines `$ COMMAND`, each with what it writes after it; a page's commands run one after the other in one folder
+  console not-run  commands of whoever changes the program: no call of `quorumd`, and each of them begins with a word that exists
+  conf             a settings text, which is taken as the head of a replay
+  schedule, trace  a schedule, and after it the trace that `replay` writes of it
+  file PATH        a file of a machine, which the examples after it have beside them under its last name; a lab writes it at its path
+  run NAME         commands that a lab takes from the page and runs on its machines (tests/hosts/page.sh)
+  text             no command
+
+And what has one place stands there alone: the table of conditions, the exit statuses, the rule of safe times. The manual page is read alone, so it has
+the conditions and the statuses too, and they are those of the pages. What `quorumctl status` can say, docs/MACHINES.md says what to do about. Each link
+leads somewhere, and no cell of a table is a paragraph."""
 import os
 import pathlib
 import re
@@ -227,8 +239,47 @@ def look_at_cells():
                 wrong.append("%s:%d: a cell of a table with more than %d letters" % (place, number, CELL))
 
 
+CONDITIONS = ("down", "holding", "no-view", "wait-for-all", "not-quorate", "not-chosen", "held-by", "unheard", "unfenced", "clear")
+# at three in the morning: each condition, phase and message, and each verdict with its reasons
+SAID_AT_NIGHT = (
+    "down", "holding", "no-view", "wait-for-all", "not-quorate:", "not-chosen:", "held-by:", "unheard:", "unfenced:N:unwritten", "unfenced:N:LEFT", "clear",
+    "`off`", "`booting`", "`up`", "`leaving`", "`dying`", "`silent`", "`ended`",
+    "mail reset", "crashdump", "mail exit", "mail damaged", "mail failed",
+    "healthy: ", "degraded: ", "no owner: ", "unknown: no node answers", "owner not among the nodes that are looked at", "says held-by:", "does not see",
+    "not quorate", "ended: ", "silent for", "is of another boot of this host", "TWO HOLDERS: ",
+)
+
+
+def text_of(place):
+    return (TOP / place).read_text()
+
+
+def look_at_conditions():
+    """Each condition that blocks a start has its row, its place in the schema, and its item of the manual page."""
+    places = {"docs/STATUS.md": r"(?m)^\| `%s[`:]", "docs/status.schema.json": r"[\"(|^]%s[\"|):]", "man/quorumd.8": r"(?m)^\.It Ql %s\b"}
+    for why in CONDITIONS:
+        wrong.extend("%s has no %s" % (place, why) for place, pattern in places.items() if not re.search(pattern % why, text_of(place)))
+
+
+def look_at_statuses():
+    """The exit statuses of the manual page are those of docs/FORMATS.md."""
+    listed = re.findall(r"(?m)^\.It (\d\S*)", text_of("man/quorumd.8").split("\n.Sh EXIT STATUS\n")[1].split("\n.Sh ")[0])
+    table = re.findall(r"(?m)^\| (\d\S*)", text_of("docs/FORMATS.md").split("\n## Fault lines and statuses\n")[1].split("\n## ")[0])
+    if listed != table or len(table) < 10:
+        wrong.append("man/quorumd.8 has the statuses %s, and docs/FORMATS.md %s" % (" ".join(listed), " ".join(table)))
+
+
+def look_at_night():
+    """docs/MACHINES.md says what to do about all that `quorumctl status` can say."""
+    part = text_of("docs/MACHINES.md").split("\n## At three in the morning\n")[1].split("\n## Upgrades\n")[0]
+    wrong.extend("docs/MACHINES.md says nothing of %s" % word for word in SAID_AT_NIGHT if word not in part)
+
+
 for page in PAGES:
     try_page(page)
+look_at_conditions()
+look_at_statuses()
+look_at_night()
 look_at_places()
 look_at_links()
 look_at_cells()
