@@ -21,21 +21,23 @@ use Rattle.qn_group.specs.Acts.{begins, ends, is_start, is_started_by, is_stoppe
 use Rattle.qn_group.specs.Places.{Began, Moved, phase_of, stage_after}
 use Rattle.qn_group.specs.Steps.{Run, Step, event_at, given_at, holds, stage_at}
 use Rattle.qn_group.proofs.Runs.{Said-at, Said-between, Said-from}
-use Rattle.qn_group.proofs.Stepping.{never}
 
 -- a test that cannot be passed is failed
 false-from : (b : Bool) → (b ≡ true → ⊥) → b ≡ false
 false-from true refuted = absurd (refuted refl)
 false-from false refuted = refl
 
+no-start : (starts held : Bool) → starts ≡ false → held ≡ false → (starts || held) ≡ false
+no-start starts held quiet unheld = rw (quiet, unheld) refl
+
 -- the node holds no more, and no start comes
 unheld-kept : (old : Group) (happened : Event) (given : Given) (new : Group) → Step old happened given new → is_started_by happened ≡ false → holds old ≡ false → holds new ≡ false
 unheld-kept old happened given new step quiet unheld =
-    false-from (holds new) (λ yes. never (is_started_by happened || holds old) (rw (quiet, unheld) refl) (step.held yes))
+    false-from (holds new) (λ yes. false≢true (sym (no-start (is_started_by happened) (holds old) quiet unheld) ∙ step.held yes))
 
 unheld-said : (old : Group) (happened : Event) (given : Given) (new : Group) → Step old happened given new → is_started_by happened ≡ false → holds old ≡ false → is_start given.act ≡ false
 unheld-said old happened given new step quiet unheld =
-    false-from (is_start given.act) (λ yes. never (holds new) (unheld-kept old happened given new step quiet unheld) (step.started yes))
+    false-from (is_start given.act) (λ yes. false≢true (sym (unheld-kept old happened given new step quiet unheld) ∙ step.started yes))
 
 pub quiet-before_start : (old new : Group) (events : List Event) (all : List Given) → Run old events all new → holds old ≡ false → (j : ℕ)
     → ((k : ℕ) → k ≤ j → is_started_by (event_at events k) ≡ false) → is_start (given_at all j).act ≡ false
@@ -49,7 +51,7 @@ quiet-after_stop old new events all run i j within begin quiet =
     elim (eq-or-lt_of_le within) [
       | inl same ↦ subst (λ (k : ℕ). is_start (given_at all k).act ≡ false) same (
           Said-at (λ given. is_stopped given ≡ true) (λ given. is_start given.act ≡ false) (
-          λ from happened given to step stopped. false-from (is_start given.act) (λ yes. never (holds to) (step.released stopped) (step.started yes))
+          λ from happened given to step stopped. false-from (is_start given.act) (λ yes. false≢true (sym (step.released stopped) ∙ step.started yes))
           ) refl old new events all run i begin
           )
       | inr later ↦

@@ -16,9 +16,6 @@ use Rattle.qn_group.specs.Places.{Acted, Moved, phase_of, stage_after}
 use Rattle.qn_group.specs.Steps.{Step, holds, stage_at}
 use Rattle.qn_group.proofs.Stages.{Moved-from_Acted}
 
-pub never : {P : Type 0} (b : Bool) → b ≡ false → b ≡ true → P
-never b is_false is_true = absurd (false≢true (sym is_false ∙ is_true))
-
 -- a step that answers no stop as done
 pub Step-unstopped : (old : Group) (happened : Event) (given : Given) (new : Group)
     → is_stopped given ≡ false
@@ -27,9 +24,9 @@ pub Step-unstopped : (old : Group) (happened : Event) (given : Given) (new : Gro
     → ((at : ℕ) → Moved given.act at (stage_after happened at (stage_at old at)) (stage_at new at))
     → Step old happened given new
 Step-unstopped old happened given new unstopped started held moved = record {
-  asked = λ yes. never (is_stopped given) unstopped yes;
-  stopped = λ yes. never (is_stopped given) unstopped yes;
-  released = λ yes. never (is_stopped given) unstopped yes;
+  asked = λ yes. absurd (false≢true (sym unstopped ∙ yes));
+  stopped = λ yes. absurd (false≢true (sym unstopped ∙ yes));
+  released = λ yes. absurd (false≢true (sym unstopped ∙ yes));
   started = started;
   held = held;
   moved = moved;
