@@ -130,18 +130,18 @@ def network():
 class CutCluster(Cluster):
     """A cluster of so many nodes, which start one after the other and all see each other; node 1 holds."""
 
-    def __init__(self, name, count, joined):
+    def __init__(self, name, count, joined, timing=TIMES):
         self.count, self.joined = count, joined
         self.ways = {(sender, receiver) for sender in range(count) for receiver in range(count) if sender != receiver}
         self.is_cut = set()
-        super().__init__(name, ids=range(1, count + 1), timing=TIMES)
+        super().__init__(name, ids=range(1, count + 1), timing=timing)
         self.nodes, self.killed = [], {}
 
     def first_port(self, count):
         self.ports = self.joined.ports(count)
         return self.ports[0]
 
-    def start(self, number):
+    def boot(self, number):
         """All boot within a loop, and how they stand to one another differs from number to number."""
         places = sorted(range(self.count), key=lambda rank: STAGGER * (rank + number) % LOOP)
         began = milliseconds()
@@ -151,6 +151,10 @@ class CutCluster(Cluster):
             threading.Event().wait(max(0, due - milliseconds()) / 1000)
             nodes[rank] = self.node(rank + 1, port=self.ports[rank])
         self.nodes = [nodes[rank] for rank in range(self.count)]
+
+    def start(self, number):
+        """All boot, and node 1 holds."""
+        self.boot(number)
         self.nodes[0].waits_for("start: ok")
         threading.Event().wait(2 * LOOP / 1000 + STAGGER * number % LOOP / 1000)
         self.all_are_quiet()
@@ -186,6 +190,10 @@ class CutCluster(Cluster):
 
     # ---- what is so
 
+    def every(self):
+        """Each process of a node."""
+        return self.nodes
+
     def all_are_quiet(self):
         """Node 1 holds, and nothing else happened."""
         same("said", [node.said()[1:] for node in self.nodes], [["start: ok"]] + [[] for _ in self.nodes[1:]])
@@ -205,7 +213,7 @@ class CutCluster(Cluster):
     def holds(self):
         """Of each time that a node held by its own words: when it started, when it held no more or was killed, and its id."""
         spans = []
-        for node in self.nodes:
+        for node in self.every():
             ends = sorted(tick for line in ("stop: ok", "halt 2: ok", "disarm: ok") for tick in node.ticks(line))
             for begin in node.ticks("start: ok"):
                 spans.append((begin, min([tick for tick in ends if tick >= begin], default=self.killed.get(node.ident)), node.ident))

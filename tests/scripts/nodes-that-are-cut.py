@@ -1,6 +1,6 @@
 """Three and five nodes whose packets are dropped: the cluster's majority has a holder within the bound of docs/LIVE.md, no node that it sees
-is reset, and no two hold. The holder is cut off, and another node; no packet comes for two seconds and for five; one way is cut; the
-network heals. A holder that leaves clean is followed within two loops, and an announced view of the greatest number stops no take-over.
+is reset, and no two hold. The holder is cut off, and another node; no packet comes for two seconds and for five; one way is cut; one cable is cut, and
+links one way, also before the nodes boot; the network heals. A holder that leaves clean is followed within two loops, and an announced view of the greatest number stops no take-over.
 The packets are dropped by the firewall of a network namespace, where both are to be had, else by a relay between the nodes."""
 import struct
 
@@ -72,11 +72,13 @@ def not_heard(cluster):
 
 
 def deaf(cluster):
-    """A node that hears nobody and is heard is not reset, and is a member again after the heal."""
+    """A node that hears nobody and is heard is reset, and the holder goes on."""
     cluster.cut(cluster.of(cluster.count, out=False))
-    cluster.stay_quiet(loops=8)
+    cluster.is_reset(cluster.count)
     cluster.heal()
-    cluster.stay_quiet(loops=5)
+    milliseconds_pass(4 * LOOP)
+    cluster.only_ended(cluster.count)
+    same("node 1 said", cluster.nodes[0].said()[1:], ["start: ok"])
 
 
 def holder_not_heard(cluster):
@@ -87,13 +89,34 @@ def holder_not_heard(cluster):
 
 
 def holder_deaf(cluster):
-    """It sees nobody and stops. The others see it, and wait for the view that it leads; nobody is reset. After the heal it holds again."""
-    cluster.cut(cluster.of(1, out=False))
+    """It sees nobody and stops. The others hear it, and it does not hear them: it is reset, and another one takes over."""
+    cut = cluster.cut(cluster.of(1, out=False))
     cluster.nodes[0].waits_for("stop: ok")
+    same("holder", cluster.holder_within(cut), 2)
+    cluster.is_reset(1)
+    cluster.only_ended(1)
+
+
+def one_cable(cluster):
+    """The cable between the holder and another node is cut: that one is reset, once, and boots under the cut. The holder goes on."""
+    cluster.cut({(0, 1), (1, 0)})
+    cluster.is_reset(2)
+    back = cluster.node(2, port=cluster.ports[1])
+    wait_for("node 2 is up again", lambda: cluster.listed(2) == "incarnation 2 dirty mail empty")
+    milliseconds_pass(8 * LOOP)
+    same("node 2 said", back.said()[1:], [])
+    same("node 2 runs", back.runs(), True)
+    cluster.only_ended(2)
+    same("node 1 said", cluster.nodes[0].said()[1:], ["start: ok"])
+
+
+def one_way(cluster):
+    """Node 2 does not hear the holder, and node 3 does not hear node 2: node 2 is reset, and the holder goes on."""
+    cluster.cut({(0, 1), (1, 2)})
+    cluster.is_reset(2)
     milliseconds_pass(4 * LOOP)
-    healed = cluster.heal()
-    same("holder", cluster.holder_within(healed), 1)
-    cluster.only_ended()
+    cluster.only_ended(2)
+    same("node 1 said", cluster.nodes[0].said()[1:], ["start: ok"])
 
 
 def exit_of_the_holder(cluster):
@@ -127,8 +150,20 @@ def milliseconds_pass(count):
     wait_for("so many milliseconds pass", lambda: milliseconds() >= end)
 
 
-SCENES = (holder_cut, other_cut, dark_for_two_seconds, dark_for_five_seconds, not_heard, deaf, holder_not_heard, holder_deaf,
+def booted_under_a_cut():
+    """Of three nodes that boot while node 1 hears nobody, another one holds within the bound, and nobody but node 1 is reset."""
+    cluster = CutCluster("booted-under-a-cut", 3, JOINED)
+    began = cluster.cut(cluster.of(1, out=False))
+    cluster.boot(number=5)
+    same("holder", cluster.holder_within(began), 2)
+    milliseconds_pass(4 * LOOP)
+    cluster.is_reset(1)
+    cluster.only_ended(1)
+    cluster.never_two_hold()
+
+
+SCENES = (holder_cut, other_cut, dark_for_two_seconds, dark_for_five_seconds, not_heard, deaf, holder_not_heard, holder_deaf, one_cable, one_way,
           exit_of_the_holder, greatest_number)
 tests = [test(scene.__name__, count, number, scene) for number, scene in enumerate(SCENES) for count in (3, 5)]
 tests += [test("holder_cut", 3, number, holder_cut) for number in (12, 14, 17)]
-try_all(*tests)
+try_all(*tests, booted_under_a_cut)
