@@ -10,9 +10,9 @@ if [ "$(dpkg --print-architecture)" != amd64 ]; then
     printf 'skipped: this machine is no amd64, so no package was built\n'
     exit 0
 fi
-# the builds that are packed are those of the repository
-built=$TOP/crates/quorumd/out/quorumd
-companion=$TOP/crates/quorumctl/out/quorumctl
+# the programs that are packed are those that are tried
+built=$QUORUMD
+companion=$QUORUMCTL
 
 mkdir one two
 package=$("$TOP/packaging/build-deb" one)
