@@ -5,7 +5,7 @@ import socket
 import threading
 import time
 
-from live import Cluster, same, try_all
+from live import Cluster, same, try_all, wait_for
 
 YES = b"QN\x05\x01"
 
@@ -26,24 +26,21 @@ class WithADevice(Cluster):
 
 
 def voted(name, is_quorate, before):
-    """A node that runs alone while such votes come, and whether it is quorate at its end."""
+    """A node that runs alone while such votes come, and whether it was ever quorate, some time after it saw that it is alone."""
     cluster = WithADevice(name)
     is_over, sender = threading.Event(), socket.socket(socket.AF_INET, socket.SOCK_DGRAM)
 
     def votes():
-        while not is_over.is_set():
+        while not is_over.wait(0.1):
             sender.sendto(YES, ("127.0.0.1", cluster.port))
-            time.sleep(0.02)
 
-    thread = threading.Thread(target=votes)
-    thread.start()
-    try:
-        node = cluster.node(1, before=before(cluster), turns=400)
-        status, line = node.end()
-    finally:
-        is_over.set()
-        thread.join()
-    same(name, (status, "quorate=yes" in line), (0, is_quorate))
+    threading.Thread(target=votes, daemon=True).start()
+    node = cluster.node(1, before=before(cluster))
+    wait_for("%s: a view" % name, lambda: node.events("view"))
+    time.sleep(3)
+    is_over.set()
+    same("runs: " + name, node.runs(), True)
+    same("quorate: " + name, bool(node.events("quorum-won")), is_quorate)
 
 
 def without_a_word():
