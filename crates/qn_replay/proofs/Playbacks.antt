@@ -63,7 +63,7 @@ module _ {Kept World Event Report Head : Type 0} (kind : EventWorld Kept World E
   module _ (old : Playback Kept Event Report Head) (world_new : Kept) (event : Event) (report : Report) where
     -- the playback after an event
     abbrev next : Playback Kept Event Report Head
-    next = record { world = world_new; event = event; report = report; head = old.head; events = old.events + 1; traced = old.traced }
+    next = record old { world = world_new; event = event; report = report; events = old.events + 1 }
 
     going_on : IsGoing (place_at kind old) → old.events < 200000 → kind.steps world_new + 1 ≡ kind.steps old.world → kind.time world_new ≤ kind.time old.world + 1000000000 → IsGoing (place_at kind next)
     going_on going few steps later =
