@@ -69,10 +69,10 @@ _quorumd_takes() {
         ;;
     quorumd-setup)
         operands=(file)
-        options=(--image/image/--image --key/file/--key --id/none/--id --watchdog/file/--watchdog --port/none/--port --create//--create)
+        options=(--image/image/--image '--key/file/--key --no-key' '--no-key//--no-key --key' --id/none/--id --watchdog/file/--watchdog --port/none/--port --create//--create)
         ;;
     quorumd-resource)
-        commands=(run stop status check maintenance)
+        commands=(run status check move maintenance)
         ;;
     'quorumd-resource maintenance')
         operands=('words on off')

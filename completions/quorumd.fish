@@ -51,9 +51,9 @@ function __quorumd_takes
             set -g __quorumd_operands 'file*'
         case quorumd-setup
             set -g __quorumd_operands file
-            set -g __quorumd_options '--image/image/--image/IMAGE[,IMAGE,IMAGE]' --key/file/--key/FILE --id/none/--id/N --watchdog/file/--watchdog/DEVICE --port/none/--port/Q --create//--create/
+            set -g __quorumd_options '--image/image/--image/IMAGE[,IMAGE,IMAGE]' '--key/file/--key --no-key/FILE' '--no-key//--no-key --key/' --id/none/--id/N --watchdog/file/--watchdog/DEVICE --port/none/--port/Q --create//--create/
         case quorumd-resource
-            set -g __quorumd_commands 'run	starts all resources of this host, and monitors them' 'stop	stops all resources of this host' 'status	what each monitor says' 'check	whether the file of the resources is well-formed' 'maintenance	on: nothing is started again or handed over'
+            set -g __quorumd_commands 'run	looks after the resources of this host, for systemd' 'status	how the resources stand' 'check	whether the file of the resources is well-formed' 'move	moves the resources to another node' 'maintenance	on: nothing is started, and no failure counts'
         case 'quorumd-resource maintenance'
             set -g __quorumd_operands 'words on off'
         case story

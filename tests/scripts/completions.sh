@@ -171,7 +171,7 @@ quorumctl ;> settings timing check list wait status history
 quorumctl status --json --;> --image
 quorumctl status files/;> disk disk.old folder other
 quorumd-setup files/other --key files/other --;> --image --id --watchdog --port --create
-quorumd-resource ;> run stop status check maintenance
+quorumd-resource ;> run status check move maintenance
 quorumd-resource maintenance ;> on off
 /usr/share/quorumd/bin/story --;> --keep
 timeline --journal --;> --title

@@ -173,6 +173,22 @@ three=nbd:unix:/run/socket,long@4096,etcd:127.0.0.1:2379/prefix,none
 sleep 2 &
 PATH=$PWD/served:$PATH MAINPID=$! RESOURCE=file COMMAND=node3 IMAGE=$three "$TOP/packaging/node-leave" 2
 same "$(sed 's/^message --image \(.*\) --id 2 --kind exit$/\1/' asked | xargs)" 'nbd:unix:/run/socket long@4096 etcd:127.0.0.1:2379/prefix'
+# a node that does not leave is waited for as long as its resources stop, and then for a while
+sleep 30 &
+kept=$!
+leaves() {
+    PATIENCE=5 PATH=$PWD/served:$PATH MAINPID=$kept RESOURCE=file IMAGE=long "$TOP/packaging/node-leave" 2 2> errors
+}
+if leaves; then echo 'a node that stays has left'; exit 1; fi
+same "$(cat errors)" 'node 2 does not leave: '
+echo '{"state": "stopping"}' > run/resource.json
+(sleep 3; echo '{"state": "stuck"}' > run/resource.json) &
+SECONDS=0
+if leaves; then echo 'a node that stays has left'; exit 1; fi
+[ "$SECONDS" -ge 3 ]
+same "$(cat errors)" 'node 2 does not leave: {"state": "stuck"}'
+kill "$kept"
+rm run/resource.json
 for image in nbd:192.0.2.1:10809 etcd:127.0.0.1:2379/prefix long@4096; do
     PATH=$PWD/served:$PATH MAIL=empty IMAGE=$image ended exited/0 'start --no-block quorumd@2.service' $'left clean\n'
     PATH=$PWD/served:$PATH MAIL=exit IMAGE=$image ended exited/0 '' $'left clean\n'

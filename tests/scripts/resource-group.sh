@@ -1,32 +1,20 @@
-# quorumd-resource without root, systemd and agents of others: its resources are files, which an agent of this script makes and removes, and
-# what it says is compared. A systemctl is played.
+# quorumd-resource without root, systemd and agents of others: what it says of the file of its resources, and of words. A systemctl is played. What the
+# supervisor does is in resource-supervisor.py.
 . "$TOP/tests/expect.sh"
 
 program=$TOP/contrib/quorumd-resource
 mkdir -p ocf/resource.d/t run calls
-cat > ocf/resource.d/t/File << 'END'
-#!/bin/sh
-f=$OCF_RESKEY_file
-case $1 in
-start) [ "${OCF_RESKEY_start-0}" = 0 ] || exit "$OCF_RESKEY_start"; [ -n "${OCF_RESKEY_empty-}" ] || touch "$f" ;;
-stop) [ "${OCF_RESKEY_stop-0}" = 0 ] || exit "$OCF_RESKEY_stop"; [ -n "${OCF_RESKEY_stays-}" ] || rm -f "$f" ;;
-monitor) [ -z "${OCF_RESKEY_slow-}" ] || sleep "$OCF_RESKEY_slow"; [ -e "$f" ] || exit 7 ;;
-validate-all) exit "${OCF_RESKEY_validate-0}" ;;
-*) exit 3 ;;
-esac
-END
+printf '#!/bin/sh\nexit "${OCF_RESKEY_validate-0}"\n' > ocf/resource.d/t/File
 cat > calls/systemctl << 'END'
 #!/bin/sh
 echo "$*" >> "$CALLS"
 case $* in
-is-system-running) echo running ;;
-*'-p ActiveState'*) printf 'ActiveState=%s\nControlGroup=\nJob=%s\n' "${STATE-inactive}" "${JOB-}" ;;
 *'-P LoadState'*) echo "${LOADED-loaded}" ;;
 is-enabled*) echo "${ENABLED-disabled}" ;;
 esac
 END
 chmod 755 ocf/resource.d/t/File calls/systemctl
-export OCF_ROOT=$PWD/ocf QUORUMD_RESOURCES=$PWD/conf QUORUMD_RUN=$PWD/run PATH=$PWD/calls:$PATH CALLS=$PWD/called
+export QUORUMD_AGENT_ENV=$PWD/agent.env OCF_ROOT=$PWD/ocf QUORUMD_RESOURCES=$PWD/conf QUORUMD_RUN=$PWD/run PATH=$PWD/calls:$PATH CALLS=$PWD/called
 
 # said STATUS 'TEXT' 'FILE' WORD..: the file, what comes on both outputs for these words, and the status
 said() {
@@ -44,7 +32,6 @@ unit='[u]\nagent = systemd:x.service\n'
 # a file at fault
 rm -f conf
 same "$("$program" check 2>&1; echo $?)" "quorumd-resource: $PWD/conf: No such file or directory"$'\n1'
-same "$("$program" run 2>&1; echo $?)" "quorumd-resource: $PWD/conf: No such file or directory"$'\n1'
 said 1 'quorumd-resource: HERE/conf names no resource' '' check
 said 1 'quorumd-resource: a: agent = ' '[a]\n' check
 said 1 'quorumd-resource: a: agent = lsb:x' '[a]\nagent = lsb:x\n' check
@@ -65,64 +52,30 @@ said 1 $'quorumd-resource: File contains no section headers.\nfile: \'HERE/conf\
 said 0 '' "$a$b$unit" check
 LOADED=not-found said 1 'quorumd-resource: u: no unit x.service' "$unit" check
 ENABLED=enabled said 1 'quorumd-resource: u: x.service is enabled: a boot would start it' "$unit" check
-said 0 'a: validate-all says 5' "${a}validate = 5\n" check
+said 1 'quorumd-resource: a: validate-all says 5' "${a}validate = 5\n" check
+said 0 '' "${a}validate = 3\n" check
+said 1 'quorumd-resource: a b is no name of a resource: letters, digits and _ . @ : + -' '[a b]\n' check
+many=$(printf '[u%s]\\nagent = systemd:x.service\\n' $(seq 17))
+said 1 'quorumd-resource: HERE/conf: u17 is one resource too many: a group has at most 16' "$many" check
+# one unit in the place of the file
+echo 'AGENT=service x.service' > agent.env
+ENABLED=enabled said 1 'quorumd-resource: x.service: x.service is enabled: a boot would start it' '' check
+echo 'AGENT=service' > agent.env
+said 1 'quorumd-resource: HERE/agent.env: AGENT=service is neither `group` nor `service UNIT`' '' check
+echo 'AGENT=group' > agent.env
 
-# what each monitor says, and a stop in reverse
-touch fa fb
-said 0 $'a running\nb running' "$a$b" status
-said 0 $'b: stop\nb: stopped\na: stop\na: stopped' "$a$b" stop
-said 0 '' "$a$b" stop
-said 0 $'a stopped\nb stopped' "$a$b" status
+# without a supervisor
+said 1 'nothing looks after the resources: systemctl status quorumd-resource.service' "$a" status
+said 1 'quorumd-resource: the supervisor does not answer (No such file or directory): systemctl status quorumd-resource.service' "$a" move
 said 0 '' "$a" maintenance on
-said 0 $'a stopped\nmaintenance' "$a" status
+[ -e run/maintenance ]
+said 1 'quorumd-resource: not moved: maintenance is on' "$a" move
 said 0 '' "$a" maintenance off
-said 0 'a stopped' "$a" status
+[ ! -e run/maintenance ]
 
-# a unit: a start that waits for another unit is no stop
-said 0 'u stopped' "$unit" status
-STATE=active said 0 'u running' "$unit" status
-STATE=failed said 0 'u stopped' "$unit" status
-STATE=deactivating said 0 'u unknown' "$unit" status
-JOB=7 said 0 'u unknown' "$unit" status
-JOB=7 said 1 $'u: stop\nu: DID NOT STOP' "$unit" stop
-
-# a later one that does not stop leaves the earlier one alone
-touch fa fb
-said 1 $'b: stop\nb: DID NOT STOP' "$a${b}stays = 1\n" stop
-[ -e fa ] || { echo 'a was stopped under b'; exit 1; }
-said 1 $'b: stop\nb: stop ended with 1\nb: DID NOT STOP' "$a${b}stop = 1\n" stop
-# a monitor that does not answer is no "stopped"
-rm -f fa fb
-said 1 $'a: monitor did not end within 1 seconds\na: monitor ended with 124\na: stop\na: monitor did not end within 1 seconds\na: monitor ended with 124\na: DID NOT STOP' \
-    "${a}slow = 3\nmonitor-timeout = 1\n" stop
-
-# starts that fail: at once where a second try is in vain, else after the limit; a start that leaves nothing has failed
-said 1 $'a: start\na: start ended with 5\nquorumd-resource: a: start ended with 5' "${a}start = 5\n" run
-said 1 $'a: start\na: start ended with 1\na: start\na: start ended with 1\na: failed 2 times\nquorumd-resource: a: failed 2 times' \
-    "${a}start = 1\nrestart-limit = 1\n" run
-said 1 $'a: start\na: started, and its monitor says stopped\na: failed 1 times\nquorumd-resource: a: failed 1 times' "${a}empty = 1\nrestart-limit = 0\n" run
-
-# one that ends is started again; what was started is stopped, also where the file does not name it any more
-rm -f run/*
-printf "$a${b}monitor-interval = 1\n" > conf
-"$program" run > log 2>&1 &
-runner=$!
-for line in 'b: runs' 'b: FAILED: stopped' 'b: runs'; do
-    for _ in $(seq 100); do
-        ! grep -q "^$line$" log || break
-        sleep 0.1
-    done
-    grep -q "^$line$" log || { cat log; exit 1; }
-    [ "$line" != 'b: runs' ] || { rm -f fb; : > log; }
-done
-kill "$runner"
-wait "$runner"
-touch fb
-said 0 $'b: stop\nb: stopped\na: stop\na: stopped' "$a" stop
-[ ! -e run/resources.conf ] || { echo 'the copy stays'; exit 1; }
 
 # words that are none
-for words in '' other 'maintenance' 'maintenance maybe' 'run now'; do
+for words in '' other 'maintenance' 'maintenance maybe' 'run now' stop; do
     # shellcheck disable=SC2086
     status=0; "$program" $words > got 2> errors || status=$?
     same "$words: $status" "$words: 2"

@@ -8,7 +8,16 @@ ln -s "$QUORUMCTL" calls/quorumctl
 printf '#!/bin/sh\nexit 0\n' > calls/systemctl
 printf '#!/bin/sh\necho beta\n' > calls/hostname
 printf '#!/bin/sh\necho "2: eth0 inet 192.0.2.1/24 brd 192.0.2.255"\n' > calls/ip
-chmod 755 calls/systemctl calls/hostname calls/ip
+cat > calls/getent << 'END'
+#!/bin/sh
+case $2 in
+beta.example) echo '127.0.1.1 STREAM beta.example'; echo '192.0.2.8 STREAM' ;;
+gamma.example) echo '192.0.2.9 STREAM gamma.example' ;;
+lone.example) echo '127.0.1.1 STREAM lone.example' ;;
+*) exit 2 ;;
+esac
+END
+chmod 755 calls/systemctl calls/hostname calls/ip calls/getent
 export PATH=$PWD/calls:$PATH QUORUMD_ETC=$PWD/etc QUORUMD_HELPERS=$TOP/packaging
 cp "$TOP/packaging/node.env" etc/quorumd/
 node() {
@@ -17,6 +26,7 @@ node() {
 { echo 'nodelist {'; node 1 alpha 192.0.2.7; node 2 beta 192.0.2.8; node 3 gamma 192.0.2.9; echo '}'; } > three.conf
 { echo 'nodelist {'; node 1 alpha 192.0.2.1; node 2 beta 192.0.2.8; echo '}'; } > both.conf
 { echo 'nodelist {'; node 1 alpha 192.0.2.7; echo '}'; } > none.conf
+(umask 077; head -c 32 /dev/zero > key)
 
 # setup STATUS 'LAST LINE' WORD..: what it answers; the last line is of both outputs
 setup() {
@@ -29,7 +39,7 @@ setup() {
 written() {
     (cd etc && find . -type f | sort | xargs)
 }
-usage='usage: quorumd-setup CONF --image IMAGE[,IMAGE,IMAGE] [--key FILE] [--id N] [--watchdog DEVICE] [--port Q] [--create]'
+usage='usage: quorumd-setup CONF --image IMAGE[,IMAGE,IMAGE] [--key FILE | --no-key] [--id N] [--watchdog DEVICE] [--port Q] [--create]'
 disk=$PWD/disk
 
 # words
@@ -37,7 +47,8 @@ setup 2 "$usage"
 same "$(head -n 1 said)" 'quorumd-setup: no corosync.conf'
 for words in three.conf '--image /d' 'three.conf --image' 'three.conf --image d' 'three.conf --image /d,/e' 'three.conf --image /d,/e,/f,/g' 'three.conf --image /d,,/f' \
     'three.conf --image /d --id 0' 'three.conf --image /d --id x' 'three.conf --image /d --id 99999999999' 'three.conf --image /d --port 80' \
-    'three.conf --image /d --watchdog dog' 'three.conf --image /d;e' 'three.conf --image nbd:' 'three.conf --image /d,nbd:x,e' 'three.conf --image ftp:x' 'three.conf --image /d --watchdog nbd:x' 'three.conf --image /d other' 'three.conf --image /d --id'; do
+    'three.conf --image /d --watchdog dog' 'three.conf --image /d;e' 'three.conf --image nbd:' 'three.conf --image /d,nbd:x,e' 'three.conf --image ftp:x' 'three.conf --image /d --watchdog nbd:x' 'three.conf --image /d other' 'three.conf --image /d --id' \
+    'three.conf --image /d --key k --no-key'; do
     # shellcheck disable=SC2086
     setup 2 "$usage" $words
 done
@@ -49,30 +60,53 @@ for conf in absent.conf etc; do
 done
 echo 'nodelist {' > wrong.conf
 setup 1 "$("$QUORUMCTL" settings < wrong.conf | sed '1s/^/quorumd-setup: wrong.conf: /' | tail -n 1)" wrong.conf --image "$disk"
-setup 1 'quorumd-setup: none.conf has not one node with a name or an address of this host: say --id N' none.conf --image "$disk"
-setup 1 'quorumd-setup: both.conf has not one node with a name or an address of this host: say --id N' both.conf --image "$disk"
-setup 1 'quorumd-setup: three.conf has no node 4' three.conf --image "$disk" --id 4
+# another host, and no key; a cluster on one host has none
+setup 1 'quorumd-setup: alpha is another host, and no key seals what is said to it: --key FILE, or --create makes one' three.conf --image "$disk"
+setup 1 'quorumd-setup: alpha is another host: --no-key is for a cluster on one host' three.conf --image "$disk" --no-key
+printf 'nodelist {\n node {\n  nodeid: 1\n }\n node {\n  nodeid: 2\n  name: beta\n }\n}\n' > here.conf
+setup 1 'quorumd-setup: etcd:192.0.2.7:2379/q is another host: --no-key is for a cluster on one host' here.conf --image etcd:192.0.2.7:2379/q --no-key
+setup 1 'quorumd-setup: nbd:192.0.2.7:10809 is another host, and no node has an address: each wants its ring0_addr' here.conf --image nbd:192.0.2.7:10809
+setup 1 'quorumd-setup: HERE/disk is not there: --create on one host makes it' here.conf --image "$disk"
+# the id of this host
+setup 1 'quorumd-setup: none.conf has not one node with a name or an address of this host: say --id N' none.conf --image "$disk" --key key
+setup 1 'quorumd-setup: both.conf has not one node with a name or an address of this host: say --id N' both.conf --image "$disk" --key key
+setup 1 'quorumd-setup: three.conf has no node 4' three.conf --image "$disk" --id 4 --key key
+# names of hosts
+named() {
+    printf 'nodelist {\n node {\n  nodeid: 1\n  ring0_addr: 192.0.2.7\n }\n node {\n  nodeid: 2\n  ring0_addr: %s\n }\n node {\n  nodeid: 3\n  name: third\n  ring0_addr: gamma.example\n }\n}\n' "$1"
+}
+for name in absent lone; do
+    named "$name.example" > named.conf
+    setup 1 "quorumd-setup: named.conf: $name.example has no address that other hosts reach: getent ahosts $name.example" named.conf --image "$disk" --key key
+done
 # the image
-setup 1 'quorumd-setup: HERE/disk is not there: --create on one host makes it' three.conf --image "$disk"
+setup 1 'quorumd-setup: HERE/disk is not there: --create on one host makes it' three.conf --image "$disk" --key key
 [ ! -e disk ]
 printf 'important' > disk
-setup 1 'quorumd-setup: HERE/disk is no image of three.conf: another path, or all nodes off and the file away' three.conf --image "$disk" --create
+setup 1 'quorumd-setup: HERE/disk is no image of three.conf: another path, or all nodes off and the file away' three.conf --image "$disk" --create --key key
 same "$(cat disk)" important
 rm disk
+# a server that is off
+setup 1 'quorumd-setup: nbd:127.0.0.1:9: Connection refused: start the server. Nothing was changed' three.conf --image nbd:127.0.0.1:9 --create
 same "$(written)" './quorumd/node.env'
 
-# a host of its own name, a second time, and the host of another node
+# a host of its own name, with a key that is made; a second time, and the host of another node
 setup 0 'node 2 of three.conf is set up: systemctl enable --now quorumd@2.service' three.conf --image "$disk" --create
-same "$(written)" './quorumd/corosync.conf ./quorumd/node-2.env ./quorumd/node.env ./systemd/system/quorumd@2.service.d/setup.conf'
+grep -q "^a key was made: copy $PWD/etc/quorumd/key to the other hosts" said
+grep -q "^the text is $(sha256sum < three.conf | cut -c 1-16): the same on each host" said
+same "$(stat -c '%a %s' etc/quorumd/key)" '600 32'
+same "$(written)" './quorumd/corosync.conf ./quorumd/key ./quorumd/node-2.env ./quorumd/node.env ./systemd/system/quorumd@2.service.d/setup.conf'
 cmp three.conf etc/quorumd/corosync.conf
+edge='--links /etc/quorumd/corosync.conf --key /etc/quorumd/key'
 same "$(grep -v -e '^#' -e '^$' etc/quorumd/node-2.env | xargs)" \
-    "EDGE= COMMAND=node IMAGE=$disk WATCHDOG=/dev/watchdog RESOURCE=unix:/run/quorumd/agent.sock PORT=7400 LEAVE=970000000 OPTIONS="
+    "EDGE=$edge COMMAND=node IMAGE=$disk WATCHDOG=/dev/watchdog RESOURCE=unix:/run/quorumd/agent.sock PORT=7400 LEAVE=970000000 OPTIONS="
 same "$(grep -v '^#' 'etc/systemd/system/quorumd@2.service.d/setup.conf' | xargs)" "[Unit] RequiresMountsFor=$PWD"
 same "$("$QUORUMCTL" list --image disk | wc -l)" 3
 "$QUORUMD" message --image disk --id 2 --kind test > sent
 setup 0 'node 2 of three.conf is set up: systemctl enable --now quorumd@2.service' three.conf --image "$disk" --create
 "$QUORUMCTL" list --image disk | grep -q '^node 2 .* mail test'
 setup 1 'quorumd-setup: HERE/etc/quorumd/node-2.env is there and says something else: look at it, and remove it' three.conf --image "$disk" --port 7500
+setup 1 'quorumd-setup: HERE/etc/quorumd/key is there and says something else: look at it, and remove it' three.conf --image "$disk" --key key
 setup 0 'node 1 of three.conf is set up: systemctl enable --now quorumd@1.service' three.conf --image "$disk" --id 1
 # another text: its image does not fit, and the old text stays
 "$QUORUMD" create --image two < both.conf > sent
@@ -80,9 +114,23 @@ setup 1 'quorumd-setup: HERE/etc/quorumd/corosync.conf is there and says somethi
 cmp three.conf etc/quorumd/corosync.conf
 setup 1 'quorumd-setup: HERE/two is no image of three.conf: another path, or all nodes off and the file away' three.conf --image "$PWD/two" --id 3
 [ ! -e etc/quorumd/node-3.env ]
+rm -r etc/quorumd/corosync.conf etc/quorumd/key
+
+# names of hosts become addresses, and names of their nodes
+named beta.example > named.conf
+rm -r etc/quorumd/node-2.env
+setup 0 'node 2 of named.conf is set up: systemctl enable --now quorumd@2.service' named.conf --image "$PWD/image" --id 2 --create --key key
+same "$(sed -n 's/^ *\(ring0_addr\|name\): //p' etc/quorumd/corosync.conf | xargs)" '192.0.2.7 192.0.2.8 beta.example third 192.0.2.9'
+grep -q "^the text is $(sha256sum < etc/quorumd/corosync.conf | cut -c 1-16): the same on each host" said
+rm -r etc/quorumd/corosync.conf etc/quorumd/key etc/quorumd/node-2.env etc/systemd
+# all nodes on one host
+setup 0 'node 2 of here.conf is set up: systemctl enable --now quorumd@2.service' here.conf --image "$PWD/own" --create
+same "$(grep ^EDGE etc/quorumd/node-2.env) $(written)" 'EDGE= ./quorumd/corosync.conf ./quorumd/node-1.env ./quorumd/node-2.env ./quorumd/node.env ./systemd/system/quorumd@2.service.d/setup.conf'
+rm -r etc/quorumd/corosync.conf etc/quorumd/node-2.env etc/systemd
 
 # a key, which only its owner may read, and addresses
 setup 1 'quorumd-setup: absent is no file: a key is made by: (umask 077; head -c 32 /dev/urandom > key)' three.conf --image "$disk" --id 3 --key absent
+rm key
 (umask 077; head -c 31 /dev/zero > key)
 setup 1 'quorumd-setup: key: 31 bytes, a key has 32 to 4096' three.conf --image "$disk" --id 3 --key key
 head -c 32 /dev/zero > key
@@ -105,7 +153,7 @@ PATH=$PWD/played:$PATH setup 0 'node 1 of three.conf is set up: systemctl enable
 same "$(grep -v '^#' 'etc/systemd/system/quorumd@1.service.d/setup.conf' | xargs)" '[Unit] [Service] ProcSubset=all'
 
 # three images, of which two are there, and a device
-rm -r etc/quorumd/node-2.env etc/systemd
+rm -r etc/systemd
 "$QUORUMD" create --image e < three.conf > sent
 setup 0 'node 2 of three.conf is set up: systemctl enable --now quorumd@2.service' three.conf --image "$disk,$PWD/e,$PWD/f" --create --watchdog /dev/watchdog1 --port 7600
 same "$(grep -e ^COMMAND -e ^IMAGE -e ^WATCHDOG -e ^PORT etc/quorumd/node-2.env | xargs)" "COMMAND=node3 IMAGE=$disk,$PWD/e,$PWD/f WATCHDOG=/dev/watchdog1 PORT=7600"

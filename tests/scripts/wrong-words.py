@@ -28,7 +28,7 @@ ROWS = {
     "bench/gate": "- - help - - - - -",
     "completions/make": "- 2 help 2 0 2 2 2",
     "contrib/quorumd-agent": "2 2 2 2 2 2 2 2",
-    "contrib/hand-over": "- 2 2 2 2 2 2 2",
+    "contrib/hand-over": "2 2 2 2 2 2 2 2",
     "contrib/quorumd-resource": "2 2 help 2 2 2 2 2",
     "examples/live/audit": FOLDER,
     "examples/live/check": "2 2 help 2 2 0 text 2",
