@@ -1,6 +1,6 @@
 # The scenes. Each is a function that fails where something else came than should. Sourced by `containers`.
 all_scenes='clean_stop exit_message off_message reboot_of_holder poweroff_of_holder kill_node hang_node no_image other_image slow_stop stuck_stop
-by_hand supervisor_dies stop_while_starting edited start_mode resource_dies start_fails maintenance planned_handover third_handover turns_used renewed three_images confined
+by_hand supervisor_dies supervisor_hangs reexecuted reloaded slow_start quorum_back all_off isolated moves stop_while_starting edited start_mode resource_dies start_fails maintenance planned_handover third_handover turns_used renewed three_images confined
 postgres pgsql upgrade purge pages setup page_device page_servers page_etcd'
 
 # begun [HOST]: the cluster is up and this host holds
@@ -164,30 +164,141 @@ scene_resource_dies() {
     done
     kill_database
     until_true 30 another_owns 1 || return 1
-    said 1 'database: failed 4 times' -u quorumd-resource.service || return 1
+    said 1 'this node is to leave (database' -u quorumd-resource.service || return 1
     said 1 'hands over' -u quorumd-handover.service || return 1
     until_true 60 unit_is 1 active || return 1
     sleep 5
     until_true 3 another_owns 1 && not_reset 1
 }
 
-# A start of the resources by hand, beside their owner, is refused; and so is a second node of one host.
+# The supervisor of a standby starts nothing, is not stopped by hand, and a move is refused there; nor is a second node of one host started.
 scene_by_hand() {
     begun || return 1
-    on 2 systemctl start quorumd-resource.service && return 1
+    on 2 systemctl start quorumd-resource.service || return 1
+    on 2 systemctl stop quorumd-resource.service && return 1
+    on 2 systemctl start quorumd-move.service && return 1
+    said 2 'this node does not hold them' -u quorumd-move.service || return 1
     cp "$room/host2/etc/quorumd/node-2.env" "$room/host2/etc/quorumd/node-3.env"
     on 2 systemctl start quorumd@3.service && return 1
     said 2 'is a node of this host' || return 1
     owns 1 && unit_is 2 active && not_reset 2
 }
 
-# Where the process that looks after the resources dies they are stopped, and handed over.
+# database N: the number of the process of the database of host N
+database() { on "$1" systemctl show -P MainPID database.service; }
+
+# is_as_before PID: host 1 holds, and its database is the process of before
+is_as_before() { owns 1 && [ "$(database 1)" = "$1" ] && not_reset 1; }
+
+# Where the process that looks after the resources dies they go on, and the next one looks after them.
 scene_supervisor_dies() {
+    local pid
     begun || return 1
+    pid=$(database 1)
     on 1 systemctl kill --kill-whom=main -s KILL quorumd-resource.service
-    until_true 30 another_owns 1 || return 1
-    until_true 60 unit_is 1 active || return 1
-    not_reset 1
+    sleep 10
+    is_as_before "$pid" || return 1
+    on 1 systemctl kill --kill-whom=main -s KILL quorumd-resource.service
+    kill_database
+    until_true 30 again "$pid" && not_reset 1
+}
+
+# One that hangs is ended by systemd, and the next one looks after what runs.
+scene_supervisor_hangs() {
+    local pid
+    begun || return 1
+    pid=$(database 1)
+    on 1 systemctl kill --kill-whom=main -s STOP quorumd-resource.service
+    sleep 45
+    is_as_before "$pid" || return 1
+    on 1 cat /run/quorumd/resource.json | grep '"state": "runs"' || return 1
+    kill_database
+    until_true 25 again "$pid" && not_reset 1
+}
+
+# systemd that is executed again, and a unit that is reloaded, under a monitor: nothing is started again.
+scene_reexecuted() {
+    local pid
+    begun || return 1
+    pid=$(database 1)
+    for _ in 1 2 3 4 5 6 7 8; do
+        on 1 systemctl daemon-reexec
+        sleep 5
+    done
+    is_as_before "$pid"
+}
+
+scene_reloaded() {
+    local pid
+    printf '[Service]\nExecReload=/bin/sleep 1\n' | on_disk reload.conf
+    begun || return 1
+    pid=$(database 1)
+    for _ in 1 2 3 4 5 6 7 8; do
+        on 1 systemctl reload database.service
+        sleep 2
+    done
+    is_as_before "$pid"
+}
+
+# on_disk NAME: standard input is a drop-in of the database's unit on each host
+on_disk() {
+    local n text
+    text=$(cat)
+    for n in 1 2 3; do
+        mkdir -p "$room/host$n/etc/systemd/system/database.service.d"
+        printf '%s\n' "$text" > "$room/host$n/etc/systemd/system/database.service.d/$1"
+    done
+}
+
+# A start of 75 seconds, on every host: systemd judges how long a start may take.
+scene_slow_start() {
+    printf '[Service]\nTimeoutStartSec=0\nExecStartPre=/bin/sh -c "[ ! -e /srv/cluster/slow ] || sleep 75"\n' | on_disk slow.conf
+    FIRMWARE=22 begun || return 1
+    touch "$shared/slow"
+    on 1 systemctl kill --kill-whom=main -s KILL quorumd@1.service
+    until_true 5 nobody_owns || return 1
+    until_true 150 another_owns 1
+}
+
+# The quorum is lost while both standbys are reset, and is back before the database, which takes twelve seconds to stop, is down: the holder goes on.
+scene_quorum_back() {
+    local n
+    printf '[Service]\nExecStop=/bin/sleep 12\nTimeoutStopSec=90\n' | on_disk slow.conf
+    FIRMWARE=4 begun || return 1
+    for n in 2 3; do on "$n" systemctl kill --kill-whom=main -s KILL "quorumd@$n.service" & done
+    sleep 50
+    until_true 40 owner && not_reset 1
+}
+
+# All hosts are switched off at once, with a database that takes twelve seconds to stop: in order, and they stay off.
+scene_all_off() {
+    local n
+    printf '[Service]\nExecStop=/bin/sleep 12\nTimeoutStopSec=90\n' | on_disk slow.conf
+    FIRMWARE=25 begun || return 1
+    for n in 1 2 3; do on "$n" systemctl poweroff & done
+    for n in 1 2 3; do until_true 90 is_off "$n" || return 1; done
+    for n in 1 2 3; do not_reset "$n" || return 1; done
+}
+
+# The holder goes to rescue.target: another host takes over, and this one is not reset.
+scene_isolated() {
+    FIRMWARE=30 begun || return 1
+    on 1 systemctl isolate --no-block rescue.target
+    until_true 30 another_owns 1 && not_reset 1
+}
+
+# An operator moves the resources five times: no node is switched off by it.
+scene_moves() {
+    local who round
+    begun || return 1
+    for round in 1 2 3 4 5; do
+        who=$(owner) || return 1
+        on "$who" systemctl start --no-block quorumd-move.service
+        until_true 30 another_owns "$who" || return 1
+        until_true 60 unit_is "$who" active || return 1
+        sleep 3
+    done
+    for who in 1 2 3; do not_reset "$who" || return 1; done
 }
 
 # A stop while a resource still waits for its start: it is called off, and does not come later.
@@ -246,14 +357,14 @@ scene_maintenance() {
     until_true 5 owns 1 || return 1
     on 1 systemctl stop database.service
     on 1 quorumd-resource maintenance off || return 1
-    until_true 10 owns 1 || return 1
+    until_true 25 owns 1 || return 1
     not_reset 1
 }
 
 # An operator moves the resources.
 scene_planned_handover() {
     begun || return 1
-    on 1 systemctl start --no-block quorumd-handover.service || return 1
+    on 1 systemctl start --no-block quorumd-move.service || return 1
     until_true 20 another_owns 1 || return 1
     until_true 60 unit_is 1 active || return 1
     sleep 5
