@@ -121,7 +121,7 @@ class Action:
     """A process that is under way for a resource. Of an agent's start it is noted, before it begins, which session it is."""
 
     def __init__(self, resource, verb):
-        self.resource, self.verb, self.begun, self.is_late = resource, verb, now(), False
+        self.resource, self.verb, self.begun, self.is_late, self.is_killed = resource, verb, now(), False, False
         seconds = resource.seconds(verb)
         self.end = self.begun + 1000 * seconds if seconds else None
         self.is_noted = verb == "start" and resource.kind == "agent"
@@ -136,6 +136,7 @@ class Action:
             file.write("%d %d\n" % (os.getpid(), resources.session_of(os.getpid())[1]))
 
     def kill(self):
+        self.is_killed = True
         resources.end_session(self.child.pid)
 
     def outcome(self):
@@ -155,7 +156,7 @@ class Action:
 class Failed:
     """A process that could not be begun."""
 
-    is_late, end, begun = False, None, 0
+    is_late, is_killed, end, begun = False, False, None, 0
 
     def __init__(self, resource, verb):
         self.resource, self.verb = resource, verb
@@ -336,6 +337,8 @@ class Supervisor:
             name, verb = self.resources[at].name, action.verb
             if action.is_late:
                 say(4, "%s: %s did not end within %d s" % (name, verb, (action.end - action.begun) // 1000))
+            elif action.is_killed:
+                say(5, "%s: %s is called off" % (name, verb))
             elif outcome not in (OK, NOT_RUNNING) or verb == "stop":
                 say(5 if outcome == OK else 4, "%s: %s says %s after %.1f s" % (name, verb, outcome, (now() - action.begun) / 1000))
             self.event("ended %d %s %s" % (at, verb, outcome), "%s says %s" % (verb, outcome))

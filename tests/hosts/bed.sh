@@ -162,7 +162,7 @@ look() {
             signs=
             ! ip -o address show | grep -q " 192\.0\.2\.100/" || signs=$signs,address
             ! grep -qE "^[^ ]+ (/srv/db|/var/lib/postgresql) " /proc/mounts || signs=$signs,store
-            ! pgrep -f "^(/usr/bin/python3 /usr/local/bin/database|.*bin/postgres -D)" > /dev/null || signs=$signs,database
+            ! pgrep -f "^(/usr/bin/python3 /usr/local/bin/database|.*[b]in/postgres -D)" > /dev/null || signs=$signs,database
             echo "${signs:--}"
             sleep 0.15
         done' 2> /dev/null | while read -r signs; do
