@@ -37,12 +37,13 @@ diff -r before/simulator clone/simulator
 # a change is taken back, with a file that is new and without one that is gone; what rt kept stays, here it is not taken
 mkdir copy/crates/qn_judge/out
 touch copy/crates/qn_judge/out/kept copy/crates/qn_judge/src/new.rt
-rm copy/crates/qn_judge/src/waits.rt
+gone=$(cd copy/crates/qn_judge && find src -name '*.rt' -not -name new.rt | LC_ALL=C sort | head -n 1)
+rm "copy/crates/qn_judge/$gone"
 ended 1 clone/simulator/into copy
 [ -f copy/crates/qn_judge/src/new.rt ]
 clone/simulator/from copy
 [ -f clone/simulator/qn_judge/src/new.rt.txt ]
-[ ! -e clone/simulator/qn_judge/src/waits.rt.txt ]
+[ ! -e "clone/simulator/qn_judge/$gone.txt" ]
 [ ! -e clone/simulator/qn_judge/out ]
 
 # brought up to date
