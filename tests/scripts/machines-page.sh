@@ -60,7 +60,7 @@ for address in ${image//,/ }; do
     done
 done
 block 'run setup' | sed "s|/root/|$PWD/|g" > setup.sh
-same "$(bash -eu setup.sh 2>&1)" "node 1 of $PWD/corosync.conf is set up: systemctl enable --now quorumd@1.service"
+same "$(bash -eu setup.sh 2> said | tail -n 1)" "node 1 of $PWD/corosync.conf is set up: systemctl enable --now quorumd@1.service"
 same "$(grep -e ^COMMAND -e ^IMAGE -e ^EDGE etc/quorumd/node-1.env)" "EDGE=--links /etc/quorumd/corosync.conf --key /etc/quorumd/key
 COMMAND=node3
 IMAGE=$image"
@@ -70,5 +70,5 @@ done
 # the other machines say the same without --create, and nothing is made anew
 sed -i 's/ --create//; s/ --key/ --id 2 --key/' setup.sh
 quorumd message --image "${image%%,*}" --id 3 --kind test > said
-same "$(bash -eu setup.sh 2>&1)" "node 2 of $PWD/corosync.conf is set up: systemctl enable --now quorumd@2.service"
+same "$(bash -eu setup.sh 2> said | tail -n 1)" "node 2 of $PWD/corosync.conf is set up: systemctl enable --now quorumd@2.service"
 same "$(quorumctl list --image "${image%%,*}" | tail -n 1)" 'node 3 incarnation 0 clean mail test'

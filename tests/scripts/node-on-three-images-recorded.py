@@ -89,7 +89,7 @@ class Three:
 
 # records of a node on one image, as three that tell the same, and as three of which one is lost
 whole = 0
-for case in sorted((TOP / "tests" / "cases" / "audit").iterdir()):
+for case in sorted(path for path in (TOP / "tests" / "cases" / "audit").iterdir() if path.is_dir()):
     words = (case / "args").read_text().split("\n")[1:-1]
     head, _, log = (case / "stdin").read_text().partition("----\n") if (case / "stdin").exists() else ("", "", "")
     answer = (case / "stdout").read_text()

@@ -58,13 +58,13 @@ else
     printf 'skipped: systemd-analyze is not installed (Debian: systemd), so the units were not looked at\n'
 fi
 for called in $(sed -n 's|^Exec[A-Za-z]*=+\{0,1\}\(/usr/[^ ]*\).*|\1|p' root/lib/systemd/system/*); do
-    [ "$called" = /usr/bin/systemctl ] || [ -x "root$called" ] || { printf 'a unit calls %s, which is not in the package\n' "$called"; exit 1; }
+    [ "$called" = /usr/bin/systemctl ] || [ "$called" = /usr/bin/env ] || [ -x "root$called" ] || { printf 'a unit calls %s, which is not in the package\n' "$called"; exit 1; }
 done
 # the words of the unit, with what the template of a node says, are a node of quorumd: its settings text is read, and it has no node 9. What
 # systemd makes of the units is seen in tests/hosts.
 # shellcheck disable=SC1091
 . root/etc/quorumd/node.env
-words=$(sed -n 's|^ExecStart=/usr/sbin/quorumd||p' root/lib/systemd/system/quorumd@.service | sed 's/%i/9/g')
+words=$(sed -n 's|^ExecStart=.*/usr/sbin/quorumd||p' root/lib/systemd/system/quorumd@.service | sed 's/%i/9/g')
 status=0
 # shellcheck disable=SC2086
 eval "$built $words" < "$TOP/examples/two-node.conf" > said || status=$?

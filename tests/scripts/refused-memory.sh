@@ -1,6 +1,9 @@
 # Memory that is refused, in the commands that take some while they run. bench/refusals does the same with every command that takes memory.
 . "$TOP/tests/refused.sh"
 
+# the trace is written by what keeps the text of 32 nodes, which is moved with the replay
+stack_pages=40
+
 packets_and_leftovers > schedule
 
 # in the head, at the first packets, at the write that is left over, and at two later packets or more
