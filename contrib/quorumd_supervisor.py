@@ -42,7 +42,10 @@ def notify(text):
     path = os.environ.get("NOTIFY_SOCKET")
     if path:
         with socket.socket(socket.AF_UNIX, socket.SOCK_DGRAM) as to:
-            to.sendto(text.encode(), "\0" + path[1:] if path[0] == "@" else path)
+            try:
+                to.sendto(text.encode(), "\0" + path[1:] if path[0] == "@" else path)
+            except OSError:
+                pass  # in a shutdown systemd is gone before this
 
 
 def now():

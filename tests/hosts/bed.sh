@@ -156,7 +156,7 @@ fault() {
 
 # look N: which of its resources host N has, five times a second, by its own looking: the address, the file system, the database, each for itself
 look() {
-    local signs
+    local watcher
     while [ ! -e "$room/ending" ]; do
         on "$1" sh -c 'while :; do
             signs=
@@ -165,11 +165,23 @@ look() {
             ! pgrep -f "^(/usr/bin/python3 /usr/local/bin/database|.*[b]in/postgres -D)" > /dev/null || signs=$signs,database
             echo "${signs:--}"
             sleep 0.15
-        done' 2> /dev/null | while read -r signs; do
-            printf '%s host%s %s\n' "${EPOCHREALTIME/,/.}" "$1" "${signs#,}"
-        done >> "$room/signs"
+        done' 2> /dev/null > >(note_signs "$1") &
+        watcher=$!
+        # a host that is switched off stops its processes before it ends them, and nsenter stands still with its own: then it is not off
+        while kill -0 "$watcher" 2> /dev/null; do
+            pkill -CONT -P "$watcher"
+            sleep 0.5
+        done
         sleep 0.2
     done
+}
+
+# note_signs N: standard input has a line of signs of host N, each of which gets its time
+note_signs() {
+    local signs
+    while read -r signs; do
+        printf '%s host%s %s\n' "${EPOCHREALTIME/,/.}" "$1" "${signs#,}"
+    done >> "$room/signs"
 }
 
 # lead N: the first process of host N
