@@ -23,7 +23,7 @@ SIZE = 1 << 20
 
 class BlockServer:
     """A server of some bytes in memory at a Unix socket. `fault(number)` names what it does at the request of that number, from 1, of which
-    `command` is what is asked for: None, or `error`, `late`, `short`, `other` (the answer of another request), `twice`, `wrong` (no answer at all), `close`."""
+    `command` is what is asked for, and `place` where: None, or `error`, `late`, `short`, `other` (the answer of another request), `twice`, `wrong` (no answer at all), `close`."""
 
     def __init__(self, path, fault=lambda number: None, size=SIZE, flags=HAS_FLAGS | SEND_FUA, least=1, greeting=b"NBDMAGIC" + OPTION + b"\0\3", kind=None):
         self.path, self.fault, self.flags, self.least, self.greeting, self.kind = str(path), fault, flags, least, greeting, kind
@@ -31,7 +31,7 @@ class BlockServer:
         self.listener = socket.socket(socket.AF_UNIX)
         self.listener.bind(self.path)
         self.listener.listen()
-        self.connections, self.late, self.command = 0, 1.5, None  # seconds that a late answer takes
+        self.connections, self.late, self.command, self.place = 0, 1.5, None, None  # seconds that a late answer takes
         threading.Thread(target=self.listen, daemon=True).start()
 
     def word(self):
@@ -74,7 +74,7 @@ class BlockServer:
         written = take(stream, count) if kind == WRITE else b""
         with self.lock:
             self.requests += 1
-            self.command = kind
+            self.command, self.place = kind, at
             fault = self.fault(self.requests)
             if (magic, fault) == (REQUEST, None) or fault in ("late", "short", "other", "twice"):
                 self.data[at:at + len(written)] = written

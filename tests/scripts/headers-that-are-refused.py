@@ -67,11 +67,11 @@ def version_1():
 
 
 def times():
-    """Times that are not safe, and a feed delay of 1, which is."""
+    """Times that are not safe, one of 0, which no header has, and a feed delay of 1, which is safe."""
     cluster = One("times")
     image = pathlib.Path(cluster.image)
     good = whole(image)
-    for times_of, line in (((5000, 8163, 1000, 2000, 1000), "its times are not safe"), ((0, 10000, 1000, 2000, 1000), "its times are not safe"),
+    for times_of, line in (((5000, 8163, 1000, 2000, 1000), "its times are not safe"), ((0, 10000, 1000, 2000, 1000), NO_HEADER),
                            ((5000, 10000, 1000, 2000, 1), "feed delay 1: no feed is in time")):
         spelled = b"".join(number.to_bytes(8, "big") for number in times_of)
         image.write_bytes(good[:TIMES.start] + spelled + good[TIMES.stop:])
