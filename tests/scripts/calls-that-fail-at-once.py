@@ -16,7 +16,7 @@ TURNS = 240  # of 40 ms each, at rest
 LEAST = 0.02  # seconds a turn
 MOST = 12  # calls of the system a turn
 # the calls of a node by which it hears, says and reads; from which one on they fail: after those of its boot
-CALLS = {"recvfrom": 1, "setsockopt": 1, "sendto": 1, "pread64": 14}
+CALLS = {"recvfrom": 1, "sendto": 1, "pread64": 14}
 
 
 class Traced(Cluster):

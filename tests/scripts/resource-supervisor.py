@@ -304,7 +304,7 @@ def file_at_fault():
     same(ask("stop"), "no file")
     same(ask("start"), "no refused")
     (HERE / "conf").write_text("[b]\nagent = ocf:t:File\nfile = %s/f-b\n" % HERE)
-    same(ask("stop"), "ok")
+    until(lambda: ask("stop") == "ok", "a stop is ok once the new resource was looked at")
     ask("start")
     one.until(state="runs", resources=[["b", "up"]])
     (HERE / "conf").write_text("[c]\nagent = ocf:t:File\nfile = %s/f-c\n" % HERE)
