@@ -104,9 +104,34 @@ in_group() {
     local tree
     for tree in $(trees); do
         mkdir -p "$tree/$1" && echo "$BASHPID" > "$tree/$1/cgroup.procs"
+        [ ! -e "$tree/$1/cpu.weight" ] || echo 10000 > "$tree/$1/cpu.weight"
     done
     shift
     exec "$@"
+}
+
+# processors: the folder of the control groups that share the processors, where they are of version 1
+processors() { awk '$3 == "cgroup" && $4 ~ /(^|,)cpu(,|$)/ { print $2; exit }' /proc/mounts; }
+
+# come_first: the hosts get their processors before all else that this machine has to do: a node that is fed too late is reset, which is no failure
+# of it. Priorities do not reach that far: each unit of a host is a session of its own, and a system that groups sessions weighs them alike.
+come_first() {
+    local tree
+    tree=$(processors)
+    [ -n "$tree" ] && mkdir "$tree/$tag" 2> /dev/null || return 0
+    echo 40960 > "$tree/$tag/cpu.shares"
+    # nodes run in real time, which such a group may do only where it is given a part of it
+    [ ! -e "$tree/$tag/cpu.rt_runtime_us" ] || echo 150000 > "$tree/$tag/cpu.rt_runtime_us"
+    echo $$ > "$tree/$tag/cgroup.procs"
+}
+
+# leave_group: what come_first made goes
+leave_group() {
+    local tree
+    tree=$(processors)
+    [ -n "$tree" ] && [ -d "$tree/$tag" ] || return 0
+    echo $$ > "$tree/cgroup.procs"
+    rmdir "$tree/$tag"
 }
 
 drop_groups() {
@@ -262,6 +287,7 @@ take_down() {
 tear_down() {
     take_down
     umount "$room/root" 2> /dev/null
+    leave_group
     rm -rf "$room"
 }
 powered=()

@@ -20,9 +20,9 @@ lie_second_mount() {
         umount /srv/db; ip address del 192.0.2.100/24 dev host0' > /dev/null 2>&1
 }
 
-# The agent of host 1 answers `ok` to a stop at once, and its resources go on.
+# Who answers the node of host 1 says `ok` to a stop at once, and its resources go on.
 lie_agent_goes_on() {
-    on 1 sh -c 'mkdir -p /run/systemd/system/quorumd-agent@.service.d
-        printf "[Service]\nExecStart=\nExecStart=/bin/echo ok\n" > /run/systemd/system/quorumd-agent@.service.d/liar.conf
-        systemctl daemon-reload'
+    on 1 rm -f /run/quorumd/agent.sock
+    on 1 systemd-socket-activate --listen=/run/quorumd/agent.sock --accept --inetd sh -c 'read -r asked; echo ok' > /dev/null 2>&1 &
+    until_true 5 on 1 test -S /run/quorumd/agent.sock
 }

@@ -140,6 +140,7 @@ scene_stuck_stop() {
     FIRMWARE=20 begun || return 1
     on 1 sh -c 'cd /srv/db && exec sleep 1000' &
     sleep 1
+    fault 'the unit of host 1 is stopped, and a resource does not stop'
     on 1 systemctl stop --no-block quorumd@1.service
     until_true 150 another_owns 1 || return 1
     [ "$(resets 1)" = 1 ]
@@ -162,6 +163,7 @@ scene_resource_dies() {
         kill_database
         until_true 15 again "$pid" || return 1
     done
+    fault 'the database of host 1 is killed for the fourth time'
     kill_database
     until_true 30 another_owns 1 || return 1
     said 1 'this node is to leave (database' -u quorumd-resource.service || return 1
@@ -174,6 +176,7 @@ scene_resource_dies() {
 # The supervisor of a standby starts nothing, is not stopped by hand, and a move is refused there; nor is a second node of one host started.
 scene_by_hand() {
     begun || return 1
+    fault 'an operator does by hand what is refused'
     on 2 systemctl start quorumd-resource.service || return 1
     on 2 systemctl stop quorumd-resource.service && return 1
     on 2 systemctl start quorumd-move.service && return 1
@@ -195,6 +198,7 @@ scene_supervisor_dies() {
     local pid
     begun || return 1
     pid=$(database 1)
+    fault 'the supervisor of host 1 is killed'
     on 1 systemctl kill --kill-whom=main -s KILL quorumd-resource.service
     sleep 10
     is_as_before "$pid" || return 1
@@ -208,6 +212,7 @@ scene_supervisor_hangs() {
     local pid
     begun || return 1
     pid=$(database 1)
+    fault 'the supervisor of host 1 stands still'
     on 1 systemctl kill --kill-whom=main -s STOP quorumd-resource.service
     sleep 45
     is_as_before "$pid" || return 1
@@ -221,6 +226,7 @@ scene_reexecuted() {
     local pid
     begun || return 1
     pid=$(database 1)
+    fault 'systemd of host 1 is executed again, eight times'
     for _ in 1 2 3 4 5 6 7 8; do
         on 1 systemctl daemon-reexec
         sleep 5
@@ -233,6 +239,7 @@ scene_reloaded() {
     printf '[Service]\nExecReload=/bin/sleep 1\n' | on_disk reload.conf
     begun || return 1
     pid=$(database 1)
+    fault 'the database of host 1 is reloaded, eight times'
     for _ in 1 2 3 4 5 6 7 8; do
         on 1 systemctl reload database.service
         sleep 2
@@ -255,6 +262,7 @@ scene_slow_start() {
     printf '[Service]\nTimeoutStartSec=0\nExecStartPre=/bin/sh -c "[ ! -e /srv/cluster/slow ] || sleep 75"\n' | on_disk slow.conf
     FIRMWARE=22 begun || return 1
     touch "$shared/slow"
+    fault 'the node of host 1 is killed, and a start takes 75 s'
     on 1 systemctl kill --kill-whom=main -s KILL quorumd@1.service
     until_true 5 nobody_owns || return 1
     until_true 150 another_owns 1
@@ -265,6 +273,7 @@ scene_quorum_back() {
     local n
     printf '[Service]\nExecStop=/bin/sleep 12\nTimeoutStopSec=90\n' | on_disk slow.conf
     FIRMWARE=4 begun || return 1
+    fault 'the nodes of hosts 2 and 3 are killed'
     for n in 2 3; do on "$n" systemctl kill --kill-whom=main -s KILL "quorumd@$n.service" & done
     sleep 50
     until_true 40 owner && not_reset 1
@@ -275,6 +284,7 @@ scene_all_off() {
     local n
     printf '[Service]\nExecStop=/bin/sleep 12\nTimeoutStopSec=90\n' | on_disk slow.conf
     FIRMWARE=25 begun || return 1
+    fault 'all hosts are switched off in order'
     for n in 1 2 3; do on "$n" systemctl poweroff & done
     for n in 1 2 3; do until_true 90 is_off "$n" || return 1; done
     for n in 1 2 3; do not_reset "$n" || return 1; done
@@ -283,6 +293,7 @@ scene_all_off() {
 # The holder goes to rescue.target: another host takes over, and this one is not reset.
 scene_isolated() {
     FIRMWARE=30 begun || return 1
+    fault 'host 1 goes to rescue.target'
     on 1 systemctl isolate --no-block rescue.target
     until_true 30 another_owns 1 && not_reset 1
 }
@@ -291,6 +302,7 @@ scene_isolated() {
 scene_moves() {
     local who round
     begun || return 1
+    fault 'an operator moves the resources, five times'
     for round in 1 2 3 4 5; do
         who=$(owner) || return 1
         on "$who" systemctl start --no-block quorumd-move.service
@@ -309,6 +321,7 @@ scene_stop_while_starting() {
     printf '[Service]\nType=oneshot\nExecStart=/bin/sleep 12\n' > "$room/host1/etc/systemd/system/slow.service"
     for n in 1 2 3; do power "$n"; done
     until_true 60 said 1 'database: start' -u quorumd-resource.service || return 1
+    fault 'the unit of host 1 is stopped while a resource waits for its start'
     on 1 systemctl stop quorumd@1.service || return 1
     until_true 20 another_owns 1 || return 1
     sleep 14
@@ -319,6 +332,7 @@ scene_stop_while_starting() {
 scene_edited() {
     begun || return 1
     sed -i '/^\[database\]/,$d' "$room/host1/etc/quorumd/resources.conf"
+    fault 'the file of the resources is another one, and the unit of host 1 is stopped'
     on 1 systemctl stop quorumd@1.service || return 1
     until_true 20 another_owns 1 || return 1
     [ "$(on 1 systemctl is-active database.service)" = inactive ] && not_reset 1
@@ -329,6 +343,7 @@ scene_start_mode() {
     sed -i 's/^OPTIONS=.*/OPTIONS=--start-mode 1/' "$room/host3/etc/quorumd/node-3.env"
     FIRMWARE=1 begun || return 1
     until_true 20 unit_is 3 active || return 1
+    fault 'the mailbox of node 3 holds a reset, and it starts in mode 1'
     on 3 systemctl stop quorumd@3.service || return 1
     on 1 quorumd message --image /srv/cluster/disk --id 3 --kind reset || return 1
     on 3 systemctl start quorumd@3.service && return 1
@@ -348,6 +363,7 @@ scene_start_fails() {
 # In maintenance nothing is started again, and after it is.
 scene_maintenance() {
     begun || return 1
+    fault 'host 1 is in maintenance, and its database is killed'
     on 1 quorumd-resource maintenance on || return 1
     kill_database
     until_true 5 nobody_owns || return 1
@@ -364,6 +380,7 @@ scene_maintenance() {
 # An operator moves the resources.
 scene_planned_handover() {
     begun || return 1
+    fault 'an operator moves the resources'
     on 1 systemctl start --no-block quorumd-move.service || return 1
     until_true 20 another_owns 1 || return 1
     until_true 60 unit_is 1 active || return 1
@@ -375,6 +392,7 @@ scene_planned_handover() {
 scene_third_handover() {
     begun || return 1
     on 1 sh -c 'now=$(cut -d . -f 1 /proc/uptime); printf "%s\n" "$now" "$now" > /run/quorumd/handovers'
+    fault 'the third hand-over of host 1 within an hour'
     on 1 systemctl start quorumd-handover.service && return 1
     until_true 20 another_owns 1 || return 1
     said 1 'stays off' -u quorumd-handover.service || return 1
@@ -416,6 +434,7 @@ scene_three_images() {
     done
     begun || return 1
     rm "$shared/disk.1"
+    fault 'one image of three is gone, and the unit of host 1 is stopped'
     on 1 systemctl stop quorumd@1.service || return 1
     until_true 20 another_owns 1 || return 1
     not_reset 1 && unit_is 1 inactive || return 1
@@ -511,6 +530,7 @@ postgres_scene() {
     on 1 sh -c 'kill -KILL $(head -n 1 /var/lib/postgresql/15/main/postmaster.pid)'
     until_true 30 said 1 'postgres: FAILED' || return 1
     writes_again 40 || return 1
+    fault 'the node of host 1 is killed'
     on 1 systemctl kill --kill-whom=main -s KILL quorumd@1.service
     until_true 40 another_owns 1 || return 1
     who=$(owner)
@@ -533,6 +553,7 @@ scene_upgrade() {
     database_on_store "$UNIT" || return 1
     begun || return 1
     load || return 1
+    fault 'the package is installed anew'
     for n in 2 3 1; do
         cp "${QUORUMD_TEST_NEWER:-$package}" "$room/host$n/var/tmp/newer.deb"
         on "$n" dpkg -i --force-confold /var/tmp/newer.deb || return 1

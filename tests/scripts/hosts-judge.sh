@@ -55,7 +55,7 @@ scene kill_node 1 0.4 - 'OUT OF BOUNDS: another host held never, and 24.00 s is 
 scene kill_node 1 - 14.2 'TWO OWNERS: host1 until 40.00, host2 from 24.20|OUT OF BOUNDS: host host1 was reset never, and 3.00 s is the most'
 
 # a host that nobody looked at for five seconds within one boot
-judged 1 "$(every host1 0 11 store)$(every host2 0 5 -)$(every host2 10 30 -)$(every host2 30.2 40 store)" '10.000 scene fault x\n11.100 host1 reset\n' \
+judged 77 "$(every host1 0 11 store)$(every host2 0 5 -)$(every host2 10 30 -)$(every host2 30.2 40 store)" '10.000 scene fault x\n11.100 host1 reset\n' \
     '0.00 host1 has its resources until 11.00|30.20 host2 has its resources until 40.00|NOT JUDGED: host2 was not looked at for 5.0 s' \
     --scene kill_node --times 5000,10000,1000,2000,1000
 
