@@ -3,6 +3,8 @@ import datetime
 import hashlib
 import pathlib
 
+import gatecosts
+
 TOP = pathlib.Path(__file__).resolve().parent.parent
 FOLDER = TOP / "tests" / "edits"
 DAYS = 7
@@ -22,9 +24,21 @@ def copies_of(crate):
     return [TOP / "crates" / crate / "must-fail" / edit.name for edit in edits_of(crate)]
 
 
+def seconds_of(crate, kept):
+    """What the edits of a crate took last, with the proof before them; of a new crate nothing is known."""
+    return kept[crate].proof + kept[crate].edits if crate in kept else 0
+
+
 def groups():
-    """The crates in seven groups, one for each day of a week."""
-    return [crates()[day::DAYS] for day in range(DAYS)]
+    """The crates in seven groups, one for each day of a week, that take much the same time: each crate, the dearest first, goes to the group that is
+    the cheapest so far."""
+    kept = gatecosts.read_kept() if gatecosts.SECONDS.exists() else {}
+    days, spent = [[] for _ in range(DAYS)], [0] * DAYS
+    for crate in sorted(crates(), key=lambda crate: (-seconds_of(crate, kept), crate)):
+        day = min(range(DAYS), key=lambda day: (spent[day], len(days[day])))
+        days[day].append(crate)
+        spent[day] += seconds_of(crate, kept)
+    return days
 
 
 def crates_of_day(day=None):
