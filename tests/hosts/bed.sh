@@ -196,6 +196,7 @@ look() {
         while kill -0 "$watcher" 2> /dev/null; do
             pkill -CONT -P "$watcher"
             sleep 0.5
+            [ ! -e "$room/ending" ] || kill "$watcher" 2> /dev/null
         done
         sleep 0.2
     done
@@ -209,11 +210,16 @@ note_signs() {
     done >> "$room/signs"
 }
 
-# lead N: the first process of host N
+# lead N: the first process of host N. A child that is not in a name space of its own yet is none: a command would run on this machine
 lead() {
-    local pid
+    local pid child space own
     pid=$(cat "$room/host$1.pid" 2> /dev/null) || return 1
-    pgrep -P "$pid" | head -n 1
+    own=$(readlink /proc/self/ns/pid)
+    for child in $(pgrep -P "$pid"); do
+        space=$(readlink "/proc/$child/ns/pid")
+        [ -z "$space" ] || [ "$space" = "$own" ] || { echo "$child"; return 0; }
+    done
+    return 1
 }
 
 # on N COMMAND..: runs a command on host N
