@@ -3,12 +3,14 @@
     SCENE<tab>RESET<tab>OWNER<tab>OTHERS
 
 when the first machine is reset, when another one owns for the first time, and which other machines may be reset (`-`: none). FROM..TO are sums of
-the image's times, W watchdog, M msgwait, L loop, R read limit, S feed delay, as `0.99M+2L`; `-` is not asked, `none` must not come. Upper bounds grow
-with the load of the bed, lower ones never do."""
+the image's times, W watchdog, M msgwait, L loop, R read limit, S feed delay, as `0.99M+2L`; `-` is not asked, `none` must not come. Lower bounds never grow
+with the load of the bed, which says how many times as long as alone a fixed loop takes there. An upper one of an owner grows as much, since starts are work;
+one of a reset by LATE for each time, since a device counts its own time: a bed that stands still only sees later what it did."""
 import re
 from collections import namedtuple
 
 PART = re.compile(r"([+-]?\d+(?:\.\d+)?|[+-]?(?=[WMLRS]))([WMLRS]?)")
+LATE = 0.5  # seconds that a device is seen late for each time that the loop takes as long
 Bounds = namedtuple("Bounds", "reset owner others")
 
 
@@ -18,12 +20,12 @@ def seconds_of(text, seconds):
     return sum(float(number) * seconds.get(letter, 1) for number, letter in parts)
 
 
-def bound_of(text, seconds, slow):
-    """Least and most of `FROM..TO`; None of `-`, and "none" where it must not come at all."""
+def bound_of(text, seconds, grown):
+    """Least and most of `FROM..TO`, and how the most has grown; None of `-`, and "none" where it must not come at all."""
     if text in ("-", "none"):
         return None if text == "-" else text
     least, most = (seconds_of(part, seconds) for part in text.split(".."))
-    return least, most * slow
+    return least, grown(most)
 
 
 def bounds_of(path, scene, times, slow):
@@ -33,7 +35,8 @@ def bounds_of(path, scene, times, slow):
         name, *texts = line.split("\t")
         if name == scene and not line.startswith("#"):
             reset, owner, others = texts
-            return Bounds(bound_of(reset, seconds, slow), bound_of(owner, seconds, slow), others.split(",") if others != "-" else [])
+            is_late, is_work = lambda most: most + LATE * (slow - 1), lambda most: most * slow
+            return Bounds(bound_of(reset, seconds, is_late), bound_of(owner, seconds, is_work), others.split(",") if others != "-" else [])
     return None
 
 

@@ -261,7 +261,6 @@ scene_message_reset() {
     by_message
 }
 
-# A machine that was told to go off stays off.
 # A reset is written to a node whose network is well, and which nobody misses: it reads its mailbox each loop, and is gone within two.
 scene_mail_unread() {
     FIRMWARE=60 begun nbd || return 1
@@ -269,17 +268,18 @@ scene_mail_unread() {
     by_message
 }
 
-# Votes of a quorum device that anybody on the machine can send: machine 1 is cut off, and with them it would be a majority. It must not believe
-# them: nobody is reset, and since the two others are no majority without the device either, nobody holds.
+# What anybody on a machine can send to its node: votes of a quorum device, and Hellos of both others. Machine 1 is cut off, and with either of them it would
+# be a majority. It must not believe them, and says so: nobody is reset, and since the two others are no majority without the device either, nobody holds.
 scene_forged() {
     DEVICE=2 begun nbd || return 1
-    order 1 'while :; do printf "QN\\005\\001" | nc -u -w 1 127.0.0.1 7401; done &'
-    fault 'machine 1 is cut off, and votes are forged on it'
+    order 1 'while :; do for packet in "\005\001" "\003\001" "\003\002"; do printf "QN$packet" | socat -u - UDP4-SENDTO:10.7.0.1:7400; done; done &'
+    fault 'machine 1 is cut off, and votes and Hellos are forged on it'
     ip -n "$tag" link set t1 nomaster
     sleep 45
-    nobody_owns && resets_are 0 0 0
+    saw 1 'event=packets-refused .*elsewhere=[1-9]' && nobody_owns && resets_are 0 0 0
 }
 
+# A machine that was told to go off stays off.
 scene_message_off() {
     FIRMWARE=5 begun nbd || return 1
     leave off

@@ -71,8 +71,9 @@ bounded 1 hang 1 "$(scene 4 6)" 'OUT OF BOUNDS: machine 1 was reset after 4.00 s
 bounded 1 hang 1 "$(scene 7 32)" 'OUT OF BOUNDS: another machine held after 32.00 s, and 31.00 is the most'
 bounded 1 hang 1 "$(scene 7 -)" 'OUT OF BOUNDS: another machine held never, and 31.00 s is the most'
 bounded 1 hang 1 "$(scene 7 22 '107.000 3 reset')" 'OUT OF BOUNDS: machine 3 was reset, and nobody ordered it'
-# upper bounds grow with the load of the bed, lower ones do not
-bounded 0 hang 1.5 "$(scene 12.6 40)" ''
+# upper bounds grow with the load of the bed, lower ones do not; that of a reset grows by half a second a time: a feed that is five seconds late is seen on any bed
+bounded 0 hang 1.5 "$(scene 9.5 40)" ''
+bounded 1 hang 3.9 "$(scene 10.8 40)" 'OUT OF BOUNDS: machine 1 was reset after 10.80 s, and 10.78 is the most'
 bounded 1 hang 1.5 "$(scene 5.2 18)" 'OUT OF BOUNDS: machine 1 was reset after 5.20 s, and 5.25 is the least|OUT OF BOUNDS: another machine held after 18.00 s, and 18.84 is the least'
 # where nothing must come, and where nothing is asked
 bounded 0 message_test 1 "$(scene - -)" ''
