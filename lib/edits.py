@@ -1,6 +1,7 @@
 """The must-fail edits in tests/edits, which are tried by date: whose they are, which are due, and over which files those of a crate were refused last."""
 import datetime
 import hashlib
+import os
 import pathlib
 
 import gatecosts
@@ -8,6 +9,7 @@ import gatecosts
 TOP = pathlib.Path(__file__).resolve().parent.parent
 FOLDER = TOP / "tests" / "edits"
 DAYS = 7
+SMALL = 200  # seconds
 
 
 def crates():
@@ -24,6 +26,10 @@ def copies_of(crate):
     return [TOP / "crates" / crate / "must-fail" / edit.name for edit in edits_of(crate)]
 
 
+def kept_seconds():
+    return gatecosts.read_kept() if gatecosts.SECONDS.exists() else {}
+
+
 def seconds_of(crate, kept):
     """What the edits of a crate took last, with the proof before them; of a new crate nothing is known."""
     return kept[crate].proof + kept[crate].edits if crate in kept else 0
@@ -32,7 +38,7 @@ def seconds_of(crate, kept):
 def groups():
     """The crates in seven groups, one for each day of a week, that take much the same time: each crate, the dearest first, goes to the group that is
     the cheapest so far."""
-    kept = gatecosts.read_kept() if gatecosts.SECONDS.exists() else {}
+    kept = kept_seconds()
     days, spent = [[] for _ in range(DAYS)], [0] * DAYS
     for crate in sorted(crates(), key=lambda crate: (-seconds_of(crate, kept), crate)):
         day = min(range(DAYS), key=lambda day: (spent[day], len(days[day])))
@@ -47,11 +53,31 @@ def crates_of_day(day=None):
     return groups()[day.toordinal() % DAYS]
 
 
+def files_of(crate):
+    """The files of a crate that a check reads."""
+    return [path for part in ("src", "specs", "proofs") for path in sorted((TOP / "crates" / crate / part).rglob("*")) if path.is_file()]
+
+
+def below(crate):
+    """The crates that a crate stands on."""
+    stands_on, found, left = gatecosts.crates_in((TOP / "crates.txt").read_text()), set(), [crate]
+    while left:
+        new = {*stands_on.get(left.pop(), [])} - found
+        found |= new
+        left += new
+    return sorted(found)
+
+
+def is_small(crate):
+    """Whether the edits of a crate take so little that they are tried after a change below it too."""
+    return 0 < seconds_of(crate, kept_seconds()) <= SMALL
+
+
 def digest(crate):
-    """The sum of the files of a crate that a check reads, and of its edits here, by their names and texts."""
+    """The sum of what the edits of a crate are tried over, and of these, by names and texts: its files, and those of the crates below a small one."""
     folder = TOP / "crates" / crate
-    files = [path for part in ("src", "specs", "proofs") for path in sorted((folder / part).rglob("*")) if path.is_file()]
-    texts = [(str(path.relative_to(folder)), path.read_bytes()) for path in files] + [(edit.name, edit.read_bytes()) for edit in edits_of(crate)]
+    files = [path for name in [crate, *(below(crate) if is_small(crate) else [])] for path in files_of(name)]
+    texts = [(os.path.relpath(path, folder), path.read_bytes()) for path in files] + [(edit.name, edit.read_bytes()) for edit in edits_of(crate)]
     lines = ["%s  %s\n" % (hashlib.sha256(text).hexdigest(), name) for name, text in texts]
     return hashlib.sha256("".join(lines).encode()).hexdigest()
 
@@ -62,5 +88,5 @@ def tried(crate):
 
 
 def is_changed(crate):
-    """Whether a crate has another digest than that over which its edits were refused."""
+    """Whether a crate has another digest than that over which its edits were refused last."""
     return not tried(crate).exists() or tried(crate).read_text().strip() != digest(crate)

@@ -1,5 +1,6 @@
-# tests/edits: the edits of a crate are tried once a week, and those of each crate that was changed since they were refused; one that is not refused,
-# or is a bad one, fails. And each edit of this repository can be applied: its texts stand once in its file.
+# tests/edits: the edits of a crate are tried once a week, and those of each crate that was changed since they were refused, of a small one also those
+# of one that stands on a changed crate; one that is not refused, or is a bad one, fails. And each edit of this repository can be applied: its texts
+# stand once in its file.
 . "$TOP/tests/expect.sh"
 
 mkdir -p clone/tests/edits clone/crates/apart/must-fail
@@ -41,13 +42,17 @@ wanted=$kept
 [ "$of_day" = none ] || wanted=$(printf './%s/must-fail/%s.edit\n' "$of_day" a "$of_day" b "two" kept | LC_ALL=C sort | tr '\n' ' ')
 same "$(copies)" "$wanted"
 clone/tests/edits/back
-# each crate once a week, three of them on three days and eight on seven
+# each crate once a week, three of them on three days and eight on seven, and dear ones apart
 days='import datetime, edits
 days = [edits.crates_of_day(datetime.date(2026, 12, 30) + datetime.timedelta(day)) for day in range(14)]
 print(sorted(days[:7]), days[7:] == days[:7])'
 same "$(PYTHONPATH=clone/lib python3 -B -c "$days")" "[[], [], [], [], ['one'], ['three'], ['two']] True"
 mkdir clone/tests/edits/{four,five,six,seven,eight}
 same "$(PYTHONPATH=clone/lib python3 -B -c "$days")" "[['eight', 'two'], ['five'], ['four'], ['one'], ['seven'], ['six'], ['three']] True"
+mkdir clone/bench
+echo 'eight 90 10 1 0 2' > clone/bench/seconds
+same "$(PYTHONPATH=clone/lib python3 -B -c "$days")" "[['eight'], ['five', 'two'], ['four'], ['one'], ['seven'], ['six'], ['three']] True"
+rm clone/bench/seconds
 rmdir clone/tests/edits/{four,five,six,seven,eight}
 
 # changed: a source, an edit; not its must-fail folder
@@ -55,6 +60,20 @@ echo '// new' >> clone/crates/one/src/lib.rt
 echo new > clone/tests/edits/three/b.edit
 clone/tests/edits/into --due > said
 same "$(tail -n 1 said)" 'edits of crates that were changed: one three'
+
+# of two whose edits are kept to take 200 seconds and 201, a change two crates below makes those of the first due
+printf '%s\n' 'one: middle' 'two:' 'three: middle' 'middle: std low' 'low: std' > clone/crates.txt
+mkdir -p clone/crates/low/specs
+printf '%s\n' 'one 150 50 1 0 2' 'three 150 51 1 0 2' > clone/bench/seconds
+clone/tests/edits/into --due > said
+refused one two three > log
+clone/tests/edits/back log
+echo '-- new' > clone/crates/low/specs/Lib.antt
+clone/tests/edits/into --due > said
+same "$(tail -n 1 said)" 'edits of crates that were changed: one'
+clone/tests/edits/back
+echo newer > clone/tests/edits/three/b.edit
+clone/tests/edits/into --due > said
 
 # one is still proved, and one is a bad one, also of a crate whose edits are tried always
 refused one two three | sed '/one.a/s/refused.*/NOT REFUSED: the crate is still proved with this edit/' > log

@@ -21,7 +21,7 @@ From a rule of a page to what says it and what does it:
 | its definition | the page names it, or its crate; `grep -rn 'pub NAME :' crates/*/specs` |
 | the code | `src/` of a crate that cites the definition in an `ensures`: `grep -rnw NAME crates/*/src` |
 | the proof | `proofs/FILE/FUNCTION/` of that crate; without such a folder the check needed no help |
-| a wrong edit that the check refuses | `must-fail/` of that crate, or `tests/edits/` |
+| a wrong edit that the check refuses | `tests/edits/` |
 | a row from outside | `tests/rows`, `tests/cases` |
 
 [Four walks](../docs/CHANGING.md#four-walks) go that way, for one rule each of settings, quorum, safety and views. This page is written by
