@@ -1,19 +1,20 @@
 """The closing write of a node fails: on its one image, or on two of three, it leaves dirty and its watchdog stays armed, which a line says; where it
-is done it leaves clean and disarms."""
+is done, of three images on two at least, it leaves clean and disarms. An image whose server took longer than a second counts as one that failed."""
 import pathlib
 
 from live import Cluster, same, try_all
 from nbd import BlockServer, WRITE
 
+TRIES = 5
 ARMED = "left armed, since the closing write was not done: it resets the machine"
 SLOTS = 512 * 65  # mailboxes stand behind these bytes
 
 
 class Servers(Cluster):
-    """A cluster of one node whose images are servers of their own, each of which can be told to fail writes of slots."""
+    """A cluster of one node whose images are servers of their own, each of which can be told to fail writes of slots, or to be late with them."""
 
     def __init__(self, name, count):
-        self.count, self.failing = count, set()
+        self.count, self.failing, self.late = count, set(), set()
         self.COMMAND = "node" if count == 1 else "node3"
         super().__init__(name, ids=(1,))
 
@@ -24,21 +25,37 @@ class Servers(Cluster):
         self.images = [server.word() for server in self.servers]
 
     def fault_of(self, place, server):
-        return lambda number: "error" if place in self.failing and server.command == WRITE and server.place < SLOTS else None
+        def fault(number):
+            if server.command != WRITE or server.place >= SLOTS:
+                return None
+            return "error" if place in self.failing else "late" if place in self.late else None
+        return fault
 
 
-def closes(count, failing, line, is_disarmed):
-    """A node on so many images leaves, at an exit, while the writes of slots on these fail."""
-    cluster = Servers("%d-%s" % (count, "".join(map(str, failing)) or "none"), count)
+def ends(name, count, failing, late=()):
+    """How a node on so many images ends that leaves, at an exit, while the writes of slots on these fail, and on those take too long."""
+    cluster = Servers(name, count)
     node = cluster.node(1)
     node.waits_for("start: ok")
-    cluster.failing = set(failing)
+    cluster.late, cluster.failing = set(late), set(failing)
     cluster.message(1, "exit")
-    what = "%d images, of which %s fail" % (count, failing)
-    same(what, node.end(), (0, line))
-    same("disarmed: " + what, cluster.watchdog(1).endswith("V"), is_disarmed)
-    same("fed: " + what, "1" in cluster.watchdog(1), True)
-    same("said: " + what, any(said.endswith(ARMED) for said in node.said()), not is_disarmed)
+    end = node.end()
+    others = ["quorumd: %s:" % server.word() for place, server in enumerate(cluster.servers) if place not in {*failing, *late}]
+    is_disturbed = any(said.startswith(other) for said in node.said() for other in others)
+    return end, cluster.watchdog(1), any(said.endswith(ARMED) for said in node.said()), is_disturbed
+
+
+def closes(count, failing, line, is_disarmed, late=()):
+    """A node ends so; a run in which a busy host had another image fail too, as a line of the node says, shows nothing and is made again."""
+    what = "%d images, of which %s fail and %s are late" % (count, failing, late)
+    for number in range(TRIES):
+        end, fed, is_armed, is_disturbed = ends("%d-%s-%d" % (count, "".join(map(str, (*failing, *late))) or "none", number), count, failing, late)
+        if not is_disturbed:
+            break
+    same(what, end, (0, line))
+    same("disarmed: " + what, fed.endswith("V"), is_disarmed)
+    same("fed: " + what, "1" in fed, True)
+    same("said: " + what, is_armed, not is_disarmed)
 
 
 def one_image():
@@ -50,8 +67,17 @@ def three_images():
     closes(3, (), "left clean\n", True)
 
 
+def one_of_three_fails():
+    for place in range(3):
+        closes(3, (place,), "left clean\n", True)
+
+
 def two_of_three_fail():
     closes(3, (0, 2), "left dirty\n", False)
 
 
-try_all(one_image, three_images, two_of_three_fail)
+def one_of_three_fails_and_one_is_late():
+    closes(3, (2,), "left dirty\n", False, late=(0,))
+
+
+try_all(one_image, three_images, one_of_three_fails, two_of_three_fail, one_of_three_fails_and_one_is_late)
