@@ -71,6 +71,10 @@ _quorumd_takes() {
         operands=(file)
         options=(--image/image/--image '--key/file/--key --no-key' '--no-key//--no-key --key' --id/none/--id --watchdog/file/--watchdog --port/none/--port --create//--create)
         ;;
+    quorumd-acceptance)
+        operands=(file none)
+        options=(--check//--check --anew//--anew --yes/none/--yes)
+        ;;
     quorumd-resource)
         commands=(run status check move maintenance)
         ;;
@@ -203,4 +207,4 @@ _quorumd() {
     fi
 }
 
-complete -F _quorumd quorumd quorumctl quorumd-setup quorumd-resource story timeline scenario storm campaign soak-nodes
+complete -F _quorumd quorumd quorumctl quorumd-setup quorumd-acceptance quorumd-resource story timeline scenario storm campaign soak-nodes

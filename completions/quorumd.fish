@@ -52,6 +52,9 @@ function __quorumd_takes
         case quorumd-setup
             set -g __quorumd_operands file
             set -g __quorumd_options '--image/image/--image/IMAGE[,IMAGE,IMAGE]' '--key/file/--key --no-key/FILE' '--no-key//--no-key --key/' --id/none/--id/N --watchdog/file/--watchdog/DEVICE --port/none/--port/Q --create//--create/
+        case quorumd-acceptance
+            set -g __quorumd_operands file none
+            set -g __quorumd_options --check//--check/ --anew//--anew/ '--yes/none/--yes/TEST[,TEST..]'
         case quorumd-resource
             set -g __quorumd_commands 'run	looks after the resources of this host, for systemd' 'status	how the resources stand' 'check	whether the file of the resources is well-formed' 'move	moves the resources to another node' 'maintenance	on: nothing is started, and no failure counts'
         case 'quorumd-resource maintenance'
@@ -147,6 +150,6 @@ function __quorumd_offers
     end
 end
 
-for program in quorumd quorumctl quorumd-setup quorumd-resource story timeline scenario storm campaign soak-nodes
+for program in quorumd quorumctl quorumd-setup quorumd-acceptance quorumd-resource story timeline scenario storm campaign soak-nodes
     complete -c $program -f -a '(__quorumd_offers)'
 end

@@ -1,7 +1,7 @@
 # The scenes. Each is a function that fails where something else came than should. Sourced by `containers`.
 all_scenes='clean_stop exit_message off_message reboot_of_holder poweroff_of_holder kill_node hang_node no_image other_image slow_stop stuck_stop
 by_hand supervisor_dies supervisor_hangs reexecuted reloaded slow_start quorum_back all_off isolated moves stop_while_starting edited start_mode resource_dies start_fails maintenance planned_handover third_handover turns_used renewed three_images confined
-postgres pgsql upgrade purge pages setup page_device page_servers page_etcd'
+postgres pgsql upgrade purge pages setup page_device page_servers page_etcd acceptance'
 
 # begun [HOST]: the cluster is up and this host holds
 begun() {

@@ -34,7 +34,7 @@ cmp root/usr/sbin/quorumctl "$companion"
 for page in root/usr/share/man/man?/*.gz; do
     zcat "$page" | cmp - "$TOP/man/$(basename "$page" .gz)"
 done
-for name in quorumd quorumctl quorumd-setup quorumd-resource story timeline; do
+for name in quorumd quorumctl quorumd-setup quorumd-acceptance quorumd-resource story timeline; do
     cmp "root/usr/share/bash-completion/completions/$name" "$TOP/completions/quorumd.bash"
     cmp "root/usr/share/fish/vendor_completions.d/$name.fish" "$TOP/completions/quorumd.fish"
 done
@@ -46,10 +46,13 @@ zcat "$doc/changelog.Debian.gz" | head -n 1 | grep -qF "quorumd ($version) "
 same "$(ls control | xargs)" 'conffiles control md5sums postinst postrm prerm'
 same "$(xargs < control/conffiles)" '/etc/quorumd/agent.env /etc/quorumd/node.env'
 same "$(ls root/lib/systemd/system | xargs)" 'quorumd-agent.socket quorumd-agent@.service quorumd-handover.service quorumd-move.service quorumd-renew@.service quorumd-renew@.timer quorumd-resource.service quorumd@.service'
-same "$(ls root/usr/libexec/quorumd | xargs)" 'hand-over node-check node-ended node-images node-leave node-opened quorumd-agent quorumd_group.py quorumd_resources.py quorumd_supervisor.py'
-same "$(ls root/usr/sbin | xargs)" 'quorumctl quorumd quorumd-resource quorumd-setup'
+same "$(ls root/usr/libexec/quorumd | xargs)" 'hand-over node-check node-ended node-images node-leave node-opened quorumd-agent quorumd_acceptance quorumd_group.py quorumd_resources.py quorumd_supervisor.py'
+same "$(ls root/usr/sbin | xargs)" 'quorumctl quorumd quorumd-acceptance quorumd-resource quorumd-setup'
 same "$(ls root/usr/share/man/man1 root/usr/share/man/man8 | grep gz | xargs)" \
-    'scenario.1.gz story.1.gz timeline.1.gz quorumctl.8.gz quorumd-agent.8.gz quorumd-resource.8.gz quorumd-setup.8.gz quorumd.8.gz'
+    'scenario.1.gz story.1.gz timeline.1.gz quorumctl.8.gz quorumd-acceptance.8.gz quorumd-agent.8.gz quorumd-resource.8.gz quorumd-setup.8.gz quorumd.8.gz'
+# the acceptance finds its modules and its probe where the package has them
+(cd root/usr/sbin && sed 's|/usr/libexec|../libexec|' quorumd-acceptance | python3 -B - --help) | grep -q '^usage: quorumd-acceptance '
+[ -f root/usr/libexec/quorumd/quorumd_acceptance/probe.sh ]
 # systemd takes the units; what they call is where they say
 if command -v systemd-analyze > /dev/null; then
     same "$(systemd-analyze verify --man=no root/lib/systemd/system/quorumd* 2>&1 | grep -v ': Command /usr/[^ ]* is not executable' || true)" ''
