@@ -1,7 +1,7 @@
 # The scenes. Each is a function that fails where something else came than should. Sourced by `containers`.
 all_scenes='clean_stop exit_message off_message reboot_of_holder poweroff_of_holder kill_node hang_node no_image other_image slow_stop stuck_stop
-by_hand supervisor_dies supervisor_hangs reexecuted reloaded slow_start quorum_back all_off isolated moves stop_while_starting edited start_mode resource_dies start_fails maintenance planned_handover third_handover turns_used renewed three_images confined
-postgres pgsql upgrade purge pages setup page_device page_servers page_etcd acceptance'
+by_hand supervisor_dies supervisor_hangs reexecuted reloaded slow_start quorum_back quorum_lost all_off isolated run_full journal_hangs moves stop_while_starting edited start_mode resource_dies start_fails maintenance planned_handover third_handover turns_used renewed three_images confined
+postgres pgsql system_upgraded database_upgraded upgrade purge pages setup page_device page_servers page_etcd acceptance'
 
 # begun [HOST]: the cluster is up and this host holds
 begun() {
@@ -279,6 +279,49 @@ scene_quorum_back() {
     until_true 40 owner && not_reset 1
 }
 
+# The quorum is lost for longer than the database, which takes sixty seconds, needs to stop: the node is fed until it is down, nobody is reset, and once the
+# others are back one of the hosts owns again.
+scene_quorum_lost() {
+    local n
+    printf '[Service]\nExecStop=/bin/sleep 60\nTimeoutStopSec=90\n' | on_disk slow.conf
+    FIRMWARE=75 begun || return 1
+    fault 'the nodes of hosts 2 and 3 are killed, and their hosts stay away for longer than the stop takes'
+    for n in 2 3; do on "$n" systemctl kill --kill-whom=main -s KILL "quorumd@$n.service" & done
+    until_true 80 said 1 'event=stop ok=yes' -u quorumd@1.service || return 1
+    until_true 5 nobody_owns || return 1
+    until_true 90 owner && not_reset 1 && unit_is 1 active
+}
+
+# The file system of the holder's state and sockets is full for a while: what cannot be written is lost, and nothing else.
+scene_run_full() {
+    local pid
+    begun || return 1
+    pid=$(database 1)
+    fault 'nothing more can be written to /run of host 1'
+    on 1 sh -c 'mount -o remount,size=32M /run; cat /dev/zero > /run/filler; ! echo x > /run/more' || return 1
+    sleep 15
+    is_as_before "$pid" || return 1
+    on 1 rm /run/filler /run/more
+    sleep 3
+    on 1 quorumd-resource status || return 1
+    kill_database
+    until_true 25 again "$pid" && not_reset 1
+}
+
+# What takes the lines of the node and of the supervisor stands still for a minute.
+scene_journal_hangs() {
+    local pid
+    begun || return 1
+    pid=$(database 1)
+    fault 'the journal of host 1 stands still'
+    on 1 systemctl kill --kill-whom=main -s STOP systemd-journald.service
+    sleep 60
+    on 1 systemctl kill --kill-whom=main -s CONT systemd-journald.service
+    is_as_before "$pid" || return 1
+    kill_database
+    until_true 25 again "$pid" && not_reset 1
+}
+
 # All hosts are switched off at once, with a database that takes twelve seconds to stop: in order, and they stay off.
 scene_all_off() {
     local n
@@ -298,12 +341,12 @@ scene_isolated() {
     until_true 30 another_owns 1 && not_reset 1
 }
 
-# An operator moves the resources five times: no node is switched off by it.
+# An operator moves the resources five times, or as often as QUORUMD_TEST_MOVES says: no node is switched off by it.
 scene_moves() {
     local who round
     begun || return 1
-    fault 'an operator moves the resources, five times'
-    for round in 1 2 3 4 5; do
+    fault 'an operator moves the resources again and again'
+    for round in $(seq "${QUORUMD_TEST_MOVES:-5}"); do
         who=$(owner) || return 1
         on "$who" systemctl start --no-block quorumd-move.service
         until_true 30 another_owns "$who" || return 1
@@ -545,6 +588,47 @@ postgres_scene() {
 
 scene_postgres() { postgres_scene "$UNIT"; }
 scene_pgsql() { postgres_scene "$PGSQL"; }
+
+# installed_anew PACKAGE..: host 1 unpacks and configures these packages of the base anew, as an upgrade does, while it holds
+installed_anew() {
+    local name
+    for name in "$@"; do cp "$base/var/cache/apt/archives/${name}_"*.deb "$room/host1/var/tmp/" || return 1; done
+    on 1 sh -c 'dpkg -i --force-confold /var/tmp/*_*.deb'
+}
+
+# postmaster: the number of the first process of PostgreSQL of host 1
+postmaster() { on 1 head -n 1 /var/lib/postgresql/15/main/postmaster.pid; }
+
+# An upgrade of the system on the holder: the database goes on.
+scene_system_upgraded() {
+    local pid
+    database_on_store "$UNIT" || return 1
+    begun || return 1
+    load || return 1
+    pid=$(postmaster)
+    fault 'libc6 and systemd of host 1 are installed anew'
+    installed_anew libc6 systemd || return 1
+    writes_again 10 || return 1
+    sleep 15
+    [ "$(postmaster)" = "$pid" ] && unit_is 1 active && not_reset 1 && judge_rows
+}
+
+# An upgrade of the database on the holder, in maintenance, as contrib/README.md says: its package starts it again, and nobody else does.
+scene_database_upgraded() {
+    local pid
+    database_on_store "$UNIT" || return 1
+    begun || return 1
+    load || return 1
+    pid=$(postmaster)
+    fault 'PostgreSQL of host 1 is installed anew'
+    on 1 quorumd-resource maintenance on || return 1
+    installed_anew postgresql-15 || return 1
+    on 1 systemctl start postgresql@15-main.service
+    writes_again 20 || return 1
+    on 1 quorumd-resource maintenance off || return 1
+    sleep 10
+    [ "$(postmaster)" != "$pid" ] && unit_is 1 active && not_reset 1 && judge_rows
+}
 
 # A new version of the package under nodes that run and a database that is written: nothing is restarted by it; then the standbys, and the
 # holder last.
