@@ -143,6 +143,12 @@ drop_groups() {
     done
 }
 
+# device_time: the seconds of each watchdog: those of the image, and five more where a liar has each feed reach it so late
+device_time() {
+    local milliseconds=${TIMES%%,*}
+    if [ "${QUORUMD_TEST_LIAR-}" = late_feed ]; then echo $((milliseconds / 1000 + 5)); else echo $((milliseconds / 1000)); fi
+}
+
 # power N: lets host N run; a reset starts it again after the time of a firmware, a power-off does not
 power() {
     local n=$1
@@ -150,7 +156,7 @@ power() {
         while :; do
             binds=(--bind="$room/wd$n:/srv/watchdog")
             [ -e "$room/no-storage" ] || binds+=(--bind="$shared:/srv/cluster")
-            python3 "$here/watchdog" "$room/wd$n/watchdog" "$room/host$n.pid" "$room/events" "host$n" &
+            python3 "$here/watchdog" "$room/wd$n/watchdog" "$room/host$n.pid" "$room/events" "host$n" "$(device_time)" &
             dog=$!
             in_group "$tag-host$n" nsenter --net="/run/netns/$tag" systemd-nspawn --quiet --register=no --keep-unit --directory="$room/host$n" --machine="$tag-host$n" --hostname="host$n" \
                 --network-bridge=br0 "${binds[@]}" --boot systemd.log_target=journal > "$room/host$n.console" 2>&1 < /dev/null &

@@ -3,7 +3,7 @@
 # shellcheck disable=SC2154,SC2034
 # What a liar does on the hosts, and the scene that has to fail by it. Sourced by `containers`, which lies where QUORUMD_TEST_LIAR names one; `tests/liars`
 # plays them all. No unproved program can be built, so what lies is what stands around the right one.
-liars=(early_start:kill_node early_start:hang_node second_mount:clean_stop agent_goes_on:exit_message)
+liars=(early_start:kill_node early_start:hang_node late_feed:hang_node second_mount:clean_stop stray_reset:clean_stop agent_goes_on:exit_message lost_row:postgres)
 
 # The next host takes the address six seconds after the loss, as if msgwait were none.
 lie_early_start() {
@@ -26,3 +26,12 @@ lie_agent_goes_on() {
     on 1 systemd-socket-activate --listen=/run/quorumd/agent.sock --accept --inetd sh -c 'read -r asked; echo ok' > /dev/null 2>&1 &
     until_true 5 on 1 test -S /run/quorumd/agent.sock
 }
+
+# Each feed reaches the watchdog five seconds late: it is one of ten seconds from the boot on.
+lie_late_feed() { :; }
+
+# A host that has nothing to do with it is reset.
+lie_stray_reset() { kill -KILL "$(lead 3)"; }
+
+# The database forgets a row that it acknowledged.
+lie_lost_row() { sql 'delete from rows where number = 2'; }

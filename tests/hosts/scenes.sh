@@ -1,7 +1,7 @@
 # The scenes. Each is a function that fails where something else came than should. Sourced by `containers`.
 all_scenes='clean_stop exit_message off_message reboot_of_holder poweroff_of_holder kill_node hang_node no_image other_image slow_stop stuck_stop
 by_hand supervisor_dies supervisor_hangs reexecuted reloaded slow_start quorum_back quorum_lost all_off isolated run_full journal_hangs moves stop_while_starting edited start_mode resource_dies start_fails maintenance planned_handover third_handover turns_used renewed three_images confined
-postgres pgsql system_upgraded database_upgraded upgrade purge pages setup page_device page_servers page_etcd acceptance'
+postgres pgsql system_upgraded database_upgraded upgrade purge pages setup setup_by_names page_device page_servers page_etcd acceptance'
 
 # begun [HOST]: the cluster is up and this host holds
 begun() {
@@ -694,4 +694,41 @@ scene_setup() {
         on "$n" systemctl start --no-block "quorumd@$n.service" || return 1
     done
     until_true 30 owner && on 1 cat /etc/systemd/system/quorumd@1.service.d/setup.conf
+}
+
+# bare N: host N as a package alone leaves it, with the names of the hosts, and off
+bare() {
+    local number
+    rm -f "$room/host$1/etc/quorumd/node-$1.env" "$room/host$1/etc/quorumd/corosync.conf" "$room/host$1/etc/quorumd/key"
+    for number in 1 2 3; do echo "192.0.2.$number host$number"; done >> "$room/host$1/etc/hosts"
+}
+
+# set_up_host N WORD..: what a new operator says on host N
+set_up_host() {
+    local n=$1
+    shift
+    on "$n" quorumd-setup /srv/cluster/corosync.conf --image /srv/cluster/disk --watchdog /srv/watchdog/watchdog "$@" || return 1
+    on "$n" sh -c "echo WATCHDOG_IS_NO_DEVICE=yes >> /etc/quorumd/node-$n.env"
+}
+
+# A cluster of hosts by their names: the first one makes the key and the image, each has the same text after it, and each says who holds.
+scene_setup_by_names() {
+    local n sums
+    rm "$shared/disk"
+    sed 's/192\.0\.2\./host/' "$room/corosync.conf" > "$shared/corosync.conf"
+    for n in 1 2 3; do bare "$n" && power "$n"; done
+    for n in 1 2 3; do until_true 30 on "$n" systemctl is-active test-network.service || return 1; done
+    # another host first, which has no key yet
+    set_up_host 2 && return 1
+    set_up_host 1 --create || return 1
+    on 1 cp /etc/quorumd/key /srv/cluster/key
+    for n in 2 3; do set_up_host "$n" --key /srv/cluster/key || return 1; done
+    sums=$(for n in 1 2 3; do on "$n" sha256sum /etc/quorumd/corosync.conf; done | sort -u | wc -l)
+    [ "$sums" = 1 ] || { echo 'the texts of the hosts differ'; return 1; }
+    on 1 grep -A 1 'ring0_addr: 192.0.2.1$' /etc/quorumd/corosync.conf || return 1
+    for n in 1 2 3; do on "$n" systemctl enable --now --no-block "quorumd@$n.service" || return 1; done
+    until_true 30 owns 1 || return 1
+    until_true 20 on 1 quorumctl status || return 1
+    on 1 quorumctl status
+    for n in 1 2 3; do not_reset "$n" || return 1; done
 }
