@@ -1,6 +1,6 @@
 # The scenes. Each is a function that fails where something else came than should. Sourced by `containers`.
 all_scenes='clean_stop exit_message off_message reboot_of_holder poweroff_of_holder kill_node hang_node no_image other_image slow_stop stuck_stop
-by_hand supervisor_dies supervisor_hangs reexecuted reloaded slow_start quorum_back quorum_lost all_off isolated run_full journal_hangs moves stop_while_starting edited start_mode resource_dies start_fails maintenance planned_handover third_handover turns_used renewed three_images confined
+by_hand supervisor_dies supervisor_hangs reexecuted reloaded slow_start quorum_back quorum_lost all_off all_rebooted late_disk late_network isolated run_full journal_hangs moves stop_while_starting edited start_mode resource_dies start_fails maintenance planned_handover third_handover turns_used renewed three_images confined
 postgres pgsql system_upgraded database_upgraded upgrade purge pages setup setup_by_names page_device page_servers page_etcd acceptance'
 
 # begun [HOST]: the cluster is up and this host holds
@@ -333,6 +333,43 @@ scene_all_off() {
     for n in 1 2 3; do not_reset "$n" || return 1; done
 }
 
+# All hosts are rebooted at once: each leaves clean, and one of them owns again.
+scene_all_rebooted() {
+    local n
+    printf '[Service]\nExecStop=/bin/sleep 12\nTimeoutStopSec=90\n' | on_disk slow.conf
+    FIRMWARE=10 begun || return 1
+    fault 'all hosts are rebooted'
+    for n in 1 2 3; do on "$n" systemctl reboot & done
+    until_true 60 nobody_owns || return 1
+    for n in 1 2 3; do until_true 90 unit_is "$n" active || return 1; done
+    for n in 1 2 3; do said "$n" 'event=disarm ok=yes' -b -1 -u "quorumd@$n.service" || return 1; done
+    until_true 40 owner && [ "$(resets 1) $(resets 2) $(resets 3)" = '1 1 1' ]
+}
+
+# The disk image is there twenty seconds after the hosts booted: the nodes wait for it.
+scene_late_disk() {
+    local n
+    mv "$shared/disk" "$shared/disk.away"
+    for n in 1 2 3; do power "$n"; done
+    until_true 40 on 3 systemctl is-active multi-user.target
+    fault 'the image is not there yet'
+    sleep 20
+    mv "$shared/disk.away" "$shared/disk"
+    until_true 60 owner || return 1
+    for n in 1 2 3; do until_true 30 unit_is "$n" active && not_reset "$n" || return 1; done
+}
+
+# The network of a standby comes twenty seconds after the others: it is a member then, and nobody is reset.
+scene_late_network() {
+    mkdir -p "$room/host3/etc/systemd/system/test-network.service.d"
+    printf '[Service]\nExecStartPre=/bin/sleep 20\n' > "$room/host3/etc/systemd/system/test-network.service.d/late.conf"
+    begun || return 1
+    fault 'the network of host 3 is not there yet'
+    until_true 60 unit_is 3 active || return 1
+    until_true 20 said 1 'event=view .*members=1,2,3 ' -u quorumd@1.service || return 1
+    owns 1 && not_reset 1 && not_reset 2 && not_reset 3
+}
+
 # The holder goes to rescue.target: another host takes over, and this one is not reset.
 scene_isolated() {
     FIRMWARE=30 begun || return 1
@@ -495,160 +532,6 @@ scene_confined() {
     on 1 grep -q '^CapEff:[[:space:]]*0*$' "/proc/$pid/status" && on 1 grep -q '^Seccomp:[[:space:]]*2' "/proc/$pid/status" &&
         on 1 chrt -p "$pid" | grep -q SCHED_RR && on 1 cat "/proc/$pid/oom_score_adj" &&
         on 1 journalctl -o cat QUORUMD_NODE=1 | grep -q 'event=start ok=yes'
-}
-
-# database_on_store AGENT: PostgreSQL with its data on the shared disk is the resource, and its clients come from outside the hosts
-database_on_store() {
-    local n root etc
-    # in a name space of its own: a container of another run that starts meanwhile would keep the mount, and the device busy, while it lives
-    mkdir -p "$room/mnt"
-    unshare --mount sh -ec 'mount "$1" "$2"; mv "$3/15" "$2/15"; chown --reference="$3" "$2"; umount "$2"' sh "${loops[1]}" "$room/mnt" "$room/host1/var/lib/postgresql" || return 1
-    for n in 1 2 3; do
-        root=$room/host$n
-        etc=$root/etc/postgresql/15/main
-        rm -rf "$root/var/lib/postgresql/15"
-        echo manual > "$etc/start.conf"
-        echo "listen_addresses = '*'" >> "$etc/postgresql.conf"
-        echo 'host all all 192.0.2.0/24 trust' >> "$etc/pg_hba.conf"
-        sed -i 's#directory = .*#directory = /var/lib/postgresql#; /^\[database\]/,$d' "$root/etc/quorumd/resources.conf"
-        printf '[postgres]\n%s\nmonitor-interval = 2\n\n[database]\nagent = systemd:database.service\nmonitor-interval = 2\n' "$1" >> "$root/etc/quorumd/resources.conf"
-    done
-}
-
-UNIT='agent = systemd:postgresql@15-main.service'
-PGSQL='agent = ocf:heartbeat:pgsql
-pgctl = /usr/lib/postgresql/15/bin/pg_ctl
-psql = /usr/lib/postgresql/15/bin/psql
-pgdata = /var/lib/postgresql/15/main
-config = /etc/postgresql/15/main/postgresql.conf
-socketdir = /var/run/postgresql
-logfile = /var/log/postgresql/ocf.log'
-
-# sql STATEMENT: a client of the cluster's address, who waits for no more than three seconds
-sql() {
-    timeout 3 ip netns exec "$tag" chroot "$base" /usr/lib/postgresql/15/bin/psql -h 192.0.2.100 -U postgres -qAtc "$1" 2> /dev/null
-}
-
-# write_rows: writes the numbers from 1 on, one commit each, and keeps those that were acknowledged, with the time of that
-write_rows() {
-    local number=0
-    : > "$room/acknowledged"
-    while [ ! -e "$room/enough" ]; do
-        number=$((number + 1))
-        ! sql "insert into rows values ($number)" || echo "$number $(date +%s%3N)" >> "$room/acknowledged"
-    done
-}
-
-# load: makes the table, and the writer that goes on until judge_rows
-load() {
-    rm -f "$room/enough"
-    until_true 30 sql 'create table rows (number int primary key)' || return 1
-    write_rows &
-    writer=$!
-    until_true 10 has_rows 5
-}
-
-has_rows() { [ "$(wc -l < "$room/acknowledged")" -ge "$1" ]; }
-grows() { has_rows $(($1 + 5)); }
-
-# writes_again SECONDS: the writer's rows are acknowledged again; says the longest time between two of them
-writes_again() { until_true "$1" grows "$(wc -l < "$room/acknowledged")"; }
-
-# judge_rows: no row is lost that was acknowledged
-judge_rows() {
-    stop_writer
-    cut -d ' ' -f 1 "$room/acknowledged" | sort > "$room/wanted"
-    sql 'select number from rows' | sort > "$room/found"
-    awk 'NR > 1 && $2 - last > longest { longest = $2 - last } { last = $2 } END { print NR, "rows acknowledged, the longest time without one", longest, "ms" }' "$room/acknowledged"
-    [ -s "$room/wanted" ] && [ -z "$(comm -23 "$room/wanted" "$room/found")" ] || { echo "rows that were acknowledged and are lost: $(comm -23 "$room/wanted" "$room/found" | wc -l)"; return 1; }
-}
-
-# postgres_scene AGENT: no row is lost over kill -9 of the server and of the node, and a reboot; the address goes with it
-postgres_scene() {
-    local who
-    database_on_store "$1" || return 1
-    FIRMWARE=20 begun || return 1
-    load || return 1
-    on 1 quorumd-resource status
-    on 1 sh -c 'kill -KILL $(head -n 1 /var/lib/postgresql/15/main/postmaster.pid)'
-    until_true 30 said 1 'postgres: FAILED' || return 1
-    writes_again 40 || return 1
-    fault 'the node of host 1 is killed'
-    on 1 systemctl kill --kill-whom=main -s KILL quorumd@1.service
-    until_true 40 another_owns 1 || return 1
-    who=$(owner)
-    writes_again 40 || return 1
-    on "$who" ip -4 -o addr show dev host0 | grep 192.0.2.100 || return 1
-    until_true 60 unit_is 1 active || return 1
-    on "$who" systemctl reboot
-    until_true 40 another_owns "$who" || return 1
-    writes_again 40 || return 1
-    judge_rows
-}
-
-scene_postgres() { postgres_scene "$UNIT"; }
-scene_pgsql() { postgres_scene "$PGSQL"; }
-
-# installed_anew PACKAGE..: host 1 unpacks and configures these packages of the base anew, as an upgrade does, while it holds
-installed_anew() {
-    local name
-    for name in "$@"; do cp "$base/var/cache/apt/archives/${name}_"*.deb "$room/host1/var/tmp/" || return 1; done
-    on 1 sh -c 'dpkg -i --force-confold /var/tmp/*_*.deb'
-}
-
-# postmaster: the number of the first process of PostgreSQL of host 1
-postmaster() { on 1 head -n 1 /var/lib/postgresql/15/main/postmaster.pid; }
-
-# An upgrade of the system on the holder: the database goes on.
-scene_system_upgraded() {
-    local pid
-    database_on_store "$UNIT" || return 1
-    begun || return 1
-    load || return 1
-    pid=$(postmaster)
-    fault 'libc6 and systemd of host 1 are installed anew'
-    installed_anew libc6 systemd || return 1
-    writes_again 10 || return 1
-    sleep 15
-    [ "$(postmaster)" = "$pid" ] && unit_is 1 active && not_reset 1 && judge_rows
-}
-
-# An upgrade of the database on the holder, in maintenance, as contrib/README.md says: its package starts it again, and nobody else does.
-scene_database_upgraded() {
-    local pid
-    database_on_store "$UNIT" || return 1
-    begun || return 1
-    load || return 1
-    pid=$(postmaster)
-    fault 'PostgreSQL of host 1 is installed anew'
-    on 1 quorumd-resource maintenance on || return 1
-    installed_anew postgresql-15 || return 1
-    on 1 systemctl start postgresql@15-main.service
-    writes_again 20 || return 1
-    on 1 quorumd-resource maintenance off || return 1
-    sleep 10
-    [ "$(postmaster)" != "$pid" ] && unit_is 1 active && not_reset 1 && judge_rows
-}
-
-# A new version of the package under nodes that run and a database that is written: nothing is restarted by it; then the standbys, and the
-# holder last.
-scene_upgrade() {
-    local n
-    database_on_store "$UNIT" || return 1
-    begun || return 1
-    load || return 1
-    fault 'the package is installed anew'
-    for n in 2 3 1; do
-        cp "${QUORUMD_TEST_NEWER:-$package}" "$room/host$n/var/tmp/newer.deb"
-        on "$n" dpkg -i --force-confold /var/tmp/newer.deb || return 1
-        unit_is "$n" active || return 1
-    done
-    owns 1 || return 1
-    for n in 2 3 1; do
-        on "$n" systemctl restart "quorumd@$n.service" || return 1
-        writes_again 40 || return 1
-    done
-    judge_rows && not_reset 1 && not_reset 2 && not_reset 3
 }
 
 # The package is not removed under a node, and a purge leaves nothing.

@@ -64,6 +64,6 @@ for lab in machines hosts; do
     # shellcheck disable=SC1090 # lies.sh of the lab
     (. "$TOP/tests/$lab/lies.sh" && printf '%s\n' "${liars[@]}") | cut -d : -f 2 | while IFS= read -r name; do
         grep -q "^$name	" "$TOP/tests/$lab/bounds"
-        grep -q "^scene_$name() {" "$TOP/tests/$lab/scenes.sh"
+        grep -q "^scene_$name() {" "$TOP/tests/$lab"/*.sh
     done
 done
