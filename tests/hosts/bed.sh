@@ -216,6 +216,9 @@ note_signs() {
     done >> "$room/signs"
 }
 
+# judged_from_now: what hosts had before is not of the cluster: each of them has a database of its own until it is set up
+judged_from_now() { : > "$room/signs"; }
+
 # lead N: the first process of host N. A child that is not in a name space of its own yet is none: a command would run on this machine
 lead() {
     local pid child space own

@@ -77,6 +77,7 @@ from_nothing() {
         sed -i 's#^WATCHDOG=.*#WATCHDOG=/srv/watchdog/watchdog#; $a WATCHDOG_IS_NO_DEVICE=yes' "$room/host$n/etc/quorumd/node-$n.env"
         run check "$n" || return 1
     done
+    judged_from_now
     each_host run start && until_true 60 owns 1 && load && run look 1 && each_host unit_active
 }
 unit_active() { unit_is "$1" active; }
