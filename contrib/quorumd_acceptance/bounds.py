@@ -64,8 +64,8 @@ def standby_reset(times, bed, victim, fault):
     return Wanted(fault, SAME, {victim: Reset(by_watchdog(times))}, None, away, away, bed.barred)
 
 
-def fenced(bound, times, bed, victim, fault, firmware=0.0):
-    return Wanted(fault, OTHER, {victim: Reset(bound, firmware)}, after_fence(times, bed), None, None, bed.barred)
+def fenced(bound, times, bed, victim, fault, firmware=0.0, in_sight=True):
+    return Wanted(fault, OTHER, {victim: Reset(bound, firmware, in_sight)}, after_fence(times, bed), None, None, bed.barred)
 
 
 def hung(times, bed, victim, fault):
@@ -77,16 +77,16 @@ def killed(times, bed, victim, fault):
 
 
 def panicked(times, bed, victim, fault):
-    return fenced(Bound(0.0, by_watchdog(times).most), times, bed, victim, fault, bed.firmware)
+    return fenced(Bound(0.0, by_watchdog(times).most), times, bed, victim, fault, bed.firmware, False)
 
 
 def unplugged(times, bed, victim, fault):
-    return fenced(Bound(0.0, None), times, bed, victim, fault)
+    return fenced(Bound(0.0, None), times, bed, victim, fault, 0.0, False)
 
 
 def cut_off(times, bed, victim, fault):
     most = 4 * times.loop + times.watchdog + times.msgwait
-    return fenced(Bound(0.0, most), times, bed, victim, fault, bed.firmware)
+    return fenced(Bound(0.0, most), times, bed, victim, fault, bed.firmware, False)
 
 
 def without_disk(times, bed, victim, fault):
@@ -97,11 +97,12 @@ def without_disk(times, bed, victim, fault):
 
 
 def rebooted(times, bed, victim, fault):
-    reset = Reset(Bound(0.0, bed.slow * (bed.stop + 90)))
-    return Wanted(fault, OTHER, {victim: reset}, None, 0.99 * times.msgwait, None, bed.barred)
+    """Its ssh ends before it does, so it goes out of sight while its resources stop."""
+    reset = Reset(Bound(0.0, bed.slow * (bed.stop + 90)), 0.0, False)
+    return Wanted(fault, OTHER, {victim: reset}, None, 0.99 * times.msgwait, None, bed.barred, None, bed.slow * bed.stop)
 
 
 def all_off(times, bed, victim, fault):
     start = Bound(None, bed.slow * (times.msgwait + 10 * times.loop + bed.start))
-    resets = {host: Reset(Bound(0.0, None)) for host in bed.hosts}
+    resets = {host: Reset(Bound(0.0, None), 0.0, False) for host in bed.hosts}
     return Wanted(fault, ANY, resets, start, None, None, bed.barred, len(bed.hosts) // 2 + 1)

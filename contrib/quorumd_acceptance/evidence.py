@@ -203,9 +203,12 @@ class Bed:
             return None
         return tuple(row for row in list(self.rows) if begin <= row.when <= end)
 
-    def found(self):
-        """The rows that the database has now; None where it does not answer."""
-        done = carried_out(self.plan.texts["read"], 60, shell=True)
+    def found(self, limit):
+        """The rows that the database has now, which has so long to answer; None where it does not."""
+        end, done = time.monotonic() + limit, None
+        while done is None or (not done.ok() and time.monotonic() < end):
+            done = carried_out(self.plan.texts["read"], 60, shell=True)
+            time.sleep(0 if done.ok() else 1)
         return frozenset(int(word) for word in done.text.split() if word.isdigit()) if done.ok() else None
 
     def last_of(self, host, boot):

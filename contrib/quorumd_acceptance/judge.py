@@ -21,16 +21,18 @@ SIGHT = 0.5  # between two looks, and what the way to this machine adds
 
 @dataclass(frozen=True)
 class Reset:
-    """When a host is to be reset: where it was out of sight from the fault on, its next boot begins at most `firmware` later."""
+    """When a host is to be reset: where it was out of sight from the fault on, its next boot begins at most `firmware` later. It may be out of sight in between
+    where `in_sight` is false: its power, its network or its services end before it does."""
     bound: Bound
     firmware: float = 0.0
+    in_sight: bool = True
 
 
 @dataclass(frozen=True)
 class Wanted:
     """What a test is to show. `start` is the first sign of the next owner after the fault, `gap` the most between the last sign of the old owner and that
-    (of the same owner: the most without the service), `silence` the most without an acknowledged row. A host in `barred` never holds. Where `seen` is a
-    number, `start` counts from when so many hosts are back."""
+    (of the same owner: the most without the service), `silence` the most without an acknowledged row. An owner that went out of sight with its resources has
+    `stop` more. A host in `barred` never holds. Where `seen` is a number, `start` counts from when so many hosts are back."""
     fault: float
     owner: str
     resets: dict = field(default_factory=dict)
@@ -39,6 +41,7 @@ class Wanted:
     silence: float = None
     barred: tuple = ()
     seen: int = None
+    stop: float = 0.0
 
 
 @dataclass(frozen=True)
@@ -97,23 +100,24 @@ def overlaps(evidence):
                 yield failed("TWO OWNERS: %s until %.1f s, %s from %.1f s", one.host, one.last - evidence.begin, two.host, two.first - evidence.begin)
 
 
-def hole_of(evidence, host):
-    """The longest time for which a host was out of sight within one boot."""
+def hole_of(evidence, host, wanted):
+    """The longest time for which a host was out of sight within one boot, but for one that is being ended out of sight."""
     holes = [0.0]
     lives = lives_of(evidence.samples, host)
+    ends = host in wanted.resets and not wanted.resets[host].in_sight
     for life in lives:
         seen = [sample.when for sample in evidence.samples if sample.host == host and sample.boot == life.boot]
-        holes += [after - before for before, after in zip(seen, seen[1:])]
+        holes += [after - before for before, after in zip(seen, seen[1:]) if not (ends and life.first <= wanted.fault < after)]
     return max(holes + [lives[0].first - evidence.begin, evidence.end - lives[-1].last])
 
 
-def unseen(evidence):
+def unseen(evidence, wanted):
     """A host that nobody looked at may have had anything."""
     for host in evidence.hosts:
         if not lives_of(evidence.samples, host):
             yield not_judged("%s was never seen", host)
-        elif hole_of(evidence, host) > HOLE:
-            yield not_judged("%s was out of sight for %.1f s within one boot", host, hole_of(evidence, host))
+        elif hole_of(evidence, host, wanted) > HOLE:
+            yield not_judged("%s was out of sight for %.1f s within one boot", host, hole_of(evidence, host, wanted))
 
 
 def cuts_of(evidence, host, fault):
@@ -176,15 +180,20 @@ def counted_from(evidence, wanted):
     return back[wanted.seen - 1] if len(back) >= wanted.seen else wanted.fault
 
 
+def most_gap(evidence, wanted, old):
+    """The most between the last sign of the old owner and the first of the next one."""
+    lives = [life for life in lives_of(evidence.samples, old.host) if life.boot == old.boot]
+    return wanted.gap + (wanted.stop if old.last == lives[0].last else 0.0)
+
+
 def taken_over(evidence, wanted):
     """Another host, or any where all were off, has the resources: not too early, and not too late."""
     old, new = first_owner(evidence, wanted), next_owner(evidence, wanted)
     if new is None:
         yield failed("NOBODY TOOK OVER")
         return
-    gap = new.first - old.last
-    if wanted.gap is not None and gap > wanted.gap:
-        yield failed("%s took over after %.1f s, and %.1f is the most", new.host, gap, wanted.gap)
+    if wanted.gap is not None and new.first - old.last > most_gap(evidence, wanted, old):
+        yield failed("%s took over after %.1f s, and %.1f is the most", new.host, new.first - old.last, most_gap(evidence, wanted, old))
     if wanted.start is None:
         return
     if wanted.start.least is not None and new.first - wanted.fault < wanted.start.least:
@@ -259,7 +268,7 @@ def orderly(evidence):
 
 def judge(evidence, wanted):
     """The findings: none where the test is passed."""
-    parts = (overlaps(evidence), barred(evidence, wanted), unseen(evidence), resets(evidence, wanted), owners(evidence, wanted), rows(evidence, wanted), orderly(evidence))
+    parts = (overlaps(evidence), barred(evidence, wanted), unseen(evidence, wanted), resets(evidence, wanted), owners(evidence, wanted), rows(evidence, wanted), orderly(evidence))
     return [finding for part in parts for finding in part]
 
 

@@ -78,7 +78,7 @@ class Player:
         self.afterwards(test, victims, wanted, owner)
         end = time.monotonic()
         samples, rows = self.bed.since(begin, end), self.bed.rows_since(begin, end)
-        found = None if rows is None else self.bed.found()
+        found = None if rows is None else self.bed.found(slow * self.plan.numbers["start"] + SETTLE)
         evidence = Evidence(self.plan.hosts(), tuple(self.plan.signs), samples, begin, end, rows, found, {host: self.was_orderly(host)} if test.orderly else {})
         return evidence, wanted
 

@@ -46,5 +46,5 @@ scene_acceptance() {
     "$here/../../contrib/quorumd-acceptance" --yes watchdog,hang,kill,panic,reboot,disk,plug,cable,off "$room/plan" ${ACCEPTANCE_TESTS-} || status=$?
     cat "$room/page.md"
     # panic, disk, server and arbiter have nothing here to be played on
-    [ "$status" = 77 ] && ! grep -q '| not judged |' "$room/page.md"
+    [ "$status" = 0 ] || [ "$status" = 77 ] && ! grep -q '| not judged |' "$room/page.md"
 }

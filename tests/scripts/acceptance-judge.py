@@ -91,6 +91,8 @@ ROWS = [
     ("panic as it is", PASSED, bounds.panicked, "a", scene(10.2, 24.6)),
     ("disk as it is", PASSED, bounds.without_disk, "a", scene(17.0, 31.0)),
     ("reboot as it is", PASSED, bounds.rebooted, "a", orderly(scene(18.0, 16.0, old=12.0), True)),
+    ("reboot, out of sight while it stops", PASSED, bounds.rebooted, "a", orderly(scene(11.0, 24.0), True)),
+    ("reboot, seen once more at its end", PASSED, bounds.rebooted, "a", orderly(without(scene(18.0, 16.0, old=12.0), "a", 12.5, 17.5), True)),
     ("all off as it is", PASSED, bounds.all_off, "all", all_off(60.0)),
     # lies
     ("kill: msgwait is ignored, a start 6 s after the loss", "nobody may within 11.9", bounds.killed, "a", scene(10.4, 16.4)),
@@ -113,6 +115,8 @@ ROWS = [
     ("watchdog of a standby: it takes longer", "6.0 is the most", bounds.standby_reset, "c", standby_reset(17.0)),
     ("watchdog of a standby: another host takes over", "b took over", bounds.standby_reset, "c", standby_reset(14.6, 30.0)),
     ("hang: a bystander is reset too", "c was reset", bounds.hung, "a", scene(14.6, 24.6, extra=life("c", "c2", 60.2, 60.4), until=61.0)),
+    ("reboot: after msgwait", "took over after", bounds.rebooted, "a", orderly(scene(18.0, 23.0, old=12.0), True)),
+    ("reboot: long after it went out of sight", "took over after", bounds.rebooted, "a", orderly(scene(11.0, 34.0), True)),
     ("reboot: it did not leave in order", "did not leave in order", bounds.rebooted, "a", orderly(scene(18.0, 16.0, old=12.0), False)),
     ("all off: nobody starts", "NOBODY TOOK OVER", bounds.all_off, "all", all_off(99.0)),
     ("all off: late", "after enough hosts were back", bounds.all_off, "all", all_off(78.0)),
@@ -120,6 +124,7 @@ ROWS = [
     # neither passed nor failed
     ("the database is not asked at the end", NOT_JUDGED, bounds.killed, "a", with_rows(scene(10.4, 24.6), answers=False)),
     ("a host is not looked at for ten seconds", NOT_JUDGED, bounds.killed, "a", without(scene(10.4, 24.6), "b", 40.0, 50.0)),
+    ("hang: the victim is not looked at before its reset", NOT_JUDGED, bounds.hung, "a", without(scene(14.6, 24.6), "a", 10.5, 14.5)),
     ("a host is never seen", NOT_JUDGED, bounds.killed, "a", without(scene(10.4, 24.6), "c", -1.0, 99.0)),
     ("nobody held before", NOT_JUDGED, bounds.killed, "a", seen([look._replace(signs=frozenset()) for look in scene(10.4, 24.6).samples], 60.0)),
     ("no journal of the boot before", NOT_JUDGED, bounds.rebooted, "a", orderly(scene(18.0, 16.0, old=12.0), None)),
