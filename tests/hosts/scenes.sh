@@ -594,7 +594,7 @@ set_up_host() {
     on "$n" sh -c "echo WATCHDOG_IS_NO_DEVICE=yes >> /etc/quorumd/node-$n.env"
 }
 
-# A cluster of hosts by their names: the first one makes the key and the image, each has the same text after it, and each says who holds.
+# A cluster of hosts by their names: the first one makes the key and the image, each has the same text after it, and the holder says that all is well.
 scene_setup_by_names() {
     local n sums
     rm "$shared/disk"
@@ -611,7 +611,7 @@ scene_setup_by_names() {
     on 1 grep -A 1 'ring0_addr: 192.0.2.1$' /etc/quorumd/corosync.conf || return 1
     for n in 1 2 3; do on "$n" systemctl enable --now --no-block "quorumd@$n.service" || return 1; done
     until_true 30 owns 1 || return 1
-    until_true 20 on 1 quorumctl status || return 1
-    on 1 quorumctl status
+    until_true 20 on 1 sh -c 'quorumctl status /run/quorumd/node-*.json' || return 1
+    on 1 sh -c 'quorumctl status /run/quorumd/node-*.json'
     for n in 1 2 3; do not_reset "$n" || return 1; done
 }
