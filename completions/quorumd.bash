@@ -46,7 +46,7 @@ _quorumd_takes() {
         options=(--id/none/--id --image/image/--image --watchdog/file/--watchdog --resource/file/--resource --port/none/--port --turns/none/--turns --leave/none/--leave '--start-mode/words 0 1/--start-mode')
         ;;
     quorumctl)
-        commands=(settings timing check list wait status history)
+        commands=(settings timing check list wait status history group)
         ;;
     'quorumctl timing')
         options=(--watchdog/none/--watchdog --loop/none/--loop --read-limit/none/--read-limit --feed-delay/none/--feed-delay --disk/none/--disk)

@@ -1,5 +1,5 @@
 """The supervisor of the resources of this host: the main process of quorumd-resource.service, which runs as long as the host does. It starts processes,
-waits for them, listens to the node and to operators, and tells how the resources stand. What is to be done quorumd_group.py says, its child: each event is
+waits for them, listens to the node and to operators, and tells how the resources stand. What is to be done `quorumctl group` says, its child: each event is
 a line, and each answer says what is to be run.
 
 In /run/quorumd:
@@ -25,10 +25,11 @@ import time
 import quorumd_resources as resources
 from quorumd_resources import BROKEN, NOT_RUNNING, OK, RUN, UNKNOWN
 
-STEP = [sys.executable, "-B", os.path.join(os.path.dirname(os.path.realpath(__file__)), "quorumd_group.py")]
+STEP = ["quorumctl", "group"]
 HELD, LEAVE, FAILURES, COPY, MAINTENANCE = (RUN + "/" + name for name in ("started", "leave", "failures", "resources.conf", "maintenance"))
 STATUS, WORD = RUN + "/resource.json", RUN + "/group.word"
 ROUND = 0.1  # seconds between two rounds at the most
+LONGEST_LOOP = 3600000  # milliseconds
 TOLD = 1000  # milliseconds after which how it stands is written again
 # How long the answer to a stop is kept back where nothing is held and something may run: at the opening of a node, which has armed nothing yet and asks once.
 OPENING = 15.0
@@ -85,7 +86,7 @@ def lines_of(path):
 
 
 class Step:
-    """What is to be done, event by event: quorumd_group.py, as a child."""
+    """What is to be done, event by event: `quorumctl group`, as a child."""
 
     def __init__(self, rules, is_held):
         self.child = subprocess.Popen(STEP, stdin=subprocess.PIPE, stdout=subprocess.PIPE, text=True, bufsize=1)
@@ -105,7 +106,7 @@ class Step:
         while True:
             words = self.child.stdout.readline().split()
             if not words:
-                raise SystemExit("%s ended, at the line %r" % (STEP[-1], line))
+                raise SystemExit("%s ended, at the line %r" % (" ".join(STEP), line))
             if words[0] == "goal":
                 self.goal = words[1]
             elif words[0] == "phases":
@@ -228,7 +229,7 @@ class Supervisor:
         self.is_held, self.turn = is_held, None
         names = [resource.name for resource in self.resources]
         for words in (line.split(" ", 2) for line in lines_of(FAILURES)):
-            if len(words) == 3 and words[1] in names:
+            if len(words) == 3 and words[0].isdecimal() and words[1] in names:
                 self.step.write("failed %d %s" % (names.index(words[1]), words[0]))
         if is_there(MAINTENANCE):
             self.event("maintenance on")
@@ -354,7 +355,7 @@ class Supervisor:
                     turn = json.load(file).get("loop")
             except (OSError, ValueError):
                 continue
-            if isinstance(turn, int) and turn != self.turn:
+            if isinstance(turn, int) and 0 < turn <= LONGEST_LOOP and turn != self.turn:
                 self.turn = turn
                 self.step.write("loop %d" % turn)
 

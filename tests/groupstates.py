@@ -1,10 +1,10 @@
-"""Every state that a group can reach, by every event: the laws of a group hold in each step of contrib/quorumd_group.py. Times are kept as differences to now, and cut off above what the step asks for, so the states are finitely many."""
+"""Every state that a group can reach, by every event: the laws of a group hold in each step of tests/groupstep.py. Times are kept as differences to now, and cut off above what the step asks for, so the states are finitely many."""
 import collections
 
 import groupwalks
 from groupwalks import BROKEN, HARD, NOT_RUNNING, OK, UNKNOWN, Rule
 
-first, step = groupwalks.quorumd_group.first, groupwalks.quorumd_group.step
+first, step = groupwalks.groupstep.first, groupwalks.groupstep.step
 
 FORGETTING = 4000
 RULE = Rule(interval=2000, patience=2000, check=2000, stop=2000, limit=1, window=10**9)

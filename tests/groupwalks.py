@@ -1,36 +1,34 @@
-"""Walks of a group of resources that are really there: the step of contrib/quorumd_group.py, as a function and as a program, is judged by their truth.
+"""Walks of a group of resources that are really there: the step of tests/groupstep.py is judged by their truth, and `quorumctl group` is to give the same.
 
 The truth of a resource: whether it runs, and whether an action on it is under way. A monitor says "not running" only where nothing runs and no start is under way; an agent may
 lie about all else: starts that fail and leave something, stops that end well and stop nothing, monitors that do not know.
 """
-import pathlib
+import os
 import random
 import subprocess
-import sys
 
-CONTRIB = pathlib.Path(__file__).resolve().parent.parent / "contrib"
-sys.path.insert(0, str(CONTRIB))
-import quorumd_group
-from quorumd_group import BROKEN, HARD, NOT_RUNNING, OK, UNKNOWN, Rule
+import groupstep
+from groupstep import BROKEN, HARD, NOT_RUNNING, OK, UNKNOWN, Rule
 
 LAWS = ("no ok to a stop while something may run", "no start while the node does not hold", "in order", "down only by a monitor", "a stop before each start again", "one action at a time")
 
 
-STEP = (sys.executable, "-B", str(CONTRIB / "quorumd_group.py"))
-
-
 class Machine:
-    """The step as a function, of contrib/quorumd_group.py or of another module with its names; and what it was handed and gave, as lines."""
+    """The step as a function, of tests/groupstep.py or of another module with its names; and what it was handed and gave, as lines."""
 
-    def __init__(self, rules, held, module=quorumd_group):
+    def __init__(self, rules, held, module=groupstep):
         self.module, self.rules, self.state = module, rules, module.first(len(rules), held)
         self.lines = ["resource %s" % " ".join(map(str, rule)) for rule in rules] + ["begin held" if held else "begin released"]
         self.wanted = [self.view()]
 
     def take(self, event):
+        failures = self.state.failures
         self.state, actions = self.module.step(self.rules, self.state, event)
         self.lines.append(" ".join("on" if word is True else "off" if word is False else str(word) for word in event))
-        self.wanted += [*(" ".join(map(str, action)) for action in actions), self.view()]
+        spelled = [" ".join(map(str, action)) for action in actions]
+        counted = ["counted %d" % event[1]] if self.state.failures != failures else []
+        self.wanted += [line for line in spelled if line.startswith("answer")] + counted
+        self.wanted += [line for line in spelled if not line.startswith("answer")] + [self.view()]
         return actions
 
     def view(self):
@@ -38,10 +36,10 @@ class Machine:
         word, at, fine = self.module.told(self.state)
         return "goal %s\nphases %s\ntold %s %s %s" % (self.state.goal[0], " ".join(phase.name for phase in self.state.phases), word, "-" if at is None else at, "yes" if fine else "no")
 
-    def compare(self, words=STEP):
-        """Hands the same to a program, which is to give the same."""
-        done = subprocess.run(words, input="\n".join(self.lines) + "\n", stdout=subprocess.PIPE, text=True, check=True)
-        got = [line for line in done.stdout.splitlines() if not line.startswith("counted")]
+    def compare(self, words=()):
+        """Hands the same to a program, `quorumctl group` where none is named, which is to give the same."""
+        done = subprocess.run(words or (os.environ["QUORUMCTL"], "group"), input="\n".join(self.lines) + "\n", stdout=subprocess.PIPE, text=True, check=True)
+        got = done.stdout.splitlines()
         wanted = "\n".join(self.wanted).splitlines()
         assert got == wanted, next("wanted %s\ngot    %s" % pair for pair in zip(wanted + [""], got + [""]) if pair[0] != pair[1])
 
@@ -119,7 +117,7 @@ def rules_of(rng, count):
 class Walk:
     """One walk: the events that its seed draws, handed to the step of that module; what it gives is judged."""
 
-    def __init__(self, seed, module=quorumd_group, seen=None):
+    def __init__(self, seed, module=groupstep, seen=None):
         self.rng = random.Random(seed)
         count = self.rng.randint(1, 4)
         rules = rules_of(self.rng, count)
@@ -212,7 +210,7 @@ class Walk:
         raise AssertionError("it never ran")
 
 
-def walk(seed, module=quorumd_group):
+def walk(seed, module=groupstep):
     """A whole walk, which ends where all run; it has how many stops were answered ok."""
     one = Walk(seed, module)
     one.wander()

@@ -1,7 +1,7 @@
 """The step of a group beside the rows of tests/rows/group-steps.tsv, which were worked out elsewhere: each is met in a walk of tests/groupwalks.py, at that step of it.
-The state before it, what is to be done, what is told and the state after it are the row's. As a program the step gives the same as the function, in each tenth walk.
+The state before it, what is to be done, what is told and the state after it are the row's. `quorumctl group` gives the same, in each of these walks.
 
-group-steps.py PROGRAM    by hand: another program that takes these lines, in each walk
+group-steps.py PROGRAM    by hand: another program that takes these lines
 """
 import collections
 import os
@@ -57,7 +57,6 @@ for seed, rows in walks.items():
     seen.before = spell(one.machine.state)
     one.wander(max(rows) + 1)
     assert seen.step > max(rows), seed
-    if sys.argv[1:] or seed % 10 == 0:
-        one.machine.compare(sys.argv[1:] or groupwalks.STEP)
+    one.machine.compare(sys.argv[1:])
     found += len(rows)
 assert found == 320, found

@@ -4,7 +4,7 @@ import types
 
 import groupwalks
 
-TEXT = pathlib.Path(groupwalks.quorumd_group.__file__).read_text()
+TEXT = pathlib.Path(groupwalks.groupstep.__file__).read_text()
 DOWN_AND_OK = 'return state._replace(held=False, goal=("rest",)'
 WRONG = {
     "a stop is answered ok while a start is under way":

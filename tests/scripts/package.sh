@@ -46,7 +46,7 @@ zcat "$doc/changelog.Debian.gz" | head -n 1 | grep -qF "quorumd ($version) "
 same "$(ls control | xargs)" 'conffiles control md5sums postinst postrm prerm'
 same "$(xargs < control/conffiles)" '/etc/quorumd/agent.env /etc/quorumd/node.env'
 same "$(ls root/lib/systemd/system | xargs)" 'quorumd-agent.socket quorumd-agent@.service quorumd-handover.service quorumd-move.service quorumd-renew@.service quorumd-renew@.timer quorumd-resource.service quorumd@.service'
-same "$(ls root/usr/libexec/quorumd | xargs)" 'hand-over node-check node-ended node-images node-leave node-opened quorumd-agent quorumd_acceptance quorumd_group.py quorumd_resources.py quorumd_supervisor.py'
+same "$(ls root/usr/libexec/quorumd | xargs)" 'hand-over node-check node-ended node-images node-leave node-opened quorumd-agent quorumd_acceptance quorumd_resources.py quorumd_supervisor.py'
 same "$(ls root/usr/sbin | xargs)" 'quorumctl quorumd quorumd-acceptance quorumd-resource quorumd-setup'
 same "$(ls root/usr/share/man/man1 root/usr/share/man/man8 | grep gz | xargs)" \
     'scenario.1.gz story.1.gz timeline.1.gz quorumctl.8.gz quorumd-acceptance.8.gz quorumd-agent.8.gz quorumd-resource.8.gz quorumd-setup.8.gz quorumd.8.gz'

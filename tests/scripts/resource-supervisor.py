@@ -46,6 +46,7 @@ def put(path, text, mode=0o755):
 if sys.argv[1:]:
     put(HERE / "ocf/resource.d/t/File", AGENT)
     put(HERE / "calls/systemctl", SYSTEMCTL)
+    (HERE / "calls/quorumctl").symlink_to(os.environ["QUORUMCTL"])
     RUN.mkdir()
     (HERE / "unit").write_text("inactive\n")
 SAID, CALLS = HERE / "said", HERE / "called"

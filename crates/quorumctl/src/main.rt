@@ -3,6 +3,7 @@
 //! Promises: nothing. What it says stands on `qn_control` and `qn_verdict`; a text is judged by `settings_of_text`, as `quorumd` judges it.
 #![tactic(auto)]
 
+mod group;
 mod images;
 mod input;
 mod journals;
@@ -14,6 +15,7 @@ mod table;
 mod texts;
 mod trouble;
 
+use group::group;
 use images::{check, list, wait};
 use journals::history;
 use qn_usage::{USAGE, has_word, help_text, refusal_of, value_of, version_text, words_given};
@@ -83,6 +85,7 @@ fn run<
         "wait" => wait(rt, image, options),
         "status" => Ok(status(rt, words)),
         "history" => history(rt, words),
+        "group" => group(rt),
         _ => Ok(USAGE),
     }
 }

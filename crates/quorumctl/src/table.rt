@@ -38,4 +38,9 @@ pub const QUORUMCTL: &[Synopsis] = &[
         reads: "",
         does: "what the journals of the nodes tell, in the order of time",
     },
+    Synopsis {
+        line: "group",
+        reads: "EVENTS",
+        does: "what is to be done to the resources of a host, event by event, for its supervisor",
+    },
 ];

@@ -14,6 +14,8 @@ pub enum Trouble {
     File(String, io::Error),
     /// The clock cannot be read, or no time be waited for.
     System(io::Error),
+    /// The line of this number on standard input is not taken, for this reason.
+    Line(u64, &'static str),
     /// Out of memory.
     NoMemory,
 }
@@ -30,6 +32,7 @@ impl Trouble {
     /// The exit status.
     pub fn status(&self) -> u8 {
         match self {
+            Trouble::Line(..) => 4,
             Trouble::Input(_) => 6,
             Trouble::Output(_) => WRITE_FAULT,
             Trouble::File(..) | Trouble::System(_) => 8,
@@ -45,6 +48,7 @@ impl fmt::Display for Trouble {
             Trouble::Output(error) => write!(f, "standard output: {error}"),
             Trouble::File(word, error) => write!(f, "{word}: {error}"),
             Trouble::System(error) => write!(f, "{error}"),
+            Trouble::Line(number, why) => write!(f, "standard input: line {number}: {why}"),
             Trouble::NoMemory => write!(f, "out of memory"),
         }
     }

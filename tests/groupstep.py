@@ -1,18 +1,6 @@
-"""The step of a group of resources: what is to be done, event by event. The crate qn_group is the same step, proved.
+"""The step of a group of resources, as it was worked out before the crate qn_group: what is to be done, event by event. `quorumctl group` is held against it.
 
-As a program it reads lines and writes lines, for quorumd_supervisor.py:
-
-    resource INTERVAL PATIENCE CHECK STOP LIMIT WINDOW     one more resource, before `begin`: how often it is looked at, for how long its monitor may not know, for how
-                              long a start is looked at (0: without end) and a stop, and how many failures within which time it may have; times in milliseconds
-    loop N                    how often a node asks: an asking for a stop is forgotten after three times that, and ten seconds at the least
-    begin held|released       whether the node holds, by what was kept of this boot
-    failed AT N               a failure of a resource was counted at that time, before
-    tick N; start; stop; move; maintenance on|off; ended AT start|stop|monitor OUTCOME      the events
-
-After `begin` and each event it writes `answer WORD` where somebody asked (ok, wait, stuck, refused), `counted AT` where a failure is counted, at most one of
-`run AT VERB`, `kill AT` and `leave`, and then `goal WORD`, `phases WORD ..` and `told WORD AT|- yes|no`: whether the group is as it should be.
-
-As a function it is step(rules, state, event) -> (state, actions). Times are milliseconds.
+It is step(rules, state, event) -> (state, actions). Times are milliseconds.
 
 A phase of a resource is one of
   new           nothing is known of it: the supervisor has just begun
@@ -29,7 +17,6 @@ A phase of a resource is one of
 
 A goal is one of: rest (all down), run (all up), restart FROM (down from there on, then run), leave (all down, then the node is to leave).
 """
-import sys
 from collections import namedtuple
 
 Phase = namedtuple("Phase", "name number since unsure asked killed", defaults=(0, None, None, False, False))
@@ -231,66 +218,3 @@ def told(state):
         if phase.unsure is not None:
             return "unsure", at, True
     return ("maintenance", None, True) if state.maintenance else ("runs", None, True)
-
-
-class Lines:
-    """The lines of a supervisor, one after the other."""
-
-    def __init__(self):
-        self.rules, self.state, self.forgetting = (), None, FORGETTING
-
-    def take(self, line):
-        """Takes a line; the lines that are answered."""
-        word, *words = line.split()
-        if word == "resource":
-            self.rules += (Rule(*map(int, words)),)
-        elif word == "loop":
-            self.forgetting = max(FORGETTING, 3 * int(words[0]))
-        elif word == "begin":
-            self.state = first(len(self.rules), words == ["held"])
-            return self.stands()
-        elif word == "failed":
-            self.remember(*map(int, words))
-        else:
-            return self.happen(event_of(word, words))
-        return []
-
-    def remember(self, at, tick):
-        ticks = self.state.failures[at] + (tick,)
-        self.state = self.state._replace(failures=self.state.failures[:at] + (ticks,) + self.state.failures[at + 1:])
-
-    def happen(self, event):
-        before = self.state.failures
-        self.state, actions = step(self.rules, self.state, event, self.forgetting)
-        spelled = [" ".join(map(str, action)) for action in actions]
-        counted = ["counted %d" % event[1]] if self.state.failures != before else []
-        return [line for line in spelled if line.startswith("answer")] + counted + [line for line in spelled if not line.startswith("answer")] + self.stands()
-
-    def stands(self):
-        """How the group stands."""
-        word, at, fine = told(self.state)
-        phases = [phase.name for phase in self.state.phases]
-        return ["goal %s" % self.state.goal[0], " ".join(["phases"] + phases), "told %s %s %s" % (word, "-" if at is None else at, "yes" if fine else "no")]
-
-
-def event_of(word, words):
-    """The event that a line spells."""
-    if word == "tick":
-        return (word, int(words[0]))
-    if word == "maintenance":
-        return (word, words == ["on"])
-    if word == "ended":
-        return (word, int(words[0]), *words[1:])
-    return (word,)
-
-
-def main():
-    lines = Lines()
-    for line in sys.stdin:
-        for answer in lines.take(line):
-            print(answer)
-        sys.stdout.flush()
-
-
-if __name__ == "__main__":
-    main()

@@ -1,0 +1,6 @@
+pub mod LineNames
+pub mod Words
+pub mod Lines
+pub mod Reading
+pub mod Replies
+pub mod Steps
