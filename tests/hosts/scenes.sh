@@ -322,15 +322,17 @@ scene_journal_hangs() {
     until_true 25 again "$pid" && not_reset 1
 }
 
-# All hosts are switched off at once, with a database that takes twelve seconds to stop: in order, and they stay off.
+# All hosts are switched off at once, with a database that takes thirty seconds to stop: in order, they stay off, and each has left clean.
 scene_all_off() {
     local n
-    printf '[Service]\nExecStop=/bin/sleep 12\nTimeoutStopSec=90\n' | on_disk slow.conf
+    printf '[Service]\nExecStop=/bin/sleep 30\nTimeoutStopSec=90\n' | on_disk slow.conf
     FIRMWARE=25 begun || return 1
     fault 'all hosts are switched off in order'
     for n in 1 2 3; do on "$n" systemctl poweroff & done
     for n in 1 2 3; do until_true 90 is_off "$n" || return 1; done
     for n in 1 2 3; do not_reset "$n" || return 1; done
+    cp "$shared/disk" "$room/host1/var/tmp/" || return 1
+    [ "$(in_root "$room/host1" quorumd list --image /var/tmp/disk | grep -c ' clean ')" = 3 ]
 }
 
 # All hosts are rebooted at once: each leaves clean, and one of them owns again.
