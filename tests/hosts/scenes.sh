@@ -1,5 +1,5 @@
 # The scenes. Each is a function that fails where something else came than should. Sourced by `containers`.
-all_scenes='clean_stop exit_message off_message reboot_of_holder poweroff_of_holder kill_node hang_node no_image other_image slow_stop stuck_stop
+all_scenes='clean_stop exit_message off_message reboot_of_holder poweroff_of_holder kill_node hang_node cable_cut deaf_holder no_image other_image slow_stop stuck_stop
 by_hand supervisor_dies supervisor_hangs reexecuted reloaded slow_start quorum_back quorum_lost all_off all_rebooted late_disk late_network isolated run_full journal_hangs moves stop_while_starting edited start_mode resource_dies start_fails maintenance planned_handover third_handover turns_used renewed three_images confined
 postgres pgsql system_upgraded database_upgraded upgrade purge pages setup setup_by_names page_device page_servers page_etcd acceptance'
 
@@ -97,6 +97,35 @@ scene_hang_node() {
     on 1 systemctl kill --kill-whom=main -s STOP quorumd@1.service
     until_true 30 another_owns 1 || return 1
     grep 'host1 watchdog' "$room/events" && until_true 60 unit_is 1 active
+}
+
+# cut_link A B: what host A sends comes to host B no more, also after a reset of either
+cut_link() {
+    ip netns exec "$tag" nft "add table bridge cuts; add chain bridge cuts forward { type filter hook forward priority 0; };
+        add rule bridge cuts forward ip saddr 192.0.2.$1 ip daddr 192.0.2.$2 drop"
+}
+
+# The cable between two hosts is cut for good: the standby of them is reset once, and stays off the majority; the holder goes on.
+scene_cable_cut() {
+    local pid
+    begun || return 1
+    pid=$(database 1)
+    fault 'the cable between hosts 1 and 2 is cut for good'
+    cut_link 1 2 && cut_link 2 1 || return 1
+    until_true 30 resets 2 || return 1
+    sleep 45
+    [ "$(resets 2) $(resets 3)" = '1 0' ] && unit_is 2 active && is_as_before "$pid"
+}
+
+# The holder hears nobody any more, and is heard: it stops and is reset, another host owns after msgwait, and once it is back it waits.
+scene_deaf_holder() {
+    FIRMWARE=20 begun || return 1
+    fault 'host 1 hears nobody, for good'
+    cut_link 2 1 && cut_link 3 1 || return 1
+    until_true 60 another_owns 1 || return 1
+    until_true 60 unit_is 1 active || return 1
+    sleep 30
+    [ "$(resets 1) $(resets 2) $(resets 3)" = '1 0 0' ] && another_owns 1
 }
 
 # A host that boots without the image stays up, and its unit fails.

@@ -120,17 +120,12 @@ hears() {
     bridge -n "$tag" fdb flush dev t1 2> /dev/null || ip -n "$tag" link set t1 type bridge_slave fdb_flush
 }
 
-# A holder that hears nobody stops, and is not reset, since the others hear it. Nobody starts until it hears again.
+# A holder that hears nobody says so: the others do without it, and reset it.
 scene_hears_nobody() {
-    begun nbd || return 1
+    FIRMWARE=60 begun nbd || return 1
     fault 'machine 1 hears nobody'
     hears off
-    until_true 30 nobody_owns || return 1
-    sleep 30
-    nobody_owns && resets_are 0 0 0 || return 1
-    note 'it hears again'
-    hears on
-    until_true 40 owner && resets_are 0 0 0
+    by_message
 }
 
 # A disk that moves a hundred bytes a second answers after the read limit.
