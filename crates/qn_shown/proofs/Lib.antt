@@ -1,0 +1,6 @@
+mod LineWords
+mod Times
+mod ValuesBack
+mod Members
+mod ReadBack
+mod ListsRead

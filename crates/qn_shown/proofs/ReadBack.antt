@@ -1,0 +1,332 @@
+-- The text of what a node shows is read back.
+use Rattle.std.proofs.Common.{◌≡◌, ◌≤◌, ℕ, ◌<◌, ◌^◌, List, [], ◌∷◌, Option, Some, None, option_and_then, option_map, refl, sym, ap, ap₂, ◌∙◌, ◌==◌, if◌then◌else◌, codes, arith}
+use Rattle.json.specs.Json.{Json, null, boolean, number, string, array, object, document}
+use Rattle.json.specs.Find.{as_bool, get, get_member}
+use Rattle.json.specs.Tree.{HasNumbers, depth}
+use Rattle.json.proofs.Printed.Decimals.{IsNumber-decimal}
+use Rattle.json.proofs.Printed.Trees.{document-print}
+use Rattle.qn_base.specs.declared.ids.NodeId.{NodeId}
+use Rattle.qn_model.specs.declared.votes.Answer.{Answer}
+use Rattle.qn_shown.specs.declared.shown.Counts.{Counts}
+use Rattle.qn_shown.specs.declared.shown.Mailbox.{Mailbox}
+use Rattle.qn_shown.specs.declared.shown.Peer.{Peer}
+use Rattle.qn_shown.specs.declared.shown.Shown.{Shown}
+use Rattle.qn_shown.specs.declared.shown.ShownView.{ShownView}
+use Rattle.qn_shown.specs.Entries.{Entry, entries_members}
+use Rattle.qn_shown.specs.Fits.{AllOf, Fits, FitsTypes, IsId, OnValue, PeerFits, ViewFits, Within}
+use Rattle.qn_shown.specs.Kinds.{id_in, mail_in, period_in, phase_in, text_in, time_in, time_text, whole_in}
+use Rattle.qn_shown.specs.Reading.{◌<*>◌, answer_in, counts_in, format_in, if_there, ids_in, key_in, mailbox_in, optional_in, or_null, peer_in, peers_in, shown_by, shown_in, shown_of, view_in}
+use Rattle.qn_shown.specs.Spelling.{id_json, items_of, json_or_null, peer_entries, peer_json, shown_entries, shown_json, shown_text, view_entries, view_json, whole}
+use Rattle.qn_shown.proofs.Members.{AreFlat, HaveNumbers, ValueHasNumbers, ValueIsFlat, flat, found, items_flat, items_numbers, last_of, numbers}
+use Rattle.qn_shown.proofs.ValuesBack.{all_back, both, id_back, list_back, mail_back, null_back, period_back, phase_back, text_back, time_in_back, whole_back}
+use Rattle.qn_shown.proofs.Times.{time_number}
+
+-- a key is found, and its value is read
+key : {A : Type 0} (reads : Json → Option A) (name : List ℕ) (entries : List Entry) (j : Json) (a : A) → last_of name entries ≡ Some j → reads j ≡ Some a
+    → key_in reads name (object (entries_members entries)) ≡ Some a
+key reads name entries j a at back = ap (option_and_then reads) (found name entries ∙ at) ∙ back
+
+maybe_whole : (n : Option ℕ) → OnValue Fits n → or_null whole_in (json_or_null whole n) ≡ Some n
+maybe_whole n fits = null_back whole whole_in whole_back (λ n. refl) n fits
+
+maybe_id : (id : Option NodeId) → OnValue IsId id → or_null id_in (json_or_null id_json id) ≡ Some id
+maybe_id id fits = null_back id_json id_in id_back (λ id. refl) id fits
+
+maybe_text : (text : Option (List ℕ)) → OnValue (Within 256) text → or_null (text_in 256) (json_or_null string text) ≡ Some text
+maybe_text text fits = null_back string (text_in 256) (text_back 256) (λ text. refl) text fits
+
+peer_back : (peer : Peer) → PeerFits peer → peer_in (peer_json peer) ≡ Some peer
+peer_back peer fits =
+    let es = peer_entries peer in
+    let hello = key (or_null whole_in) (codes "hello_tick") es _ peer.hello_tick refl (maybe_whole peer.hello_tick fits.0) in
+    let step0 = both (Some (λ hello id. record { hello_tick = hello; id = id })) _ _ peer.hello_tick refl hello in
+    both _ _ _ peer.id step0 (key id_in (codes "id") es _ peer.id refl (id_back peer.id fits.1))
+
+view_back : (view : ShownView) → ViewFits view → view_in (view_json view) ≡ Some view
+view_back view fits =
+    let es = view_entries view in
+    let id = key whole_in (codes "id") es _ view.id refl (whole_back view.id fits.id) in
+    let step0 = both (Some (λ id members. record { id = id; members = record { items = members } })) _ _ view.id refl id in
+    both _ _ _ view.members.items step0
+    (key ids_in (codes "members") es _ view.members.items refl (list_back id_json id_in id_back view.members.items fits.members fits.count))
+
+maybe_view : (view : Option ShownView) → OnValue ViewFits view → or_null view_in (json_or_null view_json view) ≡ Some view
+maybe_view view fits = null_back view_json view_in view_back (λ view. refl) view fits
+
+answer_back : (s : Shown) → FitsTypes s → answer_in (shown_json s) ≡ Some s.answer
+answer_back s fit =
+    let es = shown_entries s in
+    let step0 = both (Some (λ expected quorate quorum released votes. record { votes = votes; quorum = quorum; expected = expected; quorate = quorate; released = released })) _ _ s.answer.expected refl (key whole_in (codes "expected") es _ s.answer.expected refl (whole_back _ fit.answer.expected)) in
+    let step1 = both _ _ _ s.answer.quorate step0 (key as_bool (codes "quorate") es _ s.answer.quorate refl refl) in
+    let step2 = both _ _ _ s.answer.quorum step1 (key whole_in (codes "quorum") es _ s.answer.quorum refl (whole_back _ fit.answer.quorum)) in
+    let step3 = both _ _ _ s.answer.released step2 (key as_bool (codes "released") es _ s.answer.released refl refl) in
+    both _ _ _ s.answer.votes step3 (key whole_in (codes "votes") es _ s.answer.votes refl (whole_back _ fit.answer.votes))
+
+counts_back : (s : Shown) → FitsTypes s → counts_in (shown_json s) ≡ Some s.counts
+counts_back s fit =
+    let es = shown_entries s in
+    let step0 = both (Some (λ dropped late refused unwritten. record { dropped = dropped; late = late; refused = refused; unwritten = unwritten })) _ _ s.counts.dropped refl (key whole_in (codes "dropped") es _ s.counts.dropped refl (whole_back _ fit.counts.dropped)) in
+    let step1 = both _ _ _ s.counts.late step0 (key whole_in (codes "late") es _ s.counts.late refl (whole_back _ fit.counts.late)) in
+    let step2 = both _ _ _ s.counts.refused step1 (key whole_in (codes "refused") es _ s.counts.refused refl (whole_back _ fit.counts.refused)) in
+    both _ _ _ s.counts.unwritten step2 (key whole_in (codes "unwritten") es _ s.counts.unwritten refl (whole_back _ fit.counts.unwritten))
+
+mailbox_back : (s : Shown) → FitsTypes s → mailbox_in (shown_json s) ≡ Some s.mailbox
+mailbox_back s fit =
+    let es = shown_entries s in
+    let step0 = both (Some (λ state by tick. record { state = state; by = by; tick = tick })) _ _ s.mailbox.state refl (key mail_in (codes "mail") es _ s.mailbox.state refl (mail_back s.mailbox.state)) in
+    let step1 = both _ _ _ s.mailbox.by step0 (key (or_null id_in) (codes "mail_by") es _ s.mailbox.by refl (maybe_id s.mailbox.by fit.mailbox.by)) in
+    both _ _ _ s.mailbox.tick step1 (key (or_null whole_in) (codes "mail_tick") es _ s.mailbox.tick refl (maybe_whole s.mailbox.tick fit.mailbox.tick))
+
+-- a key that may be left out
+name_there : (s : Shown) → last_of (codes "name") (shown_entries s) ≡ option_map string s.name
+name_there s = by_name s.name
+  where
+    by_name : (name : Option (List ℕ)) → last_of (codes "name") (shown_entries (record s { name = name })) ≡ option_map string name
+    by_name None = refl
+    by_name (Some text) = refl
+
+name_read : (name : Option (List ℕ)) → OnValue (Within 63) name → if_there (text_in 63) (option_map string name) ≡ Some name
+name_read None fits = refl
+name_read (Some text) fits = ap (option_map (λ t. Some t)) (text_back 63 text fits)
+
+name_back : (s : Shown) → FitsTypes s → optional_in (text_in 63) (codes "name") (shown_json s) ≡ Some s.name
+name_back s fit = ap (if_there (text_in 63)) (found (codes "name") (shown_entries s) ∙ name_there s) ∙ name_read s.name fit.name
+
+format_back : (s : Shown) → format_in (shown_json s) ≡ Some tt
+format_back s =
+    ap (option_and_then (λ format. if format == 1 then Some tt else None)) (key whole_in (codes "format") (shown_entries s) _ 1 refl (whole_back 1 (omega arith)))
+
+read_shown : (s : Shown) → FitsTypes s → shown_of (shown_json s) ≡ Some s
+read_shown s fit =
+    let es = shown_entries s in
+    let step0 = both (Some shown_by) _ _ tt refl (format_back s) in
+    let step1 = both _ _ _ s.answer step0 (answer_back s fit) in
+    let step2 = both _ _ _ s.counts step1 (counts_back s fit) in
+    let step3 = both _ _ _ s.end step2 (key (or_null (text_in 256)) (codes "end") es _ s.end refl (maybe_text s.end fit.end)) in
+    let step4 = both _ _ _ s.holds step3 (key as_bool (codes "holds") es _ s.holds refl refl) in
+    let step5 = both _ _ _ s.id step4 (key id_in (codes "id") es _ s.id refl (id_back s.id fit.id)) in
+    let step6 = both _ _ _ s.incarnation step5 (key (or_null whole_in) (codes "incarnation") es _ s.incarnation refl (maybe_whole s.incarnation fit.incarnation)) in
+    let step7 = both _ _ _ s.loop_ms step6 (key period_in (codes "loop") es _ s.loop_ms refl (period_back s.loop_ms fit.loop_ms)) in
+    let step8 = both _ _ _ s.mailbox step7 (mailbox_back s fit) in
+    let step9 = both _ _ _ s.name step8 (name_back s fit) in
+    let step10 = both _ _ _ s.peers.items step9 (key peers_in (codes "peers") es _ s.peers.items refl (list_back peer_json peer_in peer_back s.peers.items fit.peers fit.peer_count)) in
+    let step11 = both _ _ _ s.phase step10 (key phase_in (codes "phase") es _ s.phase refl (phase_back s.phase)) in
+    let step12 = both _ _ _ s.pid step11 (key whole_in (codes "pid") es _ s.pid refl (whole_back s.pid fit.pid)) in
+    let step13 = both _ _ _ s.tick step12 (key whole_in (codes "tick") es _ s.tick refl (whole_back s.tick fit.tick)) in
+    let step14 = both _ _ _ s.time_ms step13 (key time_in (codes "time") es _ s.time_ms refl (time_in_back s.time_ms fit.time_ms)) in
+    let step15 = both _ _ _ s.view step14 (key (or_null view_in) (codes "view") es _ s.view refl (maybe_view s.view fit.view)) in
+    both _ _ _ s.why step15 (key (text_in 256) (codes "why") es _ s.why refl (text_back 256 s.why fit.why))
+
+-- the numbers of the text are numbers
+whole_number : (n : ℕ) → Fits n → HasNumbers (whole n)
+whole_number n fits = IsNumber-decimal n fits
+
+id_number : (id : NodeId) → IsId id → HasNumbers (id_json id)
+id_number id is = IsNumber-decimal id.0 (omega (arith, is.1))
+
+null_number : {A : Type 0} {P : A → Type 0} (spells : A → Json) → ((a : A) → P a → HasNumbers (spells a)) → (o : Option A) → OnValue P o → HasNumbers (json_or_null spells o)
+null_number spells one None fits = tt
+null_number spells one (Some a) fits = one a fits
+
+peer_number : (peer : Peer) → PeerFits peer → HasNumbers (peer_json peer)
+peer_number peer fits = (null_number whole whole_number peer.hello_tick fits.0, (id_number peer.id fits.1, tt))
+
+view_number : (view : ShownView) → ViewFits view → HasNumbers (view_json view)
+view_number view fits = (whole_number view.id fits.id, (items_numbers id_json id_number view.members.items fits.members, tt))
+
+text_number : (text : Option (List ℕ)) → HasNumbers (json_or_null string text)
+text_number None = tt
+text_number (Some text) = tt
+
+name_number : (name : Option (List ℕ)) → ValueHasNumbers (option_map string name)
+name_number None = tt
+name_number (Some text) = tt
+
+shown_number : (s : Shown) → FitsTypes s → HaveNumbers (shown_entries s)
+shown_number s fit = (
+  whole_number s.counts.dropped fit.counts.dropped,
+  (
+    text_number s.end,
+    (
+      whole_number s.answer.expected fit.answer.expected,
+      (
+        IsNumber-decimal 1 (omega arith),
+        (
+          tt,
+          (
+            id_number s.id fit.id,
+            (
+              null_number whole whole_number s.incarnation fit.incarnation,
+              (
+                whole_number s.counts.late fit.counts.late,
+                (
+                  whole_number s.loop_ms (omega (arith, fit.loop_ms)),
+                  (
+                    tt,
+                    (
+                      null_number id_json id_number s.mailbox.by fit.mailbox.by,
+                      (
+                        null_number whole whole_number s.mailbox.tick fit.mailbox.tick,
+                        (
+                          name_number s.name,
+                          (
+                            items_numbers peer_json peer_number s.peers.items fit.peers,
+                            (
+                              tt,
+                              (
+                                whole_number s.pid fit.pid,
+                                (
+                                  tt,
+                                  (
+                                    whole_number s.answer.quorum fit.answer.quorum,
+                                    (
+                                      whole_number s.counts.refused fit.counts.refused,
+                                      (
+                                        tt,
+                                        (
+                                          whole_number s.tick fit.tick,
+                                          (
+                                            time_number s.time_ms fit.time_ms,
+                                            (
+                                              whole_number s.counts.unwritten fit.counts.unwritten,
+                                              (
+                                                null_number view_json view_number s.view fit.view,
+                                                (
+                                                  whole_number s.answer.votes fit.answer.votes,
+                                                  (
+                                                    tt,
+                                                    tt,
+                                                  ),
+                                                ),
+                                              ),
+                                            ),
+                                          ),
+                                        ),
+                                      ),
+                                    ),
+                                  ),
+                                ),
+                              ),
+                            ),
+                          ),
+                        ),
+                      ),
+                    ),
+                  ),
+                ),
+              ),
+            ),
+          ),
+        ),
+      ),
+    ),
+  ),
+)
+
+-- how deep it nests
+flat_or_null : {A : Type 0} (most : ℕ) (spells : A → Json) → ((a : A) → depth (spells a) ≤ most) → (o : Option A) → depth (json_or_null spells o) ≤ most
+flat_or_null most spells one None = omega arith
+flat_or_null most spells one (Some a) = one a
+
+peer_flat : (peer : Peer) → depth (peer_json peer) ≤ 1
+peer_flat peer = let hello = flat_or_null 0 whole (λ n. omega arith) peer.hello_tick in omega (arith, hello)
+
+view_flat : (view : ShownView) → depth (view_json view) ≤ 2
+view_flat view = let ids = items_flat 0 id_json (λ id. omega arith) view.members.items in omega (arith, ids)
+
+name_flat : (name : Option (List ℕ)) → ValueIsFlat 2 (option_map string name)
+name_flat None = tt
+name_flat (Some text) = omega arith
+
+peers_flat : (peers : List Peer) → depth (array (items_of peer_json peers)) ≤ 2
+peers_flat peers = let one = items_flat 1 peer_json peer_flat peers in omega (arith, one)
+
+shown_flat : (s : Shown) → AreFlat 2 (shown_entries s)
+shown_flat s = (
+  zero_two,
+  (
+    flat_or_null 2 string (λ text. omega arith) s.end,
+    (
+      zero_two,
+      (
+        zero_two,
+        (
+          zero_two,
+          (
+            zero_two,
+            (
+              flat_or_null 2 whole (λ n. omega arith) s.incarnation,
+              (
+                zero_two,
+                (
+                  zero_two,
+                  (
+                    zero_two,
+                    (
+                      flat_or_null 2 id_json (λ id. omega arith) s.mailbox.by,
+                      (
+                        flat_or_null 2 whole (λ n. omega arith) s.mailbox.tick,
+                        (
+                          name_flat s.name,
+                          (
+                            peers_flat s.peers.items,
+                            (
+                              zero_two,
+                              (
+                                zero_two,
+                                (
+                                  zero_two,
+                                  (
+                                    zero_two,
+                                    (
+                                      zero_two,
+                                      (
+                                        zero_two,
+                                        (
+                                          zero_two,
+                                          (
+                                            zero_two,
+                                            (
+                                              zero_two,
+                                              (
+                                                flat_or_null 2 view_json view_flat s.view,
+                                                (
+                                                  zero_two,
+                                                  (
+                                                    zero_two,
+                                                    tt,
+                                                  ),
+                                                ),
+                                              ),
+                                            ),
+                                          ),
+                                        ),
+                                      ),
+                                    ),
+                                  ),
+                                ),
+                              ),
+                            ),
+                          ),
+                        ),
+                      ),
+                    ),
+                  ),
+                ),
+              ),
+            ),
+          ),
+        ),
+      ),
+    ),
+  ),
+)
+  where
+    zero_two : 0 ≤ 2
+    zero_two = omega arith
+
+pub read_back : (s : Shown) → FitsTypes s → shown_in (shown_text s) ≡ Some s
+read_back s fit =
+    let shallow = flat 2 (shown_entries s) (shown_flat s) in
+    ap (option_and_then shown_of) (document-print (shown_json s) (numbers (shown_entries s) (shown_number s fit)) (omega (arith, shallow)))
+    ∙ read_shown s fit

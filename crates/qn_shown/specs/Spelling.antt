@@ -1,0 +1,77 @@
+-- The text of what a node shows: one object of JSON (RFC 8259) without spaces, its keys in alphabetical order (docs/STATUS.md). This project's profile.
+use Rattle.std.specs.Prelude.{ℕ, List, [], ◌∷◌, Option, Some, None, option_map, codes, decimal}
+use Rattle.json.specs.Json.{Json, null, boolean, number, string, array, object, Items, no_items, item}
+use Rattle.json.specs.Print.{print}
+use Rattle.json.specs.Tree.{json_tokens}
+use Rattle.qn_base.specs.declared.ids.NodeId.{NodeId}
+use Rattle.qn_names.specs.PhaseNames.{phase_name}
+use Rattle.qn_shown.specs.declared.shown.Peer.{Peer}
+use Rattle.qn_shown.specs.declared.shown.Shown.{Shown}
+use Rattle.qn_shown.specs.declared.shown.ShownView.{ShownView}
+use Rattle.qn_shown.specs.Entries.{Entry, entries_members}
+use Rattle.qn_shown.specs.Kinds.{time_text}
+use Rattle.qn_shown.specs.Words.{mail_word}
+
+abbrev pub whole : ℕ → Json
+whole n = number (decimal n)
+
+abbrev pub id_json : NodeId → Json
+id_json id = whole id.0
+
+abbrev pub json_or_null : {A : Type 0} → (A → Json) → Option A → Json
+json_or_null spells None = null
+json_or_null spells (Some a) = spells a
+
+abbrev pub items_of : {A : Type 0} → (A → Json) → List A → Items
+items_of spells [] = no_items
+items_of spells (a ∷ rest) = item (spells a) (items_of spells rest)
+
+abbrev pub peer_entries : Peer → List Entry
+peer_entries peer = (codes "hello_tick", Some (json_or_null whole peer.hello_tick)) ∷ (codes "id", Some (id_json peer.id)) ∷ []
+
+abbrev pub peer_json : Peer → Json
+peer_json peer = object (entries_members (peer_entries peer))
+
+abbrev pub view_entries : ShownView → List Entry
+view_entries view = (codes "id", Some (whole view.id)) ∷ (codes "members", Some (array (items_of id_json view.members.items))) ∷ []
+
+abbrev pub view_json : ShownView → Json
+view_json view = object (entries_members (view_entries view))
+
+-- the keys, with their values; of `name` where there is one
+abbrev pub shown_entries : Shown → List Entry
+shown_entries s =
+    (codes "dropped", Some (whole s.counts.dropped))
+    ∷ (codes "end", Some (json_or_null string s.end))
+    ∷ (codes "expected", Some (whole s.answer.expected))
+    ∷ (codes "format", Some (whole 1))
+    ∷ (codes "holds", Some (boolean s.holds))
+    ∷ (codes "id", Some (id_json s.id))
+    ∷ (codes "incarnation", Some (json_or_null whole s.incarnation))
+    ∷ (codes "late", Some (whole s.counts.late))
+    ∷ (codes "loop", Some (whole s.loop_ms))
+    ∷ (codes "mail", Some (string (mail_word s.mailbox.state)))
+    ∷ (codes "mail_by", Some (json_or_null id_json s.mailbox.by))
+    ∷ (codes "mail_tick", Some (json_or_null whole s.mailbox.tick))
+    ∷ (codes "name", option_map string s.name)
+    ∷ (codes "peers", Some (array (items_of peer_json s.peers.items)))
+    ∷ (codes "phase", Some (string (phase_name s.phase)))
+    ∷ (codes "pid", Some (whole s.pid))
+    ∷ (codes "quorate", Some (boolean s.answer.quorate))
+    ∷ (codes "quorum", Some (whole s.answer.quorum))
+    ∷ (codes "refused", Some (whole s.counts.refused))
+    ∷ (codes "released", Some (boolean s.answer.released))
+    ∷ (codes "tick", Some (whole s.tick))
+    ∷ (codes "time", Some (number (time_text s.time_ms)))
+    ∷ (codes "unwritten", Some (whole s.counts.unwritten))
+    ∷ (codes "view", Some (json_or_null view_json s.view))
+    ∷ (codes "votes", Some (whole s.answer.votes))
+    ∷ (codes "why", Some (string s.why))
+    ∷ []
+
+abbrev pub shown_json : Shown → Json
+shown_json s = object (entries_members (shown_entries s))
+
+-- the text
+abbrev pub shown_text : Shown → List ℕ
+shown_text s = print (json_tokens (shown_json s))

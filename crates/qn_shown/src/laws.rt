@@ -1,0 +1,17 @@
+//! What a reader of a status file and of a journal rests on.
+ghost use Rattle.std.specs.Prelude.{◌≡◌, List, Some};
+ghost use Rattle.qn_shown.specs.declared.shown.Shown.{Shown};
+ghost use Rattle.qn_shown.specs.Fits.{FitsTypes};
+ghost use Rattle.qn_shown.specs.LineWords.{AreWords, LineWord, words_in, words_text};
+ghost use Rattle.qn_shown.specs.Reading.{shown_in};
+ghost use Rattle.qn_shown.specs.Spelling.{shown_text};
+
+/// The text of what a node shows is read as what it shows.
+pub fn law_shown_read_back()
+    ensures { (shown : Shown) → FitsTypes shown → shown_in (shown_text shown) ≡ Some shown }
+{}
+
+/// The words of a line of the journal are read as they were written.
+pub fn law_words_read_back()
+    ensures { (words : List LineWord) → AreWords words → words_in (words_text words) ≡ Some words }
+{}
