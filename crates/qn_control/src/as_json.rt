@@ -3,7 +3,9 @@ use crate::cluster::{ClusterStatus, UnreadFile};
 use crate::image::ImageSeen;
 use crate::image_json::add_nodes as add_nodes_of_image;
 use crate::text::Text;
-use qn_verdict::{NodeFile, PeerOfFile, ViewOfFile};
+use qn_names::phase_name;
+use qn_shown::{Peer, Shown, ShownView};
+use qn_verdict::is_stale;
 use std::alloc::{AllocError, Global};
 
 /// One line: an object with the slots and the mailboxes of an image, where one is looked at; the nodes and the files that are none; the
@@ -56,40 +58,44 @@ fn add_unread(json: &mut Text, file: &UnreadFile) {
     json.add(",\"stale\":true}");
 }
 
-fn add_node(json: &mut Text, cluster: &ClusterStatus, node: &NodeFile) {
+fn add_node(json: &mut Text, cluster: &ClusterStatus, node: &Shown) {
     json.add_number("{\"age\":", cluster.age(node));
-    json.add_number(",\"dropped\":", node.dropped);
+    json.add_number(",\"dropped\":", node.counts.dropped);
     json.add(",\"end\":");
     match &node.end {
         Some(end) => json.add_string(end.as_str()),
         None => json.add("null"),
     }
-    json.add_number(",\"expected\":", node.expected);
+    json.add_number(",\"expected\":", node.answer.expected);
     json.add_truth(",\"format\":1,\"holds\":", node.holds);
     json.add_number(",\"id\":", u64::from(node.id.0));
     json.add_number_or_null(",\"incarnation\":", node.incarnation);
-    json.add_number(",\"late\":", node.late);
+    json.add_number(",\"late\":", node.counts.late);
     json.add_number(",\"loop\":", u64::from(node.loop_ms));
     add_mail(json, node);
+    if let Some(name) = &node.name {
+        json.add(",\"name\":");
+        json.add_string(name.as_str());
+    }
     json.add(",\"peers\":");
     add_peers(json, node.peers.as_slice());
     json.add(",\"phase\":");
-    json.add_string(node.phase.name());
+    json.add_string(phase_name(node.phase));
     add_votes(json, node);
-    json.add_truth(",\"stale\":", node.is_stale(cluster.now));
+    json.add_truth(",\"stale\":", is_stale(cluster.now, node));
     add_rest(json, node);
 }
 
 /// The keys from `mail` on.
-fn add_mail(json: &mut Text, node: &NodeFile) {
+fn add_mail(json: &mut Text, node: &Shown) {
     json.add(",\"mail\":");
-    json.add_string(node.mail.name());
-    let sender = node.mail_by.map(|id| u64::from(id.0));
+    json.add_string(node.mailbox.state.name());
+    let sender = node.mailbox.by.map(|id| u64::from(id.0));
     json.add_number_or_null(",\"mail_by\":", sender);
-    json.add_number_or_null(",\"mail_tick\":", node.mail_tick);
+    json.add_number_or_null(",\"mail_tick\":", node.mailbox.tick);
 }
 
-fn add_peers(json: &mut Text, peers: &[PeerOfFile]) {
+fn add_peers(json: &mut Text, peers: &[Peer]) {
     let mut separator = "";
     json.add("[");
     for peer in peers {
@@ -103,32 +109,32 @@ fn add_peers(json: &mut Text, peers: &[PeerOfFile]) {
 }
 
 /// The keys from `pid` to `released`.
-fn add_votes(json: &mut Text, node: &NodeFile) {
+fn add_votes(json: &mut Text, node: &Shown) {
     json.add_number(",\"pid\":", node.pid);
-    json.add_truth(",\"quorate\":", node.quorate);
-    json.add_number(",\"quorum\":", node.quorum);
-    json.add_number(",\"refused\":", node.refused);
-    json.add_truth(",\"released\":", node.released);
+    json.add_truth(",\"quorate\":", node.answer.quorate);
+    json.add_number(",\"quorum\":", node.answer.quorum);
+    json.add_number(",\"refused\":", node.counts.refused);
+    json.add_truth(",\"released\":", node.answer.released);
 }
 
 /// The keys from `tick` on, and the end of the object.
-fn add_rest(json: &mut Text, node: &NodeFile) {
+fn add_rest(json: &mut Text, node: &Shown) {
     json.add_number(",\"tick\":", node.tick);
     json.add(",\"time\":");
-    json.add(node.time.as_str());
-    json.add_number(",\"unwritten\":", node.unwritten);
+    json.add_thousandths(node.time_ms);
+    json.add_number(",\"unwritten\":", node.counts.unwritten);
     json.add(",\"view\":");
     match &node.view {
         Some(view) => add_view(json, view),
         None => json.add("null"),
     }
-    json.add_number(",\"votes\":", node.votes);
+    json.add_number(",\"votes\":", node.answer.votes);
     json.add(",\"why\":");
     json.add_string(node.why.as_str());
     json.add("}");
 }
 
-fn add_view(json: &mut Text, view: &ViewOfFile) {
+fn add_view(json: &mut Text, view: &ShownView) {
     json.add_number("{\"id\":", view.id);
     json.add(",\"members\":[");
     let mut separator = "";

@@ -1,7 +1,8 @@
 //! The status of a cluster as metrics, for the textfile collector of Prometheus's node exporter.
 use crate::cluster::ClusterStatus;
 use crate::text::Text;
-use qn_verdict::NodeFile;
+use qn_shown::Shown;
+use qn_verdict::is_stale;
 use std::alloc::{AllocError, Global};
 
 /// A metric of each node.
@@ -77,18 +78,18 @@ impl Metric {
     }
 
     /// The value of a node; None where there is none.
-    fn value(self, cluster: &ClusterStatus, node: &NodeFile) -> Option<Value> {
-        let is_up = !node.is_stale(cluster.now);
+    fn value(self, cluster: &ClusterStatus, node: &Shown) -> Option<Value> {
+        let is_up = !is_stale(cluster.now, node);
         match self {
             Metric::Up => Some(Value::truth(is_up)),
             Metric::Holds => Some(Value::truth(is_up && node.holds)),
-            Metric::Quorate => Some(Value::truth(node.quorate)),
-            Metric::Votes => Some(Value::Count(node.votes)),
-            Metric::Quorum => Some(Value::Count(node.quorum)),
+            Metric::Quorate => Some(Value::truth(node.answer.quorate)),
+            Metric::Votes => Some(Value::Count(node.answer.votes)),
+            Metric::Quorum => Some(Value::Count(node.answer.quorum)),
             Metric::Incarnation => node.incarnation.map(Value::Count),
             Metric::Age => Some(Value::Milliseconds(cluster.age(node))),
-            Metric::LinesDropped => Some(Value::Count(node.dropped)),
-            Metric::PacketsRefused => Some(Value::Count(node.refused)),
+            Metric::LinesDropped => Some(Value::Count(node.counts.dropped)),
+            Metric::PacketsRefused => Some(Value::Count(node.counts.refused)),
         }
     }
 }
@@ -139,7 +140,7 @@ fn add_head(text: &mut Text, name: &str, help: &str, kind: &str) {
 }
 
 /// The line of a node.
-fn add_value(text: &mut Text, metric: Metric, cluster: &ClusterStatus, node: &NodeFile) {
+fn add_value(text: &mut Text, metric: Metric, cluster: &ClusterStatus, node: &Shown) {
     let Some(value) = metric.value(cluster, node) else {
         return;
     };

@@ -1,7 +1,9 @@
 //! The status of a cluster, as a table.
 use crate::cluster::{ClusterStatus, silence_of};
 use crate::text::Text;
-use qn_verdict::NodeFile;
+use qn_names::phase_name;
+use qn_shown::Shown;
+use qn_verdict::{is_stale, members, miss_time};
 use std::alloc::{AllocError, Global};
 
 /// The verdict in one line, a line for each node, one for each peer that it misses, and one for each file that is none.
@@ -28,29 +30,29 @@ pub fn cluster_text(alloc: Global, cluster: &ClusterStatus) -> Result<String, Al
 }
 
 /// The line of a node. Of one that says nothing of now `holds` is not known.
-fn add_node(text: &mut Text, cluster: &ClusterStatus, node: &NodeFile) {
-    let is_stale = node.is_stale(cluster.now);
+fn add_node(text: &mut Text, cluster: &ClusterStatus, node: &Shown) {
+    let is_stale = is_stale(cluster.now, node);
     text.add_right(u64::from(node.id.0));
     let phase = text.column();
     text.add(match &node.end {
         Some(_) => "ended",
         None if is_stale => "silent",
-        None => node.phase.name(),
+        None => phase_name(node.phase),
     });
     text.fill(phase, 9);
     let holds = text.column();
     text.add(if is_stale { "?" } else { answer(node.holds) });
     text.fill(holds, 6);
     let quorate = text.column();
-    text.add(answer(node.quorate));
+    text.add(answer(node.answer.quorate));
     text.fill(quorate, 8);
     let votes = text.column();
-    text.add_number("", node.votes);
-    text.add_number("/", node.quorum);
+    text.add_number("", node.answer.votes);
+    text.add_number("/", node.answer.quorum);
     text.fill(votes, 7);
     add_view(text, node);
     let mail = text.column();
-    text.add(node.mail.name());
+    text.add(node.mailbox.state.name());
     text.fill(mail, 10);
     text.add_seconds_right(cluster.age(node));
     text.add("s  ");
@@ -63,7 +65,7 @@ fn answer(is_so: bool) -> &'static str {
 }
 
 /// The view: its number and its members.
-fn add_view(text: &mut Text, node: &NodeFile) {
+fn add_view(text: &mut Text, node: &Shown) {
     let column = text.column();
     match &node.view {
         Some(view) => {
@@ -76,20 +78,20 @@ fn add_view(text: &mut Text, node: &NodeFile) {
     text.fill(column, 15);
 }
 
-fn add_members(text: &mut Text, node: &NodeFile) {
+fn add_members(text: &mut Text, node: &Shown) {
     let mut separator = "";
-    for member in node.members() {
+    for member in members(node) {
         text.add_number(separator, u64::from(member.0));
         separator = ",";
     }
 }
 
 /// A line for each peer that the node never heard, or not for three loops.
-fn add_missed(text: &mut Text, node: &NodeFile) {
+fn add_missed(text: &mut Text, node: &Shown) {
     for peer in node.peers.as_slice() {
         let silence = silence_of(node, peer);
         let is_missed = match silence {
-            Some(silence) => silence > node.miss_time(),
+            Some(silence) => silence > miss_time(node),
             None => true,
         };
         if is_missed {

@@ -1,6 +1,7 @@
 //! A cluster as its status files show it, and what is said of it in one line.
 use crate::text::Text;
-use qn_verdict::{NodeFile, PeerOfFile, Verdict, is_holder, is_live, judge};
+use qn_shown::{Peer, Shown};
+use qn_verdict::{Verdict, is_holder, is_live, is_quiet, judge, sees, sees_all};
 use std::alloc::{AllocError, Global};
 
 /// The status files of a cluster, at a moment of their host.
@@ -9,7 +10,7 @@ pub struct ClusterStatus {
     /// The moment, in milliseconds of the host's monotonic clock.
     pub now: u64,
     /// The files that were read, as they were named.
-    pub nodes: Vec<NodeFile>,
+    pub nodes: Vec<Shown>,
     /// Those that were not, an image among them.
     pub unread: Vec<UnreadFile>,
 }
@@ -69,7 +70,7 @@ impl ClusterStatus {
     }
 
     /// How old a file is, in milliseconds; 0 where its tick is after the moment.
-    pub(crate) fn age(&self, node: &NodeFile) -> u64 {
+    pub(crate) fn age(&self, node: &Shown) -> u64 {
         self.now.saturating_sub(node.tick)
     }
 }
@@ -118,7 +119,7 @@ impl Wrongs {
         self.separator = "; ";
     }
 
-    fn begin_node(&mut self, node: &NodeFile) {
+    fn begin_node(&mut self, node: &Shown) {
         self.begin();
         self.text.add_number("node ", u64::from(node.id.0));
     }
@@ -138,7 +139,7 @@ impl Wrongs {
     }
 
     /// A node says nothing any more.
-    fn add_silent(&mut self, cluster: &ClusterStatus, node: &NodeFile) {
+    fn add_silent(&mut self, cluster: &ClusterStatus, node: &Shown) {
         self.begin_node(node);
         match &node.end {
             Some(end) => {
@@ -155,27 +156,27 @@ impl Wrongs {
     }
 
     /// What is wrong with a node that is live.
-    fn add_live(&mut self, node: &NodeFile) {
-        if !node.quorate {
+    fn add_live(&mut self, node: &Shown) {
+        if !node.answer.quorate {
             self.begin_node(node);
-            self.text.add_number(" not quorate ", node.votes);
-            self.text.add_number("/", node.quorum);
-        } else if !node.sees_all() {
+            self.text.add_number(" not quorate ", node.answer.votes);
+            self.text.add_number("/", node.answer.quorum);
+        } else if !sees_all(node) {
             self.begin_node(node);
             self.add_unseen(node);
         }
-        if !node.mail.is_quiet() {
+        if !is_quiet(node.mailbox.state) {
             self.begin_node(node);
             self.text.add(" has mail ");
-            self.text.add(node.mail.name());
+            self.text.add(node.mailbox.state.name());
         }
     }
 
     /// The configured nodes that a node does not see.
-    fn add_unseen(&mut self, node: &NodeFile) {
+    fn add_unseen(&mut self, node: &Shown) {
         let mut separator = " does not see ";
         for peer in node.peers.as_slice() {
-            if !node.sees(peer) {
+            if !sees(node, peer) {
                 self.text.add_number(separator, u64::from(peer.id.0));
                 separator = ",";
             }
@@ -192,7 +193,7 @@ impl Wrongs {
 }
 
 /// For how many milliseconds its node did not hear a peer; None where it never did.
-pub(crate) fn silence_of(node: &NodeFile, peer: &PeerOfFile) -> Option<u64> {
+pub(crate) fn silence_of(node: &Shown, peer: &Peer) -> Option<u64> {
     match peer.hello_tick {
         Some(hello_tick) => Some(node.tick.saturating_sub(hello_tick)),
         None => None,

@@ -3,14 +3,14 @@ use Rattle.std.proofs.Common.{◌≡◌, ◌≤◌, ◌<◌, ℕ, Bool, true, fa
 use Rattle.std.specs.List.{list_any, list_all}
 use Rattle.std.proofs.lemmas.Bool.{false≢true, and_parts, not-true, lt-ltb, ltb-false, eqb-false, or_right}
 use Rattle.std.proofs.lemmas.List.Sums.{AllPass-from_list_all}
-use Rattle.qn_verdict.specs.declared.node_file.NodeFile.{NodeFile}
+use Rattle.qn_shown.specs.declared.shown.Shown.{Shown}
 use Rattle.qn_verdict.specs.declared.verdict.Verdict.{Verdict}
 use Rattle.qn_verdict.specs.declared.verdict.Verdict.TheVariants.{Healthy, Degraded, NoOwner, Unknown}
-use Rattle.qn_verdict.specs.NodeFiles.{is_quiet, is_stale, sees_all}
+use Rattle.qn_verdict.specs.Files.{is_quiet, is_stale, sees_all}
 use Rattle.qn_verdict.specs.Verdicts.{holders, is_holder, is_live, is_owner_elsewhere, is_well, judge, of_live, with_holder, without_holder}
 
 -- where a node holds, a node is live
-pub live_of_holder : (now : ℕ) (files : List NodeFile) → 1 ≤ holders now files → list_any (is_live now) files ≡ true
+pub live_of_holder : (now : ℕ) (files : List Shown) → 1 ≤ holders now files → list_any (is_live now) files ≡ true
 live_of_holder now [] some = absurd (omega arith)
 live_of_holder now (file ∷ files) some = by_holder (is_holder now file) refl (live_of_holder now files)
   where
@@ -21,7 +21,7 @@ live_of_holder now (file ∷ files) some = by_holder (is_holder now file) refl (
         let same : holders now (file ∷ files) ≡ holders now files = rw holds refl in
         or_right (is_live now file) (list_any (is_live now) files) (later (omega arith))
 
-pub two_holders : (now : ℕ) (files : List NodeFile) → 2 ≤ holders now files → judge now files ≡ NoOwner
+pub two_holders : (now : ℕ) (files : List Shown) → 2 ≤ holders now files → judge now files ≡ NoOwner
 two_holders now files two =
     rw (live_of_holder now files (omega arith)) (rw (lt-ltb 1 (holders now files) (omega arith)) refl)
 
@@ -32,7 +32,7 @@ is_healthy NoOwner = false
 is_healthy Unknown = false
 
 -- what a healthy verdict stands on
-pub record IsHealthy (now : ℕ) (files : List NodeFile) : Type 0 where
+pub record IsHealthy (now : ℕ) (files : List Shown) : Type 0 where
   pub one : holders now files ≡ 1
   pub well : list_all (is_well now) files ≡ true
 
@@ -47,7 +47,7 @@ of_with : (well : Bool) → (if well then Healthy else Degraded) ≡ Healthy →
 of_with true healthy = refl
 of_with false healthy = no_other Degraded refl healthy
 
-pub healthy_parts : (now : ℕ) (files : List NodeFile) → judge now files ≡ Healthy → IsHealthy now files
+pub healthy_parts : (now : ℕ) (files : List Shown) → judge now files ≡ Healthy → IsHealthy now files
 healthy_parts now files healthy = by_live (list_any (is_live now) files) healthy
   where
     by_zero : (zero : Bool) → (holders now files == 0) ≡ zero → holders now files ≤ 1
@@ -67,12 +67,12 @@ healthy_parts now files healthy = by_live (list_any (is_live now) files) healthy
     by_live true is = by_two (nat_lt 1 (holders now files)) refl is
     by_live false is = no_other Unknown refl is
 
-fresh : (now : ℕ) (file : NodeFile) → is_well now file ≡ true → is_stale now file ≡ false
+fresh : (now : ℕ) (file : Shown) → is_well now file ≡ true → is_stale now file ≡ false
 fresh now file well =
-    let without_mail = and_parts (is_live now file && file.quorate && sees_all file) (is_quiet file.mail) well in
-    let without_view = and_parts (is_live now file && file.quorate) (sees_all file) without_mail.0 in
-    let live = and_parts (is_live now file) file.quorate without_view.0 in
+    let without_mail = and_parts (is_live now file && file.answer.quorate && sees_all file) (is_quiet file.mailbox.state) well in
+    let without_view = and_parts (is_live now file && file.answer.quorate) (sees_all file) without_mail.0 in
+    let live = and_parts (is_live now file) file.answer.quorate without_view.0 in
     not-true (is_stale now file) live.0
 
-pub all_fresh : (now : ℕ) (files : List NodeFile) → list_all (is_well now) files ≡ true → All (λ file. is_stale now file ≡ false) files
+pub all_fresh : (now : ℕ) (files : List Shown) → list_all (is_well now) files ≡ true → All (λ file. is_stale now file ≡ false) files
 all_fresh now files well = λ k d below. fresh now (slice_index_or files k d) (AllPass-from_list_all (is_well now) files well k d below)

@@ -1,2 +1,3 @@
-pub mod NodeFiles
+pub mod Files
 pub mod Verdicts
+pub mod Texts

@@ -1,16 +1,25 @@
 //! What an operator rests on where a verdict is read.
-ghost use Rattle.std.specs.Prelude.{◌≡◌, ◌≤◌, ℕ, List, All, false};
-ghost use Rattle.qn_verdict.specs.declared.node_file.NodeFile.{NodeFile};
+ghost use Rattle.std.specs.Prelude.{◌≡◌, ◌≤◌, ℕ, List, All, Some, false, map};
+ghost use Rattle.qn_shown.specs.declared.shown.Shown.{Shown};
+ghost use Rattle.qn_shown.specs.Fits.{AllOf, FitsTypes};
+ghost use Rattle.qn_shown.specs.Spelling.{shown_text};
 ghost use Rattle.qn_verdict.specs.declared.verdict.Verdict.TheVariants.{Healthy, NoOwner};
-ghost use Rattle.qn_verdict.specs.NodeFiles.{is_stale};
-ghost use Rattle.qn_verdict.specs.Verdicts.{holders, judge};
+ghost use Rattle.qn_verdict.specs.Files.{is_stale};
+ghost use Rattle.qn_verdict.specs.Texts.{judge_texts};
+ghost use Rattle.qn_verdict.specs.Verdicts.{holders};
 
-/// Two live nodes that hold are always told. What is told as healthy has one holder, and no file of it is stale.
+use qn_shown::law_shown_read_back;
+
+/// Of the texts that nodes write: two live nodes that wrote that they hold are always told. Where healthy is told, one live node wrote that it holds, and
+/// no text is of another time.
 pub fn law_verdict()
-    ensures two_holders { (now : ℕ) (files : List NodeFile) → 2 ≤ holders now files
-        → judge now files ≡ NoOwner }
-    ensures one_holder { (now : ℕ) (files : List NodeFile) → judge now files ≡ Healthy
-        → holders now files ≡ 1 }
-    ensures fresh { (now : ℕ) (files : List NodeFile) → judge now files ≡ Healthy
-        → All (λ file. is_stale now file ≡ false) files }
-{}
+    ensures two_holders { (now : ℕ) (nodes : List Shown) → AllOf FitsTypes nodes
+        → 2 ≤ holders now nodes → judge_texts now (map shown_text nodes) ≡ Some NoOwner }
+    ensures one_holder { (now : ℕ) (nodes : List Shown) → AllOf FitsTypes nodes
+        → judge_texts now (map shown_text nodes) ≡ Some Healthy → holders now nodes ≡ 1 }
+    ensures fresh { (now : ℕ) (nodes : List Shown) → AllOf FitsTypes nodes
+        → judge_texts now (map shown_text nodes) ≡ Some Healthy
+        → All (λ node. is_stale now node ≡ false) nodes }
+{
+    law_shown_read_back();
+}

@@ -3,8 +3,9 @@ ghost use Rattle.std.specs.Prelude.{◌≡◌};
 ghost use Rattle.std.specs.List.{list_all, list_any};
 ghost use Rattle.qn_verdict.specs.Verdicts.{holders, is_here, is_holder, is_live, is_owner_elsewhere, is_view_here, is_well, judge, of_live, with_holder, without_holder};
 
-use crate::node_file::NodeFile;
+use crate::file::{is_quiet, is_stale, members, sees_all};
 use qn_base::NodeId;
+use qn_shown::Shown;
 
 /// What the status files of a cluster come to. Its exit status is that of a Nagios plug-in.
 #[derive(Clone, Copy)]
@@ -59,7 +60,7 @@ impl Verdict {
 }
 
 /// What these files come to at a moment, in milliseconds of the monotonic clock of their host (docs/STATUS.md).
-pub fn judge(now: u64, files: &[NodeFile]) -> Verdict
+pub fn judge(now: u64, files: &[Shown]) -> Verdict
     ensures { result ≡ judge now files.now }
 {
     if has_live(now, files) {
@@ -70,7 +71,7 @@ pub fn judge(now: u64, files: &[NodeFile]) -> Verdict
 }
 
 /// What files come to of which one is live.
-fn of_live(now: u64, files: &[NodeFile]) -> Verdict
+fn of_live(now: u64, files: &[Shown]) -> Verdict
     ensures { result ≡ of_live now files.now }
 {
     let holders = holders(now, files);
@@ -84,7 +85,7 @@ fn of_live(now: u64, files: &[NodeFile]) -> Verdict
 }
 
 /// The same where no live node holds.
-fn without_holder(now: u64, files: &[NodeFile]) -> Verdict
+fn without_holder(now: u64, files: &[Shown]) -> Verdict
     ensures { result ≡ without_holder now files.now }
 {
     if is_owner_elsewhere(now, files) {
@@ -95,7 +96,7 @@ fn without_holder(now: u64, files: &[NodeFile]) -> Verdict
 }
 
 /// The same where one live node holds.
-fn with_holder(now: u64, files: &[NodeFile]) -> Verdict
+fn with_holder(now: u64, files: &[Shown]) -> Verdict
     ensures { result ≡ with_holder now files.now }
 {
     if are_well(now, files) {
@@ -106,58 +107,58 @@ fn with_holder(now: u64, files: &[NodeFile]) -> Verdict
 }
 
 /// Whether a file is live.
-fn has_live(now: u64, files: &[NodeFile]) -> bool
+fn has_live(now: u64, files: &[Shown]) -> bool
     ensures { result ≡ list_any (is_live now) files.now }
 {
     files.iter().any(|file| is_live(now, file))
 }
 
 /// Whether nothing is wrong with any node.
-fn are_well(now: u64, files: &[NodeFile]) -> bool
+fn are_well(now: u64, files: &[Shown]) -> bool
     ensures { result ≡ list_all (is_well now) files.now }
 {
     files.iter().all(|file| is_well(now, file))
 }
 
 /// Whether the file says what is so now.
-pub fn is_live(now: u64, file: &NodeFile) -> bool
+pub fn is_live(now: u64, file: &Shown) -> bool
     ensures { result ≡ is_live now file.now }
 {
-    !file.is_stale(now)
+    !is_stale(now, file)
 }
 
 /// Whether the node is live and holds.
-pub fn is_holder(now: u64, file: &NodeFile) -> bool
+pub fn is_holder(now: u64, file: &Shown) -> bool
     ensures { result ≡ is_holder now file.now }
 {
     is_live(now, file) && file.holds
 }
 
 /// How many live nodes hold.
-fn holders(now: u64, files: &[NodeFile]) -> usize
+fn holders(now: u64, files: &[Shown]) -> usize
     ensures { result ≡ holders now files.now }
 {
     files.iter().filter(|file| is_holder(now, file)).count()
 }
 
 /// Whether a node that is none of these live ones may hold: one of them counts it as present.
-fn is_owner_elsewhere(now: u64, files: &[NodeFile]) -> bool
+fn is_owner_elsewhere(now: u64, files: &[Shown]) -> bool
     ensures { result ≡ is_owner_elsewhere now files.now }
 {
     files.iter().any(|file| is_live(now, file) && !is_view_here(now, files, file))
 }
 
 /// Whether each member of the node's view is a live one of these.
-fn is_view_here(now: u64, files: &[NodeFile], file: &NodeFile) -> bool
+fn is_view_here(now: u64, files: &[Shown], file: &Shown) -> bool
     ensures { result ≡ is_view_here now files.now file.now }
 {
-    file.members()
+    members(file)
         .iter()
         .all(|member| is_here(now, files, *member))
 }
 
 /// Whether a live node of these files has the id.
-fn is_here(now: u64, files: &[NodeFile], id: NodeId) -> bool
+fn is_here(now: u64, files: &[Shown], id: NodeId) -> bool
     ensures { result ≡ is_here now files.now id }
 {
     files
@@ -166,8 +167,8 @@ fn is_here(now: u64, files: &[NodeFile], id: NodeId) -> bool
 }
 
 /// Whether nothing is wrong with the node.
-fn is_well(now: u64, file: &NodeFile) -> bool
+fn is_well(now: u64, file: &Shown) -> bool
     ensures { result ≡ is_well now file.now }
 {
-    is_live(now, file) && file.quorate && file.sees_all() && file.mail.is_quiet()
+    is_live(now, file) && file.answer.quorate && sees_all(file) && is_quiet(file.mailbox.state)
 }

@@ -7,7 +7,6 @@ mod group;
 mod images;
 mod input;
 mod journals;
-mod members;
 mod open_image;
 mod status;
 mod status_file;

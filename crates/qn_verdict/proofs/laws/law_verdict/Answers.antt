@@ -1,11 +1,18 @@
+use Rattle.std.proofs.Common.{Some, ap, sym, ◌∙◌}
+use Rattle.std.proofs.lemmas.Option.{same_Some}
+use Rattle.qn_verdict.proofs.TextsRead.{judged}
 use Rattle.qn_verdict.proofs.VerdictLaws.{all_fresh, healthy_parts, two_holders}
+use Rattle.qn_verdict.specs.Verdicts.{judge}
+use Rattle.qn_verdict.specs.declared.verdict.Verdict.TheVariants.{Healthy}
 use Rattle.qn_verdict.proofs.laws.law_verdict.Goals as goal
 
 pub returns-clause-two_holders : goal.returns-clause-two_holders
-returns-clause-two_holders c = λ now files two. two_holders now files two
+returns-clause-two_holders c = λ now nodes fit two. judged c.law_shown_read_back.ensures now nodes fit ∙ ap (λ v. Some v) (two_holders now nodes two)
 
 pub returns-clause-one_holder : goal.returns-clause-one_holder
-returns-clause-one_holder c = λ now files healthy. (healthy_parts now files healthy).one
+returns-clause-one_holder c = λ now nodes fit healthy.
+    (healthy_parts now nodes (same_Some (judge now nodes) Healthy (sym (judged c.law_shown_read_back.ensures now nodes fit) ∙ healthy))).one
 
 pub returns-clause-fresh : goal.returns-clause-fresh
-returns-clause-fresh c = λ now files healthy. all_fresh now files (healthy_parts now files healthy).well
+returns-clause-fresh c = λ now nodes fit healthy.
+    all_fresh now nodes (healthy_parts now nodes (same_Some (judge now nodes) Healthy (sym (judged c.law_shown_read_back.ensures now nodes fit) ∙ healthy))).well

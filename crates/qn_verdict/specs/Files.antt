@@ -1,0 +1,43 @@
+-- What the status file of one node says, and when it says nothing of now. This project's profile.
+use Rattle.std.specs.Prelude.{ℕ, Bool, true, false, ◌+◌, ◌-◌, ◌*◌, ◌==◌, ◌||◌, List, [], Option, Some, None, is_some, if◌then◌else◌, nat_lt}
+use Rattle.std.specs.List.{list_any, list_all}
+use Rattle.qn_base.specs.declared.ids.NodeId.{NodeId}
+use Rattle.qn_model.specs.declared.disk.Message.TheVariants as message
+use Rattle.qn_shown.specs.declared.shown.Peer.{Peer}
+use Rattle.qn_shown.specs.declared.shown.Shown.{Shown}
+use Rattle.qn_shown.specs.declared.shown.ShownView.{ShownView}
+use Rattle.qn_shown.specs.declared.words.MailState.{MailState}
+use Rattle.qn_shown.specs.declared.words.MailState.TheVariants.{Holds, Damaged, Failed, Unread}
+
+-- the loop of the node in milliseconds: a second before it knows its image
+abbrev pub loop_of : Shown → ℕ
+loop_of file = if file.loop_ms == 0 then 1000 else file.loop_ms
+
+-- A file says nothing of now where its node has ended, where its tick is after now, as in another boot of the host, and where it
+-- is older than three loops and a second.
+abbrev pub is_stale : ℕ → Shown → Bool
+is_stale now file = is_some file.end || nat_lt now file.tick || nat_lt (3 * loop_of file + 1000) (now - file.tick)
+
+abbrev pub members_of : Option ShownView → List NodeId
+members_of (Some view) = view.members.items
+members_of None = []
+
+-- the node counts that other one as present
+abbrev pub is_seen : Shown → Peer → Bool
+is_seen file peer = list_any (λ member. member.0 == peer.id.0) (members_of file.view)
+
+-- the node counts all configured nodes as present
+abbrev pub sees_all : Shown → Bool
+sees_all file = list_all (is_seen file) file.peers.items
+
+-- no message but a test waits in the mailbox, as far as it was read
+abbrev pub is_quiet : MailState → Bool
+is_quiet (Holds message.Empty) = true
+is_quiet (Holds message.Test) = true
+is_quiet (Holds message.Reset) = false
+is_quiet (Holds message.Off) = false
+is_quiet (Holds message.Exit) = false
+is_quiet (Holds message.Crashdump) = false
+is_quiet Damaged = false
+is_quiet Failed = false
+is_quiet Unread = true

@@ -1,0 +1,64 @@
+//! What the status file of one node says of now, of its view and of its mailbox.
+ghost use Rattle.std.specs.Prelude.{◌≡◌, ◌*◌, ◌≤◌};
+ghost use Rattle.qn_verdict.specs.Files.{is_quiet, is_seen, is_stale, loop_of, members_of, sees_all};
+
+use qn_base::NodeId;
+use qn_model::Message;
+use qn_shown::{MailState, Peer, Shown};
+
+/// Whether the file says nothing of this moment, in milliseconds of the host's monotonic clock: its node has ended, its tick is of
+/// another boot of the host, or it is older than three loops and a second (docs/STATUS.md).
+pub fn is_stale(now: u64, file: &Shown) -> bool
+    ensures { result ≡ is_stale now file.now }
+{
+    file.end.is_some() || now < file.tick || miss_time(file) + 1000 < now - file.tick
+}
+
+/// After how many milliseconds of silence the node misses a peer: three loops.
+pub fn miss_time(file: &Shown) -> u64
+    ensures exact { result ≡ 3 * loop_of file.now }
+    ensures bound { result ≤ 3 * 4294967295 }
+{
+    let loop_ms = if file.loop_ms == 0 {
+        1000
+    } else {
+        file.loop_ms
+    };
+    3 * u64::from(loop_ms)
+}
+
+/// The nodes that the node counts as present; none where it has no view.
+pub fn members(file: &Shown) -> &[NodeId]
+    ensures { result.now ≡ members_of file.now.view }
+{
+    match &file.view {
+        Some(view) => view.members.as_slice(),
+        None => &[],
+    }
+}
+
+/// Whether the node counts that other node as present.
+pub fn sees(file: &Shown, peer: &Peer) -> bool
+    ensures { result ≡ is_seen file.now peer.now }
+{
+    members(file).iter().any(|member| member.0 == peer.id.0)
+}
+
+/// Whether the node counts all configured nodes as present.
+pub fn sees_all(file: &Shown) -> bool
+    ensures { result ≡ sees_all file.now }
+{
+    file.peers.as_slice().iter().all(|peer| sees(file, peer))
+}
+
+/// Whether no message but a test waits in the mailbox, as far as it was read.
+pub fn is_quiet(mail: MailState) -> bool
+    ensures { result ≡ is_quiet mail }
+{
+    match mail {
+        MailState::Holds(Message::Empty | Message::Test) | MailState::Unread => true,
+        MailState::Holds(Message::Reset | Message::Off | Message::Exit | Message::Crashdump)
+        | MailState::Damaged
+        | MailState::Failed => false,
+    }
+}
