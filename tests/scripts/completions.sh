@@ -66,8 +66,8 @@ offers '' x
 expect 0 "commands $commands\\n" help
 
 # the words before the command, and what follows them
-offers '--links --key --open --halt --status' -
-offers --links --l
+offers '--links --key --open --halt --status --leave-file' -
+offers '--links --leave-file' --l
 offers "$commands" --open ''
 offers --key --open --k
 offers 'node node3 node-logged node3-logged' --status file node
@@ -161,8 +161,8 @@ while IFS='>' read -r line offered; do
 done << END
 quorumd ;> $commands
 quorumd st;> status
-quorumd --;> --links --key --open --halt --status
-quorumd --links files/other --open --key files/other --;> --key --halt --status
+quorumd --;> --links --key --open --halt --status --leave-file
+quorumd --links files/other --open --key files/other --;> --key --halt --status --leave-file
 quorumd --status files/other status --;> --form
 quorumd audit --images ;> 1 3
 quorumd message --kind off --;> --image --id

@@ -40,6 +40,9 @@ checked() {
     same "$*: $got $(tail -n 1 errors)" "$*: $status $line"
     same "$*: $(cat run/node-2)" "$*: $([ "$status" = 0 ] || echo old)"
 }
+touch run/leave-2 run/leaving-2
+checked 0 ''
+[ ! -e run/leave-2 ] && [ ! -e run/leaving-2 ]
 no='node 2 is not started:'
 checked 0 ''
 checked 0 '' IMAGE=large
@@ -173,6 +176,18 @@ three=nbd:unix:/run/socket,long@4096,etcd:127.0.0.1:2379/prefix,none
 sleep 2 &
 PATH=$PWD/served:$PATH MAINPID=$! RESOURCE=file COMMAND=node3 IMAGE=$three "$TOP/packaging/node-leave" 2
 same "$(sed 's/^message --image \(.*\) --id 2 --kind exit$/\1/' asked | xargs)" 'nbd:unix:/run/socket long@4096 etcd:127.0.0.1:2379/prefix'
+# a node that looks for a file is asked by it, and its mailbox is left alone
+rm asked
+sh -c 'until rm run/leave-2 2> /dev/null; do sleep 0.1; done' quorumd --leave-file run/leave-2 node &
+PATH=$PWD/served:$PATH MAINPID=$! RESOURCE=file IMAGE=long "$TOP/packaging/node-leave" 2
+[ ! -e asked ] && [ ! -e run/leave-2 ] && [ -e run/leaving-2 ]
+PATH=$PWD/served:$PATH MAIL=empty IMAGE=long ended exited/0 '' $'left clean\n'
+rm run/leaving-2
+# where the file cannot be made it is sent an exit
+sh -c 'sleep 1; :' quorumd --leave-file none/leave-2 node &
+PATH=$PWD/served:$PATH MAINPID=$! RESOURCE=file IMAGE=long "$TOP/packaging/node-leave" 2 2> errors
+same "$(cat asked)" 'message --image long --id 2 --kind exit'
+rm run/leaving-2
 # a node that does not leave is waited for as long as its resources stop, and then for a while
 sleep 30 &
 kept=$!

@@ -59,14 +59,16 @@ says '--status stands before a node alone' --open --status a
 for path in '' "$(head -c 4091 /dev/zero | tr '\0' x)"; do
     says '--status: a path has 1 to 4090 bytes' --status "$path" node
 done
+says '--leave-file: given twice' --leave-file a --leave-file b node
+says '--leave-file stands before a node alone' --leave-file a help
 says '--key: more than three' --key one --key two --key three --key four help
 says '--open beside --key' --open --key one help
 says '--open beside --key' --key one --open help
 says '--links wants --key or --open' --links conf help
 says '--links wants --key or --open' --halt file --links conf
-for word in --links --key --halt --status; do
+for word in --links --key --halt --status --leave-file; do
     says "$word: its value is missing" "$word"
-    for next in --links --key --open --halt --status; do
+    for next in --links --key --open --halt --status --leave-file; do
         says "$word: its value is missing" "$word" "$next" conf help
     done
 done

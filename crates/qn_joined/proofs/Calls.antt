@@ -210,7 +210,12 @@ module _ {s : Settings} {rank : ℕ} {n : Running} {took : Option What} {left : 
       node_moves is (returned s rank made time h)
       (record { on = q.keeps.on; asked = q.keeps.asked; clock = q.keeps.clock; fed = q.keeps.fed; decided = q.keeps.decided })
       asked refl
-      (λ lives. ((is.backed lives).0, (is.backed lives).1, comes.0, λ answers. absurd (let no_answer = comes.1 in cc)))
+      (λ lives. (
+        let was = (is.backed lives).0 in record { stopped = was.stopped; disk = was.disk },
+        (is.backed lives).1,
+        comes.0,
+        λ answers. absurd (let no_answer = comes.1 in cc),
+      ))
       (λ is_on none. q.took ∙ is.idle is_on refl)
       (subst (λ l. AreAmong s rank l (left ++ still_out n (Receiving st) took)) (sym q.left) is.among)
       (λ is_on gone. absurd (is.ending is_on gone))

@@ -21,7 +21,7 @@ use Rattle.qn_model.specs.Steps.{entry_of}
 use Rattle.qn_model.specs.World.{failed}
 use Rattle.qn_live.specs.declared.place.Choice.TheVariants as choice
 use Rattle.qn_live.specs.Running.{RunState}
-use Rattle.qn_live.specs.Choosing.{choice_of, is_entry_for, packet_in}
+use Rattle.qn_live.specs.Choosing.{choice_of, heard_request, is_entry_for, packet_in}
 use Rattle.qn_live.specs.Greetings.{sends_plan}
 use Rattle.qn_live.specs.Performing.{disk_answer, disk_call, done, noted, out_call, outs_plan, own_number, waits_after}
 use Rattle.qn_joined.specs.Stands.{Spot, Receiving, Looking, Acting, Saying, Parting, Ended, after_call, after_spot, left_plan, log_at, parts_at, said_at}
@@ -142,7 +142,7 @@ spot_owns : (s : Settings) (me : ℕ) (leave : Option ℕ) (turn more : ℕ) (sp
     → Owns (after_spot s me leave turn more spot made).spot (runs_by (kind made) made (newest_outs (log_at (after_spot s me leave turn more spot made).spot)) runs)
 unfolding left_plan after_spot outs_plan sends_plan
 spot_owns s me leave turn more (Receiving st) made runs asked owns =
-    subst (λ (k : ℕ). Owns (Looking (choice_of me (packet_in (received_in made)), st)) (runs_by k made (newest_outs st.log) runs)) (sym (kind_of _ made 0 refl asked))
+    subst (λ (k : ℕ). Owns (Looking (choice_of me (packet_in (received_in made)), heard_request (received_in made) st)) (runs_by k made (newest_outs st.log) runs)) (sym (kind_of _ made 0 refl asked))
     (record { held = λ r. ((owns.held r).0, choice_no_stop me (packet_in (received_in made))); free = owns.free; calm = owns.calm })
 spot_owns s me leave turn more (Looking chosen) made runs asked owns =
     subst (λ (k : ℕ). Owns (after_spot s me leave turn more (Looking chosen) made).spot (runs_by k made (newest_outs (log_at (after_spot s me leave turn more (Looking chosen) made).spot)) runs)) (sym (kind_of _ made 1 refl asked))

@@ -19,7 +19,7 @@ use Rattle.qn_live.specs.declared.place.Choice.TheVariants as choice
 use Rattle.qn_live.specs.declared.place.Greeting.TheVariants as greeting
 use Rattle.qn_live.specs.declared.place.Waits.{Waits}
 use Rattle.qn_live.specs.Running.{RunState, first_state, Over, Next, Ran, later}
-use Rattle.qn_live.specs.Choosing.{choice_of, is_late, is_to_leave, looked, looking, packet_in, ready, receive_plan}
+use Rattle.qn_live.specs.Choosing.{choice_of, heard_request, is_late, is_to_leave, looked, looking, packet_in, ready, receive_plan}
 use Rattle.qn_live.specs.Performing.{end_in, noted, outs_plan}
 use Rattle.qn_live.specs.Greetings.{farewell_after, farewells, is_due, sends_plan, to_send}
 use Rattle.qn_live.specs.Runs.{hello_asked, run_plan, settled, taken, timed, turns_end, with_maker}
@@ -53,7 +53,7 @@ first_stand clean turns =
 -- what is left of a run
 unfoldable pub left_plan : Settings → ℕ → Option ℕ → ℕ → ℕ → Spot → Plan Ran
 left_plan s me leave turn more (Receiving st) =
-    ((receive_plan >>= (λ packet. Ends (choice_of me packet, st))) >>= timed s me) >>= later (run_plan s me leave turn more)
+    ((receive_plan >>= (λ got. Ends (choice_of me (packet_in got), heard_request got st))) >>= timed s me) >>= later (run_plan s me leave turn more)
 left_plan s me leave turn more (Looking chosen) = timed s me chosen >>= later (run_plan s me leave turn more)
 left_plan s me leave turn more (Acting entry outs o rest st) =
     (outs_plan s me st (o ∷ rest) >>= settled s me entry outs) >>= later (run_plan s me leave turn more)
@@ -137,7 +137,7 @@ clocked_by s me leave turn more chosen tick back =
 -- where the run stands after a call with its answer
 unfoldable pub after_spot : Settings → ℕ → Option ℕ → ℕ → ℕ → Spot → Call → Stand
 after_spot s me leave turn more (Receiving st) call =
-    record { turn = turn; more = more; spot = Looking (choice_of me (packet_in (received_in call)), st) }
+    record { turn = turn; more = more; spot = Looking (choice_of me (packet_in (received_in call)), heard_request (received_in call) st) }
 after_spot s me leave turn more (Looking chosen) call =
     clocked_by s me leave turn more chosen (time_of call) (nat_lt (time_of call) (now chosen.1.log))
 after_spot s me leave turn more (Acting entry outs o rest st) call =

@@ -26,7 +26,7 @@ use Rattle.qn_live.specs.declared.place.Greeting.{Greeting}
 use Rattle.qn_live.specs.declared.place.Greeting.TheVariants as greeting
 use Rattle.qn_live.specs.declared.place.Waits.{Waits}
 use Rattle.qn_live.specs.declared.run.NodeRun.{NodeRun}
-use Rattle.qn_live.specs.Choosing.{choice_of, choice_plan, failed_answer, is_late, is_to_leave, look_after, looked, looking, open_plan, ready, receive_plan}
+use Rattle.qn_live.specs.Choosing.{choice_of, choice_plan, failed_answer, heard_request, is_late, is_to_leave, look_after, looked, looking, open_plan, packet_in, ready, receive_plan}
 use Rattle.qn_live.specs.Greetings.{farewell_after, farewells, greeting_call, greeting_packet, is_due, maker_of, others_from, sends_plan, to_each, to_send}
 use Rattle.qn_live.specs.Machine.{RunFor, acting, next_of, parting, saying, state_of}
 use Rattle.qn_live.specs.Performing.{end_in, noted, out_call, outs_plan, own_number}
@@ -81,7 +81,7 @@ module _ (s : Settings) (me : ℕ) where
     turn_late found late = of_late true found late
 
     -- a turn that receives
-    pub turn_open : ready leaves st.rests st.waits ≡ None → is_late st ≡ false → turn_plan s me leave turn st >>= later next ≡ ((receive_plan >>= (λ packet. Ends (choice_of me packet, st))) >>= timed s me) >>= later next
+    pub turn_open : ready leaves st.rests st.waits ≡ None → is_late st ≡ false → turn_plan s me leave turn st >>= later next ≡ ((receive_plan >>= (λ got. Ends (choice_of me (packet_in got), heard_request got st))) >>= timed s me) >>= later next
     turn_open found in_time = of_late false found in_time
 
   -- no turn follows
@@ -102,7 +102,7 @@ module _ (s : Settings) (me : ℕ) where
       let back : nat_lt tick (now st.log) ≡ true = grind (arith, nat_tests) in rw at (rw back refl)
 
   -- the entry at its tick, and its outputs
-  pub clocked_on : (choice : Choice) (st : RunState) (tick : ℕ) (maker : Option Maker) (entry : What) (loop : ℕ) (rests : Bool) (last : ℕ) (outs : List Out) → now st.log ≤ tick → looked tick choice st.maker ≡ (maker, entry) → loop ≡ loop_after entry st.loop_ms → rests ≡ failed_answer entry → last ≡ look_after tick choice st.maker st.last_look → outs ≡ newest_outs (with_entry s me st.log (record { tick = tick; what = entry })) → clocked s me (choice, st) tick ≡ outs_plan s me (record { log = with_entry s me st.log (record { tick = tick; what = entry }); loop_ms = loop; maker = maker; waits = st.waits; rests = rests; last_look = last }) outs >>= settled s me entry outs
+  pub clocked_on : (choice : Choice) (st : RunState) (tick : ℕ) (maker : Option Maker) (entry : What) (loop : ℕ) (rests : Bool) (last : ℕ) (outs : List Out) → now st.log ≤ tick → looked tick choice st.maker ≡ (maker, entry) → loop ≡ loop_after entry st.loop_ms → rests ≡ failed_answer entry → last ≡ look_after tick choice st.maker st.last_look → outs ≡ newest_outs (with_entry s me st.log (record { tick = tick; what = entry })) → clocked s me (choice, st) tick ≡ outs_plan s me (record { log = with_entry s me st.log (record { tick = tick; what = entry }); loop_ms = loop; maker = maker; waits = st.waits; rests = rests; last_look = last; asked = st.asked }) outs >>= settled s me entry outs
   unfolding clocked handled
   clocked_on choice st tick maker entry loop rests last outs not_back looks is_loop is_rests is_last is_outs =
       let on : nat_lt tick (now st.log) ≡ false = grind (arith, nat_tests) in

@@ -1,6 +1,7 @@
 -- Which entry a turn takes: this project's profile.
-use Rattle.std.specs.Prelude.{ℕ, Bool, true, false, not, ◌&&◌, ◌-◌, ◌==◌, nat_le, Option, None, Some, is_some, option_map, if◌then◌else◌}
+use Rattle.std.specs.Prelude.{ℕ, Bool, true, false, not, ◌&&◌, ◌||◌, ◌-◌, ◌==◌, nat_le, [], ◌∷◌, Option, None, Some, is_some, option_map, if◌then◌else◌}
 use Rattle.std.specs.Option.{option_or, option_map_or}
+use Rattle.std.specs.Str.{bytes_eq}
 use Rattle.qn_base.specs.declared.calls.Call.TheVariants as call
 use Rattle.qn_base.specs.declared.calls.Received.{Received}
 use Rattle.qn_base.specs.declared.calls.Received.TheVariants as received
@@ -57,9 +58,9 @@ failed_answer what.Tick = false
 failed_answer (what.Stopped ok) = false
 failed_answer what.Leave = false
 
--- the node is to leave at this turn: it is up, and the number of the turn has come
+-- the node is to leave at this turn: it is up, and its host has asked it to, or the number of the turn has come
 abbrev pub is_to_leave : Settings → Option ℕ → ℕ → RunState → Bool
-is_to_leave s leave turn st = is_up (phase s st.log) && option_map_or (λ from. nat_le from turn) leave false
+is_to_leave s leave turn st = is_up (phase s st.log) && (st.asked || option_map_or (λ from. nat_le from turn) leave false)
 
 -- The entry of a turn that needs no packet, and the answers that wait then: the answer of a Stop, else of a disk operation,
 -- unless the turn before took a failed one, else the order to leave.
@@ -91,8 +92,18 @@ packet_in (received.Packet bytes) = packet_of bytes
 packet_in received.Nothing = None
 packet_in received.Failed = None
 
-abbrev pub receive_plan : Plan (Option Packet)
-receive_plan = Asks (call.Receive received.Nothing) (λ call. Ends (packet_in (received_in call)))
+abbrev pub receive_plan : Plan Received
+receive_plan = Asks (call.Receive received.Nothing) (λ call. Ends (received_in call))
+
+-- what came is the request of this host that the node is to leave: `QN`, a kind that no packet has, and 1
+abbrev pub is_request : Received → Bool
+is_request (received.Packet bytes) = bytes_eq bytes (81 ∷ 78 ∷ 12 ∷ 1 ∷ [])
+is_request received.Nothing = false
+is_request received.Failed = false
+
+-- the state after something came
+abbrev pub heard_request : Received → RunState → RunState
+heard_request got st = record st { asked = st.asked || is_request got }
 
 -- the last look of the view maker is a loop ago or more
 abbrev pub is_late : RunState → Bool
@@ -101,7 +112,7 @@ is_late st = is_some st.maker && nat_le st.loop_ms (now st.log - st.last_look)
 -- what a turn takes that needs a packet: none where that look is late, so that no flood of packets keeps it from looking
 abbrev pub open_plan : ℕ → RunState → Bool → Plan (Choice × RunState)
 open_plan me st late =
-    if late then Ends (choice.Open None, st) else (receive_plan >>= (λ packet. Ends (choice_of me packet, st)))
+    if late then Ends (choice.Open None, st) else (receive_plan >>= (λ got. Ends (choice_of me (packet_in got), heard_request got st)))
 
 -- what a turn takes, and what is left then
 unfoldable pub choice_plan : ℕ → Bool → RunState → Plan (Choice × RunState)

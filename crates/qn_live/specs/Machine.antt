@@ -20,7 +20,7 @@ use Rattle.qn_live.specs.declared.place.Place.{Place}
 use Rattle.qn_live.specs.declared.place.Place.TheVariants as place
 use Rattle.qn_live.specs.declared.run.NodeRun.{NodeRun}
 use Rattle.qn_live.specs.Running.{RunState, Next, Over, Ran, later}
-use Rattle.qn_live.specs.Choosing.{choice_of, receive_plan}
+use Rattle.qn_live.specs.Choosing.{choice_of, heard_request, packet_in, receive_plan}
 use Rattle.qn_live.specs.Performing.{outs_plan}
 use Rattle.qn_live.specs.Greetings.{farewells, sends_plan, to_send}
 use Rattle.qn_live.specs.Runs.{clocked, parted, run_plan, settled, timed, turn_plan}
@@ -36,6 +36,7 @@ state_of run log =
       waits = run.waits;
       rests = run.rests;
       last_look = run.last_look;
+      asked = run.asked;
     }
 
 -- the turns that follow the present one
@@ -50,7 +51,7 @@ begun run log =
 -- .. where a packet is to be received, ..
 abbrev pub receiving : NodeRun → List Line → Plan Ran
 receiving run log =
-    ((receive_plan >>= (λ packet. Ends (choice_of run.me.0 packet, state_of run log))) >>= timed run.settings run.me.0)
+    ((receive_plan >>= (λ got. Ends (choice_of run.me.0 (packet_in got), heard_request got (state_of run log)))) >>= timed run.settings run.me.0)
     >>= later (next_of run)
 
 -- .. where it has its choice, ..

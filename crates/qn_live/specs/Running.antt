@@ -8,7 +8,8 @@ use Rattle.qn_live.specs.declared.place.Waits.{Waits}
 
 -- What a running node knows between two turns: the log of what it was handed, newest entry first; the loop's time of the
 -- header that it read, 0 before; the view maker of a node that takes part; the answers that wait; whether the turn before
--- took a failed answer of the disk, so that this one takes none; and the tick of the last look of the view maker.
+-- took a failed answer of the disk, so that this one takes none; the tick of the last look of the view maker; and whether the
+-- host of the node has asked it to leave.
 pub record RunState : Type 0 where
   pub log : List Line
   pub loop_ms : ℕ
@@ -16,11 +17,12 @@ pub record RunState : Type 0 where
   pub waits : Waits
   pub rests : Bool
   pub last_look : ℕ
+  pub asked : Bool
 
 -- at the beginning nothing was handed to the node, and nothing waits
 abbrev pub first_state : RunState
 first_state =
-    record { log = []; loop_ms = 0; maker = None; waits = record { stopped = None; disk = None }; rests = false; last_look = 0 }
+    record { log = []; loop_ms = 0; maker = None; waits = record { stopped = None; disk = None }; rests = false; last_look = 0; asked = false }
 
 -- how a turn ends: with the run and its log, or with what the next turn begins from
 pub data Turned : Type 0 where

@@ -40,6 +40,7 @@ taken s me st tick found =
       waits = st.waits;
       rests = failed_answer found.1;
       last_look = st.last_look;
+      asked = st.asked;
     }
 
 -- the state once the view maker was asked at a tick whether a Hello is due

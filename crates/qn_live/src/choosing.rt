@@ -1,7 +1,7 @@
 //! Which entry a turn takes.
-ghost use Rattle.std.specs.Prelude.{◌≡◌, ◌≤◌, length};
+ghost use Rattle.std.specs.Prelude.{◌≡◌, ◌≤◌, ◌||◌, length};
 ghost use Rattle.qn_io.specs.Receives.{FitsPacket, received};
-ghost use Rattle.qn_live.specs.Choosing.{choice_of, failed_answer, is_entry_for, look_after, looked, packet_in, ready};
+ghost use Rattle.qn_live.specs.Choosing.{choice_of, failed_answer, is_entry_for, is_request, look_after, looked, packet_in, ready};
 ghost use Rattle.qn_live.specs.Runs.{loop_after};
 
 use crate::place::{Choice, Waits};
@@ -10,6 +10,9 @@ use qn_io::{Got, PACKET};
 use qn_member::Member;
 use qn_model::{HeaderSeen, MailSeen, Packet, SlotSeen, What};
 use qn_wire::get_packet;
+
+/// What is handed to the node as received where its host asks it to leave: `QN`, a kind that no packet has, and 1.
+const LEAVE_REQUEST: [u8; 4] = [b'Q', b'N', 12, 1];
 
 /// The entry of a turn that needs no packet, and the answers that wait then. `rests` says that the turn before took a
 /// failed answer of the disk.
@@ -45,6 +48,25 @@ pub fn choose(me: Rank, got: Got, packet: &[u8; PACKET]) -> Choice
     match got {
         Got::Packet(length) => choice_of(me, get_packet(&packet[..length])),
         Got::Nothing | Got::Failed => Choice::Open(None),
+    }
+}
+
+/// Whether the host of the node has asked it to leave: before, or by what came now.
+pub fn heard_request(asked: bool, got: Got, packet: &[u8; PACKET]) -> bool
+    requires { FitsPacket got }
+    ensures { result ≡ (asked || is_request (received got packet.now)) }
+{
+    asked || is_request(got, packet)
+}
+
+/// Whether that is the request of this host that the node is to leave, of which no packet has the bytes.
+fn is_request(got: Got, packet: &[u8; PACKET]) -> bool
+    requires { FitsPacket got }
+    ensures { result ≡ is_request (received got packet.now) }
+{
+    match got {
+        Got::Packet(length) => &packet[..length] == LEAVE_REQUEST.as_slice(),
+        Got::Nothing | Got::Failed => false,
     }
 }
 

@@ -4,7 +4,7 @@ ghost use Rattle.qn_node.specs.Node.{steps_of};
 ghost use Rattle.qn_live.specs.Places.{pending};
 
 use crate::asked::{Asked, Given, Room};
-use crate::choosing::{choose, failed_answer, look, look_after, loop_after, ready};
+use crate::choosing::{choose, failed_answer, heard_request, look, look_after, loop_after, ready};
 use crate::greeting::{farewell, greeting_after, greeting_packet, hello_due, keep_member};
 use crate::live_end::LiveEnd;
 use crate::outputs::{self, end_in, operation_in, waits_after};
@@ -34,6 +34,8 @@ pub struct NodeRun {
     rests: bool,
     /// The tick of the last look of the view maker, or of the last entry while there is none.
     last_look: u64,
+    /// Whether the host of the node has asked it to leave.
+    asked: bool,
     /// The number of the present turn, from 1, and how many turns follow it.
     turn: u64,
     after: u64,
@@ -99,6 +101,7 @@ impl NodeRun {
             },
             rests: false,
             last_look: 0,
+            asked: false,
             turn: 1,
             after: turns - 1,
             entry: What::Tick,
@@ -239,6 +242,7 @@ impl NodeRun {
     {
         match self.place {
             Place::Receive => {
+                self.asked = heard_request(self.asked, given.got, &room.packet);
                 self.place = Place::Now(choose(self.me, given.got, &room.packet));
             }
             Place::Now(choice) => self.at_tick(choice, given.tick),
@@ -572,16 +576,17 @@ impl NodeRun {
         self.member.is_some() && self.tick.saturating_sub(self.last_look) >= self.loop_ms
     }
 
-    /// Whether the node is to leave at the present turn.
+    /// Whether the node is to leave at the present turn: its host has asked it to, or the number of the turn has come.
     fn is_to_leave(&self) -> bool
         ensures { (log : List Line)
             → Stands self.now log
             → result ≡ is_to_leave self.now.settings self.now.leave_at self.now.turn
             (state_of self.now log) }
     {
-        match self.leave_at {
-            Some(from) => from <= self.turn && matches!(self.node.phase(), Phase::Up),
+        let has_come = match self.leave_at {
+            Some(from) => from <= self.turn,
             None => false,
-        }
+        };
+        (self.asked || has_come) && matches!(self.node.phase(), Phase::Up)
     }
 }

@@ -1,5 +1,5 @@
 -- Which datagrams are handed to a node (this project's profile).
-use Rattle.std.specs.Prelude.{◌≡◌, ℕ, ◌<◌, ◌==◌, ◌&&◌, Bool, true, not, nat_lt, List, length, slice_index, Option, Some, None, Ok, Err}
+use Rattle.std.specs.Prelude.{◌≡◌, ℕ, ◌<◌, ◌==◌, ◌&&◌, ◌||◌, Bool, true, not, nat_lt, List, length, slice_index, Option, Some, None, Ok, Err}
 use Rattle.std.specs.declared.net.ip_addr.IpAddr.{IpAddr}
 use Rattle.qn_seal.specs.Receiving.{judged, opened_by, receiver_after}
 use Rattle.qn_seal.specs.declared.receiver.Receiver.{Receiver}
@@ -18,6 +18,10 @@ pub record IsOfAnother (peers : Peers) (ip : IpAddr) (port : ℕ) : Type 0 where
 -- a vote of a quorum device: `QN`, kind 5, and one byte more
 abbrev pub is_vote : List ℕ → Bool
 is_vote bytes = length bytes == 4 && slice_index bytes 0 == 81 && slice_index bytes 1 == 78 && slice_index bytes 2 == 5
+
+-- a request of the node's own host that it is to leave: `QN`, kind 12, and one byte more
+abbrev pub is_request : List ℕ → Bool
+is_request bytes = length bytes == 4 && slice_index bytes 0 == 81 && slice_index bytes 1 == 78 && slice_index bytes 2 == 12
 
 -- a sealed packet names another sender than that rank
 abbrev pub names_other : List ℕ → ℕ → Bool
@@ -43,9 +47,9 @@ receiver_after_taking None tick bytes = None
 receiver_after_taking (Some receiver) tick bytes =
     Some (receiver_after receiver tick (opened_by receiver.keys receiver.text bytes))
 
--- a datagram of that sender that is not its own: a vote, or sealed by another
+-- a datagram of that sender that is not its own: a vote, a request of this host, or sealed by another
 abbrev pub is_foreign : Option Receiver → ℕ → List ℕ → Bool
-is_foreign None sender bytes = is_vote bytes
+is_foreign None sender bytes = is_vote bytes || is_request bytes
 is_foreign (Some receiver) sender bytes = names_other bytes sender
 
 -- the receiver of seals does not take it, for that reason

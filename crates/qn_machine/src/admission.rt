@@ -1,8 +1,9 @@
 //! Which of the datagrams that come are handed to the node.
 ghost use Rattle.std.specs.Prelude.{◌≡◌};
 ghost use Rattle.std.specs.Net.Socket.{socket_ip, socket_port};
-ghost use Rattle.qn_machine.specs.Admission.{IsOfAnother, IsOfSender, IsOpened, IsRefused, is_vote, names_other, receiver_after_taking};
+ghost use Rattle.qn_machine.specs.Admission.{IsOfAnother, IsOfSender, IsOpened, IsRefused, is_request, is_vote, names_other, receiver_after_taking};
 
+use crate::leave_file::LEAVE;
 use crate::peers::Peers;
 use qn_seal::{Receiver, Refused};
 use std::net::{IpAddr, Ipv4Addr, SocketAddr};
@@ -16,7 +17,7 @@ const SENDER: usize = 4;
 /// Why a datagram is not handed to the node.
 #[derive(Clone, Copy, PartialEq, Eq)]
 pub enum Reason {
-    /// It is of an address or a port that no other node has, a vote of another host, or a seal that names another sender.
+    /// It is of an address or a port that no other node has, a vote or a request of another host, or a seal that names another sender.
     Elsewhere,
     /// Its seal says so.
     Sealed(Refused),
@@ -46,6 +47,8 @@ impl Admission {
         ensures of_sender { OnOk result
             (IsOfSender self.old bytes.now (socket_ip from) (socket_port from)) }
         ensures no_vote { OnOk result (self.old.receiver ≡ None → is_vote bytes.now ≡ false) }
+        ensures no_request { OnOk result
+            (self.old.receiver ≡ None → is_request bytes.now ≡ false) }
         ensures moved { OnOk result
             (self.new.receiver ≡ receiver_after_taking self.old.receiver tick bytes.now) }
         ensures reason { IfErr result (λ why.
@@ -57,7 +60,7 @@ impl Admission {
             return Err(Reason::Elsewhere);
         };
         match &mut self.receiver {
-            None if is_vote(bytes) => Err(Reason::Elsewhere),
+            None if is_vote(bytes) || is_request(bytes) => Err(Reason::Elsewhere),
             None => Ok(bytes),
             Some(_) if names_other(bytes, sender) => Err(Reason::Elsewhere),
             Some(receiver) => receiver.take(tick, bytes).map_err(Reason::Sealed),
@@ -75,6 +78,13 @@ fn names_other(bytes: &[u8], sender: u8) -> bool
     ensures { result ≡ names_other bytes.now sender }
 {
     bytes.len() > SENDER && bytes[SENDER] != sender
+}
+
+/// Whether a datagram is as a request of this host that its node is to leave: of a kind that no packet of a network has.
+fn is_request(bytes: &[u8]) -> bool
+    ensures { result ≡ is_request bytes.now }
+{
+    matches!(bytes, [b'Q', b'N', LEAVE, _])
 }
 
 /// Whether a datagram is as a vote is: of its kind and of its length.

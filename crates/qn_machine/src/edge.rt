@@ -1,4 +1,4 @@
-//! What of the outside is said before the command: where the nodes are, what guards their packets, and what is told of a halt.
+//! What of the outside is said before the command: where the nodes are, what guards their packets, what is told of a halt, and what asks a node to leave.
 use crate::named_file::Absent;
 use qn_seal::{Keys, text_of};
 use std::net::IpAddr;
@@ -27,16 +27,19 @@ pub struct Edge {
     pub text: [u8; 32],
     /// The path of a file that is told of a halt.
     pub halt: Option<String>,
+    /// The path of a file with which this host asks its node to leave.
+    pub leave: Option<String>,
 }
 
 impl Edge {
-    /// Nothing said: all nodes on 127.0.0.1, no seal, no text, no file for a halt.
+    /// Nothing said: all nodes on 127.0.0.1, no seal, no text, no file for a halt and for a leave.
     pub fn local() -> Edge {
         Edge {
             addresses: None,
             guard: Guard::Unsaid,
             text: text_of(&[]),
             halt: None,
+            leave: None,
         }
     }
 

@@ -24,6 +24,7 @@ mod image_file;
 mod image_reader;
 mod image_word;
 mod journal_lines;
+mod leave_file;
 mod named_file;
 mod nbd_image;
 mod network;

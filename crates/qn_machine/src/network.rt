@@ -5,6 +5,7 @@ use crate::admission::{Admission, Reason, is_vote_of_host};
 use crate::deadline::{Deadline, is_late};
 use crate::edge::{Edge, Guard, MOST_NODES};
 use crate::error_lines::Lines;
+use crate::leave_file::{LeaveFile, REQUEST};
 use crate::named_file::FIRST_OF_A_FILE;
 use crate::peers::Peers;
 use crate::refusals::Refusals;
@@ -13,9 +14,11 @@ use qn_base::Rank;
 use qn_exchange::TRIES;
 use qn_io::PACKET;
 use qn_seal::Receiver;
+use std::fs::File;
 use std::io::{self, ErrorKind};
 use std::net::{IpAddr, Ipv4Addr, Net, SocketAddr, UdpSocket};
 use std::os::fd::AsRawFd;
+use std::rt::Files;
 use std::time::{Clock, Duration};
 
 /// How long a packet is waited for, in milliseconds. The system rounds a wait up to a step of its own clock, which
@@ -38,12 +41,14 @@ pub(crate) struct Network {
     admission: Admission,
     sealing: Option<Sealing>,
     refusals: Refusals,
+    /// With what this host asks its node to leave.
+    leave: Option<LeaveFile>,
 }
 
 impl Network {
     /// Opens the port of that rank at the address of that rank. Where that is not 127.0.0.1, the same port of 127.0.0.1 is opened
     /// before it. It fails where another program holds that port: so no two programs run as one node on one host.
-    pub(crate) fn open<R: Net + Clock>(
+    pub(crate) fn open<R: Net + Clock + AllocGlobal>(
         rt: &R,
         edge: &Edge,
         first_port: u16,
@@ -77,25 +82,32 @@ impl Network {
             admission: Admission { peers, receiver },
             sealing,
             refusals: Refusals::default(),
+            leave: leave_file_of(rt, edge)?,
         })
     }
 
     /// Takes a packet, the first 129 bytes of a longer one; None where none came in time. What is not for the node is passed over, and
-    /// the call goes on with the time that is left; so it does after an interruption.
-    pub(crate) fn receive<C: Clock>(
+    /// the call goes on with the time that is left; so it does after an interruption. Where this host asks its node to leave, that
+    /// comes first.
+    pub(crate) fn receive<R: Files<File = File> + Clock>(
         &mut self,
-        clock: &C,
+        rt: &R,
         packet: &mut [u8; PACKET],
     ) -> io::Result<Option<usize>>
         ensures { IfOk result (λ came. IfSome came (λ count. count ≤ 129)) }
     {
-        let end = Deadline::after(clock, WAIT)?;
+        if let Some(leave) = &mut self.leave {
+            if leave.has_come(rt)? {
+                return Ok(Some(put(&REQUEST, packet)));
+            }
+        }
+        let end = Deadline::after(rt, WAIT)?;
         let mut left = Duration::from_millis(WAIT);
         'looks: for _ in 0..LOOKS {
-            if let Some(count) = self.take_within(clock, left, packet)? {
+            if let Some(count) = self.take_within(rt, left, packet)? {
                 return Ok(Some(count));
             }
-            left = match end.left(clock)? {
+            left = match end.left(rt)? {
                 Some(left) => left,
                 None => return Ok(None),
             };
@@ -182,6 +194,17 @@ fn peers_of(edge: &Edge, first_port: u16, rank: Rank) -> Peers {
         addresses: edge.addresses.unwrap_or(everywhere),
         first_port,
         own: rank.0,
+    }
+}
+
+/// With what this host asks its node to leave, where that was said.
+fn leave_file_of<R: AllocGlobal>(rt: &R, edge: &Edge) -> io::Result<Option<LeaveFile>> {
+    let Some(path) = &edge.leave else {
+        return Ok(None);
+    };
+    match String::from_str(rt.alloc(), path.as_str()) {
+        Ok(path) => Ok(Some(LeaveFile::at(path))),
+        Err(_) => Err(io::Error::from(ErrorKind::OutOfMemory)),
     }
 }
 

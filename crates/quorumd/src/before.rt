@@ -1,4 +1,4 @@
-//! The words before the command: `--links CONF`, `--key FILE` up to three times, `--open`, `--halt FILE` and `--status FILE`, in any order.
+//! The words before the command: `--links CONF`, `--key FILE` up to three times, `--open`, `--halt FILE`, `--status FILE` and `--leave-file FILE`, in any order.
 use std::fmt;
 use std::fmt::Display;
 
@@ -6,7 +6,7 @@ use std::fmt::Display;
 pub const MOST_KEYS: usize = 3;
 
 /// The most words that may stand before the command: two for each but `--open`.
-const MOST_WORDS: u32 = 13;
+const MOST_WORDS: u32 = 15;
 
 /// What the words before the command say.
 #[derive(Clone, Copy, Default)]
@@ -16,6 +16,7 @@ pub struct Before<'words> {
     pub is_open: bool,
     pub halt: Option<&'words str>,
     pub status: Option<&'words str>,
+    pub leave: Option<&'words str>,
     /// How many words these are.
     pub count: usize,
 }
@@ -30,6 +31,7 @@ pub enum WordFault<'words> {
     NeitherKeyNorOpen,
     StatusWithoutNode,
     StatusPath,
+    LeaveWithoutNode,
 }
 
 impl<'words> Display for WordFault<'words> {
@@ -42,6 +44,7 @@ impl<'words> Display for WordFault<'words> {
             WordFault::NeitherKeyNorOpen => f.write_str("--links wants --key or --open"),
             WordFault::StatusWithoutNode => f.write_str("--status stands before a node alone"),
             WordFault::StatusPath => f.write_str("--status: a path has 1 to 4090 bytes"),
+            WordFault::LeaveWithoutNode => f.write_str("--leave-file stands before a node alone"),
         }
     }
 }
@@ -54,6 +57,7 @@ enum Word {
     Open,
     Halt,
     Status,
+    LeaveFile,
 }
 
 impl Word {
@@ -65,6 +69,7 @@ impl Word {
             "--open" => Some(Word::Open),
             "--halt" => Some(Word::Halt),
             "--status" => Some(Word::Status),
+            "--leave-file" => Some(Word::LeaveFile),
             _ => None,
         }
     }
@@ -107,6 +112,7 @@ impl<'words> Before<'words> {
             Word::Links => put_once(&mut self.links, text, value),
             Word::Halt => put_once(&mut self.halt, text, value),
             Word::Status => put_once(&mut self.status, text, value),
+            Word::LeaveFile => put_once(&mut self.leave, text, value),
             Word::Key => self.key(value),
             Word::Open => Ok(()),
         }
@@ -134,6 +140,9 @@ impl<'words> Before<'words> {
     fn judged(self, command: &str) -> Result<Before<'words>, WordFault<'words>> {
         if self.status.is_some() && !is_node(command) {
             return Err(WordFault::StatusWithoutNode);
+        }
+        if self.leave.is_some() && !is_node(command) {
+            return Err(WordFault::LeaveWithoutNode);
         }
         let first = self.keys[0];
         let has_key = first.is_some();

@@ -29,6 +29,9 @@ pub fn edge_of<R: Files<File = File> + AllocGlobal + Eprint>(
     if let Some(path) = before.halt {
         edge.halt = Some(String::from_str(rt.alloc(), path).map_err(|_| NO_MEMORY)?);
     }
+    if let Some(path) = before.leave {
+        edge.leave = Some(String::from_str(rt.alloc(), path).map_err(|_| NO_MEMORY)?);
+    }
     edge.guard = match keys_of(rt, &before.keys)? {
         Some(keys) => Guard::Sealed(keys),
         None if before.is_open => Guard::ClosedNetwork,

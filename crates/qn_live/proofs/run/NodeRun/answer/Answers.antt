@@ -1,10 +1,11 @@
 use Rattle.std.proofs.Common.{◌≡◌, sym, ap, subst, ◌∙◌, get_or}
 use Rattle.std.proofs.lemmas.Option.{slice_get-get_or}
 use Rattle.qn_base.specs.Plans.{◌>>=◌, left}
+use Rattle.qn_io.specs.Receives.{received}
 use Rattle.qn_model.specs.declared.outputs.Out.TheVariants as out
 use Rattle.qn_live.specs.declared.place.Place.{Place}
 use Rattle.qn_live.specs.declared.place.Place.TheVariants as place
-use Rattle.qn_live.specs.Choosing.{choice_of, packet_in}
+use Rattle.qn_live.specs.Choosing.{choice_of, heard_request, packet_in}
 use Rattle.qn_live.specs.Machine.{HasMore, acting, clocking, left_at, next_of, parting, receiving, saying, state_of, timing}
 use Rattle.qn_live.specs.Greetings.{farewells, to_send}
 use Rattle.qn_live.specs.Running.{later}
@@ -23,8 +24,14 @@ returns-in-Receive-clause-runs c = λ plan call h tells asked.
       is_left =
           ap (λ p. left p call) is
           ∙ ap
-          (λ chosen. timed run.settings run.me.0 (chosen, state_of run h.log) >>= later (next_of run))
-          (ap (λ got. choice_of run.me.0 (packet_in got)) tells.got ∙ sym c.choose.ensures);
+          (λ got. timed run.settings run.me.0 (choice_of run.me.0 (packet_in got), heard_request got (state_of run h.log)) >>= later (next_of run))
+          tells.got
+          ∙ ap
+          (λ chosen. timed run.settings run.me.0 (chosen, heard_request (received c.args.given.got c.args.room.now.packet) (state_of run h.log)) >>= later (next_of run))
+          (sym c.choose.ensures)
+          ∙ ap
+          (λ asked. timed run.settings run.me.0 (c.choose.result, record (state_of run h.log) { asked = asked }) >>= later (next_of run))
+          (sym c.heard_request-self.ensures);
     }
 
 pub returns-in-Now-clause-runs : goal.returns-in-Now-clause-runs
