@@ -17,6 +17,17 @@ pub enum Guard {
     Sealed(Keys),
 }
 
+/// What `create` writes over.
+#[derive(Clone, Copy, PartialEq, Eq)]
+pub enum Overwrites {
+    /// A plain file, whatever stands in it; where a block server keeps the image, only what is blank.
+    Files,
+    /// Only what is blank or absent.
+    Nothing,
+    /// Whatever is there.
+    Anything,
+}
+
 /// What of the outside is said before the command.
 #[derive(Drop)]
 pub struct Edge {
@@ -27,16 +38,18 @@ pub struct Edge {
     pub text: [u8; 32],
     /// The path of a file that is told of a halt.
     pub halt: Option<String>,
+    pub overwrites: Overwrites,
 }
 
 impl Edge {
-    /// Nothing said: all nodes on 127.0.0.1, no seal, no text, no file for a halt.
+    /// Nothing said: all nodes on 127.0.0.1, no seal, no text, no file for a halt, and plain files are written over.
     pub fn local() -> Edge {
         Edge {
             addresses: None,
             guard: Guard::Unsaid,
             text: text_of(&[]),
             halt: None,
+            overwrites: Overwrites::Files,
         }
     }
 
