@@ -50,8 +50,8 @@ def notify(text):
 
 
 def now():
-    """Milliseconds since the boot."""
-    return int(time.monotonic() * 1000)
+    """Milliseconds since the boot, by the clock that the node goes by and no time daemon slews."""
+    return time.clock_gettime_ns(time.CLOCK_MONOTONIC_RAW) // 1000000
 
 
 def is_there(path):

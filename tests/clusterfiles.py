@@ -13,8 +13,8 @@ LOOP = 60000  # so long that a slow machine makes no fresh file stale
 
 
 def now():
-    """The monotonic clock of this host in milliseconds, which is that of the ticks."""
-    return time.clock_gettime_ns(time.CLOCK_MONOTONIC) // 1000000
+    """The raw monotonic clock of this host in milliseconds, which is that of the ticks."""
+    return time.clock_gettime_ns(time.CLOCK_MONOTONIC_RAW) // 1000000
 
 
 def node(own, ids=IDS, **changes):

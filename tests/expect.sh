@@ -6,13 +6,13 @@ RUN_AS=()
 # expect STATUS 'OUTPUT' WORD..: runs the program with these words, and stops the script where its status or its
 # output is another one. OUTPUT is as for printf: `\n` ends a line. Standard input is that of the call. Standard error
 # must have a line of the program where the outside failed or the words are no command, and else nothing; it is left in the file .errors,
-# without the line that says that an image was made.
+# without the lines which say that an image was made, and that its feed delay is short.
 expect() {
     local wanted=$1 text=$2 status=0 lines=''
     shift 2
     printf "$text" > .wanted
     "${RUN_AS[@]}" "$QUORUMD" "$@" > .got 2> .said || status=$?
-    sed '/: nothing was there, and an empty file was made$/d' .said > .errors
+    sed -e '/: nothing was there, and an empty file was made$/d' -e '/: feed delay [0-9]*: /d' .said > .errors
     case $wanted in
     2 | 6 | 7 | 8) lines='quorumd: .+' ;;
     esac

@@ -73,7 +73,7 @@ def in_namespace(tried):
 
 def milliseconds():
     """The time of the clock that nodes read too."""
-    return int(time.monotonic() * 1000)
+    return time.clock_gettime_ns(time.CLOCK_MONOTONIC_RAW) // 1000000
 
 
 def free_ports(count):

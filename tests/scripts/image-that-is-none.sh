@@ -1,9 +1,11 @@
 # Paths that are no image: each gives a fault line and its status, and nothing is written.
 . "$TOP/tests/expect.sh"
 
-# no file: it is made, empty
-expect 9 'fault BadImage sector 0\n' dump --image absent
-same "$(stat -c %s absent)" 0
+# no file: none is made
+for command in dump list 'message --id 1 --kind off' migrate; do
+    expect 9 'fault BadImage sector 0\n' $command --image absent
+    same "$command: $(ls)" "$command: "
+done
 
 # random bytes
 head -c 4096 /dev/zero | tr '\0' '\245' > noise

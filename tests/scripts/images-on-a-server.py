@@ -21,9 +21,10 @@ COMMANDS = (
 
 
 def answer(command, image, settings=b""):
-    """Status and output of a command on an image, and what it said of it."""
+    """Status and output of a command on an image, and what it said of it. A `create` writes over what is there."""
     words = command.split()
-    done = subprocess.run([live.QUORUMD, words[0], "--image", str(image), *words[1:]], input=settings, capture_output=True, check=False)
+    before = ["--anew"] if words[0] == "create" else []
+    done = subprocess.run([live.QUORUMD, *before, words[0], "--image", str(image), *words[1:]], input=settings, capture_output=True, check=False)
     return done.returncode, done.stdout.decode(), done.stderr.decode().replace("quorumd: %s: " % image, "")
 
 

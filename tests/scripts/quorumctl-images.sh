@@ -53,6 +53,17 @@ ctl 1 "${lines}warning: the times are not safe\n" check --image disk < /dev/null
 # times with which a take-over has no bound: a warning, and no fault
 "$QUORUMD" create --image slow --timing 5000,10000,6000,2000,1000 < "$TOP/examples/two-node.conf" > said
 ctl 0 "${lines}warning: a take-over has no bound: the loop, two calls of the disk and the feed delay do not fit in the watchdog's time\n" check --image slow < /dev/null
+# a feed delay that is short: a warning, and a fault where no feed is in time
+for row in 1,1,no-feed 2,0,1 500,0,250 999,0,499 1000,0,ample; do
+    IFS=, read -r delay status limit <<< "$row"
+    "$QUORUMD" --anew create --image short --timing "5000,20000,1000,1000,$delay" < "$TOP/examples/two-node.conf" > said
+    case $limit in
+    no-feed) warning="warning: feed delay $delay: no feed is in time\n" ;;
+    ample) warning='' ;;
+    *) warning="warning: feed delay $delay: a feed is given within $limit ms only; a longer stall of the node resets its machine. Take 1000 or more\n" ;;
+    esac
+    ctl "$status" "$lines$warning" check --image short < /dev/null
+done
 # a tail, and a file that ends early: zeros are no mailbox
 cp whole disk
 printf tail >> disk

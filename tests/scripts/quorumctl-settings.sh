@@ -86,14 +86,29 @@ timing() {
     "$QUORUMCTL" timing --watchdog "$1" --loop "$2" --read-limit "$3" --feed-delay "$4" "${@:5}"
 }
 
+# short FEED-DELAY: the warning of a feed delay that is short
+short() {
+    if [ "$1" -lt 2 ]; then
+        echo "warning: feed delay $1: no feed is in time"
+    elif [ "$1" -lt 1000 ]; then
+        echo "warning: feed delay $1: a feed is given within $(($1 / 2)) ms only; a longer stall of the node resets its machine. Take 1000 or more"
+    fi
+}
+
 # the slowest disk and the longest take-over, or why there is none: rows that were worked out by hand from the conditions
 while IFS=$'\t' read -r watchdog loop read_limit feed_delay least slowest longest; do
     [[ $watchdog != '#'* ]] || continue
     wanted="least msgwait $least"
     [ "$slowest" = 0 ] || wanted+=$'\n'"slowest disk $slowest"
     wanted+=$'\n'"longest take-over $longest"
+    warning=$(short "$feed_delay")
+    [ -z "$warning" ] || wanted+=$'\n'"$warning"
     same "$(timing "$watchdog" "$loop" "$read_limit" "$feed_delay")" "$wanted"
 done < "$TOP/tests/rows/take-over-times.tsv"
+
+for feed_delay in 1 2 500 999 1000 1001; do
+    same "$(timing 5000 1000 2000 "$feed_delay" | sed -n '/^warning/p')" "$(short "$feed_delay")"
+done
 
 # a disk that was measured: the bound on it, or which time it is too slow for
 measured() {

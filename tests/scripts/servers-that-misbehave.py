@@ -23,7 +23,9 @@ READS = "list", "dump", "migrate"
 
 
 def run(command, image):
-    words = [live.QUORUMD, command[0], "--image", str(image), *command[1:]]
+    """What a command on an image answers. A `create` writes over what is there."""
+    before = ["--anew"] if command[0] == "create" else []
+    words = [live.QUORUMD, *before, command[0], "--image", str(image), *command[1:]]
     done = subprocess.run(words, input=SETTINGS, capture_output=True, check=False)
     return done.returncode, done.stdout.decode()
 

@@ -53,6 +53,13 @@ says '--links: given twice' --links conf --links conf --open help
 says '--open: given twice' --open --open help
 says '--halt: given twice' --halt a --halt b help
 says '--status: given twice' --status a --status b node
+says '--blank: given twice' --blank --blank create
+says '--anew: given twice' --anew --open --anew create
+for word in --blank --anew; do
+    for command in help list migrate node 'audit --id 1 --turns 1' ''; do
+        says "$word stands before create alone" $word $command
+    done
+done
 says '--status stands before a node alone' --status a help
 says '--status stands before a node alone' --status a audit --id 1 --turns 1
 says '--status stands before a node alone' --open --status a
@@ -68,7 +75,7 @@ says '--links wants --key or --open' --links conf help
 says '--links wants --key or --open' --halt file --links conf
 for word in --links --key --halt --status --leave-file; do
     says "$word: its value is missing" "$word"
-    for next in --links --key --open --halt --status --leave-file; do
+    for next in --links --key --open --halt --status --leave-file --blank --anew; do
         says "$word: its value is missing" "$word" "$next" conf help
     done
 done
@@ -125,3 +132,5 @@ same "$([ -e file ] || echo absent)" absent
 expect 2 'fault Usage\n' --open < /dev/null
 expect 2 'fault Usage\n' --key one count more < /dev/null
 expect 2 'fault Usage\n' help --open < /dev/null
+expect 2 'fault Usage\n' --blank --anew create < /dev/null
+expect 2 'fault Usage\n' create --blank --image disk < /dev/null

@@ -1,6 +1,7 @@
 //! What is wrong with an image.
 use crate::unbounded::Unbounded;
 use qn_base::NodeId;
+use qn_exchange::ShortFeedDelay;
 use std::fmt;
 
 /// What is wrong with an image, or does not fit a corosync.conf.
@@ -19,6 +20,10 @@ pub enum Finding {
     /// With the times of the header a take-over has no bound on any disk.
     NoBound {
         reason: Unbounded,
+    },
+    /// The feed delay of the header is so short that a node which stalls for less than 500 milliseconds is not fed.
+    ShortFeedDelay {
+        short: ShortFeedDelay,
     },
     /// The sector is no slot.
     NotSlot {
@@ -61,6 +66,7 @@ impl fmt::Display for Finding {
                 let reason = reason.of_times();
                 write!(f, "a take-over has no bound: {reason}")
             }
+            Finding::ShortFeedDelay { short } => write!(f, "{short}"),
             Finding::NotSlot { sector } => of_sector(f, *sector, " is no slot"),
             Finding::NotMailbox { sector } => of_sector(f, *sector, " is no mailbox"),
             Finding::NotAscending { sector, id } => {

@@ -4,6 +4,7 @@ ghost use Rattle.std.specs.Prelude.{◌<◌};
 use crate::findings::Finding;
 use crate::times::{slowest_disk, unbounded_on};
 use qn_base::{NodeId, Rank};
+use qn_exchange::ShortFeedDelay;
 use qn_model::{Mail, Settings, Slot, Timing, timing_safe};
 use qn_sector::{
     get_header, get_header_1, get_mail, get_mail_1, get_slot, mail_sector, mail_sector_1,
@@ -76,7 +77,7 @@ fn look_at_header<S: Sectors>(sectors: &mut S, seen: &mut ImageSeen) -> Result<(
     Ok(())
 }
 
-/// The times are safe, and on some disk a take-over has a bound with them.
+/// The times are safe, on some disk a take-over has a bound with them, and the feed delay is ample.
 fn look_at_times(timing: &Timing, seen: &mut ImageSeen) -> Result<(), AllocError> {
     if !timing_safe(timing) {
         seen.findings.push(Finding::UnsafeTimes)?;
@@ -84,6 +85,9 @@ fn look_at_times(timing: &Timing, seen: &mut ImageSeen) -> Result<(), AllocError
         if let Some(reason) = unbounded_on(timing, 1) {
             seen.findings.push(Finding::NoBound { reason })?;
         }
+    }
+    if let Some(short) = ShortFeedDelay::of(timing.feed_delay) {
+        seen.findings.push(Finding::ShortFeedDelay { short })?;
     }
     Ok(())
 }

@@ -1,12 +1,14 @@
 //! The disk of a node: one image, or three of which one may be lost.
 ghost use Rattle.std.specs.Prelude.{◌<◌};
 
-use crate::edge::Edge;
+use crate::blank::{found_at, is_zeros};
+use crate::edge::{Edge, Overwrites};
 use crate::headers::{EdgeTimes, times_of};
 use crate::image::{Image, Opener};
 use crate::named_file::Absent;
 use crate::reported::reported;
 use qn_base::Failed;
+use qn_exchange::ShortFeedDelay;
 use qn_io::SECTOR;
 use qn_sector::get_header;
 use std::fs::File;
@@ -145,25 +147,32 @@ impl Disk {
     }
 
     /// Writes a sector and has it pushed to the disk. Sector 0 of an image is written only under the exclusive lock, which is
-    /// then held while the image is open; where that lock is not to be had, the image is closed, since its shared lock is lost.
+    /// then held while the image is open; where that lock is not to be had, or something is there that is not to be written over, the image is
+    /// closed, since its shared lock is lost.
     pub(crate) fn write<R: Files<File = File> + Net<Stream = TcpStream> + Clock, E: Eprint>(
         &mut self,
         rt: &R,
         errors: &E,
         sector: u32,
         from: &[u8; SECTOR],
+        overwrites: Overwrites,
     ) -> Result<(), Failed>
         requires { sector < 3072 }
     {
         let (index, sector) = self.place(sector);
-        if sector == 0 && !is_locked(errors, &self.images[index]) {
-            self.images[index] = None;
+        if sector == 0 {
+            let open = self.images[index].take();
+            self.images[index] = open.and_then(|image| locked(rt, errors, image, from, overwrites));
         }
         self.wrote[index] = false;
         let image = self.images[index].as_mut().ok_or(Failed)?;
         let done = image.write(rt, sector, from);
         self.wrote[index] = done.is_ok();
-        tell(rt, errors, image.name(), &mut self.told[index], done)
+        tell(rt, errors, image.name(), &mut self.told[index], done)?;
+        if sector == 0 {
+            warn_of_feeds(errors, image.name(), from);
+        }
+        Ok(())
     }
 
     /// Whether the last write was done, of three images that to two of them: then no write of it can land later and count.
@@ -217,10 +226,16 @@ fn open_image<R: Files<File = File> + Net<Stream = TcpStream> + Clock + AllocGlo
     absent: Absent,
 ) -> Result<Image, Failed> {
     let image = reported(errors, word, Image::open(rt, errors, word, opener, absent))?;
-    if image.is_made() {
-        let _ = eprintln!(errors; "quorumd: {word}: nothing was there, and an empty file was made");
-    }
+    say_made(errors, &image);
     Ok(image)
+}
+
+/// Says that the file of an image was made, where it was.
+fn say_made<E: Eprint>(errors: &E, image: &Image) {
+    if image.is_made() {
+        let name = image.name();
+        let _ = eprintln!(errors; "quorumd: {name}: nothing was there, and an empty file was made");
+    }
 }
 
 /// Opens the three images of a word, of which at least two have to be there.
@@ -265,11 +280,39 @@ fn opened(images: &[Option<Image>; 3]) -> usize {
     images.iter().filter(|image| image.is_some()).count()
 }
 
-/// Takes the exclusive lock of the image, where it is open.
-fn is_locked<E: Eprint>(errors: &E, image: &Option<Image>) -> bool {
-    match image {
-        Some(image) => reported(errors, image.name(), image.lock()).is_ok(),
-        None => false,
+/// The image under its exclusive lock, into whose first sector these bytes are to be written; None where the lock is not to be had, or where zeros,
+/// which are the first bytes of a new image, would go over what is not to be written over.
+fn locked<R: Files<File = File> + Net<Stream = TcpStream> + Clock, E: Eprint>(
+    rt: &R,
+    errors: &E,
+    mut image: Image,
+    from: &[u8; SECTOR],
+    overwrites: Overwrites,
+) -> Option<Image> {
+    let was_made = image.is_made();
+    let done = image.lock(rt);
+    if !was_made {
+        say_made(errors, &image);
+    }
+    reported(errors, image.name(), done).ok()?;
+    if is_zeros(from) {
+        let found = found_at(rt, &mut image, overwrites);
+        if let Some(found) = reported(errors, image.name(), found).ok()? {
+            let name = image.name();
+            let _ = eprintln!(errors; "quorumd: {name}: {found}");
+            return None;
+        }
+    }
+    Some(image)
+}
+
+/// Says that the feed delay of a header that was written is short, where it is.
+fn warn_of_feeds<E: Eprint>(errors: &E, name: &str, header: &[u8; SECTOR]) {
+    let Some((_, timing)) = get_header(header) else {
+        return;
+    };
+    if let Some(short) = ShortFeedDelay::of(timing.feed_delay) {
+        let _ = eprintln!(errors; "quorumd: {name}: {short}");
     }
 }
 

@@ -17,6 +17,17 @@ pub enum Guard {
     Sealed(Keys),
 }
 
+/// What `create` writes over.
+#[derive(Clone, Copy, PartialEq, Eq)]
+pub enum Overwrites {
+    /// A plain file, whatever stands in it; where a block server keeps the image, only what is blank.
+    Files,
+    /// Only what is blank or absent.
+    Nothing,
+    /// Whatever is there.
+    Anything,
+}
+
 /// What of the outside is said before the command.
 #[derive(Drop)]
 pub struct Edge {
@@ -29,10 +40,11 @@ pub struct Edge {
     pub halt: Option<String>,
     /// The path of a file with which this host asks its node to leave.
     pub leave: Option<String>,
+    pub overwrites: Overwrites,
 }
 
 impl Edge {
-    /// Nothing said: all nodes on 127.0.0.1, no seal, no text, no file for a halt and for a leave.
+    /// Nothing said: all nodes on 127.0.0.1, no seal, no text, no file for a halt and for a leave, and plain files are written over.
     pub fn local() -> Edge {
         Edge {
             addresses: None,
@@ -40,6 +52,7 @@ impl Edge {
             text: text_of(&[]),
             halt: None,
             leave: None,
+            overwrites: Overwrites::Files,
         }
     }
 

@@ -50,6 +50,20 @@ impl ImageFile {
     ) -> io::Result<ImageFile> {
         refuse_block_device(rt, path)?;
         let (opened, unwritable) = open_writable(rt, path, opener, absent)?;
+        ImageFile::hold(opened, stride, unwritable)
+    }
+
+    /// Makes the file of that path, empty, and opens it under a shared lock. It fails where anything has the path.
+    pub(crate) fn make<R: Files<File = File>>(
+        rt: &R,
+        path: &str,
+        stride: Stride,
+    ) -> io::Result<ImageFile> {
+        ImageFile::hold(NamedFile::make(rt, path)?, stride, None)
+    }
+
+    /// Takes the shared lock of a file that is open.
+    fn hold(opened: NamedFile, stride: Stride, unwritable: Option<i32>) -> io::Result<ImageFile> {
         let identity = Identity::of(&opened.file.metadata()?);
         opened.file.try_lock_shared().map_err(lock_error)?;
         Ok(ImageFile {

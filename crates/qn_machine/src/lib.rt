@@ -6,8 +6,10 @@
 //! descriptor of a standard stream. A node is handed packets of other nodes alone.
 #![tactic(auto)]
 
+mod absent_file;
 mod admission;
 mod agent;
+mod blank;
 mod connection;
 mod deadline;
 mod devices;
@@ -44,7 +46,7 @@ mod watchdog;
 mod watchdog_look;
 
 pub use admission::{Admission, Reason};
-pub use edge::{Edge, Guard, MOST_NODES};
+pub use edge::{Edge, Guard, MOST_NODES, Overwrites};
 pub use error_lines::Lines;
 pub use image_reader::ImageReader;
 pub use peers::Peers;

@@ -4,7 +4,7 @@ ghost use Rattle.std.specs.Fd.{file_raw_fd};
 
 use arrayvec::ArrayString;
 use qn_exchange::TRIES;
-use std::fs::{File, OpenOptions};
+use std::fs::{self, File, OpenOptions};
 use std::io::{self, ErrorKind};
 use std::os::fd::{AsRawFd, RawFd};
 use std::os::unix::fs::FileExt;
@@ -55,6 +55,15 @@ impl NamedFile {
         }
     }
 
+    /// Makes the file of that path, empty, and opens it for reading and writing. It fails where anything has the path, also a link.
+    pub(crate) fn make<R: Files<File = File>>(rt: &R, path: &str) -> io::Result<NamedFile> {
+        let mut options = OpenOptions::new();
+        options.read(true).write(true).create_new(true);
+        let mut made = NamedFile::open_with(rt, path, &options)?;
+        made.is_made = true;
+        Ok(made)
+    }
+
     /// Opens the file of that path for reading alone, which fails where it is absent.
     pub(crate) fn open_to_read<R: Files<File = File>>(rt: &R, path: &str) -> io::Result<NamedFile> {
         let mut options = OpenOptions::new();
@@ -69,13 +78,6 @@ impl NamedFile {
     ) -> io::Result<NamedFile> {
         let mut options = OpenOptions::new();
         options.write(true);
-        NamedFile::open_with(rt, path, &options)
-    }
-
-    /// Opens the file of that path for writing, empty, and makes it where it is absent.
-    pub(crate) fn open_anew<R: Files<File = File>>(rt: &R, path: &str) -> io::Result<NamedFile> {
-        let mut options = OpenOptions::new();
-        options.write(true).create(true).truncate(true);
         NamedFile::open_with(rt, path, &options)
     }
 
@@ -113,7 +115,7 @@ impl NamedFile {
 
 /// Opens a file with these options. Its descriptor is never that of a
 /// standard stream: where one of those is closed, the path is opened again until a higher one comes, so
-/// that nothing which is written to a stream reaches the file.
+/// that nothing which is written to a stream reaches the file. A file that was made is removed before it is made again.
 fn open_apart<R: Files<File = File>>(rt: &R, path: &str, options: &OpenOptions) -> io::Result<File>
     ensures { IfOk result (λ file. pos 3 ≤ℤ file_raw_fd file) }
 {
@@ -124,6 +126,9 @@ fn open_apart<R: Files<File = File>>(rt: &R, path: &str, options: &OpenOptions) 
             return Ok(file);
         }
         *place = Some(file);
+        if options.asks_create_new() {
+            fs::remove_file(rt, path)?;
+        }
     }
     Err(io::Error::other("no descriptor above the standard streams"))
 }

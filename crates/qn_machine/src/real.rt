@@ -219,7 +219,7 @@ impl<'a, R: Files<File = File> + Net<Stream = TcpStream> + Clock + Eprint + Allo
     ghost calls = { λ _. None };
 
     /// Opens the file of that path for reading and writing, under a shared lock that is held while it is
-    /// open, and makes it where it is absent.
+    /// open. Where it is absent its sectors are zeros, and it is made where sector 0 is written.
     fn open_image(&mut self, path: &str) -> Result<(), Failed> {
         self.disk = Disk::closed();
         let done = match self.open_disk(path) {
@@ -283,10 +283,12 @@ impl<'a, R: Files<File = File> + Net<Stream = TcpStream> + Clock + Eprint + Allo
     }
 
     /// Writes the sector and has it pushed to the disk. Sector 0 is written only under the exclusive lock,
-    /// which is then held while the image is open; where that lock is not to be had, the image is closed.
+    /// which is then held while the image is open; where that lock is not to be had, or something stands there that is not to be written
+    /// over, the image is closed.
     fn write(&mut self, sector: u32, from: &[u8; SECTOR]) -> Result<(), Failed> {
         let errors = self.lines.over(&self.rt);
-        let done = self.disk.write(&self.rt, &errors, sector, from);
+        let overwrites = self.edge.overwrites;
+        let done = self.disk.write(&self.rt, &errors, sector, from, overwrites);
         self.counted(done)
     }
 

@@ -41,10 +41,36 @@ impl ReplacedFile {
         self.path.as_str()
     }
 
-    /// Replaces the text. At a failure the old one stands.
+    /// Whether nothing but files can be replaced and be under way there; what a run before left under way is removed then.
+    pub fn is_clear<R: Files<File = File>>(&self, rt: &R) -> bool {
+        if !is_absent_or_file(rt, self.path()) || !is_absent_or_file(rt, self.new.as_str()) {
+            return false;
+        }
+        let _ = fs::remove_file(rt, self.new.as_str());
+        true
+    }
+
+    /// Replaces the text. At a failure the old one stands, and nothing stands beside it. No link is followed.
     pub fn replace<R: Files<File = File>>(&self, rt: &R, text: &[u8]) -> io::Result<()> {
-        let opened = NamedFile::open_anew(rt, self.new.as_str())?;
-        write_whole(&mut &opened.file, text)?;
+        let made = NamedFile::make(rt, self.new.as_str())?;
+        let done = self.put(rt, &made, text);
+        if done.is_err() {
+            let _ = fs::remove_file(rt, self.new.as_str());
+        }
+        done
+    }
+
+    /// Writes the text to the new file, and gives that its name.
+    fn put<R: Files<File = File>>(&self, rt: &R, made: &NamedFile, text: &[u8]) -> io::Result<()> {
+        write_whole(&mut &made.file, text)?;
         fs::rename(rt, self.new.as_str(), self.path.as_str())
+    }
+}
+
+/// Whether a regular file has the path, or nothing that can be seen.
+fn is_absent_or_file<R: Files<File = File>>(rt: &R, path: &str) -> bool {
+    match fs::symlink_metadata(rt, path) {
+        Ok(about) => about.is_file(),
+        Err(_) => true,
     }
 }

@@ -8,6 +8,7 @@ use qn_control::{
     Finding, ImageSeen, NodeSeen, Sectors, check_json, finding_lines, list_json, look_at_image,
     node_lines,
 };
+use qn_machine::steady_time;
 use qn_model::{Mail, Message, Settings, Slot, Timing};
 use qn_settings::settings_of_text;
 use qn_usage::value_of;
@@ -67,9 +68,22 @@ fn status_of(findings: &[Finding]) -> u8 {
     }
 }
 
-/// Whether a finding is a fault of the image: that a take-over has no bound is a warning, and keeps no node from its start.
+/// Whether a finding is a fault of the image: that a take-over has no bound is a warning, and keeps no node from its start, and so is a short feed
+/// delay, but for one beside which no feed is in time.
 fn is_wrong(finding: &Finding) -> bool {
-    !matches!(finding, Finding::NoBound { .. }) && !is_behind(finding)
+    match finding {
+        Finding::NoBound { .. } | Finding::Tail { .. } => false,
+        Finding::ShortFeedDelay { short } => short.allows_none(),
+        Finding::Unreadable { .. }
+        | Finding::NotImage
+        | Finding::OldVersion
+        | Finding::UnsafeTimes
+        | Finding::NotSlot { .. }
+        | Finding::NotMailbox { .. }
+        | Finding::NotAscending { .. }
+        | Finding::OtherCount { .. }
+        | Finding::OtherId { .. } => true,
+    }
 }
 
 /// Whether a finding is of bytes behind the image, as those of a device that is larger.
@@ -176,11 +190,11 @@ pub fn wait<R: Files<File = File> + Net<Stream = TcpStream> + Clock + Print + Ep
     let Some(timing) = timing_of(rt.alloc(), &mut image)? else {
         return say_outcome(rt, &Outcome::NotImage, false);
     };
-    let begin = rt.monotonic().map_err(Trouble::System)?;
+    let begin = steady_time().map_err(Trouble::System)?;
     let end = begin.saturating_add(Duration::from_millis(timing.msgwait));
     let mut was_exit = false;
     for _ in 0..u64::MAX {
-        let is_over = rt.monotonic().map_err(Trouble::System)? >= end;
+        let is_over = steady_time().map_err(Trouble::System)? >= end;
         let outcome = outcome_at(rt.alloc(), &mut image, id)?;
         if is_over || !outcome.may_change() {
             return say_outcome(rt, &outcome, was_exit);

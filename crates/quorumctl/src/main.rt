@@ -3,6 +3,7 @@
 //! Promises: nothing. What it says stands on `qn_control` and `qn_verdict`; a text is judged by `settings_of_text`, as `quorumd` judges it.
 #![tactic(auto)]
 
+mod clocks;
 mod group;
 mod images;
 mod input;

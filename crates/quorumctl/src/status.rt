@@ -1,4 +1,5 @@
 //! `status`: what the status files of the nodes of this host come to. It makes no call on a node.
+use crate::clocks::Clocks;
 use crate::images::{look, pause};
 use crate::status_file::{Refusal, read_status_file};
 use crate::table::QUORUMCTL;
@@ -84,7 +85,7 @@ fn watch<R: Files<File = File> + Net<Stream = TcpStream> + Clock + Print + Eprin
     Ok(Verdict::Unknown)
 }
 
-/// Reads the files and the image. The time is read after them, so that no file is of a later one.
+/// Reads the files and the image. The clocks are read after them, so that no file is of a later moment.
 fn see<R: Files<File = File> + Net<Stream = TcpStream> + Clock + Eprint + AllocGlobal>(
     rt: &R,
     words: &[String],
@@ -107,8 +108,11 @@ fn see<R: Files<File = File> + Net<Stream = TcpStream> + Clock + Eprint + AllocG
         Some(path) => see_image(rt, &mut cluster, path)?,
         None => None,
     };
-    let now = rt.monotonic().map_err(Trouble::System)?.as_millis();
-    cluster.now = u64::try_from(now).unwrap_or(u64::MAX);
+    let clocks = Clocks::read(rt)?;
+    cluster.now = clocks.steady;
+    for node in &mut cluster.nodes {
+        clocks.steady_file(node);
+    }
     Ok(Seen { cluster, image })
 }
 

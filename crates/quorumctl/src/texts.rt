@@ -11,6 +11,7 @@ use qn_control::{
     longest_take_over, pairs_of, settings_text, slowest_disk, text_concerns_of, unbounded_on,
     wrong_lines,
 };
+use qn_exchange::ShortFeedDelay;
 use qn_model::{Settings, Timing};
 use qn_settings::{TextFault, settings_of_text};
 use qn_usage::value_of;
@@ -91,7 +92,7 @@ pub fn say_fault(
     Ok(BAD_CONF)
 }
 
-/// `timing`: the least msgwait, and how long a take-over takes with it.
+/// `timing`: the least msgwait, how long a take-over takes with it, and whether the feed delay is short.
 pub fn timing(rt: &(impl Print + AllocGlobal), options: &[String]) -> Result<u8, Trouble> {
     let mut timing = Timing {
         watchdog: number_of(options, "--watchdog"),
@@ -118,6 +119,8 @@ pub fn timing(rt: &(impl Print + AllocGlobal), options: &[String]) -> Result<u8,
         None => None,
     };
     say_take_over(rt, &timing, measured)?;
+    let short = ShortFeedDelay::of(timing.feed_delay);
+    say_warnings(rt, short.as_slice())?;
     Ok(0)
 }
 

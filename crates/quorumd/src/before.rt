@@ -1,12 +1,13 @@
-//! The words before the command: `--links CONF`, `--key FILE` up to three times, `--open`, `--halt FILE`, `--status FILE` and `--leave-file FILE`, in any order.
+//! The words before the command: `--links CONF`, `--key FILE` up to three times, `--open`, `--halt FILE`, `--status FILE`, `--leave-file FILE`, `--blank`
+//! and `--anew`, in any order.
 use std::fmt;
 use std::fmt::Display;
 
 /// The most words of `--key`.
 pub const MOST_KEYS: usize = 3;
 
-/// The most words that may stand before the command: two for each but `--open`.
-const MOST_WORDS: u32 = 15;
+/// The most words that may stand before the command: two for each but `--open`, `--blank` and `--anew`.
+const MOST_WORDS: u32 = 17;
 
 /// What the words before the command say.
 #[derive(Clone, Copy, Default)]
@@ -17,6 +18,8 @@ pub struct Before<'words> {
     pub halt: Option<&'words str>,
     pub status: Option<&'words str>,
     pub leave: Option<&'words str>,
+    pub is_blank: bool,
+    pub is_anew: bool,
     /// How many words these are.
     pub count: usize,
 }
@@ -32,6 +35,8 @@ pub enum WordFault<'words> {
     StatusWithoutNode,
     StatusPath,
     LeaveWithoutNode,
+    BlankWithoutCreate,
+    AnewWithoutCreate,
 }
 
 impl<'words> Display for WordFault<'words> {
@@ -45,6 +50,8 @@ impl<'words> Display for WordFault<'words> {
             WordFault::StatusWithoutNode => f.write_str("--status stands before a node alone"),
             WordFault::StatusPath => f.write_str("--status: a path has 1 to 4090 bytes"),
             WordFault::LeaveWithoutNode => f.write_str("--leave-file stands before a node alone"),
+            WordFault::BlankWithoutCreate => f.write_str("--blank stands before create alone"),
+            WordFault::AnewWithoutCreate => f.write_str("--anew stands before create alone"),
         }
     }
 }
@@ -58,6 +65,8 @@ enum Word {
     Halt,
     Status,
     LeaveFile,
+    Blank,
+    Anew,
 }
 
 impl Word {
@@ -70,6 +79,8 @@ impl Word {
             "--halt" => Some(Word::Halt),
             "--status" => Some(Word::Status),
             "--leave-file" => Some(Word::LeaveFile),
+            "--blank" => Some(Word::Blank),
+            "--anew" => Some(Word::Anew),
             _ => None,
         }
     }
@@ -100,8 +111,11 @@ impl<'words> Before<'words> {
         words: &'words [String],
     ) -> Result<(), WordFault<'words>> {
         self.count = self.count.saturating_add(1);
-        if word == Word::Open {
-            return self.open(text);
+        match word {
+            Word::Open => return say_once(&mut self.is_open, text),
+            Word::Blank => return say_once(&mut self.is_blank, text),
+            Word::Anew => return say_once(&mut self.is_anew, text),
+            Word::Links | Word::Key | Word::Halt | Word::Status => {}
         }
         let value = words.get(self.count).map(String::as_str);
         let Some(value) = value.filter(|value| Word::of(value).is_none()) else {
@@ -114,16 +128,8 @@ impl<'words> Before<'words> {
             Word::Status => put_once(&mut self.status, text, value),
             Word::LeaveFile => put_once(&mut self.leave, text, value),
             Word::Key => self.key(value),
-            Word::Open => Ok(()),
+            Word::Open | Word::Blank | Word::Anew => Ok(()),
         }
-    }
-
-    fn open(&mut self, text: &'words str) -> Result<(), WordFault<'words>> {
-        if self.is_open {
-            return Err(WordFault::Twice(text));
-        }
-        self.is_open = true;
-        Ok(())
     }
 
     fn key(&mut self, file: &'words str) -> Result<(), WordFault<'words>> {
@@ -144,6 +150,12 @@ impl<'words> Before<'words> {
         if self.leave.is_some() && !is_node(command) {
             return Err(WordFault::LeaveWithoutNode);
         }
+        if self.is_blank && command != "create" {
+            return Err(WordFault::BlankWithoutCreate);
+        }
+        if self.is_anew && command != "create" {
+            return Err(WordFault::AnewWithoutCreate);
+        }
         let first = self.keys[0];
         let has_key = first.is_some();
         if self.is_open && has_key {
@@ -159,6 +171,15 @@ impl<'words> Before<'words> {
 /// Whether a command runs a node.
 fn is_node(command: &str) -> bool {
     matches!(command, "node" | "node3" | "node-logged" | "node3-logged")
+}
+
+/// Takes a word without a value, which may stand once.
+fn say_once<'words>(is_said: &mut bool, text: &'words str) -> Result<(), WordFault<'words>> {
+    if *is_said {
+        return Err(WordFault::Twice(text));
+    }
+    *is_said = true;
+    Ok(())
 }
 
 /// Puts the value of a word that may stand once.

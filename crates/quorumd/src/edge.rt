@@ -5,7 +5,7 @@ use crate::before::{Before, MOST_KEYS};
 use qn_commands::Fault;
 use qn_conf::{MOST_TEXT_BYTES, read_tree};
 use qn_links::{Links, links_of, sections_of};
-use qn_machine::{Edge, Guard};
+use qn_machine::{Edge, Guard, Overwrites};
 use qn_seal::{Key, Keys, text_of};
 use qn_settings::settings;
 use qn_usage::{NO_MEMORY, USAGE};
@@ -26,6 +26,11 @@ pub fn edge_of<R: Files<File = File> + AllocGlobal + Eprint>(
     before: &Before<'_>,
 ) -> Result<Edge, u8> {
     let mut edge = Edge::local();
+    if before.is_anew {
+        edge.overwrites = Overwrites::Anything;
+    } else if before.is_blank {
+        edge.overwrites = Overwrites::Nothing;
+    }
     if let Some(path) = before.halt {
         edge.halt = Some(String::from_str(rt.alloc(), path).map_err(|_| NO_MEMORY)?);
     }

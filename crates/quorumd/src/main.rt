@@ -15,7 +15,7 @@ use edge::edge_of;
 use qn_base::read_decimal;
 use qn_io::put_all;
 use qn_journal::Journal;
-use qn_machine::{Edge, Lines, RealEnv, ReplacedFile, StdSink, StdSource};
+use qn_machine::{Edge, Lines, RealEnv, ReplacedFile, StdSink, StdSource, SteadyHost};
 use qn_top::top;
 use qn_usage::{
     BEFORE, NO_MEMORY, QUORUMD, USAGE, WRITE_FAULT, help_text, refusal_of, version_text,
@@ -49,14 +49,12 @@ fn main(rt: HostRuntime) -> ExitCode {
 /// what was read before has others, which are gone then.
 #[inline(never)]
 fn run(rt: &HostRuntime, said: Outside<'_>, words: &[String]) -> u8 {
-    let Ok(outside) = rt.clone() else {
-        return NO_MEMORY;
-    };
+    let host = SteadyHost::new(rt);
     let lines = Lines::new(id_in(words), is_in_journal(rt));
     let mut input = StdSource::new(rt.reader(), lines.over(rt));
     let mut out = StdSink::new(io::writer(rt), lines.over(rt));
-    let mut env = RealEnv::new(outside, said.edge, &lines);
-    let mut journal = journal_of(rt, &lines, said.status);
+    let mut env = RealEnv::new(SteadyHost::new(rt), said.edge, &lines);
+    let mut journal = journal_of(&host, process::id(rt.process()), &lines, said.status);
     let status = top(
         rt.alloc(),
         words,
@@ -71,15 +69,16 @@ fn run(rt: &HostRuntime, said: Outside<'_>, words: &[String]) -> u8 {
     status
 }
 
-/// The journal of a node, with the status file of that path.
+/// The journal of a node, of the process of that number, with the status file of that path.
 #[inline(never)]
-fn journal_of<'a>(
-    rt: &'a HostRuntime,
+fn journal_of<'a, 'host>(
+    host: &'a SteadyHost<'host>,
+    pid: u32,
     lines: &'a Lines,
     path: Option<&str>,
-) -> Journal<'a, HostRuntime> {
+) -> Journal<'a, SteadyHost<'host>> {
     let status = path.and_then(ReplacedFile::at);
-    Journal::new(rt, lines, status, process::id(rt.process()))
+    Journal::new(host, lines, status, pid)
 }
 
 /// Whether standard error goes to systemd's journal.
@@ -103,14 +102,26 @@ fn before_command<'words, R: Files<File = File> + AllocGlobal + Eprint>(
 ) -> Result<(Outside<'words>, &'words [String]), u8> {
     let before = Before::read(words).map_err(|fault| refuse_words(rt, fault))?;
     if let Some(path) = before.status {
-        if ReplacedFile::at(path).is_none() {
-            return Err(refuse_words(rt, WordFault::StatusPath));
-        }
+        check_status(rt, path)?;
     }
     let edge = edge_of(rt, &before)?;
     let status = before.status;
     let count = before.count.min(words.len());
     Ok((Outside { edge, status }, words.split_at(count).1))
+}
+
+/// Whether the status can be put into a file of that path, where nothing but a file is replaced; or the status to end with.
+fn check_status<R: Files<File = File> + Eprint>(rt: &R, path: &str) -> Result<(), u8> {
+    let Some(file) = ReplacedFile::at(path) else {
+        return Err(refuse_words(rt, WordFault::StatusPath));
+    };
+    if file.is_clear(rt) {
+        return Ok(());
+    }
+    let _ = eprintln!(rt;
+        "{PROGRAM}: {path}: the status file is neither absent nor a regular file"
+    );
+    Err(USAGE)
 }
 
 /// Says what is wrong with the words before the command, and gives the status to end with.
