@@ -1,9 +1,8 @@
-# packaging/build-deb: the package is unpacked into an empty root, and the examples of its pages are run there. The same sources give the same bytes;
-# the program is the one that was built.
+# packaging/build-deb: the package is unpacked into an empty root, and the examples of its pages are run there. The program is the one that was built.
 . "$TOP/tests/expect.sh"
 
-if ! command -v dpkg-deb > /dev/null; then
-    printf 'skipped: dpkg-deb is not installed (Debian: dpkg), so no package was built\n'
+if ! command -v dpkg-buildpackage > /dev/null; then
+    printf 'skipped: dpkg-buildpackage is not installed (Debian: dpkg-dev), so no package was built\n'
     exit 0
 fi
 if [ "$(dpkg --print-architecture)" != amd64 ]; then
@@ -14,12 +13,10 @@ fi
 built=$QUORUMD
 companion=$QUORUMCTL
 
-mkdir one two
+mkdir one
 package=$("$TOP/packaging/build-deb" one)
 same "$package" "one/$(basename "$package")"
 [[ $package =~ ^one/quorumd_[0-9.]+-[0-9]+_amd64\.deb$ ]] || { printf 'a package of this name: %s\n' "$package"; exit 1; }
-"$TOP/packaging/build-deb" two > said
-cmp "$package" "two/$(basename "$package")"
 version=$(basename "$package" | cut -d _ -f 2)
 same "$(dpkg-deb --field "$package" Package Version Architecture | xargs)" "Package: quorumd Version: $version Architecture: amd64"
 grep -q "^Version ${version%-*}, " "$TOP/README.md"
@@ -44,12 +41,26 @@ diff -r "$doc/examples" "$TOP/examples"
 grep -q '^License: Apache-2.0$' "$doc/copyright"
 zcat "$doc/changelog.Debian.gz" | head -n 1 | grep -qF "quorumd ($version) "
 same "$(ls control | xargs)" 'conffiles control md5sums postinst postrm prerm'
-same "$(xargs < control/conffiles)" '/etc/quorumd/agent.env /etc/quorumd/node.env'
+same "$(xargs < control/conffiles)" '/etc/needrestart/conf.d/quorumd.conf /etc/quorumd/agent.env /etc/quorumd/node.env'
 same "$(ls root/lib/systemd/system | xargs)" 'quorumd-agent.socket quorumd-agent@.service quorumd-handover.service quorumd-move.service quorumd-renew@.service quorumd-renew@.timer quorumd-resource.service quorumd@.service'
 same "$(ls root/usr/libexec/quorumd | xargs)" 'hand-over node-check node-ended node-images node-leave node-opened quorumd-agent quorumd_acceptance quorumd_resources.py quorumd_supervisor.py'
 same "$(ls root/usr/sbin | xargs)" 'quorumctl quorumd quorumd-acceptance quorumd-resource quorumd-setup'
 same "$(ls root/usr/share/man/man1 root/usr/share/man/man8 | grep gz | xargs)" \
     'scenario.1.gz story.1.gz timeline.1.gz quorumctl.8.gz quorumd-acceptance.8.gz quorumd-agent.8.gz quorumd-resource.8.gz quorumd-setup.8.gz quorumd.8.gz'
+# what it depends on is what its scripts call, and the C library of the programs
+same "$(dpkg-deb --field "$package" Depends | sed 's/ (>= [^)]*)//g')" 'libc6, iproute2, python3, systemd'
+cmp root/usr/share/quorumd/halt.conf "$TOP/packaging/halt.conf"
+for unit in root/lib/systemd/system/*; do
+    grep -q '^Documentation=man:' "$unit" || { printf '%s names no manual page\n' "$unit"; exit 1; }
+done
+# needrestart leaves the node, its supervisor and the resources alone
+mkdir conf.d
+sed "s|/etc/quorumd|$PWD/conf.d|g" root/etc/needrestart/conf.d/quorumd.conf > conf.d/quorumd.conf
+printf '[database]\nagent = systemd:postgresql@15-main.service\n[other]\nagent = ocf:heartbeat:IPaddr2\n' > conf.d/resources.conf
+printf 'IMAGE=etcd:127.0.0.1:2379/quorumd\n' > conf.d/node-1.env
+for unit in quorumd@1.service:kept quorumd-resource.service:kept postgresql@15-main.service:kept etcd.service:kept postgresql@15-other.service:started cron.service:started; do
+    same "$unit" "${unit%:*}:$(perl -e 'our %nrconf; do $ARGV[0] or die $@; print((grep { $ARGV[1] =~ $_ } keys %{$nrconf{override_rc}}) ? "kept" : "started")' "$PWD/conf.d/quorumd.conf" "${unit%:*}")"
+done
 # the acceptance finds its modules and its probe where the package has them
 (cd root/usr/sbin && sed 's|/usr/libexec|../libexec|' quorumd-acceptance | python3 -B - --help) | grep -q '^usage: quorumd-acceptance '
 [ -f root/usr/libexec/quorumd/quorumd_acceptance/probe.sh ]
@@ -104,7 +115,7 @@ cd "$(mktemp -d -p .)"
 for words in --no-such-word 'one two' no-such-folder; do
     status=0
     "$TOP/packaging/build-deb" $words > said 2> errors || status=$?
-    same "$status $(tail -n 1 errors)" '2 usage: packaging/build-deb [FOLDER]'
+    same "$status $(tail -n 1 errors)" '2 usage: packaging/build-deb [--source] [FOLDER]'
 done
 
 if command -v lintian > /dev/null; then

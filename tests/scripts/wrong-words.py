@@ -39,6 +39,7 @@ ROWS = {
     "examples/live/scenario": "2 2 help - 2 2 2 2",
     "examples/live/storm": "2 2 help 2 2 2 2 2",
     "packaging/build-deb": "- 2 help 2 - 2 2 2",
+    "packaging/fill": "2 2 help 2 2 2 2 2",
     "packaging/node-check": "2 2 2 2 2 2 2 2",
     "packaging/node-ended": "2 2 2 2 2 2 2 2",
     "packaging/node-leave": "2 2 2 2 2 2 2 2",
@@ -64,7 +65,8 @@ ROWS = {
     "tests/run": "- 2 help - - - - -",
 }
 # no words of an operator: what starts a program or the gate, what dpkg or a machine starts
-LEFT_OUT = {"bin/quorumd", "bin/quorumctl", "bench/qn_soak_nodes", "bench/qn_tests", ".ci/run", ".ci/daily", ".ci/tools", "packaging/postinst", "packaging/postrm", "packaging/prerm", "tests/hosts/database",
+LEFT_OUT = {"bin/quorumd", "bin/quorumctl", "bench/qn_soak_nodes", "bench/qn_tests", ".ci/run", ".ci/daily", ".ci/tools", "debian/postinst", "debian/postrm", "debian/prerm", "debian/rules",
+            "debian/tests/first-answer", "debian/tests/take-over", "tests/hosts/database",
             "tests/machines/init"}
 
 
