@@ -3,7 +3,7 @@ use Rattle.std.proofs.Common.{◌≡◌, ℕ, ◌+◌, ◌-◌, ◌/◌, ◌%◌
 use Rattle.std.specs.Prelude.{◌||◌, ◌==◌, min, if◌then◌else◌}
 use Rattle.std.proofs.lemmas.Nat.{div-mul-add}
 use Rattle.qn_base.specs.lemmas.Bools.{second_of_neither}
-use Rattle.qn_candidate.specs.Numbers.{is_name, next_plain, plain, under_name}
+use Rattle.qn_candidate.specs.Numbers.{is_name, next_plain, without_name, under_name}
 
 -- the high byte of a number under a name is the name
 pub under_high : (high number : ℕ) → under_name high number / 2 ^ 56 ≡ high
@@ -21,7 +21,7 @@ plain_by number true is = low_is_none (number % 2 ^ 56) (omega arith)
 plain_by number false is = is
 
 -- a number without its name is no name
-pub plain_is_none : (number : ℕ) → is_name (plain number) ≡ false
+pub plain_is_none : (number : ℕ) → is_name (without_name number) ≡ false
 plain_is_none number = plain_by number (is_name number) refl
 
 next_by : (number : ℕ) (b : Bool) → (number == 18446744073709551615 || is_name (number + 1)) ≡ b → is_name number ≡ false

@@ -10,16 +10,22 @@ use Rattle.qn_model.specs.Unmet.{chosen, least_rank}
 use Rattle.qn_candidate.specs.declared.candidate.Facts.{Facts}
 use Rattle.qn_candidate.specs.declared.candidate.Name.{Name}
 use Rattle.qn_candidate.specs.declared.candidate.Name.TheVariants as name
-use Rattle.qn_candidate.specs.Candidate.{can}
+use Rattle.qn_candidate.specs.Candidate.{can, holder_of}
+
+-- a rank is the holder, and it is fit or no member can
+abbrev pub IsHolder : Facts → Mask → Option Rank → ℕ → Type 0
+IsHolder f members named rank =
+    (holder_of f members named ≡ Some rank)
+    × ((is_member f.unfit rank ≡ false) ⊎ ((j : ℕ) → j < 32 → can f members j ≡ false))
 
 -- nobody is named in particular only where some member does not read names; nobody may start only where no member can; and who
--- is named is a member that is not barred, and can, or is the holder while no member can
+-- is named is a member that is not barred, and can, or is the holder that is fit or while no member can
 abbrev pub IsRight : Facts → Mask → Option Rank → Name → Type 0
-IsRight f members holder name.Least = (rank : ℕ) × (rank < 32) × ((is_member members rank && not (is_member f.knows rank)) ≡ true)
-IsRight f members holder name.Nobody = (rank : ℕ) → rank < 32 → can f members rank ≡ false
-IsRight f members holder (name.One rank) =
+IsRight f members named name.Least = (rank : ℕ) × (rank < 32) × ((is_member members rank && not (is_member f.knows rank)) ≡ true)
+IsRight f members named name.Nobody = (rank : ℕ) → rank < 32 → can f members rank ≡ false
+IsRight f members named (name.One rank) =
     ((is_member members rank.0 && not (is_member f.barred rank.0)) ≡ true)
-    × ((can f members rank.0 ≡ true) ⊎ ((holder ≡ Some rank) × ((j : ℕ) → j < 32 → can f members j ≡ false)))
+    × ((can f members rank.0 ≡ true) ⊎ IsHolder f members named rank.0)
 
 -- a rank can, and no member that can weighs more
 abbrev pub IsHeaviest : Facts → Mask → ℕ → Type 0

@@ -2,18 +2,28 @@
 ghost use Rattle.std.specs.Prelude.{◌≡◌, ◌<◌, ℕ, not, ◌&&◌, ◌||◌, is_none, IfSome, slice_index};
 ghost use Rattle.std.specs.Option.{option_map};
 ghost use Rattle.qn_base.specs.Members.{is_member};
-ghost use Rattle.qn_candidate.specs.Candidate.{best_of, can, heavier, heaviest, kept, named_by, outweighs, puller, unknowing};
+ghost use Rattle.qn_candidate.specs.Candidate.{best_of, can, hears_all, heavier, heaviest, holder_of, kept, meets, named_again, named_by, outweighs, puller, unknowing};
 
 use qn_base::{Mask, Rank};
 
-/// What the nodes said of themselves last: who reads a named view, who may never hold, who may not hold now, who asks for the
-/// resource, and by rank how much it is preferred.
+/// What a leader knows of the nodes: whom it sees, and what each said last.
 #[derive(Clone, Copy, PartialEq, Eq, Debug)]
 pub struct Facts {
+    /// The nodes that the leader sees, and itself.
+    pub sees: Mask,
+    /// By rank, whom a node hears as its last Hello says; of the leader, whom it sees.
+    pub hears: [Mask; 32],
+    /// The nodes that read named views.
     pub knows: Mask,
+    /// The nodes that may never hold.
     pub barred: Mask,
+    /// The nodes that may not hold now.
     pub unfit: Mask,
+    /// The nodes that ask for the resource.
     pub pulls: Mask,
+    /// The nodes that hold.
+    pub holds: Mask,
+    /// By rank, how much a node is preferred: more is better.
     pub weights: [u8; 32],
 }
 
@@ -25,15 +35,15 @@ pub enum Name {
     Nobody,
 }
 
-/// Whom a leader names in a view of these members, where `holder` says that it holds.
-pub fn candidate_of(members: Mask, facts: &Facts, holder: Option<Rank>) -> Name
-    ensures { result ≡ named_by facts.now members holder }
+/// Whom a leader names in a view of these members, where the present view names `named`.
+pub fn candidate_of(members: Mask, facts: &Facts, named: Option<Rank>) -> Name
+    ensures { result ≡ named_by facts.now members named }
 {
     if unknowing(members, facts).is_some() {
         return Name::Least;
     }
     let best = best_of(members, facts);
-    let kept = kept(members, facts, holder, best);
+    let kept = kept(members, facts, named, best);
     match puller(members, facts).or(kept.or(best)) {
         Some(rank) => Name::One(rank),
         None => Name::Nobody,
@@ -47,11 +57,52 @@ fn unknowing(members: Mask, facts: &Facts) -> Option<Rank>
     members.without(facts.knows).first(32)
 }
 
-/// The members that may hold, and may hold now.
-fn able(members: Mask, facts: &Facts) -> Mask
-    ensures { (j : ℕ) → is_member result j ≡ can facts.now members j }
+/// Whether each of two nodes hears the other. Each meets itself.
+fn meets(facts: &Facts, one: Rank, other: Rank) -> bool
+    requires one { one.0 < 32 }
+    requires other { other.0 < 32 }
+    ensures { result ≡ meets facts.now one.0 other.0 }
 {
-    members.without(facts.barred).without(facts.unfit)
+    one == other
+        || facts.hears[usize::from(one.0)].has(other) && facts.hears[usize::from(other.0)].has(one)
+}
+
+/// Whether a node meets each member that the leader sees.
+fn hears_all(members: Mask, facts: &Facts, rank: Rank) -> bool
+    requires { rank.0 < 32 }
+    ensures { result ≡ hears_all facts.now members rank.0 }
+{
+    let seen = members.both(facts.sees);
+    for other in 0..32u8 {
+        if seen.has(Rank(other)) && !meets(facts, rank, Rank(other)) {
+            return false;
+        }
+    }
+    true
+}
+
+/// Whether a node is a member that may hold, may hold now, and hears the others.
+fn can(members: Mask, facts: &Facts, rank: Rank) -> bool
+    requires { rank.0 < 32 }
+    ensures { result ≡ can facts.now members rank.0 }
+{
+    members.has(rank)
+        && !facts.barred.has(rank)
+        && !facts.unfit.has(rank)
+        && hears_all(members, facts, rank)
+}
+
+/// The members that can.
+fn able(members: Mask, facts: &Facts) -> Mask
+    ensures { (j : ℕ) → j < 32 → is_member result j ≡ can facts.now members j }
+{
+    let mut found = Mask(0);
+    for rank in 0..32u8 {
+        if can(members, facts, Rank(rank)) {
+            found = found.with(Rank(rank));
+        }
+    }
+    found
 }
 
 /// The least member that asks for the resource and can.
@@ -61,14 +112,41 @@ fn puller(members: Mask, facts: &Facts) -> Option<Rank>
     able(members, facts).both(facts.pulls).first(32)
 }
 
-/// The holder where it is named again.
-fn kept(members: Mask, facts: &Facts, holder: Option<Rank>, best: Option<Rank>) -> Option<Rank>
-    requires { option_map (λ rank. rank.0) best ≡ best_of facts.now members }
-    ensures { option_map (λ rank. rank.0) result ≡ kept facts.now members holder }
+/// The member that holds, of several whom the present view names, else the least.
+fn holder_of(members: Mask, facts: &Facts, named: Option<Rank>) -> Option<Rank>
+    ensures { option_map (λ rank. rank.0) result ≡ holder_of facts.now members named }
 {
-    match holder {
-        Some(rank) if stays(members, facts, rank, best) => Some(rank),
+    let holding = members.both(facts.holds);
+    match named {
+        Some(rank) if holding.has(rank) => Some(rank),
+        _ => holding.first(32),
+    }
+}
+
+/// Whom the present view names, where it can.
+fn named_again(members: Mask, facts: &Facts, named: Option<Rank>) -> Option<Rank>
+    ensures { option_map (λ rank. rank.0) result ≡ named_again facts.now members named }
+{
+    match named {
+        Some(rank) if rank.0 < 32 && can(members, facts, rank) => Some(rank),
         _ => None,
+    }
+}
+
+/// The holder where it stays; where no member holds, whom the present view names, where it can.
+fn kept(members: Mask, facts: &Facts, named: Option<Rank>, best: Option<Rank>) -> Option<Rank>
+    requires { option_map (λ rank. rank.0) best ≡ best_of facts.now members }
+    ensures { option_map (λ rank. rank.0) result ≡ kept facts.now members named }
+{
+    match holder_of(members, facts, named) {
+        Some(rank) => {
+            if stays(members, facts, rank, best) {
+                Some(rank)
+            } else {
+                None
+            }
+        }
+        None => named_again(members, facts, named),
     }
 }
 

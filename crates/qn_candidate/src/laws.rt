@@ -13,22 +13,46 @@ ghost use Rattle.qn_model.specs.Unmet.{chosen, least_rank};
 ghost use Rattle.qn_candidate.specs.declared.candidate.Facts.{Facts};
 ghost use Rattle.qn_candidate.specs.declared.candidate.Name.{Name};
 ghost use Rattle.qn_candidate.specs.declared.candidate.Name.TheVariants as name;
-ghost use Rattle.qn_candidate.specs.Candidate.{best_of, can, named_by, puller, unknowing};
+ghost use Rattle.qn_candidate.specs.Candidate.{best_of, can, holder_of, meets, name_of, named_by, puller, unknowing};
 ghost use Rattle.qn_candidate.specs.Laws.{Chooses, IsHeaviest, IsRight};
 ghost use Rattle.qn_candidate.specs.Numbers.{is_name, number_of};
 
 /// Law: nobody is named in particular only where some member does not read names; nobody may start only where no member can; and
-/// who is named is a member that is not barred, and can, or is the holder while no member can.
+/// who is named is a member that is not barred, and can, or is the holder that is fit or while no member can.
 pub fn law_who_is_named()
-    ensures { (f : Facts) (members : Mask) (holder : Option Rank)
-        → IsRight f members holder (named_by f members holder) }
+    ensures { (f : Facts) (members : Mask) (named : Option Rank)
+        → IsRight f members named (named_by f members named) }
 {}
 
-/// Law: a holder that can is named again, unless a member does not read names, or one that can asks for the resource.
+/// Law: who can meets each member that the leader sees.
+pub fn law_who_can_meets_all()
+    ensures { (f : Facts) (members : Mask) (rank other : ℕ)
+        → can f members rank ≡ true
+        → other < 32
+        → is_member members other ≡ true
+        → is_member f.sees other ≡ true
+        → meets f rank other ≡ true }
+{}
+
+/// Law: a holder that is fit and not barred is named again, unless a member does not read names, or one that can asks for the
+/// resource.
 pub fn law_holder_is_kept()
+    ensures { (f : Facts) (members : Mask) (named : Option Rank) (rank : ℕ)
+        → unknowing f members ≡ None
+        → puller f members ≡ None
+        → holder_of f members named ≡ Some rank
+        → is_member f.barred rank ≡ false
+        → is_member f.unfit rank ≡ false
+        → named_by f members named ≡ name_of (Some rank) }
+{}
+
+/// Law: where no member holds, whom the present view names and who can is named again, with the same exceptions.
+pub fn law_name_is_kept()
     ensures { (f : Facts) (members : Mask) (rank : Rank)
         → unknowing f members ≡ None
         → puller f members ≡ None
+        → holder_of f members (Some rank) ≡ None
+        → rank.0 < 32
         → can f members rank.0 ≡ true
         → named_by f members (Some rank) ≡ name.One rank }
 {}

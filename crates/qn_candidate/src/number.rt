@@ -1,6 +1,6 @@
 //! The number of the next view, with the name of its candidate in the high byte.
 ghost use Rattle.std.specs.Prelude.{◌≡◌, ◌<◌};
-ghost use Rattle.qn_candidate.specs.Numbers.{is_name, next_plain, number_of, plain, under_name};
+ghost use Rattle.qn_candidate.specs.Numbers.{is_name, next_plain, number_of, without_name, under_name};
 
 use crate::candidate::Name;
 
@@ -11,7 +11,7 @@ const HIGH: u64 = 1 << 56;
 pub fn number_of(named: Name, greatest: u64) -> u64
     ensures { result ≡ number_of named greatest }
 {
-    let greatest = plain(greatest);
+    let greatest = without_name(greatest);
     match named {
         Name::Least => next_plain(greatest),
         Name::One(rank) => {
@@ -34,8 +34,8 @@ fn is_name(number: u64) -> bool
 }
 
 /// A number without its name.
-fn plain(number: u64) -> u64
-    ensures { result ≡ plain number }
+pub fn without_name(number: u64) -> u64
+    ensures { result ≡ without_name number }
 {
     if is_name(number) {
         number % HIGH
@@ -45,7 +45,7 @@ fn plain(number: u64) -> u64
 }
 
 /// The next number without a name, the same again where there is none.
-fn next_plain(number: u64) -> u64
+pub fn next_plain(number: u64) -> u64
     ensures { result ≡ next_plain number }
 {
     if number == u64::MAX || is_name(number + 1) {

@@ -17,4 +17,4 @@ pub returns : goal.returns
 returns c =
     let f = c.args.facts.now in
     c.heaviest_of.ensures
-    ∙ heaviest-same 32 (λ rank. is_member c.able.result rank) (λ rank. can f c.args.members rank) (λ rank. slice_index f.weights rank) (λ j below. c.able.ensures j)
+    ∙ heaviest-same 32 (λ rank. is_member c.able.result rank) (λ rank. can f c.args.members rank) (λ rank. slice_index f.weights rank) (λ j below. c.able.ensures j below)

@@ -8,7 +8,7 @@ use Rattle.qn_model.specs.NodeVotes.{view}
 use Rattle.qn_candidate.specs.declared.candidate.Name.{Name}
 use Rattle.qn_candidate.specs.declared.candidate.Name.TheVariants as name
 use Rattle.qn_candidate.specs.Laws.{Chooses}
-use Rattle.qn_candidate.specs.Numbers.{is_name, next_plain, number_of, plain, under_name}
+use Rattle.qn_candidate.specs.Numbers.{is_name, next_plain, number_of, without_name, under_name}
 use Rattle.qn_candidate.proofs.Choosing.{choose_least, choose_none, choose_rank, chosen_by, least_of}
 use Rattle.qn_candidate.proofs.Numbers.{next_is_none, plain_is_none, under_high}
 use Rattle.qn_candidate.proofs.laws.law_names_choose.Goals as goal
@@ -23,15 +23,15 @@ names : (s : Settings) (log : List Line) (seen : View) (named : Name) (greatest 
 names s log seen name.Least greatest there id few =
     chosen_by s log seen there
     ∙ (choose_least (length s.nodes) (seen.id / 2 ^ 56) seen.members few
-    (subst (λ n. is_name n ≡ false) (sym id) (next_is_none (plain greatest) (plain_is_none greatest)))
+    (subst (λ n. is_name n ≡ false) (sym id) (next_is_none (without_name greatest) (plain_is_none greatest)))
     ∙ least_of s log seen there)
 names s log seen (name.One rank) greatest there id few = λ within member.
     chosen_by s log seen there
     ∙ choose_rank (length s.nodes) (seen.id / 2 ^ 56) rank.0 seen.members
-    (ap (λ n. n / 2 ^ 56) id ∙ named_high rank.0 (plain greatest) (nat_lt rank.0 32) refl (omega arith)) within few member
+    (ap (λ n. n / 2 ^ 56) id ∙ named_high rank.0 (without_name greatest) (nat_lt rank.0 32) refl (omega arith)) within few member
 names s log seen name.Nobody greatest there id few =
     chosen_by s log seen there
-    ∙ choose_none (length s.nodes) (seen.id / 2 ^ 56) seen.members (ap (λ n. n / 2 ^ 56) id ∙ under_high 254 (plain greatest))
+    ∙ choose_none (length s.nodes) (seen.id / 2 ^ 56) seen.members (ap (λ n. n / 2 ^ 56) id ∙ under_high 254 (without_name greatest))
 
 pub returns : goal.returns
 returns c = λ s log seen named greatest there id few. names s log seen named greatest there id few
