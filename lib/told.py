@@ -41,9 +41,14 @@ def turns_of(lines):
     return turns
 
 
+def is_name(high):
+    """Whether the high byte of a view's number names a rank, or says that nobody may start."""
+    return 0 < high <= 32 or high == 254
+
+
 def packet_of(data):
     """A packet as its kind and its fields, or None where the bytes are none."""
-    lengths = {1: 33, 2: 34, 3: 4, 4: 16, 5: 4, 8: 12}
+    lengths = {1: 33, 2: 34, 3: 4, 4: 16, 5: 4, 8: 12, 11: 16}
     if data[:2] != b"QN" or len(data) < 4 or lengths.get(data[2]) != len(data):
         return None
     kind, fields = data[2], data[3:]
@@ -51,9 +56,10 @@ def packet_of(data):
         return (kind, fields[0] == 1) if fields[0] < 2 else None
     if kind == 3:
         return (kind, fields[0]) if fields[0] < 32 else None
-    if kind == 4:
+    if kind in (4, 11):
         number, members = struct.unpack(">QL", fields[1:13])
-        return (kind, fields[0], (number, members)) if fields[0] < 32 and members else None
+        is_packet = fields[0] < 32 and members and (kind == 11 or not is_name(number >> 56))
+        return (4, fields[0], (number, members)) if is_packet else None
     if kind == 8:
         hears, follows, able = struct.unpack(">LBB", fields[1:7])
         is_packet = fields[0] < 32 and hears >> fields[0] & 1 and follows <= 32 and able < 2

@@ -1,9 +1,14 @@
 -- The heaviest number that passes a test: it passes, none that passes weighs more, and where there is none nothing passes.
 use Rattle.std.proofs.Common.{◌≡◌, ℕ, suc, zero, ◌<◌, ◌≤◌, Bool, true, false, Some, None, Option, refl, sym, ◌∙◌, arith, subst, ◌⊎◌, inl, inr}
-use Rattle.std.specs.Prelude.{◌&&◌, if◌then◌else◌}
+use Rattle.std.specs.Prelude.{◌&&◌, if◌then◌else◌, is_none}
 use Rattle.std.proofs.lemmas.Bool.{cases_lt, true≢false, ltb-true, ltb-false}
 use Rattle.std.proofs.lemmas.Option.{none-some, same_Some}
 use Rattle.qn_candidate.specs.Candidate.{heaviest, outweighs}
+
+-- what is none is None
+pub is_none-None : (found : Option ℕ) → is_none found ≡ true → found ≡ None
+is_none-None None e = refl
+is_none-None (Some n) e = absurd (true≢false (sym e))
 
 passes_here : (test : ℕ → Bool) (count found : ℕ) (best : Option ℕ) (b over : Bool) → test count ≡ b
     → (best ≡ Some found → (test found ≡ true) × (found < count)) → (if b && over then Some count else best) ≡ Some found

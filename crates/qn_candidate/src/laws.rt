@@ -15,7 +15,7 @@ ghost use Rattle.qn_candidate.specs.declared.candidate.Name.{Name};
 ghost use Rattle.qn_candidate.specs.declared.candidate.Name.TheVariants as name;
 ghost use Rattle.qn_candidate.specs.Candidate.{best_of, can, holder_of, meets, name_of, named_by, puller, unknowing};
 ghost use Rattle.qn_candidate.specs.Laws.{Chooses, IsHeaviest, IsRight};
-ghost use Rattle.qn_candidate.specs.Numbers.{is_name, number_of};
+ghost use Rattle.qn_candidate.specs.Numbers.{is_name, next_plain, number_of, without_name};
 
 /// Law: nobody is named in particular only where some member does not read names; nobody may start only where no member can; and
 /// who is named is a member that is not barred, and can, or is the holder that is fit or while no member can.
@@ -72,6 +72,12 @@ pub fn law_names_choose()
         → seen.id ≡ number_of named greatest
         → length s.nodes ≤ 32
         → Chooses s log seen.members named }
+{}
+
+/// Law: a number without its name is no name, and neither is the next one.
+pub fn law_plain_numbers()
+    ensures without { (number : ℕ) → is_name (without_name number) ≡ false }
+    ensures next { (number : ℕ) → is_name number ≡ false → is_name (next_plain number) ≡ false }
 {}
 
 /// Law: a view whose number is no name chooses its least member.

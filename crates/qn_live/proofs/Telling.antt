@@ -7,6 +7,7 @@ use Rattle.std.specs.Option.{option_map_or}
 use Rattle.std.proofs.lemmas.List.{append-nil}
 use Rattle.qn_base.specs.declared.calls.Call.{Call}
 use Rattle.qn_base.specs.declared.calls.Call.TheVariants as call
+use Rattle.qn_base.specs.declared.ids.Rank.{Rank}
 use Rattle.qn_base.specs.declared.ids.View.{View}
 use Rattle.qn_base.specs.Calls.{blank}
 use Rattle.qn_base.specs.Plans.{Plan, Ends, Follows}
@@ -24,9 +25,10 @@ use Rattle.qn_model.specs.declared.outputs.Out.TheVariants as out
 use Rattle.qn_model.specs.Log.{Line, now}
 use Rattle.qn_model.specs.Moments.{begin_of}
 use Rattle.qn_model.specs.NodeOutputs.{newest_outs, with_entry}
+use Rattle.qn_model.specs.Wanted.{rank_of}
 use Rattle.qn_member.specs.Announcing.{view_to_announce}
 use Rattle.qn_member.specs.Maker.{Maker}
-use Rattle.qn_wire.specs.Packets.{packet_bytes}
+use Rattle.qn_wire.specs.Packets.{announce_bytes, has_name, packet_bytes}
 use Rattle.qn_live.specs.declared.live_end.LiveEnd.{LiveEnd}
 use Rattle.qn_live.specs.declared.live_end.LiveEnd.TheVariants as end
 use Rattle.qn_live.specs.declared.place.Choice.{Choice}
@@ -91,11 +93,15 @@ each_greets : (p : Packet) (ranks : List ℕ) → is_greeting (packet_bytes p) �
 each_greets p [] is = tt
 each_greets p (rank ∷ ranks) is = (is, each_greets p ranks is)
 
+announce_greets : (from : Rank) (view : View) (named : Bool) → is_greeting (announce_bytes (if named then 11 else 4) from view) ≡ true
+announce_greets from view true = refl
+announce_greets from view false = refl
+
 greets : (me : ℕ) (said : Greeting) → is_greeting (packet_bytes (greeting_packet me said)) ≡ true
 unfolding packet_bytes
 greets me greeting.Hello = refl
 greets me (greeting.Heard said) = refl
-greets me (greeting.Announce view) = refl
+greets me (greeting.Announce view) = announce_greets (rank_of me) view (has_name view)
 
 to_send_greets : (s : Settings) (me : ℕ) (maker : Option Maker) (said : Greeting) (from : ℕ) → AllGreet (to_send s me maker said from)
 to_send_greets s me maker said from =

@@ -24,9 +24,10 @@ abbrev pub takes_answer : Choice → Bool
 takes_answer (choice.Whole entry) = is_answer entry
 takes_answer (choice.Open p) = false
 
--- the bytes begin as those of a Hello, in one of its two forms, or of an Announce
+-- the bytes begin as those of a Hello, or of an Announce, each in one of its two kinds
 abbrev pub is_greeting : List ℕ → Bool
-is_greeting bytes = slice_index bytes 2 == 3 || slice_index bytes 2 == 4 || slice_index bytes 2 == 8
+is_greeting bytes =
+    slice_index bytes 2 == 3 || slice_index bytes 2 == 4 || slice_index bytes 2 == 8 || slice_index bytes 2 == 11
 
 -- the call performs an output: it receives nothing, does not look at the clock, and sends no Hello and no Announce
 abbrev pub is_output : Call → Bool

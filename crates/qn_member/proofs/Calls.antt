@@ -13,6 +13,7 @@ use Rattle.qn_model.specs.Votes.{are_all_in}
 use Rattle.qn_member.specs.declared.change.Change.{Change}
 use Rattle.qn_base.specs.declared.ids.Said.{Said}
 use Rattle.qn_member.specs.Announcing.{is_hello_due}
+use Rattle.qn_candidate.specs.Numbers.{without_name}
 use Rattle.qn_member.specs.Maker.{Maker, after_hello, after_tick, changed, company_at, differs_at, differs_still, enough_of, first_loops, first_maker, has_configured, installed, is_configured, is_in_one, is_present, is_present_member, leader_at, looked, may_install, of_rank, plain, says_more, seeing, view_at, view_under}
 use Rattle.qn_member.specs.MakerCalls.{Announce, ChangeOf, Differs, Due, Finds, Hello, Look, LooksBackTo, MakerCall, MakerRun, MayBegin, Misses, NeverFalls, PlainHello, after_calls, company_of, first_look_before, first_of, greatest_of, ids_had, maker_of}
 use Rattle.qn_member.proofs.Differs.{item_of_rank, length-with_ranks}
@@ -23,13 +24,13 @@ use Rattle.qn_member.proofs.Heard.{Kept, Still, greeted, kept_calls, still_annou
 greatest_announce : (m : Maker) (from : ℕ) (view : View) (ids : List ℕ) (b : Bool) → m.greatest ≡ greatest_of ids
     → (if b then told from view m else m).greatest
     ≡ greatest_of (if b then view.id ∷ ids else ids)
-greatest_announce m from view ids true is = ap (λ (n : ℕ). max n view.id) is
+greatest_announce m from view ids true is = ap (λ (n : ℕ). max n (without_name view.id)) is
 greatest_announce m from view ids false is = is
 
 greatest_look : (tick : ℕ) (m : Maker) (found : Option View) (ids : List ℕ) → m.greatest ≡ greatest_of ids
     → (installed found (looked tick m)).greatest ≡ greatest_of (option_map_or (λ view. view.id ∷ ids) found ids)
 greatest_look tick m None ids is = is
-greatest_look tick m (Some view) ids is = ap (λ (n : ℕ). max n view.id) is
+greatest_look tick m (Some view) ids is = ap (λ (n : ℕ). max n (without_name view.id)) is
 
 greatest_if : (b : Bool) (m other : Maker) (n : ℕ) → other.greatest ≡ n → m.greatest ≡ n → (if b then other else m).greatest ≡ n
 greatest_if true m other n same is = same

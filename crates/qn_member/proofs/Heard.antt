@@ -10,6 +10,7 @@ use Rattle.qn_model.specs.declared.nodelist.NodeEntry.{NodeEntry}
 use Rattle.qn_model.specs.declared.configuration.Settings.{Settings}
 use Rattle.qn_base.specs.declared.ids.Said.{Said}
 use Rattle.qn_member.specs.Announcing.{after_hello_due, is_hello_due}
+use Rattle.qn_candidate.specs.Numbers.{without_name}
 use Rattle.qn_member.specs.Maker.{Maker, after_announce, after_hello, after_plain_hello, after_tick, enough_of, first_maker, has_configured, heard_nodes, installed, is_configured, is_heard, is_plain, is_visible, looked, names, of_rank, plain, remembered_nodes, said_in, says_more, view_at, visible_nodes}
 use Rattle.qn_member.specs.MakerCalls.{Announce, Due, Heard, Hello, Look, MakerCall, MakerRun, PlainHello, after_call, after_calls, counted, heard_in, is_beside, is_farewell, is_seen, is_within, last_hello, last_said, maker_of, was_heard}
 use Rattle.qn_member.proofs.Differs.{length-with_ranks}
@@ -44,7 +45,7 @@ told from view m =
     record m {
       hellos = if is_member view.members from then m.hellos else set m.hellos from None;
       announced = set m.announced from (Some view);
-      greatest = max m.greatest view.id;
+      greatest = max m.greatest (without_name view.id);
     }
 
 module _ (nodes : List NodeEntry) (me loop_ms need : ℕ) where

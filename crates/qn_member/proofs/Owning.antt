@@ -14,7 +14,8 @@ use Rattle.qn_model.specs.declared.configuration.Settings.{Settings}
 use Rattle.qn_model.specs.Votes.{are_all_in}
 use Rattle.qn_base.specs.declared.ids.Said.{Said}
 use Rattle.qn_member.specs.Announcing.{is_hello_due}
-use Rattle.qn_member.specs.Maker.{Maker, after_hello, after_tick, company_at, company_under, disputed_nodes, first_maker, followed_view, follows_other, has_configured, has_left, installed, is_configured, is_disputed, is_heard, is_kept, is_known, is_led, is_overdue, is_present, is_present_member, is_quiet, is_steady, kept_nodes, known_nodes, leader_at, led_nodes, looked, may_install, members_at, next_id, of_rank, overdue_nodes, own_view, plain, says_more, three_loops_after, view_at, view_under}
+use Rattle.qn_candidate.specs.Numbers.{is_last, next_plain, without_name}
+use Rattle.qn_member.specs.Maker.{Maker, after_hello, after_tick, company_at, company_under, disputed_nodes, first_maker, followed_view, follows_other, has_configured, has_left, installed, is_configured, is_disputed, is_heard, is_kept, is_known, is_led, is_overdue, is_present, is_present_member, is_quiet, is_steady, kept_nodes, known_nodes, leader_at, led_nodes, looked, may_install, members_at, of_rank, overdue_nodes, own_view, plain, says_more, three_loops_after, view_at, view_under}
 use Rattle.qn_member.specs.MakerCalls.{Announce, Due, Hello, IsOwnView, Look, MakerCall, MakerRun, OwnView, PlainHello, after_call, after_calls, leader_found, maker_of}
 use Rattle.qn_member.proofs.Companies.{company_has_own, keeps_company}
 use Rattle.qn_member.proofs.Heard.{greeted, if_both, told}
@@ -75,27 +76,27 @@ made_of tick m company members = by_known (are_all_in m.nodes (known_nodes m com
 pub record OwnParts (tick : ℕ) (m : Maker) (company : Mask) (view : View) : Type 0 where
   pub members : members_at tick m company ≡ Some view.members
   pub other : is_present m view.members ≡ false
-  pub id : view.id ≡ next_id m.greatest
+  pub id : view.id ≡ next_plain m.greatest
 
 pub own_parts : (tick : ℕ) (m : Maker) (company : Mask) (view : View) → own_view tick m company ≡ Some view → OwnParts tick m company view
 own_parts tick m company view = by_company (is_present m company)
   where
     by_present : (members : Mask) (present : Bool) → members_at tick m company ≡ Some members → is_present m members ≡ present
-        → (if present then None else Some (record { id = next_id m.greatest; members = members })) ≡ Some view → OwnParts tick m company view
+        → (if present then None else Some (record { id = next_plain m.greatest; members = members })) ≡ Some view → OwnParts tick m company view
     by_present members true made is e = absurd cc
     by_present members false made other e =
-        let same : record { id = next_id m.greatest; members = members } ≡ view = cc in
+        let same : record { id = next_plain m.greatest; members = members } ≡ view = cc in
         subst (λ (v : View). OwnParts tick m company v) same (record { members = made; other = other; id = refl })
 
     by_members : (found : Option Mask) → members_at tick m company ≡ found
-        → option_and_then (λ members. if is_present m members then None else Some (record { id = next_id m.greatest; members = members })) found ≡ Some view
+        → option_and_then (λ members. if is_present m members then None else Some (record { id = next_plain m.greatest; members = members })) found ≡ Some view
         → OwnParts tick m company view
     by_members None none e = absurd cc
     by_members (Some members) made e = by_present members (is_present m members) made refl e
 
     by_company : (present : Bool)
         → (if present then None
-        else option_and_then (λ members. if is_present m members then None else Some (record { id = next_id m.greatest; members = members })) (members_at tick m company)) ≡ Some view
+        else option_and_then (λ members. if is_present m members then None else Some (record { id = next_plain m.greatest; members = members })) (members_at tick m company)) ≡ Some view
         → OwnParts tick m company view
     by_company true e = absurd cc
     by_company false e = by_members (members_at tick m company) refl e
@@ -171,13 +172,15 @@ known_of m company rank configured all =
     let member : is_member (known_nodes m company) rank ≡ true = all_of (known_nodes m company) 0 (length m.nodes) rank all (omega arith) (omega arith) in
     (and_parts _ _ (sym (member_of-ranks_that (is_known m company) (length m.nodes) rank) ∙ member)).1
 
-next_above : (greatest : ℕ) → greatest + 1 < 2 ^ 64 → greatest < next_id greatest
-next_above greatest room =
-    let is : nat_lt (greatest + 1) (2 ^ 64) ≡ true = grind (arith, nat_tests) in
-    rw is (omega arith)
+above_by : (greatest : ℕ) (last : Bool) → last ≡ false → greatest < (if last then greatest else greatest + 1)
+above_by greatest true room = absurd (true≢false room)
+above_by greatest false room = omega arith
 
-next_rises : (present : Option View) (greatest : ℕ) → IfSome present (λ view. view.id ≤ greatest) → greatest + 1 < 2 ^ 64
-    → IfSome present (λ view. view.id < next_id greatest)
+next_above : (greatest : ℕ) → is_last greatest ≡ false → greatest < next_plain greatest
+next_above greatest room = above_by greatest (is_last greatest) room
+
+next_rises : (present : Option View) (greatest : ℕ) → IfSome present (λ view. without_name view.id ≤ greatest) → is_last greatest ≡ false
+    → IfSome present (λ view. without_name view.id < next_plain greatest)
 next_rises None greatest below room = tt
 next_rises (Some view) greatest below room = let above = next_above greatest room in omega (arith, below, above)
 
@@ -254,7 +257,7 @@ module _ (tick : ℕ) (m : Maker) (leads : leader_at m ≡ Some m.me) where
   has_kept members (Doubted agreed same) rank member =
       (and_parts _ _ (sym (member_of-ranks_that (is_kept tick m company) (length m.nodes) rank) ∙ subst (λ (c : Mask). is_member c rank ≡ true) same member)).1
 
-  pub own_view_is : (view : View) → IfSome m.view (λ present. present.id ≤ m.greatest) → own_view tick m company ≡ Some view → OwnView tick m view
+  pub own_view_is : (view : View) → IfSome m.view (λ present. without_name present.id ≤ m.greatest) → own_view tick m company ≡ Some view → OwnView tick m view
   own_view_is view below is =
       let parts = own_parts tick m company view is in
       let made = made_of tick m company view.members parts.members in
@@ -265,23 +268,23 @@ module _ (tick : ℕ) (m : Maker) (leads : leader_at m ≡ Some m.me) where
         settled = parts.members;
         other = parts.other;
         newest = λ room. subst (λ n. m.greatest < n) (sym parts.id) (next_above m.greatest room);
-        rises = λ room. subst (λ n. IfSome m.view (λ present. present.id < n)) (sym parts.id) (next_rises m.view m.greatest below room);
+        rises = λ room. subst (λ n. IfSome m.view (λ present. without_name present.id < n)) (sym parts.id) (next_rises m.view m.greatest below room);
         heard_stays = stays view.members made;
       }
 
 -- ## Its id
 
--- the present view's id is at most the greatest
+-- the present view's id without its name is at most the greatest
 abbrev Below : Maker → Type 0
-Below m = IfSome m.view (λ present. present.id ≤ m.greatest)
+Below m = IfSome m.view (λ present. without_name present.id ≤ m.greatest)
 
-below_max : (present : Option View) (greatest id : ℕ) → IfSome present (λ view. view.id ≤ greatest) → IfSome present (λ view. view.id ≤ max greatest id)
+below_max : (present : Option View) (greatest id : ℕ) → IfSome present (λ view. without_name view.id ≤ greatest) → IfSome present (λ view. without_name view.id ≤ max greatest id)
 below_max None greatest id below = tt
 below_max (Some view) greatest id below = let more = le-max_left greatest id in omega (arith, below, more)
 
 below_look : (tick : ℕ) (found : Option View) (m : Maker) → Below m → Below (installed found (looked tick m))
 below_look tick None m below = below
-below_look tick (Some view) m below = le-max_right m.greatest view.id
+below_look tick (Some view) m below = le-max_right m.greatest (without_name view.id)
 
 below_hello : (tick from : ℕ) (said : Said) (m : Maker) → Below m → Below (after_hello tick from said m)
 below_hello tick from said m below = if_both Below (is_configured m from) (greeted tick from said m) m below below
@@ -293,7 +296,7 @@ below_call (PlainHello tick from) m below =
     if_both Below (is_configured m from && not (says_more tick m from)) (after_hello tick from plain m) m (below_hello tick from plain m below) below
 below_call (Announce from view) m below =
     if_both Below (is_configured m from && has_configured m.nodes view.members)
-    (told from view m) m (below_max m.view m.greatest view.id below) below
+    (told from view m) m (below_max m.view m.greatest (without_name view.id) below) below
 below_call (Look tick) m below = below_look tick (view_at tick m) m below
 below_call (Due tick) m below = if_both Below (is_hello_due tick m) _ m below below
 

@@ -8,7 +8,8 @@ use Rattle.qn_base.specs.declared.ids.View.{View}
 use Rattle.qn_model.specs.declared.configuration.Settings.{Settings}
 use Rattle.qn_model.specs.Votes.{are_all_in}
 use Rattle.qn_member.specs.declared.change.Change.{Change}
-use Rattle.qn_member.specs.Maker.{Maker, after_tick, change_at, changed, disputed_nodes, enough_of, first_maker, followed_view, installed, is_present, is_quiet, is_steady, kept_nodes, known_nodes, leader_at, looked, may_install, members_at, next_id, overdue_nodes, own_view, view_at, view_under}
+use Rattle.qn_candidate.specs.Numbers.{next_plain}
+use Rattle.qn_member.specs.Maker.{Maker, after_tick, change_at, changed, disputed_nodes, enough_of, first_maker, followed_view, installed, is_present, is_quiet, is_steady, kept_nodes, known_nodes, leader_at, looked, may_install, members_at, overdue_nodes, own_view, view_at, view_under}
 use Rattle.qn_member.specs.MakerCalls.{Announce, Due, Finds, Hello, Look, LooksBackTo, MakerCall, MakerRun, NeverFalls, PlainHello, after_calls, first_of, maker_of}
 use Rattle.qn_member.specs.Settling.{IsSteady, Keeps}
 use Rattle.qn_member.proofs.Calls.{change_by_calls, same_set}
@@ -171,12 +172,12 @@ settles run since tick company steady = by_present (is_present (maker_of run) co
     gives found is = ap (λ (o : Option View). (installed o (looked tick (maker_of run))).view) (view_is ∙ is)
 
     own : is_present (maker_of run) company ≡ false → members_at tick (looked tick (maker_of run)) company ≡ Some company
-        → own_view tick (looked tick (maker_of run)) company ≡ Some (record { id = next_id (maker_of run).greatest; members = company })
+        → own_view tick (looked tick (maker_of run)) company ≡ Some (record { id = next_plain (maker_of run).greatest; members = company })
     own away made =
         ap (λ b. if b then None
-        else option_and_then (λ members. if is_present (maker_of run) members then None else Some (record { id = next_id (maker_of run).greatest; members = members })) (members_at tick (looked tick (maker_of run)) company)) away
-        ∙ ap (λ (o : Option Mask). option_and_then (λ members. if is_present (maker_of run) members then None else Some (record { id = next_id (maker_of run).greatest; members = members })) o) made
-        ∙ ap (λ b. if b then None else Some (record { id = next_id (maker_of run).greatest; members = company })) away
+        else option_and_then (λ members. if is_present (maker_of run) members then None else Some (record { id = next_plain (maker_of run).greatest; members = members })) (members_at tick (looked tick (maker_of run)) company)) away
+        ∙ ap (λ (o : Option Mask). option_and_then (λ members. if is_present (maker_of run) members then None else Some (record { id = next_plain (maker_of run).greatest; members = members })) o) made
+        ∙ ap (λ b. if b then None else Some (record { id = next_plain (maker_of run).greatest; members = company })) away
 
     by_goes : is_present (maker_of run) company ≡ false → Goes since company (maker_of run)
         → option_map (λ v. v.members) (after_tick tick (maker_of run)).view ≡ Some company
@@ -190,6 +191,6 @@ settles run since tick company steady = by_present (is_present (maker_of run) co
     by_present true is =
         let none : own_view tick (looked tick (maker_of run)) company ≡ None =
         ap (λ b. if b then None
-        else option_and_then (λ members. if is_present (maker_of run) members then None else Some (record { id = next_id (maker_of run).greatest; members = members })) (members_at tick (looked tick (maker_of run)) company)) is in
+        else option_and_then (λ members. if is_present (maker_of run) members then None else Some (record { id = next_plain (maker_of run).greatest; members = members })) (members_at tick (looked tick (maker_of run)) company)) is in
         ap (λ (o : Option View). option_map (λ v. v.members) o) (gives None none) ∙ members (maker_of run).view is
     by_present false away = by_goes away gone

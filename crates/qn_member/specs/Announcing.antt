@@ -7,6 +7,7 @@ use Rattle.qn_base.specs.declared.ids.View.{View}
 use Rattle.qn_base.specs.Members.{is_member}
 use Rattle.qn_model.specs.NodeVotes.{is_same_view}
 use Rattle.qn_base.specs.declared.ids.Said.{Said}
+use Rattle.qn_candidate.specs.Numbers.{without_name}
 use Rattle.qn_member.specs.declared.told.Told.{Told}
 use Rattle.qn_member.specs.Maker.{Maker, ranks_that, least_of, is_in_one}
 
@@ -59,11 +60,11 @@ is_other_in m members rank = is_member members rank && not (rank == m.me)
 abbrev pub others_in : Maker → Mask → Mask
 others_in m members = record { 0 = ranks_that (is_other_in m members) (length m.nodes) }
 
--- the farewell of a node that leaves: its present view without itself, where anybody else is in it
+-- the farewell of a node that leaves: its present view without itself and without a name, where anybody else is in it
 abbrev pub farewell_of : Maker → View → Option View
 farewell_of m view =
     if (others_in m view.members).0 == 0 then None
-    else Some (record { id = view.id; members = others_in m view.members })
+    else Some (record { id = without_name view.id; members = others_in m view.members })
 
 abbrev pub view_to_leave : Maker → Option View
 view_to_leave m = option_and_then (farewell_of m) m.view

@@ -10,6 +10,7 @@ use Rattle.qn_model.specs.declared.configuration.Settings.{Settings}
 use Rattle.qn_model.specs.NodeVotes.{is_same_view}
 use Rattle.qn_model.specs.Unmet.{least_from}
 use Rattle.qn_model.specs.Votes.{are_all_in, quorum_of, votes_among}
+use Rattle.qn_candidate.specs.Numbers.{next_plain, without_name}
 use Rattle.qn_member.specs.declared.change.Change.{Change}
 use Rattle.qn_base.specs.declared.ids.Said.{Said}
 use Rattle.qn_member.specs.declared.told.Told.{Told}
@@ -26,7 +27,7 @@ pub record Maker : Type 0 where
   pub forgotten : Mask  -- the nodes of which it is forgotten whom they follow
   pub announced : List (Option View)
   pub view : Option View  -- the present view
-  pub greatest : ℕ  -- the greatest id of a view that the node has had or was announced
+  pub greatest : ℕ  -- the greatest id, without its name, of a view that the node has had or was announced
   pub first_look : Option ℕ  -- the tick of the first look
   pub change : Option Change  -- the present change, where the last look found one and gave no view
   pub differs : List (Option ℕ)  -- by rank, the first of the looks in a row that found it otherwise than the present view
@@ -138,7 +139,7 @@ after_announce from view m =
     then record m {
       hellos = hellos_after from view m;
       announced = slice_set m.announced from (Some view);
-      greatest = max m.greatest view.id;
+      greatest = max m.greatest (without_name view.id);
     }
     else m
 
@@ -350,16 +351,12 @@ members_at tick m company =
     else (if is_steady tick m then Some company
     else (if (overdue_nodes tick m).0 == 0 then None else Some (kept_nodes tick m company)))))
 
--- the id after the greatest, and the greatest of all again
-abbrev pub next_id : ℕ → ℕ
-next_id greatest = if nat_lt (greatest + 1) (2 ^ 64) then greatest + 1 else greatest
-
 -- a leader whose company is not the present members makes a view, where that has other members
 abbrev pub own_view : ℕ → Maker → Mask → Option View
 own_view tick m company =
     if is_present m company then None
     else option_and_then
-    (λ members. if is_present m members then None else Some (record { id = next_id m.greatest; members = members }))
+    (λ members. if is_present m members then None else Some (record { id = next_plain m.greatest; members = members }))
     (members_at tick m company)
 
 -- another node takes the last view that its leader announced, where that has both of them and is not the present one
@@ -434,7 +431,7 @@ installed None m = m
 installed (Some view) m =
     record m {
       view = Some view;
-      greatest = max m.greatest view.id;
+      greatest = max m.greatest (without_name view.id);
       change = None;
       differs = with_ranks (differs_still m view) 32 m.differs;
     }

@@ -7,6 +7,7 @@ use Rattle.qn_base.specs.Members.{is_member}
 use Rattle.qn_model.specs.declared.nodelist.NodeEntry.{NodeEntry}
 use Rattle.qn_model.specs.declared.configuration.Settings.{Settings}
 use Rattle.qn_model.specs.Votes.{are_all_in}
+use Rattle.qn_candidate.specs.Numbers.{is_last, without_name}
 use Rattle.qn_member.specs.declared.change.Change.{Change}
 use Rattle.qn_base.specs.declared.ids.Said.{Said}
 use Rattle.qn_member.specs.Announcing.{after_hello_due}
@@ -122,16 +123,16 @@ ids_had first (Hello tick from said ∷ earlier) = ids_had first earlier
 ids_had first (PlainHello tick from ∷ earlier) = ids_had first earlier
 ids_had first (Due tick ∷ earlier) = ids_had first earlier
 
--- the greatest of these ids, 0 where there is none
+-- the greatest of these ids, without their names, 0 where there is none
 abbrev pub greatest_of : List ℕ → ℕ
 greatest_of [] = 0
-greatest_of (id ∷ ids) = max (greatest_of ids) id
+greatest_of (id ∷ ids) = max (greatest_of ids) (without_name id)
 
 -- ## Own views
 
 -- What holds of a view that a leader makes at a tick, by what it knows once it looked. It has all in company, none of which is
 -- below the node; its other members are present members that are not heard, in doubt; they are not the present members. Its id
--- is above all that the node has had or was announced, while there is such an id. A present member that is heard and is left
+-- is above all that the node has had or was announced, without their names, while there is such an id. A present member that is heard and is left
 -- out has been found otherwise for three loops.
 pub record OwnView (tick : ℕ) (m : Maker) (view : View) : Type 0 where
   pub company : (rank : ℕ) → is_member (company_at m) rank ≡ true → is_member view.members rank ≡ true
@@ -139,8 +140,8 @@ pub record OwnView (tick : ℕ) (m : Maker) (view : View) : Type 0 where
   pub least : (rank : ℕ) → is_member (company_at m) rank ≡ true → m.me ≤ rank
   pub settled : members_at tick m (company_at m) ≡ Some view.members
   pub other : is_present m view.members ≡ false
-  pub newest : m.greatest + 1 < 2 ^ 64 → m.greatest < view.id
-  pub rises : m.greatest + 1 < 2 ^ 64 → IfSome m.view (λ present. present.id < view.id)
+  pub newest : is_last m.greatest ≡ false → m.greatest < view.id
+  pub rises : is_last m.greatest ≡ false → IfSome m.view (λ present. without_name present.id < view.id)
   pub heard_stays : (rank : ℕ)
       → is_configured m rank ≡ true
       → is_present_member m rank ≡ true

@@ -2,6 +2,7 @@
 use crate::member::Member;
 use crate::told::Told;
 use qn_base::{Mask, Rank, Said, View};
+use qn_candidate::without_name;
 
 impl Member {
     ghost use Rattle.std.specs.Prelude.{◌≡◌, ◌<◌};
@@ -108,7 +109,8 @@ impl Member {
         }
     }
 
-    /// The farewell of a node that leaves, for each other node: its present view without itself, where anybody else is in it.
+    /// The farewell of a node that leaves, for each other node: its present view without itself and without a name, where anybody
+    /// else is in it.
     pub fn farewell(&self) -> Option<View>
         ensures { result ≡ view_to_leave self.now }
     {
@@ -118,7 +120,7 @@ impl Member {
             return None;
         }
         Some(View {
-            id: view.id,
+            id: without_name(view.id),
             members,
         })
     }

@@ -1,6 +1,7 @@
 //! What is kept of Hellos and of announced views: who is heard, and who has left.
 use crate::member::Member;
 use qn_base::{Mask, Rank, Said, View};
+use qn_candidate::without_name;
 
 /// What a plain Hello says, of a node of an older version.
 const PLAIN: Said = Said {
@@ -54,8 +55,8 @@ impl Member {
         if self.enough == 0 { PLAIN } else { said }
     }
 
-    /// That rank announced a view: it is kept as the last of its sender, until the next one, and counts for the greatest id,
-    /// whoever leads. A view without its sender is its farewell: its Hello counts no more. A view is passed over where the sender
+    /// That rank announced a view: it is kept as the last of its sender, until the next one, and counts, without its name, for the
+    /// greatest id, whoever leads. A view without its sender is its farewell: its Hello counts no more. A view is passed over where the sender
     /// or a member is not configured.
     pub fn on_announce(&mut self, _tick: u64, from: Rank, view: View)
         ensures { self.new ≡ after_announce from.0 view self.old }
@@ -65,7 +66,7 @@ impl Member {
                 self.hellos[usize::from(from.0)] = None;
             }
             self.announced[usize::from(from.0)] = Some(view);
-            self.greatest = self.greatest.max(view.id);
+            self.greatest = self.greatest.max(without_name(view.id));
         }
     }
 

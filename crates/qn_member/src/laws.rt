@@ -44,14 +44,14 @@ pub fn law_heard()
         → is_member (visible_nodes tick (maker_of run)) rank ≡ is_seen run tick rank }
 {}
 
-/// Law: after any calls the greatest id is that of the views that were announced and installed.
+/// Law: after any calls the greatest id is that of the views that were announced and installed, without their names.
 pub fn law_greatest()
     ensures { (run : MakerRun) → (maker_of run).greatest ≡ greatest_of (ids_had (first_of run) run.calls) }
 {}
 
 /// Law: after any calls an own view has all of the company, none of which is below the node, and besides them present members
 /// alone that are not heard; it is other than the present members; its id is above all that were announced and
-/// installed, while there is one; and a present member that is heard and left out has been found out of company for three loops.
+/// installed, without their names, while there is one; and a present member that is heard and left out has been found out of company for three loops.
 pub fn law_own_views()
     ensures { (run : MakerRun) (tick : ℕ) (view : View) → IsOwnView tick (maker_of run) view }
 {}

@@ -26,7 +26,7 @@ pub struct Member {
     pub(crate) announced: [Option<View>; 32],
     /// The present view.
     pub(crate) view: Option<View>,
-    /// The greatest id of a view that the node has had or was announced.
+    /// The greatest id, without its name, of a view that the node has had or was announced.
     pub(crate) greatest: u64,
     /// The tick of the first look.
     pub(crate) first_look: Option<u64>,

@@ -5,6 +5,7 @@ ghost use Rattle.qn_member.specs.Maker.{is_in_one};
 use crate::change::Change;
 use crate::member::Member;
 use qn_base::{Mask, Rank, View};
+use qn_candidate::{next_plain, without_name};
 
 /// Whether a node is in one of two sets alone.
 fn is_in_one(here: bool, there: bool) -> bool
@@ -17,7 +18,7 @@ impl Member {
     ghost use Rattle.std.specs.Prelude.{◌≡◌, ◌≢◌, ◌<◌, ◌≤◌, IfSome, IsTrue, Some, false, true};
     ghost use Rattle.std.specs.Option.{option_map_or};
     ghost use Rattle.qn_base.specs.Members.{is_member};
-    ghost use Rattle.qn_member.specs.Maker.{first_loops, change_at, company_at, differs_still, noted, with_ranks, changed, differs_at, followed_view, has_configured, installed, is_quiet, is_steady, is_taken, may_install, members_at, next_id, next_view, own_view};
+    ghost use Rattle.qn_member.specs.Maker.{first_loops, change_at, company_at, differs_still, noted, with_ranks, changed, differs_at, followed_view, has_configured, installed, is_quiet, is_steady, is_taken, may_install, members_at, next_view, own_view};
 
     /// Remembers the look, the change that it finds, and what a Hello says then.
     pub(crate) fn note(&mut self, tick: u64)
@@ -185,16 +186,9 @@ impl Member {
             return None;
         }
         Some(View {
-            id: self.next_id(),
+            id: next_plain(self.greatest),
             members,
         })
-    }
-
-    /// The id of an own view: one above the greatest, where there is one.
-    fn next_id(&self) -> u64
-        ensures { result ≡ next_id self.now.greatest }
-    {
-        self.greatest.saturating_add(1)
     }
 
     fn is_taken(&self, leader: Rank, view: View) -> bool
@@ -273,7 +267,7 @@ impl Member {
             let company = self.company();
             let differs = self.differs_beside(view, company);
             self.view = next;
-            self.greatest = self.greatest.max(view.id);
+            self.greatest = self.greatest.max(without_name(view.id));
             self.change = None;
             self.differs = differs;
         }

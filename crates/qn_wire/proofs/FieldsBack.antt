@@ -1,9 +1,10 @@
 -- The fields of a well formed packet are read back from its bytes.
-use Rattle.std.proofs.Common.{◌≡◌, ◌^◌, ℕ, Bool, true, false, ◌==◌, ◌+◌, ◌%◌, nat_le, slice_index, cond, List, [], ◌∷◌, ◌++◌, Option, None, Some, refl, ap, arith}
+use Rattle.std.proofs.Common.{◌≡◌, ◌^◌, ℕ, Bool, true, false, ◌==◌, ◌+◌, ◌%◌, nat_le, slice_index, cond, List, [], ◌∷◌, ◌++◌, Option, None, Some, refl, ap, arith, subst, ◌⊎◌, inl, inr}
 use Rattle.std.specs.Int.{bytes_high_first}
 use Rattle.std.specs.Option.{option_map_or}
 use Rattle.std.proofs.lemmas.Bool.{and_parts, ltb-true}
 use Rattle.std.proofs.lemmas.Bool.Decides.{nat_tests}
+use Rattle.std.proofs.lemmas.Option.{none-some, same_Some}
 use Rattle.byteorder.specs.Numbers.{big_number-reads_back}
 use Rattle.qn_base.specs.declared.ids.Rank.{Rank}
 use Rattle.qn_base.specs.declared.ids.Said.{Said}
@@ -14,7 +15,7 @@ use Rattle.qn_model.specs.declared.packets.Ask.{Ask}
 use Rattle.qn_model.specs.declared.packets.Tell.{Tell}
 use Rattle.qn_model.specs.declared.packets.Packet.{Packet}
 use Rattle.qn_model.specs.declared.packets.Packet.TheVariants as packet
-use Rattle.qn_wire.specs.Packets.{packet_bytes, head_bytes, view_bytes, said_bytes, standing_bytes, follows_byte, ask_fields, as_ask, is_ask, is_rank, is_said, is_view, is_well_formed}
+use Rattle.qn_wire.specs.Packets.{announce_bytes, has_name, named_bytes, packet_bytes, head_bytes, view_bytes, said_bytes, standing_bytes, follows_byte, ask_fields, as_ask, is_ask, is_rank, is_said, is_view, is_well_formed}
 use Rattle.qn_wire.specs.Reading.{fields_of, ask_at, follows_at, said_at, tell_at, view_at}
 
 same_view : (first second : View) → first.id ≡ second.id → first.members.0 ≡ second.members.0 → first ≡ second
@@ -91,13 +92,37 @@ tell_at-tell_bytes tell is =
     (holds_back tell.holds tell.released)
     (released_back tell.holds tell.released)
 
+-- an announcement of either kind is read back
+fields_of-announce : (kind : ℕ) (from : Rank) (view : View) → is_view view ≡ true → (kind ≡ 4) ⊎ (kind ≡ 11)
+    → fields_of kind (announce_bytes kind from view) ≡ Some (packet.Announce from view)
+fields_of-announce kind from view is (inl four) =
+    rw four (ap (λ x. Some (packet.Announce from x)) (view_at-view_bytes view [] is))
+fields_of-announce kind from view is (inr eleven) =
+    rw eleven (ap (λ x. Some (packet.Announce from x)) (view_at-view_bytes view [] is))
+
+fields_of-kind : (view : View) (named : Bool) (from : Rank) → is_view view ≡ true
+    → fields_of (cond named 11 4) (announce_bytes (cond named 11 4) from view) ≡ Some (packet.Announce from view)
+fields_of-kind view true from is = fields_of-announce 11 from view is (inr refl)
+fields_of-kind view false from is = fields_of-announce 4 from view is (inl refl)
+
+-- and so is one in the kind of named ones
+pub fields_of-named_bytes : (p : Packet) (bytes : List ℕ) → is_well_formed p ≡ true → named_bytes p ≡ Some bytes → fields_of (slice_index bytes 2) bytes ≡ Some p
+unfolding named_bytes
+fields_of-named_bytes (packet.Ask ask) bytes is e = absurd (none-some bytes e)
+fields_of-named_bytes (packet.Tell tell) bytes is e = absurd (none-some bytes e)
+fields_of-named_bytes (packet.Hello from) bytes is e = absurd (none-some bytes e)
+fields_of-named_bytes (packet.Announce from view) bytes is e =
+    subst (λ b. fields_of (slice_index b 2) b ≡ Some (packet.Announce from view)) (same_Some _ _ e)
+    (fields_of-announce 11 from view (and_parts _ _ is).1 (inr refl))
+fields_of-named_bytes (packet.Vote agrees) bytes is e = absurd (none-some bytes e)
+fields_of-named_bytes (packet.Heard from said standing) bytes is e = absurd (none-some bytes e)
+
 pub fields_of-packet_bytes : (p : Packet) → is_well_formed p ≡ true → fields_of (slice_index (packet_bytes p) 2) (packet_bytes p) ≡ Some p
 unfolding packet_bytes
 fields_of-packet_bytes (packet.Ask ask) is = ap (λ x. Some (packet.Ask x)) (ask_at-ask_fields 1 ask [] is)
 fields_of-packet_bytes (packet.Tell tell) is = ap (λ x. Some (packet.Tell x)) (tell_at-tell_bytes tell is)
 fields_of-packet_bytes (packet.Hello from) is = refl
-fields_of-packet_bytes (packet.Announce from view) is =
-    ap (λ x. Some (packet.Announce from x)) (view_at-view_bytes view [] (and_parts _ _ is).1)
+fields_of-packet_bytes (packet.Announce from view) is = fields_of-kind view (has_name view) from (and_parts _ _ is).1
 fields_of-packet_bytes (packet.Vote agrees) is = ap (λ x. Some (packet.Vote x)) (cond_is_one agrees)
 fields_of-packet_bytes (packet.Heard from said standing) is =
     ap (λ x. Some (packet.Heard from x standing)) (said_at-said_bytes from said standing (and_parts _ _ is).1)

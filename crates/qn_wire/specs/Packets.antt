@@ -1,12 +1,13 @@
 -- The bytes of packets: this project's profile. A packet is `QN`, a byte for its kind, and then its fields. A rank
 -- is one byte, and numbers are big-endian.
-use Rattle.std.specs.Prelude.{◌≡◌, ℕ, Bool, true, IsTrue, ◌&&◌, ◌+◌, ◌^◌, nat_lt, List, [], ◌∷◌, ◌++◌, codes, cond, Option}
+use Rattle.std.specs.Prelude.{◌≡◌, ◌⊎◌, ℕ, Bool, true, IsTrue, ◌&&◌, ◌||◌, ◌+◌, ◌/◌, ◌^◌, nat_lt, List, [], ◌∷◌, ◌++◌, codes, cond, Option, None, Some, if◌then◌else◌}
 use Rattle.std.specs.Int.{bytes_high_first}
 use Rattle.std.specs.Option.{option_map_or}
 use Rattle.qn_base.specs.declared.ids.Rank.{Rank}
 use Rattle.qn_base.specs.declared.ids.Said.{Said}
 use Rattle.qn_base.specs.declared.ids.Standing.{Standing}
 use Rattle.qn_base.specs.declared.ids.View.{View}
+use Rattle.qn_base.specs.Candidates.{is_barred}
 use Rattle.qn_base.specs.Members.{is_member}
 use Rattle.qn_model.specs.declared.packets.Ask.{Ask}
 use Rattle.qn_model.specs.declared.packets.Tell.{Tell}
@@ -42,16 +43,36 @@ abbrev pub as_ask : Tell → Ask
 as_ask tell =
     record { from = tell.from; to = tell.to; incarnation = tell.incarnation; install = tell.install; view = tell.view }
 
+-- the high byte of a view's number names a rank, or says that none of its members may start
+abbrev pub has_name : View → Bool
+has_name view = nat_lt 0 (view.id / 2 ^ 56) && nat_lt (view.id / 2 ^ 56) 33 || is_barred view
+
+-- an announcement goes in a kind of its own where its view has a name
+abbrev pub announce_kind : View → ℕ
+announce_kind view = if has_name view then 11 else 4
+
+abbrev pub announce_bytes : ℕ → Rank → View → List ℕ
+announce_bytes kind from view = head_bytes kind ++ from.0 ∷ [] ++ view_bytes view
+
 -- the bytes of a packet; the last of a Tell is 1 for holds plus 2 for released
 unfoldable pub packet_bytes : Packet → List ℕ
 packet_bytes (packet.Ask ask) = head_bytes 1 ++ ask_fields ask
 packet_bytes (packet.Tell tell) =
     head_bytes 2 ++ ask_fields (as_ask tell) ++ (cond tell.holds 1 0 + cond tell.released 2 0) ∷ []
 packet_bytes (packet.Hello from) = head_bytes 3 ++ from.0 ∷ []
-packet_bytes (packet.Announce from view) = head_bytes 4 ++ from.0 ∷ [] ++ view_bytes view
+packet_bytes (packet.Announce from view) = announce_bytes (announce_kind view) from view
 packet_bytes (packet.Vote agrees) = head_bytes 5 ++ cond agrees 1 0 ∷ []
 packet_bytes (packet.Heard from said standing) =
     head_bytes 8 ++ from.0 ∷ [] ++ said_bytes said ++ standing_bytes standing
+
+-- an announcement is also read in the kind of named ones, whether or not its view has a name
+unfoldable pub named_bytes : Packet → Option (List ℕ)
+named_bytes (packet.Ask ask) = None
+named_bytes (packet.Tell tell) = None
+named_bytes (packet.Hello from) = None
+named_bytes (packet.Announce from view) = Some (announce_bytes 11 from view)
+named_bytes (packet.Vote agrees) = None
+named_bytes (packet.Heard from said standing) = None
 
 -- a rank is below 32
 abbrev pub is_rank : Rank → Bool
@@ -80,7 +101,7 @@ is_well_formed (packet.Announce from view) = is_rank from && is_view view
 is_well_formed (packet.Vote agrees) = true
 is_well_formed (packet.Heard from said standing) = is_rank from && is_said from said
 
--- the bytes are the spelling of this packet, which is well formed
+-- the bytes are a spelling of this packet, which is well formed
 pub record Spells (bytes : List ℕ) (packet : Packet) : Type 0 where
   pub well_formed : IsTrue (is_well_formed packet)
-  pub spelling : bytes ≡ packet_bytes packet
+  pub spelling : (bytes ≡ packet_bytes packet) ⊎ (named_bytes packet ≡ Some bytes)

@@ -1,6 +1,7 @@
 -- How packets are read: the fields are taken from their places, and the packet counts only where it is well formed and
--- the bytes are its spelling.
-use Rattle.std.specs.Prelude.{ℕ, ◌+◌, ◌%◌, ◌&&◌, ◌==◌, nat_le, List, length, drop, slice_index, Option, Some, None, option_and_then, if◌then◌else◌}
+-- the bytes are a spelling of it.
+use Rattle.std.specs.Prelude.{ℕ, Bool, false, ◌+◌, ◌%◌, ◌&&◌, ◌||◌, ◌==◌, nat_le, List, length, drop, slice_index, Option, Some, None, option_and_then, if◌then◌else◌}
+use Rattle.std.specs.Option.{option_map_or}
 use Rattle.std.specs.Str.{bytes_eq}
 use Rattle.byteorder.specs.Endian.{big_number}
 use Rattle.qn_base.specs.declared.ids.Rank.{Rank}
@@ -11,7 +12,7 @@ use Rattle.qn_model.specs.declared.packets.Ask.{Ask}
 use Rattle.qn_model.specs.declared.packets.Tell.{Tell}
 use Rattle.qn_model.specs.declared.packets.Packet.{Packet}
 use Rattle.qn_model.specs.declared.packets.Packet.TheVariants as packet
-use Rattle.qn_wire.specs.Packets.{packet_bytes, is_well_formed}
+use Rattle.qn_wire.specs.Packets.{named_bytes, packet_bytes, is_well_formed}
 
 -- the rank that stands there
 abbrev pub rank_at : ℕ → List ℕ → Rank
@@ -74,11 +75,16 @@ fields_of kind bytes =
     else if kind == 4 && length bytes == 16 then Some (packet.Announce (rank_at 3 bytes) (view_at 4 bytes))
     else if kind == 5 && length bytes == 4 then Some (packet.Vote (slice_index bytes 3 == 1))
     else if kind == 8 && length bytes == 12 then Some (packet.Heard (rank_at 3 bytes) (said_at bytes) (standing_at bytes))
+    else if kind == 11 && length bytes == 16 then Some (packet.Announce (rank_at 3 bytes) (view_at 4 bytes))
     else None
+
+-- the bytes are the spelling of a packet, or that of an announcement in the kind of named ones
+abbrev pub is_spelling : Packet → List ℕ → Bool
+is_spelling p bytes = bytes_eq (packet_bytes p) bytes || option_map_or (λ named. bytes_eq named bytes) (named_bytes p) false
 
 -- the packet that the bytes spell
 unfoldable pub packet_of : List ℕ → Option Packet
 packet_of bytes =
     option_and_then
-    (λ p. if is_well_formed p && bytes_eq (packet_bytes p) bytes then Some p else None)
+    (λ p. if is_well_formed p && is_spelling p bytes then Some p else None)
     (fields_of (slice_index bytes 2) bytes)

@@ -11,3 +11,6 @@ pub const ANNOUNCE: u8 = 4;
 pub const VOTE: u8 = 5;
 
 pub const HEARD: u8 = 8;
+
+/// An announcement of a view with a name.
+pub const NAMED: u8 = 11;

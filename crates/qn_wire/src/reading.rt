@@ -1,11 +1,14 @@
 //! Reads bytes as a packet.
-ghost use Rattle.std.specs.Prelude.{◌≡◌, ◌≤◌, ◌<◌, ◌+◌, length, IfSome, IfNone};
+ghost use Rattle.std.specs.Prelude.{◌≡◌, ◌≤◌, ◌<◌, ◌+◌, length, IfSome, IfNone, false};
+ghost use Rattle.std.specs.Option.{option_map_or};
+ghost use Rattle.std.specs.Str.{bytes_eq};
 ghost use Rattle.qn_base.specs.declared.ids.Rank.{Rank};
 ghost use Rattle.qn_model.specs.declared.packets.Packet.{Packet};
-ghost use Rattle.qn_wire.specs.Packets.{is_rank, is_said, is_view, is_ask, is_well_formed, Spells};
-ghost use Rattle.qn_wire.specs.Reading.{packet_of, fields_of, follows_at, said_at, standing_at, view_at, ask_at, tell_at};
+ghost use Rattle.qn_wire.specs.Packets.{announce_bytes, named_bytes, is_rank, is_said, is_view, is_ask, is_well_formed, Spells};
+ghost use Rattle.qn_wire.specs.Reading.{is_spelling, packet_of, fields_of, follows_at, said_at, standing_at, view_at, ask_at, tell_at};
 
-use crate::kinds::{ANNOUNCE, ASK, HEARD, HELLO, TELL, VOTE};
+use crate::fields::put_announce;
+use crate::kinds::{ANNOUNCE, ASK, HEARD, HELLO, NAMED, TELL, VOTE};
 use crate::writing::{as_ask, put_packet};
 use arrayvec::ArrayVec;
 use byteorder::{BigEndian, ByteOrder};
@@ -26,16 +29,44 @@ fn read_packet(from: &[u8]) -> Option<Packet>
     ensures { result ≡ packet_of from.now }
 {
     let packet = read_fields(*from.get(2)?, from)?;
-    if !is_well_formed(&packet) {
-        return None;
-    }
-    let mut spelled = ArrayVec::new();
-    put_packet(&packet, &mut spelled);
-    if spelled.as_slice() == from {
+    if is_well_formed(&packet) && is_spelling(&packet, from) {
         Some(packet)
     } else {
         None
     }
+}
+
+/// Whether the bytes are the spelling of a packet, or that of an announcement in the kind of named ones.
+fn is_spelling(packet: &Packet, from: &[u8]) -> bool
+    ensures { result ≡ is_spelling packet.now from.now }
+{
+    let mut spelled = ArrayVec::new();
+    put_packet(packet, &mut spelled);
+    spelled.as_slice() == from || is_named_spelling(packet, from)
+}
+
+#[tactic(auto, unfolding(crate::specs::Packets::named_bytes))]
+fn is_named_spelling(packet: &Packet, from: &[u8]) -> bool
+    ensures { result
+        ≡ option_map_or (λ named. bytes_eq named from.now) (named_bytes packet.now) false }
+{
+    match packet {
+        Packet::Announce { from: sender, view } => is_announce(NAMED, *sender, *view, from),
+        Packet::Ask(_)
+        | Packet::Tell(_)
+        | Packet::Hello { .. }
+        | Packet::Vote { .. }
+        | Packet::Heard { .. } => false,
+    }
+}
+
+/// Whether the bytes are an announcement of that kind.
+fn is_announce(kind: u8, sender: Rank, view: View, from: &[u8]) -> bool
+    ensures { result ≡ bytes_eq (announce_bytes kind sender view) from.now }
+{
+    let mut spelled = ArrayVec::new();
+    put_announce(&mut spelled, kind, sender, view);
+    spelled.as_slice() == from
 }
 
 fn read_fields(kind: u8, from: &[u8]) -> Option<Packet>
@@ -56,6 +87,10 @@ fn read_fields(kind: u8, from: &[u8]) -> Option<Packet>
             from: Rank(from[3]),
             said: read_said(from),
             standing: read_standing(from),
+        }),
+        (NAMED, 16) => Some(Packet::Announce {
+            from: Rank(from[3]),
+            view: read_view(4, from),
         }),
         _ => None,
     }

@@ -4,7 +4,7 @@ ghost use Rattle.arrayvec.specs.ArrayVec.{array_vec_len};
 ghost use Rattle.qn_wire.specs.Packets.{packet_bytes, ask_fields, as_ask};
 
 use crate::fields::{self, Spelling};
-use crate::kinds::{ANNOUNCE, ASK, HEARD, HELLO, TELL, VOTE};
+use crate::kinds::{ASK, HEARD, HELLO, TELL, VOTE};
 use arrayvec::ArrayVec;
 use qn_base::{add, add_u64};
 use qn_model::{Ask, Packet, Tell};
@@ -31,9 +31,7 @@ pub fn put_packet(packet: &Packet, into: &mut ArrayVec<u8, 128>)
             add(into, &[from.0]);
         }
         Packet::Announce { from, view } => {
-            fields::begin(into, ANNOUNCE);
-            add(into, &[from.0]);
-            fields::add_view(into, *view);
+            fields::put_announce(into, fields::announce_kind(*view), *from, *view);
         }
         Packet::Vote { yes } => {
             fields::begin(into, VOTE);

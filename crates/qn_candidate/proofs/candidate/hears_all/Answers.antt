@@ -1,6 +1,6 @@
 use Rattle.std.proofs.Common.{◌≡◌, ℕ, Bool, true, false, Option, None, Some, refl, sym, ap, ap₂, ◌∙◌, arith, subst, ◌<◌, ◌≤◌, ◌⊎◌, inl, inr, ◌+◌, ◌&&◌, not}
 use Rattle.std.specs.Prelude.{is_none}
-use Rattle.std.proofs.lemmas.Bool.{cases_lt, true≢false}
+use Rattle.std.proofs.lemmas.Bool.{and_left, and_right, cases_lt, true≢false}
 use Rattle.qn_base.specs.Members.{is_member}
 use Rattle.qn_model.specs.LeastMembers.{least_from-none}
 use Rattle.qn_model.specs.lemmas.LeastRanks.{least_none}
@@ -17,14 +17,6 @@ up_to test count j before here below = at_or_before (cases_lt j count)
     at_or_before (inl under) = before j under
     at_or_before (inr over) = let same : count ≡ j = omega arith in subst (λ n. test n ≡ false) same here
 
-unseen : (seen meets : Bool) → seen ≡ false → (seen && not meets) ≡ false
-unseen true meets e = absurd (true≢false e)
-unseen false meets e = refl
-
-met : (seen meets : Bool) → meets ≡ true → (seen && not meets) ≡ false
-met true meets e = ap not e
-met false meets e = refl
-
 -- one that is missed is found
 found_by : (found : Option ℕ) → (found ≡ None → ⊥) → false ≡ is_none found
 found_by None some = absurd (some refl)
@@ -40,8 +32,8 @@ loop-other-preserved c =
     λ j below.
     up_to (is_unmet f members rank) other j c.loop-other.invariant
     (elim c.else-has.branch [
-      | else-has-via-then-has+else-not-meets w ↦ met seen (meets f rank other) (sym w.meets.ensures ∙ w.if-not-meets.false)
-      | else-has-via-else-has w ↦ unseen seen (meets f rank other) (sym (c.both-seen.ensures other) ∙ (sym c.has.ensures ∙ w.if-has.false))
+      | else-has-via-then-has+else-not-meets w ↦ and_right seen (not (meets f rank other)) (ap not (sym w.meets.ensures ∙ w.if-not-meets.false))
+      | else-has-via-else-has w ↦ and_left seen (not (meets f rank other)) (sym (c.both-seen.ensures other) ∙ (sym c.has.ensures ∙ w.if-has.false))
     ])
     below
 

@@ -1,16 +1,13 @@
-use Rattle.std.proofs.Common.{◌≡◌, ℕ, Bool, true, false, Option, None, Some, refl, sym, arith}
-use Rattle.std.specs.Prelude.{◌&&◌, not, is_none}
+use Rattle.std.proofs.Common.{◌≡◌, Bool, true, false, refl, sym, arith}
+use Rattle.std.specs.Prelude.{◌&&◌, not}
 use Rattle.std.proofs.lemmas.Bool.{false≢true}
 use Rattle.qn_base.specs.Members.{is_member}
 use Rattle.qn_base.specs.lemmas.Bools.{second_of_both}
 use Rattle.qn_model.specs.lemmas.LeastRanks.{least_none}
 use Rattle.qn_model.specs.Unmet.{least_from}
+use Rattle.qn_candidate.proofs.Heaviest.{is_none-None}
 use Rattle.qn_candidate.specs.Candidate.{hears_all, is_unmet, meets}
 use Rattle.qn_candidate.proofs.laws.law_who_can_meets_all.Goals as goal
-
-is_none-None : (found : Option ℕ) → is_none found ≡ true → found ≡ None
-is_none-None None e = refl
-is_none-None (Some n) e = absurd (false≢true e)
 
 -- a member that is seen and is not one that is missed is met
 met : (member seen meets : Bool) → member ≡ true → seen ≡ true → (member && seen && not meets) ≡ false → meets ≡ true

@@ -1,7 +1,6 @@
 use Rattle.std.proofs.Common.{◌≡◌, ℕ, Bool, true, false, Some, None, Option, refl, arith, subst, inl, inr, slice_index, ◌<◌, ◌⊎◌}
 use Rattle.std.specs.Prelude.{◌&&◌, ◌||◌, not, is_none, is_some, nat_lt, if◌then◌else◌}
 use Rattle.std.specs.Option.{option_or}
-use Rattle.std.proofs.lemmas.Bool.{false≢true}
 use Rattle.std.proofs.lemmas.Option.{none-some, same_Some}
 use Rattle.qn_base.specs.Members.{is_member}
 use Rattle.qn_base.specs.declared.ids.Mask.{Mask}
@@ -12,7 +11,7 @@ use Rattle.qn_candidate.specs.declared.candidate.Facts.{Facts}
 use Rattle.qn_candidate.specs.declared.candidate.Name.TheVariants as name
 use Rattle.qn_candidate.specs.Candidate.{best_of, can, hears_all, holder_of, holder_stays, kept, kept_beside, name_of, named_again, puller, unknowing}
 use Rattle.qn_candidate.specs.Laws.{IsRight}
-use Rattle.qn_candidate.proofs.Heaviest.{heaviest_none, heaviest_passes}
+use Rattle.qn_candidate.proofs.Heaviest.{heaviest_none, heaviest_passes, is_none-None}
 use Rattle.qn_candidate.proofs.laws.law_who_is_named.Goals as goal
 
 -- one that can is rightly named
@@ -22,10 +21,6 @@ able_right f members named rank able = (
       (first_of_both (is_member members rank && not (is_member f.barred rank) && not (is_member f.unfit rank)) (hears_all f members rank) able),
   inl able,
 )
-
-is_none-None : (found : Option ℕ) → is_none found ≡ true → found ≡ None
-is_none-None None e = refl
-is_none-None (Some n) e = absurd (false≢true e)
 
 -- a holder that stays is fit, or nobody can
 free_by : (f : Facts) (members : Mask) (rank : ℕ) (unfit : Bool) → is_member f.unfit rank ≡ unfit → (not unfit || is_none (best_of f members)) ≡ true

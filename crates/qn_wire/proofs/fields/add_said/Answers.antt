@@ -1,4 +1,4 @@
-use Rattle.std.proofs.Common.{List, ℕ, [], ◌∷◌, ◌++◌, cond, ap, ◌∙◌, append_assoc}
+use Rattle.std.proofs.Common.{List, ℕ, [], ◌∷◌, cond, append_assoc}
 use Rattle.std.specs.Int.{bytes_high_first}
 use Rattle.qn_wire.specs.Packets.{follows_byte}
 use Rattle.qn_wire.proofs.fields.add_said.Goals as goal
