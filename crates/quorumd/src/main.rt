@@ -107,10 +107,12 @@ fn before_command<'words, R: Files<File = File> + AllocGlobal + Eprint>(
             return Err(refuse_words(rt, WordFault::StatusPath));
         }
     }
-    let edge = edge_of(rt, &before)?;
     let status = before.status;
     let count = before.count.min(words.len());
-    Ok((Outside { edge, status }, words.split_at(count).1))
+    let words = words.split_at(count).1;
+    let command = words.first().map_or("", String::as_str);
+    let edge = edge_of(rt, &before, command)?;
+    Ok((Outside { edge, status }, words))
 }
 
 /// Says what is wrong with the words before the command, and gives the status to end with.
