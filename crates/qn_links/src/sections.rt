@@ -111,10 +111,7 @@ pub fn sections_of<'text>(
 }
 
 /// What a tree says of where the arbiter is.
-pub fn device_of<'text>(
-    alloc: Global,
-    tree: &Tree<'text>,
-) -> Result<DeviceNet<'text>, AllocError> {
+pub fn device_of<'text>(alloc: Global, tree: &Tree<'text>) -> Result<DeviceNet<'text>, AllocError> {
     Ok(walk(alloc, tree)?.device)
 }
 

@@ -15,9 +15,7 @@
 use arrayvec::ArrayVec;
 use qn_base::{LONGEST_PERIOD, Mask, Rank, View};
 use qn_model::Device;
-use qn_polls::{
-    Arbiter, Poller, Standing, get_poll, get_reply, least_lease, put_poll, put_reply,
-};
+use qn_polls::{Arbiter, Poller, Standing, get_poll, get_reply, least_lease, put_poll, put_reply};
 use qn_safety::{Poll, Reply};
 use qn_words::{bytes_of, read_number, read_rank, read_small_number, read_truth};
 use std::alloc::Global;

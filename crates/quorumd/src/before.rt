@@ -152,7 +152,10 @@ impl<'words> Before<'words> {
 
 /// Whether a command runs a node or an arbiter.
 fn is_running(command: &str) -> bool {
-    matches!(command, "node" | "node3" | "node-logged" | "node3-logged" | ARBITER)
+    matches!(
+        command,
+        "node" | "node3" | "node-logged" | "node3-logged" | ARBITER
+    )
 }
 
 /// Puts the value of a word that may stand once.
