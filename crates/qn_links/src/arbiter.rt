@@ -56,10 +56,10 @@ pub fn arbiter_of<'text>(
     net: DeviceNet<'text>,
     links: &Links,
 ) -> Result<ArbiterPlace, ArbiterFault<'text>>
-    ensures host { IfOk result (λ place. HasHost net place.address) }
+    ensures host { IfOk result (λ place. HasHost net.entry place.address) }
     ensures family { IfOk result (λ place. IsOfFamily links.now place.address) }
-    ensures port { IfOk result (λ place. HasPort net place.port) }
-    ensures fault { IfErr result (λ fault. HasNoPlace net links.now fault) }
+    ensures port { IfOk result (λ place. HasPort net.entry place.port) }
+    ensures fault { IfErr result (λ fault. HasNoPlace net.entry links.now fault) }
 {
     let Some(text) = net.host else {
         return Err(ArbiterFault::NoHost);

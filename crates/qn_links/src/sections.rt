@@ -107,16 +107,16 @@ pub fn sections_of<'text>(
     alloc: Global,
     tree: &Tree<'text>,
 ) -> Result<Vec<NodeSection<'text>>, AllocError> {
-    Ok(walk(alloc, tree)?.sections)
+    Ok(walk_through(alloc, tree)?.sections)
 }
 
 /// What a tree says of where the arbiter is.
 pub fn device_of<'text>(alloc: Global, tree: &Tree<'text>) -> Result<DeviceNet<'text>, AllocError> {
-    Ok(walk(alloc, tree)?.device)
+    Ok(walk_through(alloc, tree)?.device)
 }
 
 /// Walks through a tree.
-fn walk<'text>(alloc: Global, tree: &Tree<'text>) -> Result<Walk<'text>, AllocError> {
+fn walk_through<'text>(alloc: Global, tree: &Tree<'text>) -> Result<Walk<'text>, AllocError> {
     let mut walk = Walk {
         open: Vec::new(alloc),
         sections: Vec::new(alloc),
