@@ -12,8 +12,8 @@ use Rattle.qn_safety.specs.declared.polls.Reply.{Reply}
 use Rattle.qn_polls.specs.Polls.{is_poll, is_reply, poll_bytes, reply_bytes}
 use Rattle.qn_polls.specs.Reading.{poll_at, reply_at}
 
-same_view : (first second : View) → first.id ≡ second.id → first.members.0 ≡ second.members.0 → first ≡ second
-same_view first second same_id same_members = rw (same_id, same_members) refl
+same_view : (first second : View) → first.members.0 ≡ second.members.0 → first.id ≡ second.id → first ≡ second
+same_view first second same_members same_id = rw (same_members, same_id) refl
 
 view_back : (view : View) → is_view view ≡ true → view_at 0 (view_bytes view) ≡ view
 view_back view is =
@@ -21,8 +21,8 @@ view_back view is =
     let id_fits = ltb-true view.id (2 ^ 64) (and_parts _ _ tests.0).0 in
     let members_fit = ltb-true view.members.0 (2 ^ 32) tests.1 in
     same_view (view_at 0 (view_bytes view)) view
-    (big_number-reads_back 8 view.id (bytes_high_first 4 view.members.0) id_fits)
     (big_number-reads_back 4 view.members.0 [] members_fit)
+    (big_number-reads_back 8 view.id (bytes_high_first 4 view.members.0) id_fits)
 
 same_poll : (first second : Poll) → first.from ≡ second.from → first.number ≡ second.number → first.incarnation ≡ second.incarnation → first.install ≡ second.install → first.view ≡ second.view → first ≡ second
 same_poll first second from number incarnation install view = rw (from, number, incarnation, install, view) refl
