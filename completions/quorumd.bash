@@ -6,7 +6,7 @@ _quorumd_takes() {
     commands=() operands=() options=()
     case $* in
     quorumd)
-        commands=(count replay status soak create dump list message node migrate replay3 node3 replay-arbiter node-logged audit node3-logged help)
+        commands=(count replay status soak create dump list message node migrate replay3 node3 replay-arbiter node-logged audit node3-logged arbiter help)
         options=(--links/file/--links --key/file/ --open//--open --halt/file/--halt --status/file/--status --leave-file/file/--leave-file --blank//--blank --anew//--anew)
         ;;
     'quorumd status')
@@ -45,6 +45,9 @@ _quorumd_takes() {
     'quorumd node3-logged')
         options=(--id/none/--id --image/image/--image --watchdog/file/--watchdog --resource/file/--resource --port/none/--port --turns/none/--turns --leave/none/--leave '--start-mode/words 0 1/--start-mode')
         ;;
+    'quorumd arbiter')
+        options=(--port/none/--port --turns/none/--turns)
+        ;;
     quorumctl)
         commands=(settings timing check list wait status history group)
         ;;
@@ -69,7 +72,7 @@ _quorumd_takes() {
         ;;
     quorumd-setup)
         operands=(file)
-        options=(--image/image/--image '--key/file/--key --no-key' '--no-key//--no-key --key' --id/none/--id --watchdog/file/--watchdog --port/none/--port --create//--create)
+        options=(--arbiter//--arbiter --key/file/--key --port/none/--port)
         ;;
     quorumd-acceptance)
         operands=(file none)

@@ -8,7 +8,7 @@ function __quorumd_takes
     set -g __quorumd_options
     switch "$argv"
         case quorumd
-            set -g __quorumd_commands 'count	which of several views has the majority' 'replay	what a cluster does, event by event' 'status	how each node stands after a schedule' 'soak	what so many events, drawn from a seed, come to' 'create	makes the disk image of a cluster' 'dump	the header of an image' 'list	the nodes of an image, with their messages' 'message	leaves a message to a node' 'node	runs a node of the cluster' 'migrate	brings an image of version 1 to version 2' 'replay3	what a cluster does on three images, event by event' 'node3	runs a node of the cluster on three images' 'replay-arbiter	what a cluster does beside an arbiter, event by event' 'node-logged	the same as node, with a line for each of its calls' 'audit	whether the record of a node is a run of it' 'node3-logged	the same as node3, with a line for each of its calls' 'help	the names of the commands'
+            set -g __quorumd_commands 'count	which of several views has the majority' 'replay	what a cluster does, event by event' 'status	how each node stands after a schedule' 'soak	what so many events, drawn from a seed, come to' 'create	makes the disk image of a cluster' 'dump	the header of an image' 'list	the nodes of an image, with their messages' 'message	leaves a message to a node' 'node	runs a node of the cluster' 'migrate	brings an image of version 1 to version 2' 'replay3	what a cluster does on three images, event by event' 'node3	runs a node of the cluster on three images' 'replay-arbiter	what a cluster does beside an arbiter, event by event' 'node-logged	the same as node, with a line for each of its calls' 'audit	whether the record of a node is a run of it' 'node3-logged	the same as node3, with a line for each of its calls' 'arbiter	answers the nodes of the cluster, as its quorum device' 'help	the names of the commands'
             set -g __quorumd_options --links/file/--links/CONF --key/file//FILE --open//--open/ --halt/file/--halt/FILE --status/file/--status/FILE --leave-file/file/--leave-file/FILE --blank//--blank/ --anew//--anew/
         case 'quorumd status'
             set -g __quorumd_options '--form/words text json/--form/text|json'
@@ -34,6 +34,8 @@ function __quorumd_takes
             set -g __quorumd_options --id/none/--id/1..4294967295 --turns/none/--turns/1..1000000000 --leave/none/--leave/1..1000000000 '--start-mode/words 0 1/--start-mode/0..1' '--images/words 1 3/--images/1|3'
         case 'quorumd node3-logged'
             set -g __quorumd_options --id/none/--id/1..4294967295 --image/image/--image/P1,P2,P3 --watchdog/file/--watchdog/PATH --resource/file/--resource/PATH --port/none/--port/1024..65000 --turns/none/--turns/1..1000000000 --leave/none/--leave/1..1000000000 '--start-mode/words 0 1/--start-mode/0..1'
+        case 'quorumd arbiter'
+            set -g __quorumd_options --port/none/--port/1024..65000 --turns/none/--turns/1..9223372036854775808
         case quorumctl
             set -g __quorumd_commands 'settings	what is read of a corosync.conf, and what of it is risky or wrong' 'timing	the least safe msgwait for these times, and how long a take-over takes on which disk' 'check	what is wrong with an image, and whether it fits a corosync.conf' 'list	the nodes of an image, with their messages' 'wait	returns when the message to a node was read, or msgwait has passed' 'status	what the status files of the nodes of this host come to' 'history	what the journals of the nodes tell, in the order of time' 'group	what is to be done to the resources of a host, event by event, for its supervisor'
         case 'quorumctl timing'
@@ -51,7 +53,7 @@ function __quorumd_takes
             set -g __quorumd_operands 'file*'
         case quorumd-setup
             set -g __quorumd_operands file
-            set -g __quorumd_options '--image/image/--image/IMAGE[,IMAGE,IMAGE]' '--key/file/--key --no-key/FILE' '--no-key//--no-key --key/' --id/none/--id/N --watchdog/file/--watchdog/DEVICE --port/none/--port/Q --create//--create/
+            set -g __quorumd_options --arbiter//--arbiter/ --key/file/--key/FILE --port/none/--port/Q
         case quorumd-acceptance
             set -g __quorumd_operands file none
             set -g __quorumd_options --check//--check/ --anew//--anew/ '--yes/none/--yes/TEST[,TEST..]'

@@ -2,7 +2,7 @@
 # built, or released from these sources.
 . "$TOP/tests/expect.sh"
 
-commands='commands count replay status soak create dump list message node migrate replay3 node3 replay-arbiter node-logged audit node3-logged help'
+commands='commands count replay status soak create dump list message node migrate replay3 node3 replay-arbiter node-logged audit node3-logged arbiter help'
 here=$PWD
 
 # called WORD..: this call of it writes the names of the commands, and nothing on standard error

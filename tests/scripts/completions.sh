@@ -56,7 +56,7 @@ for name in quorumd quorumctl quorumd-setup quorumd-acceptance quorumd-resource 
 done
 
 # commands
-commands='count replay status soak create dump list message node migrate replay3 node3 replay-arbiter node-logged audit node3-logged help'
+commands='count replay status soak create dump list message node migrate replay3 node3 replay-arbiter node-logged audit node3-logged arbiter help'
 offers "$commands" ''
 offers 'count create' c
 offers 'status soak' s
@@ -103,6 +103,8 @@ offers '--id --image --watchdog --resource --port --turns --leave --start-mode' 
 offers '--id --image --watchdog --resource --port --turns --leave --start-mode' node3-logged ''
 offers '--id --turns --leave --start-mode --images' audit ''
 offers '--leave --start-mode --images' audit --turns 9 --id 1 --
+offers '--port --turns' arbiter ''
+offers '--port' arbiter --turns 9 --
 
 # a word that looks like an option can be a value; a redirection is no option
 offers --id message --image --id --kind off ''

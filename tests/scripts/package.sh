@@ -42,7 +42,7 @@ grep -q '^License: Apache-2.0$' "$doc/copyright"
 zcat "$doc/changelog.Debian.gz" | head -n 1 | grep -qF "quorumd ($version) "
 same "$(ls control | xargs)" 'conffiles control md5sums postinst postrm prerm'
 same "$(xargs < control/conffiles)" '/etc/needrestart/conf.d/quorumd.conf /etc/quorumd/agent.env /etc/quorumd/node.env'
-same "$(ls root/lib/systemd/system | xargs)" 'quorumd-agent.socket quorumd-agent@.service quorumd-handover.service quorumd-move.service quorumd-renew@.service quorumd-renew@.timer quorumd-resource.service quorumd@.service'
+same "$(ls root/lib/systemd/system | xargs)" 'quorumd-agent.socket quorumd-agent@.service quorumd-arbiter.service quorumd-arbiter@.service quorumd-handover.service quorumd-move.service quorumd-renew@.service quorumd-renew@.timer quorumd-resource.service quorumd@.service'
 same "$(ls root/usr/libexec/quorumd | xargs)" 'hand-over node-check node-ended node-images node-leave node-opened quorumd-agent quorumd_acceptance quorumd_resources.py quorumd_supervisor.py'
 same "$(ls root/usr/sbin | xargs)" 'quorumctl quorumd quorumd-acceptance quorumd-resource quorumd-setup'
 same "$(ls root/usr/share/man/man1 root/usr/share/man/man8 | grep gz | xargs)" \

@@ -37,7 +37,7 @@ def look(crate, text, cell):
 
 
 # the clauses of `top`, and the records of commands with their fields
-commands = ["qn_top", "qn_running", "qn_commands"]
+commands = ["qn_top", "qn_running", "qn_arbitrating", "qn_commands"]
 text = "\n".join(sources(crate) for crate in commands)
 for cell in [row[at] for row in rows("The program") for at in range(1, len(row))] + [row[-1] for row in rows("Exit statuses")]:
     look(" or ".join(commands), text, cell)

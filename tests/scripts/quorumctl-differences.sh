@@ -43,13 +43,13 @@ says "$again
 $all" '1 1 1' 'wait_for_all: 1\nexpected_votes: 4\n'
 says "$again
 Corosync's wait_for_all waits for the device's votes too
-$alone" '1 1' 'wait_for_all: 1\ndevice {\nmodel: net\nvotes: 1\n}\n'
-says "$alone" '1 1 1' 'device {\nmodel: net\nvotes: 1\n}\n'
-says '' '1 1 1' 'device {\nmodel: net\n}\n'
-says "$without" '2 1' 'device {\nmodel: net\n}\n'
-says "$without" '1 1' 'expected_votes: 3\ndevice {\nmodel: net\n}\n'
+$alone" '1 1' 'wait_for_all: 1\ndevice {\nnet {\nhost: 192.0.2.9\n}\nmodel: net\nvotes: 1\n}\n'
+says "$alone" '1 1 1' 'device {\nnet {\nhost: 192.0.2.9\n}\nmodel: net\nvotes: 1\n}\n'
+says '' '1 1 1' 'device {\nnet {\nhost: 192.0.2.9\n}\nmodel: net\n}\n'
+says "$without" '2 1' 'device {\nnet {\nhost: 192.0.2.9\n}\nmodel: net\n}\n'
+says "$without" '1 1' 'expected_votes: 3\ndevice {\nnet {\nhost: 192.0.2.9\n}\nmodel: net\n}\n'
 says "$window
-Corosync refuses last_man_standing beside a device" '1 1 1' 'last_man_standing: 1\ndevice {\nmodel: net\nvotes: 1\n}\n'
+Corosync refuses last_man_standing beside a device" '1 1 1' 'last_man_standing: 1\ndevice {\nnet {\nhost: 192.0.2.9\n}\nmodel: net\nvotes: 1\n}\n'
 says "$window" '1 1 1' 'last_man_standing: 1\n'
 says "Corosync's tie breaker is of no use to half of the nodes that boot alone" '1 1 1 1' 'auto_tie_breaker: 1\n'
 says "Corosync tries a list of tie nodes over the members before the last change" '1 1 1 1' 'auto_tie_breaker: 1\nauto_tie_breaker_node: 3 1\n'
@@ -69,7 +69,7 @@ says 'expected_votes_tracking has no effect here' '1 1 1' 'expected_votes_tracki
 warned() {
     local status=0
     "$QUORUMCTL" settings > got 2> errors || status=$?
-    same "$status $(grep -v -E '^(node |(two_node|wait_for_all|last_man_standing|auto_tie_breaker) o|device |last_man_standing_window |expected_votes |quorum )' got)" "$1"
+    same "$status $(grep -v -E '^(node |(two_node|wait_for_all|last_man_standing|auto_tie_breaker) o|device |arbiter |last_man_standing_window |expected_votes |quorum )' got)" "$1"
 }
 provider='quorum {\nprovider: corosync_votequorum\n}\n'
 { nodes 1; printf 'quorum {\n}\n'; } | warned '1 warning: without a provider Corosync counts no votes'
@@ -77,7 +77,8 @@ provider='quorum {\nprovider: corosync_votequorum\n}\n'
 { nodes 1; printf "${provider}quorum {\ndevices {\nmodel: net\n}\n}\n"; } | warned '1 warning: the section "devices" is not known: all in it is passed over'
 { printf 'nodelist {\nnodes {\nnodeid: 2\n}\nnode {\nnodeid: 1\nnet {\n}\n}\n}\n'"$provider"; } | warned '1 warning: the section "nodes" is not known: all in it is passed over
 warning: the section "net" is not known: all in it is passed over'
-{ nodes 1; printf "${provider}quorum {\ndevice {\nmodel: net\nvotes: 0\nvote: 1\nnets {\n}\nnet {\nx {\n}\n}\nheuristics {\n}\n}\n}\n"; } | warned "1 warning: the key \"vote\" is not known
+{ nodes 1; printf "${provider}quorum {\ndevice {\nnet {\nhost: 192.0.2.9\n}\nmodel: net\nvotes: 0\nvote: 1\nnets {\n}\nnet {\nx {\n}\n}\nheuristics {\n}\n}\n}\n"; } | warned "1 warning: the key \"vote\" is not known
+warning: the device's \"heuristics\" has no effect here
 warning: $alone
 warning: the section \"nets\" is not known: all in it is passed over"
 { nodes 1; printf "${provider}totem {\ninterface {\n}\n}\nlogging {\nlogger_subsys {\n}\n}\nsystem {\n}\nresources {\n}\nnozzle {\n}\n"; } | warned '0 '

@@ -31,7 +31,7 @@ last_man_standing off by default\nauto_tie_breaker on by auto_tie_breaker\ndevic
 warning: Corosync arms wait_for_all again at each loss of quorum\n'
 flags 1 "${two}quorum {\ndevice {\nmodel: net\nvotes: 1\n}\n}\n" 'two_node off by default\nwait_for_all off by default\nlast_man_standing off by default\nauto_tie_breaker off by default
 device votes 1 timeout 10000\nlast_man_standing_window 10000\nexpected_votes 3 by the sum\nquorum 2
-warning: Corosync'"'"'s node that boots alone does not expect a device'"'"'s written votes\n'
+warning: the device has no host: nobody will ever vote\nwarning: Corosync'"'"'s node that boots alone does not expect a device'"'"'s written votes\n'
 
 # warned 'TEXT' 'WARNINGS'
 warned() {
@@ -52,6 +52,17 @@ warned "${two}quorum {\nexpected_votes: 1\n}\n" 'warning: expected_votes 1 is be
 warned "$two" 'warning: 2 votes can fall into halves: there is neither a device nor a tie breaker\n'
 warned "${one}quorum {\ntwo_nodes: 1\n}\n" 'warning: the key "two_nodes" is not known\n'
 warned 'nodelist {\nnodes: 1\nnode {\nnodeid: 1\nvotes: 1\nring0_addr: a\n}\n}\ntotem {\nnode: 1\n}\nquorum {\nprovider: corosync_votequorum\n}\n' 'warning: the key "nodes" is not known\nwarning: the key "votes" is not known\n'
+
+# the arbiter of a device: where it is, and its times; and what nobody reads of it
+device='quorum {\nprovider: corosync_votequorum\nexpected_votes: 3\n'
+flags 0 "${two}${device}device {\nmodel: net\nvotes: 1\nnet {\nhost: 192.0.2.9\nport: 7432\n}\n}\n}\n" 'two_node off by default\nwait_for_all off by default\nlast_man_standing off by default\nauto_tie_breaker off by default
+device votes 1 timeout 10000\narbiter 192.0.2.9 port 7432 limit 2000 lease 12244\nlast_man_standing_window 10000\nexpected_votes 3 by expected_votes\nquorum 2\n'
+warned "${two}${device}device {\nmodel: net\nvotes: 1\nsync_timeout: 30000\nnet {\nhost: third\nalgorithm: ffsplit\ntie_breaker: lowest\ntls: on\n}\nheuristics {\nmode: on\n}\n}\n}\n" 'warning: the device'"'"'s host "third" is no address: nobody will ever vote
+warning: the device'"'"'s "sync_timeout" has no effect here\nwarning: the device'"'"'s "algorithm" has no effect here\nwarning: the device'"'"'s "tie_breaker" has no effect here
+warning: the device'"'"'s "tls" has no effect here\nwarning: the device'"'"'s "heuristics" has no effect here\n'
+warned "nodelist {\nnode {\nnodeid: 1\nring0_addr: 192.0.2.1\n}\nnode {\nnodeid: 2\nring0_addr: 192.0.2.2\n}\n}\n${device}device {\nmodel: net\nvotes: 1\ntimeout: 6000\nnet {\nhost: 192.0.2.2\n}\n}\n}\n" 'warning: the device'"'"'s host "192.0.2.2" is a node'"'"'s address: the vote is lost with that node\n'
+same "$(grep '^arbiter' got)" 'arbiter 192.0.2.2 limit 1200 lease 7347'
+warned "${two}quorum {\nprovider: corosync_votequorum\nexpected_votes: 2\ndevice {\nmodel: net\nvotes: 1\nnet {\nhost: 192.0.2.9\n}\n}\n}\n" 'warning: expected_votes 2 is below the 3 votes that there are\n'
 
 told 3 'quorum {\ntwo_node 1\n}\n' 'fault: line 2: neither a section, nor `key: value`, nor `}`, nor a comment\nline 2: two_node 1\n'
 told 3 '}\n' 'fault: line 1: `}` ends a section, and none is open\nline 1: }\n'

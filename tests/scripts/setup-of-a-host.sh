@@ -39,7 +39,7 @@ setup() {
 written() {
     (cd etc && find . -type f | sort | xargs)
 }
-usage='usage: quorumd-setup CONF --image IMAGE[,IMAGE,IMAGE] [--key FILE | --no-key] [--id N] [--watchdog DEVICE] [--port Q] [--create]'
+usage='       quorumd-setup CONF --arbiter [--key FILE] [--port Q]'
 disk=$PWD/disk
 
 # words
@@ -48,7 +48,8 @@ same "$(head -n 1 said)" 'quorumd-setup: no corosync.conf'
 for words in three.conf '--image /d' 'three.conf --image' 'three.conf --image d' 'three.conf --image /d,/e' 'three.conf --image /d,/e,/f,/g' 'three.conf --image /d,,/f' \
     'three.conf --image /d --id 0' 'three.conf --image /d --id x' 'three.conf --image /d --id 99999999999' 'three.conf --image /d --port 80' \
     'three.conf --image /d --watchdog dog' 'three.conf --image /d;e' 'three.conf --image nbd:' 'three.conf --image /d,nbd:x,e' 'three.conf --image ftp:x' 'three.conf --image /d --watchdog nbd:x' 'three.conf --image /d other' 'three.conf --image /d --id' \
-    'three.conf --image /d --key k --no-key'; do
+    'three.conf --image /d --key k --no-key' 'three.conf --arbiter --image /d' 'three.conf --arbiter --create' 'three.conf --arbiter --no-key' \
+    'three.conf --arbiter --id 1' 'three.conf --arbiter --port 80'; do
     # shellcheck disable=SC2086
     setup 2 "$usage" $words
 done
@@ -158,3 +159,32 @@ rm -r etc/systemd
 setup 0 'node 2 of three.conf is set up: systemctl enable --now quorumd@2.service' three.conf --image "$disk,$PWD/e,$PWD/f" --create --watchdog /dev/watchdog1 --port 7600
 same "$(grep -e ^COMMAND -e ^IMAGE -e ^WATCHDOG -e ^PORT etc/quorumd/node-2.env | xargs)" "COMMAND=node3 IMAGE=$disk,$PWD/e,$PWD/f WATCHDOG=/dev/watchdog1 PORT=7600"
 [ -e f ]
+
+# an arbiter: a host of its own, which the device of the text names, and a key of the members
+rm -r etc/quorumd/corosync.conf etc/quorumd/key etc/quorumd/node-*.env etc/systemd
+before=$(written)
+# device HOST: the text of three nodes, with a device at that host
+device() {
+    cat three.conf
+    printf 'quorum {\n provider: corosync_votequorum\n device {\n  model: net\n  votes: 2\n  net {\n   host: %s\n  }\n }\n}\n' "$1"
+}
+setup 1 'quorumd-setup: three.conf has no quorum device with a host: quorum { device { model: net; net { host: ADDRESS } } }, a line each' three.conf --arbiter --key key
+device 192.0.2.77 > arbiter.conf
+setup 1 'quorumd-setup: 192.0.2.77, the host of the device of arbiter.conf, is no address of this host' arbiter.conf --arbiter --key key
+device lone.example > arbiter.conf
+setup 1 "quorumd-setup: arbiter.conf: the device's host lone.example has no address that other hosts reach: getent ahosts lone.example" arbiter.conf --arbiter --key key
+device 192.0.2.1 > arbiter.conf
+sed 's/192.0.2.7/192.0.2.1/' arbiter.conf > member.conf
+setup 1 'quorumd-setup: node 1 of member.conf is this host: an arbiter is on a host that is no member' member.conf --arbiter --key key
+setup 1 'quorumd-setup: HERE/etc/quorumd/key is no file: copy the key of a member here, by a way that nobody reads, and say --key FILE' arbiter.conf --arbiter
+head -c 31 /dev/zero > short
+chmod 600 short
+setup 1 'quorumd-setup: short: 31 bytes, a key has 32 to 4096' arbiter.conf --arbiter --key short
+same "$(written)" "$before"
+printf '#!/bin/sh\necho "192.0.2.1 STREAM"\n' > calls/getent
+device third.example > arbiter.conf
+setup 0 'the arbiter of arbiter.conf is set up: systemctl enable --now quorumd-arbiter.service' arbiter.conf --arbiter --key key --port 7600
+device 192.0.2.1 | cmp - etc/quorumd/corosync.conf
+cmp key etc/quorumd/key
+same "$(stat -c %a etc/quorumd/key) $(cat etc/quorumd/arbiter.env)" '600 PORT=7600'
+setup 1 'quorumd-setup: HERE/etc/quorumd/arbiter.env is there and says something else: look at it, and remove it' arbiter.conf --arbiter --key key

@@ -2,7 +2,7 @@
 # nothing on standard output; good ones change nothing of a command.
 . "$TOP/tests/expect.sh"
 
-commands='commands count replay status soak create dump list message node migrate replay3 node3 replay-arbiter node-logged audit node3-logged help'
+commands='commands count replay status soak create dump list message node migrate replay3 node3 replay-arbiter node-logged audit node3-logged arbiter help'
 
 # says LINE WORD..: these words are refused with this line
 says() {
@@ -60,9 +60,9 @@ for word in --blank --anew; do
         says "$word stands before create alone" $word $command
     done
 done
-says '--status stands before a node alone' --status a help
-says '--status stands before a node alone' --status a audit --id 1 --turns 1
-says '--status stands before a node alone' --open --status a
+says '--status stands before a node or an arbiter alone' --status a help
+says '--status stands before a node or an arbiter alone' --status a audit --id 1 --turns 1
+says '--status stands before a node or an arbiter alone' --open --status a
 for path in '' "$(head -c 4091 /dev/zero | tr '\0' x)"; do
     says '--status: a path has 1 to 4090 bytes' --status "$path" node
 done

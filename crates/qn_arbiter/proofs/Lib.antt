@@ -7,10 +7,8 @@ pub mod Lists
 pub mod Meeting
 mod PassLength
 pub mod PassWords
-pub mod Places
 pub mod Quiet
 pub mod Refusals
-pub mod Remembering
 pub mod RuleTests
 pub mod StepForms
 mod WordsOfLines

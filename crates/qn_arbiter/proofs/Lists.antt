@@ -2,8 +2,8 @@
 use Rattle.std.proofs.Common.{◌≡◌, ℕ, suc, zero, ◌<◌, List, [], ◌∷◌, get_or, Some, refl, ◌∙◌, ap, arith, map}
 use Rattle.std.specs.Prelude.{replicate, slice_get, slice_set}
 use Rattle.std.proofs.lemmas.Option.{slice_get_within}
-use Rattle.qn_arbiter.specs.declared.poller.Poller.{Poller as CodePoller}
-use Rattle.qn_arbiter.specs.Poller.{poller_of}
+use Rattle.qn_polls.specs.declared.poller.Poller.{Poller as CodePoller}
+use Rattle.qn_polls.specs.Poller.{poller_of}
 use Rattle.qn_safety.specs.Poller.{Poller}
 use Rattle.qn_model.specs.World.{put}
 use Rattle.qn_cluster.specs.ListLaws.{rank_put}

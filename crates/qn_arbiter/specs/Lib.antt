@@ -1,11 +1,9 @@
-pub mod Arbiter
 pub mod EventLines
 pub mod EventNames
 pub mod EventReading
 pub mod LeaseLine
 pub mod Memory
 pub mod OwnRules
-pub mod Poller
 pub mod Standing
 pub mod Stepping
 pub mod TraceLines

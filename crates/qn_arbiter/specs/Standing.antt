@@ -1,6 +1,6 @@
 -- What a world of the code beside an arbiter stands for: a world of the definitions that allowed events lead to.
 use Rattle.std.specs.Prelude.{◌≡◌, ◌<◌, ◌≤◌, ◌+◌, ◌^◌, ℕ, List, Option, None, Some, length, slice_get}
-use Rattle.qn_arbiter.specs.Arbiter.{ArbiterFor as MemoryFor}
+use Rattle.qn_polls.specs.Arbiter.{ArbiterFor as MemoryFor}
 use Rattle.qn_base.specs.declared.ids.Rank.{Rank}
 use Rattle.qn_cluster.specs.Standing.{latest_clock}
 use Rattle.qn_safety.specs.declared.arbiter_event.ArbiterEvent.{ArbiterEvent}

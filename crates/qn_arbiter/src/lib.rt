@@ -16,13 +16,11 @@
 //! lines that `qn_sched` knows are read and written by it. Nothing here reads or writes a file.
 #![tactic(auto)]
 
-mod arbiter;
 mod event_line;
 mod event_name;
 mod kinds;
 mod laws;
 mod lease_line;
-mod poller;
 mod pollers;
 mod rules;
 mod running;
@@ -31,10 +29,8 @@ mod steps;
 mod trace;
 mod world;
 
-pub use arbiter::Arbiter;
 pub use event_line::read_arbiter_line_into;
 pub use laws::law_arbiter_lines;
 pub use lease_line::read_lease;
-pub use poller::{Poller, Standing};
 pub use trace::write_arbiter_trace;
 pub use world::{ArbiterWorld, blank_report};

@@ -1,7 +1,7 @@
 //! The pollers of all nodes, by rank.
-use crate::{Poller, Standing};
 use qn_base::Rank;
 use qn_model::Event;
+use qn_polls::{Poller, Standing};
 use qn_safety::{Poll, Reply};
 use std::marker::Model;
 
@@ -13,7 +13,7 @@ pub(crate) struct Pollers {
 
 impl Model for Pollers {
     ghost use Rattle.std.specs.Prelude.{List, map};
-    ghost use Rattle.qn_arbiter.specs.Poller.{poller_of};
+    ghost use Rattle.qn_polls.specs.Poller.{poller_of};
     ghost use Rattle.qn_safety.specs.Poller.{Poller as DefinedPoller};
 
     ghost Value = { List DefinedPoller };
@@ -23,7 +23,7 @@ impl Model for Pollers {
 
 impl Pollers {
     ghost use Rattle.std.specs.Prelude.{◌≡◌, ◌<◌, ℕ, Some, slice_get};
-    ghost use Rattle.qn_arbiter.specs.Poller.{standing_of};
+    ghost use Rattle.qn_polls.specs.Poller.{standing_of};
     ghost use Rattle.qn_safety.specs.declared.lease.Lease.{Lease};
     ghost use Rattle.qn_safety.specs.ArbiterSteps.{pollers_with};
     ghost use Rattle.qn_safety.specs.Poller.{Poller as DefinedPoller, answer_taken, fresh_poller, next_poll, with_sent, without_last};

@@ -5,7 +5,7 @@ ghost use Rattle.qn_safety.specs.ArbiterSteps.{advanced_arbiter, hearing, reply_
 ghost use Rattle.qn_safety.specs.ArbiterWorld.{Arbiter as DefinedArbiter};
 ghost use Rattle.qn_arbiter.specs.Standing.{HasRoomFor, RunsOrOff};
 
-use crate::Arbiter;
+use qn_polls::Arbiter;
 use qn_safety::{Poll, Reply};
 
 /// An arbiter that runs. Its clock is in hundredths of a millisecond.

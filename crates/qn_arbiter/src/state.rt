@@ -2,11 +2,11 @@
 ghost use Rattle.std.specs.Prelude.{◌≡◌, ◌++◌, ◌∷◌, [], OnErr, OnOk, slice_get};
 ghost use Rattle.qn_safety.specs.ArbiterSteps.{device_event};
 
-use crate::Standing;
 use crate::pollers::Pollers;
 use crate::running::RunningArbiter;
 use qn_base::{Mask, NoMemory, Rank};
 use qn_model::{Event, Settings, Timing};
+use qn_polls::Standing;
 use qn_safety::{ArbiterReport, Lease, Poll, Reply, Said};
 use qn_world::World;
 use std::alloc::Global;
@@ -77,7 +77,7 @@ impl Model for State {
 impl State {
     ghost use Rattle.std.specs.Prelude.{◌≡◌, ◌<◌, ◌≤◌, ℕ, true, [], Some, IfOk, IfSome, IsTrue, length};
     ghost use Rattle.std.specs.Option.{option_map};
-    ghost use Rattle.qn_arbiter.specs.Poller.{standing_of};
+    ghost use Rattle.qn_polls.specs.Poller.{standing_of};
     ghost use Rattle.qn_base.specs.Members.{is_member};
     ghost use Rattle.qn_safety.specs.declared.arbiter_event.ArbiterEvent.TheVariants as beside;
     ghost use Rattle.qn_safety.specs.declared.lease.Lease.{Lease};

@@ -1,16 +1,16 @@
 //! The step of each event beside an arbiter.
-use crate::Standing;
 use crate::kinds::pass_of;
 use crate::running::{RunningArbiter, advance, hear, reply_to};
 use crate::state::{State, append};
 use qn_base::Rank;
 use qn_model::{Event, Refused, Rule};
+use qn_polls::Standing;
 use qn_safety::{ArbiterEvent, ArbiterReport, Poll, Reply, Said};
 
 impl State {
     ghost use Rattle.std.specs.Prelude.{◌≡◌, ◌<◌, ◌≤◌, true, IfErr, IfOk, OnOk, OnErr, length};
     ghost use Rattle.qn_base.specs.declared.limits.TheConstants.{LATEST_TIME};
-    ghost use Rattle.qn_arbiter.specs.Poller.{standing_of};
+    ghost use Rattle.qn_polls.specs.Poller.{standing_of};
     ghost use Rattle.qn_safety.specs.ArbiterRules.{is_well_formed_beside};
     ghost use Rattle.qn_safety.specs.ArbiterWorld.{ArbiterWorld};
     ghost use Rattle.qn_arbiter.specs.Standing.{IsStanding, KeptFor};

@@ -18,7 +18,7 @@ use Rattle.qn_settings.specs.declared.faults.TextFault.TheVariants as text
 use Rattle.qn_settings.specs.Keys.{key_name}
 use Rattle.qn_commands.specs.declared.fault.Fault.{Fault}
 use Rattle.qn_commands.specs.declared.fault.LeaseTimes.{LeaseTimes}
-use Rattle.qn_commands.specs.declared.fault.Fault.TheVariants.{Usage, BadConf, BadSettings, BadSchedule, NotAllowed, ReadFault, EnvFault, BadImage, UnsafeTiming, UnsafeLease, NoMemory, ClockBack, SelfReset, BootHalted, DeadlyThere, UnknownNode, NotARun}
+use Rattle.qn_commands.specs.declared.fault.Fault.TheVariants.{Usage, BadConf, BadSettings, NoArbiter, BadSchedule, NotAllowed, ReadFault, EnvFault, BadImage, UnsafeTiming, UnsafeLease, NoMemory, ClockBack, SelfReset, BootHalted, DeadlyThere, UnknownNode, NotARun}
 
 -- a settings text that is no configuration
 abbrev pub conf_line : ConfFault → List ℕ
@@ -85,6 +85,7 @@ abbrev pub fault_line : Fault → List ℕ
 fault_line Usage = codes "fault Usage\n"
 fault_line (BadConf fault) = conf_line fault
 fault_line (BadSettings fault) = settings_line fault
+fault_line NoArbiter = codes "fault NoArbiter\n"
 fault_line (BadSchedule line fault) = schedule_line line fault
 fault_line (NotAllowed line rule) = refused_line line rule
 fault_line ReadFault = codes "fault ReadFault\n"
@@ -114,6 +115,7 @@ abbrev pub status_of : Fault → ℕ
 status_of Usage = 2
 status_of (BadConf fault) = conf_status fault
 status_of (BadSettings fault) = 3
+status_of NoArbiter = 3
 status_of (BadSchedule line fault) = 4
 status_of (NotAllowed line rule) = 5
 status_of ReadFault = 6

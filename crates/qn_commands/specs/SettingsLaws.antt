@@ -35,6 +35,7 @@ pub wanted_of : (why : Fault) → status_of why ≡ 11 → IsWanted {A = Setting
 wanted_of fault.Usage is = absurd (omega arith)
 wanted_of (fault.BadConf why) is = wanted_of_conf why is
 wanted_of (fault.BadSettings why) is = absurd (omega arith)
+wanted_of fault.NoArbiter is = absurd (omega arith)
 wanted_of (fault.BadSchedule line why) is = absurd (omega arith)
 wanted_of (fault.NotAllowed line rule) is = absurd (omega arith)
 wanted_of fault.ReadFault is = absurd (omega arith)

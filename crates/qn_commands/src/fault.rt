@@ -29,6 +29,8 @@ pub enum Fault {
     BadConf(ConfFault),
     /// The settings text is a configuration, and gives no settings.
     BadSettings(SettingsFault),
+    /// The settings have no quorum device, so no arbiter is asked.
+    NoArbiter,
     /// The line is at fault.
     BadSchedule { line: u64, fault: LineFault },
     /// The event of the line is refused by a rule of the world.
@@ -67,7 +69,7 @@ impl Fault {
         match self {
             Fault::Usage => Status::Usage,
             Fault::BadConf(ConfFault::NoMemory) | Fault::NoMemory => Status::NoMemory,
-            Fault::BadConf(_) | Fault::BadSettings(_) => Status::BadConf,
+            Fault::BadConf(_) | Fault::BadSettings(_) | Fault::NoArbiter => Status::BadConf,
             Fault::BadSchedule { .. } => Status::BadSchedule,
             Fault::NotAllowed { .. } => Status::NotAllowed,
             Fault::ReadFault => Status::ReadFault,
@@ -92,6 +94,7 @@ impl Fault {
             Fault::Usage => whole(b"fault Usage\n"),
             Fault::BadConf(fault) => conf_line(fault),
             Fault::BadSettings(fault) => settings_line(fault),
+            Fault::NoArbiter => whole(b"fault NoArbiter\n"),
             Fault::BadSchedule { line, fault } => schedule_line(line, fault),
             Fault::NotAllowed { line, rule } => refused_line(line, rule),
             Fault::ReadFault => whole(b"fault ReadFault\n"),

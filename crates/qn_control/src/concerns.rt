@@ -203,6 +203,6 @@ fn is_known(place: Place, key: &str) -> bool {
         Place::Node(_) => NODE_KEYS.iter().any(|known| *known == key),
         Place::Quorum => QUORUM_KEYS.iter().any(|known| *known == key),
         Place::Device => DEVICE_KEYS.iter().any(|known| *known == key),
-        Place::Elsewhere => true,
+        Place::Net | Place::Elsewhere => true,
     }
 }

@@ -14,6 +14,8 @@ pub enum Place {
     Quorum,
     /// In `device` inside `quorum`.
     Device,
+    /// In `net` inside that.
+    Net,
     /// In another section, or in none.
     Elsewhere,
 }
@@ -118,6 +120,7 @@ fn place_inside(outer: Option<Place>, name: &str, number: u64) -> Place {
         None if name == "quorum" => Place::Quorum,
         Some(Place::NodeList) if name == "node" => Place::Node(number),
         Some(Place::Quorum) if name == "device" => Place::Device,
+        Some(Place::Device) if name == "net" => Place::Net,
         _ => Place::Elsewhere,
     }
 }

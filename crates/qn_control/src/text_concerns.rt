@@ -132,6 +132,6 @@ fn is_known(section: &Section<'_>) -> bool {
         Some(Place::Node(_)) => false,
         Some(Place::Quorum) => name == "device",
         Some(Place::Device) => name == "net" || name == "heuristics",
-        Some(Place::Elsewhere) => true,
+        Some(Place::Net | Place::Elsewhere) => true,
     }
 }

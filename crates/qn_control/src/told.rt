@@ -1,12 +1,15 @@
 //! What was read of a corosync.conf, in lines.
+use crate::devices::{host_of, port_of};
 use crate::flags::reason_of;
 use crate::named::name_of;
 use crate::pairs::Pair;
 use crate::text::Text;
-use qn_model::Settings;
+use qn_base::LONGEST_PERIOD;
+use qn_model::{Device, Settings};
+use qn_polls::least_lease;
 use std::alloc::{AllocError, Global};
 
-/// The lines that tell of settings: each node, each flag with what turned it on, the device, the expected votes and the quorum.
+/// The lines that tell of settings: each node, each flag with what turned it on, the device and its arbiter, the expected votes and the quorum.
 pub fn settings_text(
     alloc: Global,
     settings: &Settings,
@@ -55,11 +58,30 @@ fn add_flag(
     text.add("\n");
 }
 
+/// Adds the line of the arbiter of a device, where that has a host: where it is, and its times.
+fn add_arbiter(text: &mut Text, device: Device, pairs: &[Pair<'_>]) {
+    let Some(host) = host_of(pairs) else {
+        return;
+    };
+    text.add("\narbiter ");
+    text.add_foreign(host);
+    if let Some(port) = port_of(pairs) {
+        text.add(" port ");
+        text.add_foreign(port);
+    }
+    if device.timeout >= 1 && device.timeout <= LONGEST_PERIOD {
+        let times = least_lease(device);
+        text.add_number(" limit ", times.limit);
+        text.add_number(" lease ", times.lease);
+    }
+}
+
 fn add_votes(text: &mut Text, settings: &Settings, pairs: &[Pair<'_>]) {
     match settings.device {
         Some(device) => {
             text.add_number("device votes ", u64::from(device.votes));
             text.add_number(" timeout ", device.timeout);
+            add_arbiter(text, device, pairs);
         }
         None => text.add("device none"),
     }

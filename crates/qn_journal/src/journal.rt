@@ -1,6 +1,7 @@
 //! The journal of a running node.
 ghost use Rattle.qn_io.specs.Receives.{FitsPacket};
 
+use crate::arbiter::ArbiterNews;
 use crate::ending::end_text;
 use crate::mail::{MailNews, MailState, Mailbox};
 use crate::peers::Peers;
@@ -9,10 +10,12 @@ use crate::status_text::{Counts, Shown, status_text};
 use qn_base::Rank;
 use qn_event::{EventLine, Moment};
 use qn_io::Got;
+use qn_leases::ArbiterNotices;
 use qn_live::{Asked, Given, LiveEnd, NodeRun, Notices, Room, Standing};
 use qn_machine::{Lines, ReplacedFile};
-use qn_model::{HeaderSeen, MailSeen, Packet, Phase, What};
+use qn_model::{HeaderSeen, MailSeen, Packet, Phase, Settings, What};
 use qn_notice::{Event, Observer};
+use qn_safety::{Lease, Poll};
 use qn_sector::{get_mail, mail_sector};
 use qn_told::{
     ended, event_line, feeds_failed, mail_damaged, mail_failed, mail_told, packets_refused,
@@ -38,6 +41,7 @@ pub struct Journal<'a, R: Files<File = File> + Clock + Eprint> {
     status: Option<ReplacedFile>,
     pid: u32,
     observer: Observer,
+    arbiter: ArbiterNews,
     /// How long the times of the header have a reset be waited for, in milliseconds; 0 before.
     msgwait: u64,
     mailbox: Mailbox,
@@ -69,6 +73,7 @@ impl<'a, R: Files<File = File> + Clock + Eprint> Journal<'a, R> {
             status,
             pid,
             observer: Observer::new(),
+            arbiter: ArbiterNews::new(),
             msgwait: 0,
             mailbox: Mailbox::new(),
             peers: Peers::new(),
@@ -184,24 +189,40 @@ impl<'a, R: Files<File = File> + Clock + Eprint> Journal<'a, R> {
         }
     }
 
-    /// Writes the status where something was told since, or the last one is old.
-    fn refresh(&mut self, tick: u64, run: &NodeRun) {
+    /// Whether the status is to be written at that tick: something was told since, or the last one is old.
+    fn is_due(&mut self, tick: u64) -> bool {
         let is_old = match self.written {
             Some(written) => tick >= written.saturating_add(AGE),
             None => true,
         };
-        if self.is_new || is_old {
-            self.is_new = false;
-            self.written = Some(tick);
+        if !self.is_new && !is_old {
+            return false;
+        }
+        self.is_new = false;
+        self.written = Some(tick);
+        true
+    }
+
+    /// Writes the status where it is due.
+    fn refresh(&mut self, tick: u64, run: &NodeRun) {
+        if self.is_due(tick) {
             self.write_status(run, None);
+        }
+    }
+
+    /// Writes the status of an arbiter where it is due.
+    fn refresh_arbiter(&mut self, tick: u64) {
+        if self.status.is_some() && self.is_due(tick) {
+            let text = self.arbiter.status(tick, self.lines.refused());
+            self.put_status(text.as_slice());
         }
     }
 
     /// Writes the status. The first of the writes that fail one after the other is told.
     fn write_status(&mut self, run: &NodeRun, end: Option<&[u8]>) {
-        let Some(file) = &self.status else {
+        if self.status.is_none() {
             return;
-        };
+        }
         let standing = shown_standing(run);
         let text = status_text(&Shown {
             at: self.lines.moment(self.rt),
@@ -220,7 +241,15 @@ impl<'a, R: Files<File = File> + Clock + Eprint> Journal<'a, R> {
             },
             end,
         });
-        match file.replace(self.rt, text.as_slice()) {
+        self.put_status(text.as_slice());
+    }
+
+    /// Puts the text of a status into its file.
+    fn put_status(&mut self, text: &[u8]) {
+        let Some(file) = &self.status else {
+            return;
+        };
+        match file.replace(self.rt, text) {
             Ok(()) => self.is_failing = false,
             Err(error) => {
                 self.unwritten = self.unwritten.saturating_add(1);
@@ -311,5 +340,31 @@ impl<'a, R: Files<File = File> + Clock + Eprint> Notices for Journal<'a, R> {
         let line = ended(self.now(), text.as_slice(), is_fault);
         self.say(&line);
         self.write_status(run, Some(text.as_slice()));
+    }
+}
+
+impl<'a, R: Files<File = File> + Clock + Eprint> ArbiterNotices for Journal<'a, R> {
+    fn began(&mut self, settings: &Settings, times: Lease) {
+        self.arbiter.begin(&settings.nodes, times);
+    }
+
+    fn booted(&mut self, tick: u64) {
+        let line = self.arbiter.boot(self.now(), tick);
+        self.say(&line);
+        self.refresh_arbiter(tick);
+    }
+
+    fn answered(&mut self, tick: u64, poll: &Poll, agrees: bool) {
+        let at = self.now();
+        if let Some(line) = self.arbiter.answer(at, tick, poll, agrees) {
+            self.say(&line);
+        }
+        self.refresh_arbiter(tick);
+    }
+
+    fn waited(&mut self) {
+        if let Ok(time) = self.rt.monotonic() {
+            self.refresh_arbiter(u64::try_from(time.as_millis()).unwrap_or(u64::MAX));
+        }
     }
 }

@@ -65,7 +65,7 @@ fn text_of<'text>(sections: &[NodeSection<'text>], id: NodeId) -> Option<&'text 
 }
 
 /// The address of one machine that is written so.
-fn address_of_machine(text: &[u8]) -> Option<IpAddr>
+pub(crate) fn address_of_machine(text: &[u8]) -> Option<IpAddr>
     ensures some { IfSome result (λ address. Writes text.now address) }
     ensures none { IfNone result ((address : IpAddr) → Writes text.now address → ⊥) }
 {

@@ -28,11 +28,21 @@ pub enum Overwrites {
     Anything,
 }
 
+/// Where an arbiter is.
+#[derive(Clone, Copy)]
+pub struct ArbiterAt {
+    pub address: IpAddr,
+    /// Its port; None: the one that belongs to its seat, 32 above the first port of the cluster.
+    pub port: Option<u16>,
+}
+
 /// What of the outside is said before the command.
 #[derive(Drop)]
 pub struct Edge {
     /// The address of each rank; None: all of them on 127.0.0.1.
     pub addresses: Option<[Option<IpAddr>; MOST_NODES]>,
+    /// Where the arbiter of the nodes with these addresses is; None: nowhere, or on 127.0.0.1 where they are there.
+    pub arbiter: Option<ArbiterAt>,
     pub guard: Guard,
     /// What stands for the settings text in a tag.
     pub text: [u8; 32],
@@ -48,6 +58,7 @@ impl Edge {
     pub fn local() -> Edge {
         Edge {
             addresses: None,
+            arbiter: None,
             guard: Guard::Unsaid,
             text: text_of(&[]),
             halt: None,

@@ -31,6 +31,8 @@ pub struct Lines {
     /// How many lines were dropped since the last one that was written, and in all.
     untold: Cell<u64>,
     dropped: Cell<u64>,
+    /// How many datagrams were not handed on.
+    refused: Cell<u64>,
 }
 
 impl Lines {
@@ -43,6 +45,7 @@ impl Lines {
             tick: Cell::new(0),
             untold: Cell::new(0),
             dropped: Cell::new(0),
+            refused: Cell::new(0),
         }
     }
 
@@ -59,6 +62,16 @@ impl Lines {
     /// How many lines were dropped.
     pub fn dropped(&self) -> u64 {
         self.dropped.get()
+    }
+
+    /// One more datagram was not handed on.
+    pub(crate) fn count_refused(&self) {
+        self.refused.set(self.refused.get().saturating_add(1));
+    }
+
+    /// How many datagrams were not handed on.
+    pub fn refused(&self) -> u64 {
+        self.refused.get()
     }
 
     /// When a line is said: of which node, at which tick, and at which time of the system's clock, 0 where that cannot be read.

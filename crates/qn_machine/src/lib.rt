@@ -46,7 +46,7 @@ mod watchdog;
 mod watchdog_look;
 
 pub use admission::{Admission, Reason};
-pub use edge::{Edge, Guard, MOST_NODES, Overwrites};
+pub use edge::{ArbiterAt, Edge, Guard, MOST_NODES, Overwrites};
 pub use error_lines::Lines;
 pub use image_reader::ImageReader;
 pub use peers::Peers;

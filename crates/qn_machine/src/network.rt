@@ -1,9 +1,10 @@
-//! The network of the nodes: a UDP socket each, at the port of its rank on its address, which is 127.0.0.1 where nothing else is said.
+//! The network of the nodes and of their arbiter: a UDP socket each, at the port of its rank on its address, which is 127.0.0.1 where nothing
+//! else is said.
 ghost use Rattle.std.specs.Prelude.{◌≤◌, IfOk, IfSome};
 
 use crate::admission::{Admission, Reason, is_vote_of_host};
 use crate::deadline::{Deadline, is_late};
-use crate::edge::{Edge, Guard, MOST_NODES};
+use crate::edge::{ArbiterAt, Edge, Guard, MOST_NODES};
 use crate::error_lines::Lines;
 use crate::leave_file::{LeaveFile, REQUEST};
 use crate::named_file::FIRST_OF_A_FILE;
@@ -28,7 +29,10 @@ const WAIT: u64 = 40;
 /// How many datagrams a call looks at.
 const LOOKS: u32 = 10_000;
 
-/// The sockets of one node, and what is between them and the node.
+/// The seat of the arbiter, one above those of the ranks.
+const ARBITER: u8 = 32;
+
+/// The sockets of one node or of the arbiter, and what is between them and it.
 #[derive(Drop)]
 pub(crate) struct Network {
     socket: UdpSocket,
@@ -46,7 +50,7 @@ pub(crate) struct Network {
 }
 
 impl Network {
-    /// Opens the port of that rank at the address of that rank. Where that is not 127.0.0.1, the same port of 127.0.0.1 is opened
+    /// Opens the port of that rank, or of the arbiter as rank 32, at its address. Where that is not 127.0.0.1, the same port of 127.0.0.1 is opened
     /// before it. It fails where another program holds that port: so no two programs run as one node on one host.
     pub(crate) fn open<R: Net + Clock + AllocGlobal>(
         rt: &R,
@@ -55,7 +59,12 @@ impl Network {
         rank: Rank,
     ) -> io::Result<Network> {
         let peers = peers_of(edge, first_port, rank);
-        let Some(own) = peers.address_of(rank.0) else {
+        let own = if rank.0 == ARBITER {
+            address_of_arbiter(edge, first_port)
+        } else {
+            peers.address_of(rank.0)
+        };
+        let Some(own) = own else {
             return Err(io::Error::new(ErrorKind::InvalidInput, "no address of this node"));
         };
         let host = IpAddr::V4(Ipv4Addr::LOCALHOST);
@@ -92,6 +101,7 @@ impl Network {
     pub(crate) fn receive<R: Files<File = File> + Clock>(
         &mut self,
         rt: &R,
+        lines: &Lines,
         packet: &mut [u8; PACKET],
     ) -> io::Result<Option<usize>>
         ensures { IfOk result (λ came. IfSome came (λ count. count ≤ 129)) }
@@ -104,7 +114,7 @@ impl Network {
         let end = Deadline::after(rt, WAIT)?;
         let mut left = Duration::from_millis(WAIT);
         'looks: for _ in 0..LOOKS {
-            if let Some(count) = self.take_within(rt, left, packet)? {
+            if let Some(count) = self.take_within(rt, lines, left, packet)? {
                 return Ok(Some(count));
             }
             left = match end.left(rt)? {
@@ -119,6 +129,7 @@ impl Network {
     fn take_within<C: Clock>(
         &mut self,
         clock: &C,
+        lines: &Lines,
         time: Duration,
         packet: &mut [u8; PACKET],
     ) -> io::Result<Option<usize>>
@@ -129,7 +140,7 @@ impl Network {
         match self.socket.recv_from(&mut datagram) {
             Ok((count, from)) => {
                 let tick = u64::try_from(clock.monotonic()?.as_millis()).unwrap_or(u64::MAX);
-                Ok(self.take(tick, from, &datagram[..count], packet))
+                Ok(self.take(tick, lines, from, &datagram[..count], packet))
             }
             Err(error) if error.kind() == ErrorKind::Interrupted || is_late(&error) => Ok(None),
             Err(error) => Err(error),
@@ -149,6 +160,7 @@ impl Network {
     fn take(
         &mut self,
         tick: u64,
+        lines: &Lines,
         from: SocketAddr,
         bytes: &[u8],
         packet: &mut [u8; PACKET],
@@ -162,6 +174,7 @@ impl Network {
             Ok(inner) => Some(put(inner, packet)),
             Err(reason) => {
                 self.refusals.count(reason);
+                lines.count_refused();
                 None
             }
         }
@@ -206,6 +219,22 @@ fn leave_file_of<R: AllocGlobal>(rt: &R, edge: &Edge) -> io::Result<Option<Leave
         Ok(path) => Ok(Some(LeaveFile::at(path))),
         Err(_) => Err(io::Error::from(ErrorKind::OutOfMemory)),
     }
+}
+
+/// Where the arbiter is, where there is one.
+fn address_of_arbiter(edge: &Edge, first_port: u16) -> Option<SocketAddr> {
+    let at = match edge.addresses {
+        Some(_) => edge.arbiter?,
+        None => ArbiterAt {
+            address: IpAddr::V4(Ipv4Addr::LOCALHOST),
+            port: None,
+        },
+    };
+    let port = match at.port {
+        Some(port) => port,
+        None => first_port.checked_add(u16::from(ARBITER))?,
+    };
+    Some(SocketAddr::new(at.address, port))
 }
 
 /// Opens a socket at that address and port. Its descriptor is above those of the standard streams.

@@ -1,4 +1,5 @@
-//! The real outside: images, the monotonic clock, a port, a watchdog, a resource and a file for halts.
+//! The real outside of a node: images, the monotonic clock, a port, a watchdog, a resource and a file for halts; and that of an arbiter,
+//! which has the clock and a port alone.
 
 use crate::devices::Devices;
 use crate::disk::Disk;
@@ -8,6 +9,7 @@ use crate::etcd_word::check_reach;
 use crate::image::Opener;
 use crate::journal_lines::opening_line;
 use crate::named_file::Absent;
+use crate::network::Network;
 use crate::reported::reported;
 use crate::waiting::Waiting;
 use qn_base::{Failed, Rank};
@@ -38,6 +40,8 @@ pub struct RealEnv<
     edge: Edge,
     disk: Disk,
     devices: Option<Devices>,
+    /// The network of an arbiter, which opens nothing else.
+    port: Option<Network>,
     last_tick: Option<u64>,
     faults: u64,
 }
@@ -71,6 +75,7 @@ impl<
             edge,
             disk: Disk::closed(),
             devices: None,
+            port: None,
             last_tick: None,
             faults: 0,
         }
@@ -87,6 +92,27 @@ impl<
     fn open_all(&self, opening: &Opening<'_>) -> Result<(Disk, Devices), Failed> {
         let errors = self.lines.over(&self.rt);
         Devices::open(&self.rt, &errors, &self.edge, opening)
+    }
+
+    /// Opens all that a node uses, or the port of an arbiter, and keeps it.
+    fn open_what(&mut self, opening: &Opening<'_>) -> Result<(), Failed>
+        ensures { self.old ≤ self.new }
+    {
+        if is_of_arbiter(opening) {
+            return self.open_port(opening);
+        }
+        let opened = self.open_all(opening);
+        self.keep(opened)
+    }
+
+    /// Opens the port of an arbiter.
+    fn open_port(&mut self, opening: &Opening<'_>) -> Result<(), Failed>
+        ensures { self.new ≡ self.old }
+    {
+        let errors = self.lines.over(&self.rt);
+        let opened = Network::open(&self.rt, &self.edge, opening.port, opening.rank);
+        self.port = Some(reported(&errors, "port", opened)?);
+        Ok(())
     }
 
     /// Waits a little where a call failed at once, so that a node whose network is gone does not run through its turns.
@@ -158,8 +184,8 @@ impl<
     {
         let tick = self.last_tick.unwrap_or(0);
         let errors = self.lines.over(&self.rt);
-        let network = &mut self.devices.as_mut().ok_or(Failed)?.network;
-        let came = network.receive(&self.rt, packet);
+        let network = network_of(&mut self.devices, &mut self.port).ok_or(Failed)?;
+        let came = network.receive(&self.rt, self.lines, packet);
         network.say_refusals(&self.rt, self.lines, tick);
         reported(&errors, "network", came)
     }
@@ -234,18 +260,20 @@ impl<'a, R: Files<File = File> + Net<Stream = TcpStream> + Clock + Eprint + Allo
 
     /// Opens the port, the images, the resource, which is stopped, the file for halts and the watchdog, in this order. Where one of
     /// them fails the others are closed, and those after it are not touched. Of three images one may fail, which is
-    /// counted, and each later call on it fails.
+    /// counted, and each later call on it fails. Of an arbiter, which has no image, the port alone is opened.
     fn open_node(&mut self, opening: &Opening<'_>) -> Result<(), Failed> {
         self.disk = Disk::closed();
         self.devices = None;
+        self.port = None;
         self.lines.wait_for_nobody(&self.rt);
         self.waiting = Waiting::new(&self.rt).ok();
-        let opened = self.open_all(opening);
-        let done = self.keep(opened);
+        let done = self.open_what(opening);
         if let Some(tick) = self.tick() {
             self.lines.set_tick(tick);
         }
-        self.say_opening(opening, done.is_ok());
+        if !is_of_arbiter(opening) {
+            self.say_opening(opening, done.is_ok());
+        }
         let done = self.warn_of_forgery(done);
         self.counted(done)
     }
@@ -313,10 +341,10 @@ impl<'a, R: Files<File = File> + Net<Stream = TcpStream> + Clock + Eprint + Allo
 
     /// Sends the packet, whether a node is there or not.
     fn send(&mut self, to: Rank, bytes: &[u8]) -> Result<(), Failed> {
-        let done = match &mut self.devices {
-            Some(devices) => {
+        let done = match network_of(&mut self.devices, &mut self.port) {
+            Some(network) => {
                 let errors = self.lines.over(&self.rt);
-                reported(&errors, "network", devices.network.send(to, bytes))
+                reported(&errors, "network", network.send(to, bytes))
             }
             None => Err(Failed),
         };
@@ -334,6 +362,22 @@ impl<'a, R: Files<File = File> + Net<Stream = TcpStream> + Clock + Eprint + Allo
     /// Tells the file for halts, where there is one.
     fn halt(&mut self, code: u8) {
         let _ = self.tell_halt(code);
+    }
+}
+
+/// Whether it is the opening of an arbiter, which has no image.
+fn is_of_arbiter(opening: &Opening<'_>) -> bool {
+    opening.images == 0
+}
+
+/// The network of a node or of an arbiter, where one is open.
+fn network_of<'a>(
+    devices: &'a mut Option<Devices>,
+    port: &'a mut Option<Network>,
+) -> Option<&'a mut Network> {
+    match devices {
+        Some(devices) => Some(&mut devices.network),
+        None => port.as_mut(),
     }
 }
 

@@ -4,6 +4,7 @@ use super::counts::Count;
 use super::histories::History;
 use super::makers::Makers;
 use super::packets::{Changes, PacketRow};
+use super::polls::Polls;
 use super::row::{check_entry, row_of};
 use super::seals::Seals;
 use super::texts::check_text;
@@ -46,6 +47,7 @@ struct Reader {
     tie: Option<Tie>,
     fence: Option<Fence>,
     makers: Makers,
+    polls: Polls,
     seals: Seals,
 }
 
@@ -79,6 +81,7 @@ impl Reader {
             tie: None,
             fence: None,
             makers: Makers::default(),
+            polls: Polls::default(),
             seals: Seals::new(alloc),
         }
     }
@@ -110,6 +113,7 @@ impl Reader {
             "members" | "line" | "fence" => self.call_difference(alloc, kind, row),
             "packet" => self.packet_difference(alloc, row),
             "maker" => said(self.makers.check(alloc, row), "the answer of a view maker"),
+            "poll" => said(self.polls.check(alloc, row), "the arbiter"),
             "seal" => said(self.seals.check(alloc, row), "the seal"),
             _ => self.row_difference(alloc, line),
         }
@@ -190,6 +194,7 @@ impl Reader {
             "view makers {} calls {}",
             self.makers.made, self.makers.calls
         )?;
+        println!(rt; "rows of the arbiter {}", self.polls.rows)?;
         println!(rt; "rows of the seal {}", self.seals.rows)?;
         println!(rt;
             "histories {} entries {} looks {}",

@@ -1,7 +1,7 @@
 //! Part `rows`: rows that were worked out elsewhere, run through each form of a count of votes and of a node that the
 //! repository has: those from the whole list, and those in fixed memory; through the tie breaker and the view maker in
-//! fixed memory; settings texts, through their reader; packets, through their reader and their writer; sealed packets,
-//! through the writer of seals and what a receiver takes; and public calls beside which the program makes others.
+//! fixed memory; settings texts, through their reader; packets, through their reader and their writer; polls and
+//! replies, through an arbiter and a poller; sealed packets, through the writer of seals and what a receiver takes; and public calls beside which the program makes others.
 //!
 //! It writes each row from which a form differs, and at the end of the part how many rows there were. The first word of a row, before a tab,
 //! says what it is; a row of eight columns is one of a history, whose settings and rank stand in two lines before its rows. The two
@@ -17,6 +17,7 @@
 //!     fence CALL ANSWER                   as `calls` says
 //!     packet BYTES PACKET                 these bytes spell that packet, or `none`
 //!     maker CALL ANSWER                   as `makers` says
+//!     poll CALL ANSWER                    as `polls` says
 //!     seal ..                             as `seals` says
 //!     TICK ENTRY OUTS WHY ANSWER PHASE HOLDS INCARNATION     after an entry, or `look` for none; an incarnation of `*` is not compared
 //!
@@ -31,6 +32,7 @@ mod counts;
 mod histories;
 mod makers;
 mod packets;
+mod polls;
 mod recorded;
 mod row;
 mod seals;

@@ -18,4 +18,5 @@
 //!                                      how many `late feeds` a run had at most, after the first read or write at which images were lost
 //!
 //! Numbers count from 1, and 0 is none.
+mod nobody;
 pub mod script;

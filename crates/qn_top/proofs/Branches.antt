@@ -35,6 +35,7 @@ statuses_of (Some command.ReplayArbiter) = Done ∷ BadConf ∷ BadSchedule ∷ 
 statuses_of (Some (command.NodeLogged words)) = Done ∷ BadConf ∷ ReadFault ∷ WriteFault ∷ EnvFault ∷ NoMemory ∷ ClockBack ∷ SelfReset ∷ BootHalted ∷ UnknownNode ∷ []
 statuses_of (Some (command.Node3Logged words)) = Done ∷ BadConf ∷ ReadFault ∷ WriteFault ∷ EnvFault ∷ NoMemory ∷ ClockBack ∷ SelfReset ∷ BootHalted ∷ UnknownNode ∷ []
 statuses_of (Some (command.Audit words)) = Done ∷ BadConf ∷ BadSchedule ∷ ReadFault ∷ WriteFault ∷ NoMemory ∷ UnknownNode ∷ NotARun ∷ []
+statuses_of (Some (command.Arbiter words)) = Done ∷ BadConf ∷ ReadFault ∷ WriteFault ∷ EnvFault ∷ NoMemory ∷ ClockBack ∷ []
 statuses_of (Some command.Help) = Done ∷ WriteFault ∷ []
 
 module _ (before later : Seen) (status : ℕ) where
@@ -57,6 +58,7 @@ module _ (before later : Seen) (status : ℕ) where
   causes (Some (command.NodeLogged words)) does = does.causes
   causes (Some (command.Node3Logged words)) does = does.causes
   causes (Some (command.Audit words)) does = does.causes
+  causes (Some (command.Arbiter words)) does = does.causes
   causes (Some command.Help) does = does.causes
 
   -- no command ends with status 2
@@ -77,6 +79,7 @@ module _ (before later : Seen) (status : ℕ) where
   no_usage (command.NodeLogged words) does = lacks 2 (statuses_of (Some (command.NodeLogged words))) status refl does.statuses
   no_usage (command.Node3Logged words) does = lacks 2 (statuses_of (Some (command.Node3Logged words))) status refl does.statuses
   no_usage (command.Audit words) does = lacks 2 (statuses_of (Some (command.Audit words))) status refl does.statuses
+  no_usage (command.Arbiter words) does = lacks 2 (statuses_of (Some (command.Arbiter words))) status refl does.statuses
   no_usage command.Help does = lacks 2 (statuses_of (Some command.Help)) status refl does.statuses
 
   -- out of memory comes only to a command that takes memory
@@ -98,6 +101,7 @@ module _ (before later : Seen) (status : ℕ) where
   enough (Some (command.NodeLogged words)) does takes = absurd (false≢true (sym takes))
   enough (Some (command.Node3Logged words)) does takes = absurd (false≢true (sym takes))
   enough (Some (command.Audit words)) does takes = absurd (false≢true (sym takes))
+  enough (Some (command.Arbiter words)) does takes = absurd (false≢true (sym takes))
   enough (Some command.Help) does takes = lacks 11 (statuses_of (Some command.Help)) status refl does.statuses
 
   usage : (words : Option Command) → Does words before later status → words ≡ None → (status ≡ 2) ⊎ (status ≡ 7)

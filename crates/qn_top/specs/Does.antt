@@ -1,6 +1,7 @@
 -- What the program does for a command: this project's profile. Each command has a record of its own.
 use Rattle.std.specs.Prelude.{ℕ, Bool, true, false, Option, None, Some}
 use Rattle.qn_model.specs.Timing.{is_safe}
+use Rattle.qn_arbitrating.specs.Arbitrating.{RunsArbiter}
 use Rattle.qn_running.specs.Commands.Audit.{Audits}
 use Rattle.qn_commands.specs.Commands.Count.{Counts}
 use Rattle.qn_commands.specs.Commands.Create.{Creates}
@@ -41,6 +42,7 @@ Does (Some command.ReplayArbiter) = ReplaysBeside
 Does (Some (command.NodeLogged words)) = LogsNode One words
 Does (Some (command.Audit words)) = Audits words
 Does (Some (command.Node3Logged words)) = LogsNode Three words
+Does (Some (command.Arbiter words)) = RunsArbiter words
 Does (Some command.Help) = Helps
 
 -- whether a command reads the input; `create` does not where its times are not safe
@@ -62,6 +64,7 @@ reads_input (Some command.ReplayArbiter) = true
 reads_input (Some (command.NodeLogged words)) = true
 reads_input (Some (command.Audit words)) = true
 reads_input (Some (command.Node3Logged words)) = true
+reads_input (Some (command.Arbiter words)) = true
 reads_input (Some command.Help) = false
 
 -- whether a command calls the outside of a node
@@ -83,6 +86,7 @@ calls_outside (Some command.ReplayArbiter) = false
 calls_outside (Some (command.NodeLogged words)) = true
 calls_outside (Some (command.Audit words)) = false
 calls_outside (Some (command.Node3Logged words)) = true
+calls_outside (Some (command.Arbiter words)) = true
 calls_outside (Some command.Help) = false
 
 -- whether a command takes memory
@@ -104,4 +108,5 @@ takes_memory (Some command.ReplayArbiter) = true
 takes_memory (Some (command.NodeLogged words)) = true
 takes_memory (Some (command.Audit words)) = true
 takes_memory (Some (command.Node3Logged words)) = true
+takes_memory (Some (command.Arbiter words)) = true
 takes_memory (Some command.Help) = false

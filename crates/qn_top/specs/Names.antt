@@ -22,6 +22,7 @@ command_word name.ReplayArbiter = codes "replay-arbiter"
 command_word name.NodeLogged = codes "node-logged"
 command_word name.Audit = codes "audit"
 command_word name.Node3Logged = codes "node3-logged"
+command_word name.Arbiter = codes "arbiter"
 command_word name.Help = codes "help"
 
 -- all of them, in the order of `help`
@@ -29,7 +30,7 @@ abbrev pub command_names : List CommandName
 command_names =
     name.Count ∷ name.Replay ∷ name.Status ∷ name.Soak ∷ name.Create ∷ name.Dump ∷ name.List ∷ name.Message ∷ name.Node
     ∷ name.Migrate ∷ name.Replay3 ∷ name.Node3 ∷ name.ReplayArbiter ∷ name.NodeLogged ∷ name.Audit
-    ∷ name.Node3Logged ∷ name.Help ∷ []
+    ∷ name.Node3Logged ∷ name.Arbiter ∷ name.Help ∷ []
 
 -- the name that a word is
 unfoldable pub name_of : List ℕ → Option CommandName

@@ -28,6 +28,7 @@ ShowsOneHolder (Some command.ReplayArbiter) before later status = ShowsRunBeside
 ShowsOneHolder (Some (command.NodeLogged words)) before later status = Unit {0}
 ShowsOneHolder (Some (command.Node3Logged words)) before later status = Unit {0}
 ShowsOneHolder (Some (command.Audit words)) before later status = Unit {0}
+ShowsOneHolder (Some (command.Arbiter words)) before later status = Unit {0}
 ShowsOneHolder (Some command.Help) before later status = Unit {0}
 
 -- What the words say was done. A command that does not use the input, or the outside of a node, left it as it was: these are the

@@ -11,6 +11,7 @@ use Rattle.qn_model.specs.declared.times.Timing.{Timing}
 use Rattle.qn_model.specs.Lines.{parts}
 use Rattle.qn_model.specs.Messages.{operator_word}
 use Rattle.qn_model.specs.Timing.{usual_times}
+use Rattle.qn_arbitrating.specs.declared.command.ArbiterWords.{ArbiterWords}
 use Rattle.qn_running.specs.declared.commands.audit.AuditWords.{AuditWords}
 use Rattle.qn_running.specs.declared.commands.node.NodeWords.{NodeWords}
 use Rattle.qn_live.specs.declared.node_images.NodeImages.{NodeImages}
@@ -19,7 +20,7 @@ use Rattle.qn_top.specs.declared.command.Command.{Command}
 use Rattle.qn_top.specs.declared.command.Command.TheVariants as command
 use Rattle.qn_top.specs.declared.command.Form.{Form}
 use Rattle.qn_top.specs.declared.command.Form.TheVariants as form
-use Rattle.qn_top.specs.declared.command.TheConstants.{MOST_TURNS}
+use Rattle.qn_top.specs.declared.command.TheConstants.{MOST_ARBITER_TURNS, MOST_TURNS, USUAL_PORT}
 use Rattle.qn_top.specs.declared.command_name.CommandName.{CommandName}
 use Rattle.qn_top.specs.declared.command_name.CommandName.TheVariants as name
 use Rattle.qn_top.specs.declared.options.OptionName.{OptionName}
@@ -222,6 +223,20 @@ audit_words options =
       images ← images_of options
       Some (record { images = images; id = id; turns = turns; leave = leave; clean = clean })
 
+-- the number of an option, in a range; this one where none is written
+unfoldable pub number_or : OptionName → ℕ → ℕ → ℕ → List (List ℕ) → Option ℕ
+number_or name least greatest usual options =
+    option_map_or (number_in least greatest) (value_of (option_text name) options) (Some usual)
+
+-- `arbiter`
+unfoldable pub arbiter_words : List (List ℕ) → Option ArbiterWords
+arbiter_words options =
+    if not (are_options (option.Port ∷ option.Turns ∷ []) options) then None
+    else do
+      port ← number_or option.Port 1024 65000 USUAL_PORT options
+      turns ← number_or option.Turns 1 MOST_ARBITER_TURNS MOST_ARBITER_TURNS options
+      Some (record { port = port; turns = turns })
+
 -- the command of this name, with these options
 abbrev pub command_with : CommandName → List (List ℕ) → Option Command
 command_with name.Count options = if are_options [] options then Some command.Count else None
@@ -240,6 +255,7 @@ command_with name.ReplayArbiter options = if are_options [] options then Some co
 command_with name.NodeLogged options = option_map command.NodeLogged (node_words options)
 command_with name.Audit options = option_map command.Audit (audit_words options)
 command_with name.Node3Logged options = option_map command.Node3Logged (node3_words options)
+command_with name.Arbiter options = option_map command.Arbiter (arbiter_words options)
 command_with name.Help options = if are_options [] options then Some command.Help else None
 
 -- the command that the words are, where they are one
@@ -267,4 +283,5 @@ IsProper command.ReplayArbiter = Unit {0}
 IsProper (command.NodeLogged words) = 1 ≤ words.turns
 IsProper (command.Audit words) = 1 ≤ words.turns
 IsProper (command.Node3Logged words) = 1 ≤ words.turns
+IsProper (command.Arbiter words) = Unit {0}
 IsProper command.Help = Unit {0}

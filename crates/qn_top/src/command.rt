@@ -3,11 +3,12 @@ ghost use Rattle.std.specs.Prelude.{◌≡◌, ◌≤◌, ◌==◌, map, option_
 ghost use Rattle.std.specs.Option.{option_copied};
 ghost use Rattle.qn_model.specs.Lines.{parts};
 ghost use Rattle.qn_sched.specs.Words.{parts_left};
-ghost use Rattle.qn_top.specs.Words.{IsProper, all_differ, are_three_paths, audit_words, command_of, command_with, create_of, form_named, form_of, id_of, image_alone, images_by, images_in, images_of, kind_named, kind_of, leave_of, message_of, mode_in, mode_of, next_time, node3_words, node_words, number_in, number_of_option, soak_of, timing_in, timing_of};
+ghost use Rattle.qn_top.specs.Words.{IsProper, all_differ, arbiter_words, are_three_paths, audit_words, command_of, command_with, create_of, form_named, form_of, id_of, image_alone, images_by, images_in, images_of, kind_named, kind_of, leave_of, message_of, mode_in, mode_of, next_time, node3_words, node_words, number_in, number_of_option, number_or, soak_of, timing_in, timing_of};
 ghost use Rattle.qn_top.specs.Options.{value_of};
 
 use crate::command_name::{CommandName, name_of};
 use crate::options::{OptionName, are_options, value_of};
+use qn_arbitrating::ArbiterWords;
 use qn_base::{LONGEST_PERIOD, MOST_EVENTS, NodeId, read_decimal};
 use qn_commands::Path;
 use qn_model::{Message, Timing};
@@ -16,6 +17,12 @@ use qn_sched::first_part;
 
 /// The most turns that a node runs.
 const MOST_TURNS: u64 = 1_000_000_000;
+
+/// The most turns that an arbiter runs, and how many it runs where nothing is written.
+const MOST_ARBITER_TURNS: u64 = 9_223_372_036_854_775_808;
+
+/// The first port of a cluster of which an arbiter is, where nothing is written.
+const USUAL_PORT: u64 = 7400;
 
 /// A command of the program, with its options.
 #[derive(Drop)]
@@ -71,6 +78,8 @@ pub enum Command<'words> {
     Audit(AuditWords),
     /// `node3-logged`, with the options of `node3`: the same, and each call with its answer as a line of a log.
     Node3Logged(NodeWords<'words>),
+    /// `arbiter [--port Q] [--turns K]`: answers the polls of a cluster, as its quorum device.
+    Arbiter(ArbiterWords),
     /// `help`: the commands.
     Help,
 }
@@ -153,6 +162,10 @@ fn command_with(name: CommandName, options: &[String]) -> Option<Command<'_>>
         CommandName::NodeLogged => node_logged_of(options),
         CommandName::Audit => audit_of(options),
         CommandName::Node3Logged => node3_logged_of(options),
+        CommandName::Arbiter => {
+            let words = arbiter_words(options)?;
+            Some(Command::Arbiter(words))
+        }
         CommandName::Help => are_options(&[], options).then_some(Command::Help),
     }
 }
@@ -407,6 +420,49 @@ fn audit_words(options: &[String]) -> Option<AuditWords>
         leave,
         clean,
     })
+}
+
+/// What the options of `arbiter` say.
+#[tactic(auto, unfolding(crate::specs::Words::arbiter_words))]
+fn arbiter_words(options: &[String]) -> Option<ArbiterWords>
+    ensures { result ≡ arbiter_words (map string_bytes options.now) }
+{
+    if !are_options(&[OptionName::Port, OptionName::Turns], options) {
+        return None;
+    }
+    let port = number_or(options, OptionName::Port, 1024, 65000, USUAL_PORT)?;
+    let turns = number_or(
+        options,
+        OptionName::Turns,
+        1,
+        MOST_ARBITER_TURNS,
+        MOST_ARBITER_TURNS,
+    )?;
+    Some(ArbiterWords {
+        port: port as u16,
+        turns,
+    })
+}
+
+/// The number of an option, in a range; another one where none is written, which is in that range too.
+#[tactic(auto, unfolding(crate::specs::Words::number_or))]
+fn number_or(
+    options: &[String],
+    name: OptionName,
+    least: u64,
+    greatest: u64,
+    usual: u64,
+) -> Option<u64>
+    requires above { least ≤ usual }
+    requires below { usual ≤ greatest }
+    ensures value { result
+        ≡ number_or name least greatest usual (map string_bytes options.now) }
+    ensures within { IfSome result (λ number. (least ≤ number) × (number ≤ greatest)) }
+{
+    match value_of(options, name) {
+        None => Some(usual),
+        Some(word) => number_in(least, greatest, word.as_str().as_bytes()),
+    }
 }
 
 /// The number of the turn from which on a node is to leave, where one is written.

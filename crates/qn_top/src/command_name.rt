@@ -21,11 +21,12 @@ pub(crate) enum CommandName {
     NodeLogged,
     Audit,
     Node3Logged,
+    Arbiter,
     Help,
 }
 
 /// The names of all commands, in the order of `help`.
-const COMMAND_NAMES: [CommandName; 17] = [
+const COMMAND_NAMES: [CommandName; 18] = [
     CommandName::Count,
     CommandName::Replay,
     CommandName::Status,
@@ -42,6 +43,7 @@ const COMMAND_NAMES: [CommandName; 17] = [
     CommandName::NodeLogged,
     CommandName::Audit,
     CommandName::Node3Logged,
+    CommandName::Arbiter,
     CommandName::Help,
 ];
 
@@ -67,6 +69,7 @@ impl CommandName {
             CommandName::NodeLogged => "node-logged",
             CommandName::Audit => "audit",
             CommandName::Node3Logged => "node3-logged",
+            CommandName::Arbiter => "arbiter",
             CommandName::Help => "help",
         }
     }

@@ -18,15 +18,17 @@ use crate::commands::replay_arbiter::run_replay_arbiter;
 use crate::commands::replay3::run_replay3;
 use crate::commands::soak::run_soak;
 use crate::commands::status::run_status;
+use qn_arbitrating::arbiter;
 use qn_commands::{Fault, Status, count, create, dump, list, migrate, refuse, send};
 use qn_io::{Env, Sink, Source};
+use qn_leases::ArbiterNotices;
 use qn_live::Notices;
 use qn_running::{NodeImages, node, node_logged, run_audit};
 use std::alloc::Global;
 
 /// All that the program does: reads the words as a command, runs it on the input and on the outside of a node,
-/// writes to the output, and gives the exit status. `notices` is told of the run of a node.
-pub fn top<I: Source, O: Sink, E: Env, N: Notices>(
+/// writes to the output, and gives the exit status. `notices` is told of the run of a node or an arbiter.
+pub fn top<I: Source, O: Sink, E: Env, N: Notices + ArbiterNotices>(
     alloc: Global,
     words: &[String],
     input: &mut I,
@@ -76,7 +78,7 @@ pub fn top<I: Source, O: Sink, E: Env, N: Notices>(
 }
 
 /// Reads the words as a command and runs it, and says how it ended.
-fn run<I: Source, O: Sink, E: Env, N: Notices>(
+fn run<I: Source, O: Sink, E: Env, N: Notices + ArbiterNotices>(
     alloc: Global,
     words: &[String],
     input: &mut I,
@@ -98,7 +100,7 @@ fn run<I: Source, O: Sink, E: Env, N: Notices>(
 }
 
 /// Runs a command, and says how it ended.
-fn run_command<I: Source, O: Sink, E: Env, N: Notices>(
+fn run_command<I: Source, O: Sink, E: Env, N: Notices + ArbiterNotices>(
     alloc: Global,
     command: &Command<'_>,
     input: &mut I,
@@ -138,5 +140,6 @@ fn run_command<I: Source, O: Sink, E: Env, N: Notices>(
         Command::Node3Logged(words) => {
             node_logged(alloc, NodeImages::Three, words, input, out, env, notices)
         }
+        Command::Arbiter(words) => arbiter(alloc, *words, input, out, env, notices),
     }
 }

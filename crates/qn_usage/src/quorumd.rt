@@ -95,6 +95,11 @@ pub const QUORUMD: &[Synopsis] = &[
         does: "the same as node3, with a line for each of its calls",
     },
     Synopsis {
+        line: "arbiter [--port 1024..65000] [--turns 1..9223372036854775808]",
+        reads: "COROSYNC.CONF",
+        does: "answers the nodes of the cluster, as its quorum device",
+    },
+    Synopsis {
         line: "help",
         reads: "",
         does: "the names of the commands",

@@ -7,9 +7,9 @@ use crate::trouble::{Trouble, say};
 use qn_base::{LONGEST_PERIOD, read_decimal};
 use qn_conf::read_tree;
 use qn_control::{
-    TextConcern, concerns_of, differences_of, has_byte_order_mark, least_msgwait,
-    longest_take_over, pairs_of, settings_text, slowest_disk, text_concerns_of, unbounded_on,
-    wrong_lines,
+    TextConcern, concerns_of, device_concerns_of, differences_of, has_byte_order_mark,
+    least_msgwait, longest_take_over, pairs_of, settings_text, slowest_disk, text_concerns_of,
+    unbounded_on, wrong_lines,
 };
 use qn_exchange::ShortFeedDelay;
 use qn_model::{Settings, Timing};
@@ -52,13 +52,16 @@ fn say_settings(
     let lines = settings_text(alloc, settings, pairs)?;
     say(rt, lines.as_str())?;
     let concerns = concerns_of(alloc, settings, pairs)?;
+    let of_device = device_concerns_of(alloc, settings, &tree, pairs)?;
     let differences = differences_of(alloc, settings, pairs)?;
     let of_text = text_concerns_of(alloc, text, &tree, pairs)?;
     say_warnings(rt, concerns.as_slice())?;
+    say_warnings(rt, of_device.as_slice())?;
     say_warnings(rt, differences.as_slice())?;
     say_warnings(rt, of_text.as_slice())?;
-    let is_plain = concerns.is_empty() && differences.is_empty() && of_text.is_empty();
-    Ok(if is_plain { 0 } else { RISKY })
+    let is_plain = concerns.is_empty() && of_device.is_empty();
+    let is_alike = differences.is_empty() && of_text.is_empty();
+    Ok(if is_plain && is_alike { 0 } else { RISKY })
 }
 
 /// A line for each warning.

@@ -1,5 +1,6 @@
 //! The words before the command: `--links CONF`, `--key FILE` up to three times, `--open`, `--halt FILE`, `--status FILE`, `--leave-file FILE`, `--blank`
 //! and `--anew`, in any order.
+use crate::edge::ARBITER;
 use std::fmt;
 use std::fmt::Display;
 
@@ -47,7 +48,9 @@ impl<'words> Display for WordFault<'words> {
             WordFault::FourthKey => f.write_str("--key: more than three"),
             WordFault::OpenBesideKey => f.write_str("--open beside --key"),
             WordFault::NeitherKeyNorOpen => f.write_str("--links wants --key or --open"),
-            WordFault::StatusWithoutNode => f.write_str("--status stands before a node alone"),
+            WordFault::StatusWithoutNode => {
+                f.write_str("--status stands before a node or an arbiter alone")
+            }
             WordFault::StatusPath => f.write_str("--status: a path has 1 to 4090 bytes"),
             WordFault::LeaveWithoutNode => f.write_str("--leave-file stands before a node alone"),
             WordFault::BlankWithoutCreate => f.write_str("--blank stands before create alone"),
@@ -144,7 +147,7 @@ impl<'words> Before<'words> {
 
     /// The same, where they go together and with the command.
     fn judged(self, command: &str) -> Result<Before<'words>, WordFault<'words>> {
-        if self.status.is_some() && !is_node(command) {
+        if self.status.is_some() && !is_running(command) {
             return Err(WordFault::StatusWithoutNode);
         }
         if self.leave.is_some() && !is_node(command) {
@@ -168,9 +171,12 @@ impl<'words> Before<'words> {
     }
 }
 
-/// Whether a command runs a node.
-fn is_node(command: &str) -> bool {
-    matches!(command, "node" | "node3" | "node-logged" | "node3-logged")
+/// Whether a command runs a node or an arbiter.
+fn is_running(command: &str) -> bool {
+    matches!(
+        command,
+        "node" | "node3" | "node-logged" | "node3-logged" | ARBITER
+    )
 }
 
 /// Takes a word without a value, which may stand once.

@@ -3,9 +3,9 @@
 use crate::PROGRAM;
 use crate::before::{Before, MOST_KEYS};
 use qn_commands::Fault;
-use qn_conf::{MOST_TEXT_BYTES, read_tree};
-use qn_links::{Links, links_of, sections_of};
-use qn_machine::{Edge, Guard, Overwrites};
+use qn_conf::{MOST_TEXT_BYTES, Tree, read_tree};
+use qn_links::{ArbiterPlace, Links, arbiter_of, device_of, links_of, sections_of};
+use qn_machine::{ArbiterAt, Edge, Guard, Overwrites};
 use qn_seal::{Key, Keys, text_of};
 use qn_settings::settings;
 use qn_usage::{NO_MEMORY, USAGE};
@@ -20,10 +20,14 @@ const LEAST_KEY: u64 = 32;
 
 const MOST_KEY: u64 = 4096;
 
-/// What of the outside these words say, or the status to end with.
+/// The command that runs an arbiter.
+pub const ARBITER: &str = "arbiter";
+
+/// What of the outside these words say before that command, or the status to end with.
 pub fn edge_of<R: Files<File = File> + AllocGlobal + Eprint>(
     rt: &R,
     before: &Before<'_>,
+    command: &str,
 ) -> Result<Edge, u8> {
     let mut edge = Edge::local();
     if before.is_anew {
@@ -45,7 +49,12 @@ pub fn edge_of<R: Files<File = File> + AllocGlobal + Eprint>(
     if let Some(path) = before.links {
         let text = read_file(rt, path, MOST_TEXT_BYTES as u64 + 1)?;
         edge.text = text_of(text.as_slice());
-        edge.addresses = Some(read_links(rt, path, text.as_slice())?);
+        let tree = read_whole(rt, path, text.as_slice())?;
+        let links = read_links(rt, path, &tree)?;
+        if command == ARBITER {
+            edge.arbiter = Some(read_arbiter(rt, path, &tree, &links)?);
+        }
+        edge.addresses = Some(links);
     }
     Ok(edge)
 }
@@ -146,19 +155,36 @@ fn refuse_size<E: Eprint>(errors: &E, path: &str, size: u64) -> u8 {
     USAGE
 }
 
+/// The tree of a settings text.
+fn read_whole<'text, R: AllocGlobal + Eprint>(
+    rt: &R,
+    path: &str,
+    text: &'text [u8],
+) -> Result<Tree<'text>, u8> {
+    read_tree(rt.alloc(), text).map_err(|fault| refuse_text(rt, path, Fault::BadConf(fault)))
+}
+
+/// Where the arbiter of nodes at these places is.
+fn read_arbiter<R: AllocGlobal + Eprint>(
+    rt: &R,
+    path: &str,
+    tree: &Tree<'_>,
+    links: &Links,
+) -> Result<ArbiterAt, u8> {
+    let net = device_of(rt.alloc(), tree).map_err(|_| NO_MEMORY)?;
+    let place = arbiter_of(net, links).map_err(|fault| refuse(rt, path, fault))?;
+    let ArbiterPlace { address, port } = place;
+    Ok(ArbiterAt { address, port })
+}
+
 /// The addresses that a settings text gives.
-fn read_links<R: AllocGlobal + Eprint>(rt: &R, path: &str, text: &[u8]) -> Result<Links, u8> {
-    let tree = read_tree(rt.alloc(), text).map_err(|fault| refuse_text(
-        rt,
-        path,
-        Fault::BadConf(fault),
-    ))?;
-    let settings = settings(&tree).map_err(|fault| refuse_text(
+fn read_links<R: AllocGlobal + Eprint>(rt: &R, path: &str, tree: &Tree<'_>) -> Result<Links, u8> {
+    let settings = settings(tree).map_err(|fault| refuse_text(
         rt,
         path,
         Fault::BadSettings(fault),
     ))?;
-    let sections = sections_of(rt.alloc(), &tree).map_err(|_| NO_MEMORY)?;
+    let sections = sections_of(rt.alloc(), tree).map_err(|_| NO_MEMORY)?;
     if sections.iter().any(|section| section.has_second) {
         let _ = eprintln!(rt; "{PROGRAM}: ring1_addr is not used");
     }

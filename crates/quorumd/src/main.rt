@@ -104,10 +104,12 @@ fn before_command<'words, R: Files<File = File> + AllocGlobal + Eprint>(
     if let Some(path) = before.status {
         check_status(rt, path)?;
     }
-    let edge = edge_of(rt, &before)?;
     let status = before.status;
     let count = before.count.min(words.len());
-    Ok((Outside { edge, status }, words.split_at(count).1))
+    let words = words.split_at(count).1;
+    let command = words.first().map_or("", String::as_str);
+    let edge = edge_of(rt, &before, command)?;
+    Ok((Outside { edge, status }, words))
 }
 
 /// Whether the status can be put into a file of that path, where nothing but a file is replaced; or the status to end with.

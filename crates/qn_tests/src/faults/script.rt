@@ -1,6 +1,6 @@
 //! The steps that are read, and what they set.
+use super::nobody::Nobody;
 use qn_doubles::{Counts, Loss, MemSink, MemSource, Outside, input_of, output_of};
-use qn_live::NoNotices;
 use qn_top::top;
 use qn_words::{at_fault, first_word, number_in, said_of, text_of};
 use std::alloc::{AllocError, Global};
@@ -164,7 +164,7 @@ fn status_of(
     out: &mut MemSink,
     outside: &mut Outside,
 ) -> u8 {
-    top(alloc, words, input, out, outside, &mut NoNotices)
+    top(alloc, words, input, out, outside, &mut Nobody)
 }
 
 /// The four numbers of streams, or the usual ones.

@@ -6,7 +6,7 @@ use Rattle.qn_commands.specs.Seen.{Seen, WriteFails}
 use Rattle.qn_commands.specs.Statuses.{HasCauses, IsOneOf}
 
 abbrev pub help_text : List ℕ
-help_text = codes "commands count replay status soak create dump list message node migrate replay3 node3 replay-arbiter node-logged audit node3-logged help\n"
+help_text = codes "commands count replay status soak create dump list message node migrate replay3 node3 replay-arbiter node-logged audit node3-logged arbiter help\n"
 
 -- the commands were written, or a prefix of them where the sink failed; no memory is taken
 pub record Helps (before after : Seen) (status : ℕ) : Type 0 where

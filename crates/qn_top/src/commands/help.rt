@@ -16,7 +16,7 @@ pub(crate) fn help<O: Sink>(out: &mut O) -> Status
 {
     let mut text = ShortText::new();
     text.add(
-        b"commands count replay status soak create dump list message node migrate replay3 node3 replay-arbiter node-logged audit node3-logged help\n",
+        b"commands count replay status soak create dump list message node migrate replay3 node3 replay-arbiter node-logged audit node3-logged arbiter help\n",
     );
     say(out, &text)
 }

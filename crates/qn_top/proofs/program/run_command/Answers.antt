@@ -88,3 +88,8 @@ pub returns-in-ReplayArbiter : goal.returns-in-ReplayArbiter
 returns-in-ReplayArbiter g c =
     of_words _ (Some command.ReplayArbiter) (ap Some c.in-ReplayArbiter.is)
     (record { does = c.run_replay_arbiter.ensures.replays (outside g.E.Env.calls g.E.Env.faults c.args.env.now); unread = used; uncalled = λ no. refl; one_holder = c.run_replay_arbiter.ensures.one_holder })
+
+pub returns-in-Arbiter : goal.returns-in-Arbiter
+returns-in-Arbiter g c =
+    of_words _ (Some (command.Arbiter c.in-Arbiter.words)) (ap Some c.in-Arbiter.is)
+    (record { does = c.arbiter.ensures; unread = used; uncalled = used; one_holder = tt })

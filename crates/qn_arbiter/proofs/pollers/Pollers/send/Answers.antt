@@ -1,6 +1,6 @@
 use Rattle.std.proofs.Common.{◌≡◌, ◌∙◌, Some, ap, subst, map, lit<}
 use Rattle.std.specs.Prelude.{slice_get}
-use Rattle.qn_arbiter.specs.Poller.{poller_of, standing_of}
+use Rattle.qn_polls.specs.Poller.{poller_of, standing_of}
 use Rattle.qn_safety.specs.Poller.{with_sent}
 use Rattle.qn_arbiter.proofs.Lists.{poller_put, poller_read, read_few}
 use Rattle.qn_arbiter.proofs.pollers.Pollers.send.Goals as goal

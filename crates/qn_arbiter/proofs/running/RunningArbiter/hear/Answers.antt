@@ -1,5 +1,5 @@
 use Rattle.std.proofs.Common.{◌∙◌, ap, subst}
-use Rattle.qn_arbiter.specs.Arbiter.{ArbiterFor}
+use Rattle.qn_polls.specs.Arbiter.{ArbiterFor}
 use Rattle.qn_safety.specs.Arbiter.{with_poll}
 use Rattle.qn_model.specs.Moments.{tick_of}
 use Rattle.qn_arbiter.proofs.running.RunningArbiter.hear.Goals as goal

@@ -1,7 +1,7 @@
 use Rattle.std.proofs.Common.{◌<◌, ◌∙◌, ap, length, subst, sym}
 use Rattle.std.specs.Option.{option_map}
 use Rattle.std.proofs.lemmas.Result.{err_from_is_err_and}
-use Rattle.qn_arbiter.specs.Poller.{standing_of}
+use Rattle.qn_polls.specs.Poller.{standing_of}
 use Rattle.qn_safety.specs.declared.arbiter_reports.Said.TheVariants.{Polled}
 use Rattle.qn_model.specs.declared.configuration.Settings.{Settings}
 use Rattle.qn_arbiter.proofs.Quiet.{StandsAt, poll_made, poll_rank, poll_standing, poll_starved, poll_stands_so, polls_frame}

@@ -1,0 +1,4 @@
+pub mod FieldsBack
+pub mod Spelling
+pub mod Places
+pub mod Remembering

@@ -1,0 +1,5 @@
+pub mod Arbiter
+pub mod Poller
+pub mod Polls
+pub mod Reading
+pub mod Times
