@@ -34,25 +34,32 @@ def refused(what, image, held, why, *before):
     same("bytes: " + what, held(), was)
 
 
+def sectors(data, of):
+    """The sectors of these bytes that an image has something in: what else stands in its room, `create` leaves."""
+    return {at: data[at:at + 512] for at in range(0, len(of), 512) if any(of[at:at + 512])}
+
+
 def over(what, image, held, wanted, *before):
     """It is done, and what is there is the image."""
     same(what, create(image, *before), (*CREATED, []))
-    same("bytes: " + what, held()[:len(wanted)], wanted)
+    same("bytes: " + what, sectors(held(), wanted), sectors(wanted, wanted))
 
 
-def image_of(settings):
+def image_of(name, settings):
     """The bytes of an image."""
-    path = pathlib.Path("image-%d" % len(settings))
-    if not path.exists():
-        create(path, settings=settings)
+    path = pathlib.Path(name)
+    create(path, settings=settings)
     return path.read_bytes()
+
+
+IMAGE_1, IMAGE_2 = image_of("one", ONE), image_of("two", TWO)
 
 
 def puts(held, size):
     """What may stand in a place of that size, and how `create` names it; None: nothing that it looks at."""
     end = SECTORS * 512
     for what, place, data, why in (
-        ("an image", 0, image_of(ONE), IMAGE % 1), ("an image of before", 0, b"SBD-" + b"x" * 60, OTHER), ("a byte at the beginning", 0, b"x", OTHER),
+        ("an image", 0, IMAGE_1, IMAGE % 1), ("an image of before", 0, b"SBD-" + b"x" * 60, OTHER), ("a byte at the beginning", 0, b"x", OTHER),
         ("a byte in the room of a slot", 64 * 512, b"x", OTHER), ("a byte at the end", end - 1, b"x", OTHER), ("a byte behind it", end, b"x", None),
     ):
         bytes_there = bytearray(max(size, place + len(data)))
@@ -64,7 +71,7 @@ def puts(held, size):
 def over_a_file():
     folder = pathlib.Path("file").absolute()
     folder.mkdir()
-    path, wanted = folder / "disk", image_of(TWO)
+    path, wanted = folder / "disk", IMAGE_2
     for what, why in puts(path.write_bytes, 0):
         if why is None:
             over(what, path, path.read_bytes, wanted, "--blank")
@@ -85,7 +92,7 @@ def over_a_file():
 
 
 def over_a_server():
-    path, wanted = pathlib.Path("server").absolute(), image_of(TWO)
+    path, wanted = pathlib.Path("server").absolute(), IMAGE_2
     server = BlockServer(path)
 
     def held(bytes_there=None):

@@ -4,7 +4,7 @@
 # no file: none is made
 for command in dump list 'message --id 1 --kind off' migrate; do
     expect 9 'fault BadImage sector 0\n' $command --image absent
-    same "$command: $(ls)" "$command: "
+    same "$command: $([ -e absent ] || echo none)" "$command: none"
 done
 
 # random bytes
