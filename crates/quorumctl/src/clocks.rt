@@ -2,7 +2,7 @@
 
 use crate::trouble::Trouble;
 use qn_machine::steady_time;
-use qn_verdict::NodeFile;
+use qn_shown::Shown;
 use std::time::Clock;
 
 /// Two clocks that are less than so many milliseconds apart are one, for a tick that is after neither.
@@ -28,13 +28,13 @@ impl Clocks {
     }
 
     /// Has all ticks of a file that was read before these clocks be of the steady one.
-    pub fn steady_file(self, file: &mut NodeFile) {
+    pub fn steady_file(self, file: &mut Shown) {
         if !self.is_slewed(file.tick) {
             return;
         }
         file.tick = self.steadied(file.tick);
-        file.mail_tick = file.mail_tick.map(|tick| self.steadied(tick));
-        for peer in &mut file.peers {
+        file.mailbox.tick = file.mailbox.tick.map(|tick| self.steadied(tick));
+        for peer in file.peers.as_mut_slice() {
             peer.hello_tick = peer.hello_tick.map(|tick| self.steadied(tick));
         }
     }
