@@ -1,6 +1,6 @@
 //! The status file of a node, read.
 use qn_shown::{Shown, ShownFault, read_shown};
-use std::alloc::AllocFailed;
+use std::alloc::AllocError;
 use std::fs::{self, File};
 use std::io::Read;
 use std::rt::Files;
@@ -39,8 +39,8 @@ impl fmt::Display for Refusal {
     }
 }
 
-impl<T: Drop> From<AllocFailed<T>> for Refusal {
-    fn from(_failed: AllocFailed<T>) -> Refusal {
+impl From<AllocError> for Refusal {
+    fn from(_error: AllocError) -> Refusal {
         Refusal::NoMemory
     }
 }
