@@ -31,8 +31,8 @@ def kept_seconds():
 
 
 def seconds_of(crate, kept):
-    """What the edits of a crate took last, with the proof before them; of a new crate nothing is known."""
-    return kept[crate].proof + kept[crate].edits if crate in kept else 0
+    """What the edits of a crate took last, with the proof before them; a new crate counts as one that is just small."""
+    return kept[crate].proof + kept[crate].edits if crate in kept else SMALL
 
 
 def groups():
@@ -70,7 +70,8 @@ def below(crate):
 
 def is_small(crate):
     """Whether the edits of a crate take so little that they are tried after a change below it too."""
-    return 0 < seconds_of(crate, kept_seconds()) <= SMALL
+    kept = kept_seconds()
+    return crate in kept and seconds_of(crate, kept) <= SMALL
 
 
 def digest(crate):

@@ -82,12 +82,16 @@ class Estimate:
 
     def proof_of(self, size, then):
         """A new crate counts for what its functions take on average, or its lines, whichever is more. One that was there counts for what it took and
-        for those that are new, at its own price; a line at no more than the average, since a few lines beside many functions say nothing."""
+        for those that are new, or without those that are gone, at its own price; a line at no more than the average, since a few lines beside many
+        functions say nothing, and not at all where it has and had none."""
         if then is None:
             return max(self.a_function * size.functions, self.a_line * size.lines)
         a_function = then.proof / max(then.size.functions, 1)
-        a_line = min(then.proof / max(then.size.lines, 1), self.a_line)
-        return then.proof + max(a_function * (size.functions - then.size.functions), a_line * (size.lines - then.size.lines))
+        more = a_function * (size.functions - then.size.functions)
+        if size.lines or then.size.lines:
+            a_line = min(then.proof / max(then.size.lines, 1), self.a_line)
+            more = max(more, a_line * (size.lines - then.size.lines))
+        return then.proof + more
 
     def cost_of(self, name, size):
         """What a crate takes; one with edits is proved once more before they are tried."""

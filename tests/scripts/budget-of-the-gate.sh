@@ -57,6 +57,13 @@ estimated '102 minutes on two processors, 102 on four: 0'
 functions one 30
 estimated '120 minutes on two processors, 120 on four: 1'
 grep -q '^budget: PASSED: rt ci is estimated at 120 minutes on two processors, and may take 108 (0.6 of 180): the dearest are one 90, ' errors
+# one that lost half of its functions counts for less where it has no line of proofs
+functions one 5
+estimated '60 minutes on two processors, 60 on four: 0'
+rm -r clone/crates/one/proofs
+sed -i 's/^one .*/one 1800 0 10 0 0/' clone/bench/seconds
+estimated '45 minutes on two processors, 45 on four: 0'
+sed -i 's/^one .*/one 1800 0 10 300 0/' clone/bench/seconds
 functions one 10
 proofs one 900
 estimated '120 minutes on two processors, 120 on four: 1'

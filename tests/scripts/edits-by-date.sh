@@ -50,7 +50,7 @@ same "$(PYTHONPATH=clone/lib python3 -B -c "$days")" "[[], [], [], [], ['one'], 
 mkdir clone/tests/edits/{four,five,six,seven,eight}
 same "$(PYTHONPATH=clone/lib python3 -B -c "$days")" "[['eight', 'two'], ['five'], ['four'], ['one'], ['seven'], ['six'], ['three']] True"
 mkdir clone/bench
-echo 'eight 90 10 1 0 2' > clone/bench/seconds
+echo 'eight 290 10 1 0 2' > clone/bench/seconds
 same "$(PYTHONPATH=clone/lib python3 -B -c "$days")" "[['eight'], ['five', 'two'], ['four'], ['one'], ['seven'], ['six'], ['three']] True"
 rm clone/bench/seconds
 rmdir clone/tests/edits/{four,five,six,seven,eight}
