@@ -21,8 +21,6 @@
 //!     seal ..                             as `seals` says
 //!     TICK ENTRY OUTS WHY ANSWER PHASE HOLDS INCARNATION     after an entry, or `look` for none; an incarnation of `*` is not compared
 //!
-//! And recorded histories that are shown and timed.
-//!
 //! Promises: nothing. It is a test.
 #![tactic(auto)]
 
@@ -33,7 +31,6 @@ mod histories;
 mod makers;
 mod packets;
 mod polls;
-mod recorded;
 mod row;
 mod seals;
 mod texts;
@@ -41,4 +38,3 @@ mod ties;
 mod written;
 
 pub use checking::check_rows;
-pub use recorded::{show, time_plain, time_steps};

@@ -6,11 +6,8 @@
 //!     part faults     runs of `top` over an outside of which calls fail: `faults`
 //!     part sockets    nodes over real files and sockets: `qn_sockets`
 //!
-//! With words it does one of these in place of that, for `bench/node`, `bench/live` and `bench/audit`:
+//! With words it does one of these in place of that, for `bench/live` and `bench/audit`:
 //!
-//!     qn_tests show           reads one history, and writes what comes out of each entry
-//!     qn_tests steps N        reads one history, hands it N times to a new node, and writes how many outputs there were
-//!     qn_tests plain N        reads one history, evaluates each of its first N beginnings from the whole list, and writes that number
 //!     qn_tests turns N        runs a node for N turns over an outside that never fails and hears nothing, and writes how that ends
 //!     qn_tests turns N three  the same on three images
 //!     qn_tests turns N log    the same on one image; it writes what an audit of the run reads
@@ -25,7 +22,6 @@ mod part;
 
 use part::run_parts;
 use qn_cases::time_turns;
-use qn_rows::{show, time_plain, time_steps};
 use qn_words::{at_fault, number_in, said_of};
 use std::{env, io};
 
@@ -49,9 +45,6 @@ fn run_task(
     let count = count.as_ref().map_or("0", String::as_str);
     let how = how.as_ref().map_or("one", String::as_str);
     match task {
-        "show" => show(rt),
-        "steps" => time_steps(rt, number_in(count)?),
-        "plain" => time_plain(rt, number_in(count)?),
         "turns" => time_turns(rt, number_in(count)?, how),
         _ => Err(at_fault("no task of that name")),
     }
