@@ -164,7 +164,7 @@ disk_etcd() {
 # member NUMBER: that member of etcd begins, or goes on with what it had
 member() {
     local all="m1=http://127.0.0.1:2381,m2=http://127.0.0.1:2382,m3=http://127.0.0.1:2383"
-    quickly etcd --name "m$1" --data-dir "$room/member.$1" --listen-peer-urls "http://127.0.0.1:238$1" \
+    quickly etcd --pre-vote --name "m$1" --data-dir "$room/member.$1" --listen-peer-urls "http://127.0.0.1:238$1" \
         --initial-advertise-peer-urls "http://127.0.0.1:238$1" --initial-cluster "$all" --initial-cluster-state new \
         --listen-client-urls "http://127.0.0.1:237$1,http://10.7.0.254:237$1" --advertise-client-urls "http://127.0.0.1:237$1" > "$room/member.$1.log" 2>&1 &
     servers[$1]=$!
