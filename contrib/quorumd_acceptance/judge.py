@@ -46,7 +46,7 @@ class Wanted:
 
 @dataclass(frozen=True)
 class Evidence:
-    """What was seen of the hosts from `begin` to `end`. `found` are the rows that the database has at the end, None where it did not answer; `rows` is None
+    """What was seen of the hosts from `begin` to `end`, and the rows that were acknowledged since the last test. `found` are the rows that the database has at the end, None where it did not answer; `rows` is None
     where no rows are written. `orderly` says of each host that was to stop in order whether its journal of that boot says so, None where it has none."""
     hosts: tuple
     resources: tuple
@@ -236,7 +236,7 @@ def barred(evidence, wanted):
 
 def silence_of(evidence):
     """The longest time without an acknowledged row."""
-    times = [evidence.begin] + [row.when for row in evidence.rows] + [evidence.end]
+    times = [evidence.begin] + [row.when for row in evidence.rows if row.when >= evidence.begin] + [evidence.end]
     return max(after - before for before, after in zip(times, times[1:]))
 
 

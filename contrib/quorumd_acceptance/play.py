@@ -21,7 +21,7 @@ class Player:
 
     def __init__(self, plan, bed, times, nodes, operator, slow):
         self.plan, self.bed, self.times, self.nodes, self.operator, self.slow = plan, bed, times, nodes, operator, slow
-        self.undone = []
+        self.undone, self.judged = [], 0.0
 
     def await_(self, limit, what, pause=0.2):
         """Waits until what() is true; whether it became so."""
@@ -77,7 +77,8 @@ class Player:
         wanted = test.wanted(self.times, self.bed_now(slow), host, fault)
         self.afterwards(test, victims, wanted, owner)
         end = time.monotonic()
-        samples, rows = self.bed.since(begin, end), self.bed.rows_since(begin, end)
+        samples, rows = self.bed.since(begin, end), self.bed.rows_since(self.judged, end)
+        self.judged = end
         found = None if rows is None else self.bed.found(slow * self.plan.numbers["start"] + SETTLE)
         evidence = Evidence(self.plan.hosts(), tuple(self.plan.signs), samples, begin, end, rows, found, {host: self.was_orderly(host)} if test.orderly else {})
         return evidence, wanted

@@ -39,12 +39,74 @@ page = $room/page.md
 END
 }
 
+# test_of_liar LIAR: the test that has to fail by it
+test_of_liar() {
+    case $1 in
+    early_start) echo kill ;;
+    late_feed) echo hang ;;
+    no_watchdog) echo watchdog ;;
+    lost_row) echo database ;;
+    *) echo move ;;
+    esac
+}
+
+# told: what the acceptance says, from standard input; the lie, where one is wanted, begins with its first test
+told() {
+    local line
+    while IFS= read -r line; do
+        echo "$line"
+        [[ ! $line =~ ^[a-z]+\ on\ host[123]:\  ]] || fault "$line"
+    done
+}
+
 # Each test that fits containers passes.
 scene_acceptance() {
-    local status=0
+    local status tests=${ACCEPTANCE_TESTS-}
+    [ -z "${QUORUMD_TEST_LIAR-}" ] || tests=$(test_of_liar "$QUORUMD_TEST_LIAR")
     acceptance_bed || return 1
-    "$here/../../contrib/quorumd-acceptance" --yes watchdog,hang,kill,panic,reboot,disk,plug,cable,off "$room/plan" ${ACCEPTANCE_TESTS-} || status=$?
+    # shellcheck disable=SC2086
+    "$here/../../contrib/quorumd-acceptance" --yes watchdog,hang,kill,panic,reboot,disk,plug,cable,off "$room/plan" $tests | told
+    status=${PIPESTATUS[0]}
     cat "$room/page.md"
     # panic, disk, server and arbiter have nothing here to be played on
-    [ "$status" = 0 ] || [ "$status" = 77 ] && ! grep -q '| not judged |' "$room/page.md"
+    [ "$status" = 0 ] || { [ "$status" = 77 ] && ! grep -q '| not judged |' "$room/page.md"; }
+}
+
+# spoil_host2: what an operator may have left at fault on a host, a line each of what has to be red
+spoil_host2() {
+    local raw
+    raw=$(losetup --find --show --sector-size 4096 "$room/image") && loops+=("$raw") && make_node "$room/host2/srv/raw" "$raw" || return 1
+    on 2 sh -e << 'END'
+echo another > /etc/quorumd/key
+echo '# another' >> /etc/quorumd/corosync.conf
+echo '# another' >> /etc/quorumd/resources.conf
+sed -i /WATCHDOG_IS_NO_DEVICE/d /etc/quorumd/node-2.env
+systemctl -q unmask postgresql.service
+systemctl -q enable postgresql.service
+echo auto > /etc/postgresql/15/main/start.conf
+printf '[Service]\nExecStart=/bin/true\n[Install]\nWantedBy=multi-user.target\n' > /etc/systemd/system/unattended-upgrades.service
+systemctl -q enable unattended-upgrades.service
+echo 'APT::Periodic::Unattended-Upgrade "1";' > /etc/apt/apt.conf.d/20auto-upgrades
+systemd-run -q qemu-nbd -f raw --cache=none --persistent --shared=0 -k /run/raw.sock /srv/raw
+END
+}
+reds_of_host2='the key: not that of host1
+corosync.conf: not that of host1
+resources.conf: not that of host1
+its watchdog is none: no time in /sys/class/watchdog
+postgresql@15-main.service is started at boot: systemctl disable, and `manual` in start.conf
+unattended upgrades restart the database: Unattended-Upgrade::Package-Blacklist has no postgresql-15, postgresql-common
+qemu-nbd -f raw over sectors of 4096 bytes: /srv/raw: -f host_device, and an image @4096'
+
+# Nothing is red on a right cluster, and each fault of a host by its name; then nothing is played.
+scene_acceptance_red() {
+    acceptance_bed || return 1
+    "$here/../../contrib/quorumd-acceptance" --check "$room/plan" || return 1
+    spoil_host2 || return 1
+    ! "$here/../../contrib/quorumd-acceptance" "$room/plan" move > "$room/reds" || return 1
+    cat "$room/reds"
+    while IFS= read -r line; do
+        grep -qxF "RED  host2: $line" "$room/reds" || { echo "not red: $line"; return 1; }
+    done <<< "$reds_of_host2"
+    [ "$(grep -c '^RED ' "$room/reds")" = "$(wc -l <<< "$reds_of_host2")" ] && tail -n 1 "$room/reds" | grep -q '^no test was played' && owns 1
 }

@@ -146,7 +146,11 @@ drop_groups() {
 # device_time: the seconds of each watchdog: those of the image, and five more where a liar has each feed reach it so late
 device_time() {
     local milliseconds=${TIMES%%,*}
-    if [ "${QUORUMD_TEST_LIAR-}" = late_feed ]; then echo $((milliseconds / 1000 + 5)); else echo $((milliseconds / 1000)); fi
+    case ${QUORUMD_TEST_LIAR-} in
+    late_feed) echo $((milliseconds / 1000 + 5)) ;;
+    no_watchdog) echo 1000000 ;;
+    *) echo $((milliseconds / 1000)) ;;
+    esac
 }
 
 # power N: lets host N run; a reset starts it again after the time of a firmware, a power-off does not

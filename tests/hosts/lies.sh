@@ -3,7 +3,8 @@
 # shellcheck disable=SC2154,SC2034
 # What a liar does on the hosts, and the scene that has to fail by it. Sourced by `containers`, which lies where QUORUMD_TEST_LIAR names one; `tests/liars`
 # plays them all. No unproved program can be built, so what lies is what stands around the right one.
-liars=(early_start:kill_node early_start:hang_node late_feed:hang_node second_mount:clean_stop stray_reset:clean_stop agent_goes_on:exit_message lost_row:postgres)
+liars=(early_start:kill_node early_start:hang_node late_feed:hang_node second_mount:clean_stop stray_reset:clean_stop agent_goes_on:exit_message lost_row:postgres
+    early_start:acceptance late_feed:acceptance second_mount:acceptance stray_reset:acceptance lost_row:acceptance no_watchdog:acceptance)
 
 # The next host takes the address six seconds after the loss, as if msgwait were none.
 lie_early_start() {
@@ -30,8 +31,11 @@ lie_agent_goes_on() {
 # Each feed reaches the watchdog five seconds late: it is one of ten seconds from the boot on.
 lie_late_feed() { :; }
 
+# The watchdog of each host resets nothing.
+lie_no_watchdog() { :; }
+
 # A host that has nothing to do with it is reset.
 lie_stray_reset() { kill -KILL "$(lead 3)"; }
 
 # The database forgets a row that it acknowledged.
-lie_lost_row() { sql 'delete from rows where number = 2'; }
+lie_lost_row() { sql 'delete from rows where number = (select min(number) from rows)'; }

@@ -38,7 +38,7 @@ def seen(looks, until, **more):
 
 def with_rows(evidence, missing=(), answers=True, silent=()):
     """A row each half a second, but in the stretches `silent`; these numbers are not there at the end."""
-    rows = [Row(step / 2, step) for step in range(int(evidence.end * 2) + 1) if not any(first < step / 2 < last for first, last in silent)]
+    rows = [Row(step / 2, step) for step in range(-10, int(evidence.end * 2) + 1) if not any(first < step / 2 < last for first, last in silent)]
     found = frozenset(row.number for row in rows) - set(missing) if answers else None
     return Evidence(evidence.hosts, evidence.resources, evidence.samples, evidence.begin, evidence.end, tuple(rows), found)
 
@@ -106,6 +106,7 @@ ROWS = [
     ("move: after msgwait", "took over after 15.0 s", bounds.moved, "a", scene(None, 27.0, old=12.0)),
     ("acknowledged rows are lost", "2 acknowledged rows are LOST", bounds.killed, "a", with_rows(scene(10.4, 24.6), missing=(7, 9))),
     ("move: the clients wait half a minute", "without an acknowledged row", bounds.moved, "a", with_rows(scene(None, 16.0, old=12.0), silent=[(11.0, 47.0)])),
+    ("a row of before the test is lost", "1 acknowledged rows are LOST", bounds.moved, "a", with_rows(scene(None, 16.0, old=12.0), missing=(-4,), silent=[(11.0, 17.0)])),
     ("database: it moves away", "b took over, and a was to go on", bounds.restarted, "a", scene(None, 16.0, old=11.0)),
     ("database: back after 35 s", "without database", bounds.restarted, "a", restarted(10.2, 45.4)),
     ("database: away for good", "without database", bounds.restarted, "a", restarted(10.2, 99.0)),
