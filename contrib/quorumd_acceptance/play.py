@@ -73,9 +73,10 @@ class Player:
         if owner is None or (test.where == tests.OWNER and owner != host) or (test.where == tests.STANDBYS and owner == host):
             raise Unready("the resources moved by themselves")
         victims = self.plan.hosts() if test.where == tests.ALL else (host,)
+        boots = {victim: self.bed.newest[victim].boot for victim in self.plan.hosts()}
         fault = self.fault(test, victims)
         wanted = test.wanted(self.times, self.bed_now(slow), host, fault)
-        self.afterwards(test, victims, wanted, owner)
+        self.afterwards(test, boots, wanted, owner)
         end = time.monotonic()
         samples, rows = self.bed.since(begin, end), self.bed.rows_since(self.judged, end)
         self.judged = end
@@ -87,6 +88,7 @@ class Player:
         """Does what the test does, and says when it was done."""
         if test.hand and not tests.has_commands(test, self.plan):
             return self.by_hand(test, victims)
+        self.operator.say("the fault: %s on %s" % (test.name, " ".join(victims)))
         began = time.monotonic()
         for victim in victims:
             if test.hand:
@@ -109,7 +111,11 @@ class Player:
             raise Unready("%s was in sight for %d seconds, so nothing was pulled" % (" and ".join(victims), HANDS))
         return max(self.bed.last_of(victim, boot) for victim, boot in boots.items())
 
-    def afterwards(self, test, victims, wanted, owner):
+    def is_as_before(self, boots, wanted):
+        """Whether a host that was to be reset in sight was not: nothing more comes."""
+        return any(reset.in_sight and self.bed.is_seen(host) and self.bed.newest[host].boot == boots[host] for host, reset in wanted.resets.items())
+
+    def afterwards(self, test, boots, wanted, owner):
         """Waits for the next owner, takes back what was done, and waits until all are there."""
         if wanted.owner == SAME:
             time.sleep(2 * self.times.watchdog if wanted.resets else 6 * self.times.loop + 4)
@@ -119,6 +125,8 @@ class Player:
         else:
             time.sleep(10.0)
         self.take_back()
+        if self.is_as_before(boots, wanted):
+            return
         limit = self.plan.numbers["firmware"] + MOST_WAIT
         if not self.await_(limit, lambda: not self.unready(), 1.0):
             self.operator.tell("%s after %d seconds: %s" % (test.name, limit, self.unready()))

@@ -8,7 +8,7 @@
 acceptance_bed() {
     database_on_store "$UNIT" || return 1
     FIRMWARE=25 begun || return 1
-    until_true 40 sql 'create table acceptance (id bigint primary key)' || return 1
+    until_true 40 sql 'create table rows (number bigint primary key)' || return 1
     cat > "$room/reach" << END
 #!/bin/bash
 pid=\$(cat "$room/\$1.pid" 2> /dev/null) && first=\$(pgrep -P "\$pid" | head -n 1) && [ -n "\$first" ] || { echo "\$1 is off" >&2; exit 255; }
@@ -26,8 +26,8 @@ sign.address = ip -o address show | grep -q ' 192\.0\.2\.100/'
 sign.store = grep -q ' /var/lib/postgresql ' /proc/mounts
 sign.postgres = pgrep -u postgres -f '[b]in/postgres -D'
 database = postgresql@15-main.service
-write = timeout 3 ip netns exec $tag chroot $base /usr/lib/postgresql/15/bin/psql -h 192.0.2.100 -U postgres -qAtc "insert into acceptance values ({row})"
-read = timeout 60 ip netns exec $tag chroot $base /usr/lib/postgresql/15/bin/psql -h 192.0.2.100 -U postgres -qAtc "select id from acceptance"
+write = timeout 3 ip netns exec $tag chroot $base /usr/lib/postgresql/15/bin/psql -h 192.0.2.100 -U postgres -qAtc "insert into rows values ({row})"
+read = timeout 60 ip netns exec $tag chroot $base /usr/lib/postgresql/15/bin/psql -h 192.0.2.100 -U postgres -qAtc "select number from rows"
 plug = $room/pull {host}
 plug-back = true
 cable = $room/reach {host} 'ip link set host0 down'
@@ -50,12 +50,12 @@ test_of_liar() {
     esac
 }
 
-# told: what the acceptance says, from standard input; the lie, where one is wanted, begins with its first test
+# told: what the acceptance says, from standard input; the lie, where one is wanted, begins with the fault
 told() {
     local line
     while IFS= read -r line; do
         echo "$line"
-        [[ ! $line =~ ^[a-z]+\ on\ host[123]:\  ]] || fault "$line"
+        [[ $line != 'the fault: '* ]] || fault "${line#*: }"
     done
 }
 

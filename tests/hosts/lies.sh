@@ -38,4 +38,4 @@ lie_no_watchdog() { :; }
 lie_stray_reset() { kill -KILL "$(lead 3)"; }
 
 # The database forgets a row that it acknowledged.
-lie_lost_row() { sql 'delete from rows where number = (select min(number) from rows)'; }
+lie_lost_row() { until_true 30 sql 'delete from rows where number = (select min(number) from rows)'; }
