@@ -89,8 +89,10 @@ module _ (words : ArbiterWords) (device : Device) (input : Input) (before after 
       → Works (listening_work words device) (seen input before env_before) (seen input after env_after) code
   unfolding listening_work serving_work
   works_served env_middle env_after code lease end memory least made did says =
+      let ran : Carries (arbiter_plan (times_of device).lease words.turns) env_middle env_after (record { end = end; memory = memory })
+          = rw (sym least) did in
       let left = plan_then_last (arbiter_end words.turns) input before after env_middle env_after (arbiter_outcome words.turns end).text
-      (arbiter_outcome words.turns end).status code (rw (sym least) did) refl says in
+      (arbiter_outcome words.turns end).status code ran refl says in
       record { calls = arbiter_opening words true ∷ left.calls; made = made_then made left.made; performs = (refl, left.performs) }
 
 module _ (words : ArbiterWords) (before after : Seen) (code : ℕ) (never_fall : NeverFall before after)
