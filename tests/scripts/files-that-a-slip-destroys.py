@@ -59,7 +59,8 @@ def puts(held, size):
     """What may stand in a place of that size, and how `create` names it; None: nothing that it looks at."""
     end = SECTORS * 512
     for what, place, data, why in (
-        ("an image", 0, IMAGE_1, IMAGE % 1), ("an image of before", 0, b"SBD-" + b"x" * 60, OTHER), ("a byte at the beginning", 0, b"x", OTHER),
+        ("an image", 0, IMAGE_1, IMAGE % 1), ("an image of version 1", 0, IMAGE_1[:9] + b"\1" + IMAGE_1[10:512], IMAGE % 1),
+        ("another tool's header", 0, b"SBD_SBD_", OTHER), ("a byte at the beginning", 0, b"x", OTHER),
         ("a byte in the room of a slot", 64 * 512, b"x", OTHER), ("a byte at the end", end - 1, b"x", OTHER), ("a byte behind it", end, b"x", None),
     ):
         bytes_there = bytearray(max(size, place + len(data)))
@@ -77,11 +78,9 @@ def over_a_file():
             over(what, path, path.read_bytes, wanted, "--blank")
             continue
         refused(what, path, path.read_bytes, why, "--blank")
-        over("anew over " + what, path, path.read_bytes, wanted, "--blank", "--anew")
+        over("anew over " + what, path, path.read_bytes, wanted, *(("--blank", "--anew") if why == OTHER else ("--anew",)))
     for what, _ in puts(path.write_bytes, 0):
         over("without a word over " + what, path, path.read_bytes, wanted)
-    for what, _ in puts(path.write_bytes, 0):
-        over("with --anew over " + what, path, path.read_bytes, wanted, "--anew")
     path.write_bytes(b"")
     over("an empty file", path, path.read_bytes, wanted, "--blank")
     path.write_bytes(bytes(1 << 20))
@@ -101,13 +100,13 @@ def over_a_server():
             server.data[len(bytes_there):] = bytes(len(server.data) - len(bytes_there))
         return bytes(server.data)
 
-    for before in ((), ("--blank",)):
-        for what, why in puts(held, 1 << 20):
-            if why is None:
-                over(what, server.word(), held, wanted, *before)
-                continue
-            refused(what, server.word(), held, why, *before)
-            over("anew over " + what, server.word(), held, wanted, *before, "--anew")
+    for what, why in puts(held, 1 << 20):
+        if why is None:
+            over(what, server.word(), held, wanted)
+            continue
+        refused(what, server.word(), held, why)
+        over("anew over " + what, server.word(), held, wanted, "--anew")
+    refused("with --blank", server.word(), held, IMAGE % 2, "--blank")
     held(bytes(1 << 20))
     over("zeros", server.word(), held, wanted)
     held(bytes(1 << 20))
