@@ -1,5 +1,6 @@
 //! Checks all rows, and counts those from which a form differs.
 use super::calls::{check_fence, check_line, check_members};
+use super::candidates::check_candidate;
 use super::counts::Count;
 use super::histories::History;
 use super::makers::Makers;
@@ -27,6 +28,7 @@ struct Totals {
     counts: u64,
     ties: u64,
     calls: u64,
+    candidates: u64,
     packets: u64,
     /// How many of those rows spell a packet.
     good: u64,
@@ -111,6 +113,10 @@ impl Reader {
                 said(check_tie(alloc, &mut self.tie, row), "the tie breaker")
             }
             "members" | "line" | "fence" => self.call_difference(alloc, kind, row),
+            "candidate" => {
+                self.totals.candidates = self.totals.candidates.saturating_add(1);
+                said(check_candidate(alloc, row), "whom a leader names")
+            }
             "packet" => self.packet_difference(alloc, row),
             "maker" => said(self.makers.check(alloc, row), "the answer of a view maker"),
             "poll" => said(self.polls.check(alloc, row), "the arbiter"),
@@ -185,6 +191,7 @@ impl Reader {
         println!(rt; "counts {}", totals.counts)?;
         println!(rt; "calls of a tie breaker {}", totals.ties)?;
         println!(rt; "calls beside others {}", totals.calls)?;
+        println!(rt; "candidates {}", totals.candidates)?;
         println!(rt; "packets {} good {}", totals.packets, totals.good)?;
         println!(rt;
             "changes of a byte {} packets {} differ {}",

@@ -15,6 +15,7 @@
 //!     members VOTES MEMBERS SUM LEAST     the votes by rank
 //!     line TEXT LINE                      the event that is read from that line under these settings is written as it
 //!     fence CALL ANSWER                   as `calls` says
+//!     candidate ..                        as `candidates` says
 //!     packet BYTES PACKET                 these bytes spell that packet, or `none`
 //!     maker CALL ANSWER                   as `makers` says
 //!     poll CALL ANSWER                    as `polls` says
@@ -25,6 +26,7 @@
 #![tactic(auto)]
 
 mod calls;
+mod candidates;
 mod checking;
 mod counts;
 mod histories;

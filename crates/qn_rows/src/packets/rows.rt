@@ -81,9 +81,16 @@ fn packet_of(words: &[&str]) -> Option<Packet> {
     }
 }
 
-/// Whether these bytes are the spelling of the packet.
+/// Whether these bytes are a spelling of the packet: what is put, or the same announcement in kind 11.
 pub fn is_spelled(packet: &Packet, bytes: &[u8]) -> bool {
     let mut spelled = ArrayVec::new();
     put_packet(packet, &mut spelled);
-    spelled.as_slice() == bytes
+    spelled.as_slice() == bytes || is_in_named_kind(spelled.as_slice(), bytes)
+}
+
+fn is_in_named_kind(spelled: &[u8], bytes: &[u8]) -> bool {
+    match (spelled, bytes) {
+        ([b'Q', b'N', 4, fields @ ..], [b'Q', b'N', 11, rest @ ..]) => fields == rest,
+        _ => false,
+    }
 }

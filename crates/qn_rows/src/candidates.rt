@@ -1,0 +1,86 @@
+//! Whom a leader names, from outside: what it knows of the nodes, whom it names, and the number of the next view.
+//!
+//!     MEMBERS LEADER SEES HEARS KNOWS BARRED UNFIT PULLS HOLDS WEIGHTS PRESENT NAME GREATEST NUMBER
+//!
+//! The words are separated by tabs. Sets are ranks joined by commas, `-` for none. HEARS has whom each rank hears, by rank, joined by `;`,
+//! `*` for the leader, which hears whom it sees; WEIGHTS are by rank, joined by commas. PRESENT is the rank that the present view names, `-`
+//! for none; NAME is a rank, `none`, or `nobody`.
+use qn_base::{Mask, Rank};
+use qn_candidate::{Facts, Name, candidate_of, number_of};
+use qn_words::{read_byte, read_members, read_number, read_rank};
+use std::alloc::Global;
+
+/// Checks a row: whether the leader names whom it says, and the next view has that number. None where it is no row.
+pub fn check_candidate(alloc: Global, row: &str) -> Option<bool> {
+    let words: Vec<&str> = row.split('\t').collect(alloc).ok()?;
+    let [members, leader, known @ .., present, name, greatest, number] = words.as_slice() else {
+        return None;
+    };
+    let facts = facts_of(read_rank(leader)?, known)?;
+    let named = candidate_of(ranks(members)?, &facts, rank_or_none(present)?);
+    Some(
+        named == name_of(name)?
+            && number_of(named, read_number(greatest)?) == read_number(number)?,
+    )
+}
+
+fn facts_of(leader: Rank, words: &[&str]) -> Option<Facts> {
+    let [sees, hears, knows, barred, unfit, pulls, holds, weights] = words else {
+        return None;
+    };
+    let sees = ranks(sees)?;
+    Some(Facts {
+        sees,
+        hears: read_hears(leader, sees, hears)?,
+        knows: ranks(knows)?,
+        barred: ranks(barred)?,
+        unfit: ranks(unfit)?,
+        pulls: ranks(pulls)?,
+        holds: ranks(holds)?,
+        weights: read_weights(weights)?,
+    })
+}
+
+/// Whom each rank hears; of the leader, whom it sees.
+fn read_hears(leader: Rank, sees: Mask, text: &str) -> Option<[Mask; 32]> {
+    let mut hears = [Mask(0); 32];
+    for (rank, word) in text.split(';').enumerate() {
+        let heard = if word == "*" { Mask(0) } else { ranks(word)? };
+        *hears.get_mut(rank)? = heard;
+    }
+    *hears.get_mut(usize::from(leader.0))? = sees;
+    Some(hears)
+}
+
+fn read_weights(text: &str) -> Option<[u8; 32]> {
+    let mut weights = [0; 32];
+    for (rank, word) in text.split(',').enumerate() {
+        *weights.get_mut(rank)? = read_byte(word)?;
+    }
+    Some(weights)
+}
+
+/// A set of ranks, `-` for none.
+fn ranks(text: &str) -> Option<Mask> {
+    if text == "-" {
+        return Some(Mask(0));
+    }
+    read_members(text)
+}
+
+/// A rank, or `-` for none.
+fn rank_or_none(text: &str) -> Option<Option<Rank>> {
+    match text {
+        "-" => Some(None),
+        _ => Some(Some(read_rank(text)?)),
+    }
+}
+
+/// A rank, `none` where no name is, or `nobody`.
+fn name_of(text: &str) -> Option<Name> {
+    match text {
+        "none" => Some(Name::Least),
+        "nobody" => Some(Name::Nobody),
+        _ => Some(Name::One(read_rank(text)?)),
+    }
+}
