@@ -1,4 +1,4 @@
-"""The must-fail edits in tests/edits, which are tried by date: whose they are, which are due, and over which files those of a crate were refused last."""
+"""The must-fail edits in tests/edits: whose they are, which are due at a change or by date, and over which files those of a crate were refused last."""
 import datetime
 import hashlib
 import os
@@ -36,11 +36,12 @@ def seconds_of(crate, kept):
 
 
 def groups():
-    """The crates in seven groups, one for each day of a week, that take much the same time: each crate, the dearest first, goes to the group that is
-    the cheapest so far."""
+    """The crates that are not small in seven groups, one for each day of a week, that take much the same time: each crate, the dearest first, goes to
+    the group that is the cheapest so far."""
     kept = kept_seconds()
     days, spent = [[] for _ in range(DAYS)], [0] * DAYS
-    for crate in sorted(crates(), key=lambda crate: (-seconds_of(crate, kept), crate)):
+    large = [crate for crate in crates() if not is_small(crate)]
+    for crate in sorted(large, key=lambda crate: (-seconds_of(crate, kept), crate)):
         day = min(range(DAYS), key=lambda day: (spent[day], len(days[day])))
         days[day].append(crate)
         spent[day] += seconds_of(crate, kept)
@@ -69,7 +70,7 @@ def below(crate):
 
 
 def is_small(crate):
-    """Whether the edits of a crate take so little that they are tried after a change below it too."""
+    """Whether the edits of a crate take so little that they are tried after each change below it, and so need no day."""
     kept = kept_seconds()
     return crate in kept and seconds_of(crate, kept) <= SMALL
 

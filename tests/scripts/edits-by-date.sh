@@ -65,6 +65,7 @@ same "$(tail -n 1 said)" 'edits of crates that were changed: one three'
 printf '%s\n' 'one: middle' 'two:' 'three: middle' 'middle: std low' 'low: std' > clone/crates.txt
 mkdir -p clone/crates/low/specs
 printf '%s\n' 'one 150 50 1 0 2' 'three 150 51 1 0 2' > clone/bench/seconds
+same "$(PYTHONPATH=clone/lib python3 -B -c "$days")" "[[], [], [], [], [], ['three'], ['two']] True"
 clone/tests/edits/into --due > said
 refused one two three > log
 clone/tests/edits/back log
