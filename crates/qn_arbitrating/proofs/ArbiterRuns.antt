@@ -90,7 +90,7 @@ module _ (words : ArbiterWords) (device : Device) (input : Input) (before after 
   unfolding listening_work serving_work
   works_served env_middle env_after code lease end memory least made did says =
       let ran : Carries (arbiter_plan (times_of device).lease words.turns) env_middle env_after (record { end = end; memory = memory })
-          = rw (sym least) did in
+      = rw (sym least) did in
       let left = plan_then_last (arbiter_end words.turns) input before after env_middle env_after (arbiter_outcome words.turns end).text
       (arbiter_outcome words.turns end).status code ran refl says in
       record { calls = arbiter_opening words true ∷ left.calls; made = made_then made left.made; performs = (refl, left.performs) }

@@ -19,8 +19,7 @@ pub fn check_candidate(alloc: Global, row: &str) -> Option<bool> {
     let facts = facts_of(read_rank(leader)?, known)?;
     let named = candidate_of(ranks(members)?, &facts, rank_or_none(present)?);
     Some(
-        named == name_of(name)?
-            && number_of(named, read_number(greatest)?) == read_number(number)?,
+        named == name_of(name)? && number_of(named, read_number(greatest)?) == read_number(number)?,
     )
 }
 
