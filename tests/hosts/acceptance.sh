@@ -39,6 +39,20 @@ page = $room/page.md
 END
 }
 
+# behind_servers: the disk image lies on a device that each host has behind a block server, as docs/MACHINES.md has it
+behind_servers() {
+    local n units
+    dd if="$shared/disk" of="$room/image" conv=notrunc status=none || return 1
+    for n in 1 2 3; do
+        units=$room/host$n/etc/systemd/system
+        mkdir -p "$units/quorumd@.service.d"
+        block 'file /etc/systemd/system/quorumd-disk.service' | sed 's#/dev/mapper/quorumd#/srv/image#' > "$units/quorumd-disk.service"
+        block 'file /etc/systemd/system/quorumd@.service.d/disk.conf' > "$units/quorumd@.service.d/disk.conf"
+        sed -i 's#^IMAGE=.*#IMAGE=nbd:unix:/run/quorumd-disk/socket#' "$room/host$n/etc/quorumd/node-$n.env"
+        in_root "$room/host$n" systemctl -q enable quorumd-disk.service || return 1
+    done
+}
+
 # test_of_liar LIAR: the test that has to fail by it
 test_of_liar() {
     case $1 in
@@ -70,6 +84,16 @@ scene_acceptance() {
     cat "$room/page.md"
     # panic, disk, server and arbiter have nothing here to be played on
     [ "$status" = 0 ] || { [ "$status" = 77 ] && ! grep -q '| not judged |' "$room/page.md"; }
+}
+
+# A block server that is killed ends nothing, and one that is gone ends the owner alone.
+scene_acceptance_servers() {
+    behind_servers && acceptance_bed || return 1
+    printf '%s\n' 'server = quorumd-disk.service' "disk = $room/reach {host} 'systemctl stop quorumd-disk.service'" 'disk-back = true' >> "$room/plan"
+    "$here/../../contrib/quorumd-acceptance" --yes disk "$room/plan" server disk
+    local status=$?
+    cat "$room/page.md"
+    return $status
 }
 
 # spoil_host2: what an operator may have left at fault on a host, a line each of what has to be red
