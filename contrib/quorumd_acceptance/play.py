@@ -69,8 +69,11 @@ class Player:
         """Plays it: what was seen, and what was wanted."""
         time.sleep(SETTLE)
         begin = time.monotonic() - SETTLE
+        self.await_(10, lambda: len(self.bed.owners()) == 1)
         owner = self.bed.owners()[0] if self.bed.owners() else None
-        if owner is None or (test.where == tests.OWNER and owner != host) or (test.where == tests.STANDBYS and owner == host):
+        if owner is None:
+            raise Unready("no host is seen to have all resources")
+        if (test.where == tests.OWNER and owner != host) or (test.where == tests.STANDBYS and owner == host):
             raise Unready("the resources moved by themselves")
         victims = self.plan.hosts() if test.where == tests.ALL else (host,)
         boots = {victim: self.bed.newest[victim].boot for victim in self.plan.hosts()}
