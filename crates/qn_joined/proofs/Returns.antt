@@ -1,11 +1,12 @@
 -- A call that returns, in the world of a joint.
 use Rattle.std.proofs.Common.{◌≡◌, ◌<◌, ◌≤◌, ℕ, Bool, true, false, ◌&&◌, List, [], ◌∷◌, ◌++◌, Option, None, Some, ◌==◌, if◌then◌else◌, refl, sym, ap, subst, ◌∙◌, ◌⊎◌, inl, inr, arith}
 use Rattle.std.specs.Prelude.{Contains, length}
-use Rattle.std.specs.Str.{bytes_eq}
 use Rattle.std.specs.Option.{option_map_or}
 use Rattle.std.specs.Prelude.{option_and_then}
 use Rattle.std.proofs.lemmas.List.Elements.{Contains-append_cases, Contains-push_cases}
 use Rattle.std.proofs.lemmas.Option.{same_Some}
+use Rattle.qn_base.specs.declared.ids.Rank.{Rank}
+use Rattle.qn_base.specs.declared.ids.View.{View}
 use Rattle.qn_base.specs.declared.calls.Call.{Call}
 use Rattle.qn_base.specs.declared.calls.Call.TheVariants as call
 use Rattle.qn_base.specs.Calls.{blank}
@@ -24,8 +25,8 @@ use Rattle.qn_model.specs.Moments.{Running, is_gone, packets, tick_of, time}
 use Rattle.qn_model.specs.Phases.{phase}
 use Rattle.qn_model.specs.Steps.{run}
 use Rattle.qn_model.specs.World.{World, node_at}
-use Rattle.qn_wire.specs.Packets.{is_well_formed, packet_bytes}
-use Rattle.qn_wire.specs.Reading.{fields_of, packet_of, rank_at, said_at, view_at, standing_at}
+use Rattle.qn_wire.specs.Packets.{announce_bytes, has_name, is_well_formed, packet_bytes}
+use Rattle.qn_wire.specs.Reading.{fields_of, is_spelling, packet_of, rank_at, said_at, view_at, standing_at}
 use Rattle.qn_live.specs.Greetings.{sends_plan}
 use Rattle.qn_live.specs.Performing.{disk_call, out_call, outs_plan, own_number}
 use Rattle.qn_safety.specs.NodeLogs.{LogsHold}
@@ -57,20 +58,30 @@ one_kind : (test : Bool) (p q : Packet) → counts (Some p) ≡ false → (if te
 one_kind true p q plain e c = let same = ap counts e in let both = sym plain ∙ same ∙ c in cc
 one_kind false p q plain e c = cc
 
+-- nor is an announcement, in either of its kinds
+announced_counts : (from : Rank) (view : View) (named : Bool) (q : Packet)
+    → packet_of (announce_bytes (if named then 11 else 4) from view) ≡ Some q → counts (Some q) ≡ true → ⊥
+unfolding packet_of
+announced_counts from view true q e c =
+    let bytes = announce_bytes 11 from view in
+    one_kind (length bytes == 16) (packet.Announce (rank_at 3 bytes) (view_at 4 bytes)) q refl
+    (found_one (λ p. is_well_formed p && is_spelling p bytes) (fields_of 11 bytes) q e) c
+announced_counts from view false q e c =
+    let bytes = announce_bytes 4 from view in
+    one_kind (length bytes == 16) (packet.Announce (rank_at 3 bytes) (view_at 4 bytes)) q refl
+    (found_one (λ p. is_well_formed p && is_spelling p bytes) (fields_of 4 bytes) q e) c
+
 greeting_counts : (p q : Packet) → is_greeting p ≡ true → packet_of (packet_bytes p) ≡ Some q → counts (Some q) ≡ true → ⊥
 unfolding packet_of packet_bytes
 greeting_counts (packet.Hello from) q is e c =
     let bytes = packet_bytes (packet.Hello from) in
     one_kind (length bytes == 4) (packet.Hello (rank_at 3 bytes)) q refl
-    (found_one (λ p. is_well_formed p && bytes_eq (packet_bytes p) bytes) (fields_of 3 bytes) q e) c
-greeting_counts (packet.Announce from view) q is e c =
-    let bytes = packet_bytes (packet.Announce from view) in
-    one_kind (length bytes == 16) (packet.Announce (rank_at 3 bytes) (view_at 4 bytes)) q refl
-    (found_one (λ p. is_well_formed p && bytes_eq (packet_bytes p) bytes) (fields_of 4 bytes) q e) c
+    (found_one (λ p. is_well_formed p && is_spelling p bytes) (fields_of 3 bytes) q e) c
+greeting_counts (packet.Announce from view) q is e c = announced_counts from view (has_name view) q e c
 greeting_counts (packet.Heard from said standing) q is e c =
     let bytes = packet_bytes (packet.Heard from said standing) in
     one_kind (length bytes == 12) (packet.Heard (rank_at 3 bytes) (said_at bytes) (standing_at bytes)) q refl
-    (found_one (λ p. is_well_formed p && bytes_eq (packet_bytes p) bytes) (fields_of 8 bytes) q e) c
+    (found_one (λ p. is_well_formed p && is_spelling p bytes) (fields_of 8 bytes) q e) c
 greeting_counts (packet.Ask ask) q is e c = cc
 greeting_counts (packet.Tell tell) q is e c = cc
 greeting_counts (packet.Vote agrees) q is e c = cc
