@@ -349,7 +349,8 @@ impl<'a, R: Files<File = File> + Clock + Eprint> ArbiterNotices for Journal<'a, 
     }
 
     fn booted(&mut self, tick: u64) {
-        let line = self.arbiter.boot(self.now(), tick);
+        let at = self.now();
+        let line = self.arbiter.boot(at, tick);
         self.say(&line);
         self.refresh_arbiter(tick);
     }
