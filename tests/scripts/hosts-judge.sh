@@ -59,11 +59,11 @@ judged 77 "$(every host1 0 11 store)$(every host2 0 5 -)$(every host2 10 30 -)$(
     '0.00 host1 has its resources until 11.00|30.20 host2 has its resources until 40.00|NOT JUDGED: host2 was not looked at for 5.0 s' \
     --scene kill_node --times 5000,10000,1000,2000,1000
 
-# each liar names a scene of its lab that has bounds
+# each liar names a scene of its lab that has bounds, but for the acceptance, which judges by its own
 for lab in machines hosts; do
     # shellcheck disable=SC1090 # lies.sh of the lab
     (. "$TOP/tests/$lab/lies.sh" && printf '%s\n' "${liars[@]}") | cut -d : -f 2 | while IFS= read -r name; do
-        grep -q "^$name	" "$TOP/tests/$lab/bounds"
+        [ "$name" = acceptance ] || grep -q "^$name	" "$TOP/tests/$lab/bounds"
         grep -q "^scene_$name() {" "$TOP/tests/$lab"/*.sh
     done
 done
