@@ -3,21 +3,19 @@
 use crate::trouble::Trouble;
 use arrayvec::ArrayVec;
 use qn_io::{LINE, LineRead, Pieces, Sink, Source, put_all, read_line};
-use qn_machine::{Lines, StdSink, StdSource};
+use qn_machine::{StdSink, StdSource};
 use qn_model::LineFault;
 use qn_supervisor::Steps;
 use qn_usage::WRITE_FAULT;
 use std::io;
-use std::time::Clock;
 
 /// The status where standard input cannot be read, of which a line on standard error says why.
 const READ_FAULT: u8 = 6;
 
 /// `group`: reads until the input ends. A line at fault ends it: nothing is done at that line, and nothing is told.
-pub fn group(rt: &(impl Clock + Input + Print + Eprint + AllocGlobal)) -> Result<u8, Trouble> {
-    let lines = Lines::new(0, false);
-    let mut input = StdSource::new(rt.reader(), lines.over(rt));
-    let mut out = StdSink::new(io::writer(rt), lines.over(rt));
+pub fn group(rt: &(impl Input + Print + Eprint + AllocGlobal)) -> Result<u8, Trouble> {
+    let mut input = StdSource::new(rt.reader(), rt);
+    let mut out = StdSink::new(io::writer(rt), rt);
     take_lines(&mut input, &mut out)
 }
 
