@@ -173,10 +173,12 @@ impl<'words> Before<'words> {
 
 /// Whether a command runs a node or an arbiter.
 fn is_running(command: &str) -> bool {
-    matches!(
-        command,
-        "node" | "node3" | "node-logged" | "node3-logged" | ARBITER
-    )
+    is_node(command) || command == ARBITER
+}
+
+/// Whether a command runs a node.
+fn is_node(command: &str) -> bool {
+    matches!(command, "node" | "node3" | "node-logged" | "node3-logged")
 }
 
 /// Takes a word without a value, which may stand once.
