@@ -5,41 +5,54 @@ use arrayvec::ArrayVec;
 use qn_io::{LINE, LineRead, Pieces, Sink, Source, put_all, read_line};
 use qn_machine::{StdSink, StdSource};
 use qn_model::LineFault;
-use qn_supervisor::Steps;
+use qn_supervisor::{Refused, Steps};
 use qn_usage::WRITE_FAULT;
 use std::io;
 
 /// The status where standard input cannot be read, of which a line on standard error says why.
 const READ_FAULT: u8 = 6;
 
+/// What ends the reading before its input does.
+enum Stopped {
+    Input,
+    Output,
+    /// The line of that number is at fault.
+    Line(u64, Refused),
+}
+
 /// `group`: reads until the input ends. A line at fault ends it: nothing is done at that line, and nothing is told.
 pub fn group(rt: &(impl Input + Print + Eprint + AllocGlobal)) -> Result<u8, Trouble> {
     let mut input = StdSource::new(rt.reader(), rt);
     let mut out = StdSink::new(io::writer(rt), rt);
-    take_lines(&mut input, &mut out)
+    match take_lines(&mut input, &mut out) {
+        Ok(()) => Ok(0),
+        Err(Stopped::Input) => Ok(READ_FAULT),
+        Err(Stopped::Output) => Ok(WRITE_FAULT),
+        Err(Stopped::Line(number, refused)) => Err(Trouble::Line(number, refused.name())),
+    }
 }
 
-fn take_lines<I: Source, O: Sink>(input: &mut I, out: &mut O) -> Result<u8, Trouble> {
+fn take_lines<I: Source, O: Sink>(input: &mut I, out: &mut O) -> Result<(), Stopped> {
     let mut steps = Steps::new();
     let mut pieces = Pieces::new();
     let mut line = ArrayVec::<u8, LINE>::new();
     for number in 1..u64::MAX {
-        let why = match read_line(&mut pieces, input, &mut line) {
+        let refused = match read_line(&mut pieces, input, &mut line) {
             LineRead::Line => match steps.take(line.as_slice()) {
                 Ok(told) => {
                     if put_all(out, told.as_slice()).is_err() {
-                        return Ok(WRITE_FAULT);
+                        return Err(Stopped::Output);
                     }
                     continue;
                 }
-                Err(refused) => refused.name(),
+                Err(refused) => refused,
             },
-            LineRead::Rest if line.is_empty() => return Ok(0),
-            LineRead::Rest => LineFault::Unended.name(),
-            LineRead::TooLong => LineFault::TooLong.name(),
-            LineRead::Failed => return Ok(READ_FAULT),
+            LineRead::Rest if line.is_empty() => return Ok(()),
+            LineRead::Rest => Refused::Line(LineFault::Unended),
+            LineRead::TooLong => Refused::Line(LineFault::TooLong),
+            LineRead::Failed => return Err(Stopped::Input),
         };
-        return Err(Trouble::Line(number, why));
+        return Err(Stopped::Line(number, refused));
     }
-    Ok(0)
+    Ok(())
 }
