@@ -87,22 +87,24 @@ def one_side_at_a_time():
     answers = []
     while time.monotonic() - begun < LEASE / 1000 - 0.2:
         answers.append(first.ask(1))
+        time.sleep(0.02)
     same("within a lease of its boot", set(answers), {NO})
     wait_for("a yes", lambda: first.ask(1) == YES)
     same("to the other side", second.ask(2), NO)
     same("to a view with a node in common", second.ask(3), YES)
-    same("then to the first side", first.ask(1), NO)
+    same("to the first side, whose node that view has", first.ask(1), YES)
     same("of an earlier view, once a later one was heard", (second.ask(3, install=2), second.ask(3, install=1)), (YES, NO))
     time.sleep(LEASE / 1000 + 0.2)
-    same("once a lease is over", first.ask(1), YES)
+    same("to the other side, once a lease is over", second.ask(2, install=3), YES)
+    same("then to the first side", first.ask(1), NO)
     wait_for("the status of it", lambda: arbiter.status()["polls"] == first.count + second.count)
     status = arbiter.status()
     same("its status", {key: status[key] for key in ("arbiter", "format", "lease", "limit", "refused", "waits")},
          {"arbiter": True, "format": 1, "lease": LEASE, "limit": LIMIT, "refused": 0, "waits": 0})
     same("its counts", status["yes"] + status["no"], status["polls"])
-    same("its nodes", [(node["id"], node["incarnation"], node["view"]) for node in status["nodes"]], [(1, 1, [1]), (2, 1, [1, 2])])
+    same("its nodes", [(node["id"], node["incarnation"], node["view"]) for node in status["nodes"]], [(1, 1, [1]), (2, 1, [2])])
     votes = [(event["id"], event["answer"], event["view"]) for event in arbiter.events("vote")]
-    same("its votes", votes, [("1", "no", "1"), ("1", "yes", "1"), ("2", "no", "2"), ("2", "yes", "1,2"), ("1", "no", "1"), ("2", "no", "1,2"), ("1", "yes", "1")])
+    same("its votes", votes, [("1", "no", "1"), ("1", "yes", "1"), ("2", "no", "2"), ("2", "yes", "1,2"), ("2", "no", "1,2"), ("2", "yes", "2"), ("1", "no", "1")])
 
 
 def nobody_else_is_answered():
