@@ -72,7 +72,7 @@ _quorumd_takes() {
         ;;
     quorumd-setup)
         operands=(file)
-        options=(--arbiter//--arbiter --key/file/--key --port/none/--port)
+        options=('--image/image/--image --arbiter' '--arbiter//--arbiter --image' '--key/file/--key --no-key' '--no-key//--no-key --key' --id/none/--id --watchdog/file/--watchdog --port/none/--port --create//--create)
         ;;
     quorumd-acceptance)
         operands=(file none)

@@ -53,7 +53,7 @@ function __quorumd_takes
             set -g __quorumd_operands 'file*'
         case quorumd-setup
             set -g __quorumd_operands file
-            set -g __quorumd_options --arbiter//--arbiter/ --key/file/--key/FILE --port/none/--port/Q
+            set -g __quorumd_options '--image/image/--image --arbiter/IMAGE[,IMAGE,IMAGE]' '--arbiter//--arbiter --image/' '--key/file/--key --no-key/FILE' '--no-key//--no-key --key/' --id/none/--id/N --watchdog/file/--watchdog/DEVICE --port/none/--port/Q --create//--create/
         case quorumd-acceptance
             set -g __quorumd_operands file none
             set -g __quorumd_options --check//--check/ --anew//--anew/ '--yes/none/--yes/TEST[,TEST..]'

@@ -172,7 +172,7 @@ quorumd dump --image files/di;> disk disk.old
 quorumctl ;> settings timing check list wait status history group
 quorumctl status --json --;> --image
 quorumctl status files/;> disk disk.old folder other
-quorumd-setup files/other --key files/other --;> --image --id --watchdog --port --create
+quorumd-setup files/other --key files/other --;> --image --arbiter --id --watchdog --port --create
 quorumd-acceptance --check --;> --anew --yes
 quorumd-acceptance files/;> disk disk.old folder other
 quorumd-resource ;> run status check move maintenance

@@ -39,7 +39,7 @@ setup() {
 written() {
     (cd etc && find . -type f | sort | xargs)
 }
-usage='       quorumd-setup CONF --arbiter [--key FILE] [--port Q]'
+usage='usage: quorumd-setup CONF [--image IMAGE[,IMAGE,IMAGE] | --arbiter] [--key FILE | --no-key] [--id N] [--watchdog DEVICE] [--port Q] [--create]'
 disk=$PWD/disk
 
 # words
