@@ -53,9 +53,9 @@ for version in 0 3 255; do
     cmp disk before
 done
 
-# no file: it is made, empty
+# no file: none is made
 expect 9 'fault BadImage sector 0\n' migrate --image absent
-same "$(stat -c %s absent)" 0
+[ ! -e absent ]
 
 # beside a program that has the image open the header is not written
 version_1 disk 2
