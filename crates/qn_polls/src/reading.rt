@@ -1,7 +1,5 @@
 //! Reads bytes as a poll or as a reply.
 ghost use Rattle.std.specs.Prelude.{◌≡◌, ◌≤◌, ◌+◌, length, IfSome, IfNone};
-ghost use Rattle.qn_wire.specs.Packets.{is_rank, is_view};
-ghost use Rattle.qn_wire.specs.Reading.{view_at};
 ghost use Rattle.qn_safety.specs.declared.polls.Poll.{Poll};
 ghost use Rattle.qn_safety.specs.declared.polls.Reply.{Reply};
 ghost use Rattle.qn_polls.specs.Polls.{SpellsPoll, SpellsReply, is_poll, is_reply};
@@ -10,8 +8,9 @@ ghost use Rattle.qn_polls.specs.Reading.{poll_at, poll_of, reply_at, reply_of};
 use crate::writing::{put_poll, put_reply};
 use arrayvec::ArrayVec;
 use byteorder::{BigEndian, ByteOrder};
-use qn_base::{Mask, Rank, View};
+use qn_base::Rank;
 use qn_safety::{Poll, Reply};
+use qn_wire::{is_rank, is_view, read_view};
 
 /// The poll that these bytes spell: its rank is below 32, and its view has members.
 pub fn get_poll(from: &[u8]) -> Option<Poll>
@@ -84,16 +83,6 @@ fn poll_fields(from: &[u8]) -> Poll
     }
 }
 
-fn read_view(place: usize, from: &[u8]) -> View
-    requires { place + 12 ≤ length from.now }
-    ensures { result ≡ view_at place from.now }
-{
-    View {
-        id: BigEndian::read_u64(from.split_at(place).1),
-        members: Mask(BigEndian::read_u32(from.split_at(place + 8).1)),
-    }
-}
-
 fn reply_fields(from: &[u8]) -> Reply
     requires { 29 ≤ length from.now }
     ensures { result ≡ reply_at from.now }
@@ -117,16 +106,4 @@ fn is_reply(reply: Reply) -> bool
     ensures { result ≡ is_reply reply }
 {
     is_rank(reply.to)
-}
-
-fn is_view(view: View) -> bool
-    ensures { result ≡ is_view view }
-{
-    view.members.0 > 0
-}
-
-fn is_rank(rank: Rank) -> bool
-    ensures { result ≡ is_rank rank }
-{
-    rank.0 < 32
 }

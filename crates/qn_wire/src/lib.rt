@@ -13,5 +13,5 @@ mod reading;
 mod writing;
 
 pub use laws::{law_named_views_have_their_kind, law_read_back};
-pub use reading::get_packet;
+pub use reading::{get_packet, is_rank, is_view, read_view};
 pub use writing::put_packet;

@@ -153,7 +153,8 @@ fn read_follows(byte: u8) -> Option<Rank>
     if byte == 32 { None } else { Some(Rank(byte)) }
 }
 
-fn read_view(place: usize, from: &[u8]) -> View
+/// The view whose number and members stand from that place on.
+pub fn read_view(place: usize, from: &[u8]) -> View
     requires { place + 12 ≤ length from.now }
     ensures { result ≡ view_at place from.now }
 {
@@ -193,13 +194,15 @@ fn is_said(from: Rank, said: Said) -> bool
         }
 }
 
-fn is_view(view: View) -> bool
+/// Whether a view that a packet names is well formed: it has a member.
+pub fn is_view(view: View) -> bool
     ensures { result ≡ is_view view }
 {
     view.members.0 > 0
 }
 
-fn is_rank(rank: Rank) -> bool
+/// Whether a number that stands for a rank is one: it is below 32.
+pub fn is_rank(rank: Rank) -> bool
     ensures { result ≡ is_rank rank }
 {
     rank.0 < 32
