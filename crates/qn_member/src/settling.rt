@@ -94,7 +94,7 @@ impl Member {
         }
     }
 
-    fn is_steady(&self, tick: u64) -> bool
+    pub(crate) fn is_steady(&self, tick: u64) -> bool
         ensures { result ≡ is_steady tick self.now }
     {
         match self.change {
@@ -151,7 +151,7 @@ impl Member {
     }
 
     /// The members of the view of a leader with this company, where one may be made.
-    fn members_at(&self, tick: u64, company: Mask) -> Option<Mask>
+    pub(crate) fn members_at(&self, tick: u64, company: Mask) -> Option<Mask>
         requires configured { has_configured self.now.nodes company ≡ true }
         requires own { is_member company self.now.me ≡ true }
         ensures exact { result ≡ members_at tick self.now company }
@@ -209,7 +209,7 @@ impl Member {
         view.members.has(self.me) && view.members.has(leader) && self.view != Some(view)
     }
 
-    fn followed_view(&self, leader: Rank) -> Option<View>
+    pub(crate) fn followed_view(&self, leader: Rank) -> Option<View>
         requires { leader.0 < 32 }
         ensures exact { result ≡ followed_view self.now leader.0 }
         ensures other { IfSome result (λ view. self.now.view ≢ Some view) }
