@@ -58,7 +58,7 @@ fn unknowing(members: Mask, facts: &Facts) -> Option<Rank>
 }
 
 /// Whether each of two nodes hears the other. Each meets itself.
-fn meets(facts: &Facts, one: Rank, other: Rank) -> bool
+pub fn meets(facts: &Facts, one: Rank, other: Rank) -> bool
     requires one { one.0 < 32 }
     requires other { other.0 < 32 }
     ensures { result ≡ meets facts.now one.0 other.0 }
@@ -68,7 +68,7 @@ fn meets(facts: &Facts, one: Rank, other: Rank) -> bool
 }
 
 /// Whether a node meets each member that the leader sees.
-fn hears_all(members: Mask, facts: &Facts, rank: Rank) -> bool
+pub fn hears_all(members: Mask, facts: &Facts, rank: Rank) -> bool
     requires { rank.0 < 32 }
     ensures { result ≡ hears_all facts.now members rank.0 }
 {

@@ -8,7 +8,7 @@ mod candidate;
 mod laws;
 mod number;
 
-pub use candidate::{Facts, Name, candidate_of};
+pub use candidate::{Facts, Name, candidate_of, hears_all, meets};
 pub use laws::{
     law_best_is_heaviest, law_holder_is_kept, law_name_is_kept, law_names_choose,
     law_only_the_named_start, law_plain_numbers, law_plain_views, law_who_can_meets_all,

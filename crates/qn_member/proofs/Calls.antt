@@ -274,7 +274,7 @@ installed_differs : (found : Option View) (m : Maker) (rank since : ℕ) → ran
 installed_differs None m rank since below room is = is
 installed_differs (Some view) m rank since below room is =
     by_test (not (is_in_one (is_member view.members rank) (is_present_member m rank)) && is_in_one (is_member view.members rank) (is_member (company_at m) rank))
-    (sym (item_of_rank (differs_still m view) 32 m.differs rank (omega arith) below) ∙ is)
+    (sym (item_of_rank (differs_still m (company_at m) view) 32 m.differs rank (omega arith) below) ∙ is)
   where
     by_test : (stays : Bool) → (if stays then of_rank m.differs rank else None) ≡ Some since → of_rank m.differs rank ≡ Some since
     by_test true is = is

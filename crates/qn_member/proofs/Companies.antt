@@ -9,7 +9,7 @@ use Rattle.qn_model.specs.lemmas.LeastRanks.{least_bound}
 use Rattle.qn_member.specs.Maker.{Maker, able_nodes, company_at, company_under, has_configured, is_kept, is_led, kept_nodes, leader_at, leader_of, led_nodes}
 use Rattle.qn_member.proofs.Ranks.{member_of-ranks_that, member-lt}
 
-found_within : (one other : Option ℕ) (found count : ℕ) → ((n : ℕ) → one ≡ Some n → n < count) → ((n : ℕ) → other ≡ Some n → n < count)
+pub found_within : (one other : Option ℕ) (found count : ℕ) → ((n : ℕ) → one ≡ Some n → n < count) → ((n : ℕ) → other ≡ Some n → n < count)
     → option_or one other ≡ Some found → found < count
 found_within None other found count first second is = second found is
 found_within (Some n) other found count first second is = first found is

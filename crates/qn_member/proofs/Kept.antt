@@ -10,7 +10,7 @@ use Rattle.qn_model.specs.declared.nodelist.NodeEntry.{NodeEntry}
 use Rattle.qn_member.specs.Maker.{KeepsConfigured, has_configured}
 use Rattle.qn_member.proofs.Ranks.{member-lt}
 
-nothing_at : {A : Type 0} (count rank : ℕ) (none : A) → (rank < count) ⊎ (count ≤ rank) → get_or (replicate count none) rank none ≡ none
+pub nothing_at : {A : Type 0} (count rank : ℕ) (none : A) → (rank < count) ⊎ (count ≤ rank) → get_or (replicate count none) rank none ≡ none
 nothing_at count rank none (inl under) = get_or-replicate count rank none none under
 nothing_at count rank none (inr past) = get_or_past (replicate count none) rank none (rw length-replicate past)
 

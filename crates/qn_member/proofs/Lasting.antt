@@ -96,7 +96,7 @@ early_view since tick company m (Some view) room same own early = λ rank below 
     still_is : (rank : ℕ) → rank < 32 → is_member view.members rank ≡ true → is_member company rank ≡ false → is_present_member m rank ≡ true
         → of_rank (installed (Some view) m).differs rank ≡ of_rank m.differs rank
     still_is rank below in_view out present =
-        item_of_rank (differs_still m view) 32 m.differs rank (omega arith) below
+        item_of_rank (differs_still m (company_at m) view) 32 m.differs rank (omega arith) below
         ∙ (ap (λ b. if not (is_in_one b (is_present_member m rank)) && is_in_one b (is_member (company_at m) rank) then of_rank m.differs rank else None) in_view
         ∙ (ap (λ b. if not (not b) && not (is_member (company_at m) rank) then of_rank m.differs rank else None) present
         ∙ ap (λ b. if true && not b then of_rank m.differs rank else None) (ap (λ (c : Mask). is_member c rank) same ∙ out)))

@@ -5,7 +5,10 @@ pub mod Follows
 pub mod Heard
 pub mod Kept
 pub mod Lasting
+pub mod Leaders
+pub mod NamedViews
 pub mod Owning
 pub mod Ranks
 mod Rows
 pub mod Settles
+pub mod Silent

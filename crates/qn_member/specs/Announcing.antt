@@ -1,5 +1,5 @@
 -- When a Hello of a running node is due, and which views it announces. This project's profile.
-use Rattle.std.specs.Prelude.{ℕ, Bool, true, false, Option, None, Some, ◌+◌, ◌-◌, ◌*◌, ◌==◌, ◌&&◌, ◌||◌, not, nat_le, if◌then◌else◌, is_some, length, option_and_then}
+use Rattle.std.specs.Prelude.{ℕ, Bool, true, false, Option, None, Some, ◌+◌, ◌*◌, ◌==◌, ◌&&◌, ◌||◌, not, nat_le, if◌then◌else◌, is_some, length, option_and_then}
 use Rattle.std.specs.Option.{option_map_or}
 use Rattle.qn_base.specs.declared.ids.Mask.{Mask}
 use Rattle.qn_base.specs.declared.ids.Rank.{Rank}

@@ -252,12 +252,14 @@ outside_nodes tick m company = record { 0 = ranks_that (is_outside tick m compan
 abbrev pub first_loops : ℕ → Maker → Mask → ℕ
 first_loops tick m company = if (outside_nodes tick m company).0 == 0 then 3 else 4
 
--- there is no first view, own or announced, before all nodes are in company or so many loops passed since the first look
+-- so many loops passed since the first look
+abbrev pub is_first_due : ℕ → Maker → Mask → Bool
+is_first_due tick m company =
+    option_map_or (λ first. nat_le (first + first_loops tick m company * m.loop_ms) tick) m.first_look false
+
+-- there is no first view, own or announced, before all nodes are in company or that many loops passed
 abbrev pub may_install : ℕ → Maker → Mask → Bool
-may_install tick m company =
-    is_some m.view
-    || are_all_in m.nodes company
-    || option_map_or (λ first. nat_le (first + first_loops tick m company * m.loop_ms) tick) m.first_look false
+may_install tick m company = is_some m.view || are_all_in m.nodes company || is_first_due tick m company
 
 -- the present members are these
 abbrev pub is_present : Maker → Mask → Bool
@@ -400,15 +402,18 @@ company_at m = option_map_or (company_under m m.seen) (leader_at m) m.seen
 abbrev pub led_by : Maker → Option ℕ
 led_by m = option_or (option_map (λ rank. rank.0) m.says.follows) (least_of m m.seen)
 
--- the look is remembered, and the change that it finds
-abbrev pub noted : ℕ → Maker → Maker
-noted tick m =
+-- a look that finds this company is remembered, the change that it finds, and what a Hello says
+abbrev pub noted_with : ℕ → Mask → Said → Maker → Maker
+noted_with tick company said m =
     record m {
       first_look = option_or m.first_look (Some tick);
-      change = change_at tick m (company_at m);
-      differs = with_ranks (differs_at tick m (company_at m)) 32 m.differs;
-      says = said_at tick m;
+      change = change_at tick m company;
+      differs = with_ranks (differs_at tick m company) 32 m.differs;
+      says = said;
     }
+
+abbrev pub noted : ℕ → Maker → Maker
+noted tick m = noted_with tick (company_at m) (said_at tick m) m
 
 abbrev pub looked : ℕ → Maker → Maker
 looked tick m = noted tick (seeing tick m)
@@ -418,23 +423,26 @@ next_view tick m =
     if may_install tick m (company_at m) then option_and_then (view_under tick m (company_at m)) (leader_at m) else None
 
 -- a rank goes on differing from a new view where its place did not change and the company still differs
-abbrev pub differs_still : Maker → View → ℕ → Option ℕ
-differs_still m view rank =
+abbrev pub differs_still : Maker → Mask → View → ℕ → Option ℕ
+differs_still m company view rank =
     if not (is_in_one (is_member view.members rank) (is_present_member m rank))
-    && is_in_one (is_member view.members rank) (is_member (company_at m) rank)
+    && is_in_one (is_member view.members rank) (is_member company rank)
     then of_rank m.differs rank
     else None
 
 -- a new view ends the change
-abbrev pub installed : Option View → Maker → Maker
-installed None m = m
-installed (Some view) m =
+abbrev pub installed_beside : Mask → Option View → Maker → Maker
+installed_beside company None m = m
+installed_beside company (Some view) m =
     record m {
       view = Some view;
       greatest = max m.greatest (without_name view.id);
       change = None;
-      differs = with_ranks (differs_still m view) 32 m.differs;
+      differs = with_ranks (differs_still m company view) 32 m.differs;
     }
+
+abbrev pub installed : Option View → Maker → Maker
+installed next m = installed_beside (company_at m) next m
 
 -- a look at a tick: the view that it makes, where the present one does not stay, and the view maker after it
 unfoldable pub view_at : ℕ → Maker → Option View

@@ -32,7 +32,7 @@ impl Member {
         due
     }
 
-    fn is_beat(&self, tick: u64) -> bool
+    pub(crate) fn is_beat(&self, tick: u64) -> bool
         ensures { result ≡ is_beat tick self.now }
     {
         match self.last_hello {

@@ -8,7 +8,7 @@ impl Member {
     ghost use Rattle.qn_member.specs.Maker.{is_outside, outside_nodes, company_at, leader_at, company_under, disputed_nodes, follows_other, has_configured, is_disputed, is_kept, is_known, is_led, is_missed, is_overdue, is_present, is_present_member, kept_nodes, known_nodes, led_nodes, overdue_nodes};
 
     /// Whether a node said that it follows another node than this one.
-    fn follows_other(&self, rank: Rank) -> bool
+    pub(crate) fn follows_other(&self, rank: Rank) -> bool
         requires { rank.0 < 32 }
         ensures { result ≡ follows_other self.now rank.0 }
     {

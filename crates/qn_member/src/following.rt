@@ -67,7 +67,7 @@ impl Member {
         self.enough <= self.nodes.votes_among(self.upper_nodes(visible))
     }
 
-    fn says_able(&self, rank: Rank) -> bool
+    pub(crate) fn says_able(&self, rank: Rank) -> bool
         requires { rank.0 < 32 }
         ensures { result ≡ says_able self.now rank.0 }
     {

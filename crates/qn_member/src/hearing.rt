@@ -4,7 +4,7 @@ use qn_base::{Mask, Rank, Said, View};
 use qn_candidate::without_name;
 
 /// What a plain Hello says, of a node of an older version.
-const PLAIN: Said = Said {
+pub(crate) const PLAIN: Said = Said {
     hears: Mask(u32::MAX),
     follows: None,
     able: true,
@@ -35,7 +35,7 @@ impl Member {
         }
     }
 
-    fn says_more(&self, tick: u64, from: Rank) -> bool
+    pub(crate) fn says_more(&self, tick: u64, from: Rank) -> bool
         requires { from.0 < 32 }
         ensures { result ≡ says_more tick self.now from.0 }
     {
@@ -49,7 +49,7 @@ impl Member {
     }
 
     /// What a Hello says here: with `two_node` each one counts as a plain one.
-    fn said_in(&self, said: Said) -> Said
+    pub(crate) fn said_in(&self, said: Said) -> Said
         ensures { result ≡ said_in self.now said }
     {
         if self.enough == 0 { PLAIN } else { said }

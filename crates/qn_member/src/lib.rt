@@ -11,7 +11,13 @@ mod company;
 mod following;
 mod hearing;
 mod laws;
+mod lead;
 mod member;
+mod naming;
+mod naming_following;
+mod naming_laws;
+mod naming_said;
+mod naming_views;
 mod settling;
 mod told;
 
@@ -22,5 +28,8 @@ pub use laws::{
     law_leader_has_enough, law_leads, law_one_side, law_own_views, law_views_settle,
     law_views_settle_at_last, law_visible_nodes,
 };
+pub use lead::Lead;
 pub use member::Member;
+pub use naming::NamingMember;
+pub use naming_laws::{law_barred_copies, law_named_views, law_silent_node};
 pub use told::Told;

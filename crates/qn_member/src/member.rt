@@ -152,7 +152,7 @@ impl Member {
     }
 
     /// Whom a look sees, and of whom it is forgotten then whom they follow.
-    fn see(&mut self, tick: u64)
+    pub(crate) fn see(&mut self, tick: u64)
         ensures exact { self.new ≡ seeing tick self.old }
         ensures configured { has_configured self.new.nodes self.new.seen ≡ true }
     {

@@ -4,7 +4,7 @@ ghost use Rattle.qn_member.specs.Maker.{is_in_one};
 
 use crate::change::Change;
 use crate::member::Member;
-use qn_base::{Mask, Rank, View};
+use qn_base::{Mask, Rank, Said, View};
 use qn_candidate::{next_plain, without_name};
 
 /// Whether a node is in one of two sets alone.
@@ -18,7 +18,7 @@ impl Member {
     ghost use Rattle.std.specs.Prelude.{◌≡◌, ◌≢◌, ◌<◌, ◌≤◌, IfSome, IsTrue, Some, false, true};
     ghost use Rattle.std.specs.Option.{option_map_or};
     ghost use Rattle.qn_base.specs.Members.{is_member};
-    ghost use Rattle.qn_member.specs.Maker.{first_loops, change_at, company_at, differs_still, noted, with_ranks, changed, differs_at, followed_view, has_configured, installed, is_quiet, is_steady, is_taken, may_install, members_at, next_view, own_view};
+    ghost use Rattle.qn_member.specs.Maker.{first_loops, is_first_due, change_at, differs_still, noted, noted_with, installed_beside, with_ranks, changed, differs_at, followed_view, has_configured, installed, is_quiet, is_steady, is_taken, may_install, members_at, next_view, own_view};
 
     /// Remembers the look, the change that it finds, and what a Hello says then.
     pub(crate) fn note(&mut self, tick: u64)
@@ -27,13 +27,20 @@ impl Member {
         ensures configured { has_configured self.new.nodes self.new.seen ≡ true }
     {
         let company = self.company();
+        let said = self.said_at(tick);
+        self.note_with(tick, company, said);
+    }
+
+    /// Remembers a look that finds this company, the change that it finds, and what a Hello says.
+    pub(crate) fn note_with(&mut self, tick: u64, company: Mask, said: Said)
+        ensures { self.new ≡ noted_with tick company said self.old }
+    {
         let change = self.change_at(tick, company);
         let differs = self.differs_after(tick, company);
-        let says = self.said_at(tick);
         self.first_look = self.first_look.or(Some(tick));
         self.change = change;
         self.differs = differs;
-        self.says = says;
+        self.says = said;
     }
 
     fn change_at(&self, tick: u64, company: Mask) -> Option<Change>
@@ -87,7 +94,7 @@ impl Member {
         }
     }
 
-    fn is_steady(&self, tick: u64) -> bool
+    pub(crate) fn is_steady(&self, tick: u64) -> bool
         ensures { result ≡ is_steady tick self.now }
     {
         match self.change {
@@ -127,9 +134,13 @@ impl Member {
     fn may_install(&self, tick: u64, company: Mask) -> bool
         ensures { result ≡ may_install tick self.now company }
     {
-        if self.view.is_some() || self.nodes.are_all_in(company) {
-            return true;
-        }
+        self.view.is_some() || self.nodes.are_all_in(company) || self.is_first_due(tick, company)
+    }
+
+    /// Whether so many loops passed since the first look that a first view may come.
+    pub(crate) fn is_first_due(&self, tick: u64, company: Mask) -> bool
+        ensures { result ≡ is_first_due tick self.now company }
+    {
         match self.first_look {
             Some(first) => {
                 let wait = u128::from(self.first_loops(tick, company)) * u128::from(self.loop_ms);
@@ -140,7 +151,7 @@ impl Member {
     }
 
     /// The members of the view of a leader with this company, where one may be made.
-    fn members_at(&self, tick: u64, company: Mask) -> Option<Mask>
+    pub(crate) fn members_at(&self, tick: u64, company: Mask) -> Option<Mask>
         requires configured { has_configured self.now.nodes company ≡ true }
         requires own { is_member company self.now.me ≡ true }
         ensures exact { result ≡ members_at tick self.now company }
@@ -198,7 +209,7 @@ impl Member {
         view.members.has(self.me) && view.members.has(leader) && self.view != Some(view)
     }
 
-    fn followed_view(&self, leader: Rank) -> Option<View>
+    pub(crate) fn followed_view(&self, leader: Rank) -> Option<View>
         requires { leader.0 < 32 }
         ensures exact { result ≡ followed_view self.now leader.0 }
         ensures other { IfSome result (λ view. self.now.view ≢ Some view) }
@@ -236,9 +247,8 @@ impl Member {
     }
 
     fn differs_still(&self, view: View, company: Mask, rank: Rank) -> Option<u64>
-        requires few { rank.0 < 32 }
-        requires found { company ≡ company_at self.now }
-        ensures { result ≡ differs_still self.now view rank.0 }
+        requires { rank.0 < 32 }
+        ensures { result ≡ differs_still self.now company view rank.0 }
     {
         let is_in = view.members.has(rank);
         if !is_in_one(is_in, self.is_present_member(rank)) && is_in_one(is_in, company.has(rank)) {
@@ -249,8 +259,7 @@ impl Member {
     }
 
     fn differs_beside(&self, view: View, company: Mask) -> [Option<u64>; 32]
-        requires { company ≡ company_at self.now }
-        ensures { result ≡ with_ranks (differs_still self.now view) 32 self.now.differs }
+        ensures { result ≡ with_ranks (differs_still self.now company view) 32 self.now.differs }
     {
         let mut differs = self.differs;
         for rank in 0u8..32 {
@@ -263,8 +272,15 @@ impl Member {
         requires { has_configured self.old.nodes self.old.seen ≡ true }
         ensures { self.new ≡ installed next self.old }
     {
+        let company = self.company();
+        self.install_beside(company, next);
+    }
+
+    /// The view of a look that finds this company is the present one from now on.
+    pub(crate) fn install_beside(&mut self, company: Mask, next: Option<View>)
+        ensures { self.new ≡ installed_beside company next self.old }
+    {
         if let Some(view) = next {
-            let company = self.company();
             let differs = self.differs_beside(view, company);
             self.view = next;
             self.greatest = self.greatest.max(without_name(view.id));

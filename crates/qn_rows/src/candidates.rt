@@ -60,7 +60,7 @@ fn read_weights(text: &str) -> Option<[u8; 32]> {
 }
 
 /// A set of ranks, `-` for none.
-fn ranks(text: &str) -> Option<Mask> {
+pub(crate) fn ranks(text: &str) -> Option<Mask> {
     if text == "-" {
         return Some(Mask(0));
     }
@@ -68,7 +68,7 @@ fn ranks(text: &str) -> Option<Mask> {
 }
 
 /// A rank, or `-` for none.
-fn rank_or_none(text: &str) -> Option<Option<Rank>> {
+pub(crate) fn rank_or_none(text: &str) -> Option<Option<Rank>> {
     match text {
         "-" => Some(None),
         _ => Some(Some(read_rank(text)?)),

@@ -2,6 +2,7 @@
 use super::calls::{check_fence, check_line, check_members};
 use super::candidates::check_candidate;
 use super::counts::Count;
+use super::decisions::check_decision;
 use super::histories::History;
 use super::makers::Makers;
 use super::packets::{Changes, PacketRow};
@@ -29,6 +30,7 @@ struct Totals {
     ties: u64,
     calls: u64,
     candidates: u64,
+    decisions: u64,
     packets: u64,
     /// How many of those rows spell a packet.
     good: u64,
@@ -117,6 +119,10 @@ impl Reader {
                 self.totals.candidates = self.totals.candidates.saturating_add(1);
                 said(check_candidate(alloc, row), "whom a leader names")
             }
+            "decision" => {
+                self.totals.decisions = self.totals.decisions.saturating_add(1);
+                said(check_decision(alloc, row), "what a view maker decides")
+            }
             "packet" => self.packet_difference(alloc, row),
             "maker" => said(self.makers.check(alloc, row), "the answer of a view maker"),
             "poll" => said(self.polls.check(alloc, row), "the arbiter"),
@@ -192,6 +198,7 @@ impl Reader {
         println!(rt; "calls of a tie breaker {}", totals.ties)?;
         println!(rt; "calls beside others {}", totals.calls)?;
         println!(rt; "candidates {}", totals.candidates)?;
+        println!(rt; "decisions {}", totals.decisions)?;
         println!(rt; "packets {} good {}", totals.packets, totals.good)?;
         println!(rt;
             "changes of a byte {} packets {} differ {}",

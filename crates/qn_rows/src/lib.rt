@@ -16,6 +16,7 @@
 //!     line TEXT LINE                      the event that is read from that line under these settings is written as it
 //!     fence CALL ANSWER                   as `calls` says
 //!     candidate ..                        as `candidates` says
+//!     decision ..                         as `decisions` says
 //!     packet BYTES PACKET                 these bytes spell that packet, or `none`
 //!     maker CALL ANSWER                   as `makers` says
 //!     poll CALL ANSWER                    as `polls` says
@@ -29,6 +30,7 @@ mod calls;
 mod candidates;
 mod checking;
 mod counts;
+mod decisions;
 mod histories;
 mod makers;
 mod packets;

@@ -94,7 +94,7 @@ fn member_of(settings: &Settings, me: &str, loop_ms: &str) -> Option<Member> {
 }
 
 /// Settings of nodes of these votes, where a side needs so many.
-fn settings_with(count: u8, enough: u64, votes: &str) -> Option<Settings> {
+pub(crate) fn settings_with(count: u8, enough: u64, votes: &str) -> Option<Settings> {
     let mut nodes = Nodes::new();
     let mut id = 0u32;
     for word in votes.split(',') {

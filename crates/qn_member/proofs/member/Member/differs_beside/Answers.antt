@@ -9,4 +9,4 @@ loop-rank-init c = let same = ap (λ (m : Maker). m.differs) c.self.view_is in c
 
 pub loop-rank-preserved : goal.loop-rank-preserved
 loop-rank-preserved c =
-    one_rank_more (differs_still c.args.self.now c.args.view) c.loop-rank.rank c.args.self.now.differs c.loop-rank.differs c.from.result c.differs_still.result c.loop-rank.invariant c.from.ensures c.differs_still.ensures
+    one_rank_more (differs_still c.args.self.now c.args.company c.args.view) c.loop-rank.rank c.args.self.now.differs c.loop-rank.differs c.from.result c.differs_still.result c.loop-rank.invariant c.from.ensures c.differs_still.ensures

@@ -1,0 +1,24 @@
+use Rattle.std.proofs.Common.{◌<◌, ◌^◌, refl, sym, ◌∙◌, ap, arith}
+use Rattle.qn_member.specs.NamingViews.{is_apart}
+use Rattle.qn_member.specs.Maker.{ranks_that}
+use Rattle.qn_member.proofs.Ranks.{with_passing, without_passing}
+use Rattle.qn_member.proofs.naming.NamingMember.apart_nodes.Goals as goal
+use Rattle.qn_member.proofs.naming.NamingMember.apart_nodes.Goals.{then-is_apart, else-is_apart}
+
+pub loop-rank-init : goal.loop-rank-init
+unfolding ranks_that
+loop-rank-init c = refl
+
+pub loop-rank-preserved : goal.loop-rank-preserved
+loop-rank-preserved c =
+    let rank = c.loop-rank.rank in
+    let before = c.loop-rank.found.0 in
+    let test = is_apart c.args.facts.now c.args.company in
+    let within : rank < 32 = omega arith in
+    elim c.if-is_apart.branch [
+      | then-is_apart w ↦ (let fits : w.with-found.result.0 < 2 ^ 32 = omega arith in
+          ap (λ mask. mask.0) w.found-is
+          ∙ with_passing test before w.with-found.result.0 rank within fits (sym c.is_apart.ensures ∙ w.if-is_apart.true) c.loop-rank.invariant w.with-found.ensures)
+      | else-is_apart w ↦
+          ap (λ mask. mask.0) w.found-is ∙ without_passing test before rank (sym c.is_apart.ensures ∙ w.if-is_apart.false) c.loop-rank.invariant
+    ]

@@ -1,0 +1,7 @@
+use Rattle.std.proofs.Common.{◌≡◌}
+use Rattle.qn_member.specs.Naming.{is_keeper}
+use Rattle.qn_member.specs.Maker.{ranks_that}
+use Rattle.qn_member.proofs.naming.NamingMember.keepers.Given as goal
+
+abbrev pub invariant-loop-rank : goal.invariant-loop-rank
+invariant-loop-rank l = l.found.0 ≡ ranks_that (is_keeper l.self l.facts) l.rank

@@ -1,0 +1,193 @@
+//! A view maker whose views name who may start, and its calls but for the look.
+ghost use Rattle.std.specs.Prelude.{◌≡◌, ◌<◌};
+ghost use Rattle.qn_member.specs.Naming.{has_bit, own_flags};
+
+use crate::hearing::PLAIN;
+use crate::lead::Lead;
+use crate::member::Member;
+use qn_base::{Mask, Rank, Said, Standing, View};
+use qn_model::Settings;
+use std::marker::Model;
+
+/// The bits of what a node says of itself beside its Hello: it may never hold.
+pub(crate) const BARRED: u8 = 0;
+/// It may not hold now.
+pub(crate) const UNFIT: u8 = 1;
+/// It holds.
+pub(crate) const HOLDS: u8 = 3;
+/// It asks for the resource.
+pub(crate) const PULLS: u8 = 2;
+/// It holds, or sees a node that says so.
+pub(crate) const KEEPS: u8 = 4;
+/// It knows names.
+pub(crate) const KNOWS: u8 = 5;
+
+/// The view maker of a node that knows names (this project's profile). Without `stand` it is a `Member`.
+#[derive(Drop)]
+pub struct NamingMember {
+    pub(crate) member: Member,
+    /// By rank, whom a node hears as its last Hello says; of the node itself, whom it sees.
+    pub(crate) hears: [Mask; 32],
+    /// By rank, the bits of what a node said of itself; 0 where it knows no names.
+    pub(crate) flags: [u8; 32],
+    /// By rank, how much a node is preferred: more is better.
+    pub(crate) weights: [u8; 32],
+    /// Who led at the last look, and since when.
+    pub(crate) lead: Option<Lead>,
+    /// The nodes that announced a view since then.
+    pub(crate) came: Mask,
+    /// The tick at which the present view came.
+    pub(crate) made: Option<u64>,
+    /// At the last look each visible node knew names.
+    pub(crate) naming: bool,
+    /// The view that was handed on last is one under which nobody may start.
+    pub(crate) closed: bool,
+    /// What the node says of itself after the last look.
+    pub(crate) stands: Standing,
+    /// What it said of itself last.
+    pub(crate) told_stands: Standing,
+}
+
+impl Model for NamingMember {
+    ghost use Rattle.qn_member.specs.Naming.{NamingMaker};
+
+    ghost Value = { NamingMaker };
+
+    ghost view = { λ m.
+        record {
+          maker = m.member;
+          hears = m.hears;
+          flags = m.flags;
+          weights = m.weights;
+          lead = m.lead;
+          came = m.came;
+          made = m.made;
+          naming = m.naming;
+          closed = m.closed;
+          stands = m.stands;
+          told_stands = m.told_stands;
+        } };
+}
+
+/// Whether a node says so of itself.
+pub(crate) fn has_bit(flags: u8, bit: u8) -> bool
+    requires { bit < 8 }
+    ensures { result ≡ has_bit flags bit }
+{
+    flags >> bit & 1 == 1
+}
+
+/// What the node itself says: whether it is barred, unfit, or pulls, whether it holds, and that it knows names.
+fn own_flags(standing: Standing, holds: bool) -> u8
+    ensures { result ≡ own_flags standing holds }
+{
+    standing.flags % 8 + if holds { 40 } else { 32 }
+}
+
+impl NamingMember {
+    ghost use Rattle.std.specs.Prelude.{◌≡◌, ◌<◌, IsTrue};
+    ghost use Rattle.qn_member.specs.Naming.{after_named_announce, after_named_hello, after_named_plain_hello, after_stand, after_standing, first_naming, flags_of, is_other, is_own};
+
+    /// The view maker of the node of that rank.
+    pub fn new(settings: &Settings, me: Rank, loop_ms: u64) -> Self
+        ensures { result ≡ first_naming settings.now me.0 loop_ms }
+    {
+        NamingMember {
+            member: Member::new(settings, me, loop_ms),
+            hears: [Mask(0); 32],
+            flags: [0; 32],
+            weights: [0; 32],
+            lead: None,
+            came: Mask(0),
+            made: None,
+            naming: false,
+            closed: false,
+            stands: Standing {
+                flags: 0,
+                weight: 0,
+            },
+            told_stands: Standing {
+                flags: 0,
+                weight: 0,
+            },
+        }
+    }
+
+    fn is_other(&self, from: Rank) -> bool
+        ensures exact { result ≡ is_other self.now from.0 }
+        ensures below { IsTrue result → from.0 < 32 }
+    {
+        self.member.is_configured(from) && from != self.member.me
+    }
+
+    /// A Hello of that rank came at this tick, which says this. What its sender says of itself counts no more, until
+    /// `on_standing` says it anew. That of a rank that is not configured is passed over.
+    pub fn on_hello(&mut self, tick: u64, from: Rank, said: Said)
+        ensures { self.new ≡ after_named_hello tick from.0 said self.old }
+    {
+        if self.is_other(from) {
+            self.hears[usize::from(from.0)] = self.member.said_in(said).hears;
+            self.flags[usize::from(from.0)] = 0;
+        }
+        self.member.on_hello(tick, from, said);
+    }
+
+    /// A plain Hello came, of a node of an older version.
+    pub fn on_plain_hello(&mut self, tick: u64, from: Rank)
+        ensures { self.new ≡ after_named_plain_hello tick from.0 self.old }
+    {
+        if self.member.is_configured(from) && !self.member.says_more(tick, from) {
+            self.on_hello(tick, from, PLAIN);
+        }
+    }
+
+    /// What that rank says of itself beside the Hello that came last: it counts where the node knows names.
+    pub fn on_standing(&mut self, from: Rank, standing: Standing)
+        ensures { self.new ≡ after_standing from.0 standing self.old }
+    {
+        if self.is_other(from) && has_bit(standing.flags, KNOWS) {
+            self.flags[usize::from(from.0)] = standing.flags;
+            self.weights[usize::from(from.0)] = standing.weight;
+        }
+    }
+
+    /// What the node says of itself from now on: whether it is barred, unfit, or pulls (bits 0 to 2), how much it is preferred, and
+    /// whether it holds. From the first call on it knows names.
+    pub fn stand(&mut self, standing: Standing, holds: bool)
+        ensures { self.new ≡ after_stand standing holds self.old }
+    {
+        let me = self.member.me;
+        if self.member.is_configured(me) {
+            self.flags[usize::from(me.0)] = own_flags(standing, holds);
+            self.weights[usize::from(me.0)] = standing.weight;
+        }
+    }
+
+    /// That rank announced a view, as a view maker without names takes it.
+    pub fn on_announce(&mut self, tick: u64, from: Rank, view: View)
+        ensures { self.new ≡ after_named_announce from.0 view self.old }
+    {
+        if self.member.is_configured(from) && self.member.has_configured(view.members) {
+            self.came = Mask(self.came.0 | 1 << from.0);
+        }
+        self.member.on_announce(tick, from, view);
+    }
+
+    /// What that node said of itself.
+    pub(crate) fn flags_of(&self, rank: Rank) -> u8
+        requires { rank.0 < 32 }
+        ensures { result ≡ flags_of self.now rank.0 }
+    {
+        self.flags[usize::from(rank.0)]
+    }
+
+    /// Whether the node says so of itself.
+    pub(crate) fn is_own(&self, bit: u8) -> bool
+        requires { bit < 8 }
+        ensures exact { result ≡ is_own self.now bit }
+        ensures below { IsTrue result → self.now.maker.me < 32 }
+    {
+        let me = self.member.me;
+        me.0 < 32 && has_bit(self.flags_of(me), bit)
+    }
+}
