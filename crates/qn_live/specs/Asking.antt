@@ -21,7 +21,7 @@ IsWithin asked.Now = Unit {0}
 IsWithin asked.Feed = Unit {0}
 IsWithin asked.Start = Unit {0}
 IsWithin asked.Stop = Unit {0}
-IsWithin (asked.Send to) = to.0 < 32
+IsWithin (asked.Send to) = to.0 < 33
 IsWithin asked.Disarm = Unit {0}
 IsWithin (asked.Halt code) = Unit {0}
 
@@ -34,7 +34,7 @@ IsServed asked.Now = Unit {0}
 IsServed asked.Feed = Unit {0}
 IsServed asked.Start = Unit {0}
 IsServed asked.Stop = Unit {0}
-IsServed (asked.Send to) = to.0 < 32
+IsServed (asked.Send to) = to.0 < 33
 IsServed asked.Disarm = Unit {0}
 IsServed (asked.Halt code) = Unit {0}
 

@@ -32,6 +32,7 @@ mod notices;
 mod outputs;
 mod part;
 mod place;
+mod polling;
 mod run;
 mod running;
 mod standing;
