@@ -35,7 +35,7 @@ part_claims_0 =
     ∷ Returns 0 (call.Read 0 (header_bytes 2 short_times) true)
     ∷ Lands 0
     ∷ Looks 0 0
-    ∷ Begins 0 false None 40
+    ∷ Begins 0 false None None 40
     ∷ []
 
 abbrev claims_0 : List Happening
@@ -107,7 +107,7 @@ part_claims_1 =
     ∷ Returns 1 (call.Read 0 (header_bytes 2 short_times) true)
     ∷ Lands 1
     ∷ Looks 1 0
-    ∷ Begins 1 false None 40
+    ∷ Begins 1 false None None 40
     ∷ []
 
 abbrev claims_1 : List Happening

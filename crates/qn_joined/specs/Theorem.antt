@@ -58,10 +58,11 @@ TakesAlike s t =
 -- the process stands.
 pub record IsRunSoFar (s : Settings) (rank : ℕ) (calls : List Call) (host : Host) : Type 0 where
   pub clean : Bool
+  pub polls : Option ℕ
   pub turns : ℕ
   pub goes_on : (more : List Call) (value : Ran)
       → Follows (plan_at s rank host.leave host.stand) more value
-      → Follows (live_plan s rank clean host.leave turns) (calls ++ more) value
+      → Follows (live_plan s rank clean host.leave polls turns) (calls ++ more) value
 
 abbrev pub RunsAreRuns : Settings → Timing → Type 0
 RunsAreRuns s t =

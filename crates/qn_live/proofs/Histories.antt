@@ -3,7 +3,7 @@ use Rattle.std.proofs.Common.{◌≡◌, ℕ, suc, zero, Bool, true, false, ◌+
 use Rattle.std.specs.Prelude.{nat_lt}
 use Rattle.std.specs.Option.{option_map_or}
 use Rattle.qn_base.specs.declared.calls.Call.{Call}
-use Rattle.qn_base.specs.Plans.{Plan, Ends, Asks, Follows}
+use Rattle.qn_base.specs.Plans.{Plan, Ends, Asks, Follows, ◌>>=◌}
 use Rattle.qn_io.specs.Answered.{received_in, time_of}
 use Rattle.qn_model.specs.declared.configuration.Settings.{Settings}
 use Rattle.qn_model.specs.declared.packets.Packet.{Packet}

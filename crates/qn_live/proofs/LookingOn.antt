@@ -3,7 +3,7 @@ use Rattle.std.proofs.Common.{◌≡◌, ℕ, Bool, true, false, List, [], ◌�
 use Rattle.std.specs.Prelude.{nat_lt}
 use Rattle.std.specs.Option.{option_map_or}
 use Rattle.qn_base.specs.declared.calls.Call.{Call}
-use Rattle.qn_base.specs.Plans.{Ends, Follows}
+use Rattle.qn_base.specs.Plans.{Ends, ◌>>=◌, Follows}
 use Rattle.qn_model.specs.declared.configuration.Settings.{Settings}
 use Rattle.qn_model.specs.declared.entries.What.{What}
 use Rattle.qn_model.specs.declared.outputs.Out.{Out}
@@ -17,9 +17,11 @@ use Rattle.qn_live.specs.declared.place.Choice.TheVariants as choice
 use Rattle.qn_live.specs.declared.place.Waits.{Waits}
 use Rattle.qn_live.specs.Choosing.{choice_plan, is_late, look_after, looked, looking, open_plan, ready}
 use Rattle.qn_live.specs.Performing.{end_in, noted, outs_plan}
-use Rattle.qn_live.specs.Polling.{answered, answered_at}
+use Rattle.qn_live.specs.declared.place.Greeting.TheVariants as greeting
+use Rattle.qn_live.specs.Greetings.{sends_plan, to_send}
+use Rattle.qn_live.specs.Polling.{answered, answered_at, poll_due, poll_plan, polled}
 use Rattle.qn_live.specs.Running.{RunState, Turned, Over, Next}
-use Rattle.qn_live.specs.Runs.{clocked, greeted, handled, parted, settled, taken}
+use Rattle.qn_live.specs.Runs.{asked_maker, clocked, greeted, greets, handled, parted, settled, taken}
 use Rattle.qn_live.proofs.Always.{Always, always_follows, always_then}
 use Rattle.qn_live.proofs.Histories.{poll_always, sends_always}
 
@@ -43,8 +45,12 @@ settled_look s me entry outs st last is =
   where
     by_end : (found : Option LiveEnd) → Always (LooksFrom last) (option_map_or (λ end. parted s me end st) found (greeted s me entry st))
     by_end None =
-        always_then (λ told. Unit {0}) (LooksFrom last) _ _ (poll_always _)
-        (λ told nothing. always_then (λ sent. Unit {0}) (LooksFrom last) _ _ (sends_always _) (λ sent nothing. is))
+        let asked = asked_maker s me st in
+        let sents = if greets s me st then to_send s me asked.maker greeting.Hello 0 else [] in
+        let poll = poll_due s me (greets s me st) entry asked in
+        let next = polled s me (greets s me st) entry asked in
+        always_then (λ told. Unit {0}) (LooksFrom last) (poll_plan poll) (λ told. sends_plan sents >>= (λ sent. Ends (Next next))) (poll_always poll)
+        (λ told nothing. always_then (λ sent. Unit {0}) (LooksFrom last) (sends_plan sents) (λ sent. Ends (Next next)) (sends_always sents) (λ sent nothing. is))
     by_end (Some end) = always_then (λ sent. Unit {0}) (LooksFrom last) _ _ (sends_always _) (λ sent nothing. tt)
 
 handled_look : (s : Settings) (me : ℕ) (st : RunState) (tick : ℕ) (found : Option Maker × What) → Always (LooksFrom st.last_look) (handled s me st tick found)

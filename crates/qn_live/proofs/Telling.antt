@@ -10,7 +10,7 @@ use Rattle.qn_base.specs.declared.calls.Call.TheVariants as call
 use Rattle.qn_base.specs.declared.ids.Rank.{Rank}
 use Rattle.qn_base.specs.declared.ids.View.{View}
 use Rattle.qn_base.specs.Calls.{blank}
-use Rattle.qn_base.specs.Plans.{Plan, Ends, Follows}
+use Rattle.qn_base.specs.Plans.{Plan, Ends, Follows, ◌>>=◌}
 use Rattle.qn_io.specs.Answered.{time_of}
 use Rattle.qn_model.specs.declared.configuration.Settings.{Settings}
 use Rattle.qn_model.specs.declared.packets.Packet.{Packet}

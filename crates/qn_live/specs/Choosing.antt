@@ -135,9 +135,10 @@ choice_plan me leaves st =
 -- the tick of the last look, after a turn took this at a tick; while there is no view maker each entry counts as a look
 abbrev pub look_after : ℕ → Choice → Option Maker → ℕ → ℕ
 look_after tick (choice.Open p) maker last = tick
-look_after tick (choice.Answer reply) maker last = last
 look_after tick (choice.Whole entry) None last = tick
 look_after tick (choice.Whole entry) (Some m) last = last
+look_after tick (choice.Answer reply) None last = tick
+look_after tick (choice.Answer reply) (Some m) last = last
 
 abbrev pub looking : ℕ → Choice × RunState → RunState
 looking tick chosen = record chosen.1 { last_look = look_after tick chosen.0 chosen.1.maker chosen.1.last_look }

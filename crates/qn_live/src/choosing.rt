@@ -177,7 +177,7 @@ pub fn look_after(choice: Choice, member: &Option<Member>, tick: u64, last: u64)
 {
     match choice {
         Choice::Open(_) => tick,
-        Choice::Whole(_) => match member {
+        Choice::Whole(_) | Choice::Answer(_) => match member {
             Some(_) => last,
             None => tick,
         },
