@@ -37,7 +37,7 @@ use Rattle.qn_joined.specs.TripleNodes.{AllAre, HasTripleWorld, IsNodeOnThree, K
 use Rattle.qn_joined.specs.TripleWorldOf.{CallsAnswer, none_told}
 use Rattle.qn_joined.specs.WorldOf.{AreAmong, ComesIn, IsNode, NoCall, disk_ahead}
 use Rattle.qn_joined.proofs.Handing.{answer_looked, handed_ahead, handed_at, plain_looked}
-use Rattle.qn_joined.proofs.Looks.{lives_of, looked_comes, ready_of, said_newest}
+use Rattle.qn_joined.proofs.Looks.{answered_comes, lives_of, looked_comes, ready_of, said_newest}
 use Rattle.qn_joined.proofs.Returns.{now_made, returned_fed}
 use Rattle.qn_joined.proofs.TripleAsking.{once_made}
 use Rattle.qn_joined.proofs.TripleEnds.{gives_nothing}
@@ -90,7 +90,8 @@ module _ (s : Settings) (t : Timing) (rank : ℕ) (j : TripleJoint) (nodes : Tri
     comes : ComesIn rank n.log is.took (packets s w.moments) entry
     comes =
         subst (λ l. ComesIn rank l is.took (packets s w.moments) entry) (sym (one.log lives))
-        (looked_comes rank chosen.1.log is.took (packets s w.moments) tick chosen.0 chosen.1.maker (one.backed lives).2)
+        (looked_comes rank chosen.1.log is.took (packets s w.moments) tick (answered tick chosen).0 chosen.1.maker
+        (answered_comes rank chosen.1.log is.took (packets s w.moments) tick chosen.1.poller chosen.0 (one.backed lives).2))
 
     h : HandsOnThree s t rank entry host.good has.events
     h = hands_on_three s t rank has.events host has.may nodes below is lives entry comes

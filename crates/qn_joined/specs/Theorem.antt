@@ -1,5 +1,5 @@
 -- What is said of running nodes that share one outside: this project's profile.
-use Rattle.std.specs.Prelude.{◌≡◌, ◌<◌, ℕ, Bool, true, List, ◌++◌, IfSome, IsTrue, Some, length}
+use Rattle.std.specs.Prelude.{◌≡◌, ◌<◌, ℕ, Bool, true, List, ◌++◌, IfSome, IsTrue, Some, length, Option}
 use Rattle.qn_base.specs.declared.calls.Call.{Call}
 use Rattle.qn_base.specs.Plans.{Follows}
 use Rattle.qn_model.specs.declared.configuration.Settings.{Settings}
