@@ -7,7 +7,7 @@ use Rattle.qn_model.specs.declared.entries.What.{What}
 use Rattle.qn_model.specs.declared.entries.What.TheVariants as what
 use Rattle.qn_model.specs.declared.outputs.Out.{Out}
 use Rattle.qn_model.specs.declared.packets.Sent.{Sent}
-use Rattle.qn_model.specs.Log.{Line, has_start, now}
+use Rattle.qn_model.specs.Log.{Line, has_start}
 use Rattle.qn_model.specs.Holding.{holds, is_stopped}
 use Rattle.qn_model.specs.Fitting.{fits, read_as}
 use Rattle.qn_model.specs.NodeOutputs.{newest_outs, with_entry}

@@ -34,7 +34,6 @@ use Rattle.qn_safety.specs.declared.polls.Reply.{Reply}
 use Rattle.qn_safety.specs.Poller.{Poller}
 use Rattle.qn_live.specs.Polling.{choice_beside, is_device, is_reply_for, reply_in}
 use Rattle.qn_base.specs.declared.calls.Received.{Received}
-use Rattle.qn_model.specs.declared.entries.What.{What}
 
 -- what a call does to the resource: 1 looks at the clock, 2 stops it, 0 nothing
 abbrev kind : Call → ℕ

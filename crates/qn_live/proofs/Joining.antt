@@ -32,7 +32,7 @@ use Rattle.std.specs.Prelude.{is_some}
 use Rattle.qn_base.specs.declared.calls.Received.{Received}
 use Rattle.qn_polls.specs.declared.poller.Poller.{Poller as CodePoller}
 use Rattle.qn_polls.specs.Poller.{poller_of}
-use Rattle.qn_live.specs.Choosing.{choice_in, choice_of, choice_plan, choice_where, failed_answer, heard_request, is_late, is_to_leave, look_after, looked, looking, open_plan, ready, receive_plan}
+use Rattle.qn_live.specs.Choosing.{choice_in, choice_plan, choice_where, failed_answer, heard_request, is_late, is_to_leave, look_after, looked, looking, open_plan, ready, receive_plan}
 use Rattle.qn_live.specs.Greetings.{farewell_after, farewells, greeting_call, greeting_packet, is_due, maker_of, others_from, sends_plan, to_each, to_send}
 use Rattle.qn_safety.specs.declared.polls.Poll.{Poll}
 use Rattle.qn_live.specs.Machine.{SameBeside, Stands, polling, RunFor, acting, next_of, parting, saying, state_of}

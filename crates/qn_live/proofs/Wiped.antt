@@ -25,13 +25,8 @@ use Rattle.qn_live.specs.declared.place.Waits.{Waits}
 use Rattle.qn_live.specs.Choosing.{choice_plan, is_late, is_to_leave, looked, looking, open_plan, ready}
 use Rattle.qn_live.specs.Greetings.{sends_plan, to_send}
 use Rattle.qn_live.specs.Performing.{disk_call, end_in, noted, out_call, outs_plan, own_number}
-use Rattle.qn_base.specs.declared.calls.Received.{Received}
 use Rattle.qn_safety.specs.declared.polls.Poll.{Poll}
-use Rattle.qn_safety.specs.declared.polls.Reply.{Reply}
-use Rattle.qn_safety.specs.Poller.{Poller, answer_taken}
-use Rattle.qn_polls.specs.Polls.{poll_bytes}
-use Rattle.qn_live.specs.Polling.{answered, answered_at, choice_beside, is_device, is_reply_for, poll_call, poll_due, poll_plan, polled, reply_in}
-use Rattle.qn_live.specs.Choosing.{choice_in}
+use Rattle.qn_live.specs.Polling.{answered, poll_due, poll_plan, polled}
 use Rattle.qn_live.specs.declared.place.Greeting.TheVariants as greeting
 use Rattle.qn_live.specs.Running.{RunState, Turned, Over, Next, Ran, first_state, later}
 use Rattle.qn_live.specs.Runs.{asked_maker, greets as hello_greets, clocked, greeted, handled, live_plan, parted, run_plan, settled, taken, timed, turn_plan}

@@ -12,7 +12,7 @@ use Rattle.qn_live.specs.declared.asked.Asked.TheVariants as asked
 use Rattle.qn_live.specs.declared.asked.Given.{Given}
 use Rattle.qn_live.specs.declared.asked.Room.{Room}
 
--- a sector is one of an image, and a rank is below 32
+-- a sector is one of an image, and what is sent is to a rank, or to the arbiter, whose seat is 32
 abbrev pub IsWithin : Asked → Type 0
 IsWithin (asked.Read sector) = sector < 1024
 IsWithin (asked.Write sector) = sector < 1024

@@ -58,7 +58,6 @@ use Rattle.qn_base.specs.declared.calls.Received.{Received}
 use Rattle.qn_safety.specs.declared.polls.Poll.{Poll}
 use Rattle.qn_safety.specs.declared.polls.Reply.{Reply}
 use Rattle.qn_safety.specs.Poller.{Poller, answer_taken}
-use Rattle.qn_polls.specs.Polls.{poll_bytes}
 use Rattle.qn_live.specs.Polling.{answered, answered_at, choice_beside, is_device, is_reply_for, poll_call, poll_due, poll_plan, polled, reply_in}
 use Rattle.qn_live.specs.Choosing.{choice_in}
 use Rattle.qn_live.specs.declared.place.Greeting.TheVariants as greeting

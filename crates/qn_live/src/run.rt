@@ -464,10 +464,13 @@ impl NodeRun {
     fn next_poll(&mut self, greets: bool) -> Option<Poll>
         ensures poll { (log : List Line)
             → Stands self.old log
-            → result ≡ poll_due self.old.settings self.old.me.0 greets self.old.entry (state_of self.old log) }
+            → result ≡ poll_due self.old.settings self.old.me.0 greets self.old.entry
+            (state_of self.old log) }
         ensures polled { (log : List Line)
             → Stands self.old log
-            → state_of self.new log ≡ polled self.old.settings self.old.me.0 greets self.old.entry (state_of self.old log) }
+            → state_of self.new log
+            ≡ polled self.old.settings self.old.me.0 greets self.old.entry
+            (state_of self.old log) }
         ensures only { SameBeside self.old self.new }
         ensures keeps { KeepsEntry self.old self.new }
     {
@@ -507,7 +510,9 @@ impl NodeRun {
         ensures runs { (log : List Line)
             → Stands self.old log
             → RunFor self.new (saying self.old log
-            (if greets then to_send self.old.settings self.old.me.0 self.old.member Greeting.Hello 0 else [])) }
+            (if greets
+            then to_send self.old.settings self.old.me.0 self.old.member Greeting.Hello 0
+            else [])) }
         ensures work { work self.new < 192 * self.old.after + 115 }
         ensures settings { self.new.settings ≡ self.old.settings }
         ensures rank { self.new.me ≡ self.old.me }

@@ -47,7 +47,7 @@ pub fn law_triple_handed_history()
     law_handed_history();
 }
 
-/// Law: the calls of a run on three images, but for those that receive, look at the clock, or send a Hello or an Announce, are
+/// Law: the calls of a run on three images, but for those that receive, look at the clock, or send a Hello, an Announce or a poll, are
 /// the outputs of what the node was handed, in order, each made on the three.
 pub fn law_triple_outputs()
     ensures { (s : Settings) (me : ℕ) (clean : Bool) (leave polls : Option ℕ) (turns : ℕ)

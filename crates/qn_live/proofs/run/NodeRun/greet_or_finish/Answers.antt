@@ -1,4 +1,4 @@
-use Rattle.std.proofs.Common.{Bool, List, [], if◌then◌else◌, ap, ◌∙◌}
+use Rattle.std.proofs.Common.{Bool, [], if◌then◌else◌, ap, ◌∙◌}
 use Rattle.qn_live.specs.declared.place.Greeting.TheVariants as greeting
 use Rattle.qn_live.specs.Greetings.{to_send}
 use Rattle.qn_live.specs.Machine.{saying}

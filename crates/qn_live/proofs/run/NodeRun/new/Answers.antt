@@ -2,7 +2,7 @@ use Rattle.std.proofs.Common.{[], Option, refl, ap, sym, ◌-◌, ◌∙◌}
 use Rattle.qn_base.specs.Plans.{◌>>=◌}
 use Rattle.qn_safety.specs.Poller.{Poller}
 use Rattle.qn_live.specs.declared.place.Choice.TheVariants as choice
-use Rattle.qn_live.specs.Running.{RunState, first_state, later}
+use Rattle.qn_live.specs.Running.{first_state, later}
 use Rattle.qn_live.specs.Runs.{run_plan, timed}
 use Rattle.qn_live.proofs.Joining.{live_left}
 use Rattle.qn_live.proofs.run.NodeRun.new.Goals as goal

@@ -1,6 +1,6 @@
 use Rattle.std.proofs.Common.{◌≡◌, None, sym, ap, ◌∙◌}
 use Rattle.qn_base.specs.Plans.{◌>>=◌}
-use Rattle.qn_live.specs.Greetings.{maker_of, maker_where, sends_plan}
+use Rattle.qn_live.specs.Greetings.{maker_of, maker_where}
 use Rattle.std.proofs.Common.{Option}
 use Rattle.qn_safety.specs.declared.polls.Poll.{Poll}
 use Rattle.qn_live.specs.declared.run.NodeRun.{NodeRun}
