@@ -41,14 +41,6 @@ pub fn audit<I: Source>(
         return AuditEnd::UnknownNode;
     };
     let lines = head.lines;
-    let mut auditor = Auditor::new(
-        images,
-        head.settings,
-        me,
-        clean,
-        leave_at,
-        polls,
-        turns,
-    );
+    let mut auditor = Auditor::new(images, head.settings, me, clean, leave_at, polls, turns);
     audit_log(&mut auditor, lines, &mut pieces, input)
 }
