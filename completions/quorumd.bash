@@ -40,7 +40,7 @@ _quorumd_takes() {
         options=(--id/none/--id --image/image/--image --watchdog/file/--watchdog --resource/file/--resource --port/none/--port --turns/none/--turns --leave/none/--leave '--start-mode/words 0 1/--start-mode')
         ;;
     'quorumd audit')
-        options=(--id/none/--id --turns/none/--turns --leave/none/--leave '--start-mode/words 0 1/--start-mode' '--images/words 1 3/--images')
+        options=(--id/none/--id --turns/none/--turns --leave/none/--leave '--start-mode/words 0 1/--start-mode' '--images/words 1 3/--images' --polls/none/--polls)
         ;;
     'quorumd node3-logged')
         options=(--id/none/--id --image/image/--image --watchdog/file/--watchdog --resource/file/--resource --port/none/--port --turns/none/--turns --leave/none/--leave '--start-mode/words 0 1/--start-mode')

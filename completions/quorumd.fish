@@ -31,7 +31,7 @@ function __quorumd_takes
         case 'quorumd node-logged'
             set -g __quorumd_options --id/none/--id/1..4294967295 --image/image/--image/PATH --watchdog/file/--watchdog/PATH --resource/file/--resource/PATH --port/none/--port/1024..65000 --turns/none/--turns/1..1000000000 --leave/none/--leave/1..1000000000 '--start-mode/words 0 1/--start-mode/0..1'
         case 'quorumd audit'
-            set -g __quorumd_options --id/none/--id/1..4294967295 --turns/none/--turns/1..1000000000 --leave/none/--leave/1..1000000000 '--start-mode/words 0 1/--start-mode/0..1' '--images/words 1 3/--images/1|3'
+            set -g __quorumd_options --id/none/--id/1..4294967295 --turns/none/--turns/1..1000000000 --leave/none/--leave/1..1000000000 '--start-mode/words 0 1/--start-mode/0..1' '--images/words 1 3/--images/1|3' --polls/none/--polls/1..3600000
         case 'quorumd node3-logged'
             set -g __quorumd_options --id/none/--id/1..4294967295 --image/image/--image/P1,P2,P3 --watchdog/file/--watchdog/PATH --resource/file/--resource/PATH --port/none/--port/1024..65000 --turns/none/--turns/1..1000000000 --leave/none/--leave/1..1000000000 '--start-mode/words 0 1/--start-mode/0..1'
         case 'quorumd arbiter'

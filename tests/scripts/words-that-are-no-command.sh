@@ -72,6 +72,8 @@ audit --id 1 --turns 1000000001
 audit --id 1 --turns 9 --leave 0
 audit --id 1 --turns 9 --leave 1000000001
 audit --id 1 --turns 9 --start-mode 2
+audit --id 1 --turns 9 --polls 0
+audit --id 1 --turns 9 --polls 3600001
 audit --id 1 --turns 9 --image d
 audit --id 1 --turns 9 --id 1
 migrate

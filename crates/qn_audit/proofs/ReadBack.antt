@@ -215,7 +215,7 @@ write_back sector bytes ok whole fits all =
       ok_back ok,
     ) refl
 
-send_back : (to : ℕ) (bytes : List ℕ) (ok : Bool) → to < 32 → length bytes ≤ 128 → IsBytes bytes
+send_back : (to : ℕ) (bytes : List ℕ) (ok : Bool) → to < 33 → length bytes ≤ 128 → IsBytes bytes
     → call_of (codes "send" ++ 32 ∷ (decimal to ++ 32 ∷ (bytes_text bytes ++ 32 ∷ ok_text ok))) ≡ Ok (call.Send (record { 0 = to }) bytes ok)
 unfolding call_named send_of
 send_back to bytes ok node few all =
@@ -223,7 +223,7 @@ send_back to bytes ok node few all =
     ∙ rw (
       words_first (decimal to) (bytes_text bytes ++ 32 ∷ ok_text ok) (decimal_blankless to (omega (arith, node))),
       words_two (bytes_text bytes) (ok_text ok) (plain_bytes bytes all (omega (arith, few))) (plain_ok ok),
-      number_between-decimal 0 31 to (omega arith) (omega (arith, node)) (omega (arith, node)),
+      number_between-decimal 0 32 to (omega arith) (omega (arith, node)) (omega (arith, node)),
       bytes_back 0 128 bytes all (omega (arith, few)) (omega arith) few,
       ok_back ok,
     ) refl

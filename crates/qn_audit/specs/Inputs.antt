@@ -24,12 +24,13 @@ use Rattle.qn_audit.specs.Auditing.{LinesEnd, at_first}
 use Rattle.qn_audit.specs.Deciding.{Input, IsNeeded, input_of}
 
 -- the run that a log is audited as: the images of its node, its id, whether its boot was a clean start, the turn from which on it was to
--- leave, and how many turns it was to run
+-- leave, the limit within which it took a reply of its arbiter, where it polled one, and how many turns it was to run
 pub record AuditedRun : Type 0 where
   pub images : NodeImages
   pub id : NodeId
   pub clean : Bool
   pub leave : Option ℕ
+  pub polls : Option ℕ
   pub turns : ℕ
 
 -- the rank of its node, where the settings have one
@@ -38,7 +39,7 @@ rank_in run settings = position (λ node. node.id.0 == run.id.0) settings.nodes
 
 -- its plan, of the node of that rank
 abbrev pub plan_of : AuditedRun → Settings → ℕ → Plan Ran
-plan_of run settings rank = plan_on run.images settings rank run.clean run.leave run.turns
+plan_of run settings rank = plan_on run.images settings rank run.clean run.leave run.polls run.turns
 
 -- the end of that name
 abbrev pub end_in_head : HeadFault → AuditEnd

@@ -100,7 +100,7 @@ write_of words = do
 unfoldable pub send_of : List (List ℕ) → Result Call LineFault
 send_of words = do
   three ← three_words words
-  to ← number_between 0 31 three.0
+  to ← number_between 0 32 three.0
   bytes ← bytes_between 0 128 three.1
   ok ← ok_of three.2
   Ok (call.Send (record { 0 = to }) bytes ok)

@@ -13,7 +13,8 @@ use std::alloc::Global;
 
 /// Judges an input of a settings text, a line `----` and a log: whether the log is a whole run of so many turns, or the
 /// beginning of one, of the node with that id on these images. `clean` says that its boot is a clean start, and `leave_at` is the number
-/// of the turn from which on it is to leave. Memory is taken for the settings alone.
+/// of the turn from which on it is to leave; `polls` is the limit, in milliseconds, within which it takes a reply of its arbiter, where it
+/// polls one. Memory is taken for the settings alone.
 pub fn audit<I: Source>(
     alloc: Global,
     input: &mut I,
@@ -21,11 +22,12 @@ pub fn audit<I: Source>(
     id: NodeId,
     turns: u64,
     leave_at: Option<u64>,
+    polls: Option<u64>,
     clean: bool,
 ) -> AuditEnd
     requires some_turn { 1 ≤ turns }
     ensures judges { JudgesInput
-        (record { images = images; id = id; clean = clean; leave = leave_at; turns = turns })
+        (record { images = images; id = id; clean = clean; leave = leave_at; polls = polls; turns = turns })
         (input_at I.left I.faults input.old) (input_at I.left I.faults input.new) result }
     ensures never_falls { I.faults input.old ≤ I.faults input.new }
 {
@@ -39,6 +41,6 @@ pub fn audit<I: Source>(
         return AuditEnd::UnknownNode;
     };
     let lines = head.lines;
-    let mut auditor = Auditor::new(images, head.settings, me, clean, leave_at, turns);
+    let mut auditor = Auditor::new(images, head.settings, me, clean, leave_at, polls, turns);
     audit_log(&mut auditor, lines, &mut pieces, input)
 }

@@ -38,22 +38,24 @@ impl Auditor {
     ghost use Rattle.qn_audit.specs.LoggedCalls.{IsToldIn, call_in};
 
     /// The run of the node of that rank on these images before its first call. `clean` says that its boot is a clean start, and
-    /// `leave_at` is the number of the turn from which on it is to leave.
+    /// `leave_at` is the number of the turn from which on it is to leave; `polls` is the limit, in milliseconds, within which it
+    /// takes a reply of its arbiter, where it has one.
     pub fn new(
         images: NodeImages,
         settings: Settings,
         me: Rank,
         clean: bool,
         leave_at: Option<u64>,
+        polls: Option<u64>,
         turns: u64,
     ) -> Auditor
         requires valid { IsValid settings }
         requires configured { me.0 < length settings.nodes }
         requires some_turn { 1 ≤ turns }
-        ensures { StandsFor result (plan_on images settings me.0 clean leave_at turns) }
+        ensures { StandsFor result (plan_on images settings me.0 clean leave_at polls turns) }
     {
         Auditor {
-            run: ImagesRun::new(images, settings, me, clean, leave_at, turns),
+            run: ImagesRun::new(images, settings, me, clean, leave_at, polls, turns),
             room: Room::new(),
         }
     }

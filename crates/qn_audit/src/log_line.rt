@@ -164,7 +164,7 @@ fn read_send(rest: Option<&[u8]>, room: &mut Room) -> Result<LoggedCall, LineFau
     ensures told { IfOk result (λ call. IsToldIn call room.new) }
 {
     let (rank, bytes, ok) = three_words(rest)?;
-    let rank = number_between(0, 31, rank)?;
+    let rank = number_between(0, 32, rank)?;
     sent_into(bytes, &mut room.sent)?;
     let ok = ok_of(ok)?;
     Ok(LoggedCall {

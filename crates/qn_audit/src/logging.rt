@@ -22,6 +22,7 @@ pub fn run_recorded<E: Env, O: Sink, N: Notices>(
     me: Rank,
     clean: bool,
     leave_at: Option<u64>,
+    polls: Option<u64>,
     turns: u64,
 ) -> LiveEnd
     requires valid { IsValid settings.now }
@@ -32,7 +33,7 @@ pub fn run_recorded<E: Env, O: Sink, N: Notices>(
         (log_of O.written O.faults recorder.old) in
         let after = recorded (E.faults recorder.new.env.now) (E.calls recorder.new.env.now)
         (log_of O.written O.faults recorder.new) in
-        (log : List Line) × DidLogged (plan_on images settings.now me.0 clean leave_at turns)
+        (log : List Line) × DidLogged (plan_on images settings.now me.0 clean leave_at polls turns)
         (record { end = result; log = log }) before after }
     ensures same_env { recorder.new.env.ghost_name ≡ recorder.old.env.ghost_name }
     ensures same_out { recorder.new.out.ghost_name ≡ recorder.old.out.ghost_name }
@@ -40,6 +41,6 @@ pub fn run_recorded<E: Env, O: Sink, N: Notices>(
     ensures sink_faults { O.faults recorder.old.out.now ≤ O.faults recorder.new.out.now }
 {
     run_on(
-        recorder, notices, images, settings, me, clean, leave_at, turns,
+        recorder, notices, images, settings, me, clean, leave_at, polls, turns,
     )
 }

@@ -1,5 +1,5 @@
 -- Every joint has a world, whatever nodes and operators left in the image that it began on.
-use Rattle.std.proofs.Common.{◌≡◌, ◌<◌, ◌≤◌, ℕ, true, false, List, [], ◌∷◌, Option, None, refl, sym, ap, subst, ◌∙◌, arith}
+use Rattle.std.proofs.Common.{◌≡◌, ◌<◌, ℕ, true, false, List, [], ◌∷◌, Option, refl, sym, ap, subst, ◌∙◌, arith}
 use Rattle.std.specs.Prelude.{length, ◌^◌}
 use Rattle.qn_model.specs.declared.configuration.Settings.{Settings}
 use Rattle.qn_model.specs.declared.times.Timing.{Timing}
@@ -8,7 +8,7 @@ use Rattle.qn_model.specs.declared.entries.What.{What}
 use Rattle.qn_model.specs.declared.outputs.DiskOp.{DiskOp}
 use Rattle.qn_model.specs.declared.packets.Sent.{Sent}
 use Rattle.qn_model.specs.declared.disk.Message.TheVariants as message
-use Rattle.qn_model.specs.Moments.{Running, packets}
+use Rattle.qn_model.specs.Moments.{Running}
 use Rattle.qn_model.specs.Sectors.{anonymous, mail_bytes, slot_bytes}
 use Rattle.qn_model.specs.Steps.{run}
 use Rattle.qn_model.specs.Timing.{is_safe}
@@ -17,7 +17,7 @@ use Rattle.qn_model.specs.World.{node_at}
 use Rattle.qn_safety.specs.AnyNumbers.{OneMayHold}
 use Rattle.qn_safety.specs.NodeLogs.{LogsHold}
 use Rattle.qn_joined.specs.AnyImage.{AtMostOneRunsAgain, EveryJointHasAWorldAgain, IsLeftImage, NewImagesAreLeft}
-use Rattle.qn_joined.specs.Joints.{AllMayHappen, FitsImage, Happening, IsNewImage, first_joint, joint_after, never_on}
+use Rattle.qn_joined.specs.Joints.{AllMayHappen, FitsImage, Happening, first_joint, joint_after, never_on}
 use Rattle.qn_joined.specs.Theorem.{MailsReadBack, PacketsReadBack, TakesAlike}
 use Rattle.qn_joined.specs.WorldOf.{NoCall, HasWorld, IsNode}
 use Rattle.qn_joined.proofs.Owned.{always_owns}

@@ -39,10 +39,10 @@ use Rattle.qn_joined.proofs.Looks.{all_said}
 
 -- a process that begins where the node takes no part in time is a node that is off
 pub begins_untimed : (s : Settings) (rank : ℕ) (host : Host) (n : Running) (took : Option What) (left : List DiskOp) (all : List Sent)
-    (clean : Bool) (leave : Option ℕ) (turns begun : ℕ) → IsNode s rank host n took left all → is_timed s host ≡ false
-    → IsNode s rank (began clean leave turns begun) n took left all
+    (clean : Bool) (leave polls : Option ℕ) (turns begun : ℕ) → IsNode s rank host n took left all → is_timed s host ≡ false
+    → IsNode s rank (began clean leave polls turns begun) n took left all
 unfolding phase holds
-begins_untimed s rank host n took left all clean leave turns begun is untimed =
+begins_untimed s rank host n took left all clean leave polls turns begun is untimed =
     record {
       on = off_now;
       log = λ on. absurd (lives on);
@@ -54,7 +54,7 @@ begins_untimed s rank host n took left all clean leave turns begun is untimed =
       backed = λ on. absurd (lives on);
       idle = λ on none. refl;
       among = NoCall;
-      fresh = λ on unasked. record { clean = clean; turns = turns; stand = refl; decided = refl; runs = refl; left = refl };
+      fresh = λ on unasked. record { clean = clean; polls = polls; turns = turns; stand = refl; decided = refl; runs = refl; left = refl };
       greets = refl;
       ending = λ on gone. absurd cc;
       rests = λ on gone. refl;
@@ -68,8 +68,8 @@ begins_untimed s rank host n took left all clean leave turns begun is untimed =
 
 -- a process that begins is a node that is off
 pub begins_as_node : (s : Settings) (rank : ℕ) → BeginsAsNode s rank
-begins_as_node s rank host n took left all clean leave turns begun is off =
-    begins_untimed s rank host n took left all clean leave turns begun is
+begins_as_node s rank host n took left all clean leave polls turns begun is off =
+    begins_untimed s rank host n took left all clean leave polls turns begun is
     (ap (λ b. b && host.asked && not (is_gone (phase s (log_at host.stand.spot)))) off)
 
 -- where a process may begin, the node before takes no part in time
@@ -130,10 +130,10 @@ module _ (s : Settings) (rank : ℕ) (ms : List Moment) (host : Host) (base : �
   before = record { on = true; boots = suc (node s rank ms).boots; log = []; clock = base; fed = time ms; decided = None }
 
   abbrev first : Host
-  first = record host { asked = true; clock = base; stand = first_stand fresh.clean fresh.turns }
+  first = record host { asked = true; clock = base; stand = first_stand fresh.clean fresh.polls fresh.turns }
 
   abbrev chosen : Choice × RunState
-  chosen = (choice.Whole (begin_of fresh.clean), first_state)
+  chosen = (choice.Whole (begin_of fresh.clean), first_state fresh.polls)
 
   abbrev moments : List Moment
   moments = Boots rank base fresh.clean ∷ ms
@@ -162,7 +162,7 @@ module _ (s : Settings) (rank : ℕ) (ms : List Moment) (host : Host) (base : �
   node_is = node_boots s rank base fresh.clean ms
 
   looked_is : looked_first s rank base (time ms) host ≡ returned s rank (call.Now (tick_of base)) (time ms) first
-  looked_is = ap (λ x. looked_first s rank base (time ms) (record host { stand = x })) fresh.stand ∙ first_is s rank base (time ms) host (first_stand fresh.clean fresh.turns)
+  looked_is = ap (λ x. looked_first s rank base (time ms) (record host { stand = x })) fresh.stand ∙ first_is s rank base (time ms) host (first_stand fresh.clean fresh.polls fresh.turns)
 
   pub boots_as_node : IsNodeLog s (node s rank moments).log → IsNode s rank (looked_first s rank base (time ms) host) (node s rank moments) None [] (packets s moments)
   boots_as_node known =
@@ -264,7 +264,7 @@ fed_node now is =
       backed = is.backed;
       idle = is.idle;
       among = is.among;
-      fresh = λ on unasked. let f = is.fresh on unasked in record { clean = f.clean; turns = f.turns; stand = f.stand; decided = f.decided; runs = f.runs; left = f.left };
+      fresh = λ on unasked. let f = is.fresh on unasked in record { clean = f.clean; polls = f.polls; turns = f.turns; stand = f.stand; decided = f.decided; runs = f.runs; left = f.left };
       ending = is.ending;
       greets = is.greets;
       rests = is.rests;
@@ -284,7 +284,7 @@ unfed_node now off is =
       backed = is.backed;
       idle = is.idle;
       among = is.among;
-      fresh = λ on unasked. let f = is.fresh on unasked in record { clean = f.clean; turns = f.turns; stand = f.stand; decided = f.decided; runs = f.runs; left = f.left };
+      fresh = λ on unasked. let f = is.fresh on unasked in record { clean = f.clean; polls = f.polls; turns = f.turns; stand = f.stand; decided = f.decided; runs = f.runs; left = f.left };
       ending = is.ending;
       greets = is.greets;
       rests = is.rests;

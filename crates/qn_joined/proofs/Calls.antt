@@ -26,7 +26,7 @@ use Rattle.qn_live.specs.Greetings.{sends_plan}
 use Rattle.qn_live.specs.Performing.{disk_answer, disk_call, end_after, noted, out_call, outs_plan, own_number, waits_after}
 use Rattle.qn_live.specs.Running.{RunState}
 use Rattle.qn_joined.specs.Joints.{Host, MayAnswer, MayReceive, after_effect, counts, is_disk, left_over, returned, waits_for}
-use Rattle.qn_joined.specs.Stands.{Spot, Receiving, Looking, Acting, Saying, Parting, Ended, Stand, acts_at, after_spot, left_plan, log_at, parts_at, said_at}
+use Rattle.qn_joined.specs.Stands.{Spot, Receiving, Looking, Acting, Polling, Saying, Parting, Ended, Stand, acts_at, after_spot, left_plan, log_at, parts_at, said_at}
 use Rattle.qn_safety.specs.NodeLogs.{IsNodeLog}
 use Rattle.qn_joined.specs.Nodes.{at, is_looking}
 use Rattle.qn_joined.specs.WorldOf.{AreAmong, IsAnswer, IsEnding, IsNode, Performs, TookAlike, Waiting, WasSentTo, disk_ahead, still_out}
@@ -205,7 +205,7 @@ module _ {s : Settings} {rank : ℕ} {n : Running} {took : Option What} {left : 
   returns_at (Receiving st) sent logs is on asked wants may known apart =
       let h = at host (Receiving st) in
       let q = quiet_effect made (newest_outs st.log) time h (quiet_of (call.Receive received.Nothing) made refl wants) in
-      let comes = received_comes rank st.log took all (received_in made)
+      let comes = received_comes rank st.poller st.log took all (received_in made)
       (λ bytes p got spelled c. known bytes p (received_may rank h sent made bytes may got (ap counts spelled ∙ c)) spelled c) in
       node_moves is (returned s rank made time h)
       (record { on = q.keeps.on; asked = q.keeps.asked; clock = q.keeps.clock; fed = q.keeps.fed; decided = q.keeps.decided })
@@ -220,6 +220,20 @@ module _ {s : Settings} {rank : ℕ} {n : Running} {took : Option What} {left : 
       (subst (λ l. AreAmong s rank l (left ++ still_out n (Receiving st) took)) (sym q.left) is.among)
       (λ is_on gone. absurd (is.ending is_on gone))
       refl
+  returns_at (Polling poll sents st) sent logs is on asked wants may known apart =
+      let h = at host (Polling poll sents st) in
+      let after = said_at s rank host.leave host.stand.turn host.stand.more st sents in
+      let q = quiet_effect made (newest_outs (log_at after.spot)) time h (quiet_of _ made refl wants) in
+      let ahead = said_ahead s rank host.leave host.stand.turn host.stand.more st sents in
+      node_moves is (returned s rank made time h)
+      (record { on = q.keeps.on; asked = q.keeps.asked; clock = q.keeps.clock; fed = q.keeps.fed; decided = q.keeps.decided })
+      asked (said_log s rank host.leave host.stand.turn host.stand.more st sents)
+      (λ lives. said_backed s rank (returned s rank made time h).took took all rank host.leave host.stand.turn host.stand.more st sents (is.backed lives))
+      (λ is_on none. q.took ∙ is.idle is_on refl)
+      (subst (λ l. AreAmong s rank l (left ++ still_out n after.spot took)) (sym q.left)
+      (subst (λ l. AreAmong s rank host.left (left ++ l)) (still_same n took None (disk_ahead after.spot) (sym ahead)) is.among))
+      (λ is_on gone. absurd (is.ending is_on gone))
+      (said_greets s rank host.leave host.stand.turn host.stand.more st sents is.greets)
   returns_at (Saying said rest st) sent logs is on asked wants may known apart =
       let h = at host (Saying said rest st) in
       let after = said_at s rank host.leave host.stand.turn host.stand.more st rest in

@@ -26,7 +26,7 @@ use Rattle.qn_joined.specs.Moves.{Changes, EndsInWorld, IsNodeIn, Moved}
 use Rattle.qn_safety.specs.NodeLogs.{IsNodeLog, LogsHold}
 use Rattle.qn_joined.specs.Nodes.{at}
 use Rattle.qn_safety.specs.AnyNumbers.{AllMay}
-use Rattle.qn_joined.specs.Stands.{Spot, Receiving, Looking, Acting, Saying, Parting, Ended, first_stand, left_plan, log_at}
+use Rattle.qn_joined.specs.Stands.{Spot, Receiving, Looking, Acting, Polling, Saying, Parting, Ended, first_stand, left_plan, log_at}
 use Rattle.qn_joined.specs.WorldOf.{AreAmong, NoCall, IsEnding, IsFresh, IsNode, greets_at, still_out}
 use Rattle.qn_joined.proofs.Boots.{no_event}
 use Rattle.qn_joined.proofs.Calls.{timed_on}
@@ -62,6 +62,7 @@ module _ {s : Settings} {rank : ℕ} (host : Host) (n : Running) (took : Option 
   unfolding left_plan outs_plan sends_plan out_call
   ends_among (Receiving st) is lives logs = more_left None lives is.among
   ends_among (Looking chosen) is lives logs = more_left None lives is.among
+  ends_among (Polling poll sents st) is lives logs = more_left None lives is.among
   ends_among (Saying said rest st) is lives logs = more_left None lives is.among
   ends_among (Parting end said rest st) is lives logs = more_left None lives is.among
   ends_among (Ended ran) is lives logs = more_left None lives is.among
@@ -85,6 +86,7 @@ module _ {s : Settings} {rank : ℕ} (host : Host) (n : Running) (took : Option 
   unfolding left_plan outs_plan sends_plan out_call
   gone_among (Receiving st) is off ending = absurd ending
   gone_among (Looking chosen) is off ending = absurd ending
+  gone_among (Polling poll sents st) is off ending = absurd ending
   gone_among (Saying said rest st) is off ending = absurd ending
   gone_among (Parting end said rest st) is off ending = nothing_left None off is.among
   gone_among (Ended ran) is off ending = nothing_left None off is.among
@@ -158,7 +160,7 @@ module _ (s : Settings) (t : Timing) (rank : ℕ) (events : List Event) (host : 
   unfolding left_plan
   was_off off = by_gone host.asked refl (is_gone (phase s (log_at host.stand.spot))) refl
     where
-      fresh_among : (fresh : IsFresh host) → AreAmong s rank (host.left ++ given_up_by (waits_for s rank (record host { stand = first_stand fresh.clean fresh.turns })) host.took) (w.left rank)
+      fresh_among : (fresh : IsFresh host) → AreAmong s rank (host.left ++ given_up_by (waits_for s rank (record host { stand = first_stand fresh.clean fresh.polls fresh.turns })) host.took) (w.left rank)
       fresh_among fresh = subst (λ l. AreAmong s rank (l ++ []) (w.left rank)) (sym fresh.left) NoCall
 
       by_gone : (asked : Bool) → host.asked ≡ asked → (gone : Bool) → is_gone (phase s (log_at host.stand.spot)) ≡ gone

@@ -21,7 +21,7 @@ use Rattle.qn_live.specs.declared.place.Choice.{Choice}
 use Rattle.qn_live.specs.declared.place.Choice.TheVariants as choice
 use Rattle.qn_joined.specs.Joints.{Host, Joint, counts}
 use Rattle.qn_joined.specs.Moves.{Changes, Grows}
-use Rattle.qn_joined.specs.Stands.{Spot, Receiving, Looking, Acting, Saying, Parting, Ended}
+use Rattle.qn_joined.specs.Stands.{Spot, Receiving, Looking, Acting, Polling, Saying, Parting, Ended}
 use Rattle.qn_joined.specs.WorldOf.{AllComeOut, ComesAs, ComesIn, ComesOut, IsBacked, IsImage, IsNode, IsWorld, WasSentTo}
 
 pub grows_more : (all more : List Sent) → Grows all (all ++ more)
@@ -49,6 +49,7 @@ comes_in_grows rank log took all all' grows what.Leave is = is
 comes_as_grows : (rank : ℕ) (log : List Line) (took : Option What) (all all' : List Sent) → Grows all all' → (chosen : Choice) → ComesAs rank log took all chosen → ComesAs rank log took all' chosen
 comes_as_grows rank log took all all' grows (choice.Whole entry) is = comes_in_grows rank log took all all' grows entry is
 comes_as_grows rank log took all all' grows (choice.Open p) is = is
+comes_as_grows rank log took all all' grows (choice.Answer reply) is = is
 
 comes_out_grows : (log : List Line) (all all' : List Sent) → Grows all all' → (o : Out) → ComesOut log all o → ComesOut log all' o
 comes_out_grows log all all' grows out.Stop is = is
@@ -69,6 +70,7 @@ backed_grows s rank took_call took all all' grows (Receiving st) is = is
 backed_grows s rank took_call took all all' grows (Looking chosen) is = (is.0, is.1, comes_as_grows rank chosen.1.log took all all' grows chosen.0 is.2, is.3)
 backed_grows s rank took_call took all all' grows (Acting entry outs o rest st) is =
     (is.0, record { come = come_out_grows st.log all all' grows (o ∷ rest) is.1.come; last = is.1.last; disk = is.1.disk })
+backed_grows s rank took_call took all all' grows (Polling poll sents st) is = is
 backed_grows s rank took_call took all all' grows (Saying said rest st) is = is
 backed_grows s rank took_call took all all' grows (Parting end said rest st) is = is
 backed_grows s rank took_call took all all' grows (Ended ran) is = is

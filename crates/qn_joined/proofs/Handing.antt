@@ -36,6 +36,11 @@ use Rattle.qn_joined.specs.WorldOf.{AllComeOut, AreAmong, IsAnswer, IsEnding, Is
 use Rattle.qn_joined.proofs.Moving.{among_more}
 use Rattle.qn_joined.proofs.Owning.{acts_log}
 use Rattle.qn_joined.proofs.Standing.{acts_ahead, acts_backed, acts_greets}
+use Rattle.qn_safety.specs.Poller.{Poller, answer_taken}
+use Rattle.qn_live.specs.Polling.{answered, answered_at}
+use Rattle.std.specs.Option.{option_map_or}
+use Rattle.std.specs.Prelude.{option_and_then}
+use Rattle.qn_model.specs.declared.entries.What.TheVariants as what
 
 -- the outputs of an entry come out of its log
 all_come : (log : List Line) (all : List Sent) (outs : List Out)
@@ -77,27 +82,43 @@ view_plain None = refl
 view_plain (Some view) = refl
 
 -- what is chosen is an answer where its entry is one
-pub plain_looked : (tick : ℕ) (chosen : Choice) (maker : Option Maker) → is_answer_in chosen ≡ false → is_answer (looked tick chosen maker).1 ≡ false
-plain_looked tick (choice.Whole entry) maker is = is
-plain_looked tick (choice.Open p) None is = refl
-plain_looked tick (choice.Open p) (Some m) is = view_plain (view_at tick (heard tick p m))
+looked_plain : (tick : ℕ) (chosen : Choice) (maker : Option Maker) → is_answer_in chosen ≡ false → is_answer (looked tick chosen maker).1 ≡ false
+looked_plain tick (choice.Whole entry) maker is = is
+looked_plain tick (choice.Open p) None is = refl
+looked_plain tick (choice.Open p) (Some m) is = view_plain (view_at tick (heard tick p m))
+looked_plain tick (choice.Answer reply) maker is = refl
 
-pub answer_looked : (tick : ℕ) (chosen : Choice) (maker : Option Maker) → is_answer_in chosen ≡ true → is_answer (looked tick chosen maker).1 ≡ true
-answer_looked tick (choice.Whole entry) maker is = is
-answer_looked tick (choice.Open p) maker is = absurd cc
+device_plain : (answer : Option Bool) → is_answer_in (option_map_or (λ agrees. choice.Whole (what.Device agrees)) answer (choice.Open None)) ≡ false
+device_plain None = refl
+device_plain (Some agrees) = refl
+
+answered_plain : (tick : ℕ) (poller : Option Poller) (chosen : Choice) → is_answer_in chosen ≡ false → is_answer_in (answered_at tick poller chosen) ≡ false
+answered_plain tick poller (choice.Whole entry) is = is
+answered_plain tick poller (choice.Open p) is = refl
+answered_plain tick poller (choice.Answer reply) is = device_plain (option_and_then (answer_taken tick reply) poller)
+
+pub plain_looked : (tick : ℕ) (poller : Option Poller) (chosen : Choice) (maker : Option Maker) → is_answer_in chosen ≡ false
+    → is_answer (looked tick (answered_at tick poller chosen) maker).1 ≡ false
+plain_looked tick poller chosen maker is = looked_plain tick (answered_at tick poller chosen) maker (answered_plain tick poller chosen is)
+
+pub answer_looked : (tick : ℕ) (poller : Option Poller) (chosen : Choice) (maker : Option Maker) → is_answer_in chosen ≡ true
+    → is_answer (looked tick (answered_at tick poller chosen) maker).1 ≡ true
+answer_looked tick poller (choice.Whole entry) maker is = is
+answer_looked tick poller (choice.Open p) maker is = absurd cc
+answer_looked tick poller (choice.Answer reply) maker is = absurd cc
 
 module _ (s : Settings) (rank : ℕ) (n : Running) (took took' : Option What) (left left' : List DiskOp) (all' : List Sent) (host : Host) (chosen : Choice × RunState) (time tick : ℕ)
     (is : IsReady s rank host chosen n took left) (on : host.on ≡ true) (asked : host.asked ≡ true) (clock : tick ≡ tick_of host.clock)
-    (logs : IsNodeLog s (handed s rank time (looked tick chosen.0 chosen.1.maker).1 n).log)
-    (spends : Spends s rank (looked tick chosen.0 chosen.1.maker).1 host took took' left left')
-    (plain_in : is_answer_in chosen.0 ≡ false → is_answer (looked tick chosen.0 chosen.1.maker).1 ≡ false)
-    (answer_in : is_answer_in chosen.0 ≡ true → is_answer (looked tick chosen.0 chosen.1.maker).1 ≡ true)
-    (said : AllSaid all' (newest_outs (handed s rank time (looked tick chosen.0 chosen.1.maker).1 n).log)) where
+    (logs : IsNodeLog s (handed s rank time (looked tick (answered tick chosen).0 chosen.1.maker).1 n).log)
+    (spends : Spends s rank (looked tick (answered tick chosen).0 chosen.1.maker).1 host took took' left left')
+    (plain_in : is_answer_in chosen.0 ≡ false → is_answer (looked tick (answered tick chosen).0 chosen.1.maker).1 ≡ false)
+    (answer_in : is_answer_in chosen.0 ≡ true → is_answer (looked tick (answered tick chosen).0 chosen.1.maker).1 ≡ true)
+    (said : AllSaid all' (newest_outs (handed s rank time (looked tick (answered tick chosen).0 chosen.1.maker).1 n).log)) where
   abbrev found : Option Maker × What
-  found = looked tick chosen.0 chosen.1.maker
+  found = looked tick (answered tick chosen).0 chosen.1.maker
 
   abbrev st' : RunState
-  st' = taken s rank (looking tick chosen) tick found
+  st' = taken s rank (looking tick (answered tick chosen)) tick found
 
   same_log : (handed s rank time found.1 n).log ≡ st'.log
   unfolding handed logged
@@ -270,10 +291,10 @@ module _ (s : Settings) (rank : ℕ) (n : Running) (took took' : Option What) (l
           subst (λ x. IsEnding (acts_at s rank host.leave host.stand.turn host.stand.more found.1 x x st').spot) (sym last.1)
           (refl, refl, end_ends found.1 last.0 last.2)
 
-  pub handed_at : IsNode s rank (returned s rank (call.Now tick) time (at host (Looking chosen))) (handed s rank time (looked tick chosen.0 chosen.1.maker).1 n) took' left' all'
+  pub handed_at : IsNode s rank (returned s rank (call.Now tick) time (at host (Looking chosen))) (handed s rank time (looked tick (answered tick chosen).0 chosen.1.maker).1 n) took' left' all'
   handed_at = subst (λ h. IsNode s rank h n' took' left' all') (sym is_acted) acted_node
 
   -- the operation that is ahead then came out of the entry
-  pub handed_ahead : disk_ahead (returned s rank (call.Now tick) time (at host (Looking chosen))).stand.spot ≡ disk_of (newest_outs (handed s rank time (looked tick chosen.0 chosen.1.maker).1 n).log)
+  pub handed_ahead : disk_ahead (returned s rank (call.Now tick) time (at host (Looking chosen))).stand.spot ≡ disk_of (newest_outs (handed s rank time (looked tick (answered tick chosen).0 chosen.1.maker).1 n).log)
   handed_ahead =
       ap (λ h. disk_ahead h.stand.spot) is_acted ∙ acts_ahead s rank host.leave host.stand.turn host.stand.more found.1 outs outs st' ∙ ap (λ l. disk_of (newest_outs l)) (sym same_log)

@@ -30,7 +30,7 @@ use Rattle.qn_joined.specs.Joints.{FitsImage, Host, Joint, MayHappen, happens, i
 use Rattle.qn_safety.specs.NodeLogs.{IsNodeLog, LogsHold}
 use Rattle.qn_joined.specs.Nodes.{at}
 use Rattle.qn_safety.specs.AnyNumbers.{AllMay}
-use Rattle.qn_joined.specs.Stands.{Spot, Receiving, Looking, Acting, Saying, Parting, Ended, left_plan, log_at}
+use Rattle.qn_joined.specs.Stands.{Spot, Receiving, Looking, Acting, Polling, Saying, Parting, Ended, left_plan, log_at}
 use Rattle.qn_joined.specs.Theorem.{TakesAlike}
 use Rattle.qn_joined.specs.WorldOf.{AreAmong, HasGrown, IsNode, IsWorld, Performs, TookAlike, disk_ahead}
 use Rattle.qn_joined.proofs.Calls.{timed_on}
@@ -56,6 +56,7 @@ module _ {s : Settings} {rank : ℕ} (host : Host) (n : Running) (took : Option 
   unfolding left_plan outs_plan sends_plan out_call
   disk_waits (Receiving st) is on disk = absurd cc
   disk_waits (Looking chosen) is on disk = absurd cc
+  disk_waits (Polling poll sents st) is on disk = absurd cc
   disk_waits (Saying said rest st) is on disk = absurd cc
   disk_waits (Parting end said rest st) is on disk = absurd cc
   disk_waits (Ended ran) is on disk = absurd cc

@@ -27,7 +27,7 @@ use Rattle.qn_live.specs.Running.{RunState}
 use Rattle.qn_joined.specs.Joints as joints
 use Rattle.qn_joined.specs.Joints.{FitsImage, Host, Joint, MayHappen, happens, landed_image, with_host}
 use Rattle.qn_safety.specs.AnyNumbers.{AllMay}
-use Rattle.qn_joined.specs.Stands.{Spot, Receiving, Looking, Acting, Saying, Parting, Ended}
+use Rattle.qn_joined.specs.Stands.{Spot, Receiving, Looking, Acting, Polling, Saying, Parting, Ended}
 use Rattle.qn_joined.specs.WorldOf.{AreAmong, NoCall, Skips, Made, ComesAs, ComesIn, HasGrown, IsAnswer, IsBacked, IsImage, IsNode, IsWorld, Waiting, disk_ahead, still_out}
 use Rattle.qn_safety.specs.NodeLogs.{IsOperation}
 use Rattle.qn_joined.proofs.Frames.{one_moves}
@@ -105,6 +105,7 @@ comes_in_stays rank log took' all what.Leave is = is
 comes_as_stays : (rank : ℕ) (log : List Line) (took' : Option What) (all : List Sent) (chosen : Choice) → ComesAs rank log None all chosen → ComesAs rank log took' all chosen
 comes_as_stays rank log took' all (choice.Whole entry) is = comes_in_stays rank log took' all entry is
 comes_as_stays rank log took' all (choice.Open p) is = is
+comes_as_stays rank log took' all (choice.Answer reply) is = is
 
 backed_stays : (s : Settings) (rank : ℕ) (took_call : Option (List ℕ)) (took' : Option What) (all : List Sent) (spot : Spot) → disk_ahead spot ≡ None
     → IsBacked s rank took_call None all spot → IsBacked s rank took_call took' all spot
@@ -113,6 +114,7 @@ backed_stays s rank took_call took' all (Looking chosen) none is =
     (waiting_stays chosen.1 took' is.0, is.1, comes_as_stays rank chosen.1.log took' all chosen.0 is.2, is.3)
 backed_stays s rank took_call took' all (Acting entry outs o rest st) none is =
     (waiting_stays st took' is.0, record { come = is.1.come; last = is.1.last; disk = λ op e. absurd (let both = sym none ∙ e in cc) })
+backed_stays s rank took_call took' all (Polling poll sents st) none is = waiting_stays st took' is
 backed_stays s rank took_call took' all (Saying said rest st) none is = waiting_stays st took' is
 backed_stays s rank took_call took' all (Parting end said rest st) none is = is
 backed_stays s rank took_call took' all (Ended ran) none is = is

@@ -34,6 +34,11 @@ use Rattle.qn_joined.proofs.Calls.{timed_on}
 use Rattle.qn_joined.proofs.Events.{Hands, hands}
 use Rattle.qn_joined.proofs.Frames.{adds_changes}
 use Rattle.qn_joined.proofs.Handing.{answer_looked, handed_at, plain_looked}
+use Rattle.qn_safety.specs.Poller.{Poller, answer_taken}
+use Rattle.qn_live.specs.Polling.{answered, answered_at}
+use Rattle.std.specs.Option.{option_map_or}
+use Rattle.std.specs.Prelude.{option_and_then}
+use Rattle.qn_model.specs.declared.entries.What.TheVariants as what
 
 -- the packets among the outputs are among those that were sent
 pub all_said : (all : List Sent) (outs : List Out) → ((sent : Sent) → Contains (packets_of outs) sent → Contains all sent) → AllSaid all outs
@@ -63,8 +68,20 @@ view_comes rank log took all (Some view) = tt
 pub looked_comes : (rank : ℕ) (log : List Line) (took : Option What) (all : List Sent) (tick : ℕ) (chosen : Choice) (maker : Option Maker)
     → ComesAs rank log took all chosen → ComesIn rank log took all (looked tick chosen maker).1
 looked_comes rank log took all tick (choice.Whole entry) maker is = is
+looked_comes rank log took all tick (choice.Answer reply) maker is = tt
 looked_comes rank log took all tick (choice.Open p) None is = tt
 looked_comes rank log took all tick (choice.Open p) (Some m) is = view_comes rank log took all (view_at tick (heard tick p m))
+
+device_comes : (rank : ℕ) (log : List Line) (took : Option What) (all : List Sent) (answer : Option Bool)
+    → ComesAs rank log took all (option_map_or (λ agrees. choice.Whole (what.Device agrees)) answer (choice.Open None))
+device_comes rank log took all None = tt
+device_comes rank log took all (Some agrees) = tt
+
+pub answered_comes : (rank : ℕ) (log : List Line) (took : Option What) (all : List Sent) (tick : ℕ) (poller : Option Poller) (chosen : Choice)
+    → ComesAs rank log took all chosen → ComesAs rank log took all (answered_at tick poller chosen)
+answered_comes rank log took all tick poller (choice.Whole entry) is = is
+answered_comes rank log took all tick poller (choice.Open p) is = tt
+answered_comes rank log took all tick poller (choice.Answer reply) is = device_comes rank log took all (option_and_then (answer_taken tick reply) poller)
 
 module _ {s : Settings} {rank : ℕ} (host : Host) (chosen : Choice × RunState) {n : Running} {took : Option What} {left : List DiskOp} {all : List Sent} where
   -- a node whose host is to look at the clock runs
@@ -107,7 +124,7 @@ looks_in_world s t logs rank events host chosen tick below may is on asked clock
           subst (λ x. IsNode s rank (returned s rank (call.Now tick) (time w.moments) (at host (Looking chosen))) x (w'.took rank) (w'.left rank) (packets s w'.moments)) (sym node_is)
           (handed_at s rank n (w.took rank) (w'.took rank) (w.left rank) (w'.left rank) (packets s w'.moments) host chosen (time w.moments) tick (ready_of host chosen is on lives) on asked clock
           (subst (λ x. IsNodeLog s x.log) node_is (logs (h.of ∷ events) rank (h.ranked, h.allowed, may) below))
-          h.spends (plain_looked tick chosen.0 chosen.1.maker) (answer_looked tick chosen.0 chosen.1.maker)
+          h.spends (plain_looked tick chosen.1.poller chosen.0 chosen.1.maker) (answer_looked tick chosen.1.poller chosen.0 chosen.1.maker)
           (subst (λ x. AllSaid (packets s w'.moments) (newest_outs x.log)) (node_adds s rank h.given w.moments ∙ h.same)
           (subst (λ m. AllSaid (packets s m) (newest_outs (node s rank (Adds rank h.given ∷ w.moments)).log)) (sym h.moments) (said_newest s rank h.given w.moments))));
     }
@@ -122,12 +139,13 @@ looks_in_world s t logs rank events host chosen tick below may is on asked clock
     lives = lives_of host chosen is on asked
 
     entry : What
-    entry = (looked tick chosen.0 chosen.1.maker).1
+    entry = (looked tick (answered tick chosen).0 chosen.1.maker).1
 
     comes : ComesIn rank n.log (w.took rank) (packets s w.moments) entry
     comes =
         subst (λ l. ComesIn rank l (w.took rank) (packets s w.moments) entry) (sym (is.log lives))
-        (looked_comes rank chosen.1.log (w.took rank) (packets s w.moments) tick chosen.0 chosen.1.maker (is.backed lives).2)
+        (looked_comes rank chosen.1.log (w.took rank) (packets s w.moments) tick (answered tick chosen).0 chosen.1.maker
+        (answered_comes rank chosen.1.log (w.took rank) (packets s w.moments) tick chosen.1.poller chosen.0 (is.backed lives).2))
 
     h : Hands s t rank entry host w
     h = hands s t rank host w lives entry comes (among_of host chosen is lives)

@@ -23,8 +23,8 @@ pub always_owns : (s : Settings) (t : Timing) → AlwaysOwns s t
 unfolding joint_after AllMayHappen happens returned looked_first
 always_owns s t image [] rank may = λ on. absurd cc
 always_owns s t image (Passes dt clocks ∷ earlier) rank may = always_owns s t image earlier rank may.1
-always_owns s t image (Begins other clean leave turns ∷ earlier) rank may =
-    put_owns HostOwns rank other (joint_after s image earlier).hosts (began clean leave turns (joint_after s image earlier).time)
+always_owns s t image (Begins other clean leave polls turns ∷ earlier) rank may =
+    put_owns HostOwns rank other (joint_after s image earlier).hosts (began clean leave polls turns (joint_after s image earlier).time)
     (λ was on. record { held = λ r. absurd cc; free = refl; calm = refl })
     (always_owns s t image earlier other may.1) (always_owns s t image earlier rank may.1)
 always_owns s t image (Looks other base ∷ earlier) rank may =

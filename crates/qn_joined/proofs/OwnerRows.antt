@@ -1,6 +1,6 @@
 -- A joined run in which both machines run beside each other, one node asks and the other tells, the first one starts its resource and is reset
 -- while it runs, and the second one takes over; a write that failed lands after all, and an operator writes a test message.
-use Rattle.std.proofs.Common.{◌≡◌, ◌<◌, ℕ, suc, zero, Bool, true, false, List, [], ◌∷◌, ◌++◌, ◌+◌, ◌^◌, ◌==◌, None, Some, if◌then◌else◌, refl, sym, arith}
+use Rattle.std.proofs.Common.{◌≡◌, true, false, List, [], ◌∷◌, ◌++◌, None, Some, refl, sym, arith}
 use Rattle.std.proofs.lemmas.Bool.{false≢true, leb-true}
 use Rattle.qn_base.specs.declared.calls.Call.TheVariants as call
 use Rattle.qn_base.specs.declared.calls.Received.TheVariants as received
@@ -35,7 +35,7 @@ part_claims_0 =
     ∷ Returns 0 (call.Read 0 (header_bytes 2 short_times) true)
     ∷ Lands 0
     ∷ Looks 0 0
-    ∷ Begins 0 false None 40
+    ∷ Begins 0 false None None 40
     ∷ []
 
 abbrev claims_0 : List Happening
@@ -107,7 +107,7 @@ part_claims_1 =
     ∷ Returns 1 (call.Read 0 (header_bytes 2 short_times) true)
     ∷ Lands 1
     ∷ Looks 1 0
-    ∷ Begins 1 false None 40
+    ∷ Begins 1 false None None 40
     ∷ []
 
 abbrev claims_1 : List Happening

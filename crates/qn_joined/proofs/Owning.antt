@@ -7,7 +7,7 @@ use Rattle.qn_model.specs.declared.entries.What.{What}
 use Rattle.qn_model.specs.declared.entries.What.TheVariants as what
 use Rattle.qn_model.specs.declared.outputs.Out.{Out}
 use Rattle.qn_model.specs.declared.packets.Sent.{Sent}
-use Rattle.qn_model.specs.Log.{Line, has_start, now}
+use Rattle.qn_model.specs.Log.{Line, has_start}
 use Rattle.qn_model.specs.Holding.{holds, is_stopped}
 use Rattle.qn_model.specs.Fitting.{fits, read_as}
 use Rattle.qn_model.specs.NodeOutputs.{newest_outs, with_entry}
@@ -19,9 +19,14 @@ use Rattle.qn_live.specs.declared.place.Waits.{Waits}
 use Rattle.qn_live.specs.Running.{RunState}
 use Rattle.qn_live.specs.Choosing.{heard, is_late, is_to_leave, looked, looking, ready, view_or_tick}
 use Rattle.qn_live.specs.Performing.{end_in}
-use Rattle.qn_live.specs.Runs.{hello_asked, taken, with_maker}
-use Rattle.qn_joined.specs.Stands.{Looking, acts_at, begun_at, clocked_by, farewells_due, handled_at, log_at, opening, parts_at, said_at, sends_due, settled_by, taking}
+use Rattle.qn_live.specs.Runs.{asked_maker, greets, taken}
+use Rattle.qn_joined.specs.Stands.{Looking, acts_at, begun_at, clocked_by, farewells_due, handled_at, log_at, opening, parts_at, polled_at, said_at, sends_due, settled_by, taking}
 use Rattle.qn_joined.specs.Owning.{Owns, is_calm, is_done_stop, is_no_stop, stops_in}
+use Rattle.std.specs.Option.{option_map_or}
+use Rattle.std.specs.Prelude.{option_and_then}
+use Rattle.qn_safety.specs.declared.polls.Poll.{Poll}
+use Rattle.qn_safety.specs.Poller.{Poller, answer_taken}
+use Rattle.qn_live.specs.Polling.{answered, answered_at, poll_due, polled}
 
 -- what is known of a state between two calls
 pub record Fine (st : RunState) (runs : Bool) : Type 0 where
@@ -59,17 +64,24 @@ pub said_owns : (s : Settings) (me : ℕ) (leave : Option ℕ) (turn more : ℕ)
 said_owns s me leave turn more st [] runs fine = begun_owns s me leave turn more st runs fine
 said_owns s me leave turn more st (sent ∷ rest) runs fine = record { held = fine.held; free = refl; calm = fine.calm }
 
+polled_owns : (s : Settings) (me : ℕ) (leave : Option ℕ) (turn more : ℕ) (st : RunState) (sents : List Sent) (poll : Option Poll) (runs : Bool) → Fine st runs
+    → Owns (polled_at s me leave turn more st sents poll).spot runs
+polled_owns s me leave turn more st sents None runs fine = said_owns s me leave turn more st sents runs fine
+polled_owns s me leave turn more st sents (Some poll) runs fine = record { held = fine.held; free = refl; calm = fine.calm }
+
 pub parts_owns : (turn more : ℕ) (end : LiveEnd) (st : RunState) (sents : List Sent) (runs : Bool) → Fine st runs → Owns (parts_at turn more end st sents).spot runs
 parts_owns turn more end st [] runs fine = record { held = λ r. ((fine.held r).0, refl); free = refl; calm = refl }
 parts_owns turn more end st (sent ∷ rest) runs fine = record { held = fine.held; free = refl; calm = fine.calm }
 
-settled_owns : (s : Settings) (me : ℕ) (leave : Option ℕ) (turn more : ℕ) (st : RunState) (found : Option LiveEnd) (runs : Bool) → Fine st runs → Owns (settled_by s me leave turn more st found).spot runs
-settled_owns s me leave turn more st None runs fine =
-    said_owns s me leave turn more (hello_asked (now st.log) (with_maker s me st)) (sends_due s me st) runs (record { held = fine.held; calm = fine.calm })
-settled_owns s me leave turn more st (Some end) runs fine = parts_owns turn more end st (farewells_due s me end st) runs fine
+settled_owns : (s : Settings) (me : ℕ) (leave : Option ℕ) (turn more : ℕ) (entry : What) (st : RunState) (found : Option LiveEnd) (runs : Bool) → Fine st runs
+    → Owns (settled_by s me leave turn more entry st found).spot runs
+settled_owns s me leave turn more entry st None runs fine =
+    polled_owns s me leave turn more (polled s me (greets s me st) entry (asked_maker s me st)) (sends_due s me st)
+    (poll_due s me (greets s me st) entry (asked_maker s me st)) runs (record { held = fine.held; calm = fine.calm })
+settled_owns s me leave turn more entry st (Some end) runs fine = parts_owns turn more end st (farewells_due s me end st) runs fine
 
 pub acts_owns : (s : Settings) (me : ℕ) (leave : Option ℕ) (turn more : ℕ) (entry : What) (outs rest : List Out) (st : RunState) (runs : Bool) → Fine st runs → Owns (acts_at s me leave turn more entry outs rest st).spot runs
-acts_owns s me leave turn more entry outs [] st runs fine = settled_owns s me leave turn more st (end_in entry outs) runs fine
+acts_owns s me leave turn more entry outs [] st runs fine = settled_owns s me leave turn more entry st (end_in entry outs) runs fine
 acts_owns s me leave turn more entry outs (o ∷ rest) st runs fine = record { held = fine.held; free = refl; calm = fine.calm }
 
 -- an entry that is no stop is read as none
@@ -83,8 +95,19 @@ view_no_stop (Some view) = refl
 
 looked_no_stop : (tick : ℕ) (chosen : Choice) (maker : Option Maker) → stops_in chosen ≡ false → is_stopped (looked tick chosen maker).1 ≡ false
 looked_no_stop tick (choice.Whole entry) maker is = is
+looked_no_stop tick (choice.Answer reply) maker is = refl
 looked_no_stop tick (choice.Open p) None is = refl
 looked_no_stop tick (choice.Open p) (Some m) is = view_no_stop (view_at tick (heard tick p m))
+
+-- an answer of the device is no stop
+device_no_stop : (answer : Option Bool) → stops_in (option_map_or (λ agrees. choice.Whole (what.Device agrees)) answer (choice.Open None)) ≡ false
+device_no_stop None = refl
+device_no_stop (Some agrees) = refl
+
+answered_no_stop : (tick : ℕ) (poller : Option Poller) (chosen : Choice) → stops_in chosen ≡ false → stops_in (answered_at tick poller chosen) ≡ false
+answered_no_stop tick poller (choice.Whole entry) is = is
+answered_no_stop tick poller (choice.Open p) is = refl
+answered_no_stop tick poller (choice.Answer reply) is = device_no_stop (option_and_then (answer_taken tick reply) poller)
 
 held_on : (started runs past_holds stopped : Bool) → (runs ≡ true → (past_holds ≡ true) × (stopped ≡ false)) → (started || runs) ≡ true → (started || (past_holds && not stopped)) ≡ true
 held_on true runs past_holds stopped h r = refl
@@ -142,16 +165,24 @@ pub said_log : (s : Settings) (me : ℕ) (leave : Option ℕ) (turn more : ℕ) 
 said_log s me leave turn more st [] = begun_log s me leave turn more st
 said_log s me leave turn more st (sent ∷ rest) = refl
 
+polled_log : (s : Settings) (me : ℕ) (leave : Option ℕ) (turn more : ℕ) (st : RunState) (sents : List Sent) (poll : Option Poll)
+    → log_at (polled_at s me leave turn more st sents poll).spot ≡ st.log
+polled_log s me leave turn more st sents None = said_log s me leave turn more st sents
+polled_log s me leave turn more st sents (Some poll) = refl
+
 pub parts_log : (turn more : ℕ) (end : LiveEnd) (st : RunState) (sents : List Sent) → log_at (parts_at turn more end st sents).spot ≡ st.log
 parts_log turn more end st [] = refl
 parts_log turn more end st (sent ∷ rest) = refl
 
-pub settled_log : (s : Settings) (me : ℕ) (leave : Option ℕ) (turn more : ℕ) (st : RunState) (found : Option LiveEnd) → log_at (settled_by s me leave turn more st found).spot ≡ st.log
-settled_log s me leave turn more st None = said_log s me leave turn more (hello_asked (now st.log) (with_maker s me st)) (sends_due s me st)
-settled_log s me leave turn more st (Some end) = parts_log turn more end st (farewells_due s me end st)
+pub settled_log : (s : Settings) (me : ℕ) (leave : Option ℕ) (turn more : ℕ) (entry : What) (st : RunState) (found : Option LiveEnd)
+    → log_at (settled_by s me leave turn more entry st found).spot ≡ st.log
+settled_log s me leave turn more entry st None =
+    polled_log s me leave turn more (polled s me (greets s me st) entry (asked_maker s me st)) (sends_due s me st)
+    (poll_due s me (greets s me st) entry (asked_maker s me st))
+settled_log s me leave turn more entry st (Some end) = parts_log turn more end st (farewells_due s me end st)
 
 pub acts_log : (s : Settings) (me : ℕ) (leave : Option ℕ) (turn more : ℕ) (entry : What) (outs rest : List Out) (st : RunState) → log_at (acts_at s me leave turn more entry outs rest st).spot ≡ st.log
-acts_log s me leave turn more entry outs [] st = settled_log s me leave turn more st (end_in entry outs)
+acts_log s me leave turn more entry outs [] st = settled_log s me leave turn more entry st (end_in entry outs)
 acts_log s me leave turn more entry outs (o ∷ rest) st = refl
 
 -- a look at the clock
@@ -165,6 +196,7 @@ looks_own s me leave turn more chosen tick runs true owns =
       calm = refl;
     }
 looks_own s me leave turn more chosen tick runs false owns =
-    subst (λ (l : List Line). Owns (handled_at s me leave turn more (looking tick chosen) tick (looked tick chosen.0 chosen.1.maker)).spot (has_start (newest_outs l) || runs))
-    (sym (acts_log s me leave turn more (looked tick chosen.0 chosen.1.maker).1 (newest_outs (taken s me (looking tick chosen) tick (looked tick chosen.0 chosen.1.maker)).log) (newest_outs (taken s me (looking tick chosen) tick (looked tick chosen.0 chosen.1.maker)).log) (taken s me (looking tick chosen) tick (looked tick chosen.0 chosen.1.maker))))
-    (handled_owns s me leave turn more (looking tick chosen) tick chosen.0 runs owns.held owns.free owns.calm)
+    subst (λ (l : List Line). Owns (handled_at s me leave turn more (looking tick (answered tick chosen)) tick (looked tick (answered tick chosen).0 chosen.1.maker)).spot (has_start (newest_outs l) || runs))
+    (sym (acts_log s me leave turn more (looked tick (answered tick chosen).0 chosen.1.maker).1 (newest_outs (taken s me (looking tick (answered tick chosen)) tick (looked tick (answered tick chosen).0 chosen.1.maker)).log) (newest_outs (taken s me (looking tick (answered tick chosen)) tick (looked tick (answered tick chosen).0 chosen.1.maker)).log) (taken s me (looking tick (answered tick chosen)) tick (looked tick (answered tick chosen).0 chosen.1.maker))))
+    (handled_owns s me leave turn more (looking tick (answered tick chosen)) tick (answered tick chosen).0 runs
+    (λ r. ((owns.held r).0, answered_no_stop tick chosen.1.poller chosen.0 (owns.held r).1)) owns.free owns.calm)

@@ -54,7 +54,7 @@ passes_node {s} {rank} {host} {n} {took} {left} {all} all' advance grows is =
       backed = λ on. backed_grows s rank host.took took all all' grows host.stand.spot (is.backed on);
       idle = is.idle;
       among = is.among;
-      fresh = λ on unasked. let f = is.fresh on unasked in record { clean = f.clean; turns = f.turns; stand = f.stand; decided = f.decided; runs = f.runs; left = f.left };
+      fresh = λ on unasked. let f = is.fresh on unasked in record { clean = f.clean; polls = f.polls; turns = f.turns; stand = f.stand; decided = f.decided; runs = f.runs; left = f.left };
       ending = is.ending;
       greets = is.greets;
       rests = is.rests;

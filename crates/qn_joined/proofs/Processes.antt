@@ -30,31 +30,33 @@ one_further : (s : Settings) (rank : ℕ) (calls : List Call) (host after : Host
 one_further s rank calls host after made asked leave stand so_far =
     record {
       clean = so_far.clean;
+      polls = so_far.polls;
       turns = so_far.turns;
       goes_on =
           λ more value follows.
           let at_left : Follows (left (plan_at s rank host.leave host.stand) made) more value =
           subst (λ (p : Plan Ran). Follows p more value) (sym (stand_left s rank host.leave host.stand made))
           (subst (λ (x : Stand). Follows (plan_at s rank host.leave x) more value) stand (subst (λ (l : Option ℕ). Follows (plan_at s rank l after.stand) more value) leave follows)) in
-          subst (λ (l : Option ℕ). Follows (live_plan s rank so_far.clean l so_far.turns) ((calls ++ made ∷ []) ++ more) value) (sym leave)
-          (subst (λ (c : List Call). Follows (live_plan s rank so_far.clean host.leave so_far.turns) c value) (sym (append_assoc calls (made ∷ []) more))
+          subst (λ (l : Option ℕ). Follows (live_plan s rank so_far.clean l so_far.polls so_far.turns) ((calls ++ made ∷ []) ++ more) value) (sym leave)
+          (subst (λ (c : List Call). Follows (live_plan s rank so_far.clean host.leave so_far.polls so_far.turns) c value) (sym (append_assoc calls (made ∷ []) more))
           (so_far.goes_on (made ∷ more) value (follows_call (plan_at s rank host.leave host.stand) made more value asked at_left)));
     }
 
 -- a process that begins
-just_begun : (s : Settings) (rank : ℕ) (clean : Bool) (leave : Option ℕ) (turns time : ℕ) → IsRunSoFar s rank [] (began clean leave turns time)
-just_begun s rank clean leave turns time =
-    record { clean = clean; turns = turns; goes_on = λ more value follows. subst (λ (p : Plan Ran). Follows p more value) (sym (stand_first s rank clean leave turns)) follows }
+just_begun : (s : Settings) (rank : ℕ) (clean : Bool) (leave polls : Option ℕ) (turns time : ℕ) → IsRunSoFar s rank [] (began clean leave polls turns time)
+just_begun s rank clean leave polls turns time =
+    record { clean = clean; polls = polls; turns = turns; goes_on = λ more value follows. subst (λ (p : Plan Ran). Follows p more value) (sym (stand_first s rank clean leave polls turns)) follows }
 
 -- nothing of the run changed
 unchanged : (s : Settings) (rank : ℕ) (calls : List Call) (host after : Host) → after.leave ≡ host.leave → after.stand ≡ host.stand → IsRunSoFar s rank calls host → IsRunSoFar s rank calls after
 unchanged s rank calls host after leave stand so_far =
     record {
       clean = so_far.clean;
+      polls = so_far.polls;
       turns = so_far.turns;
       goes_on =
           λ more value follows.
-          subst (λ (l : Option ℕ). Follows (live_plan s rank so_far.clean l so_far.turns) (calls ++ more) value) (sym leave)
+          subst (λ (l : Option ℕ). Follows (live_plan s rank so_far.clean l so_far.polls so_far.turns) (calls ++ more) value) (sym leave)
           (so_far.goes_on more value (subst (λ (x : Stand). Follows (plan_at s rank host.leave x) more value) stand (subst (λ (l : Option ℕ). Follows (plan_at s rank l after.stand) more value) leave follows)));
     }
 
@@ -99,14 +101,14 @@ off_by s rank other calls hosts after off was = by_owner (other == rank)
     by_owner true is_on = absurd (let both = sym off ∙ is_on in cc)
     by_owner false is_on = was is_on
 
-begun_by : (s : Settings) (rank other : ℕ) (calls : List Call) (hosts : ℕ → Host) (clean : Bool) (leave : Option ℕ) (turns time : ℕ)
+begun_by : (s : Settings) (rank other : ℕ) (calls : List Call) (hosts : ℕ → Host) (clean : Bool) (leave polls : Option ℕ) (turns time : ℕ)
     → ((hosts rank).on ≡ true → IsRunSoFar s rank calls (hosts rank))
-    → (put hosts other (began clean leave turns time) rank).on ≡ true
-    → IsRunSoFar s rank (if other == rank then [] else calls) (put hosts other (began clean leave turns time) rank)
-begun_by s rank other calls hosts clean leave turns time was = by_owner (other == rank)
+    → (put hosts other (began clean leave polls turns time) rank).on ≡ true
+    → IsRunSoFar s rank (if other == rank then [] else calls) (put hosts other (began clean leave polls turns time) rank)
+begun_by s rank other calls hosts clean leave polls turns time was = by_owner (other == rank)
   where
-    by_owner : (b : Bool) → (if b then began clean leave turns time else hosts rank).on ≡ true → IsRunSoFar s rank (if b then [] else calls) (if b then began clean leave turns time else hosts rank)
-    by_owner true is_on = just_begun s rank clean leave turns time
+    by_owner : (b : Bool) → (if b then began clean leave polls turns time else hosts rank).on ≡ true → IsRunSoFar s rank (if b then [] else calls) (if b then began clean leave polls turns time else hosts rank)
+    by_owner true is_on = just_begun s rank clean leave polls turns time
     by_owner false is_on = was is_on
 
 returned_by : (s : Settings) (rank other time : ℕ) (calls : List Call) (j : Joint) (made : Call)
@@ -155,8 +157,8 @@ unfolding joint_after AllMayHappen happens calls_of
 processes s t image [] rank may on = absurd cc
 processes s t image (Passes dt clocks ∷ earlier) rank may on =
     unchanged s rank (calls_of rank earlier) ((joint_after s image earlier).hosts rank) _ refl refl (processes s t image earlier rank may.1 on)
-processes s t image (Begins other clean leave turns ∷ earlier) rank may on =
-    begun_by s rank other (calls_of rank earlier) (joint_after s image earlier).hosts clean leave turns (joint_after s image earlier).time
+processes s t image (Begins other clean leave polls turns ∷ earlier) rank may on =
+    begun_by s rank other (calls_of rank earlier) (joint_after s image earlier).hosts clean leave polls turns (joint_after s image earlier).time
     (processes s t image earlier rank may.1) on
 processes s t image (Looks other base ∷ earlier) rank may on =
     looked_by s rank other base (joint_after s image earlier).time (calls_of rank earlier) (joint_after s image earlier).hosts

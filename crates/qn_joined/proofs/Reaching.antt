@@ -1,13 +1,12 @@
 -- Events that may happen lead, with every node off again, to any slots and mailboxes that nodes and operators may have left.
 use Rattle.std.proofs.Common.{◌≡◌, ◌<◌, ◌≤◌, ◌+◌, ◌-◌, ◌^◌, ℕ, zero, suc, Bool, true, false, not, ◌&&◌, ◌||◌, List, [], ◌∷◌, ◌++◌, Option, None, Some, ◌==◌, if◌then◌else◌, refl, sym, ap, subst, ◌∙◌, arith, ◌⊎◌, inl, inr}
-use Rattle.std.specs.Prelude.{length, nat_le, nat_lt, is_some, IsTrue}
+use Rattle.std.specs.Prelude.{length, nat_le, nat_lt, is_some}
 use Rattle.std.specs.Option.{option_or, option_map_or}
 use Rattle.std.proofs.lemmas.Bool.Decides.{nat_tests}
 use Rattle.std.proofs.lemmas.Bool.{leb-true, cases_lt, eqb-false, eqb-true, lt-ltb, ne_eqb, and_parts}
 use Rattle.qn_model.specs.declared.configuration.Settings.{Settings}
 use Rattle.qn_model.specs.declared.times.Timing.{Timing}
 use Rattle.qn_model.specs.declared.disk.Message.{Message}
-use Rattle.qn_model.specs.declared.disk.Message.TheVariants as message
 use Rattle.qn_model.specs.declared.disk.Slot.{Slot}
 use Rattle.qn_model.specs.declared.seen.HeaderSeen.TheVariants as header
 use Rattle.qn_model.specs.declared.seen.SlotSeen.TheVariants as slot
@@ -16,29 +15,28 @@ use Rattle.qn_model.specs.declared.entries.What.{What}
 use Rattle.qn_model.specs.declared.entries.What.TheVariants as what
 use Rattle.qn_model.specs.declared.events.Event.{Event}
 use Rattle.qn_model.specs.declared.events.Event.TheVariants as event
-use Rattle.qn_model.specs.declared.life.Phase.{Phase}
-use Rattle.qn_model.specs.declared.life.Phase.TheVariants.{Booting, Up, Leaving, Dying, Gone}
+use Rattle.qn_model.specs.declared.life.Phase.TheVariants.{Booting}
 use Rattle.qn_model.specs.declared.outputs.BootCause.TheVariants as cause
 use Rattle.qn_model.specs.declared.outputs.DiskOp.{DiskOp}
 use Rattle.qn_model.specs.declared.outputs.DiskOp.TheVariants as disk
 use Rattle.qn_model.specs.declared.outputs.Out.{Out}
 use Rattle.qn_model.specs.declared.outputs.Out.TheVariants as out
 use Rattle.qn_model.specs.lemmas.Moments.{node_adds, node_boots, node_ends, adds_apart, boots_apart, ends_apart, put_same, put_other}
-use Rattle.qn_model.specs.Fitting.{fits, read_as}
+use Rattle.qn_model.specs.Fitting.{fits}
 use Rattle.qn_model.specs.Holding.{holds}
-use Rattle.qn_model.specs.Log.{Line, ask_place, begins_clean, claimed, disk_of, incarnation, is_answer, op_out, slot_number, timing}
+use Rattle.qn_model.specs.Log.{Line, ask_place, begins_clean, claimed, is_answer, op_out, slot_number, timing}
 use Rattle.qn_model.specs.Moments.{Adds, Boots, Ends, Moment, Running, booted, handed, is_gone, logged, node, tick_of, time}
 use Rattle.qn_model.specs.NodeOutputs.{acts, boot_step_outs, disk_outs, is_begin, is_boot_step, outs_at, taken_in, when, with_entry, with_read}
-use Rattle.qn_model.specs.Phases.{boot_halt, boot_phase, header_halt, is_booting, next_phase, phase, slot_halt}
-use Rattle.qn_model.specs.Rules.{is_configured, refusal, unless, unless_running}
+use Rattle.qn_model.specs.Phases.{boot_halt, boot_phase, header_halt, is_booting, phase, slot_halt}
+use Rattle.qn_model.specs.Rules.{refusal, unless}
 use Rattle.qn_model.specs.Sectors.{is_deadly}
-use Rattle.qn_model.specs.Steps.{answered, boots, fails, happens, landed, run, step, with_mail}
+use Rattle.qn_model.specs.Steps.{answered, fails, landed, run, step}
 use Rattle.qn_model.specs.Timing.{is_safe}
 use Rattle.qn_base.specs.lemmas.Numbers.{equal_to_itself}
 use Rattle.qn_model.specs.Wanted.{boot_op, mail_tick, rank_of, wanted_with_delay}
 use Rattle.qn_model.specs.Unmet.{unmet}
-use Rattle.qn_model.specs.World.{World, failed, first_world, mailboxes_with, node_at, op_at, put, slots_with, taken}
-use Rattle.qn_safety.specs.AnyNumbers.{AllMay, is_ranked}
+use Rattle.qn_model.specs.World.{World, failed, node_at, op_at, slots_with, taken}
+use Rattle.qn_safety.specs.AnyNumbers.{AllMay}
 
 -- a line of a log whose clock stands at 0
 abbrev pub line_of : What → List Line → List Out → Line

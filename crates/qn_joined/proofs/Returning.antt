@@ -19,16 +19,21 @@ use Rattle.qn_model.specs.Holding.{holds, is_stopped}
 use Rattle.qn_model.specs.NodeOutputs.{newest_outs}
 use Rattle.qn_model.specs.Steps.{entry_of}
 use Rattle.qn_model.specs.World.{failed}
+use Rattle.qn_live.specs.declared.place.Choice.{Choice}
 use Rattle.qn_live.specs.declared.place.Choice.TheVariants as choice
 use Rattle.qn_live.specs.Running.{RunState}
-use Rattle.qn_live.specs.Choosing.{choice_of, heard_request, is_entry_for, packet_in}
+use Rattle.qn_live.specs.Choosing.{choice_in, choice_of, heard_request, is_entry_for, packet_in}
 use Rattle.qn_live.specs.Greetings.{sends_plan}
 use Rattle.qn_live.specs.Performing.{disk_answer, disk_call, done, noted, out_call, outs_plan, own_number, waits_after}
-use Rattle.qn_joined.specs.Stands.{Spot, Receiving, Looking, Acting, Saying, Parting, Ended, after_call, after_spot, left_plan, log_at, parts_at, said_at}
+use Rattle.qn_joined.specs.Stands.{Spot, Receiving, Looking, Acting, Polling, Saying, Parting, Ended, after_call, after_spot, left_plan, log_at, parts_at, said_at}
 use Rattle.qn_joined.specs.Joints.{Host, after_effect, returned, waits_for}
 use Rattle.qn_joined.specs.Owning.{Owns, is_done_stop, stops_in}
 use Rattle.qn_joined.proofs.Moving.{op_answers}
 use Rattle.qn_joined.proofs.Owning.{Fine, acts_owns, looks_own, parts_owns, said_owns}
+use Rattle.qn_safety.specs.declared.polls.Reply.{Reply}
+use Rattle.qn_safety.specs.Poller.{Poller}
+use Rattle.qn_live.specs.Polling.{choice_beside, is_device, is_reply_for, reply_in}
+use Rattle.qn_base.specs.declared.calls.Received.{Received}
 
 -- what a call does to the resource: 1 looks at the clock, 2 stops it, 0 nothing
 abbrev kind : Call → ℕ
@@ -91,6 +96,24 @@ choice_no_stop me (Some p) = by_test (is_entry_for me p)
     by_test true = entry_no_stop p
     by_test false = refl
 
+beside_no_stop : (me : ℕ) (reply : Option Reply) (before : Choice) → stops_in before ≡ false → stops_in (choice_beside me reply before) ≡ false
+beside_no_stop me (Some reply) before is = by_test (is_reply_for me reply)
+  where
+    by_test : (is_mine : Bool) → stops_in (if is_mine then choice.Answer reply else choice.Open None) ≡ false
+    by_test true = refl
+    by_test false = refl
+beside_no_stop me None (choice.Whole entry) is = by_test (is_device entry)
+  where
+    by_test : (device : Bool) → stops_in (if device then choice.Open None else choice.Whole entry) ≡ false
+    by_test true = refl
+    by_test false = is
+beside_no_stop me None (choice.Open p) is = refl
+beside_no_stop me None (choice.Answer reply) is = refl
+
+received_no_stop : (me : ℕ) (poller : Option Poller) (got : Received) → stops_in (choice_in me poller got) ≡ false
+received_no_stop me None got = choice_no_stop me (packet_in got)
+received_no_stop me (Some poller) got = beside_no_stop me (reply_in got) (choice_of me (packet_in got)) (choice_no_stop me (packet_in got))
+
 answer_calm : (s : Settings) (op : DiskOp) (made : Call) → is_stopped (disk_answer s op made) ≡ false
 answer_calm s op made = by_failed (is_failed made)
   where
@@ -142,14 +165,17 @@ spot_owns : (s : Settings) (me : ℕ) (leave : Option ℕ) (turn more : ℕ) (sp
     → Owns (after_spot s me leave turn more spot made).spot (runs_by (kind made) made (newest_outs (log_at (after_spot s me leave turn more spot made).spot)) runs)
 unfolding left_plan after_spot outs_plan sends_plan
 spot_owns s me leave turn more (Receiving st) made runs asked owns =
-    subst (λ (k : ℕ). Owns (Looking (choice_of me (packet_in (received_in made)), heard_request (received_in made) st)) (runs_by k made (newest_outs st.log) runs)) (sym (kind_of _ made 0 refl asked))
-    (record { held = λ r. ((owns.held r).0, choice_no_stop me (packet_in (received_in made))); free = owns.free; calm = owns.calm })
+    subst (λ (k : ℕ). Owns (Looking (choice_in me st.poller (received_in made), heard_request (received_in made) st)) (runs_by k made (newest_outs st.log) runs)) (sym (kind_of _ made 0 refl asked))
+    (record { held = λ r. ((owns.held r).0, received_no_stop me st.poller (received_in made)); free = owns.free; calm = owns.calm })
 spot_owns s me leave turn more (Looking chosen) made runs asked owns =
     subst (λ (k : ℕ). Owns (after_spot s me leave turn more (Looking chosen) made).spot (runs_by k made (newest_outs (log_at (after_spot s me leave turn more (Looking chosen) made).spot)) runs)) (sym (kind_of _ made 1 refl asked))
     (looks_own s me leave turn more chosen (time_of made) runs (nat_lt (time_of made) (now chosen.1.log)) owns)
 spot_owns s me leave turn more (Acting entry outs o rest st) made runs asked owns =
     acts_owns s me leave turn more entry outs rest (noted s o made st) (runs_by (kind made) made (newest_outs (log_at (after_spot s me leave turn more (Acting entry outs o rest st) made).spot)) runs)
     (noted_fine s me st o made (newest_outs (log_at (after_spot s me leave turn more (Acting entry outs o rest st) made).spot)) runs asked (record { held = owns.held; calm = owns.calm }))
+spot_owns s me leave turn more (Polling poll sents st) made runs asked owns =
+    subst (λ (k : ℕ). Owns (said_at s me leave turn more st sents).spot (runs_by k made (newest_outs (log_at (said_at s me leave turn more st sents).spot)) runs)) (sym (kind_of _ made 0 refl asked))
+    (said_owns s me leave turn more st sents runs (record { held = owns.held; calm = owns.calm }))
 spot_owns s me leave turn more (Saying sent rest st) made runs asked owns =
     subst (λ (k : ℕ). Owns (said_at s me leave turn more st rest).spot (runs_by k made (newest_outs (log_at (said_at s me leave turn more st rest).spot)) runs)) (sym (kind_of _ made 0 refl asked))
     (said_owns s me leave turn more st rest runs (record { held = owns.held; calm = owns.calm }))

@@ -36,7 +36,7 @@ use Rattle.qn_joined.specs.Moves.{IsNodeIn, Moved}
 use Rattle.qn_joined.specs.Nodes.{at, is_looking}
 use Rattle.qn_safety.specs.AnyNumbers.{AllMay}
 use Rattle.qn_joined.specs.Theorem.{PacketsReadBack}
-use Rattle.qn_joined.specs.Stands.{Spot, Receiving, Looking, Acting, Saying, Parting, Ended, left_plan}
+use Rattle.qn_joined.specs.Stands.{Spot, Receiving, Looking, Acting, Polling, Saying, Parting, Ended, left_plan}
 use Rattle.qn_joined.specs.WorldOf.{HasGrown, IsNode, IsWorld, WasSentTo, is_greeting}
 use Rattle.qn_joined.proofs.Boots.{no_event}
 use Rattle.qn_joined.proofs.Calls.{returns_at, timed_on}
@@ -44,6 +44,8 @@ use Rattle.qn_joined.proofs.Frames.{Knows, one_moves}
 use Rattle.qn_joined.proofs.Images.{same_image}
 use Rattle.qn_joined.proofs.Looks.{looks_in_world}
 use Rattle.qn_joined.proofs.Standing.{first_greets}
+use Rattle.qn_safety.specs.declared.polls.Poll.{Poll}
+use Rattle.qn_polls.specs.Polls.{poll_bytes}
 
 -- a greeting is read as no packet that counts
 found_one : (test : Packet → Bool) (found : Option Packet) (q : Packet) → option_and_then (λ p. if test p then Some p else None) found ≡ Some q → found ≡ Some q
@@ -86,6 +88,12 @@ greeting_counts (packet.Ask ask) q is e c = cc
 greeting_counts (packet.Tell tell) q is e c = cc
 greeting_counts (packet.Vote agrees) q is e c = cc
 
+-- a poll is no packet
+poll_counts : (poll : Poll) (q : Packet) → packet_of (poll_bytes poll) ≡ Some q → ⊥
+unfolding packet_of poll_bytes
+poll_counts poll q e =
+    let none = found_one (λ p. is_well_formed p && is_spelling p (poll_bytes poll)) (fields_of 6 (poll_bytes poll)) q e in cc
+
 pub sent_blank : (made : Call) → sent_by made ≡ sent_by (blank made)
 sent_blank (call.Now tick) = refl
 sent_blank (call.Receive got) = refl
@@ -125,6 +133,10 @@ greeting_sent : (all : List Sent) (to : ℕ) (p : Packet) → is_greeting p ≡ 
 greeting_sent all to p is receiver bytes q there spelled c =
     absurd (greeting_counts p q is (ap packet_of (ap (λ x. x.1) (one_sent there)) ∙ spelled) c)
 
+poll_sent : (all : List Sent) (to : ℕ) (poll : Poll) → Knows ((to, poll_bytes poll) ∷ []) all
+poll_sent all to poll receiver bytes q there spelled c =
+    absurd (poll_counts poll q (ap packet_of (ap (λ x. x.1) (one_sent there)) ∙ spelled))
+
 output_sent : (all : List Sent) (to : ℕ) (p : Packet) → packet_of (packet_bytes p) ≡ Some p → WasSentTo to all p → Knows ((to, packet_bytes p) ∷ []) all
 output_sent all to p back sent receiver bytes q there spelled c =
     let same = one_sent there in
@@ -140,6 +152,8 @@ module _ (s : Settings) (rank : ℕ) (host : Host) (n : Running) (took : Option 
   unfolding left_plan outs_plan sends_plan out_call
   sends_known (Receiving st) c back is on asked spells waits = subst (λ x. Knows (sent_by x) all) (same_Some _ _ waits) (nothing_sent all)
   sends_known (Looking chosen) c back is on asked spells waits = subst (λ x. Knows (sent_by x) all) (same_Some _ _ waits) (nothing_sent all)
+  sends_known (Polling poll sents st) c back is on asked spells waits =
+      subst (λ x. Knows (sent_by x) all) (same_Some _ _ waits) (poll_sent all 32 poll)
   sends_known (Saying said rest st) c back is on asked spells waits =
       subst (λ x. Knows (sent_by x) all) (same_Some _ _ waits) (greeting_sent all said.to.0 said.packet (first_greets said rest is.greets))
   sends_known (Parting end said rest st) c back is on asked spells waits =
@@ -198,6 +212,7 @@ module _ (s : Settings) (t : Timing) (rank : ℕ) (events : List Event) (host : 
       (looks_in_world s t logs rank events host chosen now.0 below may is on asked (subst (λ c. MayAnswer rank (at host (Looking chosen)) sent c) now.1 answer))
   moved (Receiving st) is on asked waits answer = stays (Receiving st) is on asked waits answer refl
   moved (Acting entry outs o rest st) is on asked waits answer = stays (Acting entry outs o rest st) is on asked waits answer refl
+  moved (Polling poll sents st) is on asked waits answer = stays (Polling poll sents st) is on asked waits answer refl
   moved (Saying said rest st) is on asked waits answer = stays (Saying said rest st) is on asked waits answer refl
   moved (Parting end said rest st) is on asked waits answer = stays (Parting end said rest st) is on asked waits answer refl
   moved (Ended ran) is on asked waits answer = stays (Ended ran) is on asked waits answer refl

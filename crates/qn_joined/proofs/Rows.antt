@@ -54,7 +54,7 @@ claims me =
     ∷ Returns me (call.Read 0 (header_bytes 2 short_times) true)
     ∷ Lands me
     ∷ Looks me 0
-    ∷ Begins me false None 20
+    ∷ Begins me false None None 20
     ∷ []
 
 -- what a node says before its first look, and what it says where it sees itself alone: with two_node each node is able

@@ -10,7 +10,7 @@ use Rattle.qn_model.specs.declared.packets.Sent.{Sent}
 use Rattle.qn_base.specs.declared.calls.Received.{Received}
 use Rattle.qn_base.specs.declared.calls.Received.TheVariants as received
 use Rattle.qn_model.specs.Holding.{stop_due}
-use Rattle.qn_model.specs.Log.{Line, disk_of, now}
+use Rattle.qn_model.specs.Log.{Line, disk_of}
 use Rattle.qn_model.specs.Steps.{entry_of}
 use Rattle.qn_base.specs.declared.ids.View.{View}
 use Rattle.std.specs.Option.{option_map_or}
@@ -19,19 +19,24 @@ use Rattle.qn_member.specs.Announcing.{view_to_announce}
 use Rattle.qn_member.specs.Maker.{Maker}
 use Rattle.qn_wire.specs.Reading.{packet_of}
 use Rattle.qn_live.specs.declared.live_end.LiveEnd.{LiveEnd}
+use Rattle.qn_live.specs.declared.place.Choice.{Choice}
 use Rattle.qn_live.specs.declared.place.Choice.TheVariants as choice
 use Rattle.qn_live.specs.declared.place.Waits.{Waits}
 use Rattle.qn_live.specs.Running.{RunState}
-use Rattle.qn_live.specs.Choosing.{choice_of, is_entry_for, is_late, is_to_leave, packet_in, ready}
+use Rattle.qn_live.specs.Choosing.{choice_in, choice_of, is_entry_for, is_late, is_to_leave, packet_in, ready}
 use Rattle.qn_live.specs.declared.place.Greeting.{Greeting}
 use Rattle.qn_live.specs.declared.place.Greeting.TheVariants as greeting
-use Rattle.qn_live.specs.Greetings.{farewell_after, greeting_packet, is_due, others_from, said_after, to_all, to_each, to_send}
+use Rattle.qn_live.specs.Greetings.{farewell_after, greeting_packet, others_from, said_after, to_all, to_each, to_send}
 use Rattle.qn_live.specs.Performing.{end_after, end_in}
-use Rattle.qn_live.specs.Runs.{hello_asked, with_maker}
+use Rattle.qn_live.specs.Polling.{choice_beside, is_device, is_reply_for, poll_due, polled, reply_in}
+use Rattle.qn_live.specs.Runs.{asked_maker, greets}
 use Rattle.qn_joined.specs.Joints.{counts}
 use Rattle.qn_joined.specs.Owning.{is_no_stop}
-use Rattle.qn_joined.specs.Stands.{acts_at, begun_at, farewells_due, opening, parts_at, said_at, sends_due, settled_by, taking}
+use Rattle.qn_joined.specs.Stands.{acts_at, begun_at, farewells_due, opening, parts_at, polled_at, said_at, sends_due, settled_by, taking}
 use Rattle.qn_joined.specs.WorldOf.{ComesAs, ComesIn, IsAnswer, IsBacked, IsEnding, Performs, Waiting, WasSentTo, all_greet, disk_ahead, greets_at, is_answer_in, is_greeting}
+use Rattle.qn_safety.specs.declared.polls.Poll.{Poll}
+use Rattle.qn_safety.specs.declared.polls.Reply.{Reply}
+use Rattle.qn_safety.specs.Poller.{Poller}
 
 -- an answer comes in
 answer_comes : (rank : ℕ) (log : List Line) (took : Option What) (all : List Sent) (entry : What) → IsAnswer log took entry → ComesIn rank log took all entry
@@ -83,19 +88,25 @@ module _ (s : Settings) (rank : ℕ) (took_call : Option (List ℕ)) (took : Opt
   said_backed me leave turn more st [] waits = begun_backed me leave turn more st waits
   said_backed me leave turn more st (sent ∷ rest) waits = waits
 
+  polled_backed : (me : ℕ) (leave : Option ℕ) (turn more : ℕ) (st : RunState) (sents : List Sent) (poll : Option Poll) → Waiting st took
+      → IsBacked s rank took_call took all (polled_at s me leave turn more st sents poll).spot
+  polled_backed me leave turn more st sents None waits = said_backed me leave turn more st sents waits
+  polled_backed me leave turn more st sents (Some poll) waits = waits
+
   pub parts_backed : (turn more : ℕ) (end : LiveEnd) (st : RunState) (sents : List Sent) → IsBacked s rank took_call took all (parts_at turn more end st sents).spot
   parts_backed turn more end st [] = tt
   parts_backed turn more end st (sent ∷ rest) = tt
 
-  settled_backed : (me : ℕ) (leave : Option ℕ) (turn more : ℕ) (st : RunState) (found : Option LiveEnd) → Waiting st took
-      → IsBacked s rank took_call took all (settled_by s me leave turn more st found).spot
-  settled_backed me leave turn more st None waits =
-      said_backed me leave turn more (hello_asked (now st.log) (with_maker s me st)) (sends_due s me st) (record { stopped = waits.stopped; disk = waits.disk })
-  settled_backed me leave turn more st (Some end) waits = parts_backed turn more end st (farewells_due s me end st)
+  settled_backed : (me : ℕ) (leave : Option ℕ) (turn more : ℕ) (entry : What) (st : RunState) (found : Option LiveEnd) → Waiting st took
+      → IsBacked s rank took_call took all (settled_by s me leave turn more entry st found).spot
+  settled_backed me leave turn more entry st None waits =
+      polled_backed me leave turn more (polled s me (greets s me st) entry (asked_maker s me st)) (sends_due s me st)
+      (poll_due s me (greets s me st) entry (asked_maker s me st)) (record { stopped = waits.stopped; disk = waits.disk })
+  settled_backed me leave turn more entry st (Some end) waits = parts_backed turn more end st (farewells_due s me end st)
 
   pub acts_backed : (me : ℕ) (leave : Option ℕ) (turn more : ℕ) (entry : What) (outs rest : List Out) (st : RunState) → Waiting st took
       → Performs s took_call took all st rest → IsBacked s rank took_call took all (acts_at s me leave turn more entry outs rest st).spot
-  acts_backed me leave turn more entry outs [] st waits performs = settled_backed me leave turn more st (end_in entry outs) waits
+  acts_backed me leave turn more entry outs [] st waits performs = settled_backed me leave turn more entry st (end_in entry outs) waits
   acts_backed me leave turn more entry outs (o ∷ rest) st waits performs = (waits, performs)
 
 -- no operation is ahead but that of the outputs
@@ -115,17 +126,25 @@ pub said_ahead : (s : Settings) (me : ℕ) (leave : Option ℕ) (turn more : ℕ
 said_ahead s me leave turn more st [] = begun_ahead s me leave turn more st
 said_ahead s me leave turn more st (sent ∷ rest) = refl
 
+polled_ahead : (s : Settings) (me : ℕ) (leave : Option ℕ) (turn more : ℕ) (st : RunState) (sents : List Sent) (poll : Option Poll)
+    → disk_ahead (polled_at s me leave turn more st sents poll).spot ≡ None
+polled_ahead s me leave turn more st sents None = said_ahead s me leave turn more st sents
+polled_ahead s me leave turn more st sents (Some poll) = refl
+
 pub parts_ahead : (turn more : ℕ) (end : LiveEnd) (st : RunState) (sents : List Sent) → disk_ahead (parts_at turn more end st sents).spot ≡ None
 parts_ahead turn more end st [] = refl
 parts_ahead turn more end st (sent ∷ rest) = refl
 
-settled_ahead : (s : Settings) (me : ℕ) (leave : Option ℕ) (turn more : ℕ) (st : RunState) (found : Option LiveEnd) → disk_ahead (settled_by s me leave turn more st found).spot ≡ None
-settled_ahead s me leave turn more st None = said_ahead s me leave turn more (hello_asked (now st.log) (with_maker s me st)) (sends_due s me st)
-settled_ahead s me leave turn more st (Some end) = parts_ahead turn more end st (farewells_due s me end st)
+settled_ahead : (s : Settings) (me : ℕ) (leave : Option ℕ) (turn more : ℕ) (entry : What) (st : RunState) (found : Option LiveEnd)
+    → disk_ahead (settled_by s me leave turn more entry st found).spot ≡ None
+settled_ahead s me leave turn more entry st None =
+    polled_ahead s me leave turn more (polled s me (greets s me st) entry (asked_maker s me st)) (sends_due s me st)
+    (poll_due s me (greets s me st) entry (asked_maker s me st))
+settled_ahead s me leave turn more entry st (Some end) = parts_ahead turn more end st (farewells_due s me end st)
 
 pub acts_ahead : (s : Settings) (me : ℕ) (leave : Option ℕ) (turn more : ℕ) (entry : What) (outs rest : List Out) (st : RunState)
     → disk_ahead (acts_at s me leave turn more entry outs rest st).spot ≡ disk_of rest
-acts_ahead s me leave turn more entry outs [] st = settled_ahead s me leave turn more st (end_in entry outs)
+acts_ahead s me leave turn more entry outs [] st = settled_ahead s me leave turn more entry st (end_in entry outs)
 acts_ahead s me leave turn more entry outs (o ∷ rest) st = refl
 
 -- a run that ends goes on to end
@@ -133,10 +152,10 @@ pub parts_ends : (turn more : ℕ) (end : LiveEnd) (st : RunState) (sents : List
 parts_ends turn more end st [] = tt
 parts_ends turn more end st (sent ∷ rest) = tt
 
-settled_ends : (s : Settings) (me : ℕ) (leave : Option ℕ) (turn more : ℕ) (st : RunState) (found : Option LiveEnd) → is_some found ≡ true
-    → IsEnding (settled_by s me leave turn more st found).spot
-settled_ends s me leave turn more st None some = absurd cc
-settled_ends s me leave turn more st (Some end) some = parts_ends turn more end st (farewells_due s me end st)
+settled_ends : (s : Settings) (me : ℕ) (leave : Option ℕ) (turn more : ℕ) (entry : What) (st : RunState) (found : Option LiveEnd) → is_some found ≡ true
+    → IsEnding (settled_by s me leave turn more entry st found).spot
+settled_ends s me leave turn more entry st None some = absurd cc
+settled_ends s me leave turn more entry st (Some end) some = parts_ends turn more end st (farewells_due s me end st)
 
 one_end_in : (found : Option LiveEnd) (entry : What) (o : Out) → end_after entry o ≡ found → is_some found ≡ true → is_some (end_in entry (o ∷ [])) ≡ true
 one_end_in None entry o e some = absurd cc
@@ -145,7 +164,7 @@ one_end_in (Some end) entry o e some = cc
 pub last_ends : (s : Settings) (me : ℕ) (leave : Option ℕ) (turn more : ℕ) (entry : What) (o : Out) (st : RunState) → is_some (end_after entry o) ≡ true
     → IsEnding (acts_at s me leave turn more entry (o ∷ []) [] st).spot
 last_ends s me leave turn more entry o st some =
-    settled_ends s me leave turn more st (end_in entry (o ∷ [])) (one_end_in (end_after entry o) entry o refl some)
+    settled_ends s me leave turn more entry st (end_in entry (o ∷ [])) (one_end_in (end_after entry o) entry o refl some)
 
 -- a packet that counts comes in where it was sent
 entry_comes : (rank : ℕ) (log : List Line) (took : Option What) (all : List Sent) (p : Packet) → (counts (Some p) ≡ true → WasSentTo rank all p) → ComesIn rank log took all (entry_of p)
@@ -157,12 +176,12 @@ entry_comes rank log took all (packet.Announce from view) sent = tt
 entry_comes rank log took all (packet.Vote agrees) sent = tt
 
 -- what a packet becomes
-abbrev pub Taken : ℕ → List Line → Option What → List Sent → Option Packet → Type 0
-Taken rank log took all p = ComesAs rank log took all (choice_of rank p) × (is_answer_in (choice_of rank p) ≡ false)
+abbrev pub Taken : ℕ → List Line → Option What → List Sent → Choice → Type 0
+Taken rank log took all chosen = ComesAs rank log took all chosen × (is_answer_in chosen ≡ false)
 
 packet_comes : (rank : ℕ) (log : List Line) (took : Option What) (all : List Sent) (found : Option Packet)
     → ((p : Packet) → found ≡ Some p → counts (Some p) ≡ true → WasSentTo rank all p)
-    → Taken rank log took all found
+    → Taken rank log took all (choice_of rank found)
 packet_comes rank log took all None sent = (tt, refl)
 packet_comes rank log took all (Some p) sent = by_test (is_entry_for rank p)
   where
@@ -170,12 +189,35 @@ packet_comes rank log took all (Some p) sent = by_test (is_entry_for rank p)
     by_test true = (entry_comes rank log took all p (λ c. sent p refl c), packet_answers_none p)
     by_test false = (tt, refl)
 
-pub received_comes : (rank : ℕ) (log : List Line) (took : Option What) (all : List Sent) (got : Received)
+-- beside an arbiter
+beside_comes : (rank : ℕ) (log : List Line) (took : Option What) (all : List Sent) (reply : Option Reply) (before : Choice)
+    → Taken rank log took all before → Taken rank log took all (choice_beside rank reply before)
+beside_comes rank log took all (Some reply) before is = by_test (is_reply_for rank reply)
+  where
+    by_test : (mine : Bool) → Taken rank log took all (if mine then choice.Answer reply else choice.Open None)
+    by_test true = (tt, refl)
+    by_test false = (tt, refl)
+beside_comes rank log took all None (choice.Whole entry) is = by_test (is_device entry)
+  where
+    by_test : (device : Bool) → Taken rank log took all (if device then choice.Open None else choice.Whole entry)
+    by_test true = (tt, refl)
+    by_test false = is
+beside_comes rank log took all None (choice.Open p) is = (tt, refl)
+beside_comes rank log took all None (choice.Answer reply) is = (tt, refl)
+
+content_comes : (rank : ℕ) (log : List Line) (took : Option What) (all : List Sent) (got : Received)
     → ((bytes : List ℕ) (p : Packet) → got ≡ received.Packet bytes → packet_of bytes ≡ Some p → counts (Some p) ≡ true → WasSentTo rank all p)
-    → Taken rank log took all (packet_in got)
-received_comes rank log took all (received.Packet bytes) sent = packet_comes rank log took all (packet_of bytes) (λ p is c. sent bytes p refl is c)
-received_comes rank log took all received.Nothing sent = (tt, refl)
-received_comes rank log took all received.Failed sent = (tt, refl)
+    → Taken rank log took all (choice_of rank (packet_in got))
+content_comes rank log took all (received.Packet bytes) sent = packet_comes rank log took all (packet_of bytes) (λ p is c. sent bytes p refl is c)
+content_comes rank log took all received.Nothing sent = (tt, refl)
+content_comes rank log took all received.Failed sent = (tt, refl)
+
+pub received_comes : (rank : ℕ) (poller : Option Poller) (log : List Line) (took : Option What) (all : List Sent) (got : Received)
+    → ((bytes : List ℕ) (p : Packet) → got ≡ received.Packet bytes → packet_of bytes ≡ Some p → counts (Some p) ≡ true → WasSentTo rank all p)
+    → Taken rank log took all (choice_in rank poller got)
+received_comes rank None log took all got sent = content_comes rank log took all got sent
+received_comes rank (Some poller) log took all got sent =
+    beside_comes rank log took all (reply_in got) (choice_of rank (packet_in got)) (content_comes rank log took all got sent)
 
 -- what the view maker sends are greetings
 each_greet : (p : Packet) → is_greeting p ≡ true → (ranks : List ℕ) → all_greet (to_each p ranks) ≡ true
@@ -213,10 +255,10 @@ send_greet s me maker said from =
     follows (greeting.Announce view) maker = refl
 
 due_greet : (s : Settings) (me : ℕ) (st : RunState) → all_greet (sends_due s me st) ≡ true
-due_greet s me st = by_due (is_due (now st.log) (with_maker s me st).maker)
+due_greet s me st = by_due (greets s me st)
   where
-    by_due : (b : Bool) → all_greet (if b then to_send s me (hello_asked (now st.log) (with_maker s me st)).maker greeting.Hello 0 else []) ≡ true
-    by_due true = send_greet s me (hello_asked (now st.log) (with_maker s me st)).maker greeting.Hello 0
+    by_due : (b : Bool) → all_greet (if b then to_send s me (asked_maker s me st).maker greeting.Hello 0 else []) ≡ true
+    by_due true = send_greet s me (asked_maker s me st).maker greeting.Hello 0
     by_due false = refl
 
 opening_greets : (st : RunState) (late : Bool) → greets_at (opening st late) ≡ true
@@ -236,18 +278,25 @@ pub said_greets : (s : Settings) (me : ℕ) (leave : Option ℕ) (turn more : �
 said_greets s me leave turn more st [] is = begun_greets s me leave turn more st
 said_greets s me leave turn more st (sent ∷ rest) is = is
 
+polled_greets : (s : Settings) (me : ℕ) (leave : Option ℕ) (turn more : ℕ) (st : RunState) (sents : List Sent) (poll : Option Poll) → all_greet sents ≡ true
+    → greets_at (polled_at s me leave turn more st sents poll).spot ≡ true
+polled_greets s me leave turn more st sents None is = said_greets s me leave turn more st sents is
+polled_greets s me leave turn more st sents (Some poll) is = is
+
 pub parts_greets : (turn more : ℕ) (end : LiveEnd) (st : RunState) (sents : List Sent) → all_greet sents ≡ true → greets_at (parts_at turn more end st sents).spot ≡ true
 parts_greets turn more end st [] is = refl
 parts_greets turn more end st (sent ∷ rest) is = is
 
-settled_greets : (s : Settings) (me : ℕ) (leave : Option ℕ) (turn more : ℕ) (st : RunState) (found : Option LiveEnd) → greets_at (settled_by s me leave turn more st found).spot ≡ true
-settled_greets s me leave turn more st None =
-    said_greets s me leave turn more (hello_asked (now st.log) (with_maker s me st)) (sends_due s me st) (due_greet s me st)
-settled_greets s me leave turn more st (Some end) = parts_greets turn more end st (farewells_due s me end st) (views_greet me (others_from s me 0) (farewell_after end st.maker))
+settled_greets : (s : Settings) (me : ℕ) (leave : Option ℕ) (turn more : ℕ) (entry : What) (st : RunState) (found : Option LiveEnd)
+    → greets_at (settled_by s me leave turn more entry st found).spot ≡ true
+settled_greets s me leave turn more entry st None =
+    polled_greets s me leave turn more (polled s me (greets s me st) entry (asked_maker s me st)) (sends_due s me st)
+    (poll_due s me (greets s me st) entry (asked_maker s me st)) (due_greet s me st)
+settled_greets s me leave turn more entry st (Some end) = parts_greets turn more end st (farewells_due s me end st) (views_greet me (others_from s me 0) (farewell_after end st.maker))
 
 pub acts_greets : (s : Settings) (me : ℕ) (leave : Option ℕ) (turn more : ℕ) (entry : What) (outs rest : List Out) (st : RunState)
     → greets_at (acts_at s me leave turn more entry outs rest st).spot ≡ true
-acts_greets s me leave turn more entry outs [] st = settled_greets s me leave turn more st (end_in entry outs)
+acts_greets s me leave turn more entry outs [] st = settled_greets s me leave turn more entry st (end_in entry outs)
 acts_greets s me leave turn more entry outs (o ∷ rest) st = refl
 
 -- what is left of greetings are greetings

@@ -28,7 +28,7 @@ use Rattle.qn_model.specs.declared.outputs.Out.TheVariants as out
 use Rattle.qn_model.specs.Log.{disk_of, op_out}
 use Rattle.qn_model.specs.Moments.{Running, is_gone}
 use Rattle.qn_model.specs.Phases.{phase}
-use Rattle.qn_joined.specs.Stands.{Spot, Receiving, Looking, Acting, Saying, Parting, Ended, log_at}
+use Rattle.qn_joined.specs.Stands.{Spot, Receiving, Looking, Acting, Polling, Saying, Parting, Ended, log_at}
 use Rattle.qn_joined.specs.WorldOf.{IsEnding, IsNode, TookAlike, disk_ahead}
 use Rattle.qn_joined.proofs.Calls.{disk_is, timed_on}
 use Rattle.qn_joined.proofs.Landing.{DiskWaits, disk_waits}
@@ -169,6 +169,7 @@ plain_asked s rank good (Some asked) none = ap (λ p. option_map_or is_disk (que
 ending_ahead : (spot : Spot) → IsEnding spot → disk_ahead spot ≡ None
 ending_ahead (Receiving st) ends = absurd ends
 ending_ahead (Looking chosen) ends = absurd ends
+ending_ahead (Polling poll sents st) ends = absurd ends
 ending_ahead (Saying said rest st) ends = absurd ends
 ending_ahead (Parting end said rest st) ends = refl
 ending_ahead (Ended ran) ends = refl

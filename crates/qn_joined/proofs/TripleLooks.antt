@@ -30,14 +30,14 @@ use Rattle.qn_safety.specs.TripleSteps.{run_triple}
 use Rattle.qn_safety.specs.TripleWorld.{TripleWorld}
 use Rattle.qn_joined.specs.Joints.{FitsImage, is_disk, returned, waits_for}
 use Rattle.qn_joined.specs.Nodes.{AllSaid, IsReady, Spends, at, is_looking}
-use Rattle.qn_joined.specs.Stands.{Spot, Receiving, Looking, Acting, Saying, Parting, Ended, left_plan}
+use Rattle.qn_joined.specs.Stands.{Spot, Receiving, Looking, Acting, Polling, Saying, Parting, Ended, left_plan}
 use Rattle.qn_joined.specs.TripleJoints as joints
 use Rattle.qn_joined.specs.TripleJoints.{TripleHost, TripleJoint, gives_up, happens_triple, returned_by, returned_one, returned_triple, stands_at, with_triple}
 use Rattle.qn_joined.specs.TripleNodes.{AllAre, HasTripleWorld, IsNodeOnThree, KeepsAWorld, ReturnsALook, ReturnsPlainly, WasTold, good_told}
 use Rattle.qn_joined.specs.TripleWorldOf.{CallsAnswer, none_told}
 use Rattle.qn_joined.specs.WorldOf.{AreAmong, ComesIn, IsNode, NoCall, disk_ahead}
 use Rattle.qn_joined.proofs.Handing.{answer_looked, handed_ahead, handed_at, plain_looked}
-use Rattle.qn_joined.proofs.Looks.{lives_of, looked_comes, ready_of, said_newest}
+use Rattle.qn_joined.proofs.Looks.{answered_comes, lives_of, looked_comes, ready_of, said_newest}
 use Rattle.qn_joined.proofs.Returns.{now_made, returned_fed}
 use Rattle.qn_joined.proofs.TripleAsking.{once_made}
 use Rattle.qn_joined.proofs.TripleEnds.{gives_nothing}
@@ -45,6 +45,7 @@ use Rattle.qn_joined.proofs.TripleEvents.{HandsOnThree, hands_on_three}
 use Rattle.qn_joined.proofs.TripleFrames.{IsNodeIn3, MovedOnThree, moved_triple}
 use Rattle.qn_joined.proofs.TriplePlain.{returned_plain}
 use Rattle.qn_joined.proofs.TripleSteps.{configured_triple, told_none}
+use Rattle.qn_live.specs.Polling.{answered}
 
 module _ (s : Settings) (t : Timing) (rank : ℕ) (j : TripleJoint) (nodes : TripleNodesHold s t) (calls : CallsAnswer s t) (fits : FitsImage s t) (has : HasTripleWorld s t j)
     (chosen : Choice × RunState) (looking : (j.hosts rank).one.stand.spot ≡ Looking chosen) (running : (j.hosts rank).one.on ≡ true) where
@@ -78,7 +79,7 @@ module _ (s : Settings) (t : Timing) (rank : ℕ) (j : TripleJoint) (nodes : Tri
 
   module _ (tick : ℕ) (may : joints.MayReturnTriple s rank (call.Now tick) j) where
     abbrev entry : What
-    entry = (looked tick chosen.0 chosen.1.maker).1
+    entry = (looked tick (answered tick chosen).0 chosen.1.maker).1
 
     one : IsNode s rank (at host.one (Looking chosen)) n is.took [] (packets s w.moments)
     one = subst (λ spot. IsNode s rank (at host.one spot) n is.took [] (packets s w.moments)) looking is.one
@@ -89,7 +90,8 @@ module _ (s : Settings) (t : Timing) (rank : ℕ) (j : TripleJoint) (nodes : Tri
     comes : ComesIn rank n.log is.took (packets s w.moments) entry
     comes =
         subst (λ l. ComesIn rank l is.took (packets s w.moments) entry) (sym (one.log lives))
-        (looked_comes rank chosen.1.log is.took (packets s w.moments) tick chosen.0 chosen.1.maker (one.backed lives).2)
+        (looked_comes rank chosen.1.log is.took (packets s w.moments) tick (answered tick chosen).0 chosen.1.maker
+        (answered_comes rank chosen.1.log is.took (packets s w.moments) tick chosen.1.poller chosen.0 (one.backed lives).2))
 
     h : HandsOnThree s t rank entry host.good has.events
     h = hands_on_three s t rank has.events host has.may nodes below is lives entry comes
@@ -136,14 +138,14 @@ module _ (s : Settings) (t : Timing) (rank : ℕ) (j : TripleJoint) (nodes : Tri
     one_after =
         subst (λ x. IsNode s rank x n' took' [] all') (returned_plain s rank (call.Now tick) now host.one refl is.plain.0 is.plain.1)
         (subst (λ spot. IsNode s rank (returned s rank (call.Now tick) now (at host.one spot)) n' took' [] all') (sym looking)
-        (handed_at s rank n is.took took' [] [] all' host.one chosen now tick ready may.on may.asked may.answer logs spends (plain_looked tick chosen.0 chosen.1.maker)
-        (answer_looked tick chosen.0 chosen.1.maker) said))
+        (handed_at s rank n is.took took' [] [] all' host.one chosen now tick ready may.on may.asked may.answer logs spends (plain_looked tick chosen.1.poller chosen.0 chosen.1.maker)
+        (answer_looked tick chosen.1.poller chosen.0 chosen.1.maker) said))
 
     ahead_is : disk_ahead (returned_one s rank (call.Now tick) now host.one).stand.spot ≡ disk_of (newest_outs n'.log)
     ahead_is =
         ap (λ spot. disk_ahead (returned s rank (call.Now tick) now (at host.one spot)).stand.spot) looking
-        ∙ handed_ahead s rank n is.took took' [] [] all' host.one chosen now tick ready may.on may.asked may.answer logs spends (plain_looked tick chosen.0 chosen.1.maker)
-        (answer_looked tick chosen.0 chosen.1.maker) said
+        ∙ handed_ahead s rank n is.took took' [] [] all' host.one chosen now tick ready may.on may.asked may.answer logs spends (plain_looked tick chosen.1.poller chosen.0 chosen.1.maker)
+        (answer_looked tick chosen.1.poller chosen.0 chosen.1.maker) said
 
     -- ## The operation
 
@@ -270,6 +272,7 @@ looks_again_on_three s t nodes calls rank made j fits has may looking = by_spot 
         (looks_here s t rank j nodes calls fits has chosen e may.on now.0 (subst (λ c. joints.MayReturnTriple s rank c j) now.1 may))
     by_spot (Receiving st) e is = absurd cc
     by_spot (Acting performed outs o rest st) e is = absurd cc
+    by_spot (Polling poll sents st) e is = absurd cc
     by_spot (Saying said rest st) e is = absurd cc
     by_spot (Parting end said rest st) e is = absurd cc
     by_spot (Ended ran) e is = absurd cc

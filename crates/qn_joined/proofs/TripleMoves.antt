@@ -118,12 +118,12 @@ passes_on_three s t dt clocks j fits has happen =
 
 -- ## A process begins
 
-begins_node : {s : Settings} {t : Timing} {rank : ℕ} {host : TripleHost} {n : Running} {parts : ℕ → Part} {left : ℕ → List DiskOp} {good : ℕ → Bool} {all : List Sent} (clean : Bool) (leave : Option ℕ) (turns now : ℕ)
-    → IsNodeOnThree s t rank host n parts left good all → host.one.on ≡ false → IsNodeOnThree s t rank (began_triple s rank clean leave turns now) n parts left good all
-begins_node {s} {t} {rank} {host} {n} {parts} {left} {good} {all} clean leave turns now is off =
+begins_node : {s : Settings} {t : Timing} {rank : ℕ} {host : TripleHost} {n : Running} {parts : ℕ → Part} {left : ℕ → List DiskOp} {good : ℕ → Bool} {all : List Sent} (clean : Bool) (leave polls : Option ℕ) (turns now : ℕ)
+    → IsNodeOnThree s t rank host n parts left good all → host.one.on ≡ false → IsNodeOnThree s t rank (began_triple s rank clean leave polls turns now) n parts left good all
+begins_node {s} {t} {rank} {host} {n} {parts} {left} {good} {all} clean leave polls turns now is off =
     record {
       took = is.took;
-      one = begins_as_node s rank host.one n is.took [] all clean leave turns now is.one off;
+      one = begins_as_node s rank host.one n is.took [] all clean leave polls turns now is.one off;
       told = is.told;
       plain = (refl, refl);
       three = refl;
@@ -140,11 +140,11 @@ begins_node {s} {t} {rank} {host} {n} {parts} {left} {good} {all} clean leave tu
         let off_now = is.one.on ∙ ap (λ b. b && host.one.asked && not (is_gone (phase s (log_at host.one.stand.spot)))) off in
         let both = sym off_now ∙ on in cc
 
-pub begins_on_three : (s : Settings) (t : Timing) (rank : ℕ) (clean : Bool) (leave : Option ℕ) (turns : ℕ) → KeepsAWorld s t (joints.Begins rank clean leave turns)
+pub begins_on_three : (s : Settings) (t : Timing) (rank : ℕ) (clean : Bool) (leave polls : Option ℕ) (turns : ℕ) → KeepsAWorld s t (joints.Begins rank clean leave polls turns)
 unfolding happens_triple
-begins_on_three s t rank clean leave turns j fits has may =
-    moved_triple rank (began_triple s rank clean leave turns j.time) has.world fits may.0
-    (no_triple_event has.may (begins_node clean leave turns j.time (has.world.nodes rank may.0) may.2)) (omega arith)
+begins_on_three s t rank clean leave polls turns j fits has may =
+    moved_triple rank (began_triple s rank clean leave polls turns j.time) has.world fits may.0
+    (no_triple_event has.may (begins_node clean leave polls turns j.time (has.world.nodes rank may.0) may.2)) (omega arith)
 
 -- ## A feed
 

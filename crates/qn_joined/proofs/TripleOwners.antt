@@ -35,7 +35,7 @@ module _ (s : Settings) (t : Timing) (nodes : TripleNodesHold s t) (calls : Call
   still_owns : (happening : TripleHappening) → MayHappenTriple s t happening j → (rank : ℕ) → Owns3 ((happens_triple s happening j).hosts rank)
   unfolding happens_triple returned looked_first
   still_owns (Passes dt clocks) may rank = owns rank
-  still_owns (Begins other clean leave turns) may rank = replaced rank other _ (λ was on. record { held = λ r. absurd cc; free = refl; calm = refl })
+  still_owns (Begins other clean leave polls turns) may rank = replaced rank other _ (λ was on. record { held = λ r. absurd cc; free = refl; calm = refl })
   still_owns (Looks other base) may rank =
       replaced rank other _ (λ was on. returns_own s other j.time (j.hosts other).one (call.Now (tick_of base)) may.2 (was may.0))
   still_owns (Lands other) may rank = by_call (waits_for s other (j.hosts other).one)

@@ -21,7 +21,7 @@ use Rattle.qn_safety.specs.TripleSteps.{run_triple}
 use Rattle.qn_safety.specs.TripleWorld.{TripleWorld}
 use Rattle.qn_joined.specs.Joints.{FitsImage, Host, MayAnswer, is_disk, returned, sent_by, waits_for}
 use Rattle.qn_joined.specs.Nodes.{is_looking}
-use Rattle.qn_joined.specs.Stands.{Spot, Receiving, Looking, Acting, Saying, Parting, Ended, after_spot, left_plan}
+use Rattle.qn_joined.specs.Stands.{Spot, Receiving, Looking, Acting, Polling, Saying, Parting, Ended, after_spot, left_plan}
 use Rattle.qn_joined.specs.Theorem.{HostOwns, PacketsReadBack}
 use Rattle.qn_joined.specs.TripleJoints as joints
 use Rattle.qn_joined.specs.TripleJoints.{TripleHost, TripleJoint, call_on_three, gives_up, happens_triple, returned_by, returned_one, returned_triple, stands_at, with_triple}
@@ -83,6 +83,7 @@ still_ahead : (s : Settings) (rank : ℕ) (host : Host) (made : Call) (spot : Sp
 unfolding left_plan outs_plan sends_plan out_call after_spot
 still_ahead s rank host made (Receiving st) plain apart = refl
 still_ahead s rank host made (Looking chosen) plain apart = absurd cc
+still_ahead s rank host made (Polling poll sents st) plain apart = said_ahead s rank host.leave host.stand.turn host.stand.more st sents
 still_ahead s rank host made (Saying said rest st) plain apart = said_ahead s rank host.leave host.stand.turn host.stand.more st rest
 still_ahead s rank host made (Parting end said rest st) plain apart = parts_ahead host.stand.turn host.stand.more end st rest
 still_ahead s rank host made (Ended ran) plain apart = refl

@@ -32,7 +32,7 @@ made_on_three me made =
 abbrev on_two : List Happening → List TripleHappening
 on_two [] = []
 on_two (one.Passes dt clocks ∷ earlier) = Passes dt clocks ∷ on_two earlier
-on_two (one.Begins rank clean leave turns ∷ earlier) = Begins rank clean leave turns ∷ on_two earlier
+on_two (one.Begins rank clean leave polls turns ∷ earlier) = Begins rank clean leave polls turns ∷ on_two earlier
 on_two (one.Looks rank base ∷ earlier) = Looks rank base ∷ on_two earlier
 on_two (one.Lands rank ∷ earlier) = on_two earlier
 on_two (one.Returns rank made ∷ earlier) = made_on_three rank made ++ on_two earlier

@@ -23,10 +23,10 @@ begun_left : (s : Settings) (me : ℕ) (good : List Bool) (one : Plan Ran)
 begun_left s me good (plans.Ends value) = refl
 begun_left s me good (plans.Asks asked more) = refl
 
-pub triple_begins : (s : Settings) (me : ℕ) (clean : Bool) (leave : Option ℕ) (turns time : ℕ) → triple_plan s me clean leave turns ≡ plan_left s me (began_triple s me clean leave turns time)
+pub triple_begins : (s : Settings) (me : ℕ) (clean : Bool) (leave polls : Option ℕ) (turns time : ℕ) → triple_plan s me clean leave polls turns ≡ plan_left s me (began_triple s me clean leave polls turns time)
 unfolding triple_plan
-triple_begins s me clean leave turns time =
-    ap (on_three s me all_good) (stand_first s me clean leave turns) ∙ begun_left s me all_good (plan_at s me leave (first_stand clean turns))
+triple_begins s me clean leave polls turns time =
+    ap (on_three s me all_good) (stand_first s me clean leave polls turns) ∙ begun_left s me all_good (plan_at s me leave (first_stand clean polls turns))
 
 -- a call that returns leaves when its node is to leave
 kept_leave : (s : Settings) (me : ℕ) (made : Call) (time : ℕ) (host : Host) → (returned_one s me made time host).leave ≡ host.leave

@@ -36,7 +36,7 @@ use Rattle.qn_safety.specs.TripleWorld.{TripleWorld, answer_of, good_after, has_
 use Rattle.qn_wire.specs.Reading.{packet_of}
 use Rattle.qn_joined.specs.Joints.{FitsImage, Host, MayAnswer, after_effect, counts, is_disk, returned, sent_by, waits_for}
 use Rattle.qn_joined.specs.Nodes.{KnowsPackets, at, is_looking}
-use Rattle.qn_joined.specs.Stands.{Spot, Receiving, Looking, Acting, Saying, Parting, Ended, Stand, after_call, after_spot, left_plan, log_at}
+use Rattle.qn_joined.specs.Stands.{Spot, Receiving, Looking, Acting, Polling, Saying, Parting, Ended, Stand, after_call, after_spot, left_plan, log_at}
 use Rattle.qn_joined.specs.Theorem.{HostOwns}
 use Rattle.qn_joined.specs.TripleJoints as joints
 use Rattle.qn_joined.specs.TripleJoints.{TripleHost, TripleJoint, gives_up, happens_triple, returned_by, returned_one, returned_triple, stands_at, with_triple}
@@ -169,6 +169,7 @@ module _ {s : Settings} {rank : ℕ} (host : Host) {n : Running} {took : Option 
   unfolding left_plan outs_plan sends_plan out_call after_spot
   performed (Receiving st) is lives disk = absurd cc
   performed (Looking chosen) is lives disk = absurd cc
+  performed (Polling poll sents st) is lives disk = absurd cc
   performed (Saying said rest st) is lives disk = absurd cc
   performed (Parting end said rest st) is lives disk = absurd cc
   performed (Ended ran) is lives disk = absurd cc

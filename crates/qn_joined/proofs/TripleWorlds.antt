@@ -47,7 +47,7 @@ first_is_triple_world s t images created =
 -- what may happen keeps a joint a world, kind by kind
 pub each_keeps : {s : Settings} {t : Timing}
     → ((dt : ℕ) (clocks : List (Rank × ℕ)) → KeepsAWorld s t (joints.Passes dt clocks))
-    → ((rank : ℕ) (clean : Bool) (leave : Option ℕ) (turns : ℕ) → KeepsAWorld s t (joints.Begins rank clean leave turns))
+    → ((rank : ℕ) (clean : Bool) (leave polls : Option ℕ) (turns : ℕ) → KeepsAWorld s t (joints.Begins rank clean leave polls turns))
     → ((rank base : ℕ) → KeepsAWorld s t (joints.Looks rank base))
     → ((rank : ℕ) → KeepsAWorld s t (joints.Lands rank))
     → ((rank : ℕ) (made : Call) → KeepsAWorld s t (joints.Returns rank made))
@@ -57,7 +57,7 @@ pub each_keeps : {s : Settings} {t : Timing}
     → ((rank image : ℕ) (sent : Message) → KeepsAWorld s t (joints.Operates rank image sent))
     → (happening : TripleHappening) → KeepsAWorld s t happening
 each_keeps passes begins looks lands returns feeds late ends operates (joints.Passes dt clocks) = passes dt clocks
-each_keeps passes begins looks lands returns feeds late ends operates (joints.Begins rank clean leave turns) = begins rank clean leave turns
+each_keeps passes begins looks lands returns feeds late ends operates (joints.Begins rank clean leave polls turns) = begins rank clean leave polls turns
 each_keeps passes begins looks lands returns feeds late ends operates (joints.Looks rank base) = looks rank base
 each_keeps passes begins looks lands returns feeds late ends operates (joints.Lands rank) = lands rank
 each_keeps passes begins looks lands returns feeds late ends operates (joints.Returns rank made) = returns rank made

@@ -89,9 +89,9 @@ module _ (s : Settings) (t : Timing) (alike : TakesAlike s t) (logs : LogsHold s
   pub one_happens : (j : Joint) (happening : Happening) → (has : HasWorld s t j) → MayHappen s t happening j → HasGrown s t has.events (happens s happening j)
   unfolding happens
   one_happens j (joints.Passes dt clocks) has may = passes_in_world s t has.events j dt clocks has.may has.world fits may
-  one_happens j (joints.Begins rank clean leave turns) has may =
-      moved_world rank (began clean leave turns j.time) has.world fits may.0
-      (no_event has.may (begins_untimed s rank (j.hosts rank) _ _ _ _ clean leave turns j.time (has.world.nodes rank may.0) (may_begin_untimed s (j.hosts rank) may.2))) (omega arith)
+  one_happens j (joints.Begins rank clean leave polls turns) has may =
+      moved_world rank (began clean leave polls turns j.time) has.world fits may.0
+      (no_event has.may (begins_untimed s rank (j.hosts rank) _ _ _ _ clean leave polls turns j.time (has.world.nodes rank may.0) (may_begin_untimed s (j.hosts rank) may.2))) (omega arith)
   one_happens j (joints.Looks rank base) has may =
       let w = run s t has.events in
       let below = configured has rank may.0 in

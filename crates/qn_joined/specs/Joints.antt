@@ -30,7 +30,7 @@ use Rattle.qn_model.specs.World.{numbered, put, without}
 use Rattle.qn_sector.specs.Reading.{mail_of}
 use Rattle.qn_wire.specs.Packets.{is_well_formed}
 use Rattle.qn_wire.specs.Reading.{packet_of}
-use Rattle.qn_joined.specs.Stands.{Spot, Receiving, Looking, Acting, Saying, Parting, Ended, Stand, after_call, first_stand, log_at, plan_at}
+use Rattle.qn_joined.specs.Stands.{Spot, Receiving, Looking, Acting, Polling, Saying, Parting, Ended, Stand, after_call, first_stand, log_at, plan_at}
 
 -- One host. `on` says that its machine runs, from the arming of its watchdog on; `asked` that its process has looked at the
 -- clock; `fed` is the true time of the arming or of the last feed that took effect, `decided` that of the last look at the
@@ -62,7 +62,7 @@ pub data Happening : Type 0 where
   Passes : ℕ → List (Rank × ℕ) → Happening
   -- the machine of a rank is on, its watchdog armed, and its process begins: a clean start or not, and when it is to leave. The machine was
   -- off, or its process before was over.
-  Begins : ℕ → Bool → Option ℕ → ℕ → Happening
+  Begins : ℕ → Bool → Option ℕ → Option ℕ → ℕ → Happening
   -- the process of a rank looks at its clock for the first time, which stands at this base
   Looks : ℕ → ℕ → Happening
   -- the disk call that a rank waits for lands
@@ -81,7 +81,7 @@ pub data Happening : Type 0 where
 -- a host before its first process
 abbrev pub never_on : Host
 never_on =
-    record { on = false; asked = false; leave = None; stand = first_stand false 1; clock = 0; fed = 0; decided = None; took = None; left = []; runs = false }
+    record { on = false; asked = false; leave = None; stand = first_stand false None 1; clock = 0; fed = 0; decided = None; took = None; left = []; runs = false }
 
 -- a new image, as `create` makes it
 abbrev pub new_slot : Settings → ℕ → List ℕ
@@ -144,6 +144,7 @@ is_over (Ended ran) = true
 is_over (Receiving st) = false
 is_over (Looking chosen) = false
 is_over (Acting entry outs o rest st) = false
+is_over (Polling poll sents st) = false
 is_over (Saying sent rest st) = false
 is_over (Parting end sent rest st) = false
 
@@ -175,6 +176,7 @@ abbrev pub packet_said : Spot → Option Packet
 packet_said (Receiving st) = None
 packet_said (Looking chosen) = None
 packet_said (Acting entry outs o rest st) = packet_in_out o
+packet_said (Polling poll sents st) = None
 packet_said (Saying sent rest st) = None
 packet_said (Parting end sent rest st) = None
 packet_said (Ended ran) = None
@@ -192,7 +194,7 @@ abbrev pub MayHappen : Settings → Timing → Happening → Joint → Type 0
 MayHappen s t (Passes dt clocks) j =
     ((rank : ℕ) → rank < length s.nodes → host_passes s t dt (advance_of dt clocks rank) j.time (j.hosts rank) ≡ true)
     × (list_all (λ clock. is_timed s (j.hosts clock.0.0)) clocks ≡ true)
-MayHappen s t (Begins rank clean leave turns) j = (rank < length s.nodes) × (1 ≤ turns) × (may_begin s (j.hosts rank) ≡ true)
+MayHappen s t (Begins rank clean leave polls turns) j = (rank < length s.nodes) × (1 ≤ turns) × (may_begin s (j.hosts rank) ≡ true)
 MayHappen s t (Looks rank base) j =
     ((j.hosts rank).on ≡ true)
     × ((j.hosts rank).asked ≡ false)
@@ -250,9 +252,9 @@ abbrev pub ended : Settings → ℕ → Host → Host
 ended s rank host =
     record host { on = false; runs = false; took = None; left = host.left ++ given_up_by (waits_for s rank host) host.took }
 
-abbrev pub began : Bool → Option ℕ → ℕ → ℕ → Host
-began clean leave turns time =
-    record never_on { on = true; leave = leave; stand = first_stand clean turns; fed = time }
+abbrev pub began : Bool → Option ℕ → Option ℕ → ℕ → ℕ → Host
+began clean leave polls turns time =
+    record never_on { on = true; leave = leave; stand = first_stand clean polls turns; fed = time }
 
 abbrev pub with_host : ℕ → Host → Joint → Joint
 with_host rank host j = record j { hosts = put j.hosts rank host }
@@ -264,7 +266,7 @@ happens s (Passes dt clocks) j =
       time = j.time + dt;
       hosts = λ rank. record (j.hosts rank) { clock = (if (j.hosts rank).asked then (j.hosts rank).clock + advance_of dt clocks rank else (j.hosts rank).clock) };
     }
-happens s (Begins rank clean leave turns) j = with_host rank (began clean leave turns j.time) j
+happens s (Begins rank clean leave polls turns) j = with_host rank (began clean leave polls turns j.time) j
 happens s (Looks rank base) j = with_host rank (looked_first s rank base j.time (j.hosts rank)) j
 happens s (Lands rank) j =
     option_map_or
@@ -323,7 +325,7 @@ runs_at s image happenings rank = ((joint_after s image happenings).hosts rank).
 unfoldable pub calls_of : ℕ → List Happening → List Call
 calls_of rank [] = []
 calls_of rank (Returns other made ∷ earlier) = if other == rank then calls_of rank earlier ++ made ∷ [] else calls_of rank earlier
-calls_of rank (Begins other clean leave turns ∷ earlier) = if other == rank then [] else calls_of rank earlier
+calls_of rank (Begins other clean leave polls turns ∷ earlier) = if other == rank then [] else calls_of rank earlier
 calls_of rank (Passes dt clocks ∷ earlier) = calls_of rank earlier
 calls_of rank (Looks other base ∷ earlier) =
     if other == rank then calls_of rank earlier ++ call.Now (tick_of base) ∷ [] else calls_of rank earlier

@@ -77,10 +77,10 @@ BootsInWorld s t =
 abbrev pub BeginsAsNode : Settings → ℕ → Type 0
 BeginsAsNode s rank =
     (host : Host) (n : Running) (took : Option What) (left : List DiskOp) (all : List Sent)
-    (clean : Bool) (leave : Option ℕ) (turns time : ℕ)
+    (clean : Bool) (leave polls : Option ℕ) (turns time : ℕ)
     → IsNode s rank host n took left all
     → host.on ≡ false
-    → IsNode s rank (began clean leave turns time) n took left all
+    → IsNode s rank (began clean leave polls turns time) n took left all
 
 -- a feed that takes effect is one event where the node takes part in time, and else none
 abbrev pub FeedsInWorld : Settings → Timing → Type 0

@@ -21,8 +21,9 @@ use Rattle.qn_live.specs.Running.{RunState}
 use Rattle.qn_joined.specs.Joints.{Host, MayAnswer, counts, returned, waits_for}
 use Rattle.qn_safety.specs.NodeLogs.{IsNodeLog}
 use Rattle.qn_joined.specs.Owning.{is_no_stop}
-use Rattle.qn_joined.specs.Stands.{Spot, Receiving, Looking, Acting, Saying, Parting, Ended}
+use Rattle.qn_joined.specs.Stands.{Spot, Receiving, Looking, Acting, Polling, Saying, Parting, Ended}
 use Rattle.qn_joined.specs.WorldOf.{AreAmong, IsNode, Waiting, WasSentTo, is_answer_in}
+use Rattle.qn_live.specs.Polling.{answered}
 
 -- a host whose run stands there
 abbrev pub at : Host → Spot → Host
@@ -34,6 +35,7 @@ abbrev pub is_looking : Spot → Bool
 is_looking (Looking chosen) = true
 is_looking (Receiving st) = false
 is_looking (Acting entry outs o rest st) = false
+is_looking (Polling poll sents st) = false
 is_looking (Saying sent rest st) = false
 is_looking (Parting end sent rest st) = false
 is_looking (Ended ran) = false
@@ -101,8 +103,8 @@ LooksAsNode s rank =
     → host.on ≡ true
     → host.asked ≡ true
     → tick ≡ tick_of host.clock
-    → IsNodeLog s (handed s rank time (looked tick chosen.0 chosen.1.maker).1 n).log
-    → Spends s rank (looked tick chosen.0 chosen.1.maker).1 host took took' left left'
-    → AllSaid all (newest_outs (handed s rank time (looked tick chosen.0 chosen.1.maker).1 n).log)
+    → IsNodeLog s (handed s rank time (looked tick (answered tick chosen).0 chosen.1.maker).1 n).log
+    → Spends s rank (looked tick (answered tick chosen).0 chosen.1.maker).1 host took took' left left'
+    → AllSaid all (newest_outs (handed s rank time (looked tick (answered tick chosen).0 chosen.1.maker).1 n).log)
     → IsNode s rank (returned s rank (call.Now tick) time (at host (Looking chosen)))
-    (handed s rank time (looked tick chosen.0 chosen.1.maker).1 n) took' left' all
+    (handed s rank time (looked tick (answered tick chosen).0 chosen.1.maker).1 n) took' left' all

@@ -4,7 +4,7 @@ use Rattle.qn_model.specs.declared.entries.What.{What}
 use Rattle.qn_model.specs.Holding.{holds, is_stopped}
 use Rattle.qn_live.specs.declared.place.Choice.{Choice}
 use Rattle.qn_live.specs.declared.place.Choice.TheVariants as choice
-use Rattle.qn_joined.specs.Stands.{Spot, Receiving, Looking, Acting, Saying, Parting, Ended, log_at, waits_at}
+use Rattle.qn_joined.specs.Stands.{Spot, Receiving, Looking, Acting, Polling, Saying, Parting, Ended, log_at, waits_at}
 
 -- a stop that succeeded waits for its turn
 abbrev pub is_done_stop : Option Bool → Bool
@@ -24,12 +24,14 @@ is_calm (Some answer) = not (is_stopped answer)
 abbrev pub stops_in : Choice → Bool
 stops_in (choice.Whole entry) = is_stopped entry
 stops_in (choice.Open p) = false
+stops_in (choice.Answer reply) = false
 
 -- a stop that succeeded is on its way to the node
 abbrev pub stop_waits : Spot → Bool
 stop_waits (Receiving st) = is_done_stop st.waits.stopped
 stop_waits (Looking chosen) = stops_in chosen.0
 stop_waits (Acting entry outs o rest st) = is_done_stop st.waits.stopped
+stop_waits (Polling poll sents st) = is_done_stop st.waits.stopped
 stop_waits (Saying sent rest st) = is_done_stop st.waits.stopped
 stop_waits (Parting end sent rest st) = is_done_stop st.waits.stopped
 stop_waits (Ended ran) = false
@@ -39,6 +41,7 @@ abbrev pub is_free : Spot → Bool
 is_free (Receiving st) = is_no_stop st.waits.stopped
 is_free (Looking chosen) = is_no_stop chosen.1.waits.stopped
 is_free (Acting entry outs o rest st) = true
+is_free (Polling poll sents st) = true
 is_free (Saying sent rest st) = true
 is_free (Parting end sent rest st) = true
 is_free (Ended ran) = true

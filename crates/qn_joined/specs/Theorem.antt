@@ -1,5 +1,5 @@
 -- What is said of running nodes that share one outside: this project's profile.
-use Rattle.std.specs.Prelude.{◌≡◌, ◌<◌, ℕ, Bool, true, List, ◌++◌, IfSome, IsTrue, Some, length}
+use Rattle.std.specs.Prelude.{◌≡◌, ◌<◌, ℕ, Bool, true, List, ◌++◌, IfSome, IsTrue, Some, length, Option}
 use Rattle.qn_base.specs.declared.calls.Call.{Call}
 use Rattle.qn_base.specs.Plans.{Follows}
 use Rattle.qn_model.specs.declared.configuration.Settings.{Settings}
@@ -58,10 +58,11 @@ TakesAlike s t =
 -- the process stands.
 pub record IsRunSoFar (s : Settings) (rank : ℕ) (calls : List Call) (host : Host) : Type 0 where
   pub clean : Bool
+  pub polls : Option ℕ
   pub turns : ℕ
   pub goes_on : (more : List Call) (value : Ran)
       → Follows (plan_at s rank host.leave host.stand) more value
-      → Follows (live_plan s rank clean host.leave turns) (calls ++ more) value
+      → Follows (live_plan s rank clean host.leave polls turns) (calls ++ more) value
 
 abbrev pub RunsAreRuns : Settings → Timing → Type 0
 RunsAreRuns s t =

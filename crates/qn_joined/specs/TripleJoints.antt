@@ -45,7 +45,7 @@ pub record TripleJoint : Type 0 where
 -- What happens at one moment: as over one image, but a write that was given up, and an operator's, name their image.
 pub data TripleHappening : Type 0 where
   Passes : ℕ → List (Rank × ℕ) → TripleHappening
-  Begins : ℕ → Bool → Option ℕ → ℕ → TripleHappening
+  Begins : ℕ → Bool → Option ℕ → Option ℕ → ℕ → TripleHappening
   Looks : ℕ → ℕ → TripleHappening
   -- the disk call that a rank waits for lands, on the image that it names
   Lands : ℕ → TripleHappening
@@ -98,8 +98,8 @@ abbrev pub stands_at : Settings → ℕ → List Bool → Host → TripleHost �
 stands_at s rank good one host =
     record host { one = one; good = good; call = call_on_three s rank good one; took = None }
 
-abbrev pub began_triple : Settings → ℕ → Bool → Option ℕ → ℕ → ℕ → TripleHost
-began_triple s rank clean leave turns time = stands_at s rank all_good (began clean leave turns time) never_on_triple
+abbrev pub began_triple : Settings → ℕ → Bool → Option ℕ → Option ℕ → ℕ → ℕ → TripleHost
+began_triple s rank clean leave polls turns time = stands_at s rank all_good (began clean leave polls turns time) never_on_triple
 
 abbrev pub looked_first_triple : Settings → ℕ → ℕ → ℕ → TripleHost → TripleHost
 looked_first_triple s rank base time host =
@@ -139,7 +139,7 @@ abbrev pub MayHappenTriple : Settings → Timing → TripleHappening → TripleJ
 MayHappenTriple s t (Passes dt clocks) j =
     ((rank : ℕ) → rank < length s.nodes → host_passes s t dt (advance_of dt clocks rank) j.time (j.hosts rank).one ≡ true)
     × (list_all (λ clock. is_timed s (j.hosts clock.0.0).one) clocks ≡ true)
-MayHappenTriple s t (Begins rank clean leave turns) j =
+MayHappenTriple s t (Begins rank clean leave polls turns) j =
     (rank < length s.nodes) × (1 ≤ turns) × ((j.hosts rank).one.on ≡ false)
 MayHappenTriple s t (Looks rank base) j =
     ((j.hosts rank).one.on ≡ true)
@@ -173,8 +173,8 @@ happens_triple s (Passes dt clocks) j =
       time = j.time + dt;
       hosts = λ rank. record (j.hosts rank) { one = host_after (advance_of dt clocks rank) (j.hosts rank).one };
     }
-happens_triple s (Begins rank clean leave turns) j =
-    with_triple rank (began_triple s rank clean leave turns j.time) j
+happens_triple s (Begins rank clean leave polls turns) j =
+    with_triple rank (began_triple s rank clean leave polls turns j.time) j
 happens_triple s (Looks rank base) j =
     with_triple rank (looked_first_triple s rank base j.time (j.hosts rank)) j
 happens_triple s (Lands rank) j =

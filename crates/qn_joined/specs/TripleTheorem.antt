@@ -41,7 +41,7 @@ takes_effect_on image (Returns rank made) = image == image_named made && not (is
 takes_effect_on image (LandsLate rank other number) = image == other
 takes_effect_on image (Operates rank other sent) = image == other
 takes_effect_on image (Passes dt clocks) = false
-takes_effect_on image (Begins rank clean leave turns) = false
+takes_effect_on image (Begins rank clean leave polls turns) = false
 takes_effect_on image (Looks rank base) = false
 takes_effect_on image (Lands rank) = false
 takes_effect_on image (Feeds rank) = false

@@ -29,7 +29,7 @@ use Rattle.qn_live.specs.Running.{RunState}
 use Rattle.qn_safety.specs.AnyNumbers.{AllMay}
 use Rattle.qn_safety.specs.NodeLogs.{IsOperation, is_disk_last}
 use Rattle.qn_joined.specs.Owning.{is_no_stop}
-use Rattle.qn_joined.specs.Stands.{Spot, Receiving, Looking, Acting, Saying, Parting, Ended, first_stand, log_at}
+use Rattle.qn_joined.specs.Stands.{Spot, Receiving, Looking, Acting, Polling, Saying, Parting, Ended, first_stand, log_at}
 use Rattle.qn_joined.specs.Joints.{Host, Joint, IsJoined, Happening, counts, is_timed, joint_after}
 
 -- The calls are those of some of the operations, in order: a process that died before it made a call has left its operation
@@ -83,10 +83,12 @@ ComesIn rank log took all what.Leave = Unit {0}
 abbrev pub ComesAs : ℕ → List Line → Option What → List Sent → Choice → Type 0
 ComesAs rank log took all (choice.Whole entry) = ComesIn rank log took all entry
 ComesAs rank log took all (choice.Open p) = Unit {0}
+ComesAs rank log took all (choice.Answer reply) = Unit {0}
 
 abbrev pub is_answer_in : Choice → Bool
 is_answer_in (choice.Whole entry) = is_answer entry
 is_answer_in (choice.Open p) = false
+is_answer_in (choice.Answer reply) = false
 
 -- the answers that wait in a state may be handed to its node
 pub record Waiting (st : RunState) (took : Option What) : Type 0 where
@@ -123,6 +125,7 @@ IsBacked s rank took_call took all (Looking chosen) =
     × (is_answer_in chosen.0 ≡ true → chosen.1.waits.disk ≡ None)
 IsBacked s rank took_call took all (Acting entry outs o rest st) =
     Waiting st took × Performs s took_call took all st (o ∷ rest)
+IsBacked s rank took_call took all (Polling poll sents st) = Waiting st took
 IsBacked s rank took_call took all (Saying sent rest st) = Waiting st took
 IsBacked s rank took_call took all (Parting end sent rest st) = Unit {0}
 IsBacked s rank took_call took all (Ended ran) = Unit {0}
@@ -132,6 +135,7 @@ abbrev pub disk_ahead : Spot → Option DiskOp
 disk_ahead (Receiving st) = None
 disk_ahead (Looking chosen) = None
 disk_ahead (Acting entry outs o rest st) = disk_of (o ∷ rest)
+disk_ahead (Polling poll sents st) = None
 disk_ahead (Saying sent rest st) = None
 disk_ahead (Parting end sent rest st) = None
 disk_ahead (Ended ran) = None
@@ -154,6 +158,7 @@ abbrev pub greets_at : Spot → Bool
 greets_at (Receiving st) = true
 greets_at (Looking chosen) = true
 greets_at (Acting entry outs o rest st) = true
+greets_at (Polling poll sents st) = all_greet sents
 greets_at (Saying sent rest st) = all_greet (sent ∷ rest)
 greets_at (Parting end sent rest st) = all_greet (sent ∷ rest)
 greets_at (Ended ran) = true
@@ -163,6 +168,7 @@ abbrev pub IsEnding : Spot → Type 0
 IsEnding (Receiving st) = ⊥
 IsEnding (Looking chosen) = ⊥
 IsEnding (Acting entry outs o rest st) = (rest ≡ []) × (outs ≡ o ∷ []) × (is_some (end_after entry o) ≡ true)
+IsEnding (Polling poll sents st) = ⊥
 IsEnding (Saying sent rest st) = ⊥
 IsEnding (Parting end sent rest st) = Unit {0}
 IsEnding (Ended ran) = Unit {0}
@@ -170,8 +176,9 @@ IsEnding (Ended ran) = Unit {0}
 -- a process that has not looked at the clock
 pub record IsFresh (host : Host) : Type 0 where
   pub clean : Bool
+  pub polls : Option ℕ
   pub turns : ℕ
-  pub stand : host.stand ≡ first_stand clean turns
+  pub stand : host.stand ≡ first_stand clean polls turns
   pub decided : host.decided ≡ None
   pub runs : host.runs ≡ false
   pub left : host.left ≡ []

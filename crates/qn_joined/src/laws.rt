@@ -20,8 +20,8 @@ use qn_safety::{law_any_numbers, law_node_logs};
 
 /// Law: a run begins at its first stand, and after each call what is left of it is what is left at the stand after that call.
 pub fn law_stands()
-    ensures begins { (s : Settings) (me : ℕ) (clean : Bool) (leave : Option ℕ) (turns : ℕ)
-        → live_plan s me clean leave turns ≡ plan_at s me leave (first_stand clean turns) }
+    ensures begins { (s : Settings) (me : ℕ) (clean : Bool) (leave polls : Option ℕ) (turns : ℕ)
+        → live_plan s me clean leave polls turns ≡ plan_at s me leave (first_stand clean polls turns) }
     ensures goes_on { (s : Settings) (me : ℕ) (leave : Option ℕ) (stand : Stand) (call : Call)
         → left (plan_at s me leave stand) call ≡ plan_at s me leave (after_call s me leave stand call) }
 {}

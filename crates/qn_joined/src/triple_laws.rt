@@ -24,9 +24,9 @@ use qn_safety::{law_triple_any_numbers, law_triple_nodes};
 /// is left of that run where its host stands, and after each call of a run that is not over what is left is what is left where its
 /// host stands then.
 pub fn law_triple_stands()
-    ensures begins { (s : Settings) (me : ℕ) (clean : Bool) (leave : Option ℕ) (turns time : ℕ)
-        → triple_plan s me clean leave turns
-        ≡ plan_left s me (began_triple s me clean leave turns time) }
+    ensures begins { (s : Settings) (me : ℕ) (clean : Bool) (leave polls : Option ℕ) (turns time : ℕ)
+        → triple_plan s me clean leave polls turns
+        ≡ plan_left s me (began_triple s me clean leave polls turns time) }
     ensures goes_on { (s : Settings) (me : ℕ) (host : TripleHost) (made : Call) (time : ℕ)
         → IsTrue (is_some (waits_for s me host.one))
         → question host.call ≡ Some (blank made)
@@ -75,8 +75,8 @@ pub fn law_triple_passes()
 
 /// Law: the same after a process began: its node is off.
 pub fn law_triple_begins()
-    ensures { (s : Settings) (t : Timing) (rank : ℕ) (clean : Bool) (leave : Option ℕ) (turns : ℕ)
-        → KeepsAWorld s t (joints.Begins rank clean leave turns) }
+    ensures { (s : Settings) (t : Timing) (rank : ℕ) (clean : Bool) (leave polls : Option ℕ) (turns : ℕ)
+        → KeepsAWorld s t (joints.Begins rank clean leave polls turns) }
 {}
 
 /// Law: the same after a process looked at its clock for the first time: that is the boot of its node, on three good images.

@@ -1,19 +1,22 @@
 -- The calls that are made where a Hello is due.
-use Rattle.std.proofs.Common.{◌≡◌, ℕ, Bool, true, List, [], ◌∷◌, map, Option, Some, if◌then◌else◌, ap, ◌∙◌}
+use Rattle.std.proofs.Common.{◌≡◌, ℕ, Bool, true, List, [], ◌∷◌, ◌++◌, map, Option, None, Some, if◌then◌else◌, ap, ◌∙◌}
 use Rattle.std.specs.Option.{option_map}
 use Rattle.qn_base.specs.declared.calls.Call.{Call}
 use Rattle.qn_base.specs.Calls.{blank}
 use Rattle.qn_base.specs.Plans.{Ends, ◌>>=◌, Follows}
 use Rattle.qn_model.specs.declared.configuration.Settings.{Settings}
+use Rattle.qn_model.specs.declared.entries.What.{What}
 use Rattle.qn_model.specs.declared.packets.Sent.{Sent}
 use Rattle.qn_model.specs.Log.{now}
+use Rattle.qn_safety.specs.declared.polls.Poll.{Poll}
 use Rattle.qn_member.specs.Announcing.{after_hello_due, is_beat, is_hello_due, view_to_announce}
 use Rattle.qn_member.specs.Maker.{Maker}
 use Rattle.qn_live.specs.declared.place.Greeting.TheVariants as greeting
 use Rattle.qn_live.specs.Greetings.{is_due, maker_of, sends_plan, to_send}
 use Rattle.qn_live.specs.Hellos.{hellos_of, send_call}
+use Rattle.qn_live.specs.Polling.{poll_call, poll_calls, poll_due, poll_plan, polled}
 use Rattle.qn_live.specs.Running.{RunState, Turned, Next}
-use Rattle.qn_live.specs.Runs.{greeted, hello_asked, with_maker}
+use Rattle.qn_live.specs.Runs.{asked_maker, greeted, greets}
 
 sends_made : {A : Type 0} (sents : List Sent) (last : A) (calls : List Call) (value : A) → Follows (sends_plan sents >>= (λ sent. Ends last)) calls value
     → map blank calls ≡ map send_call sents
@@ -43,12 +46,24 @@ module _ (s : Settings) (me tick : ℕ) where
   maker_due maker m is due =
       ap (λ found. if is_due tick found then to_send s me (option_map (after_hello_due tick) found) greeting.Hello 0 else []) is ∙ some_due m due
 
-pub hellos_made : (s : Settings) (me : ℕ) (st : RunState) (m : Maker) (calls : List Call) (next : RunState) → maker_of s me st ≡ Some m
-    → is_hello_due (now st.log) m ≡ true → Follows (greeted s me st) calls (Next next) → map blank calls ≡ map send_call (hellos_of s me m)
+-- the poll goes first
+poll_made : {A : Type 0} (poll : Option Poll) (sents : List Sent) (last : A) (calls : List Call) (value : A)
+    → Follows (poll_plan poll >>= (λ told. sends_plan sents >>= (λ sent. Ends last))) calls value
+    → map blank calls ≡ poll_calls poll ++ map send_call sents
+poll_made None sents last calls value follows = sends_made sents last calls value follows
+poll_made (Some poll) sents last [] value follows = absurd follows
+poll_made (Some poll) sents last (made ∷ calls) value follows =
+    ap (λ c. c ∷ map blank calls) follows.0 ∙ ap (λ rest. poll_call poll ∷ rest) (sends_made sents last calls value follows.1)
+
+pub hellos_made : (s : Settings) (me : ℕ) (entry : What) (st : RunState) (m : Maker) (calls : List Call) (next : RunState) → maker_of s me st ≡ Some m
+    → is_hello_due (now st.log) m ≡ true → Follows (greeted s me entry st) calls (Next next)
+    → map blank calls ≡ poll_calls (poll_due s me true entry (asked_maker s me st)) ++ map send_call (hellos_of s me m)
 unfolding greeted
-hellos_made s me st m calls next is due follows =
-    let present = with_maker s me st in
-    let asked = hello_asked (now st.log) present in
-    let sents = if is_due (now st.log) present.maker then to_send s me asked.maker greeting.Hello 0 else [] in
-    sends_made {A = Turned} sents (Next asked) calls (Next next) follows
-    ∙ ap (map send_call) (maker_due s me (now st.log) (maker_of s me st) m is due)
+hellos_made s me entry st m calls next is due follows =
+    let asked = asked_maker s me st in
+    let sents = if greets s me st then to_send s me asked.maker greeting.Hello 0 else [] in
+    let is_sent : greets s me st ≡ true = ap (λ found. is_due (now st.log) found) is ∙ due in
+    poll_made {A = Turned} (poll_due s me (greets s me st) entry asked) sents (Next (polled s me (greets s me st) entry asked)) calls (Next next) follows
+    ∙ ap (λ (g : Bool). poll_calls (poll_due s me g entry asked) ++ map send_call sents) is_sent
+    ∙ ap (λ (l : List Sent). poll_calls (poll_due s me true entry asked) ++ map send_call l)
+    (maker_due s me (now st.log) (maker_of s me st) m is due)

@@ -1,6 +1,6 @@
 -- What a run hands its node begins once, and its ticks are what the clock told.
 use Rattle.std.proofs.Common.{◌≡◌, ◌≤◌, ◌<◌, ℕ, suc, zero, Bool, true, false, ◌+◌, ◌-◌, List, [], ◌∷◌, ◌++◌, Option, None, Some, IfSome, if◌then◌else◌, refl, sym, ap, subst, ◌∙◌, append_assoc, arith}
-use Rattle.std.specs.Prelude.{nat_lt}
+use Rattle.std.specs.Prelude.{nat_lt, option_and_then}
 use Rattle.std.specs.Option.{option_map_or}
 use Rattle.std.proofs.lemmas.Bool.Decides.{nat_tests}
 use Rattle.std.proofs.lemmas.List.{append-nil, map-append}
@@ -37,11 +37,19 @@ use Rattle.qn_live.specs.declared.place.Choice.{Choice}
 use Rattle.qn_live.specs.declared.place.Choice.TheVariants as choice
 use Rattle.qn_live.specs.declared.place.Waits.{Waits}
 use Rattle.qn_live.specs.Choosing.{choice_of, choice_plan, heard, is_entry_for, is_late, is_to_leave, looked, looking, open_plan, packet_in, ready, view_or_tick}
-use Rattle.qn_live.specs.Greetings.{farewell_after, farewells, sends_plan}
+use Rattle.qn_live.specs.Greetings.{farewell_after, farewells, sends_plan, to_send}
 use Rattle.qn_live.specs.Handed.{BeginsOnce, HandsHistory, RisesFrom, begins_boot, look_in, looks_in, ticks_of, went_back}
 use Rattle.qn_live.specs.Performing.{disk_answer, disk_call, done, end_in, noted, out_call, outs_plan, own_number, waits_after}
+use Rattle.qn_base.specs.declared.calls.Received.{Received}
+use Rattle.qn_safety.specs.declared.polls.Poll.{Poll}
+use Rattle.qn_safety.specs.declared.polls.Reply.{Reply}
+use Rattle.qn_safety.specs.Poller.{Poller, answer_taken}
+use Rattle.qn_live.specs.Polling.{answered, answered_at, choice_beside, is_device, is_reply_for, poll_call, poll_due, poll_plan, polled, reply_in}
+use Rattle.qn_model.specs.declared.entries.What.TheVariants as what
+use Rattle.qn_live.specs.Choosing.{choice_in}
+use Rattle.qn_live.specs.declared.place.Greeting.TheVariants as greeting
 use Rattle.qn_live.specs.Running.{RunState, Turned, Over, Next, Ran, first_state, later}
-use Rattle.qn_live.specs.Runs.{clocked, greeted, handled, live_plan, parted, run_plan, settled, taken, timed, turn_plan, turns_end}
+use Rattle.qn_live.specs.Runs.{asked_maker, greets as hello_greets, clocked, greeted, handled, live_plan, parted, run_plan, settled, taken, timed, turn_plan, turns_end}
 
 -- ## What the clock told in the calls of a plan
 
@@ -167,6 +175,7 @@ noted_waits s (out.Halt kind) c waits none = none
 abbrev NoBeginIn : Choice → Type 0
 NoBeginIn (choice.Whole entry) = is_begin entry ≡ false
 NoBeginIn (choice.Open p) = Unit {0}
+NoBeginIn (choice.Answer reply) = Unit {0}
 
 look_begins_none : (seen : Option View) → is_begin (view_or_tick seen) ≡ false
 look_begins_none None = refl
@@ -175,6 +184,7 @@ look_begins_none (Some own) = refl
 looked_begins_none : (tick : ℕ) (chosen : Choice) (maker : Option Maker) → NoBeginIn chosen → is_begin (looked tick chosen maker).1 ≡ false
 looked_begins_none tick (choice.Whole entry) maker none = none
 looked_begins_none tick (choice.Open p) None none = refl
+looked_begins_none tick (choice.Answer reply) maker none = refl
 looked_begins_none tick (choice.Open p) (Some m) none = look_begins_none (view_at tick (heard tick p m))
 
 packet_begins_none : (p : Packet) → is_begin (entry_of p) ≡ false
@@ -192,6 +202,34 @@ choice_begins_none me (Some p) = of_test (is_entry_for me p)
     of_test : (own : Bool) → NoBeginIn (if own then choice.Whole (entry_of p) else choice.Open (Some p))
     of_test true = packet_begins_none p
     of_test false = tt
+
+-- an answer of the device begins nothing
+answer_of_begins_none : (answer : Option Bool) → NoBeginIn (option_map_or (λ agrees. choice.Whole (what.Device agrees)) answer (choice.Open None))
+answer_of_begins_none None = tt
+answer_of_begins_none (Some agrees) = refl
+
+answered_begins_none : (tick : ℕ) (poller : Option Poller) (chosen : Choice) → NoBeginIn chosen → NoBeginIn (answered_at tick poller chosen)
+answered_begins_none tick poller (choice.Whole entry) none = none
+answered_begins_none tick poller (choice.Open p) none = tt
+answered_begins_none tick poller (choice.Answer reply) none = answer_of_begins_none (option_and_then (answer_taken tick reply) poller)
+
+beside_begins_none : (me : ℕ) (reply : Option Reply) (before : Choice) → NoBeginIn before → NoBeginIn (choice_beside me reply before)
+beside_begins_none me (Some reply) before none = of_test (is_reply_for me reply)
+  where
+    of_test : (own : Bool) → NoBeginIn (if own then choice.Answer reply else choice.Open None)
+    of_test true = tt
+    of_test false = tt
+beside_begins_none me None (choice.Whole entry) none = of_test (is_device entry)
+  where
+    of_test : (device : Bool) → NoBeginIn (if device then choice.Open None else choice.Whole entry)
+    of_test true = tt
+    of_test false = none
+beside_begins_none me None (choice.Open p) none = tt
+beside_begins_none me None (choice.Answer reply) none = tt
+
+choice_in_begins_none : (me : ℕ) (poller : Option Poller) (got : Received) → NoBeginIn (choice_in me poller got)
+choice_in_begins_none me None got = choice_begins_none me (packet_in got)
+choice_in_begins_none me (Some poller) got = beside_begins_none me (reply_in got) (choice_of me (packet_in got)) (choice_begins_none me (packet_in got))
 
 ready_begins_none : (leaves rests : Bool) (stopped : Option Bool) (disk : Option What) → NoBegin disk
     → IfSome (ready leaves rests (record { stopped = stopped; disk = disk })) (λ found. (is_begin found.0 ≡ false) × NoBegin found.1.disk)
@@ -331,10 +369,20 @@ module _ (s : Settings) (me : ℕ) (clean : Bool) where
       (sym (quiet looks c (out_call s me (own_number st.log) o) asked (out_silent s me (own_number st.log) o)))
       (told_outs looks (noted s o c st) outs (noted_waits s o c st.waits none))
 
-  told_greeted : (looks : List ℕ) (st : RunState) → Handed looks st.log → NoBegin st.waits.disk → Told Turns looks (greeted s me st)
+  told_poll : (looks : List ℕ) (poll : Option Poll) → Told (Nothing looks) looks (poll_plan poll)
+  told_poll looks None = refl
+  told_poll looks (Some poll) = λ c asked. quiet looks c (poll_call poll) asked refl
+
+  told_greeted : (looks : List ℕ) (entry : What) (st : RunState) → Handed looks st.log → NoBegin st.waits.disk → Told Turns looks (greeted s me entry st)
   unfolding greeted
-  told_greeted looks st is none =
-      told_then (Nothing looks) Turns looks (sends_plan _) _ (told_sends looks _) (λ after sent same. (subst (λ l. Handed l st.log) (sym same) is, none))
+  told_greeted looks entry st is none =
+      let asked = asked_maker s me st in
+      let sents = if hello_greets s me st then to_send s me asked.maker greeting.Hello 0 else [] in
+      let poll = poll_due s me (hello_greets s me st) entry asked in
+      let next = polled s me (hello_greets s me st) entry asked in
+      told_then (Nothing looks) Turns looks (poll_plan poll) (λ told. sends_plan sents >>= (λ sent. Ends (Next next))) (told_poll looks poll)
+      (λ after told same. told_then (Nothing after) Turns after (sends_plan sents) (λ sent. Ends (Next next)) (told_sends after sents)
+      (λ last sent kept. (subst (λ l. Handed l st.log) (sym (kept ∙ same)) is, none)))
 
   told_parted : (looks : List ℕ) (end : LiveEnd) (st : RunState) → Handed looks st.log → went_back end ≡ [] → Told Turns looks (parted s me end st)
   unfolding parted
@@ -349,8 +397,8 @@ module _ (s : Settings) (me : ℕ) (clean : Bool) where
   told_settled looks entry outs st is none = of_end (end_in entry outs) (ends_forward entry outs)
     where
       of_end : (found : Option LiveEnd) → IfSome found (λ end. went_back end ≡ [])
-          → Told Turns looks (option_map_or (λ end. parted s me end st) found (greeted s me st))
-      of_end None forward = told_greeted looks st is none
+          → Told Turns looks (option_map_or (λ end. parted s me end st) found (greeted s me entry st))
+      of_end None forward = told_greeted looks entry st is none
       of_end (Some end) forward = told_parted looks end st is forward
 
   told_handled : (looks : List ℕ) (st : RunState) (tick : ℕ) (found : Option Maker × What)
@@ -371,22 +419,22 @@ module _ (s : Settings) (me : ℕ) (clean : Bool) where
     where
       of_test : (back : Bool) → nat_lt tick (now chosen.1.log) ≡ back
           → Told Turns (looks ++ tick ∷ []) (if back then Ends (Over (end.ClockBack (now chosen.1.log) tick) chosen.1.log)
-          else handled s me (looking tick chosen) tick (looked tick chosen.0 chosen.1.maker))
+          else handled s me (looking tick (answered tick chosen)) tick (looked tick (answered tick chosen).0 chosen.1.maker))
       of_test true back = ended_back looks tick chosen.1.log is
       of_test false onward =
           let later : now chosen.1.log ≤ tick = grind (arith, nat_tests) in
-          let found = looked tick chosen.0 chosen.1.maker in
-          told_handled (looks ++ tick ∷ []) (looking tick chosen) tick found
-          (handed_more looks chosen.1.log (record { tick = tick; what = found.1 }) is (looked_begins_none tick chosen.0 chosen.1.maker entry) later) none
+          let found = looked tick (answered tick chosen).0 chosen.1.maker in
+          told_handled (looks ++ tick ∷ []) (looking tick (answered tick chosen)) tick found
+          (handed_more looks chosen.1.log (record { tick = tick; what = found.1 }) is (looked_begins_none tick (answered tick chosen).0 chosen.1.maker (answered_begins_none tick chosen.1.poller chosen.0 entry)) later) none
 
-  told_first : (tick : ℕ) → Told Turns (tick ∷ []) (clocked s me (choice.Whole (begin_of clean), first_state) tick)
+  told_first : (polls : Option ℕ) (tick : ℕ) → Told Turns (tick ∷ []) (clocked s me (choice.Whole (begin_of clean), first_state polls) tick)
   unfolding clocked
-  told_first tick = of_test (nat_lt tick 0) refl
+  told_first polls tick = of_test (nat_lt tick 0) refl
     where
       of_test : (back : Bool) → nat_lt tick 0 ≡ back
-          → Told Turns (tick ∷ []) (if back then Ends (Over (end.ClockBack 0 tick) []) else handled s me (record first_state { last_look = tick }) tick (None, begin_of clean))
+          → Told Turns (tick ∷ []) (if back then Ends (Over (end.ClockBack 0 tick) []) else handled s me (record (first_state polls) { last_look = tick }) tick (None, begin_of clean))
       of_test true back = absurd (let below : tick < 0 = grind (arith, nat_tests) in omega (arith, below))
-      of_test false onward = told_handled (tick ∷ []) (record first_state { last_look = tick }) tick (None, begin_of clean) (handed_first tick) tt
+      of_test false onward = told_handled (tick ∷ []) (record (first_state polls) { last_look = tick }) tick (None, begin_of clean) (handed_first tick) tt
 
   -- the look at the clock that a turn takes
   told_timed : (looks : List ℕ) (chosen : Choice × RunState)
@@ -422,7 +470,7 @@ module _ (s : Settings) (me : ℕ) (clean : Bool) where
       of_late false =
           λ c asked. (
             subst (λ l. Handed l st.log) (sym (quiet looks c (call.Receive received.Nothing) asked refl)) is,
-            choice_begins_none me (packet_in (received_in c)),
+            choice_in_begins_none me st.poller (received_in c),
             none,
           )
 
@@ -457,15 +505,15 @@ module _ (s : Settings) (me : ℕ) (clean : Bool) where
       told_then Turns Ended looks (turn_plan s me leave turn st) (later (run_plan s me leave (turn + 1) more)) (told_turn looks leave turn st is none)
       (told_later (run_plan s me leave (turn + 1) more) (told_run leave more (turn + 1)))
 
-  told_live : (leave : Option ℕ) (turns : ℕ) → Told Ended [] (live_plan s me clean leave turns)
+  told_live : (leave polls : Option ℕ) (turns : ℕ) → Told Ended [] (live_plan s me clean leave polls turns)
   unfolding live_plan
-  told_live leave turns =
-      told_then Turns Ended [] (timed s me (choice.Whole (begin_of clean), first_state)) (later (run_plan s me leave 2 (turns - 1)))
-      (told_timed [] (choice.Whole (begin_of clean), first_state) told_first)
+  told_live leave polls turns =
+      told_then Turns Ended [] (timed s me (choice.Whole (begin_of clean), first_state polls)) (later (run_plan s me leave 2 (turns - 1)))
+      (told_timed [] (choice.Whole (begin_of clean), first_state polls) (told_first polls))
       (told_later (run_plan s me leave 2 (turns - 1)) (told_run leave (turns - 1) 2))
 
-  pub hands_history : (leave : Option ℕ) (turns : ℕ) (calls : List Call) (ran : Ran) → Follows (live_plan s me clean leave turns) calls ran
+  pub hands_history : (leave polls : Option ℕ) (turns : ℕ) (calls : List Call) (ran : Ran) → Follows (live_plan s me clean leave polls turns) calls ran
       → HandsHistory s me clean calls ran
-  hands_history leave turns calls ran follows =
-      let ended = told_end Ended [] (live_plan s me clean leave turns) calls ran (told_live leave turns) follows in
+  hands_history leave polls turns calls ran follows =
+      let ended = told_end Ended [] (live_plan s me clean leave polls turns) calls ran (told_live leave polls turns) follows in
       record { history = ended.history; log = ended.is_log; begins = ended.begins; looks = ended.told }

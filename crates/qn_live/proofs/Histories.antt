@@ -3,7 +3,7 @@ use Rattle.std.proofs.Common.{◌≡◌, ℕ, suc, zero, Bool, true, false, ◌+
 use Rattle.std.specs.Prelude.{nat_lt}
 use Rattle.std.specs.Option.{option_map_or}
 use Rattle.qn_base.specs.declared.calls.Call.{Call}
-use Rattle.qn_base.specs.Plans.{Plan, Ends, Asks, Follows}
+use Rattle.qn_base.specs.Plans.{Plan, Ends, Asks, Follows, ◌>>=◌}
 use Rattle.qn_io.specs.Answered.{received_in, time_of}
 use Rattle.qn_model.specs.declared.configuration.Settings.{Settings}
 use Rattle.qn_model.specs.declared.packets.Packet.{Packet}
@@ -24,11 +24,18 @@ use Rattle.qn_live.specs.declared.place.Choice.{Choice}
 use Rattle.qn_live.specs.declared.place.Choice.TheVariants as choice
 use Rattle.qn_live.specs.declared.place.Waits.{Waits}
 use Rattle.qn_live.specs.Choosing.{choice_of, choice_plan, failed_answer, is_late, is_to_leave, looked, looking, open_plan, packet_in, ready}
-use Rattle.qn_live.specs.Greetings.{sends_plan}
+use Rattle.qn_live.specs.Greetings.{sends_plan, to_send}
 use Rattle.qn_live.specs.Laws.{IsHistory, takes_answer}
 use Rattle.qn_live.specs.Performing.{end_in, noted, outs_plan}
+use Rattle.qn_base.specs.declared.calls.Received.{Received}
+use Rattle.qn_safety.specs.declared.polls.Poll.{Poll}
+use Rattle.qn_safety.specs.declared.polls.Reply.{Reply}
+use Rattle.qn_safety.specs.Poller.{Poller}
+use Rattle.qn_live.specs.Polling.{answered, choice_beside, is_device, is_reply_for, poll_due, poll_plan, polled, reply_in}
+use Rattle.qn_live.specs.Choosing.{choice_in}
+use Rattle.qn_live.specs.declared.place.Greeting.TheVariants as greeting
 use Rattle.qn_live.specs.Running.{RunState, Turned, Over, Next, Ran, first_state, later}
-use Rattle.qn_live.specs.Runs.{clocked, greeted, handled, live_plan, parted, run_plan, settled, taken, timed, turn_plan}
+use Rattle.qn_live.specs.Runs.{asked_maker, greets as hello_greets, clocked, greeted, handled, live_plan, parted, run_plan, settled, taken, timed, turn_plan}
 use Rattle.qn_live.proofs.Always.{Always, always_follows, always_then}
 
 one_more : (s : Settings) (me : ℕ) (log : List Line) (entry : Entry) → IsHistory s me log → IsHistory s me (with_entry s me log entry)
@@ -54,10 +61,19 @@ unfolding outs_plan
 outs_always s me st [] = (refl, refl)
 outs_always s me st (o ∷ outs) = λ call. outs_always s me (noted s o call st) outs
 
-greeted_always : (s : Settings) (me : ℕ) (st : RunState) (log : List Line) (rests : Bool) → st.log ≡ log → st.rests ≡ rests → Always (EndsFrom log rests) (greeted s me st)
+pub poll_always : (poll : Option Poll) → Always (λ told. Unit {0}) (poll_plan poll)
+poll_always None = tt
+poll_always (Some poll) = λ call. tt
+
+greeted_always : (s : Settings) (me : ℕ) (entry : What) (st : RunState) (log : List Line) (rests : Bool) → st.log ≡ log → st.rests ≡ rests → Always (EndsFrom log rests) (greeted s me entry st)
 unfolding greeted
-greeted_always s me st log rests is_log is_rests =
-    always_then (λ sent. Unit {0}) (EndsFrom log rests) _ _ (sends_always _) (λ sent nothing. (is_log, is_rests))
+greeted_always s me entry st log rests is_log is_rests =
+    let asked = asked_maker s me st in
+    let sents = if hello_greets s me st then to_send s me asked.maker greeting.Hello 0 else [] in
+    let poll = poll_due s me (hello_greets s me st) entry asked in
+    let next = polled s me (hello_greets s me st) entry asked in
+    always_then (λ told. Unit {0}) (EndsFrom log rests) (poll_plan poll) (λ told. sends_plan sents >>= (λ sent. Ends (Next next))) (poll_always poll)
+    (λ told nothing. always_then (λ sent. Unit {0}) (EndsFrom log rests) (sends_plan sents) (λ sent. Ends (Next next)) (sends_always sents) (λ sent nothing. (is_log, is_rests)))
 
 parted_always : (s : Settings) (me : ℕ) (end : LiveEnd) (st : RunState) (log : List Line) (rests : Bool) → st.log ≡ log → Always (EndsFrom log rests) (parted s me end st)
 unfolding parted
@@ -69,8 +85,8 @@ unfolding settled
 settled_always s me entry outs st log rests is_log is_rests =
     by_end (end_in entry outs)
   where
-    by_end : (found : Option LiveEnd) → Always (EndsFrom log rests) (option_map_or (λ end. parted s me end st) found (greeted s me st))
-    by_end None = greeted_always s me st log rests is_log is_rests
+    by_end : (found : Option LiveEnd) → Always (EndsFrom log rests) (option_map_or (λ end. parted s me end st) found (greeted s me entry st))
+    by_end None = greeted_always s me entry st log rests is_log is_rests
     by_end (Some end) = parted_always s me end st log rests is_log
 
 handled_always : (s : Settings) (me : ℕ) (st : RunState) (tick : ℕ) (found : Option Maker × What) → Always (EndsFrom (with_entry s me st.log (record { tick = tick; what = found.1 })) (failed_answer found.1)) (handled s me st tick found)
@@ -99,13 +115,13 @@ unfolding clocked
 clocked_always s me chosen tick is =
     by_clock (nat_lt tick (now chosen.1.log))
   where
-    by_clock : (back : Bool) → Always (KeepsHistory s me) (if back then Ends (Over (end.ClockBack (now chosen.1.log) tick) chosen.1.log) else handled s me (looking tick chosen) tick (looked tick chosen.0 chosen.1.maker))
+    by_clock : (back : Bool) → Always (KeepsHistory s me) (if back then Ends (Over (end.ClockBack (now chosen.1.log) tick) chosen.1.log) else handled s me (looking tick (answered tick chosen)) tick (looked tick (answered tick chosen).0 chosen.1.maker))
     by_clock true = is
     by_clock false =
-        let found = looked tick chosen.0 chosen.1.maker in
-        always_from s me (with_entry s me chosen.1.log (record { tick = tick; what = found.1 })) (failed_answer found.1) (handled s me (looking tick chosen) tick found)
+        let found = looked tick (answered tick chosen).0 chosen.1.maker in
+        always_from s me (with_entry s me chosen.1.log (record { tick = tick; what = found.1 })) (failed_answer found.1) (handled s me (looking tick (answered tick chosen)) tick found)
         (one_more s me chosen.1.log (record { tick = tick; what = found.1 }) is)
-        (handled_always s me (looking tick chosen) tick found)
+        (handled_always s me (looking tick (answered tick chosen)) tick found)
 
 -- what a turn takes leaves the log as it was
 abbrev KeepsLog : List Line → Choice × RunState → Type 0
@@ -146,11 +162,11 @@ run_always s me leave turn (suc more) st is =
     (turn_always s me leave turn st is)
     (after_turn s me (run_plan s me leave (turn + 1) more) (λ next kept. run_always s me leave (turn + 1) more next kept))
 
-pub live_always : (s : Settings) (me : ℕ) (clean : Bool) (leave : Option ℕ) (turns : ℕ) → Always (EndsHistory s me) (live_plan s me clean leave turns)
+pub live_always : (s : Settings) (me : ℕ) (clean : Bool) (leave polls : Option ℕ) (turns : ℕ) → Always (EndsHistory s me) (live_plan s me clean leave polls turns)
 unfolding live_plan log_from
-live_always s me clean leave turns =
-    always_then (KeepsHistory s me) (EndsHistory s me) (timed s me (choice.Whole (begin_of clean), first_state)) (later (run_plan s me leave 2 (turns - 1)))
-    (λ call. clocked_always s me (choice.Whole (begin_of clean), first_state) (time_of call) ([], refl))
+live_always s me clean leave polls turns =
+    always_then (KeepsHistory s me) (EndsHistory s me) (timed s me (choice.Whole (begin_of clean), first_state polls)) (later (run_plan s me leave 2 (turns - 1)))
+    (λ call. clocked_always s me (choice.Whole (begin_of clean), first_state polls) (time_of call) ([], refl))
     (after_turn s me (run_plan s me leave 2 (turns - 1)) (λ next kept. run_always s me leave 2 (turns - 1) next kept))
 
 -- a turn that goes on says whether its entry was a failed answer of the disk
@@ -177,6 +193,25 @@ packet_taken me (Some (packet.Hello from)) = refl
 packet_taken me (Some (packet.Heard from said standing)) = refl
 packet_taken me (Some (packet.Announce from view)) = refl
 
+reply_taken : (me : ℕ) (reply : Option Reply) (before : Choice) → takes_answer before ≡ false → takes_answer (choice_beside me reply before) ≡ false
+reply_taken me (Some reply) before none = by_test (is_reply_for me reply)
+  where
+    by_test : (own : Bool) → takes_answer (if own then choice.Answer reply else choice.Open None) ≡ false
+    by_test true = refl
+    by_test false = refl
+reply_taken me None (choice.Whole entry) none = by_test (is_device entry)
+  where
+    by_test : (device : Bool) → takes_answer (if device then choice.Open None else choice.Whole entry) ≡ false
+    by_test true = refl
+    by_test false = none
+reply_taken me None (choice.Open p) none = refl
+reply_taken me None (choice.Answer reply) none = refl
+
+-- nor does what was received beside an arbiter
+received_taken : (me : ℕ) (poller : Option Poller) (got : Received) → takes_answer (choice_in me poller got) ≡ false
+received_taken me None got = packet_taken me (packet_in got)
+received_taken me (Some poller) got = reply_taken me (reply_in got) (choice_of me (packet_in got)) (packet_taken me (packet_in got))
+
 -- the turn takes no answer of the disk, and keeps the one that waits
 abbrev Rests : RunState → Choice × RunState → Type 0
 Rests st chosen = (takes_answer chosen.0 ≡ false) × (chosen.1.waits.disk ≡ st.waits.disk)
@@ -191,7 +226,7 @@ rests_always me leaves st rests =
   where
     by_late : (late : Bool) → Always (Rests st) (open_plan me st late)
     by_late true = (refl, refl)
-    by_late false = λ call. (packet_taken me (packet_in (received_in call)), refl)
+    by_late false = λ call. (received_taken me st.poller (received_in call), refl)
 
     by_waits : (leaves : Bool) (stopped : Option Bool) → Always (Rests st) (option_map_or (λ taken. Ends (choice.Whole taken.0, record st { waits = taken.1 })) (ready leaves true (record { stopped = stopped; disk = st.waits.disk })) (open_plan me st (is_late st)))
     by_waits true None = (refl, refl)

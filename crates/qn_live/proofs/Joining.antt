@@ -26,9 +26,16 @@ use Rattle.qn_live.specs.declared.place.Greeting.{Greeting}
 use Rattle.qn_live.specs.declared.place.Greeting.TheVariants as greeting
 use Rattle.qn_live.specs.declared.place.Waits.{Waits}
 use Rattle.qn_live.specs.declared.run.NodeRun.{NodeRun}
-use Rattle.qn_live.specs.Choosing.{choice_of, choice_plan, failed_answer, heard_request, is_late, is_to_leave, look_after, looked, looking, open_plan, packet_in, ready, receive_plan}
+use Rattle.qn_safety.specs.Poller.{Poller}
+use Rattle.qn_live.specs.Polling.{answered_at, answered, poll_due, poll_plan, polled, poller_after, polls_after}
+use Rattle.std.specs.Prelude.{is_some}
+use Rattle.qn_base.specs.declared.calls.Received.{Received}
+use Rattle.qn_polls.specs.declared.poller.Poller.{Poller as CodePoller}
+use Rattle.qn_polls.specs.Poller.{poller_of}
+use Rattle.qn_live.specs.Choosing.{choice_in, choice_plan, choice_where, failed_answer, heard_request, is_late, is_to_leave, look_after, looked, looking, open_plan, ready, receive_plan}
 use Rattle.qn_live.specs.Greetings.{farewell_after, farewells, greeting_call, greeting_packet, is_due, maker_of, others_from, sends_plan, to_each, to_send}
-use Rattle.qn_live.specs.Machine.{RunFor, acting, next_of, parting, saying, state_of}
+use Rattle.qn_safety.specs.declared.polls.Poll.{Poll}
+use Rattle.qn_live.specs.Machine.{SameBeside, Stands, polling, RunFor, acting, next_of, parting, saying, state_of}
 use Rattle.qn_live.specs.Performing.{end_in, noted, out_call, outs_plan, own_number}
 use Rattle.qn_live.specs.Running.{RunState, Turned, Over, Next, Ran, first_state, later}
 use Rattle.qn_live.specs.Runs.{clocked, greeted, handled, live_plan, loop_after, parted, run_plan, settled, timed, turn_plan, turns_end}
@@ -46,11 +53,16 @@ left_call made is = ap (λ plan. left plan made) is
 pub stands_too : {run : NodeRun} {plan other : Plan Ran} → other ≡ plan → RunFor run plan → RunFor run other
 stands_too same h = record { log = h.log; stands = h.stands; more = h.more; is_left = same ∙ h.is_left }
 
+-- whether there is a poller is known of that in memory
+pub choice_by_poller : (poller : Option CodePoller) (me : ℕ) (got : Received) → choice_where (is_some poller) me got ≡ choice_in me (option_map poller_of poller) got
+choice_by_poller None me got = refl
+choice_by_poller (Some poller) me got = refl
+
 module _ (s : Settings) (me : ℕ) where
   -- the first turn takes the entry that begins the boot
-  pub live_left : (clean : Bool) (leave : Option ℕ) (turns : ℕ) (entry : What) → entry ≡ begin_of clean → live_plan s me clean leave turns ≡ timed s me (choice.Whole entry, first_state) >>= later (run_plan s me leave 2 (turns - 1))
+  pub live_left : (clean : Bool) (leave polls : Option ℕ) (turns : ℕ) (entry : What) → entry ≡ begin_of clean → live_plan s me clean leave polls turns ≡ timed s me (choice.Whole entry, first_state polls) >>= later (run_plan s me leave 2 (turns - 1))
   unfolding live_plan
-  live_left clean leave turns entry is = rw is refl
+  live_left clean leave polls turns entry is = rw is refl
 
   module _ (leave : Option ℕ) (turn : ℕ) (st : RunState) (next : RunState → Plan Ran) (leaves : Bool) (to_leave : leaves ≡ is_to_leave s leave turn st) where
     -- the test of the turn's number is known
@@ -81,7 +93,7 @@ module _ (s : Settings) (me : ℕ) where
     turn_late found late = of_late true found late
 
     -- a turn that receives
-    pub turn_open : ready leaves st.rests st.waits ≡ None → is_late st ≡ false → turn_plan s me leave turn st >>= later next ≡ ((receive_plan >>= (λ got. Ends (choice_of me (packet_in got), heard_request got st))) >>= timed s me) >>= later next
+    pub turn_open : ready leaves st.rests st.waits ≡ None → is_late st ≡ false → turn_plan s me leave turn st >>= later next ≡ ((receive_plan >>= (λ got. Ends (choice_in me st.poller got, heard_request got st))) >>= timed s me) >>= later next
     turn_open found in_time = of_late false found in_time
 
   -- no turn follows
@@ -102,12 +114,12 @@ module _ (s : Settings) (me : ℕ) where
       let back : nat_lt tick (now st.log) ≡ true = grind (arith, nat_tests) in rw at (rw back refl)
 
   -- the entry at its tick, and its outputs
-  pub clocked_on : (choice : Choice) (st : RunState) (tick : ℕ) (maker : Option Maker) (entry : What) (loop : ℕ) (rests : Bool) (last : ℕ) (outs : List Out) → now st.log ≤ tick → looked tick choice st.maker ≡ (maker, entry) → loop ≡ loop_after entry st.loop_ms → rests ≡ failed_answer entry → last ≡ look_after tick choice st.maker st.last_look → outs ≡ newest_outs (with_entry s me st.log (record { tick = tick; what = entry })) → clocked s me (choice, st) tick ≡ outs_plan s me (record { log = with_entry s me st.log (record { tick = tick; what = entry }); loop_ms = loop; maker = maker; waits = st.waits; rests = rests; last_look = last; asked = st.asked }) outs >>= settled s me entry outs
+  pub clocked_on : (choice : Choice) (st : RunState) (tick : ℕ) (maker : Option Maker) (entry : What) (loop : ℕ) (rests : Bool) (last : ℕ) (poller : Option Poller) (from : ℕ) (outs : List Out) → now st.log ≤ tick → looked tick (answered_at tick st.poller choice) st.maker ≡ (maker, entry) → loop ≡ loop_after entry st.loop_ms → rests ≡ failed_answer entry → last ≡ look_after tick (answered_at tick st.poller choice) st.maker st.last_look → poller ≡ poller_after entry st.poller → from ≡ polls_after tick loop st.log entry st.polls_from → outs ≡ newest_outs (with_entry s me st.log (record { tick = tick; what = entry })) → clocked s me (choice, st) tick ≡ outs_plan s me (record { log = with_entry s me st.log (record { tick = tick; what = entry }); loop_ms = loop; maker = maker; waits = st.waits; rests = rests; last_look = last; asked = st.asked; poller = poller; polls_from = from }) outs >>= settled s me entry outs
   unfolding clocked handled
-  clocked_on choice st tick maker entry loop rests last outs not_back looks is_loop is_rests is_last is_outs =
+  clocked_on choice st tick maker entry loop rests last poller from outs not_back looks is_loop is_rests is_last is_poller is_from is_outs =
       let on : nat_lt tick (now st.log) ≡ false = grind (arith, nat_tests) in
-      let first : clocked s me (choice, st) tick ≡ handled s me (looking tick (choice, st)) tick (looked tick choice st.maker) = rw on refl in
-      first ∙ ap (λ found. handled s me (looking tick (choice, st)) tick found) looks ∙ rw (is_loop, is_rests, is_last, is_outs) refl
+      let first : clocked s me (choice, st) tick ≡ handled s me (looking tick (answered tick (choice, st))) tick (looked tick (answered_at tick st.poller choice) st.maker) = rw on refl in
+      first ∙ ap (λ found. handled s me (looking tick (answered tick (choice, st))) tick found) looks ∙ rw (is_from, is_loop, is_rests, is_last, is_poller, is_outs) refl
 
   module _ (entry : What) (outs : List Out) (st : RunState) where
     -- an output ended the run
@@ -116,7 +128,7 @@ module _ (s : Settings) (me : ℕ) where
     settled_over end ended = rw ended refl
 
     -- none did
-    pub settled_on : end_in entry outs ≡ None → settled s me entry outs st ≡ greeted s me st
+    pub settled_on : end_in entry outs ≡ None → settled s me entry outs st ≡ greeted s me entry st
     unfolding settled
     settled_on goes_on = rw goes_on refl
 
@@ -135,9 +147,9 @@ module _ (s : Settings) (me : ℕ) where
   hellos st maker due =
       sends_plan (if due then to_send s me maker greeting.Hello 0 else []) >>= (λ sent. Ends (Next (record st { maker = maker })))
 
-  pub greeted_by : (st : RunState) (tick : ℕ) (present asked : Option Maker) (due : Bool) → tick ≡ now st.log → present ≡ maker_of s me st → asked ≡ option_map (after_hello_due tick) present → due ≡ is_due tick present → greeted s me st ≡ hellos st asked due
+  pub greeted_by : (entry : What) (st : RunState) (tick : ℕ) (present asked : Option Maker) (due : Bool) → tick ≡ now st.log → present ≡ maker_of s me st → asked ≡ option_map (after_hello_due tick) present → due ≡ is_due tick present → greeted s me entry st ≡ poll_plan (poll_due s me due entry (record st { maker = asked })) >>= (λ told. hellos (polled s me due entry (record st { maker = asked })) asked due)
   unfolding greeted hellos
-  greeted_by st tick present asked due at is_present is_asked is_due = rw (is_due, is_asked, is_present, at) refl
+  greeted_by entry st tick present asked due at is_present is_asked when_due = rw (when_due, is_asked, is_present, at) refl
 
   -- the outputs of an entry are done
   pub outs_over : (st : RunState) (outs : List Out) (at : ℕ) → length outs ≤ at → outs_plan s me st (drop at outs) ≡ Ends st
@@ -189,3 +201,27 @@ module _ (run : NodeRun) (log : List Line) where
 pub acting_more : (run : NodeRun) (st : RunState) (at : ℕ) (o : Out) → slice_get run.outs at ≡ Some o → acting run st at ≡ Asks (out_call run.settings run.me.0 (own_number st.log) o) (λ call. acting run (noted run.settings o call st) (at + 1))
 acting_more run st at o found =
     ap (λ p. (p >>= settled run.settings run.me.0 run.entry run.outs) >>= later (next_of run)) (outs_more run.settings run.me.0 st run.outs at o found)
+
+-- A machine whose poller alone differs says what the other says, and stands for its log.
+module _ (one other : NodeRun) (only : SameBeside one other) (log : List Line) where
+  pub stands_beside : Stands one log → Stands other log
+  stands_beside h =
+      record {
+        valid = rw only.settings h.valid;
+        stands = rw (only.node, only.settings, only.me) h.stands;
+        at = only.tick ∙ h.at;
+      }
+
+  pub saying_beside : (st : RunState) (due : Bool) → state_of other log ≡ st
+      → (sends_plan (if due then to_send one.settings one.me.0 one.member greeting.Hello 0 else []) >>= (λ sent. Ends (Next st))) >>= later (next_of one)
+      ≡ saying other log (if due then to_send other.settings other.me.0 other.member greeting.Hello 0 else [])
+  saying_beside st due same =
+      let f = λ (st : RunState). (sends_plan (if due then to_send other.settings other.me.0 other.member greeting.Hello 0 else []) >>= (λ sent. Ends (Next st))) >>= later (next_of other) in
+      rw (sym only.settings, sym only.me, sym only.member, sym only.leave_at, sym only.turn, sym only.after) (ap f (sym same))
+
+  pub polling_beside : (st : RunState) (poll : Poll) (due : Bool) → state_of other log ≡ st
+      → (poll_plan (Some poll) >>= (λ told. sends_plan (if due then to_send one.settings one.me.0 one.member greeting.Hello 0 else []) >>= (λ sent. Ends (Next st)))) >>= later (next_of one)
+      ≡ polling other log poll due
+  polling_beside st poll due same =
+      let f = λ (st : RunState). (poll_plan (Some poll) >>= (λ told. sends_plan (if due then to_send other.settings other.me.0 other.member greeting.Hello 0 else []) >>= (λ sent. Ends (Next st)))) >>= later (next_of other) in
+      rw (sym only.settings, sym only.me, sym only.member, sym only.leave_at, sym only.turn, sym only.after) (ap f (sym same))

@@ -3,7 +3,7 @@ use Rattle.std.proofs.Common.{◌≡◌, ℕ, Bool, true, false, List, [], ◌�
 use Rattle.std.specs.Prelude.{nat_lt}
 use Rattle.std.specs.Option.{option_map_or}
 use Rattle.qn_base.specs.declared.calls.Call.{Call}
-use Rattle.qn_base.specs.Plans.{Ends, Follows}
+use Rattle.qn_base.specs.Plans.{Ends, ◌>>=◌, Follows}
 use Rattle.qn_model.specs.declared.configuration.Settings.{Settings}
 use Rattle.qn_model.specs.declared.entries.What.{What}
 use Rattle.qn_model.specs.declared.outputs.Out.{Out}
@@ -17,10 +17,13 @@ use Rattle.qn_live.specs.declared.place.Choice.TheVariants as choice
 use Rattle.qn_live.specs.declared.place.Waits.{Waits}
 use Rattle.qn_live.specs.Choosing.{choice_plan, is_late, look_after, looked, looking, open_plan, ready}
 use Rattle.qn_live.specs.Performing.{end_in, noted, outs_plan}
+use Rattle.qn_live.specs.declared.place.Greeting.TheVariants as greeting
+use Rattle.qn_live.specs.Greetings.{sends_plan, to_send}
+use Rattle.qn_live.specs.Polling.{answered, answered_at, poll_due, poll_plan, polled}
 use Rattle.qn_live.specs.Running.{RunState, Turned, Over, Next}
-use Rattle.qn_live.specs.Runs.{clocked, greeted, handled, parted, settled, taken}
+use Rattle.qn_live.specs.Runs.{asked_maker, clocked, greeted, greets, handled, parted, settled, taken}
 use Rattle.qn_live.proofs.Always.{Always, always_follows, always_then}
-use Rattle.qn_live.proofs.Histories.{sends_always}
+use Rattle.qn_live.proofs.Histories.{poll_always, sends_always}
 
 -- a turn that goes on has this as the tick of the last look
 abbrev LooksFrom : ℕ → Turned → Type 0
@@ -40,8 +43,14 @@ unfolding settled greeted parted
 settled_look s me entry outs st last is =
     by_end (end_in entry outs)
   where
-    by_end : (found : Option LiveEnd) → Always (LooksFrom last) (option_map_or (λ end. parted s me end st) found (greeted s me st))
-    by_end None = always_then (λ sent. Unit {0}) (LooksFrom last) _ _ (sends_always _) (λ sent nothing. is)
+    by_end : (found : Option LiveEnd) → Always (LooksFrom last) (option_map_or (λ end. parted s me end st) found (greeted s me entry st))
+    by_end None =
+        let asked = asked_maker s me st in
+        let sents = if greets s me st then to_send s me asked.maker greeting.Hello 0 else [] in
+        let poll = poll_due s me (greets s me st) entry asked in
+        let next = polled s me (greets s me st) entry asked in
+        always_then (λ told. Unit {0}) (LooksFrom last) (poll_plan poll) (λ told. sends_plan sents >>= (λ sent. Ends (Next next))) (poll_always poll)
+        (λ told nothing. always_then (λ sent. Unit {0}) (LooksFrom last) (sends_plan sents) (λ sent. Ends (Next next)) (sends_always sents) (λ sent nothing. is))
     by_end (Some end) = always_then (λ sent. Unit {0}) (LooksFrom last) _ _ (sends_always _) (λ sent nothing. tt)
 
 handled_look : (s : Settings) (me : ℕ) (st : RunState) (tick : ℕ) (found : Option Maker × What) → Always (LooksFrom st.last_look) (handled s me st tick found)
@@ -52,19 +61,19 @@ handled_look s me st tick found =
     (outs_look s me after (newest_outs after.log))
     (λ done same. settled_look s me found.1 (newest_outs after.log) done st.last_look same)
 
-clocked_look : (s : Settings) (me : ℕ) (chosen : Choice × RunState) (tick : ℕ) → Always (LooksFrom (looking tick chosen).last_look) (clocked s me chosen tick)
+clocked_look : (s : Settings) (me : ℕ) (chosen : Choice × RunState) (tick : ℕ) → Always (LooksFrom (looking tick (answered tick chosen)).last_look) (clocked s me chosen tick)
 unfolding clocked
 clocked_look s me chosen tick =
     by_clock (nat_lt tick (now chosen.1.log))
   where
-    by_clock : (back : Bool) → Always (LooksFrom (looking tick chosen).last_look) (if back then Ends (Over (end.ClockBack (now chosen.1.log) tick) chosen.1.log) else handled s me (looking tick chosen) tick (looked tick chosen.0 chosen.1.maker))
+    by_clock : (back : Bool) → Always (LooksFrom (looking tick (answered tick chosen)).last_look) (if back then Ends (Over (end.ClockBack (now chosen.1.log) tick) chosen.1.log) else handled s me (looking tick (answered tick chosen)) tick (looked tick (answered tick chosen).0 chosen.1.maker))
     by_clock true = tt
-    by_clock false = handled_look s me (looking tick chosen) tick (looked tick chosen.0 chosen.1.maker)
+    by_clock false = handled_look s me (looking tick (answered tick chosen)) tick (looked tick (answered tick chosen).0 chosen.1.maker)
 
 pub look_kept : (s : Settings) (me : ℕ) (choice : Choice) (st : RunState) (tick : ℕ) (calls : List Call) (next : RunState) → Follows (clocked s me (choice, st) tick) calls (Next next)
-    → next.last_look ≡ look_after tick choice st.maker st.last_look
+    → next.last_look ≡ look_after tick (answered_at tick st.poller choice) st.maker st.last_look
 look_kept s me choice st tick calls next follows =
-    always_follows (LooksFrom (look_after tick choice st.maker st.last_look)) (clocked s me (choice, st) tick) calls (Next next) (clocked_look s me (choice, st) tick) follows
+    always_follows (LooksFrom (look_after tick (answered_at tick st.poller choice) st.maker st.last_look)) (clocked s me (choice, st) tick) calls (Next next) (clocked_look s me (choice, st) tick) follows
 
 -- what a turn takes whose last look is late
 pub late_takes_none : (me : ℕ) (leaves : Bool) (st : RunState) (calls : List Call) (chosen : Choice × RunState)

@@ -15,6 +15,8 @@ use Rattle.qn_live.specs.declared.place.Place.{Place}
 use Rattle.qn_live.specs.declared.place.Place.TheVariants as place
 use Rattle.qn_live.specs.declared.run.NodeRun.{NodeRun}
 use Rattle.qn_live.specs.Halts.{is_on_disk}
+use Rattle.std.specs.Option.{option_map}
+use Rattle.qn_polls.specs.Poller.{poller_of}
 use Rattle.qn_live.specs.Machine.{HasMore, RunFor, acting, left_at, operation_at, operation_in, operation_of, state_of}
 use Rattle.qn_live.specs.Performing.{disk_answer, disk_call, noted, out_call, own_number, waits_after}
 use Rattle.qn_live.specs.Running.{Ran}
@@ -59,6 +61,7 @@ next_out run op is = of_place run.place refl is
     of_place (place.Act at) e here = of_out at (slice_get run.outs at) e refl here
     of_place place.Receive e here = absurd (let no : None ≡ Some op = here in cc)
     of_place (place.Now choice) e here = absurd (let no : None ≡ Some op = here in cc)
+    of_place (place.Poll poll greets) e here = absurd (let no : None ≡ Some op = here in cc)
     of_place (place.Greet said to) e here = absurd (let no : None ≡ Some op = here in cc)
     of_place (place.Part view to) e here = absurd (let no : None ≡ Some op = here in cc)
     of_place (place.Over end) e here = absurd (let no : None ≡ Some op = here in cc)
@@ -72,7 +75,7 @@ op_found run at op e is =
 -- what is left once the operation was answered so
 pub acted : (run : NodeRun) (log : List Line) (at : ℕ) (op : DiskOp) (made : Call) (answer : What) → disk_answer run.settings op made ≡ answer
     → acting run (noted run.settings (out.Disk op) made (state_of run log)) (at + 1)
-    ≡ acting run (record { log = log; loop_ms = run.loop_ms; maker = run.member; waits = record { stopped = run.waits.stopped; disk = Some answer }; rests = run.rests; last_look = run.last_look; asked = run.asked }) (at + 1)
+    ≡ acting run (record { log = log; loop_ms = run.loop_ms; maker = run.member; waits = record { stopped = run.waits.stopped; disk = Some answer }; rests = run.rests; last_look = run.last_look; asked = run.asked; poller = option_map poller_of run.poller; polls_from = run.polls_from }) (at + 1)
 unfolding waits_after
 acted run log at op made answer is = rw is refl
 
@@ -116,6 +119,7 @@ module _ (run : NodeRun) (plan : Plan Ran) (h : RunFor run plan) where
       of_place (place.Act at) e here = of_out at (slice_get run.outs at) e refl here
       of_place place.Receive e here = by_question _ (ap question (left_here place.Receive e)) refl
       of_place (place.Now choice) e here = by_question _ (ap question (left_here (place.Now choice) e)) refl
+      of_place (place.Poll poll greets) e here = by_question _ (ap question (left_here (place.Poll poll greets) e)) refl
       of_place (place.Greet said to) e here =
           let more = more_here (place.Greet said to) e in
           by_question _ (ap question (left_here (place.Greet said to) e ∙ saying_more run h.log said to more.0 more.1)) refl

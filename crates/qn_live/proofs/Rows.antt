@@ -37,7 +37,7 @@ abbrev at : ℕ → What → Entry
 at tick entry = record { tick = tick; what = entry }
 
 -- the header can't be read: the boot halts with cause 1, which is code 11
-boot_halts : Follows (live_plan one_node 0 false None 5)
+boot_halts : Follows (live_plan one_node 0 false None None 5)
     (call.Now 5 ∷ call.Read 0 [] false ∷ call.Now 6 ∷ call.Halt 11 ∷ [])
     (record {
       end = end.BootHalted cause.ReadFailed;
@@ -47,7 +47,7 @@ unfolding op_out ask_place begins_clean slot_number claimed phase outs_at with_e
 boot_halts = (refl, (refl, (refl, (refl, (refl, refl)))))
 
 -- the clock goes back in the second turn, and nothing else is called
-clock_goes_back : Follows (live_plan one_node 0 false None 5)
+clock_goes_back : Follows (live_plan one_node 0 false None None 5)
     (call.Now 50 ∷ call.Read 0 [] false ∷ call.Now 40 ∷ [])
     (record { end = end.ClockBack 50 40; log = log_of one_node 0 (at 50 what.Begin ∷ []) })
 unfolding op_out ask_place begins_clean slot_number claimed phase outs_at with_entry log_from failed choice_plan disk_call done out_call outs_plan waits_after sends_plan clocked greeted handled parted settled live_plan run_plan
@@ -66,7 +66,7 @@ seven_entries =
     ∷ []
 
 -- seven turns of one node: it boots, installs its first view at the first turn that receives, and starts the resource
-starts_in_seven_turns : Follows (live_plan one_node 0 false None 7)
+starts_in_seven_turns : Follows (live_plan one_node 0 false None None 7)
     (call.Now 0 ∷ call.Read 0 (header_bytes 1 usual_times) true
     ∷ call.Now 10 ∷ call.Feed true ∷ call.Read 1 (slot_bytes 1 (record { incarnation = 0; clean = true })) true
     ∷ call.Now 20 ∷ call.Feed true ∷ call.Write 1 (slot_bytes 1 (record { incarnation = 1; clean = false })) true

@@ -1,5 +1,5 @@
 -- What a chain of calls shows, one call further; and the calls of a run so far.
-use Rattle.std.proofs.Common.{◌≡◌, ℕ, List, [], ◌∷◌, ◌++◌, Option, refl}
+use Rattle.std.proofs.Common.{◌≡◌, List, [], ◌∷◌, ◌++◌, refl}
 use Rattle.qn_base.specs.declared.calls.Call.{Call}
 use Rattle.qn_base.specs.Plans.{Ends, Follows, Plan}
 use Rattle.qn_live.specs.Sound.{AreRecorded, IsRecorded, Shows}

@@ -1,7 +1,7 @@
 -- The calls of a run that perform outputs are those of its log, in order.
-use Rattle.std.proofs.Common.{◌≡◌, ℕ, suc, zero, Bool, true, false, not, ◌+◌, ◌-◌, List, [], ◌∷◌, ◌++◌, map, Option, None, Some, if◌then◌else◌, refl, sym, ap, subst, ◌∙◌, append_assoc, option_and_then}
+use Rattle.std.proofs.Common.{◌≡◌, ℕ, suc, zero, Bool, true, false, not, ◌||◌, ◌+◌, ◌-◌, List, [], ◌∷◌, ◌++◌, map, Option, None, Some, if◌then◌else◌, refl, sym, ap, subst, ◌∙◌, append_assoc, option_and_then}
 use Rattle.std.proofs.lemmas.Bool.{and_parts}
-use Rattle.std.specs.Prelude.{nat_lt}
+use Rattle.std.specs.Prelude.{nat_lt, option_and_then}
 use Rattle.std.specs.List.{list_all}
 use Rattle.std.specs.Option.{option_map_or}
 use Rattle.std.proofs.lemmas.List.{append-nil}
@@ -10,7 +10,7 @@ use Rattle.qn_base.specs.declared.calls.Call.TheVariants as call
 use Rattle.qn_base.specs.declared.ids.Rank.{Rank}
 use Rattle.qn_base.specs.declared.ids.View.{View}
 use Rattle.qn_base.specs.Calls.{blank}
-use Rattle.qn_base.specs.Plans.{Plan, Ends, Follows}
+use Rattle.qn_base.specs.Plans.{Plan, Ends, Follows, ◌>>=◌}
 use Rattle.qn_io.specs.Answered.{time_of}
 use Rattle.qn_model.specs.declared.configuration.Settings.{Settings}
 use Rattle.qn_model.specs.declared.packets.Packet.{Packet}
@@ -37,11 +37,14 @@ use Rattle.qn_live.specs.declared.place.Greeting.{Greeting}
 use Rattle.qn_live.specs.declared.place.Greeting.TheVariants as greeting
 use Rattle.qn_live.specs.declared.place.Waits.{Waits}
 use Rattle.qn_live.specs.Choosing.{choice_plan, is_late, is_to_leave, looked, looking, open_plan, ready}
-use Rattle.qn_live.specs.Greetings.{farewell_after, farewells, greeting_packet, is_due, said_after, sends_plan, to_all, to_each, to_send}
-use Rattle.qn_live.specs.Laws.{if_output, is_greeting, is_output, outputs_among, outputs_of}
+use Rattle.qn_live.specs.Greetings.{farewell_after, farewells, greeting_packet, said_after, sends_plan, to_all, to_each, to_send}
+use Rattle.qn_live.specs.Laws.{if_output, is_greeting, is_output, is_polling, outputs_among, outputs_of}
 use Rattle.qn_live.specs.Performing.{disk_call, end_in, noted, out_call, outs_plan, own_number}
+use Rattle.qn_safety.specs.declared.polls.Poll.{Poll}
+use Rattle.qn_polls.specs.Polls.{poll_bytes}
+use Rattle.qn_live.specs.Polling.{answered, poll_call, poll_due, poll_plan, polled}
 use Rattle.qn_live.specs.Running.{RunState, Turned, Over, Next, Ran, first_state, later}
-use Rattle.qn_live.specs.Runs.{clocked, greeted, handled, hello_asked, live_plan, parted, run_plan, settled, taken, timed, turn_plan, with_maker}
+use Rattle.qn_live.specs.Runs.{asked_maker, clocked, greeted, greets as hello_greets, handled, live_plan, parted, run_plan, settled, taken, timed, turn_plan}
 use Rattle.qn_live.proofs.Coming.{Acts, Comes, Dies, Halts, Leaves, entry_comes, is_act}
 use Rattle.qn_live.proofs.Through.{AllFit, Through, after_all, through_follows, through_then}
 
@@ -130,7 +133,7 @@ sends_told : (done : List Call) (sents : List Sent) → AllGreet sents → Telli
 unfolding sends_plan
 sends_told done [] all = refl
 sends_told done (sent ∷ sents) all = λ made asked fits.
-    let none : is_output (call.Send sent.to (packet_bytes sent.packet) true) ≡ false = ap not all.0 in
+    let none : is_output (call.Send sent.to (packet_bytes sent.packet) true) ≡ false = ap (λ (greets : Bool). not (greets || is_polling (packet_bytes sent.packet))) all.0 in
     subst (λ (d : List Call). Telling (Same {A = Unit {0}} done) d (sends_plan sents)) (sym (silent done made _ asked none)) (sends_told done sents all.1)
 
 -- each output is a call that performs one
@@ -195,15 +198,28 @@ abbrev ToldTurn : Settings → ℕ → List Call → Turned → Type 0
 ToldTurn s me told (Over end log) = told ≡ outputs_of s me log
 ToldTurn s me told (Next next) = told ≡ outputs_of s me next.log
 
-greeted_told : (s : Settings) (me : ℕ) (st : RunState) (done : List Call) → done ≡ outputs_of s me st.log → Telling (ToldTurn s me) done (greeted s me st)
+-- a poll is no output
+poll_is_silent : (poll : Poll) → is_output (poll_call poll) ≡ false
+unfolding poll_bytes
+poll_is_silent poll = refl
+
+poll_told : (done : List Call) (poll : Option Poll) → Telling (Same {A = Unit {0}} done) done (poll_plan poll)
+poll_told done None = refl
+poll_told done (Some poll) = λ made asked fits. silent done made (poll_call poll) asked (poll_is_silent poll)
+
+greeted_told : (s : Settings) (me : ℕ) (entry : What) (st : RunState) (done : List Call) → done ≡ outputs_of s me st.log → Telling (ToldTurn s me) done (greeted s me entry st)
 unfolding greeted
-greeted_told s me st done is =
-    let present = with_maker s me st in
-    let asked = hello_asked (now st.log) present in
-    let sents = if is_due (now st.log) present.maker then to_send s me asked.maker greeting.Hello 0 else [] in
-    through_then AnyCall told_more (Same {A = Unit {0}} done) (ToldTurn s me) done (sends_plan sents) (λ sent. Ends (Next asked))
-    (sends_told done sents (due_greets (is_due (now st.log) present.maker) _ (to_send_greets s me asked.maker greeting.Hello 0)))
-    (λ told sent same. same ∙ is)
+greeted_told s me entry st done is =
+    let asked = asked_maker s me st in
+    let sents = if hello_greets s me st then to_send s me asked.maker greeting.Hello 0 else [] in
+    let poll = poll_due s me (hello_greets s me st) entry asked in
+    let next = polled s me (hello_greets s me st) entry asked in
+    through_then AnyCall told_more (Same {A = Unit {0}} done) (ToldTurn s me) done (poll_plan poll) (λ told. sends_plan sents >>= (λ sent. Ends (Next next)))
+    (poll_told done poll)
+    (λ told nothing same.
+    through_then AnyCall told_more (Same {A = Unit {0}} told) (ToldTurn s me) told (sends_plan sents) (λ sent. Ends (Next next))
+    (sends_told told sents (due_greets (hello_greets s me st) _ (to_send_greets s me asked.maker greeting.Hello 0)))
+    (λ after sent kept. kept ∙ (same ∙ is)))
 
 farewell_greets : (s : Settings) (me : ℕ) (view : Option View) → AllGreet (option_map_or (λ view. farewells s me view 0) view [])
 farewell_greets s me None = tt
@@ -222,8 +238,8 @@ unfolding settled
 settled_told s me entry outs st done is =
     by_end (end_in entry outs)
   where
-    by_end : (found : Option LiveEnd) → Telling (ToldTurn s me) done (option_map_or (λ end. parted s me end st) found (greeted s me st))
-    by_end None = greeted_told s me st done is
+    by_end : (found : Option LiveEnd) → Telling (ToldTurn s me) done (option_map_or (λ end. parted s me end st) found (greeted s me entry st))
+    by_end None = greeted_told s me entry st done is
     by_end (Some end) = parted_told s me end st done is
 
 outputs_more : (s : Settings) (me : ℕ) (log : List Line) (entry : Entry) → outputs_of s me (with_entry s me log entry) ≡ outputs_of s me log ++ map (out_call s me (own_number (with_entry s me log entry))) (newest_outs (with_entry s me log entry))
@@ -248,9 +264,9 @@ unfolding clocked
 clocked_told s me chosen tick done is =
     by_clock (nat_lt tick (now chosen.1.log))
   where
-    by_clock : (back : Bool) → Telling (ToldTurn s me) done (if back then Ends (Over (end.ClockBack (now chosen.1.log) tick) chosen.1.log) else handled s me (looking tick chosen) tick (looked tick chosen.0 chosen.1.maker))
+    by_clock : (back : Bool) → Telling (ToldTurn s me) done (if back then Ends (Over (end.ClockBack (now chosen.1.log) tick) chosen.1.log) else handled s me (looking tick (answered tick chosen)) tick (looked tick (answered tick chosen).0 chosen.1.maker))
     by_clock true = is
-    by_clock false = handled_told s me (looking tick chosen) tick (looked tick chosen.0 chosen.1.maker) done is
+    by_clock false = handled_told s me (looking tick (answered tick chosen)) tick (looked tick (answered tick chosen).0 chosen.1.maker) done is
 
 timed_told : (s : Settings) (me : ℕ) (chosen : Choice × RunState) (done : List Call) → done ≡ outputs_of s me chosen.1.log → Telling (ToldTurn s me) done (timed s me chosen)
 timed_told s me chosen done is = λ made asked fits.
@@ -295,11 +311,11 @@ run_told s me leave turn (suc more) st done is =
     (turn_told s me leave turn st done is)
     (later_told s me (run_plan s me leave (turn + 1) more) (λ next told same. run_told s me leave (turn + 1) more next told same))
 
-live_told : (s : Settings) (me : ℕ) (clean : Bool) (leave : Option ℕ) (turns : ℕ) → Telling (ToldRun s me) [] (live_plan s me clean leave turns)
+live_told : (s : Settings) (me : ℕ) (clean : Bool) (leave polls : Option ℕ) (turns : ℕ) → Telling (ToldRun s me) [] (live_plan s me clean leave polls turns)
 unfolding live_plan
-live_told s me clean leave turns =
-    through_then AnyCall told_more (ToldTurn s me) (ToldRun s me) [] (timed s me (choice.Whole (begin_of clean), first_state)) (later (run_plan s me leave 2 (turns - 1)))
-    (timed_told s me (choice.Whole (begin_of clean), first_state) [] refl)
+live_told s me clean leave polls turns =
+    through_then AnyCall told_more (ToldTurn s me) (ToldRun s me) [] (timed s me (choice.Whole (begin_of clean), first_state polls)) (later (run_plan s me leave 2 (turns - 1)))
+    (timed_told s me (choice.Whole (begin_of clean), first_state polls) [] refl)
     (later_told s me (run_plan s me leave 2 (turns - 1)) (λ next told same. run_told s me leave 2 (turns - 1) next told same))
 
 all_any : (done : List Call) (calls : List Call) → AllFit AnyCall told_more done calls
@@ -311,7 +327,7 @@ after_among done [] = sym (append-nil done)
 after_among done (made ∷ calls) =
     after_among (told_more done made) calls ∙ append_assoc done (if_output made) (outputs_among calls)
 
-pub outputs_in_order : (s : Settings) (me : ℕ) (clean : Bool) (leave : Option ℕ) (turns : ℕ) (calls : List Call) (ran : Ran) → Follows (live_plan s me clean leave turns) calls ran → outputs_among calls ≡ outputs_of s me ran.log
-outputs_in_order s me clean leave turns calls ran follows =
+pub outputs_in_order : (s : Settings) (me : ℕ) (clean : Bool) (leave polls : Option ℕ) (turns : ℕ) (calls : List Call) (ran : Ran) → Follows (live_plan s me clean leave polls turns) calls ran → outputs_among calls ≡ outputs_of s me ran.log
+outputs_in_order s me clean leave polls turns calls ran follows =
     sym (after_among [] calls)
-    ∙ through_follows AnyCall told_more (ToldRun s me) [] (live_plan s me clean leave turns) calls ran (live_told s me clean leave turns) (all_any [] calls) follows
+    ∙ through_follows AnyCall told_more (ToldRun s me) [] (live_plan s me clean leave polls turns) calls ran (live_told s me clean leave polls turns) (all_any [] calls) follows

@@ -23,10 +23,13 @@ use Rattle.qn_live.specs.declared.place.Choice.{Choice}
 use Rattle.qn_live.specs.declared.place.Choice.TheVariants as choice
 use Rattle.qn_live.specs.declared.place.Waits.{Waits}
 use Rattle.qn_live.specs.Choosing.{choice_plan, is_late, is_to_leave, looked, looking, open_plan, ready}
-use Rattle.qn_live.specs.Greetings.{sends_plan}
+use Rattle.qn_live.specs.Greetings.{sends_plan, to_send}
 use Rattle.qn_live.specs.Performing.{disk_call, end_in, noted, out_call, outs_plan, own_number}
+use Rattle.qn_safety.specs.declared.polls.Poll.{Poll}
+use Rattle.qn_live.specs.Polling.{answered, poll_due, poll_plan, polled}
+use Rattle.qn_live.specs.declared.place.Greeting.TheVariants as greeting
 use Rattle.qn_live.specs.Running.{RunState, Turned, Over, Next, Ran, first_state, later}
-use Rattle.qn_live.specs.Runs.{clocked, greeted, handled, live_plan, parted, run_plan, settled, taken, timed, turn_plan}
+use Rattle.qn_live.specs.Runs.{asked_maker, greets as hello_greets, clocked, greeted, handled, live_plan, parted, run_plan, settled, taken, timed, turn_plan}
 
 -- each question is wiped
 abbrev pub AsksWiped : {A : Type 0} → Plan A → Type 0
@@ -68,9 +71,18 @@ unfolding outs_plan
 outs_wiped s me st [] = tt
 outs_wiped s me st (o ∷ outs) = (out_wiped s me (own_number st.log) o, λ call. outs_wiped s me (noted s o call st) outs)
 
-greeted_wiped : (s : Settings) (me : ℕ) (st : RunState) → AsksWiped (greeted s me st)
+poll_wiped : (poll : Option Poll) → AsksWiped (poll_plan poll)
+poll_wiped None = tt
+poll_wiped (Some poll) = (refl, λ call. tt)
+
+greeted_wiped : (s : Settings) (me : ℕ) (entry : What) (st : RunState) → AsksWiped (greeted s me entry st)
 unfolding greeted
-greeted_wiped s me st = wiped_then (sends_plan _) _ (sends_wiped _) (λ sent. tt)
+greeted_wiped s me entry st =
+    let asked = asked_maker s me st in
+    let sents = if hello_greets s me st then to_send s me asked.maker greeting.Hello 0 else [] in
+    let poll = poll_due s me (hello_greets s me st) entry asked in
+    let next = polled s me (hello_greets s me st) entry asked in
+    wiped_then (poll_plan poll) (λ told. sends_plan sents >>= (λ sent. Ends (Next next))) (poll_wiped poll) (λ told. wiped_then (sends_plan sents) (λ sent. Ends (Next next)) (sends_wiped sents) (λ sent. tt))
 
 parted_wiped : (s : Settings) (me : ℕ) (end : LiveEnd) (st : RunState) → AsksWiped (parted s me end st)
 unfolding parted
@@ -81,8 +93,8 @@ unfolding settled
 settled_wiped s me entry outs st =
     by_end (end_in entry outs)
   where
-    by_end : (found : Option LiveEnd) → AsksWiped (option_map_or (λ end. parted s me end st) found (greeted s me st))
-    by_end None = greeted_wiped s me st
+    by_end : (found : Option LiveEnd) → AsksWiped (option_map_or (λ end. parted s me end st) found (greeted s me entry st))
+    by_end None = greeted_wiped s me entry st
     by_end (Some end) = parted_wiped s me end st
 
 handled_wiped : (s : Settings) (me : ℕ) (st : RunState) (tick : ℕ) (found : Option Maker × What) → AsksWiped (handled s me st tick found)
@@ -98,9 +110,9 @@ unfolding clocked
 clocked_wiped s me chosen tick =
     by_clock (nat_lt tick (now chosen.1.log))
   where
-    by_clock : (back : Bool) → AsksWiped (if back then Ends (Over (end.ClockBack (now chosen.1.log) tick) chosen.1.log) else handled s me (looking tick chosen) tick (looked tick chosen.0 chosen.1.maker))
+    by_clock : (back : Bool) → AsksWiped (if back then Ends (Over (end.ClockBack (now chosen.1.log) tick) chosen.1.log) else handled s me (looking tick (answered tick chosen)) tick (looked tick (answered tick chosen).0 chosen.1.maker))
     by_clock true = tt
-    by_clock false = handled_wiped s me (looking tick chosen) tick (looked tick chosen.0 chosen.1.maker)
+    by_clock false = handled_wiped s me (looking tick (answered tick chosen)) tick (looked tick (answered tick chosen).0 chosen.1.maker)
 
 timed_wiped : (s : Settings) (me : ℕ) (chosen : Choice × RunState) → AsksWiped (timed s me chosen)
 timed_wiped s me chosen = (refl, λ call. clocked_wiped s me chosen (time_of call))
@@ -130,9 +142,9 @@ run_wiped s me leave turn (suc more) st =
     (wiped_then (choice_plan me (is_to_leave s leave turn st) st) (timed s me) (choice_wiped me (is_to_leave s leave turn st) st) (timed_wiped s me))
     (later_wiped (run_plan s me leave (turn + 1) more) (λ next. run_wiped s me leave (turn + 1) more next))
 
-pub live_wiped : (s : Settings) (me : ℕ) (clean : Bool) (leave : Option ℕ) (turns : ℕ) → AsksWiped (live_plan s me clean leave turns)
+pub live_wiped : (s : Settings) (me : ℕ) (clean : Bool) (leave polls : Option ℕ) (turns : ℕ) → AsksWiped (live_plan s me clean leave polls turns)
 unfolding live_plan
-live_wiped s me clean leave turns =
-    wiped_then (timed s me (choice.Whole (begin_of clean), first_state)) (later (run_plan s me leave 2 (turns - 1)))
-    (timed_wiped s me (choice.Whole (begin_of clean), first_state))
+live_wiped s me clean leave polls turns =
+    wiped_then (timed s me (choice.Whole (begin_of clean), first_state polls)) (later (run_plan s me leave 2 (turns - 1)))
+    (timed_wiped s me (choice.Whole (begin_of clean), first_state polls))
     (later_wiped (run_plan s me leave 2 (turns - 1)) (λ next. run_wiped s me leave 2 (turns - 1) next))

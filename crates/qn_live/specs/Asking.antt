@@ -12,7 +12,7 @@ use Rattle.qn_live.specs.declared.asked.Asked.TheVariants as asked
 use Rattle.qn_live.specs.declared.asked.Given.{Given}
 use Rattle.qn_live.specs.declared.asked.Room.{Room}
 
--- a sector is one of an image, and a rank is below 32
+-- a sector is one of an image, and what is sent is to a rank, or to the arbiter, whose seat is 32
 abbrev pub IsWithin : Asked → Type 0
 IsWithin (asked.Read sector) = sector < 1024
 IsWithin (asked.Write sector) = sector < 1024
@@ -21,7 +21,7 @@ IsWithin asked.Now = Unit {0}
 IsWithin asked.Feed = Unit {0}
 IsWithin asked.Start = Unit {0}
 IsWithin asked.Stop = Unit {0}
-IsWithin (asked.Send to) = to.0 < 32
+IsWithin (asked.Send to) = to.0 < 33
 IsWithin asked.Disarm = Unit {0}
 IsWithin (asked.Halt code) = Unit {0}
 
@@ -34,7 +34,7 @@ IsServed asked.Now = Unit {0}
 IsServed asked.Feed = Unit {0}
 IsServed asked.Start = Unit {0}
 IsServed asked.Stop = Unit {0}
-IsServed (asked.Send to) = to.0 < 32
+IsServed (asked.Send to) = to.0 < 33
 IsServed asked.Disarm = Unit {0}
 IsServed (asked.Halt code) = Unit {0}
 

@@ -26,6 +26,8 @@ use Rattle.qn_live.specs.declared.place.Choice.{Choice}
 use Rattle.qn_live.specs.declared.place.Choice.TheVariants as choice
 use Rattle.qn_live.specs.declared.place.Waits.{Waits}
 use Rattle.qn_live.specs.Running.{RunState}
+use Rattle.qn_live.specs.Polling.{choice_beside, reply_in}
+use Rattle.qn_safety.specs.Poller.{Poller}
 
 -- what was read could not be read
 abbrev pub is_failed_slot : SlotSeen → Bool
@@ -92,6 +94,14 @@ packet_in (received.Packet bytes) = packet_of bytes
 packet_in received.Nothing = None
 packet_in received.Failed = None
 
+-- what a turn takes that received this: with an arbiter, a reply of it as well
+abbrev pub choice_where : Bool → ℕ → Received → Choice
+choice_where polls me got =
+    if polls then choice_beside me (reply_in got) (choice_of me (packet_in got)) else choice_of me (packet_in got)
+
+abbrev pub choice_in : ℕ → Option Poller → Received → Choice
+choice_in me poller got = choice_where (is_some poller) me got
+
 abbrev pub receive_plan : Plan Received
 receive_plan = Asks (call.Receive received.Nothing) (λ call. Ends (received_in call))
 
@@ -112,7 +122,7 @@ is_late st = is_some st.maker && nat_le st.loop_ms (now st.log - st.last_look)
 -- what a turn takes that needs a packet: none where that look is late, so that no flood of packets keeps it from looking
 abbrev pub open_plan : ℕ → RunState → Bool → Plan (Choice × RunState)
 open_plan me st late =
-    if late then Ends (choice.Open None, st) else (receive_plan >>= (λ got. Ends (choice_of me (packet_in got), heard_request got st)))
+    if late then Ends (choice.Open None, st) else (receive_plan >>= (λ got. Ends (choice_in me st.poller got, heard_request got st)))
 
 -- what a turn takes, and what is left then
 unfoldable pub choice_plan : ℕ → Bool → RunState → Plan (Choice × RunState)
@@ -127,6 +137,8 @@ abbrev pub look_after : ℕ → Choice → Option Maker → ℕ → ℕ
 look_after tick (choice.Open p) maker last = tick
 look_after tick (choice.Whole entry) None last = tick
 look_after tick (choice.Whole entry) (Some m) last = last
+look_after tick (choice.Answer reply) None last = tick
+look_after tick (choice.Answer reply) (Some m) last = last
 
 abbrev pub looking : ℕ → Choice × RunState → RunState
 looking tick chosen = record chosen.1 { last_look = look_after tick chosen.0 chosen.1.maker chosen.1.last_look }
@@ -149,6 +161,7 @@ view_or_tick (Some view) = what.View view
 -- the entry of a turn at its tick, and the view maker then: where the choice is open, it hears the packet and looks
 abbrev pub looked : ℕ → Choice → Option Maker → Option Maker × What
 looked tick (choice.Whole entry) maker = (maker, entry)
+looked tick (choice.Answer reply) maker = (maker, what.Tick)
 looked tick (choice.Open p) None = (None, what.Tick)
 looked tick (choice.Open p) (Some m) =
     (Some (after_tick tick (heard tick p m)), view_or_tick (view_at tick (heard tick p m)))

@@ -1,6 +1,7 @@
 -- The laws of ends by a failed call and by the clock, proved over the plan of a run: what the crates above cite.
 use Rattle.std.proofs.Common.{◌≡◌, ◌⊎◌, inl, inr, ℕ, zero, suc, ◌+◌, ◌-◌, ◌^◌, Bool, true, false, not, ◌||◌, ◌==◌, ◌++◌, List, [], ◌∷◌, Option, None, Some, IfSome, length, nat_lt, refl, sym, ap, ◌∙◌, subst, if◌then◌else◌}
 use Rattle.std.specs.List.{list_any}
+use Rattle.std.specs.Prelude.{option_and_then}
 use Rattle.std.specs.Option.{option_map_or}
 use Rattle.std.proofs.lemmas.Bool.{le-ltb, or_right, or_from}
 use Rattle.qn_base.specs.declared.calls.Call.{Call}
@@ -50,11 +51,18 @@ use Rattle.qn_live.specs.declared.place.Choice.TheVariants as choice
 use Rattle.qn_live.specs.declared.place.Waits.{Waits}
 use Rattle.qn_live.specs.CalmOutputs.{calm_boot, calm_live, calm_outs}
 use Rattle.qn_live.specs.Choosing.{choice_of, choice_plan, heard, is_entry_for, is_late, is_to_leave, looked, looking, open_plan, packet_in, ready, view_or_tick}
-use Rattle.qn_live.specs.Greetings.{farewell_after, farewells, sends_plan}
+use Rattle.qn_live.specs.Greetings.{farewell_after, farewells, sends_plan, to_send}
 use Rattle.qn_live.specs.Halts.{HaltedBy, IsNewest, is_on_disk, one_call}
 use Rattle.qn_live.specs.Performing.{disk_answer, disk_call, done, end_in, halt_code, noted, out_call, outs_plan, own_number, waits_after}
+use Rattle.qn_base.specs.declared.calls.Received.{Received}
+use Rattle.qn_safety.specs.declared.polls.Poll.{Poll}
+use Rattle.qn_safety.specs.declared.polls.Reply.{Reply}
+use Rattle.qn_safety.specs.Poller.{Poller, answer_taken}
+use Rattle.qn_live.specs.Polling.{answered, answered_at, choice_beside, is_device, is_reply_for, poll_call, poll_due, poll_plan, polled, reply_in}
+use Rattle.qn_live.specs.Choosing.{choice_in}
+use Rattle.qn_live.specs.declared.place.Greeting.TheVariants as greeting
 use Rattle.qn_live.specs.Running.{RunState, Turned, Over, Next, Ran, first_state, later}
-use Rattle.qn_live.specs.Runs.{clocked, greeted, handled, live_plan, parted, run_plan, settled, taken, timed, turn_plan}
+use Rattle.qn_live.specs.Runs.{asked_maker, greets as hello_greets, clocked, greeted, handled, live_plan, parted, run_plan, settled, taken, timed, turn_plan}
 use Rattle.qn_live.specs.Laws.{NeverFalls, is_by_call, is_by_clock, is_no_failure, is_sound, tick_after}
 
 -- ## What the calls so far tell
@@ -412,11 +420,21 @@ module _ (s : Settings) (me : ℕ) where
   Turns past (Over end log) = EndsSo s me past log end
   Turns past (Next st) = (now st.log ≡ past.tick) × Waiting s me past.disk st.waits.disk
 
-  leads_greeted : (st : RunState) (past : Past) → now st.log ≡ past.tick → Waiting s me past.disk st.waits.disk → Leads Turns past (greeted s me st)
+  leads_poll : (past : Past) (poll : Option Poll) → Leads (Silent past) past (poll_plan poll)
+  leads_poll past None = (refl, refl)
+  leads_poll past (Some poll) =
+      λ c asked. (asked_none past.tick c (poll_call poll) asked refl, disk_after_asked past.disk c (poll_call poll) false asked refl)
+
+  leads_greeted : (entry : What) (st : RunState) (past : Past) → now st.log ≡ past.tick → Waiting s me past.disk st.waits.disk → Leads Turns past (greeted s me entry st)
   unfolding greeted
-  leads_greeted st past is waiting =
-      leads_then (Silent past) Turns past (sends_plan _) _ (leads_sends past _ past refl refl)
-      (λ after sent silent. (is ∙ sym silent.0, subst (λ (l : Option Call). Waiting s me l st.waits.disk) (sym silent.1) waiting))
+  leads_greeted entry st past is waiting =
+      let asked = asked_maker s me st in
+      let sents = if hello_greets s me st then to_send s me asked.maker greeting.Hello 0 else [] in
+      let poll = poll_due s me (hello_greets s me st) entry asked in
+      let next = polled s me (hello_greets s me st) entry asked in
+      leads_then (Silent past) Turns past (poll_plan poll) (λ told. sends_plan sents >>= (λ sent. Ends (Next next))) (leads_poll past poll)
+      (λ told one quiet. leads_then (Silent past) Turns told (sends_plan sents) (λ sent. Ends (Next next)) (leads_sends past sents told quiet.0 quiet.1)
+      (λ after sent silent. (is ∙ sym silent.0, subst (λ (l : Option Call). Waiting s me l st.waits.disk) (sym silent.1) waiting)))
 
   -- nothing is asked of an end that a node left
   leads_farewell : (st : RunState) (past : Past) → Leads Turns past (parted s me (end.Left true) st)
@@ -441,8 +459,8 @@ module _ (s : Settings) (me : ℕ) where
   unfolding settled
   leads_settled entry outs st past calm is waiting = of_end (end_in entry outs) (calm_ends s me past st.log entry outs calm)
     where
-      of_end : (end : Option LiveEnd) → EndedSo s me past st.log end → Leads Turns past (option_map_or (λ e. parted s me e st) end (greeted s me st))
-      of_end None known = leads_greeted st past is waiting
+      of_end : (end : Option LiveEnd) → EndedSo s me past st.log end → Leads Turns past (option_map_or (λ e. parted s me e st) end (greeted s me entry st))
+      of_end None known = leads_greeted entry st past is waiting
       of_end (Some e) known = leads_parted e st past known
 
   leads_halted : (entry read : What) (st : RunState) (past : Past) (why : BootCause) → Caused s me past.disk read why → IsNewest read st.log
@@ -477,6 +495,7 @@ module _ (s : Settings) (me : ℕ) where
   abbrev CausedChoice : Option Call → Choice → Type 0
   CausedChoice last (choice.Whole entry) = CausedBy s me last entry
   CausedChoice last (choice.Open packet) = Unit {0}
+  CausedChoice last (choice.Answer reply) = Unit {0}
 
   caused_look : (last : Option Call) (seen : Option View) → CausedBy s me last (view_or_tick seen)
   caused_look last None = tt
@@ -486,7 +505,18 @@ module _ (s : Settings) (me : ℕ) where
       → CausedBy s me last (looked tick chosen maker).1
   caused_looked last tick (choice.Whole entry) maker caused = caused
   caused_looked last tick (choice.Open p) None caused = tt
+  caused_looked last tick (choice.Answer reply) maker caused = tt
   caused_looked last tick (choice.Open p) (Some m) caused = caused_look last (view_at tick (heard tick p m))
+
+  -- an answer of the device comes of no call on the disk
+  caused_by_device : (last : Option Call) (answer : Option Bool) → CausedChoice last (option_map_or (λ agrees. choice.Whole (what.Device agrees)) answer (choice.Open None))
+  caused_by_device last None = tt
+  caused_by_device last (Some agrees) = tt
+
+  caused_answered : (last : Option Call) (tick : ℕ) (poller : Option Poller) (chosen : Choice) → CausedChoice last chosen → CausedChoice last (answered_at tick poller chosen)
+  caused_answered last tick poller (choice.Whole entry) caused = caused
+  caused_answered last tick poller (choice.Open p) caused = tt
+  caused_answered last tick poller (choice.Answer reply) caused = caused_by_device last (option_and_then (answer_taken tick reply) poller)
 
   leads_clocked : (chosen : Choice × RunState) (past : Past) → (nat_lt past.tick (now chosen.1.log) ≡ true → past.fell ≡ true)
       → CausedChoice past.disk chosen.0 → Waiting s me past.disk chosen.1.waits.disk → Leads Turns past (clocked s me chosen past.tick)
@@ -495,10 +525,10 @@ module _ (s : Settings) (me : ℕ) where
     where
       of_test : (back : Bool) → (back ≡ true → past.fell ≡ true)
           → Leads Turns past (if back then Ends (Over (end.ClockBack (now chosen.1.log) past.tick) chosen.1.log)
-          else handled s me (looking past.tick chosen) past.tick (looked past.tick chosen.0 chosen.1.maker))
+          else handled s me (looking past.tick (answered past.tick chosen)) past.tick (looked past.tick (answered past.tick chosen).0 chosen.1.maker))
       of_test true fell = fell refl
       of_test false fell =
-          leads_handled (looking past.tick chosen) past (looked past.tick chosen.0 chosen.1.maker) (caused_looked past.disk past.tick chosen.0 chosen.1.maker caused) waiting
+          leads_handled (looking past.tick (answered past.tick chosen)) past (looked past.tick (answered past.tick chosen).0 chosen.1.maker) (caused_looked past.disk past.tick (answered past.tick chosen).0 chosen.1.maker (caused_answered past.disk past.tick chosen.1.poller chosen.0 caused)) waiting
 
   leads_timed : (chosen : Choice × RunState) (past : Past) → now chosen.1.log ≡ past.tick → CausedChoice past.disk chosen.0
       → Waiting s me past.disk chosen.1.waits.disk → Leads Turns past (timed s me chosen)
@@ -549,6 +579,24 @@ module _ (s : Settings) (me : ℕ) where
       of_test true = caused_packet last p
       of_test false = tt
 
+  caused_beside : (last : Option Call) (reply : Option Reply) (before : Choice) → CausedChoice last before → CausedChoice last (choice_beside me reply before)
+  caused_beside last (Some reply) before caused = of_test (is_reply_for me reply)
+    where
+      of_test : (own : Bool) → CausedChoice last (if own then choice.Answer reply else choice.Open None)
+      of_test true = tt
+      of_test false = tt
+  caused_beside last None (choice.Whole entry) caused = of_test (is_device entry)
+    where
+      of_test : (device : Bool) → CausedChoice last (if device then choice.Open None else choice.Whole entry)
+      of_test true = tt
+      of_test false = caused
+  caused_beside last None (choice.Open p) caused = tt
+  caused_beside last None (choice.Answer reply) caused = tt
+
+  caused_in : (last : Option Call) (poller : Option Poller) (got : Received) → CausedChoice last (choice_in me poller got)
+  caused_in last None got = caused_choice last (packet_in got)
+  caused_in last (Some poller) got = caused_beside last (reply_in got) (choice_of me (packet_in got)) (caused_choice last (packet_in got))
+
   leads_choice : (leaves : Bool) (st : RunState) (past : Past) → now st.log ≡ past.tick → Waiting s me past.disk st.waits.disk
       → Leads Chosen past (choice_plan me leaves st)
   unfolding choice_plan
@@ -560,7 +608,7 @@ module _ (s : Settings) (me : ℕ) where
       of_late false =
           λ c asked. (
             is ∙ sym (asked_none past.tick c (call.Receive received.Nothing) asked refl),
-            caused_choice (disk_after c past.disk) (packet_in (received_in c)),
+            caused_in (disk_after c past.disk) st.poller (received_in c),
             subst (λ (l : Option Call). Waiting s me l st.waits.disk)
                 (sym (disk_after_asked past.disk c (call.Receive received.Nothing) false asked refl)) waiting,
           )
@@ -600,11 +648,11 @@ module _ (s : Settings) (me : ℕ) where
   caused_begin true = tt
   caused_begin false = tt
 
-  leads_live : (clean : Bool) (leave : Option ℕ) (turns : ℕ) → Leads Ended at_first (live_plan s me clean leave turns)
+  leads_live : (clean : Bool) (leave polls : Option ℕ) (turns : ℕ) → Leads Ended at_first (live_plan s me clean leave polls turns)
   unfolding live_plan
-  leads_live clean leave turns =
-      leads_then Turns Ended at_first (timed s me (choice.Whole (begin_of clean), first_state)) (later (run_plan s me leave 2 (turns - 1)))
-      (leads_timed (choice.Whole (begin_of clean), first_state) at_first refl (caused_begin clean) tt)
+  leads_live clean leave polls turns =
+      leads_then Turns Ended at_first (timed s me (choice.Whole (begin_of clean), first_state polls)) (later (run_plan s me leave 2 (turns - 1)))
+      (leads_timed (choice.Whole (begin_of clean), first_state polls) at_first refl (caused_begin clean) tt)
       (leads_later (run_plan s me leave 2 (turns - 1)) (leads_run leave (turns - 1) 2))
 
 -- ## The laws
@@ -648,10 +696,10 @@ never_fell past (call ∷ calls) none rises =
     never_fell (after_call call past) calls
     (or_from past.fell (nat_lt (tick_after call past.tick) past.tick) none (le-ltb (tick_after call past.tick) past.tick rises.0)) rises.1
 
-module _ (s : Settings) (me : ℕ) (clean : Bool) (leave : Option ℕ) (turns : ℕ) (calls : List Call) (ran : Ran)
-    (follows : Follows (live_plan s me clean leave turns) calls ran) where
+module _ (s : Settings) (me : ℕ) (clean : Bool) (leave polls : Option ℕ) (turns : ℕ) (calls : List Call) (ran : Ran)
+    (follows : Follows (live_plan s me clean leave polls turns) calls ran) where
   ended : EndsSo s me (after_calls calls at_first) ran.log ran.end
-  ended = leads_end (Ended s me) at_first (live_plan s me clean leave turns) calls ran (leads_live s me clean leave turns) follows
+  ended = leads_end (Ended s me) at_first (live_plan s me clean leave polls turns) calls ran (leads_live s me clean leave polls turns) follows
 
   -- a boot that a failed call halted was halted by the last operation on the disk: that it failed is the newest entry
   pub halted_by : (why : BootCause) → ran.end ≡ end.BootHalted why → is_no_failure why ≡ false

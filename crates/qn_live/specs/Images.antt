@@ -22,9 +22,9 @@ use Rattle.qn_live.specs.TripleMachine.{TripleRunFor, triple_work}
 use Rattle.qn_live.specs.TripleRuns.{triple_plan}
 
 -- the run of a node on these images
-abbrev pub plan_on : NodeImages → Settings → ℕ → Bool → Option ℕ → ℕ → Plan Ran
-plan_on images.One s me clean leave turns = live_plan s me clean leave turns
-plan_on images.Three s me clean leave turns = triple_plan s me clean leave turns
+abbrev pub plan_on : NodeImages → Settings → ℕ → Bool → Option ℕ → Option ℕ → ℕ → Plan Ran
+plan_on images.One s me clean leave polls turns = live_plan s me clean leave polls turns
+plan_on images.Three s me clean leave polls turns = triple_plan s me clean leave polls turns
 
 -- the run as that of a node on one image
 abbrev pub node_run : ImagesRun → NodeRun

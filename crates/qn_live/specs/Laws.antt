@@ -23,17 +23,22 @@ IsHistory s me log = (history : List Entry) × (log ≡ log_of s me history)
 abbrev pub takes_answer : Choice → Bool
 takes_answer (choice.Whole entry) = is_answer entry
 takes_answer (choice.Open p) = false
+takes_answer (choice.Answer reply) = false
 
 -- the bytes begin as those of a Hello, or of an Announce, each in one of its two kinds
 abbrev pub is_greeting : List ℕ → Bool
 is_greeting bytes =
     slice_index bytes 2 == 3 || slice_index bytes 2 == 4 || slice_index bytes 2 == 8 || slice_index bytes 2 == 11
 
--- the call performs an output: it receives nothing, does not look at the clock, and sends no Hello and no Announce
+-- the bytes begin as those of a poll
+abbrev pub is_polling : List ℕ → Bool
+is_polling bytes = slice_index bytes 2 == 6
+
+-- the call performs an output: it receives nothing, does not look at the clock, and sends no Hello, no Announce and no poll
 abbrev pub is_output : Call → Bool
 is_output (call.Now tick) = false
 is_output (call.Receive got) = false
-is_output (call.Send to bytes ok) = not (is_greeting bytes)
+is_output (call.Send to bytes ok) = not (is_greeting bytes || is_polling bytes)
 is_output (call.Read sector bytes ok) = true
 is_output (call.Write sector bytes ok) = true
 is_output (call.Feed ok) = true

@@ -13,6 +13,7 @@ pub mod Machine
 pub mod Performing
 pub mod Places
 pub mod PlacesRead
+pub mod Polling
 pub mod Running
 pub mod Runs
 pub mod Sound

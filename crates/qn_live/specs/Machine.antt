@@ -1,5 +1,5 @@
 -- What a running node that waits for a call stands for: what is left of its run. This project's profile.
-use Rattle.std.specs.Prelude.{◌≡◌, ◌<◌, ℕ, Bool, false, true, ◌+◌, ◌==◌, List, All, Option, None, Some, length, drop, option_and_then, slice_get}
+use Rattle.std.specs.Prelude.{◌≡◌, ◌<◌, ℕ, Bool, false, true, ◌+◌, ◌==◌, List, All, Option, None, Some, length, drop, option_map, option_and_then, slice_get, [], if◌then◌else◌}
 use Rattle.qn_base.specs.Plans.{Plan, Ends, ◌>>=◌}
 use Rattle.qn_model.specs.declared.configuration.Settings.{Settings}
 use Rattle.qn_model.specs.declared.entries.Entry.{Entry}
@@ -20,7 +20,11 @@ use Rattle.qn_live.specs.declared.place.Place.{Place}
 use Rattle.qn_live.specs.declared.place.Place.TheVariants as place
 use Rattle.qn_live.specs.declared.run.NodeRun.{NodeRun}
 use Rattle.qn_live.specs.Running.{RunState, Next, Over, Ran, later}
-use Rattle.qn_live.specs.Choosing.{choice_of, heard_request, packet_in, receive_plan}
+use Rattle.qn_live.specs.Choosing.{choice_in, heard_request, receive_plan}
+use Rattle.qn_live.specs.Polling.{poll_plan}
+use Rattle.qn_live.specs.declared.place.Greeting.TheVariants as greeting
+use Rattle.qn_polls.specs.Poller.{poller_of}
+use Rattle.qn_safety.specs.declared.polls.Poll.{Poll}
 use Rattle.qn_live.specs.Performing.{outs_plan}
 use Rattle.qn_live.specs.Greetings.{farewells, sends_plan, to_send}
 use Rattle.qn_live.specs.Runs.{clocked, parted, run_plan, settled, timed, turn_plan}
@@ -37,6 +41,8 @@ state_of run log =
       rests = run.rests;
       last_look = run.last_look;
       asked = run.asked;
+      poller = option_map poller_of run.poller;
+      polls_from = run.polls_from;
     }
 
 -- the turns that follow the present one
@@ -51,7 +57,7 @@ begun run log =
 -- .. where a packet is to be received, ..
 abbrev pub receiving : NodeRun → List Line → Plan Ran
 receiving run log =
-    ((receive_plan >>= (λ got. Ends (choice_of run.me.0 (packet_in got), heard_request got (state_of run log)))) >>= timed run.settings run.me.0)
+    ((receive_plan >>= (λ got. Ends (choice_in run.me.0 (state_of run log).poller got, heard_request got (state_of run log)))) >>= timed run.settings run.me.0)
     >>= later (next_of run)
 
 -- .. where it has its choice, ..
@@ -86,11 +92,19 @@ parting run log sents = (sends_plan sents >>= (λ sent. Ends (Over (end.Left tru
 abbrev pub saying : NodeRun → List Line → List Sent → Plan Ran
 saying run log sents = (sends_plan sents >>= (λ sent. Ends (Next (state_of run log)))) >>= later (next_of run)
 
+-- .. where a poll is to be sent, and then the greetings
+abbrev pub polling : NodeRun → List Line → Poll → Bool → Plan Ran
+polling run log poll greets =
+    (poll_plan (Some poll)
+    >>= (λ told. sends_plan (if greets then to_send run.settings run.me.0 run.member greeting.Hello 0 else []) >>= (λ sent. Ends (Next (state_of run log)))))
+    >>= later (next_of run)
+
 -- what is left of the run at a place
 abbrev pub left_at : NodeRun → List Line → Place → Plan Ran
 left_at run log place.Receive = receiving run log
 left_at run log (place.Now choice) = timing run log choice
 left_at run log (place.Act at) = acting run (state_of run log) at
+left_at run log (place.Poll poll greets) = polling run log poll greets
 left_at run log (place.Greet said to) = saying run log (to_send run.settings run.me.0 run.member said to)
 left_at run log (place.Part view to) = parting run log (farewells run.settings run.me.0 view to)
 left_at run log (place.Over end) = Ends (record { end = end; log = log })
@@ -113,6 +127,7 @@ abbrev pub operation_at : List Out → Place → Option DiskOp
 operation_at outs (place.Act at) = option_and_then operation_in (slice_get outs at)
 operation_at outs place.Receive = None
 operation_at outs (place.Now choice) = None
+operation_at outs (place.Poll poll greets) = None
 operation_at outs (place.Greet said to) = None
 operation_at outs (place.Part view to) = None
 operation_at outs (place.Over end) = None
@@ -126,6 +141,17 @@ pub record StandsFor (s : Settings) (me : ℕ) (node : Node) (tick : ℕ) (log :
   pub stands : NodeFor node s me log
   pub at : tick ≡ now log
 
+-- a machine differs from another in its poller alone, as far as what it says and stands for goes
+pub record SameBeside (old new : NodeRun) : Type 0 where
+  pub settings : new.settings ≡ old.settings
+  pub me : new.me ≡ old.me
+  pub leave_at : new.leave_at ≡ old.leave_at
+  pub node : new.node ≡ old.node
+  pub member : new.member ≡ old.member
+  pub tick : new.tick ≡ old.tick
+  pub turn : new.turn ≡ old.turn
+  pub after : new.after ≡ old.after
+
 abbrev pub Stands : NodeRun → List Line → Type 0
 Stands run log = StandsFor run.settings run.me.0 run.node run.tick log
 
@@ -134,6 +160,7 @@ abbrev pub HasMore : Settings → ℕ → List Out → Place → Type 0
 HasMore s me outs (place.Act at) = (at < length outs) × (at < 40) × All (IsNodeOutput s) outs
 HasMore s me outs (place.Greet said to) = (to < length s.nodes) × ((to == me) ≡ false)
 HasMore s me outs (place.Part view to) = (to < length s.nodes) × ((to == me) ≡ false)
+HasMore s me outs (place.Poll poll greets) = Unit {0}
 HasMore s me outs place.Receive = Unit {0}
 HasMore s me outs (place.Now choice) = Unit {0}
 HasMore s me outs (place.Over end) = Unit {0}
@@ -150,6 +177,7 @@ abbrev pub looks_at : Place → Bool
 looks_at (place.Now choice) = true
 looks_at place.Receive = false
 looks_at (place.Act at) = false
+looks_at (place.Poll poll greets) = false
 looks_at (place.Greet said to) = false
 looks_at (place.Part view to) = false
 looks_at (place.Over end) = false

@@ -11,6 +11,7 @@ pending place.Receive = 1
 pending (place.Now choice) = 1
 pending (place.Act at) = 0
 pending (place.Greet said to) = 0
+pending (place.Poll poll greets) = 0
 pending (place.Part view to) = 0
 pending (place.Over end) = 0
 
@@ -25,6 +26,7 @@ abbrev pub calls_left : Place → ℕ → ℕ
 calls_left place.Receive after = 192 * after + 191
 calls_left (place.Now choice) after = 192 * after + 190
 calls_left (place.Act at) after = 192 * after + 120 + (41 - at)
+calls_left (place.Poll poll greets) after = 192 * after + 115
 calls_left (place.Greet said to) after = 192 * after + calls_of_greeting said to
 calls_left (place.Part view to) after = 33 - to
 calls_left (place.Over end) after = 0

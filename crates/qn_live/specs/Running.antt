@@ -1,10 +1,11 @@
 -- What a running node keeps between its turns, and how a turn and a run end: this project's profile.
-use Rattle.std.specs.Prelude.{ℕ, Bool, false, List, [], Option, None}
+use Rattle.std.specs.Prelude.{ℕ, Bool, false, List, [], Option, None, option_map}
 use Rattle.qn_base.specs.Plans.{Plan, Ends}
 use Rattle.qn_model.specs.Log.{Line}
 use Rattle.qn_member.specs.Maker.{Maker}
 use Rattle.qn_live.specs.declared.live_end.LiveEnd.{LiveEnd}
 use Rattle.qn_live.specs.declared.place.Waits.{Waits}
+use Rattle.qn_safety.specs.Poller.{Poller, fresh_poller}
 
 -- What a running node knows between two turns: the log of what it was handed, newest entry first; the loop's time of the
 -- header that it read, 0 before; the view maker of a node that takes part; the answers that wait; whether the turn before
@@ -18,11 +19,24 @@ pub record RunState : Type 0 where
   pub rests : Bool
   pub last_look : ℕ
   pub asked : Bool
+  -- of a node that polls an arbiter: what it polls with, and the tick from which on it does
+  pub poller : Option Poller
+  pub polls_from : ℕ
 
 -- at the beginning nothing was handed to the node, and nothing waits
-abbrev pub first_state : RunState
-first_state =
-    record { log = []; loop_ms = 0; maker = None; waits = record { stopped = None; disk = None }; rests = false; last_look = 0; asked = false }
+abbrev pub first_state : Option ℕ → RunState
+first_state polls =
+    record {
+      log = [];
+      loop_ms = 0;
+      maker = None;
+      waits = record { stopped = None; disk = None };
+      rests = false;
+      last_look = 0;
+      asked = false;
+      poller = option_map fresh_poller polls;
+      polls_from = 0;
+    }
 
 -- how a turn ends: with the run and its log, or with what the next turn begins from
 pub data Turned : Type 0 where

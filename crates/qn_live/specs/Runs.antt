@@ -21,6 +21,7 @@ use Rattle.qn_live.specs.declared.live_end.LiveEnd.TheVariants as end
 use Rattle.qn_live.specs.declared.place.Choice.{Choice}
 use Rattle.qn_live.specs.declared.place.Choice.TheVariants as choice
 use Rattle.qn_live.specs.declared.place.Greeting.TheVariants as greeting
+use Rattle.qn_live.specs.Polling.{answered, poll_due, poll_plan, polled, poller_after, polls_after}
 use Rattle.qn_live.specs.Running.{RunState, first_state, Turned, Over, Next, Ran, later}
 use Rattle.qn_live.specs.Choosing.{choice_plan, failed_answer, is_to_leave, looked, looking}
 use Rattle.qn_live.specs.Performing.{end_in, outs_plan}
@@ -41,6 +42,8 @@ taken s me st tick found =
       rests = failed_answer found.1;
       last_look = st.last_look;
       asked = st.asked;
+      poller = poller_after found.1 st.poller;
+      polls_from = polls_after tick (loop_after found.1 st.loop_ms) st.log found.1 st.polls_from;
     }
 
 -- the state once the view maker was asked at a tick whether a Hello is due
@@ -51,14 +54,23 @@ hello_asked tick st = record st { maker = option_map (after_hello_due tick) st.m
 abbrev pub with_maker : Settings → ℕ → RunState → RunState
 with_maker s me st = record st { maker = maker_of s me st }
 
--- the outputs ended nothing: where a Hello is due it is sent to each other node in both its forms, and then the announcement,
--- and the next turn follows
-unfoldable pub greeted : Settings → ℕ → RunState → Plan Turned
-greeted s me st =
-    let present = with_maker s me st in
-    let asked = hello_asked (now st.log) present in
-    sends_plan (if is_due (now st.log) present.maker then to_send s me asked.maker greeting.Hello 0 else [])
-    >>= (λ sent. Ends (Next asked))
+-- a Hello is due
+abbrev pub greets : Settings → ℕ → RunState → Bool
+greets s me st = is_due (now st.log) (with_maker s me st).maker
+
+-- the state once the view maker was asked
+abbrev pub asked_maker : Settings → ℕ → RunState → RunState
+asked_maker s me st = hello_asked (now st.log) (with_maker s me st)
+
+-- the outputs ended nothing: a poll is sent to the arbiter, where one is due; where a Hello is due it is sent to each other
+-- node in both its forms, and then the announcement, and the next turn follows
+unfoldable pub greeted : Settings → ℕ → What → RunState → Plan Turned
+greeted s me entry st =
+    let asked = asked_maker s me st in
+    poll_plan (poll_due s me (greets s me st) entry asked)
+    >>= (λ told.
+    sends_plan (if greets s me st then to_send s me asked.maker greeting.Hello 0 else [])
+    >>= (λ sent. Ends (Next (polled s me (greets s me st) entry asked))))
 
 -- an output ended the run: a node that left clean says farewell to each other node, and then the run is over
 unfoldable pub parted : Settings → ℕ → LiveEnd → RunState → Plan Turned
@@ -68,7 +80,7 @@ parted s me end st =
 
 -- the outputs of the entry were performed
 unfoldable pub settled : Settings → ℕ → What → List Out → RunState → Plan Turned
-settled s me entry outs st = option_map_or (λ end. parted s me end st) (end_in entry outs) (greeted s me st)
+settled s me entry outs st = option_map_or (λ end. parted s me end st) (end_in entry outs) (greeted s me entry st)
 
 -- an entry is taken in at a tick, and its outputs are performed
 unfoldable pub handled : Settings → ℕ → RunState → ℕ → Option Maker × What → Plan Turned
@@ -80,7 +92,7 @@ handled s me st tick found =
 unfoldable pub clocked : Settings → ℕ → Choice × RunState → ℕ → Plan Turned
 clocked s me chosen tick =
     if nat_lt tick (now chosen.1.log) then Ends (Over (end.ClockBack (now chosen.1.log) tick) chosen.1.log)
-    else handled s me (looking tick chosen) tick (looked tick chosen.0 chosen.1.maker)
+    else handled s me (looking tick (answered tick chosen)) tick (looked tick (answered tick chosen).0 chosen.1.maker)
 
 -- what was chosen becomes the entry of the turn at its tick
 abbrev pub timed : Settings → ℕ → Choice × RunState → Plan Turned
@@ -100,7 +112,8 @@ run_plan s me leave turn zero st = Ends (record { end = turns_end s me st.log; l
 run_plan s me leave turn (suc more) st =
     turn_plan s me leave turn st >>= later (run_plan s me leave (turn + 1) more)
 
--- the run of a node of that many turns, 1 or more: the first one takes the entry that begins the boot
-unfoldable pub live_plan : Settings → ℕ → Bool → Option ℕ → ℕ → Plan Ran
-live_plan s me clean leave turns =
-    timed s me (choice.Whole (begin_of clean), first_state) >>= later (run_plan s me leave 2 (turns - 1))
+-- the run of a node of that many turns, 1 or more: the first one takes the entry that begins the boot; `polls` is the limit within
+-- which it takes a reply of its arbiter, None where it has none
+unfoldable pub live_plan : Settings → ℕ → Bool → Option ℕ → Option ℕ → ℕ → Plan Ran
+live_plan s me clean leave polls turns =
+    timed s me (choice.Whole (begin_of clean), first_state polls) >>= later (run_plan s me leave 2 (turns - 1))

@@ -27,7 +27,7 @@ IsLogged (call.Write sector bytes ok) = length bytes ≡ 512
 IsLogged (call.Feed ok) = Unit {0}
 IsLogged (call.Start ok) = Unit {0}
 IsLogged (call.Stop ok) = Unit {0}
-IsLogged (call.Send to bytes ok) = (to.0 < 32) × (length bytes ≤ 128)
+IsLogged (call.Send to bytes ok) = (to.0 < 33) × (length bytes ≤ 128)
 IsLogged (call.Disarm ok) = Unit {0}
 IsLogged (call.Halt code) = Unit {0}
 

@@ -17,5 +17,5 @@ abbrev pub all_good : List Bool
 all_good = true ∷ true ∷ true ∷ []
 
 -- the run of a node on three images, of that many turns, 1 or more
-unfoldable pub triple_plan : Settings → ℕ → Bool → Option ℕ → ℕ → Plan Ran
-triple_plan s me clean leave turns = on_three s me all_good (live_plan s me clean leave turns)
+unfoldable pub triple_plan : Settings → ℕ → Bool → Option ℕ → Option ℕ → ℕ → Plan Ran
+triple_plan s me clean leave polls turns = on_three s me all_good (live_plan s me clean leave polls turns)

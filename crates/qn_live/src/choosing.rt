@@ -1,7 +1,10 @@
 //! Which entry a turn takes.
-ghost use Rattle.std.specs.Prelude.{◌≡◌, ◌≤◌, ◌||◌, length};
+ghost use Rattle.std.specs.Prelude.{◌≡◌, ◌≤◌, ◌||◌, length, option_and_then, option_map};
+ghost use Rattle.qn_polls.specs.Poller.{poller_of};
+ghost use Rattle.qn_safety.specs.Poller.{answer_taken};
+ghost use Rattle.qn_live.specs.Polling.{answered_at, choice_beside, reply_in};
 ghost use Rattle.qn_io.specs.Receives.{FitsPacket, received};
-ghost use Rattle.qn_live.specs.Choosing.{choice_of, failed_answer, is_entry_for, is_request, look_after, looked, packet_in, ready};
+ghost use Rattle.qn_live.specs.Choosing.{choice_of, choice_where, failed_answer, is_entry_for, is_request, look_after, looked, packet_in, ready};
 ghost use Rattle.qn_live.specs.Runs.{loop_after};
 
 use crate::place::{Choice, Waits};
@@ -9,6 +12,8 @@ use qn_base::Rank;
 use qn_io::{Got, PACKET};
 use qn_member::Member;
 use qn_model::{HeaderSeen, MailSeen, Packet, SlotSeen, What};
+use qn_polls::{Poller, get_reply};
+use qn_safety::Reply;
 use qn_wire::get_packet;
 
 /// What is handed to the node as received where its host asks it to leave: `QN`, a kind that no packet has, and 1.
@@ -41,7 +46,19 @@ pub fn ready(leaves: bool, rests: bool, waits: Waits) -> Option<(What, Waits)>
 }
 
 /// What a turn takes that received this.
-pub fn choose(me: Rank, got: Got, packet: &[u8; PACKET]) -> Choice
+pub fn choose(me: Rank, polls: bool, got: Got, packet: &[u8; PACKET]) -> Choice
+    requires { FitsPacket got }
+    ensures { result ≡ choice_where polls me.0 (received got packet.now) }
+{
+    let before = choose_packet(me, got, packet);
+    if polls {
+        choose_beside(me, reply_in(got, packet), before)
+    } else {
+        before
+    }
+}
+
+fn choose_packet(me: Rank, got: Got, packet: &[u8; PACKET]) -> Choice
     requires { FitsPacket got }
     ensures { result ≡ choice_of me.0 (packet_in (received got packet.now)) }
 {
@@ -70,6 +87,49 @@ fn is_request(got: Got, packet: &[u8; PACKET]) -> bool
     }
 }
 
+fn reply_in(got: Got, packet: &[u8; PACKET]) -> Option<Reply>
+    requires { FitsPacket got }
+    ensures { result ≡ reply_in (received got packet.now) }
+{
+    match got {
+        Got::Packet(length) => get_reply(&packet[..length]),
+        Got::Nothing | Got::Failed => None,
+    }
+}
+
+fn choose_beside(me: Rank, reply: Option<Reply>, before: Choice) -> Choice
+    ensures { result ≡ choice_beside me.0 reply before }
+{
+    match (reply, before) {
+        (Some(reply), _) if reply.to.0 == me.0 => Choice::Answer(reply),
+        (Some(_), _) => Choice::Open(None),
+        (None, Choice::Whole(What::Device(_))) => Choice::Open(None),
+        (None, other) => other,
+    }
+}
+
+/// A choice at its tick: a reply that the poller takes is the device's answer, and any other is nothing.
+pub fn answered_at(tick: u64, poller: &Option<Poller>, choice: Choice) -> Choice
+    ensures { result ≡ answered_at tick (option_map poller_of poller.now) choice }
+{
+    let Choice::Answer(reply) = choice else {
+        return choice;
+    };
+    match answer_taken(tick, poller, &reply) {
+        Some(agrees) => Choice::Whole(What::Device(agrees)),
+        None => Choice::Open(None),
+    }
+}
+
+fn answer_taken(tick: u64, poller: &Option<Poller>, reply: &Reply) -> Option<bool>
+    ensures { result ≡ option_and_then (answer_taken tick reply.now) (option_map poller_of poller.now) }
+{
+    match poller {
+        Some(poller) => poller.reply(tick, reply),
+        None => None,
+    }
+}
+
 fn choice_of(me: Rank, packet: Option<Packet>) -> Choice
     ensures { result ≡ choice_of me.0 packet }
 {
@@ -87,6 +147,7 @@ pub fn look(member: &mut Option<Member>, choice: Choice, tick: u64) -> What
 {
     match choice {
         Choice::Whole(entry) => entry,
+        Choice::Answer(_) => What::Tick,
         Choice::Open(packet) => match member {
             Some(member) => hear(member, packet, tick),
             None => What::Tick,
@@ -116,7 +177,7 @@ pub fn look_after(choice: Choice, member: &Option<Member>, tick: u64, last: u64)
 {
     match choice {
         Choice::Open(_) => tick,
-        Choice::Whole(_) => match member {
+        Choice::Whole(_) | Choice::Answer(_) => match member {
             Some(_) => last,
             None => tick,
         },

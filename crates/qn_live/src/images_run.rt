@@ -36,19 +36,20 @@ impl ImagesRun {
         me: Rank,
         clean: bool,
         leave_at: Option<u64>,
+        polls: Option<u64>,
         turns: u64,
     ) -> ImagesRun
         requires valid { IsValid settings }
         requires configured { me.0 < length settings.nodes }
         requires some_turn { 1 ≤ turns }
-        ensures { RunsAs result (plan_on images settings me.0 clean leave_at turns) }
+        ensures { RunsAs result (plan_on images settings me.0 clean leave_at polls turns) }
     {
         match images {
             NodeImages::One => {
-                ImagesRun::One(NodeRun::new(settings, me, clean, leave_at, turns))
+                ImagesRun::One(NodeRun::new(settings, me, clean, leave_at, polls, turns))
             }
             NodeImages::Three => {
-                ImagesRun::Three(TripleRun::new(settings, me, clean, leave_at, turns))
+                ImagesRun::Three(TripleRun::new(settings, me, clean, leave_at, polls, turns))
             }
         }
     }

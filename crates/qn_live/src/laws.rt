@@ -25,14 +25,15 @@ ghost use Rattle.qn_live.specs.Handed.{HandsHistory};
 ghost use Rattle.qn_live.specs.Laws.{IsHistory, NeverFalls, is_by_call, is_by_clock, is_no_failure, is_sound, outputs_among, outputs_of, takes_answer};
 ghost use Rattle.qn_live.specs.Machine.{RunFor, operation_of};
 ghost use Rattle.qn_live.specs.Performing.{disk_call, own_number};
+ghost use Rattle.qn_live.specs.Polling.{answered_at, poll_calls, poll_due};
 ghost use Rattle.qn_live.specs.Running.{Next, Ran, RunState};
-ghost use Rattle.qn_live.specs.Runs.{clocked, greeted, handled, live_plan};
+ghost use Rattle.qn_live.specs.Runs.{asked_maker, clocked, greeted, handled, live_plan};
 
 /// Law: what a node is handed in a run is one history.
 pub fn law_one_history()
-    ensures { (s : Settings) (me : ℕ) (clean : Bool) (leave : Option ℕ) (turns : ℕ)
+    ensures { (s : Settings) (me : ℕ) (clean : Bool) (leave polls : Option ℕ) (turns : ℕ)
         (calls : List Call) (ran : Ran)
-        → Follows (live_plan s me clean leave turns) calls ran
+        → Follows (live_plan s me clean leave polls turns) calls ran
         → IsHistory s me ran.log }
 {}
 
@@ -40,33 +41,33 @@ pub fn law_one_history()
 /// never fall, and they are what the clock told in the calls of the run, one after the other. A clock that went back told one
 /// tick more, and ended the run.
 pub fn law_handed_history()
-    ensures { (s : Settings) (me : ℕ) (clean : Bool) (leave : Option ℕ) (turns : ℕ)
+    ensures { (s : Settings) (me : ℕ) (clean : Bool) (leave polls : Option ℕ) (turns : ℕ)
         (calls : List Call) (ran : Ran)
-        → Follows (live_plan s me clean leave turns) calls ran
+        → Follows (live_plan s me clean leave polls turns) calls ran
         → HandsHistory s me clean calls ran }
 {}
 
-/// Law: the calls of a run, but for those that receive, look at the clock, or send a Hello or an Announce, are the outputs of
-/// what the node was handed, in order.
+/// Law: the calls of a run, but for those that receive, look at the clock, or send a Hello, an Announce or a poll, are the outputs
+/// of what the node was handed, in order.
 pub fn law_outputs()
-    ensures { (s : Settings) (me : ℕ) (clean : Bool) (leave : Option ℕ) (turns : ℕ)
+    ensures { (s : Settings) (me : ℕ) (clean : Bool) (leave polls : Option ℕ) (turns : ℕ)
         (calls : List Call) (ran : Ran)
-        → Follows (live_plan s me clean leave turns) calls ran
+        → Follows (live_plan s me clean leave polls turns) calls ran
         → outputs_among calls ≡ outputs_of s me ran.log }
 {}
 
 /// Law: a run ends once, and in one way.
 pub fn law_one_end()
-    ensures one { (s : Settings) (me : ℕ) (clean : Bool) (leave : Option ℕ) (turns : ℕ)
+    ensures one { (s : Settings) (me : ℕ) (clean : Bool) (leave polls : Option ℕ) (turns : ℕ)
         (calls : List Call) (ran other : Ran)
-        → Follows (live_plan s me clean leave turns) calls ran
-        → Follows (live_plan s me clean leave turns) calls other
+        → Follows (live_plan s me clean leave polls turns) calls ran
+        → Follows (live_plan s me clean leave polls turns) calls other
         → ran ≡ other }
-    ensures once { (s : Settings) (me : ℕ) (clean : Bool) (leave : Option ℕ) (turns : ℕ)
+    ensures once { (s : Settings) (me : ℕ) (clean : Bool) (leave polls : Option ℕ) (turns : ℕ)
         (calls : List Call) (call : Call)
         (more : List Call) (ran other : Ran)
-        → Follows (live_plan s me clean leave turns) calls ran
-        → Follows (live_plan s me clean leave turns) (calls ++ call ∷ more) other
+        → Follows (live_plan s me clean leave polls turns) calls ran
+        → Follows (live_plan s me clean leave polls turns) (calls ++ call ∷ more) other
         → ⊥ }
 {}
 
@@ -104,31 +105,35 @@ pub fn law_late_look()
         (calls : List Call)
         (next : RunState)
         → Follows (clocked s me (choice, st) tick) calls (Next next)
-        → next.last_look ≡ look_after tick choice st.maker st.last_look }
+        → next.last_look
+        ≡ look_after tick (answered_at tick st.poller choice) st.maker st.last_look }
 {}
 
 /// Law: where a Hello is due at the end of a turn, a plain Hello is sent to each other configured node, in ascending order of their
-/// ranks, then one to each that says what the last look found, and then the view that the node announces.
+/// ranks, then one to each that says what the last look found, and then the view that the node announces. Before them goes the poll
+/// to the arbiter, where one is due.
 pub fn law_hellos()
-    ensures { (s : Settings) (me : ℕ) (st : RunState) (m : Maker) (calls : List Call)
+    ensures { (s : Settings) (me : ℕ) (entry : What) (st : RunState) (m : Maker) (calls : List Call)
         (next : RunState)
         → maker_of s me st ≡ Some m
         → is_hello_due (now st.log) m ≡ true
-        → Follows (greeted s me st) calls (Next next)
-        → map blank calls ≡ map send_call (hellos_of s me m) }
+        → Follows (greeted s me entry st) calls (Next next)
+        → map blank calls
+        ≡ poll_calls (poll_due s me true entry (asked_maker s me st))
+        ++ map send_call (hellos_of s me m) }
 {}
 
 /// Law: a run in which no call failed was not halted in its boot by a failed call, and one in which no tick fell did not end
 /// because the clock went back.
 pub fn law_end_causes()
-    ensures calls { (s : Settings) (me : ℕ) (clean : Bool) (leave : Option ℕ) (turns : ℕ)
+    ensures calls { (s : Settings) (me : ℕ) (clean : Bool) (leave polls : Option ℕ) (turns : ℕ)
         (calls : List Call) (ran : Ran)
-        → Follows (live_plan s me clean leave turns) calls ran
+        → Follows (live_plan s me clean leave polls turns) calls ran
         → some_failed calls ≡ false
         → is_by_call ran.end ≡ false }
-    ensures clock { (s : Settings) (me : ℕ) (clean : Bool) (leave : Option ℕ) (turns : ℕ)
+    ensures clock { (s : Settings) (me : ℕ) (clean : Bool) (leave polls : Option ℕ) (turns : ℕ)
         (calls : List Call) (ran : Ran)
-        → Follows (live_plan s me clean leave turns) calls ran
+        → Follows (live_plan s me clean leave polls turns) calls ran
         → NeverFalls 0 calls
         → is_by_clock ran.end ≡ false }
 {}
@@ -136,9 +141,9 @@ pub fn law_end_causes()
 /// Law: a boot that a failed call halted was halted by the last disk operation of the run: its call failed, and that it failed is
 /// the newest entry that the node was handed.
 pub fn law_boot_halted()
-    ensures { (s : Settings) (me : ℕ) (clean : Bool) (leave : Option ℕ) (turns : ℕ)
+    ensures { (s : Settings) (me : ℕ) (clean : Bool) (leave polls : Option ℕ) (turns : ℕ)
         (calls : List Call) (ran : Ran) (cause : BootCause)
-        → Follows (live_plan s me clean leave turns) calls ran
+        → Follows (live_plan s me clean leave polls turns) calls ran
         → ran.end ≡ LiveEnd.BootHalted cause
         → is_no_failure cause ≡ false
         → (halted : HaltedBy one_call s me cause calls) × IsNewest (failed halted.op) ran.log }
@@ -147,9 +152,9 @@ pub fn law_boot_halted()
 /// Law: where no call fails and no tick falls, no run ends because the clock goes back, and no boot halts because a read, its
 /// claim or its clear failed.
 pub fn law_sound_end()
-    ensures { (s : Settings) (me : ℕ) (clean : Bool) (leave : Option ℕ) (turns : ℕ)
+    ensures { (s : Settings) (me : ℕ) (clean : Bool) (leave polls : Option ℕ) (turns : ℕ)
         (calls : List Call) (ran : Ran)
-        → Follows (live_plan s me clean leave turns) calls ran
+        → Follows (live_plan s me clean leave polls turns) calls ran
         → some_failed calls ≡ false
         → NeverFalls 0 calls
         → is_sound ran.end ≡ true }

@@ -4,7 +4,7 @@
 //! Promises: the calls that `run_node` makes are those of the plan `live_plan` of `specs/Runs`, and its end is the one of
 //! that plan, for every outside. The log of a run is one history of a node (`law_one_history`), which begins once and whose ticks
 //! are what the clock told (`law_handed_history`), and the calls without
-//! receive, now, Hello and Announce are the outputs of that history, in order (`law_outputs`). Where no call fails and no
+//! receive, now, Hello, Announce and polls are the outputs of that history, in order (`law_outputs`). Where no call fails and no
 //! tick falls, no run ends because of the clock or of a failed step of the boot (`law_sound_end`), and a failed call halts
 //! a boot only by the disk operation that it was made for (`law_boot_halted`). A Hello is said in both its forms (`law_hellos`), and a
 //! turn takes no packet where the last look of the view maker is a loop ago (`law_late_look`). `NodeRun` is the same run as a machine, which
@@ -32,6 +32,7 @@ mod notices;
 mod outputs;
 mod part;
 mod place;
+mod polling;
 mod run;
 mod running;
 mod standing;

@@ -2,6 +2,7 @@
 use crate::live_end::LiveEnd;
 use qn_base::{Said, View};
 use qn_model::{Packet, What};
+use qn_safety::{Poll, Reply};
 
 /// What a turn takes, before its tick is known.
 #[derive(Clone, Copy)]
@@ -10,6 +11,8 @@ pub enum Choice {
     Whole(What),
     /// The packet that came is none for the node itself, or none came: the view maker hears it and looks.
     Open(Option<Packet>),
+    /// The arbiter's reply came: at the tick of the turn it is the device's answer, or nothing.
+    Answer(Reply),
 }
 
 /// The answers that wait for a turn: that of a Stop, whether it stopped, and that of a disk operation.
@@ -39,6 +42,8 @@ pub enum Place {
     Now(Choice),
     /// The output of that place is performed.
     Act { at: usize },
+    /// The poll is sent to the arbiter, and then the greetings, where a Hello is due.
+    Poll { poll: Poll, greets: bool },
     /// The greeting is sent to that rank.
     Greet { greeting: Greeting, to: u8 },
     /// The farewell of a node that left clean is sent to that rank: this view, announced.

@@ -4,16 +4,21 @@ ghost use Rattle.qn_node.specs.Node.{steps_of};
 ghost use Rattle.qn_live.specs.Places.{pending};
 
 use crate::asked::{Asked, Given, Room};
-use crate::choosing::{choose, failed_answer, heard_request, look, look_after, loop_after, ready};
+use crate::choosing::{
+    answered_at, choose, failed_answer, heard_request, look, look_after, loop_after, ready,
+};
 use crate::greeting::{farewell, greeting_after, greeting_packet, hello_due, keep_member};
 use crate::live_end::LiveEnd;
 use crate::outputs::{self, end_in, operation_in, waits_after};
 use crate::place::{Choice, Greeting, Place, Waits};
-use crate::standing::Standing;
+use crate::polling::{ask_poll, fresh, has_lost, hear_entry, is_view, wait_until};
+use crate::standing::Standing as Stand;
 use qn_base::{Rank, View};
 use qn_member::Member;
 use qn_model::{DiskOp, Entry, Outs, Phase, Settings, What};
 use qn_node::Node;
+use qn_polls::{Poller, Standing};
+use qn_safety::Poll;
 use qn_wire::put_packet;
 
 /// A running node that waits for the answer of its next call, or whose run is over.
@@ -36,6 +41,9 @@ pub struct NodeRun {
     last_look: u64,
     /// Whether the host of the node has asked it to leave.
     asked: bool,
+    /// What the node polls its arbiter with, where it has one, and the tick from which on it does.
+    poller: Option<Poller>,
+    polls_from: u64,
     /// The number of the present turn, from 1, and how many turns follow it.
     turn: u64,
     after: u64,
@@ -48,7 +56,7 @@ pub struct NodeRun {
 }
 
 impl NodeRun {
-    ghost use Rattle.std.specs.Prelude.{◌≡◌, ◌<◌, ◌-◌, ◌*◌, ◌==◌, ℕ, List, [], Some, All, IfOk, OnOk, IfErr, IfSome, IfNone, length, slice_get, false, true};
+    ghost use Rattle.std.specs.Prelude.{◌≡◌, ◌<◌, ◌-◌, ◌*◌, ◌==◌, ℕ, List, [], Some, All, IfOk, OnOk, IfErr, IfSome, IfNone, length, slice_get, false, true, option_map, if◌then◌else◌};
     ghost use Rattle.qn_base.specs.declared.calls.Call.{Call};
     ghost use Rattle.qn_base.specs.Calls.{blank};
     ghost use Rattle.qn_base.specs.Plans.{Plan, question, left};
@@ -62,10 +70,14 @@ impl NodeRun {
     ghost use Rattle.qn_live.specs.Asking.{IsServed, IsWithin, is_look, question_of, Tells};
     ghost use Rattle.qn_live.specs.Choosing.{is_late, is_to_leave};
     ghost use Rattle.qn_live.specs.Greetings.{farewells, greeting_call, others_from, to_send};
-    ghost use Rattle.qn_live.specs.Machine.{EndsWith, HasMore, IsStanding, IsUnderWay, KeepsEntry, RunFor, Stands, TookIn, acting, begun, clocking, ending, looks_next, next_of, operation_of, parting, saying, settling, state_of, work};
+    ghost use Rattle.qn_live.specs.Machine.{SameBeside, EndsWith, HasMore, IsStanding, IsUnderWay, KeepsEntry, RunFor, Stands, TookIn, acting, begun, clocking, ending, looks_next, next_of, operation_of, parting, saying, settling, state_of, work};
     ghost use Rattle.qn_live.specs.Halts.{is_on_disk};
     ghost use Rattle.qn_live.specs.Performing.{disk_answer, disk_call, noted, out_call, own_number};
     ghost use Rattle.qn_live.specs.Places.{calls_of_greeting};
+    ghost use Rattle.qn_live.specs.Polling.{poll_call, poll_due, polled, polls_after, shown};
+    ghost use Rattle.qn_polls.specs.Poller.{standing_of};
+    ghost use Rattle.qn_node.specs.Node.{NodeFor};
+    ghost use Rattle.qn_model.specs.NodeVotes.{view};
     ghost use Rattle.qn_live.specs.Running.{Ran};
     ghost use Rattle.qn_live.specs.Runs.{live_plan, turns_end};
     ghost use Rattle.qn_live.specs.Standings.{standing};
@@ -77,12 +89,13 @@ impl NodeRun {
         me: Rank,
         clean: bool,
         leave_at: Option<u64>,
+        polls: Option<u64>,
         turns: u64,
     ) -> NodeRun
         requires valid { IsValid settings }
         requires configured { me.0 < length settings.nodes }
         requires some_turn { 1 ≤ turns }
-        ensures runs { RunFor result (live_plan settings me.0 clean leave_at turns) }
+        ensures runs { RunFor result (live_plan settings me.0 clean leave_at polls turns) }
         ensures settings { result.settings ≡ settings }
         ensures rank { result.me ≡ me }
     {
@@ -102,6 +115,8 @@ impl NodeRun {
             rests: false,
             last_look: 0,
             asked: false,
+            poller: fresh(polls),
+            polls_from: 0,
             turn: 1,
             after: turns - 1,
             entry: What::Tick,
@@ -153,12 +168,12 @@ impl NodeRun {
     }
 
     /// Where the node stands after its last entry, at the tick of that entry.
-    pub fn standing(&self) -> Standing
+    pub fn standing(&self) -> Stand
         ensures { (log : List Line)
             → Stands self.now log
             → result ≡ standing self.now.settings self.now.me.0 log }
     {
-        Standing::of(&self.node, self.tick)
+        Stand::of(&self.node, self.tick)
     }
 
     /// The call that comes next, whose bytes are put into the room, or how the run ended.
@@ -178,6 +193,7 @@ impl NodeRun {
             Place::Receive => Ok(Asked::Receive),
             Place::Now(_) => Ok(Asked::Now),
             Place::Act { at } => Ok(self.ask_output(at, room)),
+            Place::Poll { poll, .. } => Ok(ask_poll(&poll, room)),
             Place::Greet { greeting, to } => Ok(self.ask_greeting(greeting, to, room)),
             Place::Part { view, to } => Ok(self.ask_greeting(Greeting::Announce(view), to, room)),
             Place::Over(end) => Err(end),
@@ -243,10 +259,16 @@ impl NodeRun {
         match self.place {
             Place::Receive => {
                 self.asked = heard_request(self.asked, given.got, &room.packet);
-                self.place = Place::Now(choose(self.me, given.got, &room.packet));
+                self.place = Place::Now(choose(
+                    self.me,
+                    self.poller.is_some(),
+                    given.got,
+                    &room.packet,
+                ));
             }
             Place::Now(choice) => self.at_tick(choice, given.tick),
             Place::Act { at } => self.performed(at, given, room),
+            Place::Poll { greets, .. } => self.greet_or_finish(greets),
             Place::Greet { greeting, to } => self.greet(greeting, to + 1),
             Place::Part { view, to } => self.part(view, to + 1),
             Place::Over(_) => {}
@@ -263,6 +285,7 @@ impl NodeRun {
             Place::Act { at } => operation_in(self.outs.get(at)),
             Place::Receive
             | Place::Now(_)
+            | Place::Poll { .. }
             | Place::Greet { .. }
             | Place::Part { .. }
             | Place::Over(_) => None,
@@ -294,6 +317,7 @@ impl NodeRun {
             }
             Place::Receive
             | Place::Now(_)
+            | Place::Poll { .. }
             | Place::Greet { .. }
             | Place::Part { .. }
             | Place::Over(_) => {}
@@ -323,12 +347,15 @@ impl NodeRun {
             });
             return;
         }
+        let choice = answered_at(tick, &self.poller, choice);
         self.last_look = look_after(choice, &self.member, tick, self.last_look);
         let what = look(&mut self.member, choice, tick);
         self.place = Place::Act { at: 0 };
         self.tick = tick;
         self.entry = what;
         self.loop_ms = loop_after(what, self.loop_ms);
+        self.polls_from = self.polls_after(what, tick);
+        hear_entry(&mut self.poller, what);
         self.rests = failed_answer(what);
         self.node.step(Entry { tick, what }, &mut self.outs);
         self.act(0);
@@ -396,7 +423,102 @@ impl NodeRun {
             self.me,
             self.loop_ms,
         );
-        if hello_due(&mut self.member, self.tick) {
+        let greets = hello_due(&mut self.member, self.tick);
+        match self.next_poll(greets) {
+            Some(poll) => self.place = Place::Poll { poll, greets },
+            None => self.greet_or_finish(greets),
+        }
+    }
+
+    /// From when on the node polls after an entry at this tick, which it has not taken yet. After a view that has lost a node, one that
+    /// does not hold gives one that holds a loop's time to poll first.
+    fn polls_after(&self, entry: What, tick: u64) -> u64
+        ensures { (log : List Line)
+            → NodeFor self.now.node self.now.settings self.now.me.0 log
+            → result ≡ polls_after tick self.now.loop_ms log entry self.now.polls_from }
+    {
+        let What::View(after) = entry else {
+            return self.polls_from;
+        };
+        wait_until(
+            has_lost(self.seen(), after),
+            self.node.holds(),
+            tick,
+            self.loop_ms,
+        )
+    }
+
+    /// The present view of the node.
+    fn seen(&self) -> Option<View>
+        ensures { (log : List Line)
+            → NodeFor self.now.node self.now.settings self.now.me.0 log
+            → result ≡ view log }
+    {
+        match self.node.present() {
+            Some((_, view)) => Some(view),
+            None => None,
+        }
+    }
+
+    /// The poll of this turn, where one is due.
+    fn next_poll(&mut self, greets: bool) -> Option<Poll>
+        ensures poll { (log : List Line)
+            → Stands self.old log
+            → result ≡ poll_due self.old.settings self.old.me.0 greets self.old.entry
+            (state_of self.old log) }
+        ensures polled { (log : List Line)
+            → Stands self.old log
+            → state_of self.new log
+            ≡ polled self.old.settings self.old.me.0 greets self.old.entry
+            (state_of self.old log) }
+        ensures only { SameBeside self.old self.new }
+        ensures keeps { KeepsEntry self.old self.new }
+    {
+        if !(greets || is_view(self.entry)) || self.tick < self.polls_from {
+            return None;
+        }
+        let at = self.shown()?;
+        let Some(poller) = &mut self.poller else {
+            return None;
+        };
+        if poller.count() == u64::MAX {
+            return None;
+        }
+        Some(poller.poll(self.me, at))
+    }
+
+    /// What the node shows in a poll: None where it is not up or has no view.
+    fn shown(&self) -> Option<Standing>
+        ensures { (log : List Line)
+            → Stands self.now log
+            → option_map standing_of result ≡ shown self.now.settings log }
+    {
+        if !matches!(self.node.phase(), Phase::Up) {
+            return None;
+        }
+        let (install, view) = self.node.present()?;
+        Some(Standing {
+            tick: self.tick,
+            incarnation: self.node.incarnation().unwrap_or(0),
+            install,
+            view,
+        })
+    }
+
+    /// Where a Hello is due it is sent, and the announcement after it; else the turn is over.
+    fn greet_or_finish(&mut self, greets: bool)
+        ensures runs { (log : List Line)
+            → Stands self.old log
+            → RunFor self.new (saying self.old log
+            (if greets
+            then to_send self.old.settings self.old.me.0 self.old.member Greeting.Hello 0
+            else [])) }
+        ensures work { work self.new < 192 * self.old.after + 115 }
+        ensures settings { self.new.settings ≡ self.old.settings }
+        ensures rank { self.new.me ≡ self.old.me }
+        ensures keeps { KeepsEntry self.old self.new }
+    {
+        if greets {
             self.greet(Greeting::Hello, 0);
         } else {
             self.finish();

@@ -23,7 +23,8 @@ use qn_io::Env;
 use qn_model::Settings;
 
 /// Runs the node of that rank on these images for that many turns at most. `clean` says that its boot is a clean start, and
-/// `leave_at` is the number of the turn, from 1, from which on it is to leave. `notices` is told of each call, and of the end.
+/// `leave_at` is the number of the turn, from 1, from which on it is to leave; `polls` is the limit, in milliseconds, within
+/// which it takes a reply of its arbiter, where it has one. `notices` is told of each call, and of the end.
 pub fn run_on<E: Env, N: Notices>(
     env: &mut E,
     notices: &mut N,
@@ -32,15 +33,16 @@ pub fn run_on<E: Env, N: Notices>(
     me: Rank,
     clean: bool,
     leave_at: Option<u64>,
+    polls: Option<u64>,
     turns: u64,
 ) -> LiveEnd
     requires valid { IsValid settings.now }
     requires configured { me.0 < length settings.now.nodes }
     requires some_turn { 1 ≤ turns }
     ensures { RanOn E.faults E.calls E.shows env.old env.new
-        (plan_on images settings.now me.0 clean leave_at turns) result }
+        (plan_on images settings.now me.0 clean leave_at polls turns) result }
 {
-    let mut run = ImagesRun::new(images, settings.copy(), me, clean, leave_at, turns);
+    let mut run = ImagesRun::new(images, settings.copy(), me, clean, leave_at, polls, turns);
     let mut room = Room::new();
     'calls: loop {
         let asked = match run.asks(&mut room) {
@@ -64,6 +66,7 @@ pub fn run_node<E: Env, N: Notices>(
     me: Rank,
     clean: bool,
     leave_at: Option<u64>,
+    polls: Option<u64>,
     turns: u64,
 ) -> LiveEnd
     requires valid { IsValid settings.now }
@@ -71,7 +74,7 @@ pub fn run_node<E: Env, N: Notices>(
     requires some_turn { 1 ≤ turns }
     ensures did { (log : List Line)
         × Did (E.faults env.old) (E.faults env.new) (E.calls env.old) (E.calls env.new)
-        (live_plan settings.now me.0 clean leave_at turns) (record { end = result; log = log }) }
+        (live_plan settings.now me.0 clean leave_at polls turns) (record { end = result; log = log }) }
 {
     run_on(
         env,
@@ -81,6 +84,7 @@ pub fn run_node<E: Env, N: Notices>(
         me,
         clean,
         leave_at,
+        polls,
         turns,
     )
 }
@@ -93,6 +97,7 @@ pub fn run_node3<E: Env, N: Notices>(
     me: Rank,
     clean: bool,
     leave_at: Option<u64>,
+    polls: Option<u64>,
     turns: u64,
 ) -> LiveEnd
     requires valid { IsValid settings.now }
@@ -100,7 +105,7 @@ pub fn run_node3<E: Env, N: Notices>(
     requires some_turn { 1 ≤ turns }
     ensures did { (log : List Line)
         × Did (E.faults env.old) (E.faults env.new) (E.calls env.old) (E.calls env.new)
-        (triple_plan settings.now me.0 clean leave_at turns) (record { end = result; log = log }) }
+        (triple_plan settings.now me.0 clean leave_at polls turns) (record { end = result; log = log }) }
     ensures halted { (cause : BootCause) → result ≡ LiveEnd.BootHalted cause
         → is_no_failure cause ≡ false → (calls : List Call)
         × Made (E.faults env.old) (E.faults env.new) (E.calls env.old) (E.calls env.new) calls
@@ -115,6 +120,7 @@ pub fn run_node3<E: Env, N: Notices>(
         me,
         clean,
         leave_at,
+        polls,
         turns,
     )
 }

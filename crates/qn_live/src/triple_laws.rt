@@ -28,9 +28,9 @@ use qn_sector::law_read_back;
 
 /// Law: what a node is handed in a run on three images is one history.
 pub fn law_triple_history()
-    ensures { (s : Settings) (me : ℕ) (clean : Bool) (leave : Option ℕ) (turns : ℕ)
+    ensures { (s : Settings) (me : ℕ) (clean : Bool) (leave polls : Option ℕ) (turns : ℕ)
         (calls : List Call) (ran : Ran)
-        → Follows (triple_plan s me clean leave turns) calls ran
+        → Follows (triple_plan s me clean leave polls turns) calls ran
         → IsHistory s me ran.log }
 {
     law_one_history();
@@ -39,20 +39,20 @@ pub fn law_triple_history()
 /// Law: what a node is handed in a run on three images begins with the one entry that begins its boot, cleanly or not as it was
 /// told, its ticks never fall, and they are what the clock told in the calls of the run, one after the other.
 pub fn law_triple_handed_history()
-    ensures { (s : Settings) (me : ℕ) (clean : Bool) (leave : Option ℕ) (turns : ℕ)
+    ensures { (s : Settings) (me : ℕ) (clean : Bool) (leave polls : Option ℕ) (turns : ℕ)
         (calls : List Call) (ran : Ran)
-        → Follows (triple_plan s me clean leave turns) calls ran
+        → Follows (triple_plan s me clean leave polls turns) calls ran
         → HandsHistory s me clean calls ran }
 {
     law_handed_history();
 }
 
-/// Law: the calls of a run on three images, but for those that receive, look at the clock, or send a Hello or an Announce, are
+/// Law: the calls of a run on three images, but for those that receive, look at the clock, or send a Hello, an Announce or a poll, are
 /// the outputs of what the node was handed, in order, each made on the three.
 pub fn law_triple_outputs()
-    ensures { (s : Settings) (me : ℕ) (clean : Bool) (leave : Option ℕ) (turns : ℕ)
+    ensures { (s : Settings) (me : ℕ) (clean : Bool) (leave polls : Option ℕ) (turns : ℕ)
         (calls : List Call) (ran : Ran)
-        → Follows (triple_plan s me clean leave turns) calls ran
+        → Follows (triple_plan s me clean leave polls turns) calls ran
         → PerformsOnThree s me ran.log calls }
 {
     law_outputs();
@@ -60,35 +60,35 @@ pub fn law_triple_outputs()
 
 /// Law: a run on three images ends once, and in one way.
 pub fn law_triple_end()
-    ensures one { (s : Settings) (me : ℕ) (clean : Bool) (leave : Option ℕ) (turns : ℕ)
+    ensures one { (s : Settings) (me : ℕ) (clean : Bool) (leave polls : Option ℕ) (turns : ℕ)
         (calls : List Call) (ran other : Ran)
-        → Follows (triple_plan s me clean leave turns) calls ran
-        → Follows (triple_plan s me clean leave turns) calls other
+        → Follows (triple_plan s me clean leave polls turns) calls ran
+        → Follows (triple_plan s me clean leave polls turns) calls other
         → ran ≡ other }
-    ensures once { (s : Settings) (me : ℕ) (clean : Bool) (leave : Option ℕ) (turns : ℕ)
+    ensures once { (s : Settings) (me : ℕ) (clean : Bool) (leave polls : Option ℕ) (turns : ℕ)
         (calls : List Call) (call : Call)
         (more : List Call) (ran other : Ran)
-        → Follows (triple_plan s me clean leave turns) calls ran
-        → Follows (triple_plan s me clean leave turns) (calls ++ call ∷ more) other
+        → Follows (triple_plan s me clean leave polls turns) calls ran
+        → Follows (triple_plan s me clean leave polls turns) (calls ++ call ∷ more) other
         → ⊥ }
 {}
 
 /// Law: a run on three images in which no call failed was not halted in its boot by a failed call, and one in which no tick
 /// fell did not end because the clock went back.
 pub fn law_triple_end_causes()
-    ensures calls { (s : Settings) (me : ℕ) (clean : Bool) (leave : Option ℕ) (turns : ℕ)
+    ensures calls { (s : Settings) (me : ℕ) (clean : Bool) (leave polls : Option ℕ) (turns : ℕ)
         (calls : List Call) (ran : Ran)
-        → Follows (triple_plan s me clean leave turns) calls ran
+        → Follows (triple_plan s me clean leave polls turns) calls ran
         → some_failed calls ≡ false
         → is_by_call ran.end ≡ false }
-    ensures clock { (s : Settings) (me : ℕ) (clean : Bool) (leave : Option ℕ) (turns : ℕ)
+    ensures clock { (s : Settings) (me : ℕ) (clean : Bool) (leave polls : Option ℕ) (turns : ℕ)
         (calls : List Call) (ran : Ran)
-        → Follows (triple_plan s me clean leave turns) calls ran
+        → Follows (triple_plan s me clean leave polls turns) calls ran
         → NeverFalls 0 calls
         → is_by_clock ran.end ≡ false }
-    ensures sound { (s : Settings) (me : ℕ) (clean : Bool) (leave : Option ℕ) (turns : ℕ)
+    ensures sound { (s : Settings) (me : ℕ) (clean : Bool) (leave polls : Option ℕ) (turns : ℕ)
         (calls : List Call) (ran : Ran)
-        → Follows (triple_plan s me clean leave turns) calls ran
+        → Follows (triple_plan s me clean leave polls turns) calls ran
         → some_failed calls ≡ false
         → NeverFalls 0 calls
         → is_sound ran.end ≡ true }
@@ -100,9 +100,9 @@ pub fn law_triple_end_causes()
 /// Law: a boot on three images that a failed call halted was halted by the last disk operation of the run: a call of that very
 /// operation failed, too few images told anything, and that it failed is the newest entry that the node was handed.
 pub fn law_triple_boot_halted()
-    ensures { (s : Settings) (me : ℕ) (clean : Bool) (leave : Option ℕ) (turns : ℕ)
+    ensures { (s : Settings) (me : ℕ) (clean : Bool) (leave polls : Option ℕ) (turns : ℕ)
         (calls : List Call) (ran : Ran) (cause : BootCause)
-        → Follows (triple_plan s me clean leave turns) calls ran
+        → Follows (triple_plan s me clean leave polls turns) calls ran
         → ran.end ≡ LiveEnd.BootHalted cause
         → is_no_failure cause ≡ false
         → (halted : HaltedOnThree s me cause calls) × IsNewest (failed halted.1.op) ran.log }

@@ -51,15 +51,16 @@ impl TripleRun {
         me: Rank,
         clean: bool,
         leave_at: Option<u64>,
+        polls: Option<u64>,
         turns: u64,
     ) -> TripleRun
         requires valid { IsValid settings }
         requires configured { me.0 < length settings.nodes }
         requires some_turn { 1 ≤ turns }
-        ensures { TripleRunFor result (triple_plan settings me.0 clean leave_at turns) }
+        ensures { TripleRunFor result (triple_plan settings me.0 clean leave_at polls turns) }
     {
         TripleRun {
-            run: NodeRun::new(settings, me, clean, leave_at, turns),
+            run: NodeRun::new(settings, me, clean, leave_at, polls, turns),
             good: [true; 3],
             reads: Reads::Nothing,
             writes: Writes::Nothing,

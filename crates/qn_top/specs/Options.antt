@@ -3,7 +3,7 @@ use Rattle.std.specs.Prelude.{ℕ, Bool, true, false, not, ◌&&◌, List, [], �
 use Rattle.std.specs.List.{list_any}
 use Rattle.std.specs.Str.{bytes_eq}
 use Rattle.qn_top.specs.declared.options.OptionName.{OptionName}
-use Rattle.qn_top.specs.declared.options.OptionName.TheVariants.{Image, Timing, Id, Kind, Form, Watchdog, Resource, Port, Turns, Leave, StartMode, Images}
+use Rattle.qn_top.specs.declared.options.OptionName.TheVariants.{Image, Timing, Id, Kind, Form, Watchdog, Resource, Port, Turns, Leave, StartMode, Images, Polls}
 
 -- the name of an option as a word
 abbrev pub option_text : OptionName → List ℕ
@@ -19,6 +19,7 @@ option_text Turns = codes "--turns"
 option_text Leave = codes "--leave"
 option_text StartMode = codes "--start-mode"
 option_text Images = codes "--images"
+option_text Polls = codes "--polls"
 
 -- the value of the option of this name, the first where it stands several times
 abbrev pub value_of : List ℕ → List (List ℕ) → Option (List ℕ)

@@ -188,6 +188,7 @@ node_words options =
         port = port;
         turns = turns;
         leave = leave;
+        polls = None;
         clean = clean;
       })
 
@@ -208,9 +209,16 @@ node3_words options = do
   words ← node_words options
   if not (are_three_paths (parts 44 words.image)) then None else Some words
 
+-- the limit within which a node took a reply of its arbiter, where one is written
+abbrev pub limit_in : List ℕ → Option (Option ℕ)
+limit_in word = option_map Some (number_in 1 LONGEST_PERIOD word)
+
+unfoldable pub polls_of : List (List ℕ) → Option (Option ℕ)
+polls_of options = option_map_or limit_in (value_of (option_text option.Polls) options) (Some None)
+
 -- `audit`
 abbrev pub audit_options : List OptionName
-audit_options = option.Id ∷ option.Turns ∷ option.Leave ∷ option.StartMode ∷ option.Images ∷ []
+audit_options = option.Id ∷ option.Turns ∷ option.Leave ∷ option.StartMode ∷ option.Images ∷ option.Polls ∷ []
 
 unfoldable pub audit_words : List (List ℕ) → Option AuditWords
 audit_words options =
@@ -221,7 +229,8 @@ audit_words options =
       leave ← leave_of options
       clean ← mode_of options
       images ← images_of options
-      Some (record { images = images; id = id; turns = turns; leave = leave; clean = clean })
+      polls ← polls_of options
+      Some (record { images = images; id = id; turns = turns; leave = leave; polls = polls; clean = clean })
 
 -- the number of an option, in a range; this one where none is written
 unfoldable pub number_or : OptionName → ℕ → ℕ → ℕ → List (List ℕ) → Option ℕ

@@ -3,7 +3,7 @@ ghost use Rattle.std.specs.Prelude.{◌≡◌, ◌≤◌, ◌==◌, map, option_
 ghost use Rattle.std.specs.Option.{option_copied};
 ghost use Rattle.qn_model.specs.Lines.{parts};
 ghost use Rattle.qn_sched.specs.Words.{parts_left};
-ghost use Rattle.qn_top.specs.Words.{IsProper, all_differ, arbiter_words, are_three_paths, audit_words, command_of, command_with, create_of, form_named, form_of, id_of, image_alone, images_by, images_in, images_of, kind_named, kind_of, leave_of, message_of, mode_in, mode_of, next_time, node3_words, node_words, number_in, number_of_option, number_or, soak_of, timing_in, timing_of};
+ghost use Rattle.qn_top.specs.Words.{IsProper, all_differ, arbiter_words, are_three_paths, audit_words, command_of, command_with, create_of, form_named, form_of, id_of, image_alone, images_by, images_in, images_of, kind_named, kind_of, leave_of, message_of, mode_in, mode_of, next_time, node3_words, node_words, number_in, number_of_option, number_or, polls_of, soak_of, timing_in, timing_of};
 ghost use Rattle.qn_top.specs.Options.{value_of};
 
 use crate::command_name::{CommandName, name_of};
@@ -74,7 +74,7 @@ pub enum Command<'words> {
     ReplayArbiter,
     /// `node-logged`, with the options of `node`: the same, and each call with its answer as a line of a log.
     NodeLogged(NodeWords<'words>),
-    /// `audit --id N --turns K [--leave T] [--start-mode 0 or 1] [--images 1 or 3]`: whether a log is a run of that node.
+    /// `audit --id N --turns K [--leave T] [--start-mode 0 or 1] [--images 1 or 3] [--polls LIMIT]`: whether a log is a run of that node.
     Audit(AuditWords),
     /// `node3-logged`, with the options of `node3`: the same, and each call with its answer as a line of a log.
     Node3Logged(NodeWords<'words>),
@@ -97,12 +97,13 @@ const NODE_OPTIONS: [OptionName; 8] = [
 ];
 
 /// The options of `audit`.
-const AUDIT_OPTIONS: [OptionName; 5] = [
+const AUDIT_OPTIONS: [OptionName; 6] = [
     OptionName::Id,
     OptionName::Turns,
     OptionName::Leave,
     OptionName::StartMode,
     OptionName::Images,
+    OptionName::Polls,
 ];
 
 /// The form of a status.
@@ -360,6 +361,7 @@ fn node_words(options: &[String]) -> Option<NodeWords<'_>>
         port: port as u16,
         turns,
         leave,
+        polls: None,
         clean,
     })
 }
@@ -413,11 +415,13 @@ fn audit_words(options: &[String]) -> Option<AuditWords>
     let leave = leave_of(options)?;
     let clean = mode_of(options)?;
     let images = images_of(options)?;
+    let polls = polls_of(options)?;
     Some(AuditWords {
         images,
         id,
         turns,
         leave,
+        polls,
         clean,
     })
 }
@@ -475,6 +479,20 @@ fn leave_of(options: &[String]) -> Option<Option<u64>>
         Some(word) => {
             let turn = number_in(1, MOST_TURNS, word.as_str().as_bytes())?;
             Some(Some(turn))
+        }
+    }
+}
+
+/// The limit within which a node took a reply of its arbiter, in milliseconds, where one is written.
+#[tactic(auto, unfolding(crate::specs::Words::polls_of))]
+fn polls_of(options: &[String]) -> Option<Option<u64>>
+    ensures { result ≡ polls_of (map string_bytes options.now) }
+{
+    match value_of(options, OptionName::Polls) {
+        None => Some(None),
+        Some(word) => {
+            let limit = number_in(1, LONGEST_PERIOD, word.as_str().as_bytes())?;
+            Some(Some(limit))
         }
     }
 }

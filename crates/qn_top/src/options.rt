@@ -21,6 +21,7 @@ pub(crate) enum OptionName {
     Leave,
     StartMode,
     Images,
+    Polls,
 }
 
 impl OptionName {
@@ -40,6 +41,7 @@ impl OptionName {
             OptionName::Leave => "--leave",
             OptionName::StartMode => "--start-mode",
             OptionName::Images => "--images",
+            OptionName::Polls => "--polls",
         }
     }
 }

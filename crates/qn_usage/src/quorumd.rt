@@ -84,7 +84,8 @@ pub const QUORUMD: &[Synopsis] = &[
         does: "the same as node, with a line for each of its calls",
     },
     Synopsis {
-        line: "audit --id 1..4294967295 --turns 1..1000000000 [--leave 1..1000000000] [--start-mode 0..1] [--images 1|3]",
+        line: "audit --id 1..4294967295 --turns 1..1000000000 [--leave 1..1000000000] [--start-mode 0..1] [--images 1|3] \
+               [--polls 1..3600000]",
         reads: "RECORD",
         does: "whether the record of a node is a run of it",
     },

@@ -17,7 +17,7 @@ use Rattle.qn_commands.specs.Statuses.{HasCauses, IsOneOf}
 -- the run that the log is audited as
 abbrev pub audited_run : AuditWords → AuditedRun
 audited_run words =
-    record { images = words.images; id = words.id; clean = words.clean; leave = words.leave; turns = words.turns }
+    record { images = words.images; id = words.id; clean = words.clean; leave = words.leave; polls = words.polls; turns = words.turns }
 
 -- the last line, and the status
 abbrev pub audit_outcome : NodeId → AuditEnd → Outcome

@@ -45,7 +45,7 @@ run_end turns ran = Last (end_outcome turns ran.end).text (end_outcome turns ran
 
 -- the run of the node of that rank
 abbrev pub node_plan : NodeImages → NodeWords → Settings → ℕ → Plan Ran
-node_plan images words settings rank = plan_on images settings rank words.clean words.leave words.turns
+node_plan images words settings rank = plan_on images settings rank words.clean words.leave words.polls words.turns
 
 -- the boot of the node of that rank was halted for this cause by a disk operation that failed, the last of these calls
 abbrev pub HaltedOn : NodeImages → Settings → ℕ → BootCause → List Call → Type 0

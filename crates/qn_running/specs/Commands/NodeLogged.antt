@@ -84,7 +84,7 @@ WritesLog false calls before after =
 pub record RunsLogged (images : NodeImages) (words : NodeWords) (settings : Settings) (rank : ℕ) (before after : Output)
     (env_before env_after : Outside) (end : LiveEnd) (whole : Bool) : Type 0 where
   pub log : List Line
-  pub did : Carries (plan_on images settings rank words.clean words.leave words.turns) env_before env_after (record { end = end; log = log })
+  pub did : Carries (plan_on images settings rank words.clean words.leave words.polls words.turns) env_before env_after (record { end = end; log = log })
   pub writes : WritesLog whole did.calls before after
 
 -- the work of `node` was done, and its last line follows the log of its calls

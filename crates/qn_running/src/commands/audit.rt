@@ -23,6 +23,8 @@ pub struct AuditWords {
     pub turns: u64,
     /// The number of the turn, from 1, from which on the node was to leave.
     pub leave: Option<u64>,
+    /// The limit, in milliseconds, within which the node took a reply of its arbiter, where it polled one.
+    pub polls: Option<u64>,
     /// Whether the boot was a clean start (start mode 1).
     pub clean: bool,
 }
@@ -50,6 +52,7 @@ pub fn run_audit<I: Source, O: Sink>(
         words.id,
         words.turns,
         words.leave,
+        words.polls,
         words.clean,
     );
     finish_audit(out, words.id, end)

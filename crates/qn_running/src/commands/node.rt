@@ -34,6 +34,8 @@ pub struct NodeWords<'words> {
     pub turns: u64,
     /// The number of the turn, from 1, from which on the node is to leave.
     pub leave: Option<u64>,
+    /// The limit, in milliseconds, within which the node takes a reply of its arbiter, where it polls one.
+    pub polls: Option<u64>,
     /// Whether the boot is a clean start (start mode 1).
     pub clean: bool,
 }
@@ -148,6 +150,7 @@ fn run<E: Env, N: Notices>(
         rank,
         words.clean,
         words.leave,
+        words.polls,
         words.turns,
     )
 }

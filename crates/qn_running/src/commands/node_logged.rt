@@ -139,6 +139,7 @@ fn run_and_record<O: Sink, E: Env, N: Notices>(
         rank,
         words.clean,
         words.leave,
+        words.polls,
         words.turns,
     );
     (end, recorder.is_whole())

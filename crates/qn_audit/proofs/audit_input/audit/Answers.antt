@@ -13,7 +13,7 @@ use Rattle.qn_audit.proofs.audit_input.audit.Goals as goal
 
 pub returns-in-Err-clause-judges : goal.returns-in-Err-clause-judges
 returns-in-Err-clause-judges g c =
-    let run : AuditedRun = record { images = c.args.images; id = c.args.id; clean = c.args.clean; leave = c.args.leave_at; turns = c.args.turns } in
+    let run : AuditedRun = record { images = c.args.images; id = c.args.id; clean = c.args.clean; leave = c.args.leave_at; polls = c.args.polls; turns = c.args.turns } in
     let before = input_at g.I.Source.left g.I.Source.faults c.args.input.now in
     let after = input_at g.I.Source.left g.I.Source.faults c.read_settings.new.input in
     let waiting = c.read_settings.new.pieces in
@@ -26,7 +26,7 @@ returns-in-Err-clause-judges g c =
 
 pub returns-in_default-clause-judges : goal.returns-in_default-clause-judges
 returns-in_default-clause-judges g c =
-    let run : AuditedRun = record { images = c.args.images; id = c.args.id; clean = c.args.clean; leave = c.args.leave_at; turns = c.args.turns } in
+    let run : AuditedRun = record { images = c.args.images; id = c.args.id; clean = c.args.clean; leave = c.args.leave_at; polls = c.args.polls; turns = c.args.turns } in
     let before = input_at g.I.Source.left g.I.Source.faults c.args.input.now in
     let after = input_at g.I.Source.left g.I.Source.faults c.read_settings.new.input in
     judges_unknown run c.in-Ok.head c.in-Ok.ensures.settings before after c.read_settings.new.pieces
@@ -34,7 +34,7 @@ returns-in_default-clause-judges g c =
 
 pub returns-clause-judges : goal.returns-clause-judges
 returns-clause-judges g c =
-    let run : AuditedRun = record { images = c.args.images; id = c.args.id; clean = c.args.clean; leave = c.args.leave_at; turns = c.args.turns } in
+    let run : AuditedRun = record { images = c.args.images; id = c.args.id; clean = c.args.clean; leave = c.args.leave_at; polls = c.args.polls; turns = c.args.turns } in
     let before = input_at g.I.Source.left g.I.Source.faults c.args.input.now in
     let after = input_at g.I.Source.left g.I.Source.faults c.audit_log.new.input in
     let middle = prepend_known c.read_settings.new.pieces (g.I.Source.left c.read_settings.new.input) in

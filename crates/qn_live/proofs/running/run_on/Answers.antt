@@ -12,7 +12,7 @@ use Rattle.qn_live.proofs.running.run_on.Goals as goal
 pub calls-init : goal.calls-init
 calls-init g c = (
   [],
-  plan_on c.args.images c.copy.result c.args.me.0 c.args.clean c.args.leave_at c.args.turns,
+  plan_on c.args.images c.copy.result c.args.me.0 c.args.clean c.args.leave_at c.args.polls c.args.turns,
   c.new-run.ensures,
   made_none _ _,
   tt,
@@ -24,7 +24,7 @@ pub returns-in-Err : goal.returns-in-Err
 returns-in-Err g c =
     let i = c.calls.invariant in
     let over = c.in-Err.ensures.over i.1 i.2 in
-    let whole = plan_on c.args.images c.args.settings.now c.args.me.0 c.args.clean c.args.leave_at c.args.turns in
+    let whole = plan_on c.args.images c.args.settings.now c.args.me.0 c.args.clean c.args.leave_at c.args.polls c.args.turns in
     let ran : Ran = record { end = _; log = over.0 } in
     let ended = over_follows i.1 ran over.1 in
     record {

@@ -14,7 +14,7 @@ invariant-calls g l =
     × Made (g.E.Env.faults l.fn.env) (g.E.Env.faults l.env) (g.E.Env.calls l.fn.env) (g.E.Env.calls l.env) calls
     × AreRecorded calls
     × Shows g.E.Env.shows l.fn.env l.env calls
-    × ((more : List Call) (value : Ran) → Follows left more value → Follows (plan_on l.fn.images l.settings l.fn.me.0 l.clean l.fn.leave_at l.turns) (calls ++ more) value)
+    × ((more : List Call) (value : Ran) → Follows left more value → Follows (plan_on l.fn.images l.settings l.fn.me.0 l.clean l.fn.leave_at l.fn.polls l.turns) (calls ++ more) value)
 
 abbrev pub decreases-calls : goal.decreases-calls
 decreases-calls g l = images_work l.run

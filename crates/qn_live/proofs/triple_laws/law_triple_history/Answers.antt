@@ -6,6 +6,6 @@ use Rattle.qn_live.proofs.triple_laws.law_triple_history.Goals as goal
 
 pub returns : goal.returns
 unfolding triple_plan
-returns c = λ s me clean leave turns calls ran follows.
-    let one = single s me all_good (live_plan s me clean leave turns) calls ran (live_wiped s me clean leave turns) follows in
-    c.law_one_history.ensures s me clean leave turns one.one ran one.follows
+returns c = λ s me clean leave polls turns calls ran follows.
+    let one = single s me all_good (live_plan s me clean leave polls turns) calls ran (live_wiped s me clean leave polls turns) follows in
+    c.law_one_history.ensures s me clean leave polls turns one.one ran one.follows

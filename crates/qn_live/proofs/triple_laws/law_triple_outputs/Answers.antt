@@ -11,7 +11,7 @@ use Rattle.qn_live.proofs.triple_laws.law_triple_outputs.Goals as goal
 
 pub returns : goal.returns
 unfolding triple_plan
-returns c = λ s me clean leave turns calls ran follows.
-    let one = on_one s me all_good (live_plan s me clean leave turns) calls ran (live_wiped s me clean leave turns) follows in
+returns c = λ s me clean leave polls turns calls ran follows.
+    let one = on_one s me all_good (live_plan s me clean leave polls turns) calls ran (live_wiped s me clean leave polls turns) follows in
     subst (λ (outputs : List Call). Follows (on_three s me all_good (one_by_one outputs)) (filter is_output calls) tt)
-    (c.law_outputs.ensures s me clean leave turns one.one ran one.follows) one.outputs
+    (c.law_outputs.ensures s me clean leave polls turns one.one ran one.follows) one.outputs

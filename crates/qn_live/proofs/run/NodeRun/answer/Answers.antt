@@ -5,12 +5,13 @@ use Rattle.qn_io.specs.Receives.{received}
 use Rattle.qn_model.specs.declared.outputs.Out.TheVariants as out
 use Rattle.qn_live.specs.declared.place.Place.{Place}
 use Rattle.qn_live.specs.declared.place.Place.TheVariants as place
-use Rattle.qn_live.specs.Choosing.{choice_of, heard_request, packet_in}
-use Rattle.qn_live.specs.Machine.{HasMore, acting, clocking, left_at, next_of, parting, receiving, saying, state_of, timing}
+use Rattle.std.proofs.Common.{Bool}
+use Rattle.qn_live.specs.Choosing.{choice_in, choice_where, heard_request}
+use Rattle.qn_live.specs.Machine.{HasMore, acting, clocking, left_at, next_of, parting, polling, receiving, saying, state_of, timing}
 use Rattle.qn_live.specs.Greetings.{farewells, to_send}
 use Rattle.qn_live.specs.Running.{later}
 use Rattle.qn_live.specs.Runs.{timed}
-use Rattle.qn_live.proofs.Joining.{acting_more, asked_call, left_call, parting_more, saying_more, stands_too}
+use Rattle.qn_live.proofs.Joining.{choice_by_poller, acting_more, asked_call, left_call, parting_more, saying_more, stands_too}
 use Rattle.qn_live.proofs.run.NodeRun.answer.Goals as goal
 
 pub returns-in-Receive-clause-runs : goal.returns-in-Receive-clause-runs
@@ -24,11 +25,12 @@ returns-in-Receive-clause-runs c = λ plan call h tells asked.
       is_left =
           ap (λ p. left p call) is
           ∙ ap
-          (λ got. timed run.settings run.me.0 (choice_of run.me.0 (packet_in got), heard_request got (state_of run h.log)) >>= later (next_of run))
+          (λ got. timed run.settings run.me.0 (choice_in run.me.0 (state_of run h.log).poller got, heard_request got (state_of run h.log)) >>= later (next_of run))
           tells.got
           ∙ ap
           (λ chosen. timed run.settings run.me.0 (chosen, heard_request (received c.args.given.got c.args.room.now.packet) (state_of run h.log)) >>= later (next_of run))
-          (sym c.choose.ensures)
+          (sym (choice_by_poller run.poller run.me.0 _)
+          ∙ ap (λ (polls : Bool). choice_where polls run.me.0 (received c.args.given.got c.args.room.now.packet)) (sym c.is_some.ensures) ∙ sym c.choose.ensures)
           ∙ ap
           (λ asked. timed run.settings run.me.0 (c.choose.result, record (state_of run h.log) { asked = asked }) >>= later (next_of run))
           (sym c.heard_request-self.ensures);
@@ -52,6 +54,12 @@ returns-in-Act-clause-runs c = λ plan call h tells asked.
     let asks = is ∙ acting_more run (state_of run h.log) at (get_or run.outs at out.Stop) found in
     stands_too (left_call call asks)
     (c.performed.ensures.runs h.log (get_or run.outs at out.Stop) call h.stands more.2 found tells (asked_call asks asked))
+
+pub returns-in-Poll-clause-runs : goal.returns-in-Poll-clause-runs
+returns-in-Poll-clause-runs c = λ plan call h tells asked.
+    let run = c.args.self.now in
+    let is : plan ≡ polling run h.log c.in-Poll.poll c.in-Poll.greets = h.is_left ∙ ap (λ p. left_at run h.log p) c.in-Poll.is in
+    stands_too (ap (λ p. left p call) is) (c.greet_or_finish.ensures.runs h.log h.stands)
 
 pub returns-in-Greet-clause-runs : goal.returns-in-Greet-clause-runs
 returns-in-Greet-clause-runs c = λ plan call h tells asked.

@@ -4,7 +4,7 @@ use Rattle.qn_base.specs.Plans.{question}
 use Rattle.qn_model.specs.declared.outputs.Out.TheVariants as out
 use Rattle.qn_live.specs.declared.place.Place.{Place}
 use Rattle.qn_live.specs.declared.place.Place.TheVariants as place
-use Rattle.qn_live.specs.Machine.{HasMore, acting, left_at, parting, saying, state_of}
+use Rattle.qn_live.specs.Machine.{polling, HasMore, acting, left_at, parting, saying, state_of}
 use Rattle.qn_live.specs.Greetings.{farewells, to_send}
 use Rattle.qn_live.proofs.Joining.{acting_more, parting_more, saying_more}
 use Rattle.qn_live.proofs.run.NodeRun.asks.Goals as goal
@@ -19,6 +19,12 @@ returns-in-Act-clause-asked c = λ plan h.
     let is : plan ≡ acting run (state_of run h.log) at = h.is_left ∙ ap (λ p. left_at run h.log p) c.in-Act.is in
     ap question (is ∙ acting_more run (state_of run h.log) at (get_or run.outs at out.Stop) found)
     ∙ ap Some (sym (c.ask_output.ensures.asked h.log (get_or run.outs at out.Stop) h.stands found))
+
+pub returns-in-Poll-clause-asked : goal.returns-in-Poll-clause-asked
+returns-in-Poll-clause-asked c = λ plan h.
+    let run = c.args.self.now in
+    let is : plan ≡ polling run h.log c.in-Poll.poll c.in-Poll.greets = h.is_left ∙ ap (λ p. left_at run h.log p) c.in-Poll.is in
+    ap question is ∙ ap Some (sym c.ask_poll.ensures.asked)
 
 pub returns-in-Greet-clause-asked : goal.returns-in-Greet-clause-asked
 returns-in-Greet-clause-asked c = λ plan h.

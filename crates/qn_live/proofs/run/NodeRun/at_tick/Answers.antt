@@ -1,4 +1,7 @@
-use Rattle.std.proofs.Common.{◌≤◌, refl, ap, arith}
+use Rattle.std.proofs.Common.{◌≤◌, refl, ap, sym, ◌∙◌, arith, option_map}
+use Rattle.qn_polls.specs.Poller.{poller_of}
+use Rattle.qn_live.specs.declared.place.Choice.{Choice}
+use Rattle.qn_live.specs.Choosing.{look_after, looked}
 use Rattle.qn_base.specs.Plans.{◌>>=◌}
 use Rattle.qn_model.specs.Log.{now}
 use Rattle.qn_model.specs.NodeOutputs.{with_entry}
@@ -28,7 +31,11 @@ returns-clause-runs c = λ log stands.
     let outs = c.step.ensures.outs run.settings run.me.0 log stands.stands before in
     stands_too
     (ap (λ p. p >>= later (next_of run))
-    (clocked_on run.settings run.me.0 c.args.choice (state_of run log) c.args.tick c.look-what.new.member c.look-what.result c.loop_after-self.result c.failed_answer-self.result c.look_after-self.result c.step.new.outs before c.look-what.ensures c.loop_after-self.ensures c.failed_answer-self.ensures c.look_after-self.ensures outs))
+    (clocked_on run.settings run.me.0 c.args.choice (state_of run log) c.args.tick c.look-what.new.member c.look-what.result c.loop_after-self.result c.failed_answer-self.result c.look_after-self.result (option_map poller_of c.hear_entry.new.poller) c.polls_after-self.result c.step.new.outs before
+    (ap (λ (chosen : Choice). looked c.args.tick chosen run.member) (sym c.answered_at-choice.ensures) ∙ c.look-what.ensures)
+    c.loop_after-self.ensures c.failed_answer-self.ensures
+    (c.look_after-self.ensures ∙ ap (λ (chosen : Choice). look_after c.args.tick chosen run.member run.last_look) c.answered_at-choice.ensures)
+    c.hear_entry.ensures (c.polls_after-self.ensures log stands.stands) outs))
     (c.act.ensures.runs (with_entry run.settings run.me.0 log (record { tick = c.args.tick; what = c.look-what.result })) (record { valid = stands.valid; stands = c.step.ensures.stands run.settings run.me.0 log stands.stands before; at = refl }) (c.step.ensures.ranks run.settings run.me.0 log stands.stands before))
 
 pub returns-clause-took : goal.returns-clause-took
