@@ -1,3 +1,4 @@
 pub mod Arbiters
 pub mod Links
 pub mod Faults
+pub mod Meaning
