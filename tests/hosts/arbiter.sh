@@ -119,3 +119,20 @@ scene_arbiter_by_name() {
     on 3 systemctl stop quorumd-arbiter@two.service
     until_true 10 said 3 'event=arbiter-open' -u quorumd-arbiter@taken.service
 }
+
+# The package installed anew leaves an arbiter running, and a purge ends it and leaves nothing.
+scene_arbiter_removed() {
+    local pid
+    named one 7500 'host: 192.0.2.3'
+    host_3_alone || return 1
+    on 3 systemctl enable --now quorumd-arbiter@one.service || return 1
+    until_true 10 said 3 'event=arbiter-open' -u quorumd-arbiter@one.service || return 1
+    pid=$(arbiter_pid quorumd-arbiter@one.service)
+    fault 'the package is installed anew, and then purged'
+    cp "${QUORUMD_TEST_NEWER:-$package}" "$room/host3/var/tmp/newer.deb"
+    on 3 dpkg -i --force-confold /var/tmp/newer.deb | grep 'quorumd-arbiter@one.service goes on' || return 1
+    [ "$(arbiter_pid quorumd-arbiter@one.service)" = "$pid" ] || { echo 'the arbiter was started anew'; return 1; }
+    on 3 dpkg --purge quorumd || return 1
+    on 3 pgrep -af 'quorumd.* arbiter' && return 1
+    ! on 3 find /etc /usr /var/lib -name '*quorumd*' -not -path '/var/lib/dpkg/*' | grep .
+}
