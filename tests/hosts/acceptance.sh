@@ -11,7 +11,9 @@ acceptance_bed() {
     until_true 40 sql 'create table rows (number bigint primary key)' || return 1
     cat > "$room/reach" << END
 #!/bin/bash
-pid=\$(cat "$room/\$1.pid" 2> /dev/null) && first=\$(pgrep -P "\$pid" | head -n 1) && [ -n "\$first" ] || { echo "\$1 is off" >&2; exit 255; }
+# a boot of a container has an id of its own once that is mounted: a look that began before has the id of this machine, and the next one would be at another boot
+pid=\$(cat "$room/\$1.pid" 2> /dev/null) && first=\$(pgrep -P "\$pid" | head -n 1) && [ -n "\$first" ] &&
+    grep -q ' /proc/sys/kernel/random/boot_id ' "/proc/\$first/mountinfo" 2> /dev/null || { echo "\$1 is off" >&2; exit 255; }
 exec nsenter -t "\$first" -m -u -i -p -n --root env -i -C / PATH=/usr/sbin:/usr/bin:/sbin:/bin HOME=/root LANG=C.UTF-8 SYSTEMD_COLORS=0 sh -c "\$2"
 END
     cat > "$room/pull" << END

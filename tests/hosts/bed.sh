@@ -64,7 +64,7 @@ set_up() {
         mount -t overlay "$tag-$n" -o "lowerdir=$room/installed:$base,upperdir=$room/host$n.upper,workdir=$room/host$n.work" "$room/host$n"
         fill_host "$n" "$room/host$n" || exit 1
     done
-    chroot "$room/host1" /usr/sbin/quorumd create --image /var/tmp/disk < "$conf" > /dev/null && mv "$room/host1/var/tmp/disk" "$shared/disk"
+    chroot "$room/host1" /usr/sbin/quorumd create --image /var/tmp/disk < "$conf" > "$room/created" 2>&1 && mv "$room/host1/var/tmp/disk" "$shared/disk"
 }
 
 # make_node PATH DEVICE: the same device at that path
@@ -119,7 +119,7 @@ come_first() {
     local tree
     tree=$(processors)
     [ -n "$tree" ] && mkdir "$tree/$tag" 2> /dev/null || return 0
-    echo 40960 > "$tree/$tag/cpu.shares"
+    echo 262144 > "$tree/$tag/cpu.shares" # the most that a group can have
     # nodes run in real time, which such a group may do only where it is given a part of it
     [ ! -e "$tree/$tag/cpu.rt_runtime_us" ] || echo 150000 > "$tree/$tag/cpu.rt_runtime_us"
     echo $$ > "$tree/$tag/cgroup.procs"

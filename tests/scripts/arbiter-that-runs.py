@@ -1,7 +1,6 @@
 """An arbiter that runs, asked by polls that are made here: it says no for a lease, then yes to one side at a time; its journal and its status; under a
 key it takes polls of nodes alone, and none twice; what it does not open with, it says in a line."""
 import hashlib
-import hmac
 import json
 import os
 import pathlib
@@ -11,6 +10,7 @@ import subprocess
 import time
 
 from live import QUORUMD, STARTED, event_of, free_ports, same, try_all, wait_for
+from polls import poll, reply, sealed
 
 SEATS = 33
 TIMEOUT = 500
@@ -47,14 +47,6 @@ class Arbiter:
 
     def opened(self):
         return wait_for("the port is open", lambda: self.events("arbiter-open"))[0]
-
-
-def poll(rank, number, members, incarnation=1, install=1):
-    return b"QN\x06" + bytes([rank]) + struct.pack(">QQQQI", number, incarnation, install, 7, members)
-
-
-def reply(rank, number, agrees, incarnation=1, install=1):
-    return b"QN\x07" + bytes([rank]) + struct.pack(">QQQ", number, incarnation, install) + bytes([agrees])
 
 
 class Asker:
@@ -119,11 +111,6 @@ def nobody_else_is_answered():
     same("after all that", node.ask(1), NO)
     wait_for("one poll alone", lambda: arbiter.status()["polls"] == 1)
     same("of an address of no node", wait_for("what was refused", lambda: arbiter.status()["refused"]), 1)
-
-
-def sealed(secret, text, rank, to, number, packet, boot=1):
-    head = b"QN" + bytes([32, hmac.new(secret, b"", hashlib.sha256).digest()[0], rank, to]) + struct.pack(">QQ", boot, number) + packet
-    return head + hmac.new(secret, text + head, hashlib.sha256).digest()
 
 
 def under_a_key():

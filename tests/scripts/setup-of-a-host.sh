@@ -184,6 +184,8 @@ same "$(written)" "$before"
 printf '#!/bin/sh\necho "192.0.2.1 STREAM"\n' > calls/getent
 device third.example > arbiter.conf
 setup 0 'the arbiter of arbiter.conf is set up: systemctl enable --now quorumd-arbiter.service' arbiter.conf --arbiter --key key --port 7600
+# the name was looked up, and is not warned of
+same "$(grep -c 'is no address' said)" 0
 device 192.0.2.1 | cmp - etc/quorumd/corosync.conf
 cmp key etc/quorumd/key
 same "$(stat -c %a etc/quorumd/key) $(cat etc/quorumd/arbiter.env)" '600 PORT=7600'
