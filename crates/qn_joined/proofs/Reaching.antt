@@ -45,9 +45,10 @@ line_of entry past outs = record { tick = 0; what = entry; asked = (if is_answer
 abbrev pub with_line : What → DiskOp → List Line → List Line
 with_line entry op past = line_of entry past (when (not (is_begin entry)) out.Feed ++ disk_outs (Some op)) ∷ past
 
-if_true : {A : Type 0} (b : Bool) (x y : A) → b ≡ true → (if b then x else y) ≡ x
-if_true true x y e = refl
-if_true false x y e = absurd cc
+-- a test that holds decides
+decided : {A : Type 0} (b : Bool) → b ≡ true → (x y : A) → (if b then x else y) ≡ x
+decided true e x y = refl
+decided false e x y = absurd cc
 
 -- a step of a boot that goes on
 boot_step : (s : Settings) (me : ℕ) (past : List Line) (entry : What) (op : DiskOp) → fits s me past entry ≡ true → is_booting (phase s past) ≡ true
@@ -57,8 +58,8 @@ unfolding with_entry outs_at
 boot_step s me past entry op fit booting step on gives =
     ap (λ b. with_read s me past 0 (if b then entry else what.Tick)) fit
     ∙ ap (λ (o : List Out). line_of entry past o ∷ past)
-    (if_true (is_booting (phase s past)) _ _ booting
-    ∙ if_true (is_boot_step entry) _ _ step
+    (decided (is_booting (phase s past)) booting _ _
+    ∙ decided (is_boot_step entry) step _ _
     ∙ ap (λ h. boot_step_outs me (begins_clean (taken_in past 0 entry)) (slot_number (taken_in past 0 entry)) entry h) on
     ∙ ap (λ o. when (not (is_begin entry)) out.Feed ++ disk_outs o) gives)
 
@@ -269,10 +270,10 @@ module _ (s : Settings) (t : Timing) (rank : ℕ) (safe : is_safe t ≡ true) (b
   header_goes_on : header_halt s (header.Read (length s.nodes) t) ≡ None
   header_goes_on =
       ap (λ b. if not b then Some cause.NotImage else (if is_safe t then None else Some cause.UnsafeTiming)) (equal_to_itself (length s.nodes))
-      ∙ if_true (is_safe t) _ _ safe
+      ∙ decided (is_safe t) safe _ _
 
   slot_goes_on : (own : Slot) → own.incarnation + 1 < 2 ^ 64 → slot_halt (slot.Read own) ≡ None
-  slot_goes_on own fits_it = if_true (nat_lt own.incarnation (2 ^ 64 - 1)) _ _ (lt-ltb own.incarnation (2 ^ 64 - 1) (omega arith))
+  slot_goes_on own fits_it = decided (nat_lt own.incarnation (2 ^ 64 - 1)) (lt-ltb own.incarnation (2 ^ 64 - 1) (omega arith)) _ _
 
   header_boots : phase s (header_log s t rank) ≡ Booting
   unfolding phase
@@ -281,7 +282,7 @@ module _ (s : Settings) (t : Timing) (rank : ℕ) (safe : is_safe t ≡ true) (b
   slot_boots : (own : Slot) → own.incarnation + 1 < 2 ^ 64 → phase s (slot_log s t rank own) ≡ Booting
   unfolding phase
   slot_boots own fits_it =
-      if_true (is_booting (phase s (header_log s t rank))) _ _ (ap is_booting header_boots)
+      decided (is_booting (phase s (header_log s t rank))) (ap is_booting header_boots) _ _
       ∙ ap (λ h. boot_phase h (phase s (header_log s t rank))) (slot_goes_on own fits_it) ∙ header_boots
 
   -- one claim

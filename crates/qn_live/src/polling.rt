@@ -85,12 +85,7 @@ pub fn wait_until(has_lost: bool, holds: bool, tick: u64, loop_ms: u64) -> u64
 fn has_left(before: Mask, after: Mask) -> bool
     ensures { result ≡ has_lost_members before after }
 {
-    for rank in 0..32u8 {
-        if is_lost(before, after, Rank(rank)) {
-            return true;
-        }
-    }
-    false
+    (0..32u8).any(|rank| is_lost(before, after, Rank(rank)))
 }
 
 fn is_lost(before: Mask, after: Mask, rank: Rank) -> bool
