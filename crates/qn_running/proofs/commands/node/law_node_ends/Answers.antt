@@ -11,14 +11,14 @@ returns c = of_images
   where
     of_images : (images : NodeImages) (words : NodeWords) (settings : Settings) (rank : ℕ) → EndsWithCause images words settings rank
     of_images One words settings rank = record {
-      call = c.law_end_causes.ensures.calls settings rank words.clean words.leave words.turns;
-      clock = c.law_end_causes.ensures.clock settings rank words.clean words.leave words.turns;
+      call = c.law_end_causes.ensures.calls settings rank words.clean words.leave words.polls words.turns;
+      clock = c.law_end_causes.ensures.clock settings rank words.clean words.leave words.polls words.turns;
       halted = λ calls ran cause follows is failure.
-          (c.law_boot_halted.ensures settings rank words.clean words.leave words.turns calls ran cause follows is failure).0;
+          (c.law_boot_halted.ensures settings rank words.clean words.leave words.polls words.turns calls ran cause follows is failure).0;
     }
     of_images Three words settings rank = record {
-      call = c.law_triple_end_causes.ensures.calls settings rank words.clean words.leave words.turns;
-      clock = c.law_triple_end_causes.ensures.clock settings rank words.clean words.leave words.turns;
+      call = c.law_triple_end_causes.ensures.calls settings rank words.clean words.leave words.polls words.turns;
+      clock = c.law_triple_end_causes.ensures.clock settings rank words.clean words.leave words.polls words.turns;
       halted = λ calls ran cause follows is failure.
-          (c.law_triple_boot_halted.ensures settings rank words.clean words.leave words.turns calls ran cause follows is failure).0;
+          (c.law_triple_boot_halted.ensures settings rank words.clean words.leave words.polls words.turns calls ran cause follows is failure).0;
     }
