@@ -101,8 +101,8 @@ offers '--leave' node --id 1 --image disk --watchdog dog --resource res --port 7
 offers '--id --image --watchdog --resource --port --turns --leave --start-mode' node3 ''
 offers '--id --image --watchdog --resource --port --turns --leave --start-mode' node-logged ''
 offers '--id --image --watchdog --resource --port --turns --leave --start-mode' node3-logged ''
-offers '--id --turns --leave --start-mode --images' audit ''
-offers '--leave --start-mode --images' audit --turns 9 --id 1 --
+offers '--id --turns --leave --start-mode --images --polls' audit ''
+offers '--leave --start-mode --images --polls' audit --turns 9 --id 1 --
 offers '--port --turns' arbiter ''
 offers '--port' arbiter --turns 9 --
 
