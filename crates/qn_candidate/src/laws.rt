@@ -6,10 +6,11 @@ ghost use Rattle.qn_base.specs.declared.ids.Mask.{Mask};
 ghost use Rattle.qn_base.specs.declared.ids.Rank.{Rank};
 ghost use Rattle.qn_base.specs.declared.ids.View.{View};
 ghost use Rattle.qn_model.specs.declared.configuration.Settings.{Settings};
-ghost use Rattle.qn_model.specs.Log.{Line};
-ghost use Rattle.qn_model.specs.NodeOutputs.{gives_start};
+ghost use Rattle.qn_model.specs.Holding.{holds, may_stop};
+ghost use Rattle.qn_model.specs.Log.{Line, now, timing};
+ghost use Rattle.qn_model.specs.NodeOutputs.{gives_start, gives_stop};
 ghost use Rattle.qn_model.specs.NodeVotes.{is_in_view, view};
-ghost use Rattle.qn_model.specs.Unmet.{chosen, least_rank};
+ghost use Rattle.qn_model.specs.Unmet.{chosen, is_given_away, least_rank};
 ghost use Rattle.qn_candidate.specs.declared.candidate.Facts.{Facts};
 ghost use Rattle.qn_candidate.specs.declared.candidate.Name.{Name};
 ghost use Rattle.qn_candidate.specs.declared.candidate.Name.TheVariants as name;
@@ -106,4 +107,35 @@ pub fn law_only_the_named_start()
         → length s.nodes ≤ 32
         → rank ≢ me
         → gives_start s me log ≡ false }
+{}
+
+/// Law: a view that bars all, or names another configured member, gives the resource away; one that names the node itself, or
+/// whose number is no name, does not. A holder whose view gives it away stops as soon as a Stop may be given.
+pub fn law_names_give_away()
+    ensures barred { (s : Settings) (me : ℕ) (log : List Line) (seen : View)
+        → view log ≡ Some seen
+        → is_barred seen ≡ true
+        → is_given_away s me log ≡ true }
+    ensures another { (s : Settings) (me : ℕ) (log : List Line) (seen : View) (rank : ℕ)
+        → view log ≡ Some seen
+        → is_named seen rank ≡ true
+        → is_member seen.members rank ≡ true
+        → rank < length s.nodes
+        → rank ≢ me
+        → is_given_away s me log ≡ true }
+    ensures itself { (s : Settings) (me : ℕ) (log : List Line) (seen : View)
+        → view log ≡ Some seen
+        → is_named seen me ≡ true
+        → me < 32
+        → is_given_away s me log ≡ false }
+    ensures plain { (s : Settings) (me : ℕ) (log : List Line) (seen : View)
+        → view log ≡ Some seen
+        → is_name seen.id ≡ false
+        → length s.nodes ≤ 32
+        → is_given_away s me log ≡ false }
+    ensures stops { (s : Settings) (me : ℕ) (log : List Line)
+        → holds log ≡ true
+        → is_given_away s me log ≡ true
+        → may_stop (timing log).loop_ms (now log) log ≡ true
+        → gives_stop s me log ≡ true }
 {}

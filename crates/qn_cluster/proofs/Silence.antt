@@ -43,7 +43,7 @@ wanted_none s me log e = none_if (is_some (op_out log)) _ e
 acts_no_disk : (s : Settings) (me : ℕ) (log : List Line) (entry : What) (fed : Bool) → is_some (op_out log) ≡ true → disk_of (acts s me log entry fed) ≡ None
 unfolding acts
 acts_no_disk s me log entry fed e =
-    let stop = when (gives_stop s log) out.Stop in
+    let stop = when (gives_stop s me log) out.Stop in
     let start = when (gives_start s me log) out.Start in
     let feed = when fed out.Feed in
     let told = replies s me (gives_start s me log || holds log) log entry in
@@ -51,7 +51,7 @@ acts_no_disk s me log entry fed e =
     (none_joined (stop ++ start ++ feed ++ told) (asks s me log)
     (none_joined (stop ++ start ++ feed) told
     (none_joined (stop ++ start) feed
-    (none_joined stop start (none_when (gives_stop s log) out.Stop refl) (none_when (gives_start s me log) out.Start refl))
+    (none_joined stop start (none_when (gives_stop s me log) out.Stop refl) (none_when (gives_start s me log) out.Start refl))
     (none_when fed out.Feed refl))
     (none_of_replies s me (gives_start s me log || holds log) log entry))
     (asking_no_disk s me log (is_asking s log)))

@@ -76,7 +76,7 @@ all_asks s me log =
 all_acts : (s : Settings) (me : ℕ) (log : List Line) (entry : What) (fed : Bool) → list_all is_act (acts s me log entry fed) ≡ true
 unfolding acts
 all_acts s me log entry fed =
-    let stop = when (gives_stop s log) out.Stop in
+    let stop = when (gives_stop s me log) out.Stop in
     let start = when (gives_start s me log) out.Start in
     let feed = when fed out.Feed in
     let tells = replies s me (gives_start s me log || holds log) log entry in
@@ -86,7 +86,7 @@ all_acts s me log entry fed =
     (all_append (stop ++ start ++ feed ++ tells) asked
     (all_append (stop ++ start ++ feed) tells
     (all_append (stop ++ start) feed
-    (all_append stop start (all_when (gives_stop s log) out.Stop refl) (all_when (gives_start s me log) out.Start refl))
+    (all_append stop start (all_when (gives_stop s me log) out.Stop refl) (all_when (gives_start s me log) out.Start refl))
     (all_when fed out.Feed refl))
     (all_replies s me (gives_start s me log || holds log) log entry))
     (all_asks s me log))

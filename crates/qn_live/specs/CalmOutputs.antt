@@ -92,9 +92,9 @@ calm_six stop start feed tell ask op one two three four five six =
 calm_acts : (s : Settings) (me : ℕ) (log : List Line) (entry : What) (fed : Bool) → calm_outs (acts s me log entry fed) ≡ true
 unfolding acts
 calm_acts s me log entry fed =
-    calm_six (when (gives_stop s log) out.Stop) (when (gives_start s me log) out.Start) (when fed out.Feed)
+    calm_six (when (gives_stop s me log) out.Stop) (when (gives_start s me log) out.Start) (when fed out.Feed)
     (replies s me (gives_start s me log || holds log) log entry) (asks s me log) (disk_outs (wanted_with_delay s me log))
-    (calm_when (gives_stop s log) out.Stop refl) (calm_when (gives_start s me log) out.Start refl) (calm_when fed out.Feed refl)
+    (calm_when (gives_stop s me log) out.Stop refl) (calm_when (gives_start s me log) out.Start refl) (calm_when fed out.Feed refl)
     (calm_replies s me (gives_start s me log || holds log) log entry)
     (calm_asked me log (λ own. filter (is_asked s me log) (range_with_len 0 (length s.nodes))) (is_asking s log) (view log))
     (calm_disk (wanted_with_delay s me log))

@@ -139,7 +139,7 @@ module _ (s : Settings) (log : List Line) where
       (both_outside _ _
       (both_outside _ _
       (both_outside _ _
-      (both_outside _ _ (when_outside (gives_stop s log) out.Stop tt) (when_outside (gives_start s me log) out.Start tt))
+      (both_outside _ _ (when_outside (gives_stop s me log) out.Stop tt) (when_outside (gives_start s me log) out.Start tt))
       (when_outside fed out.Feed tt))
       (replies_outside me (gives_start s me log || holds log) entry))
       (asks_outside me (is_asking s log)))

@@ -27,7 +27,7 @@ use Rattle.qn_model.specs.Holding.{holds, may_stop}
 use Rattle.qn_model.specs.NodeVotes.{view, install, released, quorate_with_tie, answer_with_tie, is_in_view, is_present}
 use Rattle.qn_model.specs.Hearing.{is_free}
 use Rattle.qn_model.specs.Fitting.{read_as}
-use Rattle.qn_model.specs.Unmet.{unmet, is_clear}
+use Rattle.qn_model.specs.Unmet.{unmet, is_clear, is_given_away}
 use Rattle.qn_model.specs.Wanted.{rank_of, boot_op, wanted_with_delay}
 
 -- the output where the test holds
@@ -103,10 +103,10 @@ abbrev pub boot_outs : Settings → ℕ → Bool → ℕ → What → List Out
 boot_outs s me clean number entry =
     if is_boot_step entry then boot_step_outs me clean number entry (boot_halt s entry) else []
 
--- a Stop: the node holds, it is leaving or not quorate, and no Stop is under way
-abbrev pub gives_stop : Settings → List Line → Bool
-gives_stop s log =
-    holds log && (is_leaving (phase s log) || not (quorate_with_tie s log (now log))) && may_stop (timing log).loop_ms (now log) log
+-- a Stop: the node holds, it is leaving, not quorate or its view gives the resource away, and no Stop is under way
+abbrev pub gives_stop : Settings → ℕ → List Line → Bool
+gives_stop s me log =
+    holds log && (is_leaving (phase s log) || not (quorate_with_tie s log (now log)) || is_given_away s me log) && may_stop (timing log).loop_ms (now log) log
 
 -- a Start: no condition blocks it
 abbrev pub gives_start : Settings → ℕ → List Line → Bool
@@ -176,7 +176,7 @@ asks s me log = if is_asking s log then option_map_or (asks_under s me log) (vie
 -- one disk operation
 unfoldable pub acts : Settings → ℕ → List Line → What → Bool → List Out
 acts s me log entry fed =
-    when (gives_stop s log) out.Stop ++ when (gives_start s me log) out.Start ++ when fed out.Feed
+    when (gives_stop s me log) out.Stop ++ when (gives_start s me log) out.Start ++ when fed out.Feed
     ++ replies s me (gives_start s me log || holds log) log entry ++ asks s me log ++ disk_outs (wanted_with_delay s me log)
 
 -- what comes out of an entry while the node takes part: a deadly message halts alone, the end of the close

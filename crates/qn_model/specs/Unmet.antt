@@ -1,5 +1,5 @@
 -- The first condition that blocks a start of the resource: this project's profile.
-use Rattle.std.specs.Prelude.{ℕ, suc, zero, Bool, true, false, List, [], ◌∷◌, length, Option, None, Some, ◌&&◌, ◌==◌, ◌+◌, not, is_none, unwrap_or, if◌then◌else◌}
+use Rattle.std.specs.Prelude.{ℕ, suc, zero, Bool, true, false, List, [], ◌∷◌, length, Option, None, Some, ◌&&◌, ◌||◌, ◌==◌, ◌+◌, not, is_none, unwrap_or, if◌then◌else◌}
 use Rattle.std.specs.Option.{option_map_or, option_or}
 use Rattle.qn_base.specs.Candidates.{is_barred, is_named}
 use Rattle.qn_base.specs.declared.ids.NodeId.{NodeId}
@@ -40,11 +40,17 @@ is_candidate log rank = option_map_or (λ view. is_named view rank) (view log) f
 abbrev pub is_none_chosen : List Line → Bool
 is_none_chosen log = option_map_or (λ view. is_barred view) (view log) false
 
+-- the member that the present view names
+abbrev pub named : Settings → List Line → Option ℕ
+named s log = least_rank s (λ rank. is_in_view log rank && is_candidate log rank)
+
 -- the chosen node: the member that the present view names, else its least member; none where the view says so
 abbrev pub chosen : Settings → List Line → Option ℕ
-chosen s log =
-    if is_none_chosen log then None
-    else option_or (least_rank s (λ rank. is_in_view log rank && is_candidate log rank)) (least_rank s (λ rank. is_in_view log rank))
+chosen s log = if is_none_chosen log then None else option_or (named s log) (least_rank s (λ rank. is_in_view log rank))
+
+-- whether the present view gives the resource away: it says that none of its members may start, or it names another one
+abbrev pub is_given_away : Settings → ℕ → List Line → Bool
+is_given_away s me log = is_none_chosen log || option_map_or (λ rank. not (rank == me)) (named s log) false
 
 -- whether the node is the chosen one
 abbrev pub is_chosen : Settings → ℕ → List Line → Bool

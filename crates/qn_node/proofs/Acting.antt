@@ -17,7 +17,7 @@ use Rattle.qn_model.specs.Phases.{is_leaving, is_up, phase}
 use Rattle.qn_model.specs.Holding.{holds, may_stop}
 use Rattle.qn_model.specs.NodeVotes.{quorate_with_tie}
 use Rattle.qn_model.specs.NodeOutputs.{acts, asks, disk_outs, gives_start, gives_stop, replies, taken_in, when}
-use Rattle.qn_model.specs.Unmet.{is_clear, unmet}
+use Rattle.qn_model.specs.Unmet.{is_clear, is_given_away, unmet}
 use Rattle.qn_model.specs.Wanted.{close_op, fencing_op_with_delay, is_mail_due, may_fence, to_read, to_reset_now, rank_of, wanted_with_delay}
 use Rattle.qn_fence.specs.Fence.{FenceFor, is_boot_end}
 use Rattle.qn_heard.specs.Heard.{HeardFor}
@@ -131,9 +131,9 @@ live_or None second one other = other
 live_or (Some op) second one other = one
 
 -- a Stop is given only by a node that holds, a Start only by one that does not
-gives_stop-held : (s : Settings) (log : List Line) → gives_stop s log ≡ true → holds log ≡ true
-gives_stop-held s log e =
-    first_of_three (holds log) (is_leaving (phase s log) || not (quorate_with_tie s log (now log))) (may_stop (timing log).loop_ms (now log) log) e
+gives_stop-held : (s : Settings) (me : ℕ) (log : List Line) → gives_stop s me log ≡ true → holds log ≡ true
+gives_stop-held s me log e =
+    first_of_three (holds log) (is_leaving (phase s log) || not (quorate_with_tie s log (now log)) || is_given_away s me log) (may_stop (timing log).loop_ms (now log) log) e
 
 start_free : (down held : Bool) (rest : Why) → is_clear (if down then why.Down else (if held then why.Holding else rest)) ≡ true → held ≡ false
 start_free true held rest e = absurd (cc)
@@ -153,7 +153,7 @@ phase_same s past tick w outs = refl
 pub acted_stands : (live : Live) (s : Settings) (me : ℕ) (past : List Line) (tick : ℕ) (w : What) (fed : Bool) (heard : Heard) (watch : Watch) (fence : Fence)
     (stops starts : Bool) (op : Option DiskOp)
     → LiveTook live s me past tick w
-    → stops ≡ gives_stop s (taken_in past tick w) → starts ≡ gives_start s me (taken_in past tick w) → op ≡ wanted_with_delay s me (taken_in past tick w)
+    → stops ≡ gives_stop s me (taken_in past tick w) → starts ≡ gives_start s me (taken_in past tick w) → op ≡ wanted_with_delay s me (taken_in past tick w)
     → HeardFor heard s me (with_outs past tick w (acts s me (taken_in past tick w) w fed))
     → WatchFor watch (with_outs past tick w (acts s me (taken_in past tick w) w fed))
     → FenceFor fence s (with_outs past tick w (acts s me (taken_in past tick w) w fed))
@@ -176,7 +176,7 @@ acted_stands live s me past tick w fed heard watch fence stops starts op took is
       no_boot = live_or op live.op wants took.no_boot;
       has_resource =
           resource_given live.resource past _ outs stops starts took.has_resource refl refl (has.of_start ∙ sym is_start) (has.of_stop ∙ sym is_stop)
-          (λ e. sym took.has_resource.has ∙ gives_stop-held s log (sym is_stop ∙ e))
+          (λ e. sym took.has_resource.has ∙ gives_stop-held s me log (sym is_stop ∙ e))
           (λ e. sym took.has_resource.has ∙ gives_start-free s me log (sym is_start ∙ e));
       watches = watches;
       fences = fences;
@@ -187,7 +187,7 @@ acted_stands live s me past tick w fed heard watch fence stops starts op took is
 pub acts_chain : (s : Settings) (me : ℕ) (log : List Line) (w : What) (fed stops starts held : Bool) (op : Option DiskOp) (one two three four five six : List Out)
     → one ≡ when stops out.Stop → two ≡ one ++ when starts out.Start → three ≡ two ++ when fed out.Feed
     → four ≡ three ++ replies s me (starts || held) log w → five ≡ four ++ asks s me log → six ≡ five ++ disk_outs op
-    → stops ≡ gives_stop s log → starts ≡ gives_start s me log → held ≡ holds log → op ≡ wanted_with_delay s me log
+    → stops ≡ gives_stop s me log → starts ≡ gives_start s me log → held ≡ holds log → op ≡ wanted_with_delay s me log
     → six ≡ acts s me log w fed
 unfolding acts
 acts_chain s me log w fed stops starts held op one two three four five six a b c d e f is_stop is_start is_held is_op =

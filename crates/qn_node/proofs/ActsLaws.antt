@@ -117,10 +117,10 @@ module _ (s : Settings) (me : ℕ) (log : List Line) where
   }
 
   -- a node that acts gives a Stop, a Start and a disk operation exactly where the definitions say so
-  pub acts_has : (entry : What) (fed : Bool) → Has (acts s me log entry fed) (gives_stop s log) (gives_start s me log) (wanted_with_delay s me log)
+  pub acts_has : (entry : What) (fed : Bool) → Has (acts s me log entry fed) (gives_stop s me log) (gives_start s me log) (wanted_with_delay s me log)
   unfolding acts
   acts_has entry fed =
-      let stops = gives_stop s log in
+      let stops = gives_stop s me log in
       let starts = gives_start s me log in
       op_behind _ stops starts (wanted_with_delay s me log)
       (plain_behind _ _ stops starts None

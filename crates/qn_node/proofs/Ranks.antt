@@ -181,7 +181,7 @@ module _ (s : Settings) where
       (proper_both _ _
       (proper_both _ _
       (proper_both _ _
-      (proper_both _ _ (proper_when (gives_stop s log) out.Stop tt) (proper_when (gives_start s me log) out.Start tt))
+      (proper_both _ _ (proper_when (gives_stop s me log) out.Stop tt) (proper_when (gives_start s me log) out.Start tt))
       (proper_when fed out.Feed tt))
       (proper_replies me (gives_start s me log || holds log) log w from))
       (proper_asks me log (is_asking s log)))

@@ -31,7 +31,7 @@ use Rattle.qn_plain.specs.Past.{PastFor, is_in}
 use Rattle.qn_plain.specs.Sought.{chosen_at}
 use Rattle.qn_plain.proofs.Lives.{stops_again-stopping}
 use Rattle.qn_plain.proofs.Stands.{views}
-use Rattle.qn_plain.proofs.Questions.{quorate_past, released_past, sought_chosen, sought_unread, sought_unreset, starts_past}
+use Rattle.qn_plain.proofs.Questions.{given_away, quorate_past, released_past, sought_chosen, sought_unread, sought_unreset, starts_past}
 
 option_map-rank_of : (found : Option ℕ) (op : Rank → DiskOp)
     → option_map op (option_map rank_of found) ≡ option_map (λ rank. op (rank_of rank)) found
@@ -75,13 +75,14 @@ unfolding claimed
 taken log tick w = record { at = refl; claims = refl }
 
 module _ (s : Settings) (past : Past) (log : List Line) (h : PastFor s past log) (me tick : ℕ) (t : IsTaken log tick) where
-  stop_past : gives_stop_at s tick past ≡ gives_stop s log
+  stop_past : gives_stop_at s me tick past ≡ gives_stop s me log
   stop_past =
       let held : past.life.holds ≡ holds log = ap (λ l. l.holds) h.lives in
       let leaving : is_leaving past.life.phase ≡ is_leaving (phase s log) = ap (λ l. is_leaving l.phase) h.lives in
       let many = quorate_past s past log h tick in
       let again : stops_again past.life.stopping past.life.timing.loop_ms tick ≡ may_stop (timing log).loop_ms tick log
       = ap (λ l. stops_again l.stopping l.timing.loop_ms tick) h.lives ∙ stops_again-stopping (timing log).loop_ms tick log in
+      let away = given_away s past log h me tick in
       let at = t.at in
       cc
 
@@ -160,10 +161,10 @@ module _ (s : Settings) (past : Past) (log : List Line) (h : PastFor s past log)
       let asked = asks_past in
       let op = wanted_past in
       ap (λ b. when b out.Stop ++ when (gives_start_at s me tick past) out.Start ++ when fed out.Feed ++ replies_to me (gives_start_at s me tick past || past.life.holds) past w ++ asks_at_entry s me past ++ disk_outs (wanted_at s me tick past)) stops
-      ∙ (ap (λ b. when (gives_stop s log) out.Stop ++ when b out.Start ++ when fed out.Feed ++ replies_to me (gives_start_at s me tick past || past.life.holds) past w ++ asks_at_entry s me past ++ disk_outs (wanted_at s me tick past)) starts
-      ∙ (ap (λ outs. when (gives_stop s log) out.Stop ++ when (gives_start s me log) out.Start ++ when fed out.Feed ++ outs ++ asks_at_entry s me past ++ disk_outs (wanted_at s me tick past)) replied
-      ∙ (ap (λ outs. when (gives_stop s log) out.Stop ++ when (gives_start s me log) out.Start ++ when fed out.Feed ++ replies s me (gives_start s me log || holds log) log w ++ outs ++ disk_outs (wanted_at s me tick past)) asked
-      ∙ ap (λ o. when (gives_stop s log) out.Stop ++ when (gives_start s me log) out.Start ++ when fed out.Feed ++ replies s me (gives_start s me log || holds log) log w ++ asks s me log ++ disk_outs o) op)))
+      ∙ (ap (λ b. when (gives_stop s me log) out.Stop ++ when b out.Start ++ when fed out.Feed ++ replies_to me (gives_start_at s me tick past || past.life.holds) past w ++ asks_at_entry s me past ++ disk_outs (wanted_at s me tick past)) starts
+      ∙ (ap (λ outs. when (gives_stop s me log) out.Stop ++ when (gives_start s me log) out.Start ++ when fed out.Feed ++ outs ++ asks_at_entry s me past ++ disk_outs (wanted_at s me tick past)) replied
+      ∙ (ap (λ outs. when (gives_stop s me log) out.Stop ++ when (gives_start s me log) out.Start ++ when fed out.Feed ++ replies s me (gives_start s me log || holds log) log w ++ outs ++ disk_outs (wanted_at s me tick past)) asked
+      ∙ ap (λ o. when (gives_stop s me log) out.Stop ++ when (gives_start s me log) out.Start ++ when fed out.Feed ++ replies s me (gives_start s me log || holds log) log w ++ asks s me log ++ disk_outs o) op)))
 
   live_past : (w : What) (fed : Bool) (message : Option Message) → live_outs_at s me tick past w fed message ≡ live_outs s me log w fed message
   live_past w fed (Some message) = refl

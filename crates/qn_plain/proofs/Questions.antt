@@ -1,6 +1,6 @@
 -- What is asked of what is kept of a history is what is asked of its log.
 use Rattle.std.proofs.Common.{◌≡◌, ℕ, zero, suc, ◌+◌, ◌-◌, ◌<◌, Bool, true, false, List, length, Option, None, Some, refl, ap, ap₂, sym, ◌∙◌, arith, cond}
-use Rattle.std.specs.Prelude.{◌&&◌, ◌==◌, not, if◌then◌else◌, nat_le, nat_lt, is_some, is_none, unwrap_or}
+use Rattle.std.specs.Prelude.{◌&&◌, ◌||◌, ◌==◌, not, if◌then◌else◌, nat_le, nat_lt, is_some, is_none, unwrap_or}
 use Rattle.std.specs.Option.{option_map, option_map_or, option_or}
 use Rattle.qn_base.specs.declared.ids.Rank.{Rank}
 use Rattle.qn_model.specs.declared.configuration.Settings.{Settings}
@@ -12,7 +12,7 @@ use Rattle.qn_model.specs.Hearing.{is_free, is_held}
 use Rattle.qn_model.specs.Holding.{holds}
 use Rattle.qn_model.specs.Licences.{is_clean, is_fenced, is_licensed, is_slot_seen, is_written, left_to_wait, out_time, reset_tick}
 use Rattle.qn_model.specs.NodeVotes.{answer_with_tie, is_in_view, quorate_with_tie, released, view, votes}
-use Rattle.qn_model.specs.Unmet.{chosen, is_candidate, is_none_chosen, holder, id_of, is_clear, lacks_of_others, least_from, least_rank, or_else, other_chosen, unfenced, unheard, unmet}
+use Rattle.qn_model.specs.Unmet.{chosen, is_candidate, is_given_away, is_none_chosen, named, holder, id_of, is_clear, lacks_of_others, least_from, least_rank, or_else, other_chosen, unfenced, unheard, unmet}
 use Rattle.qn_model.specs.Wanted.{rank_of, to_read, to_reset}
 use Rattle.qn_model.specs.LeastMembers.{least_from-same}
 use Rattle.qn_plain.specs.declared.past.Past.{Past}
@@ -24,7 +24,7 @@ use Rattle.qn_plain.specs.declared.sought.Sought.TheVariants as sought
 use Rattle.qn_plain.specs.Lack.{is_nothing, is_quorate_at, lack_at, or_lack, other_than, why_by}
 use Rattle.qn_plain.specs.Past.{PastFor, is_barred_in, is_in, is_named_in}
 use Rattle.qn_plain.specs.Peer.{PeerFor, peer_at, peer_is_clean, peer_is_fenced, peer_is_held, peer_is_seen, peer_is_written, peer_left}
-use Rattle.qn_plain.specs.Sought.{chosen_at, is_sought, least_sought}
+use Rattle.qn_plain.specs.Sought.{chosen_at, is_given_away_at, is_sought, least_sought}
 use Rattle.qn_plain.specs.Tally.{tally_with_tie}
 use Rattle.qn_plain.proofs.EntryByEntry.{tally_with_tie-tally_of}
 use Rattle.qn_plain.proofs.Stands.{views}
@@ -97,12 +97,26 @@ module _ (s : Settings) (past : Past) (log : List Line) (h : PastFor s past log)
   none_chosen : is_barred_in past.votes.view ≡ is_none_chosen log
   none_chosen = ap is_barred_in (views s past log h)
 
+  named_past : (me tick : ℕ) → least_sought s sought.Named me tick past ≡ option_map rank_of (named s log)
+  named_past me tick =
+      least_same sought.Named me tick (λ rank. is_in_view log rank && is_candidate log rank) (λ rank below. ap₂ (λ a b. a && b) (in_view rank) (in_name rank))
+
   pub sought_chosen : (me tick : ℕ) → chosen_at s me tick past ≡ option_map rank_of (chosen s log)
   sought_chosen me tick =
       ap₂ (λ (b : Bool) o. if b then None else o) none_chosen (ap₂ option_or
-      (least_same sought.Named me tick (λ rank. is_in_view log rank && is_candidate log rank) (λ rank below. ap₂ (λ a b. a && b) (in_view rank) (in_name rank)))
+      (named_past me tick)
       (least_same sought.Member me tick (λ rank. is_in_view log rank) (λ rank below. in_view rank)))
-      ∙ ranks_of (is_none_chosen log) (least_rank s (λ rank. is_in_view log rank && is_candidate log rank)) (least_rank s (λ rank. is_in_view log rank))
+      ∙ ranks_of (is_none_chosen log) (named s log) (least_rank s (λ rank. is_in_view log rank))
+
+  other_named : (me : ℕ) (found : Option ℕ)
+      → option_map_or (λ (rank : Rank). not (rank.0 == me)) (option_map rank_of found) false ≡ option_map_or (λ rank. not (rank == me)) found false
+  other_named me None = refl
+  other_named me (Some rank) = refl
+
+  pub given_away : (me tick : ℕ) → is_given_away_at s me tick past ≡ is_given_away s me log
+  given_away me tick =
+      ap₂ (λ a b. a || b) none_chosen
+      (ap (λ found. option_map_or (λ (rank : Rank). not (rank.0 == me)) found false) (named_past me tick) ∙ other_named me (named s log))
 
   pub sought_holder : (me tick : ℕ) → least_sought s sought.Holder me tick past ≡ option_map rank_of (holder s me log)
   sought_holder me tick =

@@ -26,7 +26,7 @@ use Rattle.qn_plain.specs.Lack.{is_nothing, is_quorate_at, is_rank, lack_at}
 use Rattle.qn_plain.specs.Life.{stops_again}
 use Rattle.qn_plain.specs.Past.{is_in, is_shown}
 use Rattle.qn_plain.specs.Peer.{peer_at}
-use Rattle.qn_plain.specs.Sought.{chosen_at, least_sought}
+use Rattle.qn_plain.specs.Sought.{chosen_at, is_given_away_at, least_sought}
 
 -- the own mailbox is due
 abbrev pub is_mail_due_at : ℕ → Past → Bool
@@ -64,9 +64,9 @@ wanted_at s me tick past =
     else (if may_fence_at s me tick past then fencing_op_at s me tick past else None)))
 
 -- whether a Stop comes out
-abbrev pub gives_stop_at : Settings → ℕ → Past → Bool
-gives_stop_at s tick past =
-    past.life.holds && (is_leaving past.life.phase || not (is_quorate_at s tick past)) && stops_again past.life.stopping past.life.timing.loop_ms tick
+abbrev pub gives_stop_at : Settings → ℕ → ℕ → Past → Bool
+gives_stop_at s me tick past =
+    past.life.holds && (is_leaving past.life.phase || not (is_quorate_at s tick past) || is_given_away_at s me tick past) && stops_again past.life.stopping past.life.timing.loop_ms tick
 
 -- whether a Start comes out
 abbrev pub gives_start_at : Settings → ℕ → ℕ → Past → Bool
@@ -121,7 +121,7 @@ asks_at_entry s me past =
 -- what comes out of an entry while the node takes part
 abbrev pub acts_at : Settings → ℕ → ℕ → Past → What → Bool → List Out
 acts_at s me tick past entry fed =
-    when (gives_stop_at s tick past) out.Stop ++ when (gives_start_at s me tick past) out.Start ++ when fed out.Feed
+    when (gives_stop_at s me tick past) out.Stop ++ when (gives_start_at s me tick past) out.Start ++ when fed out.Feed
     ++ replies_to me (gives_start_at s me tick past || past.life.holds) past entry ++ asks_at_entry s me past ++ disk_outs (wanted_at s me tick past)
 
 abbrev pub live_outs_at : Settings → ℕ → ℕ → Past → What → Bool → Option Message → List Out

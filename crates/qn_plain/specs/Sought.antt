@@ -1,6 +1,6 @@
 -- Which rank is the least one that is sought, by what a history comes to.
-use Rattle.std.specs.Prelude.{ℕ, Bool, Option, None, ◌||◌, ◌&&◌, ◌==◌, not, if◌then◌else◌}
-use Rattle.std.specs.Option.{option_map, option_or}
+use Rattle.std.specs.Prelude.{ℕ, Bool, false, Option, None, ◌||◌, ◌&&◌, ◌==◌, not, if◌then◌else◌}
+use Rattle.std.specs.Option.{option_map, option_map_or, option_or}
 use Rattle.qn_base.specs.declared.ids.Rank.{Rank}
 use Rattle.qn_model.specs.declared.configuration.Settings.{Settings}
 use Rattle.qn_model.specs.Unmet.{least_rank}
@@ -33,3 +33,8 @@ least_sought s sought me tick past = option_map rank_of (least_rank s (is_sought
 abbrev pub chosen_at : Settings → ℕ → ℕ → Past → Option Rank
 chosen_at s me tick past =
     if is_barred_in past.votes.view then None else option_or (least_sought s Named me tick past) (least_sought s Member me tick past)
+
+-- whether the present view gives the resource away: it says that none of its members may start, or it names another one
+abbrev pub is_given_away_at : Settings → ℕ → ℕ → Past → Bool
+is_given_away_at s me tick past =
+    is_barred_in past.votes.view || option_map_or (λ rank. not (rank.0 == me)) (least_sought s Named me tick past) false

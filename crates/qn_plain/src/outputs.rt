@@ -141,7 +141,7 @@ impl Past {
         ensures { outs.new ≡ outs.old ++ acts_at settings.now me.0 tick self.now what feeds }
     {
         let starts = self.lack(settings, me, tick).is_nothing();
-        push_if(outs, self.gives_stop(settings, tick), Out::Stop);
+        push_if(outs, self.gives_stop(settings, me, tick), Out::Stop);
         push_if(outs, starts, Out::Start);
         push_if(outs, feeds, Out::Feed);
         self.push_reply(outs, me, starts || self.life.holds, what);
@@ -149,12 +149,15 @@ impl Past {
         push_op(outs, self.wanted(settings, me, tick));
     }
 
-    /// Whether a Stop is due: the node holds, it is leaving or not quorate, and no Stop is under way.
-    fn gives_stop(&self, settings: &Settings, tick: u64) -> bool
-        ensures { result ≡ gives_stop_at settings.now tick self.now }
+    /// Whether a Stop is due: the node holds, it is leaving, not quorate or its view gives the resource away, and
+    /// no Stop is under way.
+    fn gives_stop(&self, settings: &Settings, me: Rank, tick: u64) -> bool
+        ensures { result ≡ gives_stop_at settings.now me.0 tick self.now }
     {
         self.life.holds
-            && (is_leaving(self.life.phase) || !self.is_quorate(settings, tick))
+            && (is_leaving(self.life.phase)
+                || !self.is_quorate(settings, tick)
+                || self.is_given_away(settings, me, tick))
             && self.life.may_stop(tick)
     }
 

@@ -1,4 +1,7 @@
 //! The least rank that is a member, a holder, unheard, unfenced, or due for a read or a reset.
+ghost use Rattle.std.specs.Prelude.{◌≡◌, ◌==◌, not, false};
+ghost use Rattle.std.specs.Option.{option_map_or};
+
 use crate::past::Past;
 use qn_base::Rank;
 use qn_model::Settings;
@@ -24,7 +27,7 @@ pub enum Sought {
 
 impl Past {
     ghost use Rattle.std.specs.Prelude.{◌≡◌, ◌<◌, length, IfSome};
-    ghost use Rattle.qn_plain.specs.Sought.{chosen_at, is_sought, least_sought};
+    ghost use Rattle.qn_plain.specs.Sought.{chosen_at, is_given_away_at, is_sought, least_sought};
 
     /// Whether a rank is sought at a tick.
     fn is_sought(&self, sought: Sought, me: Rank, tick: u64, rank: Rank) -> bool
@@ -60,6 +63,14 @@ impl Past {
         }
     }
 
+    /// Whether the present view gives the resource away: it says that none of its members may start, or it names
+    /// another one.
+    pub fn is_given_away(&self, settings: &Settings, me: Rank, tick: u64) -> bool
+        ensures { result ≡ is_given_away_at settings.now me.0 tick self.now }
+    {
+        self.is_barred() || is_other(me, self.least(settings, Sought::Named, me, tick))
+    }
+
     /// The least configured rank that is sought at a tick.
     pub fn least(&self, settings: &Settings, sought: Sought, me: Rank, tick: u64) -> Option<Rank>
         ensures value { result ≡ least_sought settings.now sought me.0 tick self.now }
@@ -72,5 +83,15 @@ impl Past {
             }
         }
         None
+    }
+}
+
+/// Whether a rank is another node's, where there is one.
+fn is_other(me: Rank, found: Option<Rank>) -> bool
+    ensures { result ≡ option_map_or (λ rank. not (rank.0 == me.0)) found false }
+{
+    match found {
+        Some(rank) => rank.0 != me.0,
+        None => false,
     }
 }

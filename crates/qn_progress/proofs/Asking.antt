@@ -79,7 +79,7 @@ unfolding acts
 member_asked {s = s} {t = t} {me = me} {past = past} {tick = tick} {entry = entry} last present j quiet times asked late sees below inside other unheard =
     subst (λ outs. IsIn (ask_to me log present j) outs) (sym (outs_up s me past tick entry quiet.was_up (stays_up quiet)))
     (in_left (disk_outs (wanted_with_delay s me log))
-    (in_right (when (gives_stop s log) out.Stop ++ when (gives_start s me log) out.Start ++ when (mail_feeds tick past entry) out.Feed ++ replies s me (gives_start s me log || holds log) log entry)
+    (in_right (when (gives_stop s me log) out.Stop ++ when (gives_start s me log) out.Start ++ when (mail_feeds tick past entry) out.Feed ++ replies s me (gives_start s me log || holds log) log entry)
     (subst (λ b. IsIn (ask_to me log present j) (if b then option_map_or (asks_under s me log) (view log) [] else [])) (sym (asking_due last quiet times asked late))
     (subst (λ v. IsIn (ask_to me log present j) (option_map_or (asks_under s me log) v [])) (sym sees)
     (in_map (ask_to me log present) (in_filter (is_asked s me log) (is_asked_now (is_in_view log j) (j == me) (released s log) (is_free log j) inside (ne_eqb j me other) unheard)

@@ -101,9 +101,9 @@ five a b c d e rest na nb nc nd ne =
 pub acts_disk : (s : Settings) (me : ℕ) (log : List Line) (entry : What) (fed : Bool) → disk_of (acts s me log entry fed) ≡ wanted_with_delay s me log
 unfolding acts
 acts_disk s me log entry fed =
-    five (when (gives_stop s log) out.Stop) (when (gives_start s me log) out.Start) (when fed out.Feed)
+    five (when (gives_stop s me log) out.Stop) (when (gives_start s me log) out.Start) (when fed out.Feed)
     (replies s me (gives_start s me log || holds log) log entry) (asks s me log) (disk_outs (wanted_with_delay s me log))
-    (none_when (gives_stop s log) out.Stop refl) (none_when (gives_start s me log) out.Start refl) (none_when fed out.Feed refl)
+    (none_when (gives_stop s me log) out.Stop refl) (none_when (gives_start s me log) out.Start refl) (none_when fed out.Feed refl)
     (none_of_replies s me (gives_start s me log || holds log) log entry) (no_asks s me log)
     ∙ the_disk (wanted_with_delay s me log)
 
@@ -115,11 +115,11 @@ starts_second false true e = refl
 pub acts_start : (s : Settings) (me : ℕ) (log : List Line) (entry : What) (fed : Bool) → gives_start s me log ≡ true → has_start (acts s me log entry fed) ≡ true
 unfolding acts
 acts_start s me log entry fed e =
-    starts_front (when (gives_stop s log) out.Stop ++ when (gives_start s me log) out.Start ++ when fed out.Feed ++ replies s me (gives_start s me log || holds log) log entry ++ asks s me log) (disk_outs (wanted_with_delay s me log))
-    (starts_front (when (gives_stop s log) out.Stop ++ when (gives_start s me log) out.Start ++ when fed out.Feed ++ replies s me (gives_start s me log || holds log) log entry) (asks s me log)
-    (starts_front (when (gives_stop s log) out.Stop ++ when (gives_start s me log) out.Start ++ when fed out.Feed) (replies s me (gives_start s me log || holds log) log entry)
-    (starts_front (when (gives_stop s log) out.Stop ++ when (gives_start s me log) out.Start) (when fed out.Feed)
-    (starts_second (gives_stop s log) (gives_start s me log) e))))
+    starts_front (when (gives_stop s me log) out.Stop ++ when (gives_start s me log) out.Start ++ when fed out.Feed ++ replies s me (gives_start s me log || holds log) log entry ++ asks s me log) (disk_outs (wanted_with_delay s me log))
+    (starts_front (when (gives_stop s me log) out.Stop ++ when (gives_start s me log) out.Start ++ when fed out.Feed ++ replies s me (gives_start s me log || holds log) log entry) (asks s me log)
+    (starts_front (when (gives_stop s me log) out.Stop ++ when (gives_start s me log) out.Start ++ when fed out.Feed) (replies s me (gives_start s me log || holds log) log entry)
+    (starts_front (when (gives_stop s me log) out.Stop ++ when (gives_start s me log) out.Start) (when fed out.Feed)
+    (starts_second (gives_stop s me log) (gives_start s me log) e))))
 
 -- what comes out while the node was up and stays up
 pub outs_up : (s : Settings) (me : ℕ) (past : List Line) (tick : ℕ) (entry : What) → phase s past ≡ Up → phase s (with_read s me past tick entry) ≡ Up

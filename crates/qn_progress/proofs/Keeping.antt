@@ -1,5 +1,5 @@
 -- A member that holds, and stays quorate and up, goes on holding.
-use Rattle.std.proofs.Common.{◌≡◌, ℕ, Bool, true, false, List, [], ◌∷◌, ◌++◌, Option, Some, None, refl, sym, ap, ◌∙◌, subst, ◌&&◌, ◌||◌, not, if◌then◌else◌, filter, map, arith, ◌⊎◌, inl, inr}
+use Rattle.std.proofs.Common.{◌≡◌, ℕ, Bool, true, false, List, [], ◌∷◌, ◌++◌, Option, Some, None, refl, sym, ap, ap₂, ◌∙◌, subst, ◌&&◌, ◌||◌, not, if◌then◌else◌, filter, map, arith, ◌⊎◌, inl, inr}
 use Rattle.std.specs.Prelude.{length}
 use Rattle.std.specs.List.{range_with_len}
 use Rattle.std.specs.Option.{option_map_or}
@@ -20,12 +20,13 @@ use Rattle.qn_model.specs.Moments.{Before, Itself, Later, Moment, Running, is_ho
 use Rattle.qn_model.specs.NodeOutputs.{acts, ask_to, asks, asks_under, disk_outs, gives_start, gives_stop, is_asked, is_asking, mail_feeds, outs_at, replies, reply, taken_in, when, with_read}
 use Rattle.qn_model.specs.NodeVotes.{quorate_with_tie, view}
 use Rattle.qn_model.specs.Phases.{is_leaving, phase}
+use Rattle.qn_model.specs.Unmet.{is_given_away}
 use Rattle.qn_model.specs.Wanted.{wanted_with_delay}
 use Rattle.qn_safety.specs.Earlier.{before_length}
 use Rattle.qn_progress.specs.Hearing.{HasHeld}
-use Rattle.qn_progress.specs.Keeping.{AndThen, FromHere, IsQuorate, KeepsQuorum, QuorateSince}
+use Rattle.qn_progress.specs.Keeping.{AndThen, FromHere, MayKeep, KeepsOn, MayKeepSince}
 use Rattle.qn_progress.proofs.Given.{outs_up}
-use Rattle.qn_progress.proofs.Over.{Enters, Move, Rests, Restarts, move, not_booting, quorate_alike}
+use Rattle.qn_progress.proofs.Over.{Enters, Move, Rests, Restarts, move, not_booting, quorate_alike, given_alike}
 use Rattle.qn_progress.proofs.Steps.{outs_now}
 
 -- no Stop in two lists is none in both
@@ -83,14 +84,14 @@ none_on_disk None = refl
 none_on_disk (Some op) = refl
 
 -- a node that takes part gives a Stop only where it is due
-acts_stop : (s : Settings) (me : ℕ) (log : List Line) (entry : What) (fed : Bool) → gives_stop s log ≡ false → has_stop (acts s me log entry fed) ≡ false
+acts_stop : (s : Settings) (me : ℕ) (log : List Line) (entry : What) (fed : Bool) → gives_stop s me log ≡ false → has_stop (acts s me log entry fed) ≡ false
 unfolding acts
 acts_stop s me log entry fed e =
-    stops_neither (when (gives_stop s log) out.Stop ++ when (gives_start s me log) out.Start ++ when fed out.Feed ++ replies s me (gives_start s me log || holds log) log entry ++ asks s me log) (disk_outs (wanted_with_delay s me log))
-    (stops_neither (when (gives_stop s log) out.Stop ++ when (gives_start s me log) out.Start ++ when fed out.Feed ++ replies s me (gives_start s me log || holds log) log entry) (asks s me log)
-    (stops_neither (when (gives_stop s log) out.Stop ++ when (gives_start s me log) out.Start ++ when fed out.Feed) (replies s me (gives_start s me log || holds log) log entry)
-    (stops_neither (when (gives_stop s log) out.Stop ++ when (gives_start s me log) out.Start) (when fed out.Feed)
-    (stops_neither (when (gives_stop s log) out.Stop) (when (gives_start s me log) out.Start) (no_stop (gives_stop s log) e) (none_when (gives_start s me log) out.Start refl))
+    stops_neither (when (gives_stop s me log) out.Stop ++ when (gives_start s me log) out.Start ++ when fed out.Feed ++ replies s me (gives_start s me log || holds log) log entry ++ asks s me log) (disk_outs (wanted_with_delay s me log))
+    (stops_neither (when (gives_stop s me log) out.Stop ++ when (gives_start s me log) out.Start ++ when fed out.Feed ++ replies s me (gives_start s me log || holds log) log entry) (asks s me log)
+    (stops_neither (when (gives_stop s me log) out.Stop ++ when (gives_start s me log) out.Start ++ when fed out.Feed) (replies s me (gives_start s me log || holds log) log entry)
+    (stops_neither (when (gives_stop s me log) out.Stop ++ when (gives_start s me log) out.Start) (when fed out.Feed)
+    (stops_neither (when (gives_stop s me log) out.Stop) (when (gives_start s me log) out.Start) (no_stop (gives_stop s me log) e) (none_when (gives_start s me log) out.Start refl))
     (none_when fed out.Feed refl))
     (none_replied s me (gives_start s me log || holds log) log entry))
     (none_in_asks s me log))
@@ -116,30 +117,32 @@ no_answer s me past what.Tick fit calm = refl
 no_answer s me past what.Leave fit calm = refl
 no_answer s me past (what.Closed ok) fit calm = refl
 
--- no Stop comes of an entry of a node that is quorate and up
-quorate_stops : (s : Settings) (log : List Line) → phase s log ≡ Up → quorate_with_tie s log (now log) ≡ true → gives_stop s log ≡ false
-quorate_stops s log up quorate =
+-- no Stop comes of an entry of a node that is quorate and up, and whose view does not give its resource away
+quorate_stops : (s : Settings) (me : ℕ) (log : List Line) → phase s log ≡ Up → quorate_with_tie s log (now log) ≡ true → is_given_away s me log ≡ false
+    → gives_stop s me log ≡ false
+quorate_stops s me log up quorate kept =
     ap (λ b. b && may_stop (timing log).loop_ms (now log) log)
-    (and_right (holds log) (is_leaving (phase s log) || not (quorate_with_tie s log (now log)))
-    (ap (λ p. is_leaving p || not (quorate_with_tie s log (now log))) up ∙ ap not quorate))
+    (and_right (holds log) (is_leaving (phase s log) || not (quorate_with_tie s log (now log)) || is_given_away s me log)
+    (ap₂ (λ p q. is_leaving p || not q || is_given_away s me log) up quorate ∙ kept))
 
 outs_stop : (s : Settings) (me : ℕ) (past : List Line) (tick : ℕ) (entry : What) → phase s past ≡ Up → phase s (with_read s me past tick entry) ≡ Up
-    → quorate_with_tie s (with_read s me past tick entry) tick ≡ true → has_stop (outs_now s me past tick entry) ≡ false
+    → quorate_with_tie s (with_read s me past tick entry) tick ≡ true → is_given_away s me (with_read s me past tick entry) ≡ false
+    → has_stop (outs_now s me past tick entry) ≡ false
 unfolding phase
-outs_stop s me past tick entry was up quorate =
+outs_stop s me past tick entry was up quorate kept =
     ap has_stop (outs_up s me past tick entry was up)
     ∙ acts_stop s me (taken_in past tick entry) entry (mail_feeds tick past entry)
-    (quorate_stops s (taken_in past tick entry) up (quorate_alike s me past tick entry ∙ quorate))
+    (quorate_stops s me (taken_in past tick entry) up (quorate_alike s me past tick entry ∙ quorate) (given_alike s me past tick entry ∙ kept))
 
 keeps_calm : {s : Settings} {me : ℕ} {old new : Running} → Move s me old new → phase s old.log ≡ Up → phase s new.log ≡ Up
-    → quorate_with_tie s new.log (now new.log) ≡ true → stop_due old.log ≡ false → stop_due new.log ≡ false
+    → quorate_with_tie s new.log (now new.log) ≡ true → is_given_away s me new.log ≡ false → stop_due old.log ≡ false → stop_due new.log ≡ false
 unfolding stop_due
-keeps_calm (Rests log clock boots) was up quorate calm = ap stop_due log ∙ calm
-keeps_calm {s = s} {me = me} {old = old} (Enters entry fit log clock boots) was up quorate calm =
+keeps_calm (Rests log clock boots) was up quorate kept calm = ap stop_due log ∙ calm
+keeps_calm {s = s} {me = me} {old = old} (Enters entry fit log clock boots) was up quorate kept calm =
     ap stop_due log
-    ∙ ap (λ b. b || (stop_due old.log && not (answers_stop entry))) (outs_stop s me old.log (tick_of old.clock) entry was (sym (ap (phase s) log) ∙ up) (subst (λ l. quorate_with_tie s l (now l) ≡ true) log quorate))
+    ∙ ap (λ b. b || (stop_due old.log && not (answers_stop entry))) (outs_stop s me old.log (tick_of old.clock) entry was (sym (ap (phase s) log) ∙ up) (subst (λ l. quorate_with_tie s l (now l) ≡ true) log quorate) (subst (λ l. is_given_away s me l ≡ false) log kept))
     ∙ ap (λ b. b && not (answers_stop entry)) calm
-keeps_calm (Restarts line log tick begins) was up quorate calm = not_booting _ begins up
+keeps_calm (Restarts line log tick begins) was up quorate kept calm = not_booting _ begins up
 
 keeps_hold : {s : Settings} {me : ℕ} {old new : Running} → Move s me old new → phase s new.log ≡ Up → stop_due old.log ≡ false → holds old.log ≡ true → holds new.log ≡ true
 unfolding holds
@@ -150,17 +153,17 @@ keeps_hold {s = s} {me = me} {old = old} (Enters entry fit log clock boots) up c
     (ap (λ b. b && not (is_stopped entry)) held ∙ ap not (no_answer s me old.log entry fit calm))
 keeps_hold (Restarts line log tick begins) up calm held = not_booting _ begins up
 
-quorate_last : {s : Settings} {rank : ℕ} {old new : List Moment} → QuorateSince s rank old new → IsQuorate s rank new
-quorate_last (FromHere is) = is
-quorate_last (AndThen before is) = is
+kept_last : {s : Settings} {rank : ℕ} {old new : List Moment} → MayKeepSince s rank old new → MayKeep s rank new
+kept_last (FromHere is) = is
+kept_last (AndThen before is) = is
 
-calm_since : {s : Settings} {rank : ℕ} {old new : List Moment} → stop_due (node s rank old).log ≡ false → QuorateSince s rank old new → stop_due (node s rank new).log ≡ false
+calm_since : {s : Settings} {rank : ℕ} {old new : List Moment} → stop_due (node s rank old).log ≡ false → MayKeepSince s rank old new → stop_due (node s rank new).log ≡ false
 calm_since calm (FromHere is) = calm
 calm_since {s = s} {rank = rank} calm (AndThen {moment = moment} {earlier = earlier} before is) =
-    keeps_calm (move s rank moment earlier) (quorate_last before).up is.up is.quorate (calm_since calm before)
+    keeps_calm (move s rank moment earlier) (kept_last before).up is.up is.quorate is.kept (calm_since calm before)
 
 -- a moment at which it held, between the two
-held_since : {s : Settings} {rank : ℕ} {old at new : List Moment} → stop_due (node s rank old).log ≡ false → QuorateSince s rank old new → Before old at → Before at new
+held_since : {s : Settings} {rank : ℕ} {old at new : List Moment} → stop_due (node s rank old).log ≡ false → MayKeepSince s rank old new → Before old at → Before at new
     → holds (node s rank at).log ≡ true → holds (node s rank new).log ≡ true
 held_since calm (FromHere is) after Itself held = held
 held_since calm (FromHere is) after (Later moment back) held = absurd (let one = before_length after in let two = before_length back in omega arith)
@@ -168,9 +171,9 @@ held_since calm (AndThen before is) after Itself held = held
 held_since {s = s} {rank = rank} calm (AndThen {moment = moment} {earlier = earlier} before is) after (Later newest back) held =
     keeps_hold (move s rank moment earlier) is.up (calm_since calm before) (held_since calm before after back held)
 
-pub holder_holds : {s : Settings} {rank : ℕ} {old new : List Moment} → KeepsQuorum s rank old new → HasHeld s rank old new → is_holder s new rank ≡ true
+pub holder_holds : {s : Settings} {rank : ℕ} {old new : List Moment} → KeepsOn s rank old new → HasHeld s rank old new → is_holder s new rank ≡ true
 holder_holds {s = s} {rank = rank} {old = old} {new = new} keeps held =
-    and_from (node s rank new).on (holds (node s rank new).log) (quorate_last keeps.since).on
+    and_from (node s rank new).on (holds (node s rank new).log) (kept_last keeps.since).on
     (held_since keeps.calm keeps.since held.after held.back (and_parts (node s rank held.at).on (holds (node s rank held.at).log) held.holds).1)
 
 -- some node holds: this one, or one that goes on

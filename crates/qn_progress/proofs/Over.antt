@@ -20,7 +20,7 @@ use Rattle.qn_model.specs.Phases.{phase, is_booting}
 use Rattle.qn_model.specs.Holding.{holds}
 use Rattle.qn_model.specs.Fitting.{fits, read_as, is_cleared}
 use Rattle.qn_model.specs.Licences.{out_time, reset_since, writes_reset}
-use Rattle.qn_model.specs.Unmet.{is_chosen}
+use Rattle.qn_model.specs.Unmet.{is_chosen, is_given_away}
 use Rattle.qn_model.specs.Wanted.{fence_delay}
 use Rattle.qn_model.specs.NodeOutputs.{moment, taken_in, with_read, with_entry}
 use Rattle.qn_model.specs.Moments.{Moment, Passes, Boots, Adds, Feeds, Ends, Running, tick_of, advance_of, logged, handed, booted, time, node, is_holder, Before, Itself, Later}
@@ -173,6 +173,10 @@ view_alike s me past tick entry = refl
 chosen_alike : (s : Settings) (me : ℕ) (past : List Line) (tick : ℕ) (entry : What) → is_chosen s me (taken_in past tick entry) ≡ is_chosen s me (with_read s me past tick entry)
 unfolding view
 chosen_alike s me past tick entry = refl
+
+pub given_alike : (s : Settings) (me : ℕ) (past : List Line) (tick : ℕ) (entry : What) → is_given_away s me (taken_in past tick entry) ≡ is_given_away s me (with_read s me past tick entry)
+unfolding view
+given_alike s me past tick entry = refl
 
 pub quorate_alike : (s : Settings) (me : ℕ) (past : List Line) (tick : ℕ) (entry : What) → quorate_with_tie s (taken_in past tick entry) tick ≡ quorate_with_tie s (with_read s me past tick entry) tick
 quorate_alike s me past tick entry = ap (λ v. Rattle.qn_model.specs.Tie.is_quorate_with_tie s v tick) (votes_alike s me past tick entry)

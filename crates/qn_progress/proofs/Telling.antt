@@ -46,7 +46,7 @@ unfolding acts
 member_tells s me past tick ask was stays sees member =
     subst (λ outs. IsIn (tell_to s me (taken_in past tick (what.Ask ask)) ask) outs) (sym (outs_up s me past tick (what.Ask ask) was stays))
     (in_left (disk_outs (wanted_with_delay s me (taken_in past tick (what.Ask ask)))) (in_left (asks s me (taken_in past tick (what.Ask ask)))
-    (in_right (when (gives_stop s (taken_in past tick (what.Ask ask))) out.Stop ++ when (gives_start s me (taken_in past tick (what.Ask ask))) out.Start ++ when (mail_feeds tick past (what.Ask ask)) out.Feed)
+    (in_right (when (gives_stop s me (taken_in past tick (what.Ask ask))) out.Stop ++ when (gives_start s me (taken_in past tick (what.Ask ask))) out.Start ++ when (mail_feeds tick past (what.Ask ask)) out.Feed)
     (here (is_present (taken_in past tick (what.Ask ask)) ask.view) (is_member ask.view.members ask.from.0) (tell_to s me (taken_in past tick (what.Ask ask)) ask) sees member))))
   where
     here : (a b : Bool) (o : Out) → a ≡ true → b ≡ true → IsIn o (when (a && b) o)

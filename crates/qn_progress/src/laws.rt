@@ -17,7 +17,7 @@ ghost use Rattle.qn_safety.specs.declared.arbiter_event.ArbiterEvent.{ArbiterEve
 ghost use Rattle.qn_safety.specs.declared.lease.Lease.{Lease};
 ghost use Rattle.qn_safety.specs.ArbiterSteps.{AllAllowedBeside, run_beside};
 ghost use Rattle.qn_progress.specs.Hearing.{HasHeld, HearsQuietly, StaysHeard};
-ghost use Rattle.qn_progress.specs.Keeping.{KeepsQuorum};
+ghost use Rattle.qn_progress.specs.Keeping.{KeepsOn};
 ghost use Rattle.qn_progress.specs.Majority.{IsMajority};
 ghost use Rattle.qn_progress.specs.Pace.{Pace, outside, take_over_ticks};
 ghost use Rattle.qn_progress.specs.Premises.{HearsAndTakesOver, TakesOver};
@@ -120,23 +120,23 @@ pub fn law_members_are_heard()
     law_up_nodes();
 }
 
-/// A member that held at some moment goes on holding while it runs, is up and is quorate, where no Stop of it was unanswered when
-/// that began. Its view, its rank, its disk and its pace do not matter.
+/// A member that held at some moment goes on holding while it runs, is up and is quorate, and its view neither names another member
+/// nor bars all, where no Stop of it was unanswered when that began. Its rank, its disk and its pace do not matter.
 pub fn law_holder_holds()
     ensures { (s : Settings) (rank : ℕ) (old new : List Moment)
-        → KeepsQuorum s rank old new
+        → KeepsOn s rank old new
         → HasHeld s rank old new
         → IsTrue (is_holder s new rank) }
 {}
 
-/// So in a quiet world in which packets arrive in time, and who held meanwhile keeps its quorum, some node holds after a bounded
+/// So in a quiet world in which packets arrive in time, and who held meanwhile keeps its quorum and its name, some node holds after a bounded
 /// time: the chosen member of the view, or one that held before.
 pub fn law_some_node_holds()
     ensures { (s : Settings) (t : Timing) (pace : Pace) (rank post : ℕ) (present : View) (old mid new : List Moment)
         → IsTimedRun s t new
         → StaysHeard s t rank pace post present old mid new
         → HasTakenTicks s t rank pace old mid new
-        → ((other : ℕ) → HasHeld s other old mid → KeepsQuorum s other old new)
+        → ((other : ℕ) → HasHeld s other old mid → KeepsOn s other old new)
         → (holder : ℕ) × IsTrue (is_holder s new holder) }
 {
     law_boots();

@@ -81,9 +81,9 @@ module _ (s : Settings) (me : ℕ) (past : List Line) (tick : ℕ) (log : List L
       last_after (calls ++ replies s me held log entry ++ asks s me log) (wanted_with_delay s me log)
       (none_joined (calls ++ replies s me held log entry) (asks s me log)
       (none_joined calls (replies s me held log entry)
-      (none_joined (when (gives_stop s log) out.Stop ++ when (gives_start s me log) out.Start) (when fed out.Feed)
-      (none_joined (when (gives_stop s log) out.Stop) (when (gives_start s me log) out.Start)
-      (none_when (gives_stop s log) out.Stop refl) (none_when (gives_start s me log) out.Start refl))
+      (none_joined (when (gives_stop s me log) out.Stop ++ when (gives_start s me log) out.Start) (when fed out.Feed)
+      (none_joined (when (gives_stop s me log) out.Stop) (when (gives_start s me log) out.Start)
+      (none_when (gives_stop s me log) out.Stop refl) (none_when (gives_start s me log) out.Start refl))
       (none_when fed out.Feed refl))
       (replies_none held entry))
       (asks_none (is_asking s log) (view log)))
@@ -92,7 +92,7 @@ module _ (s : Settings) (me : ℕ) (past : List Line) (tick : ℕ) (log : List L
       held = gives_start s me log || holds log
 
       calls : List Out
-      calls = when (gives_stop s log) out.Stop ++ when (gives_start s me log) out.Start ++ when fed out.Feed
+      calls = when (gives_stop s me log) out.Stop ++ when (gives_start s me log) out.Start ++ when fed out.Feed
 
   live_last : (entry : What) (fed : Bool) (found : Option Message) → is_disk_last (live_outs s me log entry fed found) ≡ true
   live_last entry fed (Some message) = refl

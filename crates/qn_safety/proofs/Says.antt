@@ -242,7 +242,7 @@ module _ (s : Settings) (me : ℕ) (past : List Line) (tick : ℕ) (entry : What
       (both_say _ _
       (both_say _ _
       (both_say _ _
-      (both_say _ _ (when_says (gives_stop s log) out.Stop (λ e. tt)) (when_says (gives_start s me log) out.Start (λ e. record { live = live; clear = e })))
+      (both_say _ _ (when_says (gives_stop s me log) out.Stop (λ e. tt)) (when_says (gives_start s me log) out.Start (λ e. record { live = live; clear = e })))
       (when_says (mail_feeds tick past entry) out.Feed (λ e. inr e)))
       (replies_say entry live refl))
       (asks_say (is_asking s log) live))

@@ -1,5 +1,5 @@
 //! The outputs of a node that takes part, in the order of the definition.
-ghost use Rattle.std.specs.Prelude.{◌≡◌, ◌≤◌, ◌<◌, ◌+◌, ◌∷◌, ◌++◌, ℕ, List, None, Some, length, nat_le, true, false, ◌&&◌, ◌||◌, [], not, if◌then◌else◌};
+ghost use Rattle.std.specs.Prelude.{◌≡◌, ◌≤◌, ◌<◌, ◌+◌, ◌∷◌, ◌++◌, ℕ, List, None, Some, length, nat_le, true, false, ◌&&◌, ◌||◌, ◌==◌, [], not, if◌then◌else◌};
 ghost use Rattle.std.specs.Option.{option_map, option_map_or, option_or};
 ghost use Rattle.qn_base.specs.Members.{is_member};
 ghost use Rattle.qn_model.specs.declared.configuration.Settings.{Settings};
@@ -8,9 +8,9 @@ ghost use Rattle.qn_model.specs.Log.{Line, claim_of, disk_of, now, times_of};
 ghost use Rattle.qn_fence.specs.Fence.{FenceFor, IsOutside, is_boot_end};
 ghost use Rattle.qn_watch.specs.Watch.{WatchFor};
 ghost use Rattle.qn_model.specs.NodeOutputs.{acts, ask_to, asks, gives_start, gives_stop, is_asked, is_asking, replies, taken_in};
-ghost use Rattle.qn_model.specs.NodeVotes.{answer_with_tie, quorate_with_tie, released as is_released, view, votes};
+ghost use Rattle.qn_model.specs.NodeVotes.{answer_with_tie, is_in_view, quorate_with_tie, released as is_released, view, votes};
 ghost use Rattle.qn_model.specs.Phases.{phase};
-ghost use Rattle.qn_model.specs.Unmet.{chosen, is_chosen, is_clear, lacks_of_others, unmet};
+ghost use Rattle.qn_model.specs.Unmet.{chosen, is_chosen, is_clear, is_given_away, is_none_chosen, lacks_of_others, least_rank, named, unmet};
 ghost use Rattle.qn_model.specs.Votes.{view_tick};
 ghost use Rattle.qn_model.specs.Wanted.{asks_mail, fence_delay, fencing_op_with_delay, may_fence, wanted_with_delay};
 ghost use Rattle.qn_heard.specs.Heard.{HeardBefore, HeardFor, installs_of};
@@ -60,7 +60,7 @@ impl Live {
         law_outside();
         let answer = tally.answer(own, tick);
         let asked = self.asks(tick, answer.released);
-        let stops = self.gives_stop(tick, answer);
+        let stops = self.gives_stop(own, tick, answer);
         let starts = self.gives_start(own, tick, answer);
         let holds = self.will_hold(starts);
         let op = self.wanted(own, tick, answer, tally.view_tick());
@@ -98,16 +98,17 @@ impl Live {
         }
     }
 
-    /// Whether a Stop is to be given: the node holds, it is leaving or not quorate, and no Stop is under way.
-    fn gives_stop(&self, tick: u64, answer: Answer) -> bool
-        ensures { (s : Settings) (me : ℕ) (log : List Line)
-            → LiveFor self.now s me log
+    /// Whether a Stop is to be given: the node holds, it is leaving, not quorate or its view gives the resource
+    /// away, and no Stop is under way.
+    fn gives_stop(&self, own: &Own, tick: u64, answer: Answer) -> bool
+        ensures { (log : List Line)
+            → LiveFor self.now own.now.settings own.now.me.0 log
             → now log ≡ tick
-            → answer.quorate ≡ quorate_with_tie s log tick
-            → result ≡ gives_stop s log }
+            → answer.quorate ≡ quorate_with_tie own.now.settings log tick
+            → result ≡ gives_stop own.now.settings own.now.me.0 log }
     {
         self.resource.is_held()
-            && (self.leaving || !answer.quorate)
+            && (self.leaving || !answer.quorate || self.is_given_away(own))
             && self.resource.may_give_stop(self.loop_ms, tick)
     }
 
@@ -210,10 +211,69 @@ impl Live {
             → LiveFor self.now own.now.settings own.now.me.0 log
             → option_map (λ rank. rank.0) result ≡ chosen own.now.settings log }
     {
+        if self.is_barred() {
+            None
+        } else {
+            self.named(own).or(self.least(own))
+        }
+    }
+
+    /// Whether the present view says that none of its members may start.
+    fn is_barred(&self) -> bool
+        ensures { (s : Settings) (me : ℕ) (log : List Line)
+            → LiveFor self.now s me log
+            → result ≡ is_none_chosen log }
+    {
         match self.heard.view() {
-            Some(view) if view.is_barred() => None,
-            Some(view) => view.named(own.count()).or(view.members.first(own.count())),
+            Some(view) => view.is_barred(),
+            None => false,
+        }
+    }
+
+    /// The member that the present view names.
+    fn named(&self, own: &Own) -> Option<Rank>
+        ensures { (log : List Line)
+            → LiveFor self.now own.now.settings own.now.me.0 log
+            → option_map (λ rank. rank.0) result ≡ named own.now.settings log }
+    {
+        match self.heard.view() {
+            Some(view) => view.named(own.count()),
             None => None,
+        }
+    }
+
+    /// The least member of the present view.
+    fn least(&self, own: &Own) -> Option<Rank>
+        ensures { (log : List Line)
+            → LiveFor self.now own.now.settings own.now.me.0 log
+            → option_map (λ rank. rank.0) result
+            ≡ least_rank own.now.settings (λ rank. is_in_view log rank) }
+    {
+        match self.heard.view() {
+            Some(view) => view.members.first(own.count()),
+            None => None,
+        }
+    }
+
+    /// Whether the present view gives the resource away: it says that none of its members may start, or it names
+    /// another one.
+    fn is_given_away(&self, own: &Own) -> bool
+        ensures { (log : List Line)
+            → LiveFor self.now own.now.settings own.now.me.0 log
+            → result ≡ is_given_away own.now.settings own.now.me.0 log }
+    {
+        self.is_barred() || self.names_other(own)
+    }
+
+    /// Whether the present view names another member.
+    fn names_other(&self, own: &Own) -> bool
+        ensures { (log : List Line)
+            → LiveFor self.now own.now.settings own.now.me.0 log
+            → result ≡ option_map_or (λ rank. not (rank == own.now.me.0)) (named own.now.settings log) false }
+    {
+        match self.named(own) {
+            Some(rank) => rank.0 != own.me.0,
+            None => false,
         }
     }
 
