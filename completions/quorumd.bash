@@ -49,10 +49,14 @@ _quorumd_takes() {
         options=(--port/none/--port --turns/none/--turns)
         ;;
     quorumctl)
-        commands=(settings timing check list wait status history group)
+        commands=(settings timing watchdog check list wait status history group)
         ;;
     'quorumctl timing')
         options=(--watchdog/none/--watchdog --loop/none/--loop --read-limit/none/--read-limit --feed-delay/none/--feed-delay --disk/none/--disk)
+        ;;
+    'quorumctl watchdog')
+        operands=(file)
+        options=(--watchdog/none/--watchdog --sys/folder/--sys)
         ;;
     'quorumctl check')
         options=(--image/image/--image --json//--json)

@@ -37,9 +37,12 @@ function __quorumd_takes
         case 'quorumd arbiter'
             set -g __quorumd_options --port/none/--port/1024..65000 --turns/none/--turns/1..9223372036854775808
         case quorumctl
-            set -g __quorumd_commands 'settings	what is read of a corosync.conf, and what of it is risky or wrong' 'timing	the least safe msgwait for these times, and how long a take-over takes on which disk' 'check	what is wrong with an image, and whether it fits a corosync.conf' 'list	the nodes of an image, with their messages' 'wait	returns when the message to a node was read, or msgwait has passed' 'status	what the status files of the nodes of this host come to' 'history	what the journals of the nodes tell, in the order of time' 'group	what is to be done to the resources of a host, event by event, for its supervisor'
+            set -g __quorumd_commands 'settings	what is read of a corosync.conf, and what of it is risky or wrong' 'timing	the least safe msgwait for these times, and how long a take-over takes on which disk' 'watchdog	what the kernel says of a watchdog, and whether a node may arm it' 'check	what is wrong with an image, and whether it fits a corosync.conf' 'list	the nodes of an image, with their messages' 'wait	returns when the message to a node was read, or msgwait has passed' 'status	what the status files of the nodes of this host come to' 'history	what the journals of the nodes tell, in the order of time' 'group	what is to be done to the resources of a host, event by event, for its supervisor'
         case 'quorumctl timing'
             set -g __quorumd_options --watchdog/none/--watchdog/1..3600000 --loop/none/--loop/1..3600000 --read-limit/none/--read-limit/1..3600000 --feed-delay/none/--feed-delay/1..3600000 --disk/none/--disk/1..3600000
+        case 'quorumctl watchdog'
+            set -g __quorumd_operands file
+            set -g __quorumd_options --watchdog/none/--watchdog/1..3600000 --sys/folder/--sys/FOLDER
         case 'quorumctl check'
             set -g __quorumd_options --image/image/--image/PATH --json//--json/
         case 'quorumctl list'

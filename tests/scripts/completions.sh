@@ -169,7 +169,7 @@ quorumd --status files/other status --;> --form
 quorumd audit --images ;> 1 3
 quorumd message --kind off --;> --image --id
 quorumd dump --image files/di;> disk disk.old
-quorumctl ;> settings timing check list wait status history group
+quorumctl ;> settings timing watchdog check list wait status history group
 quorumctl status --json --;> --image
 quorumctl status files/;> disk disk.old folder other
 quorumd-setup files/other --key files/other --;> --image --arbiter --id --watchdog --port --create

@@ -86,38 +86,34 @@ for cause in 1 4 5; do
 done
 rm state/halted-2
 
-# device TIMEOUT NOWAYOUT OPTIONS: the files of a watchdog device, which is /dev/null
+# device SECONDS NOWAYOUT OPTIONS: what the kernel says of a watchdog, which is /dev/null
+null=sysfs/dev/char/1:3
 device() {
-    mkdir -p sysfs/class/watchdog/null
-    echo Made > sysfs/class/watchdog/null/identity
-    echo "$1" > sysfs/class/watchdog/null/timeout
-    echo "$2" > sysfs/class/watchdog/null/nowayout
-    rm -f sysfs/class/watchdog/null/options
-    [ -z "$3" ] || echo "$3" > sysfs/class/watchdog/null/options
+    mkdir -p $null
+    echo Made > $null/identity
+    echo "$1" > $null/timeout
+    echo "$2" > $null/nowayout
+    echo "$3" > $null/options
 }
 real=WATCHDOG_IS_NO_DEVICE=no
-checked 1 "$no $PWD/d is no watchdog device" $real WATCHDOG="$PWD/d"
-checked 1 "$no $PWD/sysfs/class/watchdog/null/timeout cannot be read" $real
-late='set the time as an option of its module'
+checked 1 "$no $PWD/d: a file or a pipe: it resets nothing" $real WATCHDOG="$PWD/d"
+checked 1 "$no $PWD/absent: it cannot be looked at" $real WATCHDOG="$PWD/absent"
+checked 1 "$no /dev/null: its time cannot be read: perhaps it is no watchdog, and resets nothing" $real
 device 6 0 0x8180
-checked 1 "$no /dev/null (Made) resets the host after 6000 ms, and the image says 5000: $late" $real
-device 0 0 0x8180
-checked 1 "$no /dev/null (Made) resets the host after 0 ms, and the image says 5000: $late" $real
+checked 1 "$no /dev/null: driver Made, time 6 s, nowayout 0: its time is 6 s, the image says 5000 ms" $real
 device 5 0 0x8180
 checked 0 '' $real
 checked 1 "$no RuntimeWatchdogSec= of systemd feeds the watchdog too" $real RUNTIME=30000000
-device 5 0 ''
-checked 0 '' $real
 device 5 0 0x8080
-checked 1 "$no /dev/null has no magic close (options 0x8080): it stops where the program is killed" $real
+checked 1 "$no /dev/null: driver Made, time 5 s, nowayout 0: it has no magic close: it stops where the program is killed" $real
 device 5 1 0x8080
-checked 0 'node 2: /dev/null has nowayout=1: also after a node that left, it resets the host' $real
+checked 0 'node 2: /dev/null: driver Made, time 5 s, nowayout 1: nowayout is 1: also after a node that left, it resets the machine' $real
 
 # a software watchdog goes by a clock that a time daemon may slew by more than one per cent
 device 5 0 0x8180
 slew="write 'maxslewrate 10000' into its configuration"
 checked 0 '' $real CHRONY=yes
-echo 'Software Watchdog' > sysfs/class/watchdog/null/identity
+echo 'Software Watchdog' > $null/identity
 checked 0 'node 2: /dev/null is a software watchdog: it ends with the kernel' $real
 checked 0 'node 2: /dev/null is a software watchdog: it ends with the kernel' $real CHRONY=yes 'SLEW= maxslewrate  500'
 checked 0 'node 2: /dev/null is a software watchdog: it ends with the kernel' $real CHRONY=yes 'SLEW=maxslewrate 10000'

@@ -5,13 +5,13 @@ version=$(sed -n 's/^\.Os quorumd //p' "$TOP/man/quorumctl.8")
 same "$("$QUORUMCTL" --version)" "quorumctl $version"
 "$QUORUMCTL" --help > text
 "$QUORUMCTL" -h | cmp text -
-same "$(sed -n 's/^quorumctl \([a-z]*\).*/\1/p' text | xargs)" 'settings timing check list wait status history group'
+same "$(sed -n 's/^quorumctl \([a-z]*\).*/\1/p' text | xargs)" 'settings timing watchdog check list wait status history group'
 
 # the options of each command, as the manual page has them
 options() {
     grep -o -- '--[a-z-]*' | sort | tr '\n' ' '
 }
-for command in settings timing check list wait status history group; do
+for command in settings timing watchdog check list wait status history group; do
     page=$(awk -v wanted="$command" '/^\.Sh/ { inside = $2 == "SYNOPSIS" } inside && $1 == ".Cm" { found = $2 == wanted } inside && /^\.Fl -help/ { found = 0 } inside && found' "$TOP/man/quorumctl.8")
     same "$command $(sed -n "s/^quorumctl $command\( .*\)*\$/\1/p" text | options)" \
         "$command $(printf '%s\n' "$page" | sed -n 's/.*Fl \(-[a-z-]*\).*/-\1/p' | options)"
@@ -64,12 +64,13 @@ offers() {
     shift
     same "$*: $(bash offers.bash "$TOP/completions/quorumd.bash" "$@" | xargs)" "$*: $wanted"
 }
-offers 'settings timing check list wait status history group' ''
+offers 'settings timing watchdog check list wait status history group' ''
 offers 'settings status' s
 offers '--image --json' check ''
 offers '--json' list --image disk ''
 offers '--id' wait --image disk --
 offers '--watchdog --read-limit --feed-delay --disk' timing --loop 5 ''
+offers '--watchdog --sys' watchdog /dev/null ''
 offers '--json --prometheus --watch --image' status -
 offers '--image' status --json file -
 offers '--json --prometheus --watch' status --image disk --

@@ -1,4 +1,4 @@
-"""What a node makes of what /sys says of a watchdog, in rows: its time, nowayout and magic close. The files of /sys are made, in a name space of mounts of its own;
+"""What a node and quorumctl make of what /sys says of a watchdog, in rows: its time, nowayout and magic close. The files of /sys are made, in a name space of mounts of its own;
 the device is /dev/null, or one that is refused before it is opened, so nothing is armed."""
 import os
 import pathlib
@@ -22,6 +22,8 @@ ROWS = [
     (("1\n", "0\n", "0x8180\n"), None, False),
     (("5\n", None, None), None, False),
     (("5\n", "0\n", "0x100\n"), None, False),
+    (("5\n", "0\n", "0x8b80\n"), None, False),
+    (("5\n", "0\n", "0xf00\n"), None, False),
     (("6\n", "0\n", "0x8180\n"), TIME % 6, True),
     (("30\n", "0\n", "0x8180\n"), TIME % 30, True),
     (("5000\n", "0\n", "0x8180\n"), TIME % 5000, True),
@@ -39,7 +41,11 @@ ROWS = [
     (("5\n", "0\n", "0x8080\n"), NO_MAGIC, True),
     (("5\n", None, "0x8080\n"), NO_MAGIC, True),
     (("5\n", "0\n", "0x0\n"), NO_MAGIC, True),
+    (("5\n", "0\n", "0x8280\n"), NO_MAGIC, True),
+    (("5\n", "0\n", "0x81"), NO_MAGIC, True),
     (("5\n", "0\n", "8180\n"), NO_MAGIC, True),
+    (("5 \n", "0\n", "0x8180\n"), UNREAD, True),
+    (("0x5\n", "0\n", "0x8180\n"), UNREAD, True),
     (("5\n", "0\n", "\n"), NO_MAGIC, True),
 ]
 
@@ -64,6 +70,13 @@ def run(cluster, before, device):
     return done.returncode, done.stdout, said
 
 
+def told(files, line, is_refused):
+    """What quorumctl says of the device, which it does not open."""
+    done = subprocess.run([os.environ["QUORUMCTL"], "watchdog", "/dev/null", "--watchdog", "5000"], capture_output=True, text=True, check=False)
+    device = "" if line == UNREAD else "driver -, time %s s, nowayout %d: " % (files[0].strip(), files[1] == "1\n")
+    same("%r told" % (files,), (done.returncode, done.stdout, done.stderr), (int(is_refused), device + (line or "good") + "\n", ""))
+
+
 def without_time(files, line):
     """What is said where the time is judged beside none."""
     if line is None or "its time is" not in line:
@@ -76,6 +89,7 @@ def rows():
     (cluster.folder / "resource").touch()
     for files, line, is_refused in ROWS:
         said_of(pathlib.Path("/sys/dev/char/1:3"), files)
+        told(files, line, is_refused)
         wanted = [] if line is None else ["/dev/null: " + line]
         ends = (8, "fault EnvFault\n") if is_refused else (0, "left clean\n")
         same("%r with a word" % (files,), run(cluster, ["--open"], "/dev/null"), (*ends, wanted))

@@ -4,13 +4,13 @@ use Rattle.std.specs.Io.KnownBytes.{prepend_known, append_known}
 use Rattle.qn_base.specs.Rising.{HasRisen-within}
 use Rattle.qn_io.specs.declared.buffered.TheConstants.{PIECE}
 use Rattle.qn_io.specs.Writes.{AppendsFront}
-use Rattle.qn_io.specs.Outside.{append_known-append, append_known-nil, prepend_known-append, prepend_known-nil}
+use Rattle.qn_io.specs.Outside.{append_known-append, prepend_known-append, prepend_known-nil}
 use Rattle.qn_model.specs.Lines.{Ended, ReadFailed, Outcome, after}
 use Rattle.qn_model.specs.CountText.{count_of, nothing_counted}
 use Rattle.qn_commands.specs.CountTurns.{Coming, Counting, Ends, GoesOn, HasCounted, bytes_of, count_rest}
 use Rattle.qn_commands.specs.Reads.{Anyway, AtEnd, AtFailure, BeginsWith, EndsAs, IsNeeded, IsOpen, LastDecides, Runs, StillOpen, Tells, WroteAll, WroteFront}
 use Rattle.qn_commands.specs.Seen.{Input, Output, Outside, WriteFails, seen}
-use Rattle.qn_commands.proofs.GivenOut.{front_then, gives_later, gives_then}
+use Rattle.qn_playback.specs.Writing.{GivesOut, gives_later, gives_then, prefix_then}
 
 -- nothing was read, and nothing was given out
 pub counted_none : (next : Coming) (later : Counting) → later.counted ≡ nothing_counted → next.pieces ≡ [] → later.unwritten ≡ []
@@ -20,7 +20,7 @@ counted_none next later new none empty = record {
   text = [];
   takes = sym (prepend_known-nil next.input.left) ∙ ap (prepend_known []) (sym (ap (λ p. prepend_known p next.input.left) none ∙ prepend_known-nil next.input.left));
   rest = λ ending further. ap (λ s. after [] (count_rest s ending further)) (sym new);
-  gives = gives_later later.output.written later.output.written later.unwritten [] empty (sym (append_known-nil later.output.written));
+  gives = subst (λ (w : List ℕ). GivesOut later.output.written later.output.written w []) (sym empty) (gives_later later.output.written []);
 }
 
 after_after : (first second : List ℕ) (o : Outcome) → after first (after second o) ≡ after (first ++ second) o
@@ -37,7 +37,7 @@ module _ {left written : Option (List ℕ)} {next : Coming} {before : Counting} 
     rest = λ ending further.
         ap (count_of ending) (append_assoc run.taken turn.taken further) ∙ run.rest ending (turn.taken ++ further)
         ∙ ap (after run.text) (turn.rest ending further) ∙ after_after run.text turn.text (count_rest later.counted ending further);
-    gives = gives_then written before.output.written later.output.written before.unwritten later.unwritten run.text turn.text run.gives turn.gives;
+    gives = gives_then run.gives turn.text turn.gives;
   }
 
   -- what the last turn tells, told of the whole run
@@ -67,7 +67,7 @@ module _ {left written : Option (List ℕ)} {next : Coming} {before : Counting} 
       (λ o begins. (begins.0, ap (λ x. run.text ++ x) begins.1 ∙ sym (append_assoc run.text text begins.0))) widen tells)
       is (widen_write fails)
       (subst (λ known. AppendsFront known output.written (run.text ++ text)) (sym begun)
-      (front_then written before.output.written output.written before.unwritten run.text text run.gives front))
+      (prefix_then run.gives text front))
 
   -- the bytes of the last turn that its end needs, as those of the whole run
   open_whole : (prefix : List ℕ) → IsOpen (count_rest before.counted) prefix → IsOpen count_of (run.taken ++ prefix)

@@ -2,7 +2,6 @@ mod CountEnds
 mod CountLines
 mod Counted
 mod Creating
-mod GivenOut
 mod ImageEnds
 mod Listing
 mod ReadTexts

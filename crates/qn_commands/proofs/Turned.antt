@@ -19,9 +19,8 @@ use Rattle.qn_commands.specs.Endings.{Answers, Cut, Whole}
 use Rattle.qn_commands.specs.Reads.{Anyway, AtEnd, AtFailure, BeginsWith, EndsAs, IsCutOff, IsNeeded, IsOpen, IsOver, LastDecides, StillOpen, Tells, WroteAll, WroteFront}
 use Rattle.qn_commands.specs.Seen.{Input, Output, WriteFails}
 use Rattle.qn_commands.specs.Statuses.{code_of}
-use Rattle.qn_commands.specs.Writing.{GivesOut}
+use Rattle.qn_playback.specs.Writing.{GivesOut, gives_then, prefix_of_more, prefix_then}
 use Rattle.qn_commands.proofs.CountLines.{count_rest-last, count_rest-line, count_rest-long}
-use Rattle.qn_commands.proofs.GivenOut.{front_of_more, front_then, gives_then}
 
 begins_with_all : (outcome o : Outcome) → o ≡ outcome → BeginsWith o.text outcome.text
 begins_with_all outcome o same = ([], ap (λ x. x.text) same ∙ sym (append-nil outcome.text))
@@ -150,7 +149,7 @@ ends_before before middle later unwritten unwritten_before widen first (WroteAll
     (whole ∙ ap (λ known. append_known known (unwritten ++ outcome.text)) first.adds ∙ sym (append_known-append before.written first.front (unwritten ++ outcome.text))
     ∙ ap (append_known before.written) (sym (append_assoc first.front unwritten outcome.text) ∙ ap (λ x. x ++ outcome.text) (sym first.parts)))
 ends_before before middle later unwritten unwritten_before widen first (WroteFront text tells is fails front) =
-    WroteFront text tells is (widen fails) (front_then before.written middle.written later.written unwritten unwritten_before text first front)
+    WroteFront text tells is (widen fails) (prefix_then first text front)
 
 -- what waited was written in part, and then came a turn
 pub turn_behind : (result : Option Status) (first next : Coming) (before middle later : Counting) → before.counted ≡ middle.counted
@@ -162,7 +161,7 @@ turn_behind None first next before middle later same gives rises rises_later tur
   text = turn.text;
   takes = turn.takes;
   rest = λ ending further. ap (λ s. count_rest s ending (turn.taken ++ further)) same ∙ turn.rest ending further;
-  gives = gives_then _ _ _ middle.unwritten later.unwritten before.unwritten turn.text gives turn.gives;
+  gives = gives_then gives turn.text turn.gives;
   room = let room = turn.room in let lines = ap (λ s. s.lines) same in omega arith;
   counted = let counted = turn.counted in let lines = ap (λ s. s.lines) same in omega arith;
 }
@@ -185,7 +184,7 @@ turn_unwritten first next before output same fails front = record {
   takes = same ∙ sym (prepend_known-nil (bytes_of next));
   needed = StillOpen (open_rest before.counted [] no_line_feed (omega arith));
   ends = WroteFront [] (Anyway (λ ending further. ((count_rest before.counted ending further).text, refl))) refl fails
-      (front_of_more before.output.written output.written before.unwritten [] front);
+      (prefix_of_more [] front);
 }
 
 -- a line that waits whole is short

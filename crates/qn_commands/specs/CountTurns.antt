@@ -12,7 +12,7 @@ use Rattle.qn_commands.specs.Endings.{Answers}
 use Rattle.qn_commands.specs.Reads.{EndsAs, IsCutOff, IsNeeded, IsOver}
 use Rattle.qn_commands.specs.Seen.{Input, Output, WriteFails}
 use Rattle.qn_commands.specs.Statuses.{code_of}
-use Rattle.qn_commands.specs.Writing.{GivesOut}
+use Rattle.qn_playback.specs.Writing.{GivesOut}
 
 -- a run of `count` at a moment: what it counted, the text that waits to be written, and what the sink shows
 pub record Counting : Type 0 where

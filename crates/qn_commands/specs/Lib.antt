@@ -13,4 +13,3 @@ pub mod SettingsLaws
 pub mod Statuses
 pub mod WorkSteps
 pub mod Works
-pub mod Writing

@@ -5,11 +5,12 @@ ghost use Rattle.qn_model.specs.CountText.{good_end, line_of, line_of_words, nod
 ghost use Rattle.qn_model.specs.Lines.{bad_line, words_of};
 ghost use Rattle.qn_model.specs.Settings.{ids};
 ghost use Rattle.qn_sched.specs.Words.{parts_left};
+ghost use Rattle.qn_playback.specs.declared.output.TheConstants.{MOST_WAITING};
 ghost use Rattle.qn_commands.specs.Counting.{HasRoom, HasRoomFor};
 
-use crate::output::Output;
 use qn_base::{MOST_EVENTS, MOST_LINE_BYTES, NodeId, ShortText, View, yes_no};
 use qn_model::{CountLine, LineFault, NodeEntry, Nodes};
+use qn_playback::Output;
 use qn_sched::{first_part, number_between, read_members, two_words};
 use std::marker::Model;
 
@@ -83,7 +84,7 @@ impl Counter {
     /// Gives out what a good line writes, where there is room for 256 bytes.
     #[tactic(auto, unfolding(qn_model::specs::CountText::text_of_line))]
     pub fn write_line(&self, line: &CountLine, output: &mut Output)
-        requires { length output.old + 256 ≤ 8192 }
+        requires { length output.old + 256 ≤ MOST_WAITING }
         ensures { output.new ≡ output.old ++ text_of_line self.now line.now }
     {
         match line {
@@ -95,7 +96,7 @@ impl Counter {
     /// Gives out what a view line writes, where there is room for 256 bytes.
     #[tactic(auto, unfolding(qn_model::specs::CountText::view_text))]
     fn write_view(&self, view: &View, output: &mut Output)
-        requires { length output.old + 256 ≤ 8192 }
+        requires { length output.old + 256 ≤ MOST_WAITING }
         ensures { output.new
             ≡ output.old ++ view_text self.now.nodes view.now.id view.now.members }
     {

@@ -11,7 +11,6 @@ mod ending;
 mod fault;
 mod image;
 mod image_texts;
-mod output;
 mod path;
 mod settings_text;
 mod status;

@@ -6,3 +6,4 @@ pub mod Peers
 pub mod Places
 pub mod Refusals
 pub mod Streams
+pub mod Watchdogs

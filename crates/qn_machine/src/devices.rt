@@ -11,7 +11,7 @@ use crate::network::Network;
 use crate::reported::reported;
 use crate::resource::Resource;
 use crate::watchdog::Watchdog;
-use crate::watchdog_look::{Finding, look};
+use crate::watchdog_look::{Finding, SYS, look};
 use qn_base::Failed;
 use qn_io::Opening;
 use std::fs::File;
@@ -83,7 +83,8 @@ fn look_before<R: Files<File = File>, E: Eprint>(
     path: &str,
     time: u64,
 ) -> Result<(), Failed> {
-    let Some(finding) = reported(errors, path, look(rt, path, time))? else {
+    let looked = reported(errors, path, look(rt, SYS, path))?;
+    let Some(finding) = looked.finding(time) else {
         return Ok(());
     };
     say_finding(errors, path, finding);
@@ -96,7 +97,8 @@ fn look_before<R: Files<File = File>, E: Eprint>(
 
 /// Says what is found at a watchdog that is open, where no time is known beside which it is judged.
 fn look_after<R: Files<File = File>, E: Eprint>(rt: &R, errors: &E, path: &str) {
-    if let Ok(Some(finding)) = look(rt, path, u64::MAX) {
+    let looked = look(rt, SYS, path);
+    if let Ok(Some(finding)) = looked.map(|looked| looked.finding(u64::MAX)) {
         say_finding(errors, path, finding);
     }
 }

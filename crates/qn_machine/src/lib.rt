@@ -54,3 +54,4 @@ pub use real::RealEnv;
 pub use replaced_file::ReplacedFile;
 pub use standard::{StdSink, StdSource};
 pub use steady_host::{SteadyHost, steady_time};
+pub use watchdog_look::{Finding, SYS, WatchdogLook, WatchdogSeen, look};

@@ -1,4 +1,6 @@
 //! A look at a watchdog before it is opened, since an opening arms it.
+ghost use Rattle.std.specs.Prelude.{◌≡◌};
+ghost use Rattle.qn_machine.specs.Watchdogs.{finding_of, is_one, knows_magic_close};
 
 use crate::named_file::NamedFile;
 use arrayvec::{ArrayString, ArrayVec};
@@ -12,15 +14,21 @@ use std::{fmt, io};
 /// /dev/watchdog, which is the first watchdog under another name.
 const FIRST: (u64, u64) = (10, 130);
 
-/// The bit of `options` in /sys that says that a device knows magic close (WDIOF_MAGICCLOSE).
-const MAGIC_CLOSE: u64 = 0x100;
+/// Where sysfs is mounted.
+pub const SYS: &str = "/sys";
 
-/// The most bytes of a file in /sys that are read.
-const SAID: usize = 32;
+/// The most bytes of a file in sysfs that are read.
+const SAID: usize = 64;
+
+/// The most bytes of a path in sysfs.
+const PATH: usize = 512;
+
+/// The text of a file in sysfs.
+type Text = ArrayVec<u8, SAID>;
 
 /// What was found at a look at a watchdog.
-#[derive(Clone, Copy, PartialEq, Eq)]
-pub(crate) enum Finding {
+#[derive(Clone, Copy)]
+pub enum Finding {
     /// A file or a pipe.
     File,
     /// Neither a device nor a file.
@@ -37,7 +45,7 @@ pub(crate) enum Finding {
 
 impl Finding {
     /// Whether such a watchdog is not opened where the outside is that of a machine.
-    pub(crate) fn is_refused(self) -> bool {
+    pub fn is_refused(self) -> bool {
         match self {
             Finding::File | Finding::NoWayOut => false,
             Finding::Strange | Finding::NoTime | Finding::Time(..) | Finding::NoMagicClose => true,
@@ -66,84 +74,149 @@ impl Display for Finding {
     }
 }
 
-/// Looks at the watchdog of that path, beside an image that says so many milliseconds; None where nothing is to be said.
-pub(crate) fn look<R: Files<File = File>>(
-    rt: &R,
-    path: &str,
-    watchdog: u64,
-) -> io::Result<Option<Finding>> {
+/// What stands at a path that is given for a watchdog.
+#[derive(Clone, Copy)]
+pub enum WatchdogLook {
+    Device(WatchdogSeen),
+    /// A file or a pipe.
+    File,
+    /// Neither a device nor a file.
+    Strange,
+}
+
+/// What the kernel says of a watchdog in its folder of sysfs (Linux, Documentation/ABI/testing/sysfs-class-watchdog).
+#[derive(Clone, Copy)]
+pub struct WatchdogSeen {
+    /// What its driver calls it (`identity`); empty where that cannot be read.
+    pub driver: ArrayString<SAID>,
+    /// After how many seconds without a byte it resets its machine (`timeout`); None where that cannot be read.
+    pub seconds: Option<u64>,
+    /// Whether it cannot be stopped once it was armed (`nowayout`).
+    pub has_no_way_out: bool,
+    /// Whether only the byte `V` stops it as its file is closed (WDIOF_MAGICCLOSE of `options`). Where the
+    /// kernel does not say it, it is taken to be so.
+    pub has_magic_close: bool,
+}
+
+impl WatchdogLook {
+    /// What is to be said of it beside an image whose watchdog's time is so many milliseconds; None where nothing is.
+    pub fn finding(&self, watchdog: u64) -> Option<Finding> {
+        match self {
+            WatchdogLook::Device(seen) => seen.finding(watchdog),
+            WatchdogLook::File => Some(Finding::File),
+            WatchdogLook::Strange => Some(Finding::Strange),
+        }
+    }
+}
+
+impl WatchdogSeen {
+    /// The same of a device.
+    fn finding(&self, watchdog: u64) -> Option<Finding>
+        ensures { result ≡ finding_of self.now watchdog }
+    {
+        let Some(seconds) = self.seconds else {
+            return Some(Finding::NoTime);
+        };
+        if !is_time_safe(seconds, watchdog) {
+            return Some(Finding::Time(seconds, watchdog));
+        }
+        if self.has_no_way_out {
+            return Some(Finding::NoWayOut);
+        }
+        if self.has_magic_close {
+            None
+        } else {
+            Some(Finding::NoMagicClose)
+        }
+    }
+}
+
+/// Looks at the watchdog of that path, where sysfs is mounted at `sys`.
+pub fn look<R: Files<File = File>>(rt: &R, sys: &str, path: &str) -> io::Result<WatchdogLook> {
     let about = fs::metadata(rt, path)?;
     let kind: FileType = about.file_type();
-    if kind.is_char_device() {
-        return Ok(look_at_device(rt, about.rdev(), watchdog));
-    }
-    if kind.is_file() || kind.is_fifo() {
-        return Ok(Some(Finding::File));
-    }
-    Ok(Some(Finding::Strange))
+    Ok(if kind.is_char_device() {
+        WatchdogLook::Device(see(rt, sys, about.rdev()))
+    } else if kind.is_file() || kind.is_fifo() {
+        WatchdogLook::File
+    } else {
+        WatchdogLook::Strange
+    })
 }
 
-/// Looks at what /sys says of a device of that number.
-fn look_at_device<R: Files<File = File>>(rt: &R, device: u64, watchdog: u64) -> Option<Finding> {
-    let folder = folder_of(device);
-    let said = said_of(rt, &folder, "timeout");
-    let Some(seconds) = said.and_then(|text| seconds_of(text.as_slice())) else {
-        return Some(Finding::NoTime);
-    };
-    if !is_time_safe(seconds, watchdog) {
-        return Some(Finding::Time(seconds, watchdog));
-    }
-    if said_of(rt, &folder, "nowayout").is_some_and(|text| text.as_slice() == b"1\n".as_slice()) {
-        return Some(Finding::NoWayOut);
-    }
-    match said_of(rt, &folder, "options") {
-        Some(text) if !has_magic_close(text.as_slice()) => Some(Finding::NoMagicClose),
-        _ => None,
+/// What the kernel says of a device of that number.
+fn see<R: Files<File = File>>(rt: &R, sys: &str, device: u64) -> WatchdogSeen {
+    let folder = folder_of(sys, device);
+    WatchdogSeen {
+        driver: driver_of(said_of(rt, &folder, "identity")),
+        seconds: said_of(rt, &folder, "timeout").and_then(|text| seconds_of(text.as_slice())),
+        has_no_way_out: said_of(rt, &folder, "nowayout").is_some_and(|text| is_one(
+            text.as_slice(),
+        )),
+        has_magic_close: said_of(rt, &folder, "options").is_none_or(|text| knows_magic_close(
+            text.as_slice(),
+        )),
     }
 }
 
-/// The folder of a device in /sys, as its number has it: 12 bits of the major number from bit 8 on, 8 of the minor one from bit 0 on, and
-/// higher ones of both above.
-fn folder_of(device: u64) -> ArrayString<64> {
+/// The folder of a device in sysfs, as its number has it: 12 bits of the major number from bit 8 on, 8 of the minor one from bit 0 on, and
+/// higher ones of both above. It is cut, and so there is none, where it has more bytes than a path may have here.
+fn folder_of(sys: &str, device: u64) -> ArrayString<PATH> {
     let major = device >> 8 & 0xfff | device >> 32 & 0xffff_f000;
     let minor = device & 0xff | device >> 12 & 0xffff_ff00;
     let mut folder = ArrayString::new();
     let _ = if (major, minor) == FIRST {
-        folder.write_str("/sys/class/watchdog/watchdog0")
+        write!(folder, "{sys}/class/watchdog/watchdog0")
     } else {
-        write!(folder, "/sys/dev/char/{major}:{minor}")
+        write!(folder, "{sys}/dev/char/{major}:{minor}")
     };
     folder
 }
 
 /// The first bytes of a file in that folder, where it is there.
-fn said_of<R: Files<File = File>>(
-    rt: &R,
-    folder: &ArrayString<64>,
-    name: &str,
-) -> Option<ArrayVec<u8, SAID>> {
-    let mut path: ArrayString<96> = ArrayString::new();
-    path.try_push_str(folder.as_str()).ok()?;
+fn said_of<R: Files<File = File>>(rt: &R, folder: &ArrayString<PATH>, name: &str) -> Option<Text> {
+    let mut path = *folder;
     path.try_push_str("/").ok()?;
     path.try_push_str(name).ok()?;
     let opened = NamedFile::open_to_read(rt, path.as_str()).ok()?;
     let mut bytes = [0; SAID];
     let count = read_again(&mut &opened.file, &mut bytes).ok()?;
-    let mut said = ArrayVec::new();
+    let mut said = Text::new();
     let _ = said.try_extend_from_slice(&bytes[..count]);
     Some(said)
 }
 
-/// Whether the text of `options`, as `0x8180`, has the bit of magic close. One that is no number of that form is taken not to have it.
-fn has_magic_close(text: &[u8]) -> bool {
-    let Ok(text) = str::from_utf8(text) else {
-        return false;
-    };
-    let Some(digits) = text.trim().strip_prefix("0x") else {
-        return false;
-    };
-    match u64::from_str_radix(digits, 16) {
-        Ok(options) => options & MAGIC_CLOSE != 0,
-        Err(_) => false,
+/// What a driver calls its device, without the end of the line.
+fn driver_of(text: Option<Text>) -> ArrayString<SAID> {
+    let mut driver = ArrayString::new();
+    if let Some(text) = text {
+        let name = str::from_utf8(text.as_slice()).unwrap_or("");
+        let _ = driver.try_push_str(name.trim_end());
     }
+    driver
+}
+
+/// Whether the text of `nowayout` says that it is on.
+fn is_one(text: &[u8]) -> bool
+    ensures { result ≡ is_one text.now }
+{
+    text == b"1\n".as_slice()
+}
+
+/// Whether the text of `options`, a number of hexadecimal digits as `0x8180`, has the bit 0x100 (WDIOF_MAGICCLOSE): the third of its digits
+/// from the last is odd.
+fn knows_magic_close(text: &[u8]) -> bool
+    ensures { result ≡ knows_magic_close text.now }
+{
+    let Some(place) = text.len().checked_sub(4) else {
+        return false;
+    };
+    text.starts_with(b"0x") && place >= 2 && is_odd_digit(text[place])
+}
+
+/// Whether a byte is an odd hexadecimal digit, as the kernel writes them.
+fn is_odd_digit(byte: u8) -> bool
+    ensures { result ≡ is_odd_digit byte }
+{
+    matches!(byte, b'1' | b'3' | b'5' | b'7' | b'9' | b'b' | b'd' | b'f')
 }

@@ -190,8 +190,3 @@ module _ (valid : TreesAreValid) where
       (λ head rest valid_text.
       then_good (λ line. Unit {0}) IsGood (line_lines head.lines ending rest) (timing_given head) (elim (line_lines head.lines ending rest) as (λ g. IfOk g (λ given. Unit {0})) [ Ok given ↦ tt | Err end ↦ tt ])
       (λ line more any. timed_good head more (safe_timing_in (head.lines + 1) line) valid_text (timing_good (head.lines + 1) line)))
-
--- no byte was taken, and the head is open
-pub head_open : head_part ReadFailed [] ≡ Err ReadFault
-unfolding last_of_text
-head_open = refl

@@ -7,22 +7,22 @@ use Rattle.qn_base.specs.declared.limits.TheConstants.{MOST_EVENTS, MOST_LINE_BY
 use Rattle.qn_io.specs.declared.buffered.TheConstants.{PIECE}
 use Rattle.qn_io.specs.Outside.{prepend_known-nil}
 use Rattle.qn_model.specs.declared.line_fault.LineFault.TheVariants.{TooLong, TooMany}
-use Rattle.qn_model.specs.Lines.{Ending, Ended, ReadFailed, lines_of}
+use Rattle.qn_model.specs.Lines.{Ending, Ended, lines_of}
 use Rattle.qn_playback.specs.Endings.{FitsWith, fits_beside, played_fits}
 use Rattle.qn_playback.specs.GoodLines.{good_line, line_of-ok, said_event-is}
 use Rattle.qn_playback.specs.Lines.{Taken, bad_line, line_of, rest_of}
 use Rattle.qn_playback.specs.Played.{Played, go_on, standing_at}
-use Rattle.qn_playback.specs.Reading.{Anywhere, GoesOn, IsOpen, Stops, placed}
-use Rattle.qn_playback.specs.RunLaws.{runs_after_head, runs_in_head, runs_not_begun, runs_wider}
+use Rattle.qn_playback.specs.Reading.{Anywhere, GoesOn, Stops, placed}
+use Rattle.qn_playback.specs.RunLaws.{runs_after_head, runs_in_head, runs_wider}
 use Rattle.qn_playback.specs.Runs.{Runs, WantsAtLine}
 use Rattle.qn_playback.specs.Steps.{stops_wanted}
 use Rattle.qn_playback.specs.WorldLaws.{event_play_fits}
 use Rattle.qn_playback.specs.Worlds.{Progress, adds}
 use Rattle.qn_sched.specs.declared.replay_end.ReplayEnd.{ReplayEnd}
-use Rattle.qn_sched.specs.declared.replay_end.ReplayEnd.TheVariants.{Done, NoMemory, ReadFault}
+use Rattle.qn_sched.specs.declared.replay_end.ReplayEnd.TheVariants.{Done, NoMemory}
 use Rattle.qn_playback.specs.PartLaws.{run_needed, stops_in_part}
 use Rattle.qn_playback.specs.Parts.{Given, Gives, Refuses}
-use Rattle.qn_playback.specs.Replays.{AnyPlace, AtEvent, AtHead, ReplayKind, Replays, WantsAt, WantsMemory, after_head, answer_of, place_after, play_after, start_after, stood_after, wants_after}
+use Rattle.qn_playback.specs.Replays.{AtEvent, AtHead, ReplayKind, Replays, WantsAt, WantsMemory, after_head, answer_of, place_after, play_after, start_after, stood_after, wants_after}
 
 -- no line waits before the first one is read
 pub unread : (P : Option (List ℕ) → Type 0) (pieces : List ℕ) (left : Option (List ℕ)) → pieces ≡ [] → P (prepend_known pieces left) → P left
@@ -60,16 +60,6 @@ module _ {Head World Event : Type 0} (kind : ReplayKind Head World Event) where
   answer_fits leased heads ending bytes = given_fits leased ending (kind.head_part ending bytes) (heads ending bytes)
 
   -- ---- a replay that ended before its first line
-
-  -- no byte was taken, and the end is open
-  pub nothing_decides : kind.head_part ReadFailed [] ≡ Err ReadFault → IsOpen (answer_of kind) []
-  nothing_decides still = ap (λ given. let answer : Played (Option (Progress World)) = go_on None given (λ g. after_head kind g.0 ReadFailed g.1) in answer.end) still
-
-  -- there was no memory to begin
-  pub not_begun : (left old : Option (List ℕ)) (failed write_failed : Type 0) → kind.head_part ReadFailed [] ≡ Err ReadFault
-      → Replays kind left left failed old old write_failed NoMemory
-  not_begun left old failed write_failed still =
-      runs_not_begun (answer_of kind) AnyPlace (WantsMemory kind) left old failed write_failed (nothing_decides still) (AtHead refl)
 
   -- what a replay answers after a good head
   answers_on : {a b : Option (List ℕ)} (head : Head) (given : Gives kind.head_part head a b) (ending : Ending) (more : List ℕ)

@@ -1,14 +1,14 @@
 -- Laws of whole runs.
-use Rattle.std.proofs.Common.{◌≡◌, ◌≤◌, arith, length, ℕ, List, [], ◌++◌, Option, None, Some, IfSome, refl, sym, ap, subst, ◌∙◌, append_assoc, append-nil}
+use Rattle.std.proofs.Common.{◌≡◌, ◌≤◌, length, ℕ, List, [], ◌++◌, Option, None, Some, IfSome, refl, sym, ap, subst, ◌∙◌, append_assoc, append-nil}
 use Rattle.std.specs.Io.KnownBytes.{IsAtEnd, prepend_known, append_known}
 use Rattle.qn_io.specs.declared.buffered.TheConstants.{PIECE}
-use Rattle.qn_io.specs.Outside.{append_known-nil, prepend_known-append, prepend_known-nil}
+use Rattle.qn_io.specs.Outside.{append_known-nil, prepend_known-append}
 use Rattle.qn_model.specs.Inputs.{BeginsWith, Tells, Anyway, AtEnd, AtFailure}
 use Rattle.qn_model.specs.Lines.{Ending, Ended}
 use Rattle.qn_sched.specs.declared.replay_end.ReplayEnd.{ReplayEnd}
 use Rattle.qn_sched.specs.declared.replay_end.ReplayEnd.TheVariants.{NoMemory}
 use Rattle.qn_playback.specs.Played.{Played, ended, standing_at}
-use Rattle.qn_playback.specs.Reading.{Anywhere, EndsWith, GoesOn, IsNeeded, IsOpen, LastDecides, Rest, StillOpen, Stops, placed}
+use Rattle.qn_playback.specs.Reading.{Anywhere, EndsWith, GoesOn, IsNeeded, LastDecides, Rest, StillOpen, Stops, placed}
 use Rattle.qn_playback.specs.Reading as reading
 use Rattle.qn_playback.specs.Runs.{AnswersWhole, EndsAs, Runs, Unwritten, Wanted, WroteAll}
 use Rattle.qn_playback.specs.Steps.{needed_after, takes_after, tells_after}
@@ -41,18 +41,6 @@ runs_wider widen writes run = record {
 }
 
 -- ---- a run that ends within the head
-
--- there was no memory to begin
-pub runs_not_begun : {Last : Type 0} (played_of : Rest Last) (standing : Last → Type 0) (wanted : List ℕ → List ℕ → Type 0) (left old : Option (List ℕ)) (failed write_failed : Type 0)
-    → IsOpen played_of [] → wanted [] [] → Runs played_of standing wanted left left failed old old write_failed NoMemory
-runs_not_begun played_of standing wanted left old failed write_failed may why = record {
-  taken = [];
-  waiting = [];
-  takes = sym (prepend_known-nil left);
-  needed = StillOpen may;
-  within = omega arith;
-  ends = Wanted [] (Anyway (λ ending more. ((played_of ending more).trace, refl))) refl (sym (append_known-nil old)) why;
-}
 
 head_ends : {Last : Type 0} {played_of : Rest Last} {standing : Last → Type 0} {wanted : List ℕ → List ℕ → Type 0} {taken : List ℕ} {at_end failed write_failed : Type 0} (last : Last) (old : Option (List ℕ)) (end : ReplayEnd)
     → standing last → ((taken : List ℕ) → wanted taken [])

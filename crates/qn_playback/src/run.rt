@@ -16,7 +16,7 @@ use qn_model::LineFault;
 use qn_sched::ReplayEnd;
 
 /// Plays the lines of an input after its head, which had so many lines: reads on after these pieces, gives each
-/// line to the world, and writes the trace alone. The text of all lines of one piece is written together, before
+/// line to the world, and writes the trace alone. The text is written in blocks of up to 8192 bytes, before
 /// more of the input is read and before the run ends.
 pub fn play<W: Plays, I: Source, O: Sink>(
     world: &mut W,

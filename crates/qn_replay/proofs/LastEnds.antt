@@ -1,5 +1,5 @@
 -- The last world of a replay, or its end.
-use Rattle.std.proofs.Common.{◌≡◌, ◌≤◌, ◌≢◌, arith, length, ◌⊎◌, inl, inr, ℕ, List, [], ◌++◌, None, Option, Some, Result, Err, IfErr, IfSome, refl, sym, ap, ◌∙◌, subst}
+use Rattle.std.proofs.Common.{◌≡◌, ◌≤◌, ◌≢◌, length, ◌⊎◌, inl, inr, ℕ, List, [], ◌++◌, None, Option, Some, Result, Err, IfErr, IfSome, refl, sym, ap, ◌∙◌, subst}
 use Rattle.std.specs.Io.KnownBytes.{IsAtEnd, prepend_known}
 use Rattle.qn_io.specs.declared.buffered.TheConstants.{PIECE}
 use Rattle.qn_io.specs.Outside.{prepend_known-append, prepend_known-nil}
@@ -9,8 +9,8 @@ use Rattle.qn_model.specs.declared.reports.Report.{Report}
 use Rattle.qn_model.specs.Lines.{Ending, Ended, ReadFailed}
 use Rattle.qn_playback.specs.declared.head.Head.{Head}
 use Rattle.qn_playback.specs.Faults.{IsHeadEnd}
-use Rattle.qn_playback.specs.HeadLaws.{head_fits, head_open}
-use Rattle.qn_playback.specs.ReplayLaws.{answer_fits, nothing_decides}
+use Rattle.qn_playback.specs.HeadLaws.{head_fits}
+use Rattle.qn_playback.specs.ReplayLaws.{answer_fits}
 use Rattle.qn_playback.specs.Replays.{WantsMemory, answer_of}
 use Rattle.qn_model.specs.World.{World}
 use Rattle.qn_playback.specs.Lines.{Taken}
@@ -41,17 +41,6 @@ head_gives : {taken : List ℕ} {at_end failed : Type 0} (end : ReplayEnd) → I
     → (no_world end ≡ no_world NoMemory) ⊎ Tells replay_of taken at_end failed (GivesWorld (no_world end))
 head_gives end fault (Told tells) = inr (tells_more (λ a. a ≡ ends end) (GivesWorld (no_world end)) (λ a is. (ap (λ (x : Replayed). x.end) is, fault)) tells)
 head_gives end fault (reading.Wanted memory anywhere) = inl (ap no_world memory)
-
--- there was no memory to begin
-pub reaches_nothing : (left : Option (List ℕ)) (failed : Type 0) → Reaches left left failed (no_world NoMemory)
-reaches_nothing left failed = record {
-  taken = [];
-  waiting = [];
-  takes = sym (prepend_known-nil left);
-  needed = StillOpen (nothing_decides image_replay head_open);
-  within = omega arith;
-  ends = inl refl;
-}
 
 -- the head was not good
 pub reaches_in_head : {left left_new : Option (List ℕ)} {failed : Type 0} (pieces waiting : List ℕ) (end : ReplayEnd) → pieces ≡ [] → IsFault end → length waiting ≤ PIECE

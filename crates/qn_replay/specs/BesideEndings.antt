@@ -1,19 +1,17 @@
 -- How the end of a replay beside an arbiter and the way in which its input ended belong together.
-use Rattle.std.specs.Prelude.{◌≡◌, ℕ, ◌+◌, Bool, true, false, cond, List, [], Result, Ok, Err, IfErr}
-use Rattle.std.proofs.Common.{ap}
+use Rattle.std.specs.Prelude.{ℕ, ◌+◌, Bool, true, false, cond, List, Result, Ok, Err, IfErr}
 use Rattle.qn_arbiter.specs.LeaseLine.{lease_of}
 use Rattle.qn_playback.specs.declared.head.Head.{Head}
 use Rattle.qn_playback.specs.Heads.{head_part, line_lines}
-use Rattle.qn_playback.specs.HeadLaws.{head_fits, head_open, line_fits}
+use Rattle.qn_playback.specs.HeadLaws.{head_fits, line_fits}
 use Rattle.qn_playback.specs.Parts.{Given, then_given}
 use Rattle.qn_playback.specs.ReplayLaws.{answer_fits}
 use Rattle.qn_safety.specs.declared.lease.Lease.{Lease}
 use Rattle.qn_safety.specs.Lease.{is_safe_lease}
 use Rattle.qn_model.specs.declared.line_fault.LineFault.{LineFault}
-use Rattle.qn_model.specs.Lines.{Ending, ReadFailed}
+use Rattle.qn_model.specs.Lines.{Ending}
 use Rattle.qn_playback.specs.Endings.{EndFits, FitsWith, fits_beside}
 use Rattle.qn_sched.specs.declared.replay_end.ReplayEnd.{ReplayEnd}
-use Rattle.qn_sched.specs.declared.replay_end.ReplayEnd.TheVariants.{ReadFault}
 use Rattle.qn_replay.specs.BesideHeads.{arbiter_head_part, lease_given, lease_lines, safe_or_not, unsafe_end, with_lease}
 use Rattle.qn_replay.specs.BesideReplay.{beside_replay, replay_arbiter_of}
 
@@ -44,10 +42,6 @@ pub arbiter_head_fits : (ending : Ending) (bytes : List ℕ) → EndsFit ending 
 arbiter_head_fits ending bytes =
     then_fits ending (head_part ending bytes) (λ head rest. lease_lines head ending rest) (head_fits ending bytes)
     (λ head rest. then_fits ending (line_lines head.lines ending rest) (lease_given head) (line_fits head.lines ending rest) (λ line more. lease_fits ending head more (lease_of line)))
-
--- no byte was taken, and the head is open
-pub arbiter_head_open : arbiter_head_part ReadFailed [] ≡ Err ReadFault
-arbiter_head_open = ap (λ given. then_given given (λ head rest. lease_lines head ReadFailed rest)) head_open
 
 -- the end of a replay fits the way in which the input ended
 pub replay_fits : (ending : Ending) (bytes : List ℕ) → FitsBeside (replay_arbiter_of ending bytes).end ending

@@ -12,7 +12,7 @@ use std::alloc::Global;
 
 impl TakesEvents for ArbiterWorld {
     ghost use Rattle.qn_safety.specs.ArbiterWorld.{ArbiterWorld as Defined};
-    ghost use Rattle.qn_replay.specs.BesideEndings.{arbiter_head_fits, arbiter_head_open};
+    ghost use Rattle.qn_replay.specs.BesideEndings.{arbiter_head_fits};
     ghost use Rattle.qn_replay.specs.BesideHeads.{IsGoodArbiterHead};
     ghost use Rattle.qn_replay.specs.BesideReplay.{beside_replay, beside_world};
 
@@ -31,8 +31,6 @@ impl TakesEvents for ArbiterWorld {
     ghost IsGood = { IsGoodArbiterHead };
 
     ghost Leased = { Unit {0} };
-
-    ghost opens = { arbiter_head_open };
 
     ghost fits = { arbiter_head_fits };
 

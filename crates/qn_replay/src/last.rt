@@ -37,9 +37,6 @@ fn run_silent<I: Source>(alloc: Global, input: &mut I) -> Result<World, ReplayEn
     ensures fault { IfErr result IsFault }
     ensures source_faults { I.faults input.old ≤ I.faults input.new }
 {
-    let Ok(output) = Output::new(alloc) else {
-        return Err(ReplayEnd::NoMemory);
-    };
     let mut pieces = Pieces::new();
     let head = read_head(alloc, &mut pieces, input)?;
     let lines = head.lines;
@@ -47,6 +44,13 @@ fn run_silent<I: Source>(alloc: Global, input: &mut I) -> Result<World, ReplayEn
         return Err(ReplayEnd::NoMemory);
     };
     let mut playback = Playback::new(world, lines, false);
-    let end = play(&mut playback, lines, pieces, output, input, &mut NullSink);
+    let end = play(
+        &mut playback,
+        lines,
+        pieces,
+        Output::new(),
+        input,
+        &mut NullSink,
+    );
     playback.last(end)
 }

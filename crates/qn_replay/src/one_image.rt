@@ -19,7 +19,7 @@ use qn_world::{World, blank_report};
 use std::alloc::Global;
 
 impl TakesEvents for World {
-    ghost use Rattle.qn_playback.specs.HeadLaws.{head_fits, head_open};
+    ghost use Rattle.qn_playback.specs.HeadLaws.{head_fits};
     ghost use Rattle.qn_model.specs.World.{World as Defined};
     ghost use Rattle.qn_replay.specs.Heads.{IsGoodHead};
     ghost use Rattle.qn_replay.specs.Replay.{image_replay, image_world};
@@ -39,8 +39,6 @@ impl TakesEvents for World {
     ghost IsGood = { IsGoodHead };
 
     ghost Leased = { ⊥ };
-
-    ghost opens = { head_open };
 
     ghost fits = { head_fits };
 

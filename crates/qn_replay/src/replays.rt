@@ -18,7 +18,7 @@ use std::alloc::Global;
 
 /// Replays a schedule: reads its input in pieces of at most 4096 bytes, up to the byte that decides the end,
 /// and keeps no more of it than the settings text, one line, one piece and the world. It writes the trace
-/// alone, and nothing of the end. The trace lines of one piece are written together, always before more of the
+/// alone, and nothing of the end. The trace is written in blocks of up to 8192 bytes, always before more of the
 /// input is read and before the replay ends. After the first trace line, `NoMemory` comes only where the next
 /// event adds a packet or a leftover to the world.
 pub fn replay<I: Source, O: Sink>(alloc: Global, input: &mut I, out: &mut O) -> ReplayEnd
@@ -61,7 +61,7 @@ pub fn replay<I: Source, O: Sink>(alloc: Global, input: &mut I, out: &mut O) -> 
 
 /// Replays a schedule of three images: reads its input in pieces of at most 4096 bytes, up to the byte that decides
 /// the end, and keeps no more of it than the settings text, one line, one piece and the world. It writes the trace
-/// alone, and nothing of the end. The trace lines of one piece are written together, always before more of the
+/// alone, and nothing of the end. The trace is written in blocks of up to 8192 bytes, always before more of the
 /// input is read and before the replay ends. After the first trace line, `NoMemory` comes only where the next
 /// event adds a packet or a leftover to the world.
 pub fn replay3<I: Source, O: Sink>(alloc: Global, input: &mut I, out: &mut O) -> ReplayEnd
@@ -103,7 +103,7 @@ pub fn replay3<I: Source, O: Sink>(alloc: Global, input: &mut I, out: &mut O) ->
 
 /// Replays a schedule beside an arbiter: reads its input in pieces of at most 4096 bytes, up to the byte that decides
 /// the end, and keeps no more of it than the settings text, one line, one piece and the world. It writes the trace
-/// alone, and nothing of the end. The trace lines of one piece are written together, always before more of the
+/// alone, and nothing of the end. The trace is written in blocks of up to 8192 bytes, always before more of the
 /// input is read and before the replay ends. `UnsafeLease` comes where the lease line is good and its times are not
 /// safe. After the first trace line, `NoMemory` comes only where the world wants memory for the next event.
 pub fn replay_arbiter<I: Source, O: Sink>(alloc: Global, input: &mut I, out: &mut O) -> ReplayEnd

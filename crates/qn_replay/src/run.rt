@@ -14,7 +14,7 @@ use std::alloc::Global;
 
 /// Replays a schedule of a world: reads its input in pieces of at most 4096 bytes, up to the byte that decides the
 /// end, and keeps no more of it than the settings text, one line, one piece and the world. It writes the trace
-/// alone, and nothing of the end. The trace lines of one piece are written together, always before more of the
+/// alone, and nothing of the end. The trace is written in blocks of up to 8192 bytes, always before more of the
 /// input is read and before the replay ends.
 pub(crate) fn replay_by<W: TakesEvents, I: Source, O: Sink>(
     alloc: Global,
@@ -67,9 +67,6 @@ fn run<W: TakesEvents, I: Source, O: Sink>(alloc: Global, input: &mut I, out: &m
     ensures source_faults { I.faults input.old ≤ I.faults input.new }
     ensures sink_faults { O.faults out.old ≤ O.faults out.new }
 {
-    let Ok(output) = Output::new(alloc) else {
-        return ReplayEnd::NoMemory;
-    };
     let mut pieces = Pieces::new();
     let head = match W::read_head(alloc, &mut pieces, input) {
         Ok(head) => head,
@@ -80,5 +77,5 @@ fn run<W: TakesEvents, I: Source, O: Sink>(alloc: Global, input: &mut I, out: &m
         return ReplayEnd::NoMemory;
     };
     let mut playback = Playback::new(world, lines, true);
-    play(&mut playback, lines, pieces, output, input, out)
+    play(&mut playback, lines, pieces, Output::new(), input, out)
 }

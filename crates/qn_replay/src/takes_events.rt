@@ -12,19 +12,18 @@ use std::alloc::Global;
 /// A world that takes the lines of a schedule as events, and the head of such a schedule.
 ///
 /// `world` says what the world is in the definitions, of which `World` is a world, and `replay` what a replay of its schedules
-/// answers. `IsGood` is what is known of a head that was read, and a lease is judged only where `Leased` holds. The laws:
-/// an input of which nothing was read leaves the head open, and the end of a head fits the way in which its input ended.
+/// answers. `IsGood` is what is known of a head that was read, and a lease is judged only where `Leased` holds. The law: the end of
+/// a head fits the way in which its input ended.
 pub(crate) trait TakesEvents: Drop {
     ghost use Rattle.std.specs.Prelude.{◌≡◌, ◌<◌, ◌≤◌, ◌+◌, ℕ, List, [], true, None, Err, IfErr, IfOk, OnErr, OnOk, length};
     ghost use Rattle.qn_base.specs.declared.limits.TheConstants.{LATEST_TIME};
     ghost use Rattle.qn_playback.specs.Parts.{Gives, Refuses};
     ghost use Rattle.qn_playback.specs.Replays.{ReplayKind};
-    ghost use Rattle.qn_model.specs.Lines.{Ending, ReadFailed};
+    ghost use Rattle.qn_model.specs.Lines.{Ending};
     ghost use Rattle.qn_model.specs.Settings.{ids};
     ghost use Rattle.qn_playback.specs.Endings.{FitsWith};
     ghost use Rattle.qn_playback.specs.WorldLaws.{RefusedBy};
     ghost use Rattle.qn_replay.specs.EventWorlds.{EventWorld, after_event, read_as, rule_of, text_of_event, wants_memory};
-    ghost use Rattle.qn_sched.specs.declared.replay_end.ReplayEnd.TheVariants.{ReadFault};
 
     /// What happens in the world.
     type Event: Drop;
@@ -144,8 +143,6 @@ pub(crate) trait TakesEvents: Drop {
         ensures text { text.new.items
             ≡ world.trace_line (world.settings self.now) number event.now report.now }
         ensures fits { length text.new.items ≤ 4000 };
-
-    ghost opens: { replay.head_part ReadFailed [] ≡ Err ReadFault };
 
     ghost fits: { (ending : Ending) (bytes : List ℕ)
         → IfErr (replay.head_part ending bytes) (λ end. FitsWith Leased end ending) };

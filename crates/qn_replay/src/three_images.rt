@@ -11,7 +11,7 @@ use qn_triple::{TripleWorld, blank_report, law_triple_lines, read_triple_line_in
 use std::alloc::Global;
 
 impl TakesEvents for TripleWorld {
-    ghost use Rattle.qn_playback.specs.HeadLaws.{head_fits, head_open};
+    ghost use Rattle.qn_playback.specs.HeadLaws.{head_fits};
     ghost use Rattle.qn_replay.specs.Heads.{IsGoodHead};
     ghost use Rattle.qn_replay.specs.TripleReplay.{triple_replay, triple_world};
     ghost use Rattle.qn_safety.specs.TripleWorld.{TripleWorld as Defined};
@@ -31,8 +31,6 @@ impl TakesEvents for TripleWorld {
     ghost IsGood = { IsGoodHead };
 
     ghost Leased = { ⊥ };
-
-    ghost opens = { head_open };
 
     ghost fits = { head_fits };
 

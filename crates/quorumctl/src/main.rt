@@ -14,6 +14,7 @@ mod status_file;
 mod table;
 mod texts;
 mod trouble;
+mod watchdog;
 
 use group::group;
 use images::{check, list, wait};
@@ -29,6 +30,7 @@ use std::time::Clock;
 use table::QUORUMCTL;
 use texts::{settings, timing};
 use trouble::Trouble;
+use watchdog::watchdog;
 
 /// The name of the program, and what it is.
 const PROGRAM: &str = "quorumctl";
@@ -79,6 +81,7 @@ fn run<
     let is_json = has_word(options, "--json");
     match name.as_str() {
         "settings" => settings(rt),
+        "watchdog" => watchdog(rt, first_of(options), options),
         "timing" => timing(rt, options),
         "check" => check(rt, image, is_json),
         "list" => list(rt, image, is_json),
@@ -87,6 +90,14 @@ fn run<
         "history" => history(rt, words),
         "group" => group(rt),
         _ => Ok(USAGE),
+    }
+}
+
+/// The first of these words, where the command has an operand: `refusal_of` found it there.
+fn first_of(words: &[String]) -> &str {
+    match words {
+        [word, ..] => word.as_str(),
+        [] => "",
     }
 }
 

@@ -14,6 +14,11 @@ pub const QUORUMCTL: &[Synopsis] = &[
         does: "the least safe msgwait for these times, and how long a take-over takes on which disk",
     },
     Synopsis {
+        line: "watchdog PATH [--watchdog 1..3600000] [--sys FOLDER]",
+        reads: "",
+        does: "what the kernel says of a watchdog, and whether a node may arm it",
+    },
+    Synopsis {
         line: "check --image PATH [--json]",
         reads: "COROSYNC.CONF or /dev/null",
         does: "what is wrong with an image, and whether it fits a corosync.conf",

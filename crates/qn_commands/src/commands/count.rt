@@ -9,12 +9,12 @@ ghost use Rattle.qn_commands.specs.Seen.{Outside, seen, sink, source};
 ghost use Rattle.qn_commands.specs.Statuses.{code_of};
 
 use crate::counter::Counter;
-use crate::output::Output;
 use crate::status::Status;
 use arrayvec::ArrayVec;
 use qn_base::{Failed, ShortText};
 use qn_io::{LINE, LineRead, NextLine, PIECE, Pieces, Sink, Source, read_line};
 use qn_model::LineFault;
+use qn_playback::Output;
 
 /// The end of a run: writes what waits and then this text, and answers the status, or WriteFault where the
 /// sink failed.
@@ -113,7 +113,7 @@ impl Run {
     ghost use Rattle.qn_io.specs.Writes.{AppendsFront};
     ghost use Rattle.qn_model.specs.CountText.{nothing_counted};
     ghost use Rattle.qn_commands.specs.CountTurns.{Turns, coming};
-    ghost use Rattle.qn_commands.specs.Writing.{GivesOut};
+    ghost use Rattle.qn_playback.specs.Writing.{GivesOut};
 
     fn new() -> Self
         ensures counter { result.counter ≡ nothing_counted }
@@ -173,7 +173,7 @@ impl Run {
         ensures given { OnOk result (GivesOut (O.written out.old) (O.written out.new)
             self.new.output self.old.output) }
         ensures empty { OnOk result (self.new.output ≡ []) }
-        ensures front { OnErr result (AppendsFront (O.written out.old) (O.written out.new)
+        ensures prefix { OnErr result (AppendsFront (O.written out.old) (O.written out.new)
             self.old.output) }
         ensures counter { self.new.counter ≡ self.old.counter }
         ensures pieces { self.new.pieces ≡ self.old.pieces }

@@ -10,7 +10,7 @@ use Rattle.qn_world.specs.Whole.{Whole}
 use Rattle.qn_replay.specs.EventWorlds.{traced_if, untraced}
 use Rattle.qn_replay.specs.Replay.{image_replay, image_rules, image_world}
 use Rattle.qn_replay.specs.Runs.{IsFault, Reaches}
-use Rattle.qn_replay.proofs.LastEnds.{IsPlaceOf, head_fault, is_unleased, is_written, out_fault, place_after, reaches_in_head, reaches_nothing, reaches_out}
+use Rattle.qn_replay.proofs.LastEnds.{IsPlaceOf, head_fault, is_unleased, is_written, out_fault, place_after, reaches_in_head, reaches_out}
 use Rattle.qn_replay.proofs.Playbacks.{runs_on}
 use Rattle.qn_replay.proofs.last.run_silent.Given.{Over}
 use Rattle.qn_replay.proofs.last.run_silent.Goals as goal
@@ -18,9 +18,6 @@ use Rattle.qn_replay.proofs.last.run_silent.Goals as goal
 -- the count of a sink that keeps nothing does not rise
 never_risen : HasRisen 0 0 → ⊥
 never_risen rose = let fewer : 0 < 0 = rose (omega arith) in absurd (omega arith)
-
-pub returns-in_default-clause-reaches : goal.returns-in_default-clause-reaches
-returns-in_default-clause-reaches g c = reaches_nothing _ _
 
 pub returns-in_err-head-clause-reaches : goal.returns-in_err-head-clause-reaches
 returns-in_err-head-clause-reaches g c =
@@ -37,8 +34,8 @@ returns-in_err-head-clause-fault g c =
 pub begin-requires : goal.begin-requires
 begin-requires g c = record { valid = c.in_ok-head.ensures.valid; safe = c.in_ok-head.ensures.safe; few_lines = let few = c.in_ok-head.ensures.few_lines in omega (arith, few) }
 
-pub returns-in_default-begin-clause-reaches : goal.returns-in_default-begin-clause-reaches
-returns-in_default-begin-clause-reaches g c =
+pub returns-in_default-clause-reaches : goal.returns-in_default-clause-reaches
+returns-in_default-clause-reaches g c =
     reaches_in_head c.new-pieces.result c.read_head.new.pieces _ c.new-pieces.ensures tt c.read_head.ensures.within
     (stops_without_world image_replay c.in_ok-head.head c.in_ok-head.ensures.head)
 
@@ -50,7 +47,7 @@ run_of : (g : Over) (c : goal.After-last g)
     (HasRisen (g.I.Source.faults c.args.input.now) (g.I.Source.faults c.play-end.new.input)) None None (HasRisen 0 0) c.play-end.result
 run_of g c =
     let made = c.new-playback.ensures in
-    let begun = c.in-Ok-begin.ensures in
+    let begun = c.in-Ok.ensures in
     runs_on image_world (untraced image_replay) c.new-playback.result c.play-end.new.world c.in_ok-head.head
     (record {
       rules = ap (λ (traced : Bool). traced_if traced image_rules) made.traced;

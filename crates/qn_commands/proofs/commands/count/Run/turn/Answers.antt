@@ -15,7 +15,7 @@ returns-in-Some-clause-turns g c =
 pub returns-in_default-flush-clause-turns : goal.returns-in_default-flush-clause-turns
 returns-in_default-flush-clause-turns g c =
     turn_unwritten _ _ _ _ (ap (λ p. prepend_known p (g.I.Source.left c.args.input.now)) (sym c.flush.ensures.pieces))
-    c.in_default-flush.ensures.cause c.in_default-flush.ensures.front
+    c.in_default-flush.ensures.cause c.in_default-flush.ensures.prefix
 
 pub returns-clause-turns : goal.returns-clause-turns
 returns-clause-turns g c =
