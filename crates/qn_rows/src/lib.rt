@@ -37,6 +37,7 @@ mod row;
 mod seals;
 mod texts;
 mod ties;
+mod totals;
 mod written;
 
 pub use checking::check_rows;

@@ -1,51 +1,25 @@
 //! Reads the line of settings of a recorded history.
-ghost use Rattle.std.specs.Prelude.{◌≡◌, IfSome, IsTrue};
-ghost use Rattle.qn_words.specs.Keys.{are_known, is_known};
-
-use super::keys::Key;
-use crate::words::{read_node_id, read_number, read_rank, read_small_number, read_truth};
+use crate::words::{read_number, read_rank, read_small_number, read_truth};
+use qn_base::NodeId;
 use qn_model::{Device, NodeEntry, Nodes, Order, Settings};
+
+/// The words of the settings, where the line is one of settings.
+pub fn settings_words(line: &str) -> Option<&str> {
+    line.strip_prefix("settings ")
+}
 
 /// The settings of these words, separated by spaces, each a key with its value in the order that is written above.
 /// Without `tie=` there is no tie breaker, and without `delays=`, which stands behind it, no fence delay.
-pub fn read_settings(text: &str) -> Option<Settings>
-    ensures known { IfSome result (λ _. IsTrue (are_known text.now)) }
-{
-    if !all_known(text) {
-        return None;
-    }
-    read_words(text)
-}
-
-/// Whether each word begins with a key.
-fn all_known(words: &str) -> bool
-    ensures { result ≡ are_known words.now }
-{
-    words.split(' ').all(is_known)
-}
-
-/// Whether a word begins with a key.
-fn is_known(word: &str) -> bool
-    ensures { result ≡ is_known word.now }
-{
-    Key::ALL.iter().any(|key| key.begins(word))
-}
-
-/// The settings of words in their order.
-fn read_words(text: &str) -> Option<Settings> {
+pub fn read_settings(text: &str) -> Option<Settings> {
     let (text, more) = text.split_once(" tie=").unwrap_or((text, "none"));
     let (order, delays) = more.split_once(" delays=").unwrap_or((more, "0"));
-    let mut words = text.split(' ');
-    let nodes = value_of(words.next(), Key::Nodes)?;
-    let two_node = value_of(words.next(), Key::TwoNode)?;
-    let wait_for_all = value_of(words.next(), Key::WaitForAll)?;
-    let last_man_standing = value_of(words.next(), Key::LastManStanding)?;
-    let window = value_of(words.next(), Key::Window)?;
-    let device = value_of(words.next(), Key::Device)?;
-    let expected = value_of(words.next(), Key::Expected)?;
-    if words.next().is_some() {
-        return None;
-    }
+    let (text, expected) = text.split_once(" expected=")?;
+    let (text, device) = text.split_once(" device=")?;
+    let (text, window) = text.split_once(" window=")?;
+    let (text, last_man_standing) = text.split_once(" last_man_standing=")?;
+    let (text, wait_for_all) = text.split_once(" wait_for_all=")?;
+    let (text, two_node) = text.split_once(" two_node=")?;
+    let nodes = text.strip_prefix("nodes=")?;
     Some(Settings {
         nodes: read_nodes(nodes, read_delays(delays)?)?,
         two_node: read_truth(two_node)?,
@@ -56,11 +30,6 @@ fn read_words(text: &str) -> Option<Settings> {
         expected: read_number(expected)?,
         tie: read_tie(order)?,
     })
-}
-
-/// The value of a word, where it begins with that key.
-fn value_of<'a>(word: Option<&'a str>, key: Key) -> Option<&'a str> {
-    word?.strip_prefix(key.name())
 }
 
 /// The fence delays by rank, in milliseconds: 0 for a rank that has none.
@@ -100,7 +69,7 @@ fn read_nodes(text: &str, delays: [u64; 32]) -> Option<Nodes> {
             return None;
         }
         nodes.push(NodeEntry {
-            id: read_node_id(id)?,
+            id: NodeId(read_small_number(id)?),
             votes: read_small_number(votes)?,
             fence_delay: delays[nodes.len()],
         });
